@@ -1,0 +1,10 @@
+//! Patterns and the expressions that they read as.
+//!
+//! `parse` answers exactly what the grammar's definition says: the expression, or the first refusal
+//! with its kind and piece. An expression is a `Hir`, which a contract sees as an `Expression` of
+//! rx_model. It stands on rx_search.
+#![tactic(auto)]
+
+mod error;
+
+pub use error::{ParseError, SyntaxError, SyntaxErrorKind};

@@ -1,0 +1,83 @@
+-- The states of an NFA as a machine over the places of a text.
+use Rattle.std.specs.Prelude.{ℕ, ◌+◌, ◌<◌, ◌&&◌, List, [], ◌∷◌, length, map, All, ⊤, Option, Some, None, if◌then◌else◌, nat_lt, nat_le, slice_index, slice_index_or}
+use Rattle.rx_model.specs.Runs.{Configuration, PriorityGraph}
+use Rattle.rx_model.specs.Machine.{Machine, graph_of}
+use Rattle.rx_thompson.specs.declared.state.Transition.{Transition}
+use Rattle.rx_thompson.specs.declared.state.State.{State}
+use Rattle.rx_thompson.specs.declared.state.State.TheVariants.{ByteRange, Sparse, Union, Capture, Fail, Match}
+
+abbrev pub at : ℕ → ℕ → Configuration
+at state place = record { state = state; place = place }
+
+-- the state that the byte leads to
+abbrev pub route : List Transition → ℕ → Option ℕ
+route [] b = None
+route (t ∷ ts) b = if nat_le t.start b && nat_le b t.end then Some t.next else route ts b
+
+-- on to the target, if there is one
+abbrev pub go_on : Option ℕ → ℕ → List Configuration
+go_on None place = []
+go_on (Some target) place = at target place ∷ []
+
+-- by these transitions, within the first `end` bytes of the text
+abbrev pub read_byte : List ℕ → ℕ → List Transition → ℕ → List Configuration
+read_byte text end ts i = if nat_lt i end then go_on (route ts (slice_index text i)) (i + 1) else []
+
+-- where a state goes on to from place i, within the first `end` bytes of the text
+abbrev pub state_step : List ℕ → ℕ → State → ℕ → List Configuration
+state_step text end (ByteRange low high next) i = read_byte text end (record { start = low; end = high; next = next } ∷ []) i
+state_step text end (Sparse transitions) i = read_byte text end transitions i
+state_step text end (Union alternates) i = map (λ q. at q i) alternates
+state_step text end (Capture next pattern slot) i = at next i ∷ []
+state_step text end Fail i = []
+state_step text end (Match pattern) i = []
+
+abbrev pub state_accepts : State → Option ℕ
+state_accepts (ByteRange low high next) = None
+state_accepts (Sparse transitions) = None
+state_accepts (Union alternates) = None
+state_accepts (Capture next pattern slot) = None
+state_accepts Fail = None
+state_accepts (Match pattern) = Some pattern
+
+abbrev pub state_writes : State → Option ℕ
+state_writes (ByteRange low high next) = None
+state_writes (Sparse transitions) = None
+state_writes (Union alternates) = None
+state_writes (Capture next pattern slot) = Some slot
+state_writes Fail = None
+state_writes (Match pattern) = None
+
+-- the state of this number
+abbrev pub state_at : List State → ℕ → State
+state_at states q = slice_index_or states q Fail
+
+abbrev pub machine : List State → List ℕ → ℕ → Machine
+machine states text end = record {
+  states = length states;
+  step = λ q. state_step text end (state_at states q);
+  accepts = λ q. state_accepts (state_at states q);
+  writes = λ q. state_writes (state_at states q);
+}
+
+-- the runs of the states over the first `end` bytes of the text
+unfoldable pub automaton : List State → List ℕ → ℕ → PriorityGraph
+automaton states text end = graph_of (machine states text end) end
+
+-- each state that this one goes on to is below n
+abbrev pub NamesBelow : ℕ → State → Type 0
+NamesBelow n (ByteRange low high next) = next < n
+NamesBelow n (Sparse transitions) = All (λ (t : Transition). t.next < n) transitions
+NamesBelow n (Union alternates) = All (λ q. q < n) alternates
+NamesBelow n (Capture next pattern slot) = next < n
+NamesBelow n Fail = ⊤
+NamesBelow n (Match pattern) = ⊤
+
+-- the pattern and the slot that the state names are in range
+abbrev pub IsWithin : (patterns slots : ℕ) → State → Type 0
+IsWithin patterns slots (ByteRange low high next) = ⊤
+IsWithin patterns slots (Sparse transitions) = ⊤
+IsWithin patterns slots (Union alternates) = ⊤
+IsWithin patterns slots (Capture next pattern slot) = (pattern < patterns) × (slot < slots)
+IsWithin patterns slots Fail = ⊤
+IsWithin patterns slots (Match pattern) = pattern < patterns

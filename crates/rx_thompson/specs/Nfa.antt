@@ -1,0 +1,33 @@
+-- What an NFA is to a contract, and what it has to do with the patterns that it was built from.
+use Rattle.std.specs.Prelude.{◌≡◌, ℕ, ◌<◌, ◌≤◌, List, length, All, Some, slice_get, slice_index}
+use Rattle.rx_model.specs.Expression.{Expression}
+use Rattle.rx_model.specs.Runs.{first_trace}
+use Rattle.rx_model.specs.Search.{Patterns, first, first_of_patterns}
+use Rattle.rx_thompson.specs.Automaton.{at, automaton, NamesBelow, IsWithin}
+use Rattle.rx_thompson.specs.declared.state.State.{State}
+
+pub record Nfa : Type 0 where
+  pub states : List State
+  -- where the runs of all the patterns start, the first pattern preferred
+  pub start_anchored : ℕ
+  -- where the runs of each pattern start
+  pub starts : List ℕ
+  -- how many slots there are
+  pub slots : ℕ
+
+-- every state, pattern and slot that is named is there
+pub record IsInRange (nfa : Nfa) : Type 0 where
+  pub start_anchored : nfa.start_anchored < length nfa.states
+  pub starts : All (λ q. q < length nfa.states) nfa.starts
+  pub names : All (NamesBelow (length nfa.states)) nfa.states
+  pub within : All (IsWithin (length nfa.starts) nfa.slots) nfa.states
+  pub few_states : length nfa.states ≤ 2147483647
+  pub few_patterns : length nfa.starts ≤ 2147483647
+
+-- The first runs of the states are those of the patterns' graphs, with pattern, end and slots.
+pub record HasFirstRuns (nfa : Nfa) (r : Patterns) : Type 0 where
+  pub patterns : length nfa.starts ≡ length r.expressions
+  pub each : (text : List ℕ) (end p i : ℕ) (h : Expression) → end ≤ length text → slice_get r.expressions p ≡ Some h
+      → first_trace (automaton nfa.states text end) (at (slice_index nfa.starts p) i) ≡ first r text end p h i
+  pub all : (text : List ℕ) (end i : ℕ) → end ≤ length text
+      → first_trace (automaton nfa.states text end) (at nfa.start_anchored i) ≡ first_of_patterns r text end 0 r.expressions i

@@ -1,0 +1,10 @@
+//! From expressions to automata that read bytes.
+//!
+//! An `NFA` is a list of states. A priority graph gives it its meaning: the runs of its states over
+//! the places of a text. The compiler's contract says that its first runs are those of the graphs
+//! of the expressions, with pattern, end and slots. It stands on rx_syntax.
+#![tactic(auto)]
+
+mod state;
+
+pub use state::{Alternates, State, Transition, Transitions};
