@@ -5,6 +5,12 @@
 //! rx_model. It stands on rx_search.
 #![tactic(auto)]
 
+mod ast;
+mod class;
+mod cursor;
 mod error;
+mod parser;
+mod token;
+
 
 pub use error::{ParseError, SyntaxError, SyntaxErrorKind};

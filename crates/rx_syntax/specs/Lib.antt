@@ -1,0 +1,9 @@
+pub mod Reading
+pub mod Syntax
+pub mod Grammar
+pub mod Input
+pub mod Coded
+pub mod AstViews
+pub mod AstFalls
+pub mod Tokens
+pub mod Stack
