@@ -16,6 +16,15 @@ token_view (Opens captures) = opens captures
 token_view (Repeats o) = operator (operator_view o)
 token_view (Atom a) = atom a
 
+-- whether a group opens that captures
+abbrev pub captures : Made → Bool
+captures (Opens b) = b
+captures End = false
+captures Bar = false
+captures Close = false
+captures (Repeats o) = false
+captures (Atom a) = false
+
 abbrev pub is_end : Made → Bool
 is_end End = true
 is_end _ = false

@@ -10,7 +10,7 @@ use std::marker::Model;
 #[cycle(ast)]
 #[derive(Drop)]
 pub(crate) struct Ast {
-    kind: AstKind,
+    pub(crate) kind: AstKind,
     /// How deep repetitions and groups nest in it.
     nesting: u32,
 }
@@ -59,11 +59,11 @@ impl Model for Ast {
 
     ghost coded = { coded_syntax };
 
-    ghost use Rattle.rx_syntax.specs.AstViews.{kind_view};
+    ghost use Rattle.rx_syntax.specs.AstViews.{kind_view, IsWellFormed};
 
     ghost view = { λ h. kind_view h.kind };
 
-    ghost invariant = { λ h. h.nesting ≡ depth (kind_view h.kind) };
+    ghost invariant = { λ h. (h.nesting ≡ depth (kind_view h.kind)) × IsWellFormed h.kind };
 
     ghost size = { syntax_size };
 
@@ -123,7 +123,8 @@ impl Ast {
         greedy: bool,
         sub: Ast,
     ) -> Result<Ast, AllocError>
-        requires { depth sub + 1 < 2 ^ 32 }
+        requires shallow { depth sub + 1 < 2 ^ 32 }
+        requires in_order { IfSome max (λ m. min ≤ m) }
         ensures { IfOk result (λ a. a ≡ repeated min max greedy sub) }
     {
         let nesting = sub.depth() + 1;
@@ -139,7 +140,8 @@ impl Ast {
     }
 
     pub(crate) fn group(alloc: Global, number: Option<usize>, sub: Ast) -> Result<Ast, AllocError>
-        requires { depth sub + 1 < 2 ^ 32 }
+        requires shallow { depth sub + 1 < 2 ^ 32 }
+        requires numbered { IfSome number (λ n. 0 < n) }
         ensures { IfOk result (λ a. a ≡ group number sub) }
     {
         let nesting = sub.depth() + 1;

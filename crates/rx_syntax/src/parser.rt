@@ -1,5 +1,5 @@
 //! Items, branches and groups.
-ghost use Rattle.std.specs.Prelude.{◌≡◌, ℕ, ◌+◌, ◌<◌, ◌≤◌, ◌^◌, true, false, if◌then◌else◌, Some, None, length, nat_lt, chars, Option, Ok, Err, [], OnOk, IfOk, MatchOption, MatchResult};
+ghost use Rattle.std.specs.Prelude.{◌≡◌, ℕ, ◌+◌, ◌<◌, ◌≤◌, ◌^◌, true, false, if◌then◌else◌, Some, None, length, nat_lt, chars, Option, Ok, Err, [], OnOk, IfOk, MatchOption, MatchResult, IsTrue};
 ghost use Rattle.rx_syntax.specs.Reading.{Place, at_end, past};
 ghost use Rattle.rx_syntax.specs.Syntax.{Syntax, depth};
 ghost use Rattle.rx_syntax.specs.Grammar.{all_repetitions, item_then, group_then, all_branches, no_items, read};
@@ -88,6 +88,7 @@ pub(crate) struct Frame {
     level: Level,
     opening: Piece,
     number: Option<usize>,
+    ghost numbered: { (n : ℕ) → number ≡ Some n → 0 < n },
 }
 
 #[derive(Drop)]
@@ -148,6 +149,7 @@ impl Parser {
 
     /// Opens a group, whose opening was read.
     fn open_group(&mut self, opening: Piece, captures: bool) -> Result<(), ParseError>
+        requires { IsTrue captures → 0 < (place self.old.cursor).groups }
         ensures value { (p : Place) → IsPieceAt opening p → MatchResult result (λ _. answer self.new ≡ answer_with self.old (group_then self.old.limit (all_branches self.old.limit) (length (innermost self.old.frames.items)) p captures (place self.old.cursor) (nat_lt self.old.limit (length (innermost self.old.frames.items) + 1)))) (λ e. Refuses e (answer_with self.old (group_then self.old.limit (all_branches self.old.limit) (length (innermost self.old.frames.items)) p captures (place self.old.cursor) (nat_lt self.old.limit (length (innermost self.old.frames.items) + 1))))) }
         ensures progress { OnOk result (unread self.new.cursor ≤ unread self.old.cursor) }
     {
@@ -224,7 +226,9 @@ impl Parser {
 
 /// The number of a group that captures: it was counted last.
 fn group_number(captures: bool, groups: usize) -> Option<usize>
-    ensures { result ≡ (if captures then Some groups else None) }
+    requires { IsTrue captures → 0 < groups }
+    ensures value { result ≡ (if captures then Some groups else None) }
+    ensures numbered { (n : ℕ) → result ≡ Some n → 0 < n }
 {
     if captures { Some(groups) } else { None }
 }

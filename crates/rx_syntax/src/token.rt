@@ -1,9 +1,9 @@
 //! Tokens.
-ghost use Rattle.std.specs.Prelude.{◌≡◌, ◌+◌, ◌<◌, ◌≤◌, ◌||◌, OnOk, IfOk, IsTrue, ◌⊎◌};
+ghost use Rattle.std.specs.Prelude.{◌≡◌, ◌+◌, ◌<◌, ◌≤◌, ◌||◌, OnOk, IfOk, IfSome, IsTrue, ◌⊎◌};
 ghost use Rattle.rx_syntax.specs.Reading.{first, at_end, is_at, past};
 ghost use Rattle.rx_syntax.specs.Grammar.{min_of, max_of, operator_at, opening, opens, token};
 ghost use Rattle.rx_syntax.specs.Input.{place, unread, Reads, ReadsAs};
-ghost use Rattle.rx_syntax.specs.Tokens.{operator_view, token_view, is_end, is_close};
+ghost use Rattle.rx_syntax.specs.Tokens.{operator_view, token_view, captures, is_end, is_close};
 
 use crate::ast::Ast;
 use crate::class::{class, escape};
@@ -44,6 +44,7 @@ fn max_of(c: char) -> Option<u32>
 pub(crate) fn read_operator(cursor: &mut Cursor) -> Operator
     requires { 0 < unread cursor.old }
     ensures value { (operator_view result, place cursor.new) ≡ operator_at (place cursor.old) }
+    ensures in_order { IfSome result.max (λ m. result.min ≤ m) }
     ensures progress { unread cursor.new < unread cursor.old }
 {
     let c = cursor.first();
@@ -60,6 +61,7 @@ pub(crate) fn read_operator(cursor: &mut Cursor) -> Operator
 fn opening(cursor: &mut Cursor) -> Result<bool, ParseError>
     requires { 0 < unread cursor.old }
     ensures value { ReadsAs opens result (opening (place cursor.old)) (place cursor.new) }
+    ensures counted { IfOk result (λ b. IsTrue b → 0 < (place cursor.new).groups) }
     ensures progress { OnOk result (unread cursor.new < unread cursor.old) }
 {
     let start = cursor.at();
@@ -79,6 +81,7 @@ fn opening(cursor: &mut Cursor) -> Result<bool, ParseError>
 pub(crate) fn read_token(cursor: &mut Cursor) -> Result<Token, ParseError>
     ensures value { ReadsAs token_view result (token (place cursor.old)) (place cursor.new) }
     ensures progress { IfOk result (λ t. IsTrue (is_end t) ⊎ (unread cursor.new < unread cursor.old)) }
+    ensures counted { IfOk result (λ t. IsTrue (captures t) → 0 < (place cursor.new).groups) }
     ensures end { IfOk result (λ t. is_end t ≡ at_end (place cursor.old)) }
     ensures close { IfOk result (λ t. IsTrue (is_close t) → place cursor.new ≡ past (place cursor.old)) }
 {
