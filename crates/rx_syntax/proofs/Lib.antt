@@ -1,8 +1,10 @@
-pub mod ItemLemmas
-pub mod PlaceLemmas
-pub mod ReadsLemmas
-pub mod EndLemmas
-pub mod ClassLemmas
 pub mod BranchLemmas
-pub mod StackLemmas
+pub mod ClassLemmas
+pub mod EndLemmas
+pub mod ItemLemmas
+pub mod JoinedLemmas
+pub mod PlaceLemmas
+pub mod PropertiesLemmas
+pub mod ReadsLemmas
 pub mod RepeatLemmas
+pub mod StackLemmas

@@ -9,8 +9,9 @@ mod ast;
 mod class;
 mod cursor;
 mod error;
+mod hir;
 mod parser;
 mod token;
 
-
 pub use error::{ParseError, SyntaxError, SyntaxErrorKind};
+pub use hir::{Capture, Class, ClassBytes, ClassUnicode, Hir, HirKind, Repetition};
