@@ -7,4 +7,5 @@ pub mod PlaceLemmas
 pub mod PropertiesLemmas
 pub mod ReadsLemmas
 pub mod RepeatLemmas
+pub mod ScalarLemmas
 pub mod StackLemmas

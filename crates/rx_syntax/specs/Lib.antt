@@ -12,6 +12,7 @@ pub mod Normal
 pub mod Properties
 pub mod Ranges
 pub mod Reading
+pub mod Scalars
 pub mod Stack
 pub mod Syntax
 pub mod Tokens

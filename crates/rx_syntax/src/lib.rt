@@ -11,6 +11,7 @@ mod cursor;
 mod error;
 mod hir;
 mod parser;
+mod scalars;
 mod token;
 
 pub use error::{ParseError, SyntaxError, SyntaxErrorKind};
