@@ -9,3 +9,4 @@ pub mod ReadsLemmas
 pub mod RepeatLemmas
 pub mod ScalarLemmas
 pub mod StackLemmas
+pub mod TranslationLemmas

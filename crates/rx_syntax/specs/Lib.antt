@@ -6,6 +6,7 @@ pub mod Grammar
 pub mod HirFalls
 pub mod HirViews
 pub mod Input
+pub mod ItemViews
 pub mod Joined
 pub mod Length
 pub mod Normal
@@ -16,3 +17,4 @@ pub mod Scalars
 pub mod Stack
 pub mod Syntax
 pub mod Tokens
+pub mod Translation

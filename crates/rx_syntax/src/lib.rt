@@ -13,6 +13,7 @@ mod hir;
 mod parser;
 mod scalars;
 mod token;
+mod translate;
 
 pub use error::{ParseError, SyntaxError, SyntaxErrorKind};
 pub use hir::{Capture, Class, ClassBytes, ClassUnicode, Hir, HirKind, Repetition};

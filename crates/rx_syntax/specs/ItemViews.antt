@@ -1,0 +1,13 @@
+-- What the program translates an item to.
+use Rattle.std.specs.Prelude.{ℕ, List}
+use lib.Utf8.{encodes}
+use Rattle.rx_model.specs.Expression.{Expression}
+use Rattle.rx_syntax.specs.Normal.{literal_of}
+use Rattle.rx_syntax.specs.Translation.{expression_of}
+use Rattle.rx_syntax.specs.declared.ast.Item.{Item}
+use Rattle.rx_syntax.specs.declared.ast.Item.TheVariants.{Literals, One}
+
+-- a run of characters is one literal
+abbrev pub item_expression : Item → Expression
+item_expression (Literals run) = literal_of (encodes run.items)
+item_expression (One item) = expression_of item
