@@ -8,5 +8,6 @@ pub mod PropertiesLemmas
 pub mod ReadsLemmas
 pub mod RepeatLemmas
 pub mod ScalarLemmas
+pub mod SizeLemmas
 pub mod StackLemmas
 pub mod TranslationLemmas

@@ -1,5 +1,6 @@
 -- A run of characters is translated as its characters are.
-use Rattle.std.proofs.Common.{◌≡◌, ℕ, List, [], ◌∷◌, ◌++◌, refl, ◌∙◌, ap, sym, append_assoc, append_nil}
+use Rattle.std.proofs.Common.{◌≡◌, ℕ, List, [], ◌∷◌, ◌++◌, refl, ◌∙◌, ap, sym, append_assoc}
+use Rattle.std.proofs.lemmas.List.{append-nil}
 use Rattle.std.specs.Prelude.{map, flat_map, encode_utf8}
 use lib.Utf8.{encodes}
 use Rattle.rx_model.specs.Expression.{Expression, empty, literal, class, look, repetition, capture, concat, alternation}
@@ -18,7 +19,7 @@ join-literals a b (h ∷ hs) = refl
 
 parts-literals : (a b : List ℕ) (hs : List Expression) → joined (parts_of (literal_of (a ++ b)) ++ hs) ≡ joined (parts_of (literal_of a) ++ (parts_of (literal_of b) ++ hs))
 parts-literals [] b hs = refl
-parts-literals (x ∷ a) [] hs = ap (λ (bytes : List ℕ). joined (literal (x ∷ bytes) ∷ hs)) (append_nil a)
+parts-literals (x ∷ a) [] hs = ap (λ (bytes : List ℕ). joined (literal (x ∷ bytes) ∷ hs)) (append-nil a)
 parts-literals (x ∷ a) (y ∷ b) hs = join-literals (x ∷ a) (y ∷ b) (joined hs)
 
 joined-after : (gs hs is : List Expression) → joined hs ≡ joined is → joined (gs ++ hs) ≡ joined (gs ++ is)
