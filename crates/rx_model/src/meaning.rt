@@ -1,6 +1,9 @@
 //! Laws of what an expression means.
 
-ghost use Rattle.std.specs.Prelude.{◌≡◌, ℕ, ◌≤◌, List, Option};
+ghost use Rattle.std.specs.Prelude.{◌≡◌, ℕ, ◌+◌, ◌<◌, ◌≤◌, ◌↔◌, List, take, drop, length, slice_index, Option, Some, None, IsTrue, IsFalse, encode_utf8};
+ghost use Rattle.std.specs.Char.{IsScalar, len_utf8};
+ghost use Rattle.rx_model.specs.Text.{scalar_ranges, byte_ranges, is_member, member_len};
+ghost use Rattle.rx_model.specs.Length.{minimum_len, shortest_member};
 ghost use Rattle.rx_model.specs.Runs.{Configuration, IsRun, nowhere, last_of};
 ghost use Rattle.rx_model.specs.Expression.{Expression, AreOrdered};
 ghost use Rattle.rx_model.specs.Meaning.{Means};
@@ -18,4 +21,33 @@ pub fn runs_cover_the_meaning()
         → (run : List Configuration)
         × IsRun (runs_of t text end (build_pattern slot_of p h).states) nowhere (at (build_pattern slot_of p h).start i) run
         × ((last_of (at (build_pattern slot_of p h).start i) run).place ≡ j) }
+{}
+
+/// What an expression means has at least its least length, where one is known.
+pub fn the_least_length_is_a_lower_bound()
+    ensures { (t : ℕ) (text : List ℕ) (h : Expression) (n : ℕ) → minimum_len h ≡ Some n
+        → (i j : ℕ) → Means t text h i j → i + n ≤ j }
+{}
+
+/// The least length of a class is that of the encoding of a member, and none only where it has no members.
+pub fn the_least_length_of_a_class_is_met()
+    ensures scalar { (ranges : List (ℕ × ℕ)) (n : ℕ) → shortest_member (scalar_ranges ranges) ≡ Some n
+        → (c : ℕ) × IsTrue (is_member ranges c) × (IsScalar c × (len_utf8 c ≡ n)) }
+    ensures no_scalar { (ranges : List (ℕ × ℕ)) → shortest_member (scalar_ranges ranges) ≡ None
+        → (c : ℕ) → IsScalar c → IsFalse (is_member ranges c) }
+    ensures byte { (ranges : List (ℕ × ℕ)) (n : ℕ) → shortest_member (byte_ranges ranges) ≡ Some n
+        → (b : ℕ) × IsTrue (is_member ranges b) × (n ≡ 1) }
+    ensures no_byte { (ranges : List (ℕ × ℕ)) → shortest_member (byte_ranges ranges) ≡ None
+        → (b : ℕ) → IsFalse (is_member ranges b) }
+{}
+
+/// A class of scalars means the UTF-8 encodings of its members, and a class of bytes means each member by
+/// itself.
+pub fn a_class_means_its_members()
+    ensures scalars { (text : List ℕ) (ranges : List (ℕ × ℕ)) (i n : ℕ)
+        → (member_len text (scalar_ranges ranges) i ≡ Some n)
+        ↔ ((c : ℕ) × IsScalar c × IsTrue (is_member ranges c) × (n ≡ len_utf8 c) × (take n (drop i text) ≡ encode_utf8 c)) }
+    ensures bytes { (text : List ℕ) (ranges : List (ℕ × ℕ)) (i n : ℕ)
+        → (member_len text (byte_ranges ranges) i ≡ Some n)
+        ↔ ((n ≡ 1) × (i < length text) × IsTrue (is_member ranges (slice_index text i))) }
 {}
