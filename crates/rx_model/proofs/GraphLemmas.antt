@@ -1,20 +1,22 @@
 -- The graph of a pattern: it is bounded, its steps never fall, and it accepts that pattern alone.
-use Rattle.std.proofs.Common.{◌≡◌, ℕ, zero, suc, ◌+◌, ◌*◌, ◌-◌, ◌≤◌, Bool, true, false, List, [], ◌∷◌, ◌++◌, length, get_or, Option, Some, None, refl, sym, ◌∙◌, ap, arith, true≢false}
+use Rattle.std.proofs.Common.{◌≡◌, ℕ, zero, suc, ◌+◌, ◌*◌, ◌-◌, ◌≤◌, Bool, true, false, List, [], ◌∷◌, ◌++◌, length, get_or, Option, Some, None, refl, sym, ◌∙◌, ap, subst, arith, true≢false}
 use Rattle.std.specs.Prelude.{Contains, is_some, if◌then◌else◌, nat_le, unwrap_or}
 use Rattle.std.proofs.lemmas.Bool.Decides.{nat_tests}
 use Rattle.rx_model.specs.Runs.{Configuration, PriorityGraph, nowhere, last_of, IsBounded, NeverFalls, Trace, trace, with_write, first_past}
 use Rattle.rx_model.specs.Machine.{is_inside, graph_of}
-use Rattle.rx_model.specs.Expression.{Expression, Expressions, empty, literal, class, look, repetition, capture, concat, alternation, nil, cons}
+use Rattle.rx_model.specs.Expression.{Expression, Expressions, AreOrdered, empty, literal, class, look, repetition, capture, concat, alternation, nil, cons}
+use Rattle.rx_model.specs.Meaning.{Means}
 use Rattle.rx_model.specs.Text.{stands_at, member_len}
 use Rattle.rx_model.specs.Look.{holds}
 use Rattle.rx_model.specs.Length.{minimum_len, is_positive}
 use Rattle.rx_model.specs.Graph.{State, text, set, assertion, slot, choice, accept, Part, Builder, build_state, build_then, prefer, loop, loop_once, build_optional, copies, options, build_repetition, build_group, build, build_in_turn, build_each, build_pattern, at, go_by, state_step, state_accepts, state_at, machine_of, runs_of}
 use Rattle.rx_model.specs.Search.{Patterns, slot_of, first}
 use Rattle.rx_model.proofs.RunLemmas.{by_test}
-use Rattle.rx_model.proofs.FirstLemmas.{none-is-some, some-is, found-is_run}
+use Rattle.rx_model.proofs.FirstLemmas.{none-is-some, some-is, found-is_run, none-is_none}
+use Rattle.rx_model.proofs.FoundLemmas.{map-none_only}
 use Rattle.rx_model.proofs.MachineLemmas.{graph_of-bounded}
-use Rattle.rx_model.proofs.CoverLemmas.{choice-member, only-member, none-member, run-accepts}
-use Rattle.rx_model.proofs.RiseLemmas.{found-end, mapped-some}
+use Rattle.rx_model.proofs.CoverLemmas.{choice-member, only-member, none-member, run-accepts, run-means, means-run}
+use Rattle.rx_model.proofs.RiseLemmas.{found-end, mapped-some, trace-end}
 
 -- no state of the list accepts
 abbrev pub IsSilent : List State → Type 0
@@ -200,3 +202,25 @@ module _ (r : Patterns) (hay : List ℕ) (end p : ℕ) (h : Expression) (i : ℕ
   first-end =
       found-end graph (runs_of-bounded r.terminator hay end part.states) (runs_of-rises r.terminator hay end part.states) end
       (runs_of-within r.terminator hay end part.states) nowhere (at part.start i) t is
+
+-- a pattern's first run tells an end that the expression means
+pub first-means : (r : Patterns) (hay : List ℕ) (end p : ℕ) (h : Expression) → AreOrdered h → (i : ℕ) (t : Trace) → first r hay end p h i ≡ Some t → Means r.terminator hay h i t.end
+unfolding first
+first-means r hay end p h ordered i t is =
+    let part = build_pattern (slot_of r p) p h in
+    let graph = runs_of r.terminator hay end part.states in
+    let c = at part.start i in
+    let x = mapped-some (trace graph c) (first_past graph nowhere c) t is in
+    let run = found-is_run graph (runs_of-bounded r.terminator hay end part.states) x.0 nowhere c x.1 in
+    let ends : (last_of c x.0).place ≡ t.end = sym (trace-end graph c x.0) ∙ ap (λ (u : Trace). u.end) x.2 in
+    subst (λ j. Means r.terminator hay h i j) ends (run-means r.terminator hay end (slot_of r p) p h ordered i x.0 run)
+
+-- where it has none, the expression means nothing from there within the span
+pub first-none : (r : Patterns) (hay : List ℕ) (end p : ℕ) (h : Expression) → AreOrdered h → (i : ℕ) → first r hay end p h i ≡ None → (j : ℕ) → j ≤ end → Means r.terminator hay h i j → ⊥
+unfolding first
+first-none r hay end p h ordered i none j le m =
+    let part = build_pattern (slot_of r p) p h in
+    let graph = runs_of r.terminator hay end part.states in
+    let c = at part.start i in
+    let run = means-run r.terminator hay end (slot_of r p) p h ordered i j le m in
+    none-is_none graph (runs_of-bounded r.terminator hay end part.states) nowhere c (map-none_only (trace graph c) (first_past graph nowhere c) none) run.0 run.1

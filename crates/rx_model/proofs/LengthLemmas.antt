@@ -1,6 +1,6 @@
 -- The least length that is known is a lower bound, and that of a class is met.
 use Rattle.std.proofs.Common.{◌≡◌, ℕ, zero, suc, ◌+◌, ◌*◌, min, ◌≤◌, ◌⊎◌, Bool, true, false, ◌&&◌, List, [], ◌∷◌, length, Option, Some, None, refl, sym, ap, ◌∙◌, inl, inr, arith, true≢false}
-use Rattle.std.specs.Prelude.{nat_le, ◌||◌, option_map, IsTrue}
+use Rattle.std.specs.Prelude.{nat_le, ◌||◌, option_map, IsTrue, All}
 use Rattle.std.proofs.lemmas.Bool.Decides.{nat_tests}
 use Rattle.std.proofs.lemmas.Bool.{and_parts}
 use Rattle.std.proofs.lemmas.Option.{none-some, same_Some, cond_some}
@@ -112,6 +112,29 @@ bytes-none rs none b =
     by_test (is_member rs b)
     (λ e. let x = shortest-known shortest_byte rs b 1 (λ r low high. shortest_byte-known r b low high) e in absurd (none-some x.0 (sym none ∙ x.1)))
     (λ e. e)
+
+-- the first number of the first range, where the ranges ascend, is the one with the shortest encoding
+pub shortest-first : (r : ℕ × ℕ) (rs : List (ℕ × ℕ)) → IsScalar r.0 → r.0 ≤ r.1 → All (λ (q : ℕ × ℕ). r.0 ≤ q.0) rs → shortest_of shortest_scalar (r ∷ rs) ≡ Some (len_utf8 r.0)
+shortest-first r rs s le above =
+    let first : scalar_from r.0 ≡ r.0 = grind (arith, nat_tests) in
+    let fits : (nat_le r.0 r.1 && nat_le r.0 0x10FFFF) ≡ true = grind (arith, nat_tests) in
+    rw (first, fits) (keeps (shortest_of shortest_scalar rs) refl)
+  where
+    member-above : (qs : List (ℕ × ℕ)) → All (λ (q : ℕ × ℕ). r.0 ≤ q.0) qs → (c : ℕ) → is_member qs c ≡ true → r.0 ≤ c
+    member-above [] all c h = absurd (true≢false (sym h))
+    member-above (q ∷ qs) all c h =
+        by_test (nat_le q.0 c && nat_le c q.1)
+        (λ e. let low : r.0 ≤ q.0 = all 0 q (omega arith) in let up : q.0 ≤ c = grind (arith, nat_tests) in omega arith)
+        (λ e. member-above qs (λ k d lt. all (suc k) d (omega arith)) c (rw e at h))
+
+    keeps : (o : Option ℕ) → shortest_of shortest_scalar rs ≡ o → shorter (Some (len_utf8 r.0)) o ≡ Some (len_utf8 r.0)
+    keeps None e = refl
+    keeps (Some n) e =
+        let x = scalars-met rs n e in
+        let up = len_utf8-rises r.0 x.0 (member-above rs above x.0 x.1) in
+        let is = x.2.1 in
+        let least : min (len_utf8 r.0) n ≡ len_utf8 r.0 = omega arith in
+        ap Some least
 
 plus-some : (a b : Option ℕ) (n : ℕ) → plus a b ≡ Some n → (x y : ℕ) × (a ≡ Some x) × (b ≡ Some y) × (x + y ≡ n)
 plus-some None b n h = absurd (none-some n h)

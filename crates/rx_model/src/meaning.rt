@@ -4,10 +4,11 @@ ghost use Rattle.std.specs.Prelude.{◌≡◌, ℕ, ◌+◌, ◌<◌, ◌≤◌,
 ghost use Rattle.std.specs.Char.{IsScalar, len_utf8};
 ghost use Rattle.rx_model.specs.Text.{scalar_ranges, byte_ranges, is_member, member_len};
 ghost use Rattle.rx_model.specs.Length.{minimum_len, shortest_member};
-ghost use Rattle.rx_model.specs.Runs.{Configuration, IsRun, nowhere, last_of};
+ghost use Rattle.rx_model.specs.Runs.{Configuration, IsRun, nowhere, last_of, Trace};
 ghost use Rattle.rx_model.specs.Expression.{Expression, AreOrdered};
 ghost use Rattle.rx_model.specs.Meaning.{Means};
 ghost use Rattle.rx_model.specs.Graph.{at, build_pattern, runs_of};
+ghost use Rattle.rx_model.specs.Search.{Patterns, first};
 
 /// The accepting runs of a pattern's graph from a place end exactly where a part that the expression
 /// means ends, within the end of the search.
@@ -21,6 +22,15 @@ pub fn runs_cover_the_meaning()
         → (run : List Configuration)
         × IsRun (runs_of t text end (build_pattern slot_of p h).states) nowhere (at (build_pattern slot_of p h).start i) run
         × ((last_of (at (build_pattern slot_of p h).start i) run).place ≡ j) }
+{}
+
+/// The first run of a pattern ends where the expression means a part of the text, within the span, and
+/// there is none only where it means none.
+pub fn the_first_run_is_meant()
+    ensures some { (r : Patterns) (text : List ℕ) (end p : ℕ) (h : Expression) → AreOrdered h → (i : ℕ) (t : Trace)
+        → first r text end p h i ≡ Some t → (t.pattern ≡ p) × (t.end ≤ end) × Means r.terminator text h i t.end }
+    ensures none { (r : Patterns) (text : List ℕ) (end p : ℕ) (h : Expression) → AreOrdered h → (i : ℕ)
+        → first r text end p h i ≡ None → (j : ℕ) → j ≤ end → Means r.terminator text h i j → ⊥ }
 {}
 
 /// What an expression means has at least its least length, where one is known.
