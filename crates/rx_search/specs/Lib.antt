@@ -1,3 +1,4 @@
 pub mod Matches
 pub mod Anchored
 pub mod Input
+pub mod Searcher

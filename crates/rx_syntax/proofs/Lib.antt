@@ -10,4 +10,5 @@ pub mod RepeatLemmas
 pub mod ScalarLemmas
 pub mod SizeLemmas
 pub mod StackLemmas
+pub mod ThinLemmas
 pub mod TranslationLemmas

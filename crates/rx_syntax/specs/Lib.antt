@@ -13,8 +13,11 @@ pub mod Normal
 pub mod Properties
 pub mod Ranges
 pub mod Reading
+pub mod Refusal
 pub mod Scalars
 pub mod Stack
 pub mod Syntax
+pub mod Thin
+pub mod ThinViews
 pub mod Tokens
 pub mod Translation

@@ -12,8 +12,10 @@ mod error;
 mod hir;
 mod parser;
 mod scalars;
+mod thin;
 mod token;
 mod translate;
 
 pub use error::{ParseError, SyntaxError, SyntaxErrorKind};
 pub use hir::{Capture, Class, ClassBytes, ClassUnicode, Hir, HirKind, Repetition};
+pub use thin::parse;

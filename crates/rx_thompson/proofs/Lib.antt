@@ -1,1 +1,3 @@
 pub mod AutomatonLemmas
+pub mod BuiltLemmas
+pub mod LoopLemmas

@@ -5,6 +5,8 @@
 //! of the expressions, with pattern, end and slots. It stands on rx_syntax.
 #![tactic(auto)]
 
+mod nfa;
 mod state;
 
+pub use nfa::NFA;
 pub use state::{Alternates, State, Transition, Transitions};
