@@ -1,8 +1,9 @@
 pub mod BranchLemmas
-pub mod ClassLemmas
+pub mod ClassItemLemmas
 pub mod EndLemmas
 pub mod ItemLemmas
 pub mod JoinedLemmas
+pub mod PatternLemmas
 pub mod PlaceLemmas
 pub mod PropertiesLemmas
 pub mod ReadsLemmas

@@ -10,6 +10,7 @@ pub mod ItemViews
 pub mod Joined
 pub mod Length
 pub mod Normal
+pub mod Pattern
 pub mod Properties
 pub mod Ranges
 pub mod Reading

@@ -3,14 +3,20 @@ ghost use Rattle.std.specs.Prelude.{◌≡◌, ℕ, ◌+◌, ◌<◌, ◌≤◌,
 ghost use Rattle.rx_syntax.specs.Reading.{Place, at_end, past};
 ghost use Rattle.rx_syntax.specs.Syntax.{Syntax, depth};
 ghost use Rattle.rx_syntax.specs.Grammar.{all_repetitions, item_then, group_then, all_branches, no_items, read};
+ghost use Rattle.rx_syntax.specs.Pattern.{reads};
 ghost use Rattle.rx_syntax.specs.Input.{place, unread, Reads, Refuses, IsPieceAt};
 
 use crate::ast::{Ast, Item};
 use crate::cursor::{Cursor, Piece};
 use crate::error::{ParseError, SyntaxErrorKind};
+use crate::hir::Hir;
 use crate::token::{Token, read_operator, read_token};
+use crate::translate::translate;
 use std::alloc::{AllocError, Global};
 use std::mem;
+
+/// How deep groups and repetitions nest at most.
+const NEST_LIMIT: u32 = 250;
 
 /// What was read of a group so far: the branches that are done, and of the last one the items, then a run
 /// of characters that stand for themselves.
@@ -231,6 +237,21 @@ fn group_number(captures: bool, groups: usize) -> Option<usize>
     ensures numbered { (n : ℕ) → result ≡ Some n → 0 < n }
 {
     if captures { Some(groups) } else { None }
+}
+
+/// The expression of a pattern, or the first refusal, with its kind and its piece in bytes. An empty pattern
+/// is the empty expression. `Memory` comes only where memory runs out.
+///
+/// A pattern holds characters, escapes of ASCII punctuation, `.`, classes of ASCII characters, groups,
+/// alternations, and `*`, `+`, `?`, each greedy or lazy. All else is `Unsupported`. Groups and repetitions nest
+/// up to 250 deep.
+pub fn parse(alloc: Global, pattern: &str) -> Result<Hir, ParseError>
+    ensures { MatchResult result
+        (λ h. reads NEST_LIMIT (chars pattern.now) ≡ Ok h)
+        (λ e. Refuses e (reads NEST_LIMIT (chars pattern.now))) }
+{
+    let ast = read(alloc, pattern, NEST_LIMIT)?;
+    Ok(translate(alloc, &ast)?)
 }
 
 /// Reads a pattern, whose groups and repetitions nest at most as deep as the limit.
