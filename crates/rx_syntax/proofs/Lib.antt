@@ -13,3 +13,4 @@ pub mod SizeLemmas
 pub mod StackLemmas
 pub mod ThinLemmas
 pub mod TranslationLemmas
+mod Rows
