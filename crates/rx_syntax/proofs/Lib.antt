@@ -1,3 +1,4 @@
+pub mod ClassLemmas
 pub mod JoinedLemmas
 pub mod PropertiesLemmas
 pub mod ThinLemmas

@@ -1,3 +1,4 @@
+pub mod ClassViews
 pub mod Depth
 pub mod HirFalls
 pub mod HirViews

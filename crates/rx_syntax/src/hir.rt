@@ -10,6 +10,7 @@ mod class;
 mod concat;
 mod kind;
 mod properties;
+mod set;
 
 pub use class::{Class, ClassBytes, ClassUnicode};
 use properties::Properties;
