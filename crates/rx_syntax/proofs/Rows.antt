@@ -7,7 +7,8 @@ use Rattle.rx_syntax.specs.declared.error.SyntaxError.{SyntaxError}
 use Rattle.rx_syntax.specs.declared.error.SyntaxErrorKind.{SyntaxErrorKind}
 use Rattle.rx_syntax.specs.declared.error.SyntaxErrorKind.TheVariants.{UnclosedGroup, UnopenedGroup, UnclosedClass, ClassRange, RepeatNothing, Escape, NestLimit, Unsupported}
 use Rattle.rx_syntax.specs.Grammar.{read, branches, repetitions, token, opening, class as reads_class, class_items, class_item, class_range, class_character, escape}
-use Rattle.rx_syntax.specs.Scalars.{fewest, insert_range, outside}
+use Rattle.rx_syntax.specs.Ranges.{fewest, insert}
+use Rattle.rx_syntax.specs.Scalars.{outside}
 use Rattle.rx_syntax.specs.Pattern.{reads}
 use lib.Utf8.{encode}
 
@@ -28,7 +29,7 @@ characters_rows :
     -- `a日`
     (reads 250 (97 ∷ 26085 ∷ []) ≡ Ok (literal (97 ∷ 230 ∷ 151 ∷ 165 ∷ []))) ×
     (reads 250 (codes ".") ≡ Ok (class (scalar_ranges ((0, 9) ∷ (11, 1114111) ∷ []))))
-unfolding reads read branches repetitions token opening reads_class class_items class_item class_range class_character escape fewest insert_range outside encode
+unfolding reads read branches repetitions token opening reads_class class_items class_item class_range class_character escape fewest insert outside encode
 characters_rows = (refl, refl, refl, refl, refl, refl, refl, refl, refl)
 
 -- Alternations, groups, and what joins.
@@ -43,7 +44,7 @@ alternations_rows :
     (reads 250 (codes "(?:ab)c(?:de)") ≡ Ok (literal (97 ∷ 98 ∷ 99 ∷ 100 ∷ 101 ∷ []))) ×
     (reads 250 (codes "((a)(b))") ≡ Ok (capture 1 (concat (cons (capture 2 (literal (97 ∷ []))) (cons (capture 3 (literal (98 ∷ []))) nil))))) ×
     (reads 250 (codes "(?:(a)|b)(c)") ≡ Ok (concat (cons (alternation (cons (capture 1 (literal (97 ∷ []))) (cons (literal (98 ∷ [])) nil))) (cons (capture 2 (literal (99 ∷ []))) nil))))
-unfolding reads read branches repetitions token opening reads_class class_items class_item class_range class_character escape fewest insert_range outside encode
+unfolding reads read branches repetitions token opening reads_class class_items class_item class_range class_character escape fewest insert outside encode
 alternations_rows = (refl, refl, refl, refl, refl, refl, refl, refl, refl)
 
 -- Repetitions.
@@ -59,7 +60,7 @@ repetitions_rows :
     (reads 250 (codes "(?:)*") ≡ Ok (repetition 0 (Some 1) true empty)) ×
     (reads 250 (codes "(?:)+") ≡ Ok empty) ×
     (reads 250 (codes "(a)?") ≡ Ok (repetition 0 (Some 1) true (capture 1 (literal (97 ∷ [])))))
-unfolding reads read branches repetitions token opening reads_class class_items class_item class_range class_character escape fewest insert_range outside encode
+unfolding reads read branches repetitions token opening reads_class class_items class_item class_range class_character escape fewest insert outside encode
 repetitions_rows = (refl, refl, refl, refl, refl, refl, refl, refl, refl)
 
 -- Classes.
@@ -73,7 +74,7 @@ classes_rows :
     (reads 250 (codes "[-a]") ≡ Ok (class (scalar_ranges ((45, 45) ∷ (97, 97) ∷ [])))) ×
     (reads 250 (codes "[a-b-c]") ≡ Ok (class (scalar_ranges ((45, 45) ∷ (97, 99) ∷ [])))) ×
     (reads 250 (codes "[a-z-9]") ≡ Ok (class (scalar_ranges ((45, 45) ∷ (57, 57) ∷ (97, 122) ∷ []))))
-unfolding reads read branches repetitions token opening reads_class class_items class_item class_range class_character escape fewest insert_range outside encode
+unfolding reads read branches repetitions token opening reads_class class_items class_item class_range class_character escape fewest insert outside encode
 classes_rows = (refl, refl, refl, refl, refl, refl, refl, refl)
 
 more_classes_rows :
@@ -86,7 +87,7 @@ more_classes_rows :
     (reads 250 (codes "[a]b") ≡ Ok (literal (97 ∷ 98 ∷ []))) ×
     -- a range from 0 on
     (reads 250 (91 ∷ 94 ∷ 0 ∷ 45 ∷ 97 ∷ 93 ∷ []) ≡ Ok (class (scalar_ranges ((98, 1114111) ∷ []))))
-unfolding reads read branches repetitions token opening reads_class class_items class_item class_range class_character escape fewest insert_range outside encode
+unfolding reads read branches repetitions token opening reads_class class_items class_item class_range class_character escape fewest insert outside encode
 more_classes_rows = (refl, refl, refl, refl, refl, refl, refl, refl)
 
 -- Refusals.
@@ -101,7 +102,7 @@ refused_groups_rows :
     (reads 250 (codes "(a))b") ≡ refused UnopenedGroup 3 4) ×
     -- `é)`
     (reads 250 (233 ∷ 41 ∷ []) ≡ refused UnopenedGroup 2 3)
-unfolding reads read branches repetitions token opening reads_class class_items class_item class_range class_character escape fewest insert_range outside encode
+unfolding reads read branches repetitions token opening reads_class class_items class_item class_range class_character escape fewest insert outside encode
 refused_groups_rows = (refl, refl, refl, refl, refl, refl, refl)
 
 refused_classes_rows :
@@ -113,7 +114,7 @@ refused_classes_rows :
     (reads 250 (codes "[az-\\]]") ≡ refused ClassRange 2 6) ×
     (reads 250 (codes "[[a]]") ≡ refused Unsupported 1 2) ×
     (reads 250 (codes "[a-[]") ≡ refused Unsupported 3 4)
-unfolding reads read branches repetitions token opening reads_class class_items class_item class_range class_character escape fewest insert_range outside encode
+unfolding reads read branches repetitions token opening reads_class class_items class_item class_range class_character escape fewest insert outside encode
 refused_classes_rows = (refl, refl, refl, refl, refl, refl, refl, refl)
 
 refused_items_rows :
@@ -127,7 +128,7 @@ refused_items_rows :
     (reads 250 (91 ∷ 233 ∷ 93 ∷ []) ≡ refused Unsupported 1 3) ×
     -- `[a-é]`
     (reads 250 (91 ∷ 97 ∷ 45 ∷ 233 ∷ 93 ∷ []) ≡ refused Unsupported 3 5)
-unfolding reads read branches repetitions token opening reads_class class_items class_item class_range class_character escape fewest insert_range outside encode
+unfolding reads read branches repetitions token opening reads_class class_items class_item class_range class_character escape fewest insert outside encode
 refused_items_rows = (refl, refl, refl, refl, refl, refl, refl, refl)
 
 refused_operators_rows :
@@ -138,7 +139,7 @@ refused_operators_rows :
     (reads 250 (codes "(?:??)") ≡ refused RepeatNothing 3 4) ×
     -- `é|?`
     (reads 250 (233 ∷ 124 ∷ 63 ∷ []) ≡ refused RepeatNothing 3 4)
-unfolding reads read branches repetitions token opening reads_class class_items class_item class_range class_character escape fewest insert_range outside encode
+unfolding reads read branches repetitions token opening reads_class class_items class_item class_range class_character escape fewest insert outside encode
 refused_operators_rows = (refl, refl, refl, refl, refl, refl)
 
 refused_tokens_rows :
@@ -150,7 +151,7 @@ refused_tokens_rows :
     (reads 250 (92 ∷ 233 ∷ []) ≡ refused Unsupported 0 3) ×
     (reads 250 (codes "\\<") ≡ refused Unsupported 0 2) ×
     (reads 250 (codes "\\7") ≡ refused Unsupported 0 2)
-unfolding reads read branches repetitions token opening reads_class class_items class_item class_range class_character escape fewest insert_range outside encode
+unfolding reads read branches repetitions token opening reads_class class_items class_item class_range class_character escape fewest insert outside encode
 refused_tokens_rows = (refl, refl, refl, refl, refl, refl, refl)
 
 more_refused_tokens_rows :
@@ -161,7 +162,7 @@ more_refused_tokens_rows :
     (reads 250 (codes "^") ≡ refused Unsupported 0 1) ×
     (reads 250 (codes "a$") ≡ refused Unsupported 1 2) ×
     (reads 250 (codes "a{*") ≡ refused Unsupported 1 2)
-unfolding reads read branches repetitions token opening reads_class class_items class_item class_range class_character escape fewest insert_range outside encode
+unfolding reads read branches repetitions token opening reads_class class_items class_item class_range class_character escape fewest insert outside encode
 more_refused_tokens_rows = (refl, refl, refl, refl, refl, refl, refl)
 
 -- The nest limit.
@@ -174,7 +175,7 @@ nesting_of_two_rows :
     (reads 2 (codes "a***") ≡ refused NestLimit 3 4) ×
     (reads 2 (codes "(a*)*") ≡ refused NestLimit 4 5) ×
     (reads 2 (codes "((a*))") ≡ refused NestLimit 5 6)
-unfolding reads read branches repetitions token opening reads_class class_items class_item class_range class_character escape fewest insert_range outside encode
+unfolding reads read branches repetitions token opening reads_class class_items class_item class_range class_character escape fewest insert outside encode
 nesting_of_two_rows = (refl, refl, refl, refl, refl, refl, refl)
 
 nesting_of_one_rows :
@@ -182,12 +183,12 @@ nesting_of_one_rows :
     (reads 1 (codes "(a)?") ≡ refused NestLimit 3 4) ×
     (reads 1 (codes "(a*)") ≡ refused NestLimit 3 4) ×
     (reads 1 (codes "a*(b)") ≡ Ok (concat (cons (repetition 0 None true (literal (97 ∷ []))) (cons (capture 1 (literal (98 ∷ []))) nil))))
-unfolding reads read branches repetitions token opening reads_class class_items class_item class_range class_character escape fewest insert_range outside encode
+unfolding reads read branches repetitions token opening reads_class class_items class_item class_range class_character escape fewest insert outside encode
 nesting_of_one_rows = (refl, refl, refl, refl)
 
 nesting_of_none_rows :
     (reads 0 (codes "a|b") ≡ Ok (alternation (cons (literal (97 ∷ [])) (cons (literal (98 ∷ [])) nil)))) ×
     (reads 0 (codes "(a") ≡ refused NestLimit 0 1) ×
     (reads 0 (codes "a*?") ≡ refused NestLimit 1 3)
-unfolding reads read branches repetitions token opening reads_class class_items class_item class_range class_character escape fewest insert_range outside encode
+unfolding reads read branches repetitions token opening reads_class class_items class_item class_range class_character escape fewest insert outside encode
 nesting_of_none_rows = (refl, refl, refl)
