@@ -1,5 +1,5 @@
 -- What patterns read as, by evaluation of the definitions. The answers were worked out from the rules by hand.
-use Rattle.std.proofs.Common.{◌≡◌, ℕ, List, [], ◌∷◌, refl}
+use Rattle.std.proofs.Common.{◌≡◌, ℕ, [], ◌∷◌, refl}
 use Rattle.std.specs.Prelude.{true, false, Some, None, Result, Ok, Err, codes}
 use Rattle.rx_model.specs.Text.{scalar_ranges}
 use Rattle.rx_model.specs.Expression.{Expression, empty, literal, class, repetition, capture, concat, alternation, nil, cons}

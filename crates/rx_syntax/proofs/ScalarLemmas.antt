@@ -1,6 +1,6 @@
 -- Putting ranges among fewest ranges of scalars, and what lies outside them.
 use Rattle.std.proofs.Common.{◌≡◌, ℕ, suc, ◌+◌, ◌-◌, ◌<◌, ◌≤◌, Bool, true, false, List, [], ◌∷◌, ◌++◌, length, take, drop, min, max, get_or, refl, ◌∙◌, ap, sym, subst, arith, inl, inr, append_assoc, add-one, drop-cons}
-use Rattle.std.specs.Prelude.{All, nat_lt, nat_le, if◌then◌else◌}
+use Rattle.std.specs.Prelude.{nat_lt, nat_le, if◌then◌else◌}
 use Rattle.std.specs.Char.{IsScalar}
 use Rattle.std.proofs.Math.Utf8.{scalar_cases}
 use Rattle.std.proofs.Math.Seq.{take-suc, take-append_seam, drop-append_seam}

@@ -1,7 +1,6 @@
-use Rattle.std.proofs.Common.{◌≡◌, ◌∙◌, sym, refl, arith, subst, length, ◌≤◌}
-use Rattle.std.proofs.lemmas.Grind.{common_steps}
+use Rattle.std.proofs.Common.{◌∙◌, sym, refl, arith, subst, length, ◌≤◌}
 use Rattle.rx_syntax.specs.Ranges.{AreScalarRanges}
-use Rattle.rx_syntax.specs.Scalars.{complement, or_past}
+use Rattle.rx_syntax.specs.Scalars.{or_past}
 use Rattle.rx_syntax.proofs.ScalarLemmas.{outside-step, outside-last, AreScalarRanges-complement}
 use Rattle.rx_syntax.proofs.hir.scalars.ranges_outside.Goals as goal
 

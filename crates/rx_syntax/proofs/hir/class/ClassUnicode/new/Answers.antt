@@ -1,5 +1,5 @@
-use Rattle.std.proofs.Common.{◌≡◌, ◌∙◌, ap, sym, ℕ, ◌≤◌, length, drop, arith, subst}
-use Rattle.rx_syntax.specs.Ranges.{next_scalar, fewest, AreScalarRanges}
+use Rattle.std.proofs.Common.{◌∙◌, sym, arith, subst}
+use Rattle.rx_syntax.specs.Ranges.{AreScalarRanges}
 use Rattle.rx_syntax.proofs.ScalarLemmas.{fewest-end, fewest-back, AreScalarRanges-none}
 use Rattle.rx_syntax.proofs.hir.class.ClassUnicode.new.Goals as goal
 
