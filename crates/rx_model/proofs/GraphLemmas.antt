@@ -15,7 +15,8 @@ use Rattle.rx_model.proofs.RunLemmas.{by_test}
 use Rattle.rx_model.proofs.FirstLemmas.{none-is-some, some-is, found-is_run, none-is_none}
 use Rattle.rx_model.proofs.FoundLemmas.{map-none_only}
 use Rattle.rx_model.proofs.MachineLemmas.{graph_of-bounded}
-use Rattle.rx_model.proofs.CoverLemmas.{choice-member, only-member, none-member, run-accepts, run-means, means-run}
+use Rattle.rx_model.proofs.MemberLemmas.{choice-member, only-member, none-member}
+use Rattle.rx_model.proofs.CoverLemmas.{run-accepts, run-means, means-run}
 use Rattle.rx_model.proofs.RiseLemmas.{found-end, mapped-some, trace-end}
 
 -- no state of the list accepts
