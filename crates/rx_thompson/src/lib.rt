@@ -5,6 +5,8 @@
 //! of the expressions, with pattern, end and slots. It stands on rx_syntax.
 #![tactic(auto)]
 
+mod sparse;
 mod state;
 
+pub use sparse::matches_byte;
 pub use state::{Alternates, State, Transition, Transitions};
