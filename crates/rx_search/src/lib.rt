@@ -4,8 +4,20 @@
 //! want of memory can refuse.
 #![tactic(auto)]
 
+mod anchored;
+mod gate;
+mod input;
+mod matches;
 mod memory;
 mod primitives;
+mod searcher;
+mod span;
 
+pub use anchored::{Anchored, MatchKind};
+pub use gate::{Gate, Open};
+pub use input::Input;
+pub use matches::{HalfMatch, Match};
 pub use memory::Memory;
 pub use primitives::{NonMaxUsize, PatternID, StateID};
+pub use searcher::{Finder, Searcher};
+pub use span::Span;

@@ -1,0 +1,4 @@
+pub mod Matches
+pub mod Anchored
+pub mod Input
+pub mod Searcher
