@@ -1,12 +1,11 @@
 -- The steps of a simulation by ordered threads.
-use Rattle.std.proofs.Common.{◌≡◌, ◌≢◌, ℕ, ◌+◌, ◌≤◌, ◌<◌, List, [], ◌∷◌, ◌++◌, length, refl, sym, ◌∙◌, ap, subst, inl, inr, arith, set, set-set, get_or, true≢false}
+use Rattle.std.proofs.Common.{◌≡◌, ◌≢◌, ℕ, ◌≤◌, ◌<◌, List, [], ◌∷◌, ◌++◌, length, refl, sym, ◌∙◌, ap, subst, inl, inr, arith, set, set-set, get_or, true≢false}
 use Rattle.std.proofs.lemmas.List.{set-get_or, get_or-set_same, get_or-set_other}
 use Rattle.std.proofs.lemmas.Bool.Decides.{nat_tests, Decides-eqb}
-use Rattle.std.specs.Prelude.{Bool, true, false, ◌||◌, ◌==◌, Option, Some, None, option_map, Contains, slice_index, nat_lt, nat_le, ◌&&◌}
+use Rattle.std.specs.Prelude.{Bool, true, false, ◌||◌, ◌==◌, Option, Some, None, option_map, Contains}
 use Rattle.std.specs.Option.{option_or}
 use Rattle.rx_model.specs.Runs.{Configuration, PriorityGraph, Passed, nowhere, and_at, same, Trace, with_write, found, first_some, IsBounded}
 use Rattle.rx_model.proofs.RunLemmas.{by_test, same-true, first_some-alike_at}
-use Rattle.rx_model.proofs.FirstLemmas.{member-cases}
 use Rattle.rx_model.proofs.FoundLemmas.{found-passed, found-accepted, found-prune, found-step, found-forget, option_map-or}
 use Rattle.rx_thompson.specs.Automaton.{at, automaton, state_at, state_step}
 use Rattle.rx_engines.specs.Walk.{Slots, answer, pending, explore_all, Expands}

@@ -11,7 +11,7 @@ use Rattle.rx_model.proofs.FirstLemmas.{none-is-some, some-is}
 use Rattle.rx_model.proofs.RiseLemmas.{found-end}
 use Rattle.rx_model.proofs.FoundLemmas.{found-prune, found-forget, option_map-or}
 use Rattle.rx_thompson.specs.Automaton.{at, automaton, state_at}
-use Rattle.rx_engines.specs.Walk.{Slots, answer, pending, write_all}
+use Rattle.rx_engines.specs.Walk.{Slots, answer, pending}
 use Rattle.rx_engines.specs.Search.{triple}
 use Rattle.rx_thompson.specs.declared.state.State.{State}
 use Rattle.rx_engines.specs.declared.frame.Frame.TheVariants.{Explore}

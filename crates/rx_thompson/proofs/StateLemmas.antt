@@ -1,18 +1,16 @@
 -- What the automaton does at a state that was read.
-use Rattle.std.proofs.Common.{◌≡◌, ℕ, ◌+◌, ◌<◌, ◌≤◌, List, [], ◌∷◌, ◌∙◌, sym, ap, subst, inl, inr, arith, get_or, length, true≢false, refl}
+use Rattle.std.proofs.Common.{◌≡◌, ℕ, ◌+◌, ◌<◌, ◌≤◌, List, [], ◌∷◌, ◌∙◌, sym, ap, subst, inl, inr, arith, get_or, length, refl}
 use Rattle.std.proofs.lemmas.Bool.Decides.{nat_tests}
 use Rattle.std.proofs.lemmas.List.{get_or_default}
 use Rattle.std.proofs.lemmas.List.Elements.{All-get_or}
-use Rattle.std.specs.Prelude.{true, Option, Some, None, nat_lt, map, All, Contains, is_some, slice_index}
-use Rattle.rx_model.specs.Runs.{Configuration, IsBounded, NeverFalls}
+use Rattle.std.specs.Prelude.{true, Option, Some, None, nat_lt, All, Contains, slice_index}
+use Rattle.rx_model.specs.Runs.{Configuration}
 use Rattle.rx_model.specs.Machine.{graph_of, is_inside}
 use Rattle.rx_model.proofs.RunLemmas.{by_test}
 use Rattle.rx_model.proofs.FirstLemmas.{member-cases}
-use Rattle.rx_model.proofs.MachineLemmas.{graph_of-bounded}
 use Rattle.rx_thompson.specs.Automaton.{at, automaton, machine, state_at, state_step, state_accepts, state_writes, route, go_on, read_byte, NamesBelow}
 use Rattle.rx_thompson.specs.declared.state.Transition.{Transition}
 use Rattle.rx_thompson.specs.declared.state.State.{State}
-use Rattle.rx_thompson.specs.declared.state.State.TheVariants.{ByteRange, Sparse, Union, Capture, Fail, Match}
 
 module _ (states : List State) (text : List ℕ) (end q i : ℕ) (state : q < length states) (place : i ≤ end) where
   is_here : is_inside (machine states text end) end (at q i) ≡ true

@@ -1,2 +1,4 @@
 pub mod Automaton
 pub mod Nfa
+pub mod Draft
+pub mod Built

@@ -5,8 +5,10 @@
 //! of the expressions, with pattern, end and slots. It stands on rx_syntax.
 #![tactic(auto)]
 
+mod nfa;
 mod sparse;
 mod state;
 
+pub use nfa::NFA;
 pub use sparse::matches_byte;
 pub use state::{Alternates, State, Transition, Transitions};

@@ -1,6 +1,5 @@
 use Rattle.std.proofs.Common.{◌≡◌, ◌+◌, length, refl, sym, ◌∙◌, ap, arith}
 use Rattle.std.specs.Prelude.{None, replicate, option_map, is_some}
-use Rattle.std.proofs.lemmas.List.{length-take}
 use Rattle.std.specs.Option.{option_or}
 use Rattle.rx_model.specs.Runs.{nowhere}
 use Rattle.rx_thompson.specs.Automaton.{automaton}

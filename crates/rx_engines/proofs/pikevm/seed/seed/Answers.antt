@@ -1,4 +1,4 @@
-use Rattle.std.proofs.Common.{◌+◌, length, refl, sym, ◌∙◌, arith, drop, get_or}
+use Rattle.std.proofs.Common.{◌+◌, length, refl, sym, ◌∙◌, arith, drop}
 use Rattle.std.proofs.lemmas.List.{get_or_default}
 use Rattle.rx_model.specs.Runs.{nowhere}
 use Rattle.rx_thompson.specs.Automaton.{automaton}
