@@ -1,0 +1,14 @@
+//! A simulation of an NFA by an ordered list of threads, each with its slots. It looks at each place once, so
+//! that its work is bounded by the places times the states.
+
+mod cache;
+mod close;
+mod search;
+mod seed;
+mod set;
+mod stack;
+mod step;
+mod table;
+mod threads;
+
+pub use cache::Cache;
