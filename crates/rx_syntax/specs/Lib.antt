@@ -6,3 +6,6 @@ pub mod Length
 pub mod Normal
 pub mod Properties
 pub mod Ranges
+pub mod Refusal
+pub mod Thin
+pub mod ThinViews

@@ -7,6 +7,8 @@
 
 mod error;
 mod hir;
+mod thin;
 
 pub use error::{ParseError, SyntaxError, SyntaxErrorKind};
 pub use hir::{Capture, Class, ClassBytes, ClassUnicode, Hir, HirKind, Repetition};
+pub use thin::parse;
