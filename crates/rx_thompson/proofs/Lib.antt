@@ -2,3 +2,4 @@ pub mod AutomatonLemmas
 pub mod BuiltLemmas
 pub mod LoopLemmas
 pub mod StateLemmas
+pub mod NextMatchLemmas
