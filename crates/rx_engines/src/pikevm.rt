@@ -16,3 +16,6 @@ mod vm;
 pub use cache::Cache;
 pub use finder::SlotFinder;
 pub use vm::PikeVM;
+
+#[cfg(test)]
+mod tests;
