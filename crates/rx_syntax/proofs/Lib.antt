@@ -1,5 +1,7 @@
+mod Rows
 pub mod BranchLemmas
 pub mod ClassItemLemmas
+pub mod ClassLemmas
 pub mod EndLemmas
 pub mod ItemLemmas
 pub mod JoinedLemmas

@@ -1,5 +1,6 @@
 pub mod AstFalls
 pub mod AstViews
+pub mod ClassViews
 pub mod Coded
 pub mod Depth
 pub mod Grammar

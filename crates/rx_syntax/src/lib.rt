@@ -11,7 +11,6 @@ mod cursor;
 mod error;
 mod hir;
 mod parser;
-mod scalars;
 mod thin;
 mod token;
 mod translate;
