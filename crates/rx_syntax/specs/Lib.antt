@@ -1,4 +1,5 @@
 pub mod ClassViews
+pub mod Cost
 pub mod Depth
 pub mod HirFalls
 pub mod HirViews

@@ -1,5 +1,5 @@
 -- The expressions that the constructors make of their parts.
-use Rattle.std.specs.Prelude.{ℕ, zero, suc, min, Bool, true, false, ◌==◌, List, [], ◌∷◌, ◌++◌, flat_map, Option, Some, None, option_map, if◌then◌else◌, encode_utf8}
+use Rattle.std.specs.Prelude.{ℕ, zero, suc, min, Bool, false, ◌==◌, List, [], ◌∷◌, ◌++◌, flat_map, Option, Some, None, option_map, if◌then◌else◌, encode_utf8}
 use Rattle.rx_model.specs.Text.{Class, scalar_ranges, byte_ranges}
 use Rattle.rx_model.specs.Expression.{Expression, Expressions, empty, literal, class, look, repetition, capture, concat, alternation, nil, cons}
 use Rattle.rx_syntax.specs.Length.{maximum_len}

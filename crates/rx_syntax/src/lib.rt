@@ -5,10 +5,12 @@
 //! rx_model. It stands on rx_search.
 #![tactic(auto)]
 
+mod cost;
 mod error;
 mod hir;
 mod thin;
 
+pub use cost::greatest_group;
 pub use error::{ParseError, SyntaxError, SyntaxErrorKind};
 pub use hir::{Capture, Class, ClassBytes, ClassUnicode, Hir, HirKind, Repetition};
 pub use thin::parse;
