@@ -11,11 +11,11 @@ use Rattle.rx_model.specs.Look.{holds}
 use Rattle.rx_model.specs.Length.{minimum_len, is_positive}
 use Rattle.rx_model.specs.Graph.{State, text, set, assertion, slot, choice, accept, Part, Builder, build_state, build_then, prefer, loop, loop_once, build_optional, copies, options, build_repetition, build_group, build, build_in_turn, build_each, build_pattern, at, go_by, state_step, state_accepts, state_at, machine_of, runs_of}
 use Rattle.rx_model.specs.Search.{Patterns, slot_of, first}
-use Rattle.rx_model.proofs.RunLemmas.{by_test}
+use Rattle.rx_model.proofs.RunLemmas.{by_test, map-none}
 use Rattle.rx_model.proofs.FirstLemmas.{none-is-some, some-is, found-is_run, none-is_none}
-use Rattle.rx_model.proofs.FoundLemmas.{map-none_only}
 use Rattle.rx_model.proofs.MachineLemmas.{graph_of-bounded}
-use Rattle.rx_model.proofs.CoverLemmas.{choice-member, only-member, none-member, run-accepts, run-means, means-run}
+use Rattle.rx_model.proofs.MemberLemmas.{choice-member, only-member, none-member}
+use Rattle.rx_model.proofs.CoverLemmas.{run-pattern, run-means, means-run}
 use Rattle.rx_model.proofs.RiseLemmas.{found-end, mapped-some, trace-end}
 
 -- no state of the list accepts
@@ -192,7 +192,7 @@ module _ (r : Patterns) (hay : List ℕ) (end p : ℕ) (h : Expression) (i : ℕ
       let c = at part.start i in
       let x = mapped-some (trace graph c) (first_past graph nowhere c) t is in
       let run = found-is_run graph (runs_of-bounded r.terminator hay end part.states) x.0 nowhere c x.1 in
-      let q = run-accepts graph nowhere c x.0 run in
+      let q = run-pattern graph nowhere c x.0 run in
       ap (λ (u : Trace). u.pattern) (sym x.2) ∙ trace-pattern graph c x.0 ∙ ap (λ o. unwrap_or o 0) q.1
       ∙ pattern-accepts (slot_of r p) p h (last_of c x.0).state q.0 (runs_of-accepts r.terminator hay end part.states (last_of c x.0) q.0 q.1)
 
@@ -223,4 +223,4 @@ first-none r hay end p h ordered i none j le m =
     let graph = runs_of r.terminator hay end part.states in
     let c = at part.start i in
     let run = means-run r.terminator hay end (slot_of r p) p h ordered i j le m in
-    none-is_none graph (runs_of-bounded r.terminator hay end part.states) nowhere c (map-none_only (trace graph c) (first_past graph nowhere c) none) run.0 run.1
+    none-is_none graph (runs_of-bounded r.terminator hay end part.states) nowhere c (map-none (trace graph c) (first_past graph nowhere c) none) run.0 run.1

@@ -7,9 +7,8 @@ use Rattle.rx_model.specs.Expression.{Expression}
 use Rattle.rx_model.specs.Runs.{Trace}
 use Rattle.rx_model.specs.Search.{Patterns, first, is_permitted, Anchor, free, anchored, anchored_to, is_anchored, first_of_patterns, first_of_pattern, starting_at, Match, first_start, starts, next_match, is_empty_at, next_after, matches_from}
 use Rattle.rx_model.specs.Matches.{IsStart, IsSought, MayStart, HasFirstRun, IsNextMatch}
-use Rattle.rx_model.proofs.RunLemmas.{by_test}
+use Rattle.rx_model.proofs.RunLemmas.{by_test, or-none, map-none}
 use Rattle.rx_model.proofs.FirstLemmas.{none-is-some, some-is, tells}
-use Rattle.rx_model.proofs.FoundLemmas.{map-none_only}
 use Rattle.rx_model.proofs.GraphLemmas.{first-pattern, first-end}
 
 -- What a search answers depends only on what a match from each start tells.
@@ -40,13 +39,9 @@ started i t = record { start = i; trace = t }
 abbrev at_start : (ℕ → Bool) → (ℕ → Option Trace) → ℕ → Option Match
 at_start permitted from i = if permitted i then option_map (started i) (from i) else None
 
-option_or-cases : {A : Type 0} (a b : Option A) (x : A) → option_or a b ≡ Some x → (a ≡ Some x) ⊎ ((a ≡ None) × (b ≡ Some x))
-option_or-cases None b x h = inr (refl, h)
-option_or-cases (Some y) b x h = inl h
-
-option_or-none : {A : Type 0} (a b : Option A) → option_or a b ≡ None → (a ≡ None) × (b ≡ None)
-option_or-none None b h = (refl, h)
-option_or-none (Some y) b h = none-is-some (sym h)
+or-cases : {A : Type 0} (a b : Option A) (x : A) → option_or a b ≡ Some x → (a ≡ Some x) ⊎ ((a ≡ None) × (b ≡ Some x))
+or-cases None b x h = inr (refl, h)
+or-cases (Some y) b x h = inl h
 
 at_start-some : (permitted : ℕ → Bool) (from : ℕ → Option Trace) (i : ℕ) (m : Match) → at_start permitted from i ≡ Some m → (m.start ≡ i) × IsTrue (permitted i) × (from i ≡ Some m.trace)
 at_start-some permitted from i m h = cases (permitted i) (from i) refl refl h
@@ -58,7 +53,7 @@ at_start-some permitted from i m h = cases (permitted i) (from i) refl refl h
     cases false o p e' e = none-is-some e
 
 at_start-none : (permitted : ℕ → Bool) (from : ℕ → Option Trace) (i : ℕ) → at_start permitted from i ≡ None → IsTrue (permitted i) → from i ≡ None
-at_start-none permitted from i h p = map-none_only (started i) (from i) (rw p at h)
+at_start-none permitted from i h p = map-none (started i) (from i) (rw p at h)
 
 -- what is known of the first of the n places from i on
 pub record IsFirstStart (permitted : ℕ → Bool) (from : ℕ → Option Trace) (n i : ℕ) (m : Match) : Type 0 where
@@ -71,7 +66,7 @@ pub first_start-some : (permitted : ℕ → Bool) (from : ℕ → Option Trace) 
 unfolding first_start
 first_start-some permitted from zero i m h = none-is-some h
 first_start-some permitted from (suc n) i m h =
-    elim (option_or-cases (at_start permitted from i) (first_start permitted from n (i + 1)) m h) [
+    elim (or-cases (at_start permitted from i) (first_start permitted from n (i + 1)) m h) [
       | inl here ↦
           let x = at_start-some permitted from i m here in
           let e = x.0 in
@@ -101,7 +96,7 @@ pub first_start-none : (permitted : ℕ → Bool) (from : ℕ → Option Trace) 
 unfolding first_start
 first_start-none permitted from zero i h j low high p = absurd (omega arith)
 first_start-none permitted from (suc n) i h j low high p =
-    let both = option_or-none (at_start permitted from i) (first_start permitted from n (i + 1)) h in
+    let both = or-none (at_start permitted from i) (first_start permitted from n (i + 1)) h in
     by_test (nat_le (i + 1) j)
     (λ le. first_start-none permitted from n (i + 1) both.1 j (grind (arith, nat_tests)) (omega arith) p)
     (λ gt. let e : j ≡ i = grind (arith, nat_tests) in
@@ -122,7 +117,7 @@ module _ (r : Patterns) (text : List ℕ) (end i : ℕ) where
   unfolding first_of_patterns
   first_of_patterns-some p [] t e = none-is-some e
   first_of_patterns-some p (h ∷ hs) t e =
-      elim (option_or-cases (first r text end p h i) (first_of_patterns r text end (suc p) hs i) t e) [
+      elim (or-cases (first r text end p h i) (first_of_patterns r text end (suc p) hs i) t e) [
         | inl here ↦ (0, h, refl, ap (λ q. first r text end q h i) zero_more ∙ here, λ j h' lt. absurd (omega arith))
         | inr later ↦
             let x = first_of_patterns-some (suc p) hs t later.1 in (
@@ -150,10 +145,10 @@ module _ (r : Patterns) (text : List ℕ) (end i : ℕ) where
   first_of_patterns-none p [] e k h is = none-is-some is
   first_of_patterns-none p (x ∷ hs) e zero h is =
       let zero_more : p + 0 ≡ p = omega arith in
-      ap (λ q. first r text end q h i) zero_more ∙ subst (λ y. first r text end p y i ≡ None) (some-is is) (option_or-none _ _ e).0
+      ap (λ q. first r text end q h i) zero_more ∙ subst (λ y. first r text end p y i ≡ None) (some-is is) (or-none _ _ e).0
   first_of_patterns-none p (x ∷ hs) e (suc k) h is =
       let moved : p + suc k ≡ suc p + k = omega arith in
-      ap (λ q. first r text end q h i) moved ∙ first_of_patterns-none (suc p) hs (option_or-none _ _ e).1 k h is
+      ap (λ q. first r text end q h i) moved ∙ first_of_patterns-none (suc p) hs (or-none _ _ e).1 k h is
 
 -- what a match that starts at a place tells
 module _ (r : Patterns) (text : List ℕ) (b : ℕ) where

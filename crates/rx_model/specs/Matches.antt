@@ -29,7 +29,9 @@ module _ (r : Patterns) (text : List ℕ) (anchor : Anchor) (b : ℕ) where
     -- The next match: at the least start from which a pattern has a run, the first run of the least such pattern.
     pub record IsNextMatch (m : Match) : Type 0 where
       pub start : MayStart m.start
+      -- what it tells is the first run of its pattern from its start
       pub run : HasFirstRun m.start m.trace.pattern m.trace
+      -- no pattern has a run from an earlier start, nor an earlier pattern from this one
       pub least_start : (place p : ℕ) (t : Trace) → MayStart place → HasFirstRun place p t → m.start ≤ place
       pub least_pattern : (p : ℕ) (t : Trace) → HasFirstRun m.start p t → m.trace.pattern ≤ p
 

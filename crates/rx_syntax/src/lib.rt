@@ -8,6 +8,7 @@
 mod ast;
 mod class;
 mod cursor;
+mod cost;
 mod error;
 mod hir;
 mod parser;
@@ -15,6 +16,7 @@ mod thin;
 mod token;
 mod translate;
 
+pub use cost::greatest_group;
 pub use error::{ParseError, SyntaxError, SyntaxErrorKind};
 pub use hir::{Capture, Class, ClassBytes, ClassUnicode, Hir, HirKind, Repetition};
 pub use thin::parse;

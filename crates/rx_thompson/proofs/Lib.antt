@@ -1,3 +1,5 @@
 pub mod AutomatonLemmas
 pub mod BuiltLemmas
 pub mod LoopLemmas
+pub mod StateLemmas
+pub mod NextMatchLemmas

@@ -6,7 +6,9 @@
 #![tactic(auto)]
 
 mod nfa;
+mod sparse;
 mod state;
 
 pub use nfa::NFA;
+pub use sparse::matches_byte;
 pub use state::{Alternates, State, Transition, Transitions};
