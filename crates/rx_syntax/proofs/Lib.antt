@@ -1,17 +1,18 @@
-mod Rows
 pub mod BranchLemmas
 pub mod ClassItemLemmas
 pub mod ClassLemmas
-pub mod EndLemmas
-pub mod ItemLemmas
+pub mod CostLemmas
 pub mod DepthLemmas
+pub mod EndLemmas
 pub mod GroupLemmas
+pub mod ItemLemmas
 pub mod JoinedLemmas
 pub mod PatternLemmas
 pub mod PlaceLemmas
 pub mod PropertiesLemmas
 pub mod ReadsLemmas
 pub mod RepeatLemmas
+mod Rows
 pub mod ScalarLemmas
 pub mod SizeLemmas
 pub mod StackLemmas

@@ -9,12 +9,14 @@ mod alternation;
 mod class;
 mod concat;
 mod copy;
+mod groups;
 mod kind;
 mod properties;
 mod scalars;
 mod set;
 
 pub use class::{Class, ClassBytes, ClassUnicode};
+pub use groups::greatest_group;
 use properties::Properties;
 use std::alloc::Global;
 use std::marker::Model;

@@ -5,10 +5,10 @@
 //! rx_model. It stands on rx_search.
 #![tactic(auto)]
 
+mod accounting;
 mod ast;
 mod class;
 mod cursor;
-mod cost;
 mod error;
 mod hir;
 mod parser;
@@ -16,7 +16,7 @@ mod thin;
 mod token;
 mod translate;
 
-pub use cost::greatest_group;
+pub use accounting::cost;
 pub use error::{ParseError, SyntaxError, SyntaxErrorKind};
-pub use hir::{Capture, Class, ClassBytes, ClassUnicode, Hir, HirKind, Repetition};
+pub use hir::{Capture, Class, ClassBytes, ClassUnicode, Hir, HirKind, Repetition, greatest_group};
 pub use thin::parse;

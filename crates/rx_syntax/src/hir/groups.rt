@@ -1,10 +1,10 @@
-//! What is accounted for an expression. A call goes as deep as the expression.
+//! Capture groups. A call goes as deep as the expression.
 ghost use Rattle.std.specs.Prelude.{◌≡◌, ◌-◌, ◌<◌, ◌≤◌};
 ghost use Rattle.rx_model.specs.Search.{greatest_group, greatest_in};
 ghost use Rattle.rx_syntax.specs.HirViews.{kind_view};
 ghost use Rattle.rx_syntax.specs.Normal.{expressions};
 
-use crate::hir::{Hir, HirKind};
+use super::{Hir, HirKind};
 
 /// The greatest number of a capture group in the expression; 0 where there is none.
 #[cycle(groups)]

@@ -5,7 +5,7 @@ use Rattle.rx_syntax.specs.HirViews.{kind_view}
 use Rattle.rx_syntax.specs.Normal.{expressions}
 use Rattle.rx_syntax.proofs.DepthLemmas.{depth-below}
 use Rattle.rx_syntax.proofs.GroupLemmas.{greatest_in-drop, greatest_in-past}
-use Rattle.rx_syntax.proofs.cost.+groups.Goals as goal
+use Rattle.rx_syntax.proofs.hir.groups.+groups.Goals as goal
 
 pub greatest_in-greatest_group-requires : goal.greatest_in-greatest_group-requires
 greatest_in-greatest_group-requires t c =

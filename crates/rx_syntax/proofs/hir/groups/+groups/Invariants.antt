@@ -4,7 +4,7 @@ use Rattle.rx_model.specs.Search.{greatest_in}
 use Rattle.rx_syntax.specs.Depth.{depth, greatest_depth}
 use Rattle.rx_syntax.specs.HirViews.{kind_view}
 use Rattle.rx_syntax.specs.Normal.{expressions}
-use Rattle.rx_syntax.proofs.cost.+groups.Given as goal
+use Rattle.rx_syntax.proofs.hir.groups.+groups.Given as goal
 
 abbrev pub invariant-greatest_in-loop-sub : goal.invariant-greatest_in-loop-sub
 invariant-greatest_in-loop-sub l = max l.greatest (greatest_in (expressions (drop l.sub-index l.subs))) ≡ greatest_in (expressions l.subs)
