@@ -2,3 +2,8 @@ pub mod AutomatonLemmas
 pub mod BuiltLemmas
 pub mod LoopLemmas
 pub mod StateLemmas
+pub mod RowLemmas
+pub mod RangesLemmas
+pub mod BlockLemmas
+pub mod ClassLemmas
+pub mod ByteLemmas

@@ -5,6 +5,7 @@
 //! of the expressions, with pattern, end and slots. It stands on rx_syntax.
 #![tactic(auto)]
 
+mod class;
 mod nfa;
 mod sparse;
 mod state;
