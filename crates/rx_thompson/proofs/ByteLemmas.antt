@@ -35,9 +35,13 @@ module _ (next : ℕ) where
       leads true h = let is = same_Some _ _ h in omega arith
       leads false h = absurd (none-some q h)
 
-  pub transitions-next : (k : ℕ) (rs : List (ℕ × ℕ)) → k < length rs
-      → map (transition_to next) (take k rs) ++ transition_to next (get_or rs k (0, 0)) ∷ [] ≡ map (transition_to next) (take (k + 1) rs)
-  transitions-next k rs lt = sym (ap (map (transition_to next)) (take-next k rs lt) ∙ map-append (transition_to next) (take k rs) (get_or rs k (0, 0) ∷ []))
+  -- one range more
+  pub transitions-push : (k : ℕ) (rs : List (ℕ × ℕ)) (old new : List Transition) (t : Transition) → k < length rs → new ≡ old ++ t ∷ []
+      → old ≡ map (transition_to next) (take k rs) → t ≡ transition_to next (get_or rs k (0, 0)) → new ≡ map (transition_to next) (take (k + 1) rs)
+  transitions-push k rs old new t lt pushed before last =
+      let more = ap (map (transition_to next)) (take-next k rs lt) in
+      let split = map-append (transition_to next) (take k rs) (get_or rs k (0, 0) ∷ []) in
+      rw (pushed, before, last) (sym (more ∙ split))
 
   pub IsByteClass-from : (A : ℕ → List Transition → Type 0) (rs : List (ℕ × ℕ)) (q : ℕ) → RisesFrom 0 rs → StaysBelow 255 rs → A q (map (transition_to next) rs) → IsByteClass A next rs q
   IsByteClass-from A rs q rises below reads = record {

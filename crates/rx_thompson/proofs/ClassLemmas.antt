@@ -8,7 +8,7 @@ use Rattle.rx_thompson.specs.Ranges.{RisesFrom, StaysBelow, size_of_block, ends_
 use Rattle.rx_thompson.specs.Automaton.{route}
 use Rattle.rx_thompson.specs.Trie.{IsBlock, IsRow, IsClass}
 use Rattle.rx_thompson.specs.declared.state.Transition.{Transition}
-use Rattle.rx_thompson.proofs.BlockLemmas.{IsBlock-kept, IsBlock-map}
+use Rattle.rx_thompson.proofs.BlockLemmas.{IsBlock-map}
 use Rattle.rx_thompson.proofs.RangesLemmas.{RisesFrom-lower, whole_depth-le}
 
 module _ (low high : ℕ) (ordered : low ≤ high) where
@@ -113,33 +113,32 @@ parts_cost depth n (r ∷ rs) from to deep rises =
     omega arith
 
 -- the five rows of a class
-pub IsClass-from : (A : ℕ → List Transition → Type 0) (base next : ℕ) (rs : List (ℕ × ℕ)) (q : ℕ) (none one two three high four : List Transition)
-    → none ≡ [] → base ≤ q → A q four
-    → IsRow A base next (is_member (clip 0 0x7F rs)) 0 0 0 0x80 none one
-    → IsRow A base next (is_member (clip 0x80 0x7FF rs)) 1 0x80 0xC2 30 one two
-    → IsRow A base next (is_member (clip 0x800 0xD7FF rs)) 2 0 0xE0 14 two three
-    → IsRow A base next (is_member (clip 0xE000 0xFFFF rs)) 2 0xE000 0xEE 2 three high
-    → IsRow A base next (is_member (clip 0x1_0000 0x10_FFFF rs)) 3 0 0xF0 5 high four
-    → IsClass A base next rs q
-IsClass-from A base next rs q none one two three high four nothing above reads r1 r2 r3 r3' r4 = record {
-  above = above;
+pub IsClass-from : (A : ℕ → List Transition → Type 0) (next : ℕ) (rs : List (ℕ × ℕ)) (q : ℕ) (none one two three high four : List Transition)
+    → none ≡ [] → A q four
+    → IsRow A next (is_member (clip 0 0x7F rs)) 0 0 0 0x80 none one
+    → IsRow A next (is_member (clip 0x80 0x7FF rs)) 1 0x80 0xC2 30 one two
+    → IsRow A next (is_member (clip 0x800 0xD7FF rs)) 2 0 0xE0 14 two three
+    → IsRow A next (is_member (clip 0xE000 0xFFFF rs)) 2 0xE000 0xEE 2 three high
+    → IsRow A next (is_member (clip 0x1_0000 0x10_FFFF rs)) 3 0 0xF0 5 high four
+    → IsClass A next rs q
+IsClass-from A next rs q none one two three high four nothing reads r1 r2 r3 r3' r4 = record {
   row = four;
   reads = reads;
   of_one = λ k lt.
       (let same : route four (0 + k) ≡ route one (0 + k) =
       r4.elsewhere (0 + k) (inl (omega arith)) ∙ r3'.elsewhere (0 + k) (inl (omega arith)) ∙ r3.elsewhere (0 + k) (inl (omega arith)) ∙ r2.elsewhere (0 + k) (inl (omega arith)) in
-      subst (λ o. IsBlock A base next (is_member (clip 0 0x7F rs)) 0 (0 + k * size_of_block 0) o) (sym same) (r1.each k lt));
+      subst (λ o. IsBlock A next (is_member (clip 0 0x7F rs)) 0 (0 + k * size_of_block 0) o) (sym same) (r1.each k lt));
   of_two = λ k lt.
       (let same : route four (0xC2 + k) ≡ route two (0xC2 + k) =
       r4.elsewhere (0xC2 + k) (inl (omega arith)) ∙ r3'.elsewhere (0xC2 + k) (inl (omega arith)) ∙ r3.elsewhere (0xC2 + k) (inl (omega arith)) in
-      subst (λ o. IsBlock A base next (is_member (clip 0x80 0x7FF rs)) 1 (0x80 + k * size_of_block 1) o) (sym same) (r2.each k lt));
+      subst (λ o. IsBlock A next (is_member (clip 0x80 0x7FF rs)) 1 (0x80 + k * size_of_block 1) o) (sym same) (r2.each k lt));
   of_three = λ k lt.
       (let same : route four (0xE0 + k) ≡ route three (0xE0 + k) =
       r4.elsewhere (0xE0 + k) (inl (omega arith)) ∙ r3'.elsewhere (0xE0 + k) (inl (omega arith)) in
-      subst (λ o. IsBlock A base next (is_member (clip 0x800 0xD7FF rs)) 2 (0 + k * size_of_block 2) o) (sym same) (r3.each k lt));
+      subst (λ o. IsBlock A next (is_member (clip 0x800 0xD7FF rs)) 2 (0 + k * size_of_block 2) o) (sym same) (r3.each k lt));
   of_three_high = λ k lt.
       (let same : route four (0xEE + k) ≡ route high (0xEE + k) = r4.elsewhere (0xEE + k) (inl (omega arith)) in
-      subst (λ o. IsBlock A base next (is_member (clip 0xE000 0xFFFF rs)) 2 (0xE000 + k * size_of_block 2) o) (sym same) (r3'.each k lt));
+      subst (λ o. IsBlock A next (is_member (clip 0xE000 0xFFFF rs)) 2 (0xE000 + k * size_of_block 2) o) (sym same) (r3'.each k lt));
   of_four = r4.each;
   of_none = λ b out.
       (r4.elsewhere b (low b out) ∙ r3'.elsewhere b (low3' b out) ∙ r3.elsewhere b (low3 b out) ∙ r2.elsewhere b (low2 b out) ∙ r1.elsewhere b (low1 b out) ∙ ap (λ ts. route ts b) nothing);
@@ -165,31 +164,15 @@ IsClass-from A base next rs q none one two three high four nothing above reads r
     low1 b (inl x) = inr (omega (arith, x.0))
     low1 b (inr x) = inr (omega arith)
 
-pub IsClass-map : (A B : ℕ → List Transition → Type 0) (base next : ℕ) → ((q : ℕ) (ts : List Transition) → A q ts → B q ts)
-    → (rs : List (ℕ × ℕ)) (q : ℕ) → IsClass A base next rs q → IsClass B base next rs q
-IsClass-map A B base next keep rs q c = record {
-  above = c.above;
+pub IsClass-map : (A B : ℕ → List Transition → Type 0) (next : ℕ) → ((q : ℕ) (ts : List Transition) → A q ts → B q ts)
+    → (rs : List (ℕ × ℕ)) (q : ℕ) → IsClass A next rs q → IsClass B next rs q
+IsClass-map A B next keep rs q c = record {
   row = c.row;
   reads = keep q c.row c.reads;
-  of_one = λ k lt. IsBlock-map A B base next keep _ 0 _ _ (c.of_one k lt);
-  of_two = λ k lt. IsBlock-map A B base next keep _ 1 _ _ (c.of_two k lt);
-  of_three = λ k lt. IsBlock-map A B base next keep _ 2 _ _ (c.of_three k lt);
-  of_three_high = λ k lt. IsBlock-map A B base next keep _ 2 _ _ (c.of_three_high k lt);
-  of_four = λ k lt. IsBlock-map A B base next keep _ 3 _ _ (c.of_four k lt);
-  of_none = c.of_none;
-}
-
--- where the states from the base on are kept, as by a patch before it
-pub IsClass-kept : (A B : ℕ → List Transition → Type 0) (base next : ℕ) → ((q : ℕ) (ts : List Transition) → base ≤ q → A q ts → B q ts)
-    → (rs : List (ℕ × ℕ)) (q : ℕ) → IsClass A base next rs q → IsClass B base next rs q
-IsClass-kept A B base next keep rs q c = record {
-  above = c.above;
-  row = c.row;
-  reads = keep q c.row c.above c.reads;
-  of_one = λ k lt. IsBlock-kept A B base next keep _ 0 _ _ (c.of_one k lt);
-  of_two = λ k lt. IsBlock-kept A B base next keep _ 1 _ _ (c.of_two k lt);
-  of_three = λ k lt. IsBlock-kept A B base next keep _ 2 _ _ (c.of_three k lt);
-  of_three_high = λ k lt. IsBlock-kept A B base next keep _ 2 _ _ (c.of_three_high k lt);
-  of_four = λ k lt. IsBlock-kept A B base next keep _ 3 _ _ (c.of_four k lt);
+  of_one = λ k lt. IsBlock-map A B next keep _ 0 _ _ (c.of_one k lt);
+  of_two = λ k lt. IsBlock-map A B next keep _ 1 _ _ (c.of_two k lt);
+  of_three = λ k lt. IsBlock-map A B next keep _ 2 _ _ (c.of_three k lt);
+  of_three_high = λ k lt. IsBlock-map A B next keep _ 2 _ _ (c.of_three_high k lt);
+  of_four = λ k lt. IsBlock-map A B next keep _ 3 _ _ (c.of_four k lt);
   of_none = c.of_none;
 }

@@ -1,13 +1,14 @@
 -- Rows of transitions, and lists of states that grow.
 use Rattle.std.proofs.Common.{◌≡◌, ℕ, zero, suc, ◌+◌, ◌-◌, ◌≤◌, ◌<◌, ◌⊎◌, List, [], ◌∷◌, ◌++◌, refl, sym, ◌∙◌, ap, inl, inr, arith, length, set, get_or, subst}
-use Rattle.std.specs.Prelude.{All, true, false, ◌&&◌, Option, Some, None, if◌then◌else◌, nat_le, ◌==◌, Bool}
+use Rattle.std.specs.Prelude.{nat_lt, All, true, false, ◌&&◌, Option, Some, None, if◌then◌else◌, nat_le, ◌==◌, Bool}
 use Rattle.std.proofs.lemmas.Bool.Decides.{nat_tests}
 use Rattle.std.proofs.lemmas.List.{length-append, length_push, get_or_append_left, get_or-append_right}
-use Rattle.std.proofs.lemmas.List.Elements.{All-append, All-nil, All-cons, All-head}
+use Rattle.std.proofs.lemmas.List.Elements.{All-append, All-nil, All-cons, All-head, All-from_get_or}
 use Rattle.rx_model.proofs.RunLemmas.{by_test}
 use Rattle.std.proofs.lemmas.Option.{none-some, same_Some}
-use Rattle.rx_thompson.specs.Automaton.{route, NamesBelow}
-use Rattle.rx_thompson.specs.Row.{Ascends, reading, IsReader, Grows, RoutesBelow, AreClosed}
+use Rattle.rx_thompson.specs.Automaton.{route, state_at, NamesBelow, IsWithin}
+use Rattle.rx_thompson.specs.Row.{Ascends, transition_to, reading, Reads, IsReader, RoutesBelow, AddsReaders}
+use Rattle.rx_thompson.specs.States.{AreClosed}
 use Rattle.rx_thompson.specs.declared.state.Transition.{Transition}
 use Rattle.rx_thompson.specs.declared.state.State.{State}
 use Rattle.rx_thompson.specs.declared.state.State.TheVariants.{ByteRange, Sparse, Union, Capture, Fail, Match}
@@ -128,34 +129,63 @@ Adds-extend low byte next (suc n) (t ∷ ts) x a long last to at =
 
 -- states
 
-pub Grows-same : (xs : List State) → Grows xs xs
-Grows-same xs = record { longer = omega arith; kept = λ q lt. refl }
+pub AddsReaders-same : (xs : List State) → AddsReaders xs xs
+AddsReaders-same xs = record { longer = omega arith; kept = λ q lt. refl; readers = λ q le lt. absurd (omega arith) }
 
-pub Grows-trans : (xs ys zs : List State) → Grows xs ys → Grows ys zs → Grows xs zs
-Grows-trans xs ys zs a b = record {
+pub AddsReaders-trans : (xs ys zs : List State) → AddsReaders xs ys → AddsReaders ys zs → AddsReaders xs zs
+AddsReaders-trans xs ys zs a b = record {
   longer = omega (arith, a.longer, b.longer);
   kept = λ q lt. b.kept q (omega (arith, a.longer)) ∙ a.kept q lt;
+  readers = λ q le lt.
+      by_test (nat_lt q (length ys))
+      (λ e. let inside : q < length ys = grind (arith, nat_tests) in
+      let r = a.readers q le inside in
+      (r.0, ap reading (b.kept q inside) ∙ r.1))
+      (λ e. b.readers q (grind (arith, nat_tests)) lt);
 }
 
-pub Grows-push : (xs : List State) (s : State) → Grows xs (xs ++ s ∷ [])
-Grows-push xs s = record {
+last-is : (xs : List State) (s : State) → state_at (xs ++ s ∷ []) (length xs) ≡ s
+last-is xs s =
+    let z : length xs - length xs ≡ 0 = omega arith in
+    get_or-append_right xs (s ∷ []) (length xs) (length xs) Fail refl (omega arith) ∙ ap (λ n. get_or (s ∷ []) n Fail) z
+
+pub AddsReaders-push : (xs : List State) (s : State) (ts : List Transition) → reading s ≡ Some ts → AddsReaders xs (xs ++ s ∷ [])
+AddsReaders-push xs s ts is = record {
   longer = (let l = length-append xs (s ∷ []) in omega arith);
   kept = λ q lt. get_or_append_left xs (s ∷ []) Fail q lt;
+  readers = λ q le lt.
+      (let l = length-append xs (s ∷ []) in
+      let last : q ≡ length xs = omega arith in
+      (ts, ap (λ n. reading (state_at (xs ++ s ∷ []) n)) last ∙ ap reading (last-is xs s) ∙ is));
 }
 
-pub IsReader-push : (xs : List State) (s : State) (ts : List Transition) → reading s ≡ Some ts → Ascends 0 256 ts → IsReader (xs ++ s ∷ []) (length xs) ts
+pub IsReader-push : (xs : List State) (s : State) (ts : List Transition) → reading s ≡ Some ts → Ascends 0 256 ts → IsReader (length xs) (xs ++ s ∷ []) (length xs) ts
 IsReader-push xs s ts is a = record {
-  inside = (let l = length-append xs (s ∷ []) in omega arith);
-  reads = ap reading (get_or-append_right xs (s ∷ []) (length xs) (length xs) Fail refl (omega arith) ∙ (let z : length xs - length xs ≡ 0 = omega arith in ap (λ n. get_or (s ∷ []) n Fail) z)) ∙ is;
+  state = s;
+  stands = record { above = omega arith; inside = (let l = length-append xs (s ∷ []) in omega arith); is = last-is xs s };
+  reads = is;
   ascends = a;
 }
 
-pub IsReader-grows : (old new : List State) → Grows old new → (q : ℕ) (ts : List Transition) → IsReader old q ts → IsReader new q ts
-IsReader-grows old new g q ts r = record {
-  inside = omega (arith, g.longer, r.inside);
-  reads = ap reading (g.kept q r.inside) ∙ r.reads;
+pub IsReader-grows : (base : ℕ) (old new : List State) → AddsReaders old new → (q : ℕ) (ts : List Transition) → IsReader base old q ts → IsReader base new q ts
+IsReader-grows base old new g q ts r = record {
+  state = r.state;
+  stands = record { above = r.stands.above; inside = omega (arith, g.longer, r.stands.inside); is = g.kept q r.stands.inside ∙ r.stands.is };
+  reads = r.reads;
   ascends = r.ascends;
 }
+
+pub IsReader-lower : (lower base : ℕ) (states : List State) (q : ℕ) (ts : List Transition) → lower ≤ base → IsReader base states q ts → IsReader lower states q ts
+IsReader-lower lower base states q ts le r = record {
+  state = r.state;
+  stands = record { above = omega (arith, r.stands.above); inside = r.stands.inside; is = r.stands.is };
+  reads = r.reads;
+  ascends = r.ascends;
+}
+
+-- where what stands is kept, as by a patch before the base
+pub Reads-map : (A B : ℕ → State → Type 0) → ((q : ℕ) (state : State) → A q state → B q state) → (q : ℕ) (ts : List Transition) → Reads A q ts → Reads B q ts
+Reads-map A B keep q ts r = record { state = r.state; stands = keep q r.state r.stands; reads = r.reads; ascends = r.ascends }
 
 -- closed lists of states
 
@@ -203,7 +233,7 @@ targets-below n low high (t ∷ ts) a below =
 
 reading-below : (n : ℕ) (s : State) (ts : List Transition) → reading s ≡ Some ts → All (λ (t : Transition). t.next < n) ts → NamesBelow n s
 reading-below n (ByteRange low high next) ts is h =
-    let one = same_transitions (record { start = low; end = high; next = next } ∷ []) ts is in
+    let one = same_transitions (transition_to next (low, high) ∷ []) ts is in
     All-head (λ (t : Transition). t.next < n) (record { start = low; end = high; next = next }) [] (subst (All (λ (t : Transition). t.next < n)) (sym one) h)
 reading-below n (Sparse transitions) ts is h = subst (All (λ (t : Transition). t.next < n)) (sym (same_transitions transitions ts is)) h
 reading-below n (Union alternates) ts is h = absurd (no_transitions ts is)
@@ -232,3 +262,19 @@ AreClosed-reader xs s ts is ascends below closed =
     AreClosed-push xs s
     (NamesBelow-more (length xs) (length xs + 1) s (omega arith) (reading-below (length xs) s ts is (targets-below (length xs) 0 256 ts ascends below)))
     closed
+
+-- a state that only reads bytes names no pattern and no slot
+reader-within : (patterns slots : ℕ) (s : State) (ts : List Transition) → reading s ≡ Some ts → IsWithin patterns slots s
+reader-within patterns slots (ByteRange low high next) ts is = tt
+reader-within patterns slots (Sparse transitions) ts is = tt
+reader-within patterns slots (Union alternates) ts is = tt
+reader-within patterns slots (Capture next pattern slot) ts is = absurd (no_transitions ts is)
+reader-within patterns slots Fail ts is = tt
+reader-within patterns slots (Match pattern) ts is = absurd (no_transitions ts is)
+
+pub AddsReaders-within : (patterns slots : ℕ) (old new : List State) → AddsReaders old new → All (IsWithin patterns slots) old → All (IsWithin patterns slots) new
+AddsReaders-within patterns slots old new g h = All-from_get_or (IsWithin patterns slots) new Fail (λ q lt.
+    by_test (nat_lt q (length old))
+    (λ e. let inside : q < length old = grind (arith, nat_tests) in
+    subst (IsWithin patterns slots) (sym (g.kept q inside)) (h q Fail inside))
+    (λ e. let r = g.readers q (grind (arith, nat_tests)) lt in reader-within patterns slots (state_at new q) r.0 r.1))

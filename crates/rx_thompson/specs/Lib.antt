@@ -1,8 +1,9 @@
 pub mod Automaton
 pub mod Nfa
 pub mod Draft
-pub mod Built
+pub mod States
 pub mod Row
 pub mod Ranges
 pub mod Trie
 pub mod Reading
+pub mod Built

@@ -9,16 +9,15 @@ use Rattle.rx_thompson.specs.declared.state.State.{State}
 use Rattle.rx_thompson.specs.declared.class.trie.Coverage.{Coverage}
 use Rattle.rx_thompson.specs.declared.class.trie.Coverage.TheVariants.{Nothing, Everything, Part}
 
--- `IsAt q ts`: state q reads a byte by the transitions ts. The states of the block are numbered from `base` on.
-module _ (IsAt : ℕ → List Transition → Type 0) (base next : ℕ) where
+-- `IsAt q ts`: state q reads a byte by the transitions ts.
+module _ (IsAt : ℕ → List Transition → Type 0) (next : ℕ) where
   -- The state reads `depth` continuation bytes, which pick a number from `start` on, and goes on to `next` if
   -- the number is a member. No state: none is a member.
   unfoldable pub IsBlock : (ℕ → Bool) → (depth start : ℕ) → Option ℕ → Type 0
   IsBlock member zero start target = target ≡ (if member start then Some next else None)
   IsBlock member (suc depth) start None = (c : ℕ) → start ≤ c → c < start + 64 * size_of_block depth → member c ≡ false
   IsBlock member (suc depth) start (Some q) =
-      (base ≤ q)
-      × (ts : List Transition)
+      (ts : List Transition)
       × IsAt q ts
       × ((b : ℕ) → (b < 0x80) ⊎ (0xC0 ≤ b) → route ts b ≡ None)
       × ((k : ℕ) → k < 64 → IsBlock member depth (start + k * size_of_block depth) (route ts (0x80 + k)))
@@ -33,10 +32,10 @@ module _ (IsAt : ℕ → List Transition → Type 0) (base next : ℕ) where
   abbrev pub AreWhole : List ℕ → Type 0
   AreWhole ids = (depth : ℕ) → depth < length ids → (start : ℕ) → IsBlock (λ c. true) depth start (Some (slice_index ids depth))
 
--- The states for whole blocks are there, and so are those before the base.
-pub record IsReady (states : List State) (base next : ℕ) (ids : List ℕ) : Type 0 where
+-- The states before the base are there, and the states for whole blocks are among those from the base on.
+pub record IsReady (base : ℕ) (states : List State) (next : ℕ) (ids : List ℕ) : Type 0 where
   pub based : base ≤ length states
-  pub whole : AreWhole (IsReader states) base next ids
+  pub whole : AreWhole (IsReader base states) next ids
 
 -- the first range has an end within
 abbrev pub HasEnd : List (ℕ × ℕ) → ℕ → ℕ → Type 0
@@ -53,15 +52,14 @@ IsCoverage ranges start end Part = HasEnd ranges start end
 
 -- State q reads the encoding of one member of the class, and goes on to `next`. Each first byte leads to the block of
 -- the numbers that it begins.
-pub record IsClass (IsAt : ℕ → List Transition → Type 0) (base next : ℕ) (ranges : List (ℕ × ℕ)) (q : ℕ) : Type 0 where
-  pub above : base ≤ q
+pub record IsClass (IsAt : ℕ → List Transition → Type 0) (next : ℕ) (ranges : List (ℕ × ℕ)) (q : ℕ) : Type 0 where
   pub row : List Transition
   pub reads : IsAt q row
-  pub of_one : (k : ℕ) → k < 0x80 → IsBlock IsAt base next (is_member (clip 0 0x7F ranges)) 0 (0 + k * size_of_block 0) (route row (0 + k))
-  pub of_two : (k : ℕ) → k < 30 → IsBlock IsAt base next (is_member (clip 0x80 0x7FF ranges)) 1 (0x80 + k * size_of_block 1) (route row (0xC2 + k))
-  pub of_three : (k : ℕ) → k < 14 → IsBlock IsAt base next (is_member (clip 0x800 0xD7FF ranges)) 2 (0 + k * size_of_block 2) (route row (0xE0 + k))
-  pub of_three_high : (k : ℕ) → k < 2 → IsBlock IsAt base next (is_member (clip 0xE000 0xFFFF ranges)) 2 (0xE000 + k * size_of_block 2) (route row (0xEE + k))
-  pub of_four : (k : ℕ) → k < 5 → IsBlock IsAt base next (is_member (clip 0x1_0000 0x10_FFFF ranges)) 3 (0 + k * size_of_block 3) (route row (0xF0 + k))
+  pub of_one : (k : ℕ) → k < 0x80 → IsBlock IsAt next (is_member (clip 0 0x7F ranges)) 0 (0 + k * size_of_block 0) (route row (0 + k))
+  pub of_two : (k : ℕ) → k < 30 → IsBlock IsAt next (is_member (clip 0x80 0x7FF ranges)) 1 (0x80 + k * size_of_block 1) (route row (0xC2 + k))
+  pub of_three : (k : ℕ) → k < 14 → IsBlock IsAt next (is_member (clip 0x800 0xD7FF ranges)) 2 (0 + k * size_of_block 2) (route row (0xE0 + k))
+  pub of_three_high : (k : ℕ) → k < 2 → IsBlock IsAt next (is_member (clip 0xE000 0xFFFF ranges)) 2 (0xE000 + k * size_of_block 2) (route row (0xEE + k))
+  pub of_four : (k : ℕ) → k < 5 → IsBlock IsAt next (is_member (clip 0x1_0000 0x10_FFFF ranges)) 3 (0 + k * size_of_block 3) (route row (0xF0 + k))
   pub of_none : (b : ℕ) → ((0x80 ≤ b) × (b < 0xC2)) ⊎ (0xF5 ≤ b) → route row b ≡ None
 
 -- State q reads a byte of the class, and goes on to `next`.

@@ -2,7 +2,8 @@
 ghost use Rattle.std.specs.Prelude.{◌≡◌, ◌<◌, ◌≤◌, ◌+◌, ◌*◌, ◌%◌, ℕ, length, IfOk, OnOk, []};
 ghost use Rattle.rx_model.specs.Text.{is_member};
 ghost use Rattle.rx_thompson.specs.Ranges.{RisesFrom, StaysBelow, size_of_block, clip, cost_of_parts, cost_of_class};
-ghost use Rattle.rx_thompson.specs.Row.{transition_to, Ascends, Grows, IsReader, AreClosed};
+ghost use Rattle.rx_thompson.specs.Row.{transition_to, Ascends, IsReader, AddsReaders};
+ghost use Rattle.rx_thompson.specs.States.{AreClosed};
 ghost use Rattle.rx_thompson.specs.Trie.{IsRow, IsReady, IsClass, IsByteClass};
 
 use crate::class::ranges::clip;
@@ -91,8 +92,8 @@ pub fn compile_class(
 ) -> Result<StateID, Memory>
     requires rises { RisesFrom 0 ranges.now }
     requires room { length states.old.items + cost_of_class ranges.now ≤ 2147483647 }
-    ensures built { IfOk result (λ q. IsClass (IsReader states.new.items) (length states.old.items) next ranges.now q) }
-    ensures grows { OnOk result (Grows states.old.items states.new.items) }
+    ensures built { IfOk result (λ q. IsClass (IsReader (length states.old.items) states.new.items) next ranges.now q) }
+    ensures grows { OnOk result (AddsReaders states.old.items states.new.items) }
     ensures closed { OnOk result (next < length states.old.items → AreClosed states.old.items → AreClosed states.new.items) }
     ensures count { OnOk result (length states.new.items ≤ length states.old.items + cost_of_class ranges.now) }
 {
@@ -152,9 +153,9 @@ pub fn compile_bytes(
 ) -> Result<StateID, Memory>
     requires rises { RisesFrom 0 ranges.now }
     requires room { length states.old.items < 2147483647 }
-    ensures built { IfOk result (λ q. IsByteClass (IsReader states.new.items) next ranges.now q) }
+    ensures built { IfOk result (λ q. IsByteClass (IsReader (length states.old.items) states.new.items) next ranges.now q) }
     ensures bytes { OnOk result (StaysBelow 255 ranges.now) }
-    ensures grows { OnOk result (Grows states.old.items states.new.items) }
+    ensures grows { OnOk result (AddsReaders states.old.items states.new.items) }
     ensures closed { OnOk result (next < length states.old.items → AreClosed states.old.items → AreClosed states.new.items) }
     ensures count { OnOk result (length states.new.items ≡ length states.old.items + 1) }
 {
@@ -192,14 +193,14 @@ fn add_band(
     requires some { 0 < length whole.old.items }
     requires room { length states.old.items + cost_of_parts (band.children.depth + 1) (clip band.low band.high ranges.now) ≤ 2147483647 }
     ensures some { OnOk result (0 < length whole.new.items) }
-    ensures grows { OnOk result (Grows states.old.items states.new.items) }
-    ensures closed { OnOk result ((base next : ℕ) → IsReady states.old.items base next whole.old.items
+    ensures grows { OnOk result (AddsReaders states.old.items states.new.items) }
+    ensures closed { OnOk result ((base next : ℕ) → IsReady base states.old.items next whole.old.items
         → next < length states.old.items → AreClosed states.old.items → AreClosed states.new.items) }
-    ensures ready { OnOk result ((base next : ℕ) → IsReady states.old.items base next whole.old.items
-        → IsReady states.new.items base next whole.new.items) }
+    ensures ready { OnOk result ((base next : ℕ) → IsReady base states.old.items next whole.old.items
+        → IsReady base states.new.items next whole.new.items) }
     ensures ascends { OnOk result (Ascends 0 (band.children.first + band.children.len) transitions.new.items) }
-    ensures built { OnOk result ((base next : ℕ) → IsReady states.old.items base next whole.old.items
-        → IsRow (IsReader states.new.items) base next (is_member (clip band.low band.high ranges.now)) band.children.depth
+    ensures built { OnOk result ((base next : ℕ) → IsReady base states.old.items next whole.old.items
+        → IsRow (IsReader base states.new.items) next (is_member (clip band.low band.high ranges.now)) band.children.depth
         band.children.start band.children.first band.children.len transitions.old.items transitions.new.items) }
     ensures count { OnOk result (length states.new.items
         ≤ length states.old.items + cost_of_parts (band.children.depth + 1) (clip band.low band.high ranges.now)) }

@@ -1,7 +1,8 @@
 //! Rows of transitions, and the states that have them.
 ghost use Rattle.std.specs.Prelude.{◌≡◌, ◌<◌, ◌+◌, ℕ, length, IfOk, OnOk, Some, if◌then◌else◌, ◌==◌};
 ghost use Rattle.rx_thompson.specs.Automaton.{route};
-ghost use Rattle.rx_thompson.specs.Row.{reading, Ascends, Grows, IsReader, RoutesBelow, AreClosed};
+ghost use Rattle.rx_thompson.specs.Row.{reading, Ascends, IsReader, RoutesBelow, AddsReaders};
+ghost use Rattle.rx_thompson.specs.States.{AreClosed};
 
 use crate::state::{State, Transition, Transitions};
 use rx_search::{Memory, StateID};
@@ -64,8 +65,8 @@ pub fn push_reader(states: &mut Vec<State>, row: Vec<Transition>) -> Result<Stat
     requires ascends { Ascends 0 256 row.items }
     requires room { length states.old.items < 2147483647 }
     ensures is { IfOk result (λ q. q ≡ length states.old.items) }
-    ensures reads { IfOk result (λ q. IsReader states.new.items q row.items) }
-    ensures grows { OnOk result (Grows states.old.items states.new.items) }
+    ensures reads { IfOk result (λ q. IsReader (length states.old.items) states.new.items q row.items) }
+    ensures grows { OnOk result (AddsReaders states.old.items states.new.items) }
     ensures count { OnOk result (length states.new.items ≡ length states.old.items + 1) }
     ensures closed { OnOk result (RoutesBelow (length states.old.items) row.items → AreClosed states.old.items → AreClosed states.new.items) }
 {

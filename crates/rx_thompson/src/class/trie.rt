@@ -2,7 +2,8 @@
 ghost use Rattle.std.specs.Prelude.{◌≡◌, ◌<◌, ◌≤◌, ◌+◌, ◌*◌, ◌%◌, ◌/◌, ℕ, List, length, IfOk, OnOk};
 ghost use Rattle.rx_model.specs.Text.{is_member};
 ghost use Rattle.rx_thompson.specs.Ranges.{RisesFrom, EndsFrom, ends_in, size_of_block, CoversUpTo, StaysBelow, whole_depths};
-ghost use Rattle.rx_thompson.specs.Row.{Ascends, Grows, IsReader, AreClosed};
+ghost use Rattle.rx_thompson.specs.Row.{Ascends, IsReader, AddsReaders};
+ghost use Rattle.rx_thompson.specs.States.{AreClosed};
 ghost use Rattle.rx_thompson.specs.Trie.{IsBlock, IsRow, IsReady, IsCoverage};
 
 use crate::class::ranges::{Range, block_size, skip_below, whole_depth};
@@ -68,11 +69,11 @@ fn block(
     requires small { start + size_of_block depth ≤ 0x20_0000 }
     requires enough { CoversUpTo depth (length whole.now) ranges.now }
     requires room { length states.old.items + depth * ends_in ranges.now start (start + size_of_block depth) ≤ 2147483647 }
-    ensures grows { OnOk result (Grows states.old.items states.new.items) }
-    ensures closed { OnOk result ((base next : ℕ) → IsReady states.old.items base next whole.now
+    ensures grows { OnOk result (AddsReaders states.old.items states.new.items) }
+    ensures closed { OnOk result ((base next : ℕ) → IsReady base states.old.items next whole.now
         → next < length states.old.items → AreClosed states.old.items → AreClosed states.new.items) }
-    ensures built { IfOk result (λ target. (base next : ℕ) → IsReady states.old.items base next whole.now
-        → IsBlock (IsReader states.new.items) base next (is_member ranges.now) depth start target) }
+    ensures built { IfOk result (λ target. (base next : ℕ) → IsReady base states.old.items next whole.now
+        → IsBlock (IsReader base states.new.items) next (is_member ranges.now) depth start target) }
     ensures count { OnOk result (length states.new.items
         ≤ length states.old.items + depth * ends_in ranges.now start (start + size_of_block depth)) }
 {
@@ -113,12 +114,12 @@ pub fn row(
     requires enough { CoversUpTo children.depth (length whole.now) ranges.now }
     requires room { length states.old.items
         + children.depth * ends_in ranges.now children.start (children.start + children.len * size_of_block children.depth) ≤ 2147483647 }
-    ensures grows { OnOk result (Grows states.old.items states.new.items) }
-    ensures closed { OnOk result ((base next : ℕ) → IsReady states.old.items base next whole.now
+    ensures grows { OnOk result (AddsReaders states.old.items states.new.items) }
+    ensures closed { OnOk result ((base next : ℕ) → IsReady base states.old.items next whole.now
         → next < length states.old.items → AreClosed states.old.items → AreClosed states.new.items) }
     ensures ascends { OnOk result (Ascends 0 (children.first + children.len) transitions.new.items) }
-    ensures built { OnOk result ((base next : ℕ) → IsReady states.old.items base next whole.now
-        → IsRow (IsReader states.new.items) base next (is_member ranges.now) children.depth children.start children.first children.len
+    ensures built { OnOk result ((base next : ℕ) → IsReady base states.old.items next whole.now
+        → IsRow (IsReader base states.new.items) next (is_member ranges.now) children.depth children.start children.first children.len
         transitions.old.items transitions.new.items) }
     ensures count { OnOk result (length states.new.items ≤ length states.old.items
         + children.depth * ends_in ranges.now children.start (children.start + children.len * size_of_block children.depth)) }
@@ -154,11 +155,11 @@ pub fn deepen(
     requires some { 0 < length whole.old.items }
     requires room { length states.old.items + whole_depths deepest ranges.now ≤ 2147483647 }
     ensures some { OnOk result (0 < length whole.new.items) }
-    ensures grows { OnOk result (Grows states.old.items states.new.items) }
-    ensures closed { OnOk result ((base next : ℕ) → IsReady states.old.items base next whole.old.items
+    ensures grows { OnOk result (AddsReaders states.old.items states.new.items) }
+    ensures closed { OnOk result ((base next : ℕ) → IsReady base states.old.items next whole.old.items
         → next < length states.old.items → AreClosed states.old.items → AreClosed states.new.items) }
-    ensures ready { OnOk result ((base next : ℕ) → IsReady states.old.items base next whole.old.items
-        → IsReady states.new.items base next whole.new.items) }
+    ensures ready { OnOk result ((base next : ℕ) → IsReady base states.old.items next whole.old.items
+        → IsReady base states.new.items next whole.new.items) }
     ensures enough { OnOk result (CoversUpTo deepest (length whole.new.items) ranges.now) }
     ensures count { OnOk result (length states.new.items ≤ length states.old.items + whole_depths deepest ranges.now) }
 {
@@ -180,11 +181,11 @@ fn reach(
     requires some { 0 < length whole.old.items }
     requires room { length states.old.items + depth ≤ 2147483647 }
     ensures longer { OnOk result ((length whole.old.items ≤ length whole.new.items) × (depth < length whole.new.items)) }
-    ensures grows { OnOk result (Grows states.old.items states.new.items) }
-    ensures closed { OnOk result ((base next : ℕ) → IsReady states.old.items base next whole.old.items
+    ensures grows { OnOk result (AddsReaders states.old.items states.new.items) }
+    ensures closed { OnOk result ((base next : ℕ) → IsReady base states.old.items next whole.old.items
         → next < length states.old.items → AreClosed states.old.items → AreClosed states.new.items) }
-    ensures ready { OnOk result ((base next : ℕ) → IsReady states.old.items base next whole.old.items
-        → IsReady states.new.items base next whole.new.items) }
+    ensures ready { OnOk result ((base next : ℕ) → IsReady base states.old.items next whole.old.items
+        → IsReady base states.new.items next whole.new.items) }
     ensures count { OnOk result (length states.new.items ≤ length states.old.items + depth) }
 {
     while whole.len() <= depth as usize {

@@ -3,6 +3,7 @@ use Rattle.rx_model.specs.Text.{is_member}
 use Rattle.rx_thompson.specs.Row.{IsReader}
 use Rattle.rx_thompson.specs.Trie.{IsRow, IsReady}
 use Rattle.rx_thompson.specs.Ranges.{RisesFrom, StaysBelow, size_of_block, whole_depths, ends_in, clip}
+use Rattle.rx_thompson.proofs.RowLemmas.{AddsReaders-trans}
 use Rattle.rx_thompson.proofs.BlockLemmas.{IsReady-grows}
 use Rattle.rx_thompson.proofs.ClassLemmas.{RisesFrom-clip, StaysBelow-clip, StaysBelow-more, parts_cost}
 use Rattle.rx_thompson.proofs.class.add_band.Goals as goal
@@ -50,7 +51,7 @@ returns-clause-closed c =
     λ base next ready lt closed.
     (let longer = c.in_ok-deepen.ensures.grows.longer in
     let whole = c.deref-3.ensures.value in
-    c.in_ok-row.ensures.closed base next (subst (IsReady c.deepen.new.states.items base next) (sym whole) (c.in_ok-deepen.ensures.ready base next ready)) (omega arith)
+    c.in_ok-row.ensures.closed base next (subst (IsReady base c.deepen.new.states.items next) (sym whole) (c.in_ok-deepen.ensures.ready base next ready)) (omega arith)
     (c.in_ok-deepen.ensures.closed base next ready lt closed))
 
 pub returns-clause-built : goal.returns-clause-built
@@ -59,8 +60,8 @@ returns-clause-built c =
     λ base next ready.
     (let whole = c.deref-3.ensures.value in
     let children = c.args.band.children in
-    subst (λ ps. IsRow (IsReader c.row.new.states.items) base next (is_member ps) children.depth children.start children.first children.len c.args.transitions.now.items c.row.new.transitions.items) parts
-    (c.in_ok-row.ensures.built base next (subst (IsReady c.deepen.new.states.items base next) (sym whole) (c.in_ok-deepen.ensures.ready base next ready))))
+    subst (λ ps. IsRow (IsReader base c.row.new.states.items) next (is_member ps) children.depth children.start children.first children.len c.args.transitions.now.items c.row.new.transitions.items) parts
+    (c.in_ok-row.ensures.built base next (subst (IsReady base c.deepen.new.states.items next) (sym whole) (c.in_ok-deepen.ensures.ready base next ready))))
 
 pub returns-clause-count : goal.returns-clause-count
 returns-clause-count c =
@@ -72,3 +73,6 @@ returns-clause-count c =
     let deepened = rw parts at c.in_ok-deepen.ensures.count in
     let added = rw parts' at c.in_ok-row.ensures.count in
     omega arith
+
+pub returns-clause-grows : goal.returns-clause-grows
+returns-clause-grows c = AddsReaders-trans _ _ _ c.in_ok-deepen.ensures.grows c.in_ok-row.ensures.grows

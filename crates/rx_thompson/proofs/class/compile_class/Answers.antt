@@ -2,7 +2,7 @@ use Rattle.std.proofs.Common.{arith, length, refl}
 use Rattle.rx_thompson.specs.Ranges.{size_of_block, cost_of_class}
 use Rattle.rx_thompson.specs.Row.{IsReader}
 use Rattle.rx_thompson.specs.Trie.{IsReady}
-use Rattle.rx_thompson.proofs.RowLemmas.{Grows-trans, Ascends-more, IsReader-grows, RoutesBelow-none, RoutesBelow-more}
+use Rattle.rx_thompson.proofs.RowLemmas.{AddsReaders-trans, Ascends-more, IsReader-grows, IsReader-lower, RoutesBelow-none, RoutesBelow-more}
 use Rattle.rx_thompson.proofs.BlockLemmas.{IsReady-one, IsRow-map, row-below}
 use Rattle.rx_thompson.proofs.ClassLemmas.{IsClass-from}
 use Rattle.rx_thompson.proofs.class.compile_class.Goals as goal
@@ -101,27 +101,26 @@ returns-clause-built c =
     let upper = c.in_ok-add_band-4.ensures in
     let four = c.in_ok-add_band-5.ensures in
     let from_four = id.grows in
-    let from_upper = Grows-trans _ _ _ four.grows from_four in
-    let from_three = Grows-trans _ _ _ upper.grows from_upper in
-    let from_two = Grows-trans _ _ _ three.grows from_three in
-    let from_one = Grows-trans _ _ _ two.grows from_two in
-    let before = Grows-trans _ _ _ one.grows (Grows-trans _ _ _ two.grows (Grows-trans _ _ _ three.grows (Grows-trans _ _ _ upper.grows four.grows))) in
+    let from_upper = AddsReaders-trans _ _ _ four.grows from_four in
+    let from_three = AddsReaders-trans _ _ _ upper.grows from_upper in
+    let from_two = AddsReaders-trans _ _ _ three.grows from_three in
+    let from_one = AddsReaders-trans _ _ _ two.grows from_two in
+    let before = AddsReaders-trans _ _ _ one.grows (AddsReaders-trans _ _ _ two.grows (AddsReaders-trans _ _ _ three.grows (AddsReaders-trans _ _ _ upper.grows four.grows))) in
     let long = before.longer in
-    let is = id.is in
-    let ready1 : IsReady c.args.states.now.items base next c.push.new.self.items =
+    let ready1 : IsReady base c.args.states.now.items next c.push.new.self.items =
     rw (c.in_ok-push.ensures.items, c.new-whole.ensures.items) (IsReady-one c.args.states.now.items next) in
     let ready2 = one.ready base next ready1 in
     let ready3 = two.ready base next ready2 in
     let ready4 = three.ready base next ready3 in
     let ready5 = upper.ready base next ready4 in
-    IsClass-from (IsReader c.push_reader.new.states.items) base next c.args.ranges.now c.in_ok-id.id
+    IsClass-from (IsReader base c.push_reader.new.states.items) next c.args.ranges.now c.in_ok-id.id
     c.new-transitions.result.items c.add_band.new.transitions.items c.add_band-2.new.transitions.items c.add_band-3.new.transitions.items c.add_band-4.new.transitions.items c.add_band-5.new.transitions.items
-    c.new-transitions.ensures.items (omega arith) id.reads
-    (IsRow-map _ _ _ _ (IsReader-grows _ _ from_one) _ _ _ _ _ _ _ (one.built base next ready1))
-    (IsRow-map _ _ _ _ (IsReader-grows _ _ from_two) _ _ _ _ _ _ _ (two.built base next ready2))
-    (IsRow-map _ _ _ _ (IsReader-grows _ _ from_three) _ _ _ _ _ _ _ (three.built base next ready3))
-    (IsRow-map _ _ _ _ (IsReader-grows _ _ from_upper) _ _ _ _ _ _ _ (upper.built base next ready4))
-    (IsRow-map _ _ _ _ (IsReader-grows _ _ from_four) _ _ _ _ _ _ _ (four.built base next ready5))
+    c.new-transitions.ensures.items (IsReader-lower base _ _ _ _ long id.reads)
+    (IsRow-map _ _ _ (IsReader-grows base _ _ from_one) _ _ _ _ _ _ _ (one.built base next ready1))
+    (IsRow-map _ _ _ (IsReader-grows base _ _ from_two) _ _ _ _ _ _ _ (two.built base next ready2))
+    (IsRow-map _ _ _ (IsReader-grows base _ _ from_three) _ _ _ _ _ _ _ (three.built base next ready3))
+    (IsRow-map _ _ _ (IsReader-grows base _ _ from_upper) _ _ _ _ _ _ _ (upper.built base next ready4))
+    (IsRow-map _ _ _ (IsReader-grows base _ _ from_four) _ _ _ _ _ _ _ (four.built base next ready5))
 
 pub returns-clause-count : goal.returns-clause-count
 unfolding cost_of_class
@@ -149,7 +148,7 @@ returns-clause-closed c =
     let d = three.grows.longer in
     let e = upper.grows.longer in
     let f = four.grows.longer in
-    let ready1 : IsReady c.args.states.now.items base next c.push.new.self.items =
+    let ready1 : IsReady base c.args.states.now.items next c.push.new.self.items =
     rw (c.in_ok-push.ensures.items, c.new-whole.ensures.items) (IsReady-one c.args.states.now.items next) in
     let ready2 = one.ready base next ready1 in
     let ready3 = two.ready base next ready2 in
@@ -166,3 +165,11 @@ returns-clause-closed c =
     let c4 = upper.closed base next ready4 (omega arith) c3 in
     let c5 = four.closed base next ready5 (omega arith) c4 in
     c.in_ok-id.ensures.closed r5 c5)
+
+pub returns-clause-grows : goal.returns-clause-grows
+returns-clause-grows c =
+    AddsReaders-trans _ _ _ c.in_ok-add_band.ensures.grows
+    (AddsReaders-trans _ _ _ c.in_ok-add_band-2.ensures.grows
+    (AddsReaders-trans _ _ _ c.in_ok-add_band-3.ensures.grows
+    (AddsReaders-trans _ _ _ c.in_ok-add_band-4.ensures.grows
+    (AddsReaders-trans _ _ _ c.in_ok-add_band-5.ensures.grows c.in_ok-id.ensures.grows))))

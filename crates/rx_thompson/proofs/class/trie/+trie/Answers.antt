@@ -5,7 +5,7 @@ use Rattle.rx_model.specs.Text.{is_member}
 use Rattle.rx_thompson.specs.Ranges.{size_of_block, ends_in}
 use Rattle.rx_thompson.specs.Row.{Ascends, IsReader}
 use Rattle.rx_thompson.specs.Trie.{IsBlock, IsRow}
-use Rattle.rx_thompson.proofs.RowLemmas.{Ascends-more, IsReader-grows, Grows-same, Grows-trans, RoutesBelow-none}
+use Rattle.rx_thompson.proofs.RowLemmas.{Ascends-more, IsReader-grows, IsReader-lower, AddsReaders-same, AddsReaders-trans, RoutesBelow-none}
 use Rattle.rx_thompson.proofs.RangesLemmas.{size_of_block-pos, size_of_block-suc, IsRest-same, IsRest-trans, IsRest-later}
 use Rattle.rx_thompson.proofs.BlockLemmas.{IsRow-none, IsRow-map, IsBlock-same, IsBlock-none, IsBlock-row, IsRow-next, IsReady-grows, aligned-part, aligned-at, aligned-64, HasEnd-deep, HasEnd-counts, covered-depth, CoversUpTo-less, count-one, count-next, count-within, row-below}
 use Rattle.rx_thompson.proofs.class.trie.+trie.Goals as goal
@@ -72,15 +72,15 @@ block-push_reader-requires-clause-room t c =
 
 pub block-returns-in-Nothing-clause-built : goal.block-returns-in-Nothing-clause-built
 block-returns-in-Nothing-clause-built t c base next ready =
-    IsBlock-none (IsReader c.args.states.now.items) base next (is_member c.args.ranges.now) c.args.depth c.args.start (rw c.block_size.ensures at c.in-Nothing.ensures)
+    IsBlock-none (IsReader base c.args.states.now.items) next (is_member c.args.ranges.now) c.args.depth c.args.start (rw c.block_size.ensures at c.in-Nothing.ensures)
 
 pub block-returns-in-Everything-clause-built : goal.block-returns-in-Everything-clause-built
 block-returns-in-Everything-clause-built t c base next ready =
     let covers = (rw c.block_size.ensures at c.in-Everything.ensures) in
     let deep = covered-depth (length c.args.whole.now) c.args.depth c.args.start c.args.ranges.now covers.1 covers.2 c.requires.enough covers.3 c.requires.aligned covers.4 covers.5 in
     let is : slice_index c.args.whole.now c.args.depth ≡ c.index-whole-depth.result = grind (arith, common_steps) in
-    subst (λ q. IsBlock (IsReader c.args.states.now.items) base next (is_member c.args.ranges.now) c.args.depth c.args.start (Some q)) is
-    (IsBlock-same (IsReader c.args.states.now.items) base next (λ x. true) (is_member c.args.ranges.now) c.args.depth c.args.start _ covers.0 (ready.whole c.args.depth deep c.args.start))
+    subst (λ q. IsBlock (IsReader base c.args.states.now.items) next (is_member c.args.ranges.now) c.args.depth c.args.start (Some q)) is
+    (IsBlock-same (IsReader base c.args.states.now.items) next (λ x. true) (is_member c.args.ranges.now) c.args.depth c.args.start _ covers.0 (ready.whole c.args.depth deep c.args.start))
 
 pub block-returns-in_ok-id-in-Part-clause-built : goal.block-returns-in_ok-id-in-Part-clause-built
 block-returns-in_ok-id-in-Part-clause-built t c base next ready =
@@ -90,8 +90,9 @@ block-returns-in_ok-id-in-Part-clause-built t c base next ready =
     let longer = row.grows.longer in
     let is = id.is in
     let based = ready.based in
-    IsBlock-row (IsReader c.push_reader.new.states.items) base next (is_member c.args.ranges.now) c.args.depth c.args.start c.in_ok-id-in-Part.id c.row.new.transitions.items deep (omega arith) id.reads
-    (IsRow-map (IsReader c.row.new.states.items) (IsReader c.push_reader.new.states.items) base next (IsReader-grows _ _ id.grows) (is_member c.args.ranges.now) (c.args.depth - 1) c.args.start 128 64 _ _
+    IsBlock-row (IsReader base c.push_reader.new.states.items) next (is_member c.args.ranges.now) c.args.depth c.args.start c.in_ok-id-in-Part.id c.row.new.transitions.items deep
+    (IsReader-lower base (length c.row.new.states.items) _ _ _ (omega arith) id.reads)
+    (IsRow-map (IsReader base c.row.new.states.items) (IsReader base c.push_reader.new.states.items) next (IsReader-grows base _ _ id.grows) (is_member c.args.ranges.now) (c.args.depth - 1) c.args.start 128 64 _ _
     (rw c.new-transitions.ensures.items at row.built base next ready))
 
 pub block-returns-in_ok-id-in-Part-clause-count : goal.block-returns-in_ok-id-in-Part-clause-count
@@ -122,11 +123,11 @@ row-loop-k-init t c =
     let at : start ≡ start + 0 * size_of_block depth = omega arith in
     let byte : first ≡ first + 0 = omega arith in
     record {
-      grows = Grows-same c.args.states.now.items;
+      grows = AddsReaders-same c.args.states.now.items;
       closed = λ base next ready lt closed. closed;
       rest = IsRest-same (start + 0 * size_of_block depth) c.args.ranges.now c.requires.rises;
       ascends = subst (λ n. Ascends 0 n c.args.transitions.now.items) byte c.requires.before;
-      built = λ base next ready. IsRow-none (IsReader c.args.states.now.items) base next (is_member c.args.ranges.now) depth start first c.args.transitions.now.items;
+      built = λ base next ready. IsRow-none (IsReader base c.args.states.now.items) next (is_member c.args.ranges.now) depth start first c.args.transitions.now.items;
       count = omega arith;
     }
 
@@ -184,16 +185,16 @@ row-loop-k-preserved t c =
     let counted = before.count in
     let byte : first + c.loop-k.k + 1 ≡ first + (c.loop-k.k + 1) = omega arith in
     record {
-      grows = Grows-trans c.args.states.now.items c.loop-k.states.items c.block.new.states.items before.grows target.grows;
+      grows = AddsReaders-trans c.args.states.now.items c.loop-k.states.items c.block.new.states.items before.grows target.grows;
       closed = λ base next ready lt closed.
           (let states = before.grows.longer in
           target.closed base next (IsReady-grows c.args.states.now.items c.loop-k.states.items base next c.args.whole.now before.grows ready) (omega arith) (before.closed base next ready lt closed));
       rest = IsRest-later (start + c.loop-k.k * size_of_block depth) (start + (c.loop-k.k + 1) * size_of_block depth) c.args.ranges.now c.skip_below-rest.result.now (omega arith) here;
       ascends = subst (λ n. Ascends 0 n c.add_target.new.row.items) byte added.ascends;
-      built = λ base next ready. IsRow-next (IsReader c.loop-k.states.items) (IsReader c.block.new.states.items) base next (IsReader-grows _ _ target.grows)
+      built = λ base next ready. IsRow-next (IsReader base c.loop-k.states.items) (IsReader base c.block.new.states.items) next (IsReader-grows base _ _ target.grows)
           (is_member c.args.ranges.now) depth start first c.loop-k.k c.args.transitions.now.items c.loop-k.transitions.items c.add_target.new.row.items c.in_ok-target.target
           (before.built base next ready)
-          (IsBlock-same (IsReader c.block.new.states.items) base next (is_member c.skip_below-rest.result.now) (is_member c.args.ranges.now) depth (start + c.loop-k.k * size_of_block depth) c.in_ok-target.target
+          (IsBlock-same (IsReader base c.block.new.states.items) next (is_member c.skip_below-rest.result.now) (is_member c.args.ranges.now) depth (start + c.loop-k.k * size_of_block depth) c.in_ok-target.target
           (λ x from to. sym (here.same x from))
           (rw size at target.built base next (IsReady-grows c.args.states.now.items c.loop-k.states.items base next c.args.whole.now before.grows ready)))
           added.routes;
@@ -203,5 +204,8 @@ row-loop-k-preserved t c =
 pub row-returns-clause-built : goal.row-returns-clause-built
 row-returns-clause-built t c =
     let ended : c.loop-k.k ≡ c.args.children.len = grind (arith, common_steps) in
-    λ base next ready. subst (λ n. IsRow (IsReader c.loop-k.states.items) base next (is_member c.args.ranges.now) c.args.children.depth c.args.children.start c.args.children.first n c.args.transitions.now.items c.loop-k.transitions.items) ended
+    λ base next ready. subst (λ n. IsRow (IsReader base c.loop-k.states.items) next (is_member c.args.ranges.now) c.args.children.depth c.args.children.start c.args.children.first n c.args.transitions.now.items c.loop-k.transitions.items) ended
     (c.loop-k.invariant.built base next ready)
+
+pub block-returns-in_ok-id-in-Part-clause-grows : goal.block-returns-in_ok-id-in-Part-clause-grows
+block-returns-in_ok-id-in-Part-clause-grows t c = AddsReaders-trans _ _ _ c.in_ok-row-in-Part.ensures.grows c.in_ok-id-in-Part.ensures.grows

@@ -1,13 +1,13 @@
 use Rattle.std.proofs.Common.{◌≡◌, ◌+◌, ◌++◌, ◌∷◌, [], ap, arith, length, get_or, take}
 use Rattle.rx_thompson.specs.Ranges.{whole_depths}
-use Rattle.rx_thompson.proofs.RowLemmas.{Grows-same, Grows-trans}
+use Rattle.rx_thompson.proofs.RowLemmas.{AddsReaders-same, AddsReaders-trans}
 use Rattle.rx_thompson.proofs.RangesLemmas.{CoversUpTo-nil, CoversUpTo-more, CoversUpTo-push, whole_depths-push, whole_depths-take, whole_depth-le, take-next, RisesFrom-at, StaysBelow-at}
 use Rattle.rx_thompson.proofs.class.trie.deepen.Goals as goal
 
 pub loop-range-init : goal.loop-range-init
 loop-range-init c = record {
   some = c.requires.some;
-  grows = Grows-same c.args.states.now.items;
+  grows = AddsReaders-same c.args.states.now.items;
   closed = λ base next ready lt closed. closed;
   ready = λ base next ready. ready;
   enough = CoversUpTo-nil c.args.deepest (length c.args.whole.now.items);
@@ -52,7 +52,7 @@ loop-range-preserved c =
     let added = reached.count in
     record {
       some = omega arith;
-      grows = Grows-trans c.args.states.now.items c.loop-range.states.items c.reach.new.states.items before.grows reached.grows;
+      grows = AddsReaders-trans c.args.states.now.items c.loop-range.states.items c.reach.new.states.items before.grows reached.grows;
       closed = λ base next ready lt closed. (let states = before.grows.longer in reached.closed base next (before.ready base next ready) (omega arith) (before.closed base next ready lt closed));
       ready = λ base next ready. reached.ready base next (before.ready base next ready);
       enough = rw next (CoversUpTo-push c.args.deepest (length c.reach.new.whole.items) (take c.loop-range.range-index c.args.ranges.now) r deep

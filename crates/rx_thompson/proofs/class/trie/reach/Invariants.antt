@@ -1,14 +1,15 @@
 use Rattle.std.proofs.Common.{ℕ, ◌<◌, ◌≡◌, ◌≤◌, ◌+◌, ◌-◌, length, max}
-use Rattle.rx_thompson.specs.Row.{Grows, AreClosed}
+use Rattle.rx_thompson.specs.Row.{AddsReaders}
+use Rattle.rx_thompson.specs.States.{AreClosed}
 use Rattle.rx_thompson.specs.Trie.{IsReady}
 use Rattle.rx_thompson.proofs.class.trie.reach.Given as goal
 
 abbrev pub invariant-loop-alloc : goal.invariant-loop-alloc
 invariant-loop-alloc l = record {
-  grows : Grows l.initial.states.items l.states.items;
-  closed : (base next : ℕ) → IsReady l.initial.states.items base next l.initial.whole.items → next < length l.initial.states.items
+  grows : AddsReaders l.initial.states.items l.states.items;
+  closed : (base next : ℕ) → IsReady base l.initial.states.items next l.initial.whole.items → next < length l.initial.states.items
       → AreClosed l.initial.states.items → AreClosed l.states.items;
-  ready : (base next : ℕ) → IsReady l.initial.states.items base next l.initial.whole.items → IsReady l.states.items base next l.whole.items;
+  ready : (base next : ℕ) → IsReady base l.initial.states.items next l.initial.whole.items → IsReady base l.states.items next l.whole.items;
   longer : length l.initial.whole.items ≤ length l.whole.items;
   most : length l.whole.items ≤ max (length l.initial.whole.items) (l.depth + 1);
   count : length l.states.items + length l.initial.whole.items ≡ length l.initial.states.items + length l.whole.items;
