@@ -6,7 +6,7 @@ use Rattle.rx_model.proofs.RunLemmas.{by_test}
 use Rattle.rx_model.specs.Text.{is_member}
 use Rattle.rx_thompson.specs.Ranges.{RisesFrom, StaysBelow, size_of_block, ends_in, is_narrow, one_if, has_block, whole_depth, whole_depths, clip, cost_of_part, cost_of_parts}
 use Rattle.rx_thompson.specs.Automaton.{route}
-use Rattle.rx_thompson.specs.Trie.{IsBlock, IsRow, IsClass}
+use Rattle.rx_thompson.specs.Trie.{IsBlock, IsRow, IsClass, IsByteClass}
 use Rattle.rx_thompson.specs.declared.state.Transition.{Transition}
 use Rattle.rx_thompson.proofs.BlockLemmas.{IsBlock-map}
 use Rattle.rx_thompson.proofs.RangesLemmas.{RisesFrom-lower, whole_depth-le}
@@ -176,3 +176,7 @@ IsClass-map A B next keep rs q c = record {
   of_four = λ k lt. IsBlock-map A B next keep _ 3 _ _ (c.of_four k lt);
   of_none = c.of_none;
 }
+
+pub IsByteClass-map : (A B : ℕ → List Transition → Type 0) (next : ℕ) → ((q : ℕ) (ts : List Transition) → A q ts → B q ts)
+    → (rs : List (ℕ × ℕ)) (q : ℕ) → IsByteClass A next rs q → IsByteClass B next rs q
+IsByteClass-map A B next keep rs q c = record { row = c.row; reads = keep q c.row c.reads; each = c.each; of_none = c.of_none }

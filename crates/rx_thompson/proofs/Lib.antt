@@ -7,3 +7,6 @@ pub mod RangesLemmas
 pub mod BlockLemmas
 pub mod ClassLemmas
 pub mod ByteLemmas
+pub mod Utf8Lemmas
+pub mod ReadLemmas
+pub mod RefinedLemmas

@@ -7,7 +7,7 @@ use Rattle.std.proofs.lemmas.List.Elements.{All-append, All-nil, All-cons, All-h
 use Rattle.rx_model.proofs.RunLemmas.{by_test}
 use Rattle.std.proofs.lemmas.Option.{none-some, same_Some}
 use Rattle.rx_thompson.specs.Automaton.{route, state_at, NamesBelow, IsWithin}
-use Rattle.rx_thompson.specs.Row.{Ascends, transition_to, reading, Reads, IsReader, RoutesBelow, AddsReaders}
+use Rattle.rx_thompson.specs.Row.{Ascends, transition_to, reading, HasReader, IsReader, RoutesBelow, AddsReaders}
 use Rattle.rx_thompson.specs.States.{AreClosed}
 use Rattle.rx_thompson.specs.declared.state.Transition.{Transition}
 use Rattle.rx_thompson.specs.declared.state.State.{State}
@@ -184,8 +184,8 @@ IsReader-lower lower base states q ts le r = record {
 }
 
 -- where what stands is kept, as by a patch before the base
-pub Reads-map : (A B : ℕ → State → Type 0) → ((q : ℕ) (state : State) → A q state → B q state) → (q : ℕ) (ts : List Transition) → Reads A q ts → Reads B q ts
-Reads-map A B keep q ts r = record { state = r.state; stands = keep q r.state r.stands; reads = r.reads; ascends = r.ascends }
+pub HasReader-map : (A B : ℕ → State → Type 0) → ((q : ℕ) (state : State) → A q state → B q state) → (q : ℕ) (ts : List Transition) → HasReader A q ts → HasReader B q ts
+HasReader-map A B keep q ts r = record { state = r.state; stands = keep q r.state r.stands; reads = r.reads; ascends = r.ascends }
 
 -- closed lists of states
 
@@ -205,14 +205,14 @@ RoutesBelow-one n low high next lt b q e = only (nat_le low b && nat_le b high) 
     only true h = let is = same_Some _ _ h in omega arith
     only false h = absurd (none-some q h)
 
-same_transitions : (a b : List Transition) → ◌≡◌ {A = Option (List Transition)} (Some a) (Some b) → a ≡ b
+pub same_transitions : (a b : List Transition) → ◌≡◌ {A = Option (List Transition)} (Some a) (Some b) → a ≡ b
 same_transitions a b e = ap value e
   where
     value : Option (List Transition) → List Transition
     value None = a
     value (Some c) = c
 
-no_transitions : (ts : List Transition) → ◌≡◌ {A = Option (List Transition)} None (Some ts) → ⊥
+pub no_transitions : (ts : List Transition) → ◌≡◌ {A = Option (List Transition)} None (Some ts) → ⊥
 no_transitions ts e = coe 0 1 (i. Empties (e i)) tt
   where
     Empties : Option (List Transition) → Type 0

@@ -24,8 +24,8 @@ reading (Capture next pattern slot) = None
 reading Fail = Some []
 reading (Match pattern) = None
 
--- `IsAt q state`: this state stands at q. State q reads a byte by these transitions.
-pub record Reads (IsAt : ℕ → State → Type 0) (q : ℕ) (ts : List Transition) : Type 0 where
+-- `IsAt q state`: this state stands at q. The state that stands at q reads a byte by these transitions.
+pub record HasReader (IsAt : ℕ → State → Type 0) (q : ℕ) (ts : List Transition) : Type 0 where
   pub state : State
   pub stands : IsAt q state
   pub reads : reading state ≡ Some ts
@@ -33,7 +33,7 @@ pub record Reads (IsAt : ℕ → State → Type 0) (q : ℕ) (ts : List Transiti
 
 -- state q is one of the states from the base on, and reads a byte by these transitions
 abbrev pub IsReader : (base : ℕ) → List State → ℕ → List Transition → Type 0
-IsReader base states = Reads (Stands base states)
+IsReader base states = HasReader (Stands base states)
 
 -- states that only read bytes were added, and none was changed
 pub record AddsReaders (old new : List State) : Type 0 where

@@ -1,10 +1,12 @@
 //! The states of a class: its members' encodings, which share their first bytes.
-ghost use Rattle.std.specs.Prelude.{◌≡◌, ◌<◌, ◌≤◌, ◌+◌, ◌*◌, ◌%◌, ℕ, length, IfOk, OnOk, []};
-ghost use Rattle.rx_model.specs.Text.{is_member};
+ghost use Rattle.std.specs.Prelude.{List, ◌≡◌, ◌<◌, ◌≤◌, ◌+◌, ◌*◌, ◌%◌, ℕ, length, IfOk, OnOk, []};
+ghost use Rattle.rx_model.specs.Text.{is_member, scalar_ranges, byte_ranges};
+ghost use Rattle.rx_thompson.specs.Automaton.{automaton};
 ghost use Rattle.rx_thompson.specs.Ranges.{RisesFrom, StaysBelow, size_of_block, clip, cost_of_parts, cost_of_class};
 ghost use Rattle.rx_thompson.specs.Row.{transition_to, Ascends, IsReader, AddsReaders};
 ghost use Rattle.rx_thompson.specs.States.{AreClosed};
 ghost use Rattle.rx_thompson.specs.Trie.{IsRow, IsReady, IsClass, IsByteClass};
+ghost use Rattle.rx_thompson.specs.Reading.{ReadsClass};
 
 use crate::class::ranges::clip;
 use crate::class::row::push_reader;
@@ -210,3 +212,14 @@ fn add_band(
     row(alloc, states, &parts, whole, band.children, transitions)?;
     Ok(())
 }
+
+/// In each automaton that has the states of a class, they read the class: what is found from their
+/// entry is what is found from `next` after the member that stands there, and nothing where none does.
+pub fn the_states_read_the_class()
+    ensures scalars { (states : List State) (text : List ℕ) (end base next q : ℕ) (ranges : List (ℕ × ℕ)) → end ≤ length text
+        → IsClass (IsReader base states) next ranges q
+        → ReadsClass (automaton states text end) text end next q (scalar_ranges ranges) }
+    ensures bytes { (states : List State) (text : List ℕ) (end base next q : ℕ) (ranges : List (ℕ × ℕ)) → end ≤ length text
+        → StaysBelow 255 ranges → IsByteClass (IsReader base states) next ranges q
+        → ReadsClass (automaton states text end) text end next q (byte_ranges ranges) }
+{}

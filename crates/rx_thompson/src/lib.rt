@@ -10,6 +10,7 @@ mod nfa;
 mod sparse;
 mod state;
 
+pub use class::the_states_read_the_class;
 pub use nfa::NFA;
 pub use sparse::matches_byte;
 pub use state::{Alternates, State, Transition, Transitions};
