@@ -50,21 +50,27 @@ IsCoverage ranges start end Everything =
     × (r : ℕ × ℕ) × (rs : List (ℕ × ℕ)) × (ranges ≡ r ∷ rs) × (r.0 ≤ start) × (end ≤ r.1 + 1)
 IsCoverage ranges start end Part = HasEnd ranges start end
 
--- State q reads the encoding of one member of the class, and goes on to `next`. Each first byte leads to the block of
--- the numbers that it begins.
-pub record IsClass (IsAt : ℕ → List Transition → Type 0) (next : ℕ) (ranges : List (ℕ × ℕ)) (q : ℕ) : Type 0 where
-  pub row : List Transition
-  pub reads : IsAt q row
-  pub of_one : (k : ℕ) → k < 0x80 → IsBlock IsAt next (is_member (clip 0 0x7F ranges)) 0 (0 + k * size_of_block 0) (route row (0 + k))
-  pub of_two : (k : ℕ) → k < 30 → IsBlock IsAt next (is_member (clip 0x80 0x7FF ranges)) 1 (0x80 + k * size_of_block 1) (route row (0xC2 + k))
-  pub of_three : (k : ℕ) → k < 14 → IsBlock IsAt next (is_member (clip 0x800 0xD7FF ranges)) 2 (0 + k * size_of_block 2) (route row (0xE0 + k))
-  pub of_three_high : (k : ℕ) → k < 2 → IsBlock IsAt next (is_member (clip 0xE000 0xFFFF ranges)) 2 (0xE000 + k * size_of_block 2) (route row (0xEE + k))
-  pub of_four : (k : ℕ) → k < 5 → IsBlock IsAt next (is_member (clip 0x1_0000 0x10_FFFF ranges)) 3 (0 + k * size_of_block 3) (route row (0xF0 + k))
-  pub of_none : (b : ℕ) → ((0x80 ≤ b) × (b < 0xC2)) ⊎ (0xF5 ≤ b) → route row b ≡ None
+module _ (IsAt : ℕ → List Transition → Type 0) (next : ℕ) (ranges : List (ℕ × ℕ)) where
+  -- Each of the `len` bytes from `first` on leads to its block, whose numbers it begins: the blocks follow one another
+  -- from `start` on, and their members are those of the class within low..high.
+  abbrev pub LeadsTo : (low high depth start first len : ℕ) → List Transition → Type 0
+  LeadsTo low high depth start first len row =
+      (k : ℕ) → k < len → IsBlock IsAt next (is_member (clip low high ranges)) depth (start + k * size_of_block depth) (route row (first + k))
 
--- State q reads a byte of the class, and goes on to `next`.
-pub record IsByteClass (IsAt : ℕ → List Transition → Type 0) (next : ℕ) (ranges : List (ℕ × ℕ)) (q : ℕ) : Type 0 where
-  pub row : List Transition
-  pub reads : IsAt q row
-  pub each : (b : ℕ) → b < 256 → route row b ≡ (if is_member ranges b then Some next else None)
-  pub of_none : (b : ℕ) → 256 ≤ b → route row b ≡ None
+  -- State q reads the encoding of one member of the class, and goes on to `next`.
+  pub record IsClass (q : ℕ) : Type 0 where
+    pub row : List Transition
+    pub reads : IsAt q row
+    pub of_one : LeadsTo 0 0x7F 0 0 0 0x80 row
+    pub of_two : LeadsTo 0x80 0x7FF 1 0x80 0xC2 30 row
+    pub of_three : LeadsTo 0x800 0xD7FF 2 0 0xE0 14 row
+    pub of_three_high : LeadsTo 0xE000 0xFFFF 2 0xE000 0xEE 2 row
+    pub of_four : LeadsTo 0x1_0000 0x10_FFFF 3 0 0xF0 5 row
+    pub of_none : (b : ℕ) → ((0x80 ≤ b) × (b < 0xC2)) ⊎ (0xF5 ≤ b) → route row b ≡ None
+
+  -- State q reads a byte of the class, and goes on to `next`.
+  pub record IsByteClass (q : ℕ) : Type 0 where
+    pub row : List Transition
+    pub reads : IsAt q row
+    pub each : (b : ℕ) → b < 256 → route row b ≡ (if is_member ranges b then Some next else None)
+    pub of_none : (b : ℕ) → 256 ≤ b → route row b ≡ None
