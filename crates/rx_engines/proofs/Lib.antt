@@ -8,3 +8,4 @@ pub mod TableLemmas
 pub mod CloseLemmas
 pub mod StepLemmas
 pub mod StartLemmas
+pub mod EngineLemmas

@@ -10,6 +10,7 @@ use Rattle.rx_model.proofs.RunLemmas.{by_test}
 use Rattle.rx_model.proofs.FirstLemmas.{none-is-some, some-is}
 use Rattle.rx_model.proofs.RiseLemmas.{found-end}
 use Rattle.rx_model.proofs.FoundLemmas.{found-prune, found-forget, option_map-or}
+use Rattle.rx_thompson.proofs.NextMatchLemmas.{first_start-alike}
 use Rattle.rx_thompson.specs.Automaton.{at, automaton, state_at}
 use Rattle.rx_engines.specs.Walk.{Slots, answer, pending}
 use Rattle.rx_engines.specs.Search.{triple}
@@ -25,13 +26,6 @@ use Rattle.rx_engines.specs.Threads.{Row}
 use Rattle.rx_engines.specs.Simulation.{is_resting, Closed, passed_at, Hit, hit, hit_of, best_hit, among, IsStable, Waits, Stepped, from_starts, later_starts}
 use Rattle.rx_engines.specs.Search.{first_of}
 use Rattle.rx_engines.proofs.SimulationLemmas.{passed_at-elsewhere}
-
--- where each start tells the same
-pub first_start-alike : (permitted : ℕ → Bool) (f h : ℕ → Option Trace) (n i : ℕ) → ((j : ℕ) → i ≤ j → f j ≡ h j) → first_start permitted f n i ≡ first_start permitted h n i
-unfolding first_start
-first_start-alike permitted f h zero i alike = refl
-first_start-alike permitted f h (suc n) i alike =
-    rw (alike i (omega arith), first_start-alike permitted f h n (i + 1) (λ j le. alike j (omega arith))) refl
 
 -- a start, as a hit
 pub start-hit : (width i : ℕ) (o : Option Trace) → option_map (hit_of width) (option_map (λ t. record { start = i; trace = t }) o) ≡ hit i (answer (replicate width None) o)

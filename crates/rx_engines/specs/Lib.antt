@@ -4,3 +4,4 @@ pub mod Search
 pub mod Threads
 pub mod Simulation
 pub mod Room
+pub mod Engine

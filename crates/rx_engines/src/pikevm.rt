@@ -10,5 +10,7 @@ mod stack;
 mod step;
 mod table;
 mod threads;
+mod vm;
 
 pub use cache::Cache;
+pub use vm::PikeVM;

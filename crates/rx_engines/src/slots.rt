@@ -86,3 +86,12 @@ pub fn report(slots: &[Slot], to: &mut [Option<NonMaxUsize>])
         to[i] = read(slots, i).get();
     }
 }
+
+/// Leaves None in each slot.
+pub fn empty(slots: &mut [Option<NonMaxUsize>])
+    ensures { slots.new ≡ replicate (length slots.old) None }
+{
+    for i in 0..slots.len() {
+        slots[i] = None;
+    }
+}

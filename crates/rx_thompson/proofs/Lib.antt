@@ -10,3 +10,4 @@ pub mod ByteLemmas
 pub mod Utf8Lemmas
 pub mod ReadLemmas
 pub mod RefinedLemmas
+pub mod NextMatchLemmas

@@ -1,15 +1,17 @@
-ghost use Rattle.std.specs.Prelude.{◌≡◌, vec_len, ℕ, ◌+◌, ◌^◌, ◌<◌, ◌≤◌, [], length, All, is_some, Some, None, IfOk, IfSome, IfNone, option_map, replicate, nat_lt, slice_index_or, if◌then◌else◌};
+ghost use Rattle.std.specs.Prelude.{◌≡◌, vec_len, ℕ, ◌+◌, ◌^◌, ◌<◌, ◌≤◌, [], length, All, is_some, Some, None, IfOk, OnOk, OnErr, IfSome, IfNone, option_map, replicate, nat_lt, slice_index_or, if◌then◌else◌};
 ghost use Rattle.rx_model.specs.Search.{slot_value};
 ghost use Rattle.rx_thompson.specs.Automaton.{NamesBelow};
 ghost use Rattle.rx_engines.specs.Search.{last_start, next_in, triple};
 ghost use Rattle.rx_engines.specs.Simulation.{cost, cost_below};
 ghost use Rattle.rx_engines.specs.Room.{Room, room_code};
+ghost use Rattle.rx_engines.specs.Engine.{Fits};
 
 use crate::pikevm::search::search_slots;
 use crate::pikevm::set::SparseSet;
 use crate::pikevm::stack::Stack;
 use crate::pikevm::table::Table;
 use crate::pikevm::threads::Threads;
+use crate::pikevm::vm::PikeVM;
 use crate::slots::Slot;
 use rx_search::{Memory, NonMaxUsize, PatternID, StateID};
 use rx_thompson::State;
@@ -48,8 +50,25 @@ impl Model for Cache {
 }
 
 impl Cache {
+    /// A cache that serves this engine.
+    pub fn new(alloc: Global, vm: &PikeVM) -> Result<Cache, Memory>
+        ensures { IfOk result (Fits vm.now) }
+    {
+        let nfa = vm.get_nfa();
+        Cache::with_room(alloc, nfa.states(), nfa.slot_len())
+    }
+
+    /// Makes the cache one that serves this engine. Where there is no memory, it stays as it was.
+    pub fn reset(&mut self, alloc: Global, vm: &PikeVM) -> Result<(), Memory>
+        ensures ok { OnOk result (Fits vm.now self.new) }
+        ensures err { OnErr result (self.new ≡ self.old) }
+    {
+        *self = Cache::new(alloc, vm)?;
+        Ok(())
+    }
+
     /// Room for searches of the states with up to `widest` slots.
-    pub fn new(alloc: Global, states: &[State], widest: usize) -> Result<Cache, Memory>
+    fn with_room(alloc: Global, states: &[State], widest: usize) -> Result<Cache, Memory>
         requires { length states.now < 2 ^ 32 }
         ensures states { IfOk result (λ c. c.states ≡ length states.now) }
         ensures stack { IfOk result (λ c. cost_below states.now (length states.now) < c.stack) }
@@ -81,7 +100,7 @@ impl Cache {
     /// The pattern, the start and the end of the next match in `from..end`, from one of the start states, the
     /// first of them preferred. The slots get its groups.
     /// It starts at `from` if the search is anchored.
-    pub fn find(
+    pub(crate) fn find(
         &mut self,
         states: &[State],
         text: &[u8],
@@ -130,7 +149,7 @@ impl Cache {
     }
 
     /// Whether `find` would find a match. It stops as soon as it knows.
-    pub fn is_match(
+    pub(crate) fn is_match(
         &mut self,
         states: &[State],
         text: &[u8],
