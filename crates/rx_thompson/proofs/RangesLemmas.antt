@@ -5,11 +5,28 @@ use Rattle.std.proofs.lemmas.Bool.Decides.{nat_tests}
 use Rattle.std.proofs.lemmas.List.{drop_all}
 use Rattle.rx_model.proofs.RunLemmas.{by_test}
 use Rattle.rx_model.specs.Text.{is_member}
+use Rattle.rx_syntax.specs.Ranges.{next_scalar, next_byte, BeginPast, AreFewest, AreScalarRanges, AreByteRanges}
 use Rattle.rx_thompson.specs.Ranges.{RisesFrom, StaysBelow, IsRest, EndsFrom, ends_in, one_if, is_narrow, size_of_block, CoversUpTo, has_block, whole_depth, whole_depths, clip}
 
 pub RisesFrom-lower : (low lower : ℕ) (rs : List (ℕ × ℕ)) → lower ≤ low → RisesFrom low rs → RisesFrom lower rs
 RisesFrom-lower low lower [] le h = h
 RisesFrom-lower low lower (r ∷ rs) le h = (omega (arith, h.0), h.1, h.2)
+
+-- the fewest ranges rise, where `next` gives a later number
+module _ (next : ℕ → ℕ) (later : (c : ℕ) → c + 1 ≤ next c) where
+  rise-after : (n : ℕ) (rs : List (ℕ × ℕ)) → BeginPast (next n) rs → AreFewest next rs → RisesFrom (n + 1) rs
+  rise-after n [] past h = tt
+  rise-after n (r ∷ rs) past h = (omega (arith, later n), h.0, rise-after r.1 rs h.1 h.2)
+
+  fewest-rise : (rs : List (ℕ × ℕ)) → AreFewest next rs → RisesFrom 0 rs
+  fewest-rise [] h = tt
+  fewest-rise (r ∷ rs) h = (omega arith, h.0, rise-after r.1 rs h.1 h.2)
+
+pub AreScalarRanges-rise : (rs : List (ℕ × ℕ)) → AreScalarRanges rs → RisesFrom 0 rs
+AreScalarRanges-rise rs h = fewest-rise next_scalar (λ c. by_test (c == 0xD7FF) (λ e. rw e (grind (arith, nat_tests))) (λ e. rw e (omega arith))) rs h
+
+pub AreByteRanges-rise : (rs : List (ℕ × ℕ)) → AreByteRanges rs → RisesFrom 0 rs
+AreByteRanges-rise rs h = fewest-rise next_byte (λ c. omega arith) rs h
 
 pub IsRest-same : (start : ℕ) (xs : List (ℕ × ℕ)) → RisesFrom 0 xs → IsRest start xs xs
 IsRest-same start xs h = record { rises = h; stays = λ n s. s; covers = λ d n h. h; same = λ c le. refl; ends = λ from to le. refl }

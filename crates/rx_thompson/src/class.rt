@@ -1,6 +1,7 @@
 //! The states of a class: its members' encodings, which share their first bytes.
 ghost use Rattle.std.specs.Prelude.{List, ◌≡◌, ◌<◌, ◌≤◌, ◌+◌, ◌*◌, ◌%◌, ℕ, length, IfOk, OnOk, []};
 ghost use Rattle.rx_model.specs.Text.{is_member, scalar_ranges, byte_ranges};
+ghost use Rattle.rx_syntax.specs.Ranges.{AreScalarRanges, AreByteRanges};
 ghost use Rattle.rx_thompson.specs.Automaton.{automaton};
 ghost use Rattle.rx_thompson.specs.Ranges.{RisesFrom, StaysBelow, size_of_block, clip, cost_of_parts, cost_of_class};
 ghost use Rattle.rx_thompson.specs.Row.{transition_to, Ascends, IsReader, AddsReaders};
@@ -92,7 +93,7 @@ pub fn compile_class(
     ranges: &[(char, char)],
     next: StateID,
 ) -> Result<StateID, Memory>
-    requires rises { RisesFrom 0 ranges.now }
+    requires fewest { AreScalarRanges ranges.now }
     requires room { length states.old.items + cost_of_class ranges.now ≤ 2147483647 }
     ensures built { IfOk result (λ q. IsClass (IsReader (length states.old.items) states.new.items) next ranges.now q) }
     ensures grows { OnOk result (AddsReaders states.old.items states.new.items) }
@@ -153,7 +154,7 @@ pub fn compile_bytes(
     ranges: &[(u8, u8)],
     next: StateID,
 ) -> Result<StateID, Memory>
-    requires rises { RisesFrom 0 ranges.now }
+    requires fewest { AreByteRanges ranges.now }
     requires room { length states.old.items < 2147483647 }
     ensures built { IfOk result (λ q. IsByteClass (IsReader (length states.old.items) states.new.items) next ranges.now q) }
     ensures bytes { OnOk result (StaysBelow 255 ranges.now) }
@@ -233,7 +234,7 @@ mod tests {
 
     /// The states of the class, after the state 0, which is a match and the one that they go on to.
     fn states_of(alloc: Global, ranges: &[(char, char)]) -> Result<Vec<State>, Memory>
-        requires rises { RisesFrom 0 ranges.now }
+        requires fewest { AreScalarRanges ranges.now }
         requires room { 1 + cost_of_class ranges.now ≤ 2147483647 }
     {
         let mut states = Vec::new(alloc);

@@ -4,8 +4,24 @@ use Rattle.rx_thompson.specs.Row.{IsReader}
 use Rattle.rx_thompson.specs.Trie.{IsReady}
 use Rattle.rx_thompson.proofs.RowLemmas.{AddsReaders-trans, Ascends-more, IsReader-grows, IsReader-lower, RoutesBelow-none, RoutesBelow-more}
 use Rattle.rx_thompson.proofs.BlockLemmas.{IsReady-one, IsRow-map, row-below}
+use Rattle.rx_thompson.proofs.RangesLemmas.{AreScalarRanges-rise}
 use Rattle.rx_thompson.proofs.ClassLemmas.{IsClass-from}
 use Rattle.rx_thompson.proofs.class.compile_class.Goals as goal
+
+pub add_band-requires-clause-rises : goal.add_band-requires-clause-rises
+add_band-requires-clause-rises c = AreScalarRanges-rise c.args.ranges.now c.requires.fewest
+
+pub add_band-requires-2-clause-rises : goal.add_band-requires-2-clause-rises
+add_band-requires-2-clause-rises c = AreScalarRanges-rise c.args.ranges.now c.requires.fewest
+
+pub add_band-requires-3-clause-rises : goal.add_band-requires-3-clause-rises
+add_band-requires-3-clause-rises c = AreScalarRanges-rise c.args.ranges.now c.requires.fewest
+
+pub add_band-requires-4-clause-rises : goal.add_band-requires-4-clause-rises
+add_band-requires-4-clause-rises c = AreScalarRanges-rise c.args.ranges.now c.requires.fewest
+
+pub add_band-requires-5-clause-rises : goal.add_band-requires-5-clause-rises
+add_band-requires-5-clause-rises c = AreScalarRanges-rise c.args.ranges.now c.requires.fewest
 
 pub add_band-requires-clause-small : goal.add_band-requires-clause-small
 unfolding size_of_block
