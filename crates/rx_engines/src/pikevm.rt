@@ -3,6 +3,7 @@
 
 mod cache;
 mod close;
+mod finder;
 mod search;
 mod seed;
 mod set;
@@ -13,4 +14,8 @@ mod threads;
 mod vm;
 
 pub use cache::Cache;
+pub use finder::SlotFinder;
 pub use vm::PikeVM;
+
+#[cfg(test)]
+mod tests;

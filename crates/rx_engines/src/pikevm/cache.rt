@@ -68,7 +68,7 @@ impl Cache {
     }
 
     /// Room for searches of the states with up to `widest` slots.
-    fn with_room(alloc: Global, states: &[State], widest: usize) -> Result<Cache, Memory>
+    pub(crate) fn with_room(alloc: Global, states: &[State], widest: usize) -> Result<Cache, Memory>
         requires { length states.now < 2 ^ 32 }
         ensures states { IfOk result (λ c. c.states ≡ length states.now) }
         ensures stack { IfOk result (λ c. cost_below states.now (length states.now) < c.stack) }
