@@ -2,4 +2,12 @@ pub mod AutomatonLemmas
 pub mod BuiltLemmas
 pub mod LoopLemmas
 pub mod StateLemmas
+pub mod RowLemmas
+pub mod RangesLemmas
+pub mod BlockLemmas
+pub mod ClassLemmas
+pub mod ByteLemmas
+pub mod Utf8Lemmas
+pub mod ReadLemmas
+pub mod RefinedLemmas
 pub mod NextMatchLemmas

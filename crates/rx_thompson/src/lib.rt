@@ -5,10 +5,12 @@
 //! of the expressions, with pattern, end and slots. It stands on rx_syntax.
 #![tactic(auto)]
 
+mod class;
 mod nfa;
 mod sparse;
 mod state;
 
+pub use class::the_states_read_the_class;
 pub use nfa::NFA;
 pub use sparse::matches_byte;
 pub use state::{Alternates, State, Transition, Transitions};
