@@ -1,11 +1,11 @@
 -- For a loop over `advance`: what it has listed, with what is still to come, is what was to come at first.
-use Rattle.std.proofs.Common.{◌≡◌, ℕ, zero, suc, ◌<◌, ◌≤◌, List, [], ◌∷◌, ◌++◌, refl, sym, ◌∙◌, ap, subst, arith}
+use Rattle.std.proofs.Common.{◌≡◌, ℕ, zero, suc, ◌+◌, ◌-◌, ◌<◌, ◌≤◌, List, [], ◌∷◌, ◌++◌, refl, sym, ◌∙◌, ap, subst, arith}
 use Rattle.std.proofs.lemmas.List.{append_assoc, append-nil}
 use Rattle.std.specs.Prelude.{Option, Some, None, option_map, map, MatchOption, OnSome}
-use Rattle.rx_model.specs.Search.{Match, next_after, matches_from}
+use Rattle.rx_model.specs.Search.{Patterns, Match, next_after, matches_from, matches}
 use Rattle.rx_search.specs.Matches.{MatchValue, match_value}
-use Rattle.rx_search.specs.Input.{InputValue}
-use Rattle.rx_search.specs.Searcher.{SearcherValue, moved_past, search_from, upcoming, places_left, to_come}
+use Rattle.rx_search.specs.Input.{InputValue, from_place, next_in}
+use Rattle.rx_search.specs.Searcher.{SearcherValue, moved_past, search_from, upcoming, places_left, to_come, successive}
 
 -- The rows so far, and those of the matches that the searcher has still to come, are the goal.
 -- `more` bounds how many come: there are never more than places are left.
@@ -29,14 +29,16 @@ no-answer none (Some x) is = no-value (sym none ∙ is)
 
 module _ {A : Type 0} {row : Match → A} where
   -- before the first call
-  pub Progress-begun : (searches : InputValue → Option Match) (s : SearcherValue) {so_far : List A} → so_far ≡ []
-      → Progress searches row (map row (to_come searches s)) so_far s
+  pub Progress-begun : (searches : InputValue → Option Match) {s begun : SearcherValue} {so_far : List A} → s ≡ begun → so_far ≡ []
+      → Progress searches row (map row (to_come searches begun)) so_far s
   unfolding to_come
-  Progress-begun searches s empty = record {
-    more = places_left s;
-    whole = ap (λ xs. xs ++ map row (matches_from (search_from searches s.input) (places_left s) (upcoming searches s))) empty;
-    enough = omega arith;
-  }
+  Progress-begun searches {s} {begun} {so_far} same empty =
+      let start : Progress searches row (map row (to_come searches begun)) so_far begun = record {
+        more = places_left begun;
+        whole = ap (λ xs. xs ++ map row (matches_from (search_from searches begun.input) (places_left begun) (upcoming searches begun))) empty;
+        enough = omega arith;
+      } in
+      subst (Progress searches row (map row (to_come searches begun)) so_far) (sym same) start
 
   module _ {searches : InputValue → Option Match} {goal so_far : List A} {s : SearcherValue} (p : Progress searches row goal so_far s) where
     -- after a call that answered a match, whose row was added
@@ -86,3 +88,12 @@ module _ {A : Type 0} {row : Match → A} where
         at_end : upcoming searches s ≡ None → (n : ℕ) → p.more ≡ n → so_far ≡ goal
         at_end next zero count = sym (append-nil so_far) ∙ (λ j. so_far ++ map row (matches_from (search_from searches s.input) (sym count j) (sym next j))) ∙ p.whole
         at_end next (suc n) count = sym (append-nil so_far) ∙ (λ j. so_far ++ map row (matches_from (search_from searches s.input) (sym count j) (sym next j))) ∙ p.whole
+
+-- where each search answers the patterns' next match, one after another they are the patterns' matches
+pub successive-matches : (searches : InputValue → Option Match) (patterns : Patterns) (v : InputValue)
+    → ((i : ℕ) → searches (from_place i v) ≡ next_in patterns (from_place i v))
+    → successive searches v ≡ matches patterns v.haystack v.anchor v.end v.start
+unfolding to_come matches
+successive-matches searches patterns v same =
+    let alike : search_from searches v ≡ search_from (next_in patterns) v = λ j i. same i j in
+    ap (λ (search : ℕ → Option Match). matches_from search (v.end + 1 - v.start + 1) (search v.start)) alike

@@ -2,3 +2,4 @@ pub mod Matches
 pub mod Anchored
 pub mod Input
 pub mod Searcher
+pub mod Example

@@ -1,8 +1,8 @@
 ghost use Rattle.std.specs.Prelude.{◌≡◌, ℕ, ◌≤◌, ◌<◌, Option, IfOk, OnOk, OnErr, OnSome, IfSome, MatchOption, option_map, map, length};
-ghost use Rattle.rx_model.specs.Search.{Match as ModelMatch};
+ghost use Rattle.rx_model.specs.Search.{Match as ModelMatch, Patterns, matches};
 ghost use Rattle.rx_search.specs.Matches.{match_value};
-ghost use Rattle.rx_search.specs.Input.{InputValue, from_place};
-ghost use Rattle.rx_search.specs.Searcher.{fresh, moved_past, upcoming, places_left, to_come};
+ghost use Rattle.rx_search.specs.Input.{InputValue, from_place, next_in};
+ghost use Rattle.rx_search.specs.Searcher.{fresh, moved_past, upcoming, places_left, to_come, successive};
 
 use crate::input::Input;
 use crate::matches::Match;
@@ -148,3 +148,11 @@ impl<'h> Searcher<'h> {
         finder.find(&further)
     }
 }
+
+/// Where each search answers the next match of some patterns, what a searcher gives, one after another,
+/// is the list of their successive matches.
+pub fn searches_give_the_matches()
+    ensures { (searches : InputValue → Option ModelMatch) (patterns : Patterns) (v : InputValue)
+        → ((i : ℕ) → searches (from_place i v) ≡ next_in patterns (from_place i v))
+        → successive searches v ≡ matches patterns v.haystack v.anchor v.end v.start }
+{}

@@ -1,8 +1,9 @@
+use Rattle.std.proofs.Common.{refl}
 use Rattle.rx_search.proofs.SearcherLemmas.{Progress-begun, Progress-more, Progress-over}
 use Rattle.rx_search.proofs.searcher.Searcher.collect.Goals as goal
 
 pub loop-all-init : goal.loop-all-init
-loop-all-init g c = record { progress = Progress-begun _ _ c.new-all.ensures.items; can = c.requires }
+loop-all-init g c = record { progress = Progress-begun _ refl c.new-all.ensures.items; can = c.requires }
 
 pub advance-requires : goal.advance-requires
 advance-requires g c = c.loop-all.invariant.can

@@ -9,7 +9,7 @@ use Rattle.rx_search.proofs.searcher.Searcher.count.Goals as goal
 
 pub loop-count-init : goal.loop-count-init
 loop-count-init g c = record {
-  counted = record { so_far = []; progress = Progress-begun _ _ refl; counted = refl };
+  counted = record { so_far = []; progress = Progress-begun _ refl refl; counted = refl };
   can = c.requires;
   room = omega arith;
 }
