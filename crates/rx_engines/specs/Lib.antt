@@ -3,5 +3,6 @@ pub mod Walk
 pub mod Search
 pub mod Threads
 pub mod Simulation
+pub mod Inside
 pub mod Room
 pub mod Engine

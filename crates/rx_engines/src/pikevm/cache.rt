@@ -6,8 +6,9 @@ ghost use Rattle.rx_engines.specs.Simulation.{cost, cost_below};
 ghost use Rattle.rx_engines.specs.Room.{Room, room_code};
 ghost use Rattle.rx_engines.specs.Engine.{Fits};
 
-use crate::pikevm::search::search_slots;
+use crate::pikevm::search::Search;
 use crate::pikevm::set::SparseSet;
+use crate::pikevm::simulate::simulate_slots;
 use crate::pikevm::stack::Stack;
 use crate::pikevm::table::Table;
 use crate::pikevm::threads::Threads;
@@ -129,14 +130,17 @@ impl Cache {
         self.curr.table.reset(width);
         self.next.table.reset(width);
         self.curr.set.clear();
-        search_slots(
+        let search = Search {
             states,
-            text,
             starts,
+            text,
             utf8_empty,
-            from,
-            latest_start(anchored, from, end),
+            last: latest_start(anchored, from, end),
             end,
+        };
+        simulate_slots(
+            &search,
+            from,
             false,
             width,
             &mut self.curr,
@@ -172,14 +176,17 @@ impl Cache {
         self.curr.table.reset(0);
         self.next.table.reset(0);
         self.curr.set.clear();
-        search_slots(
+        let search = Search {
             states,
-            text,
             starts,
+            text,
             utf8_empty,
-            from,
-            latest_start(anchored, from, end),
+            last: latest_start(anchored, from, end),
             end,
+        };
+        simulate_slots(
+            &search,
+            from,
             true,
             0,
             &mut self.curr,
