@@ -4,7 +4,7 @@ ghost use Rattle.rx_model.specs.Search.{is_permitted};
 ghost use Rattle.std.specs.Option.{option_or};
 ghost use Rattle.rx_thompson.specs.Automaton.{automaton};
 ghost use Rattle.rx_engines.specs.Simulation.{cost_below, Hit, among, later_starts, passed_at};
-ghost use Rattle.rx_engines.specs.Inside.{IsInside};
+ghost use Rattle.rx_engines.specs.Search.{IsInside};
 
 use crate::pikevm::close::close;
 use crate::pikevm::search::Search;

@@ -1,7 +1,6 @@
 ghost use Rattle.std.specs.Prelude.{◌≡◌, ℕ, ◌+◌, ◌<◌, ◌≤◌, List, [], length, take, All, Bool, false, is_some, Option, Some, None, IfSome, IfNone, option_map, replicate, slice_index_or};
-ghost use Rattle.rx_model.specs.Runs.{nowhere};
-ghost use Rattle.rx_engines.specs.Simulation.{cost_below, from_starts, best_hit, hit_of};
-ghost use Rattle.rx_engines.specs.Inside.{IsInside};
+ghost use Rattle.rx_engines.specs.Simulation.{cost_below, best_hit, hit_of};
+ghost use Rattle.rx_engines.specs.Search.{IsInside, next_of};
 
 use crate::pikevm::search::Search;
 use crate::pikevm::seed::seed;
@@ -39,9 +38,9 @@ pub fn simulate_slots(
     requires empty { stack.old.items ≡ [] }
     requires stack { cost_below search.now.states.now (length search.now.states.now) < stack.old.room }
     ensures found { earliest ≡ false → best_hit result (take width best.new)
-        ≡ option_map (hit_of width) (from_starts search.now.states.now search.now.text.now search.now.starts.now search.now.utf8_empty search.now.end nowhere search.now.last from) }
+        ≡ option_map (hit_of width) (next_of search.now from) }
     ensures any { is_some result ≡ is_some
-        (from_starts search.now.states.now search.now.text.now search.now.starts.now search.now.utf8_empty search.now.end nowhere search.now.last from) }
+        (next_of search.now from) }
     ensures cleared { IfNone result (take width best.new ≡ replicate width None) }
     ensures reported { (k : ℕ) → k < length slots.new
         → slice_index_or slots.new k None ≡ slice_index_or (take width best.new) k None }
@@ -93,9 +92,9 @@ fn simulate(
     requires empty { stack.old.items ≡ [] }
     requires stack { cost_below search.now.states.now (length search.now.states.now) < stack.old.room }
     ensures found { earliest ≡ false → best_hit result slots.new
-        ≡ option_map (hit_of (length slots.old)) (from_starts search.now.states.now search.now.text.now search.now.starts.now search.now.utf8_empty search.now.end nowhere search.now.last from) }
+        ≡ option_map (hit_of (length slots.old)) (next_of search.now from) }
     ensures any { is_some result ≡ is_some
-        (from_starts search.now.states.now search.now.text.now search.now.starts.now search.now.utf8_empty search.now.end nowhere search.now.last from) }
+        (next_of search.now from) }
     ensures cleared { IfNone result (slots.new ≡ replicate (length slots.old) None) }
     ensures set { (curr.new.set.room ≡ length search.now.states.now)
         × (next.new.set.room ≡ length search.now.states.now) }

@@ -1,9 +1,8 @@
 ghost use Rattle.std.specs.Prelude.{◌≡◌, ℕ, ◌+◌, ◌<◌, ◌≤◌, List, [], length, All, Option, IfNone};
 ghost use Rattle.rx_model.specs.Runs.{Passed, nowhere};
 ghost use Rattle.std.specs.Option.{option_or};
-ghost use Rattle.rx_thompson.specs.Automaton.{automaton};
 ghost use Rattle.rx_engines.specs.Simulation.{cost_below, Hit, among, IsStable, Stepped, byte_at, act_of, read_of};
-ghost use Rattle.rx_engines.specs.Inside.{IsInside};
+ghost use Rattle.rx_engines.specs.Search.{IsInside, graph_for};
 
 use crate::pikevm::close::close;
 use crate::pikevm::search::Search;
@@ -81,10 +80,10 @@ pub fn step(
     requires stack { cost_below search.now.states.now (length search.now.states.now) < stack.old.room }
     requires none { next.old.set.items ≡ [] }
     ensures stepped { (later : Passed → Option Hit) (goal : Option Hit)
-        → IsStable (automaton search.now.states.now search.now.text.now search.now.end) later
-        → option_or (among search.now.states.now (automaton search.now.states.now search.now.text.now search.now.end) nowhere place
+        → IsStable (graph_for search.now) later
+        → option_or (among search.now.states.now (graph_for search.now) nowhere place
         curr.now.table.items curr.now.set.items) (later nowhere) ≡ goal
-        → Stepped result search.now.states.now (automaton search.now.states.now search.now.text.now search.now.end) place later
+        → Stepped result search.now.states.now (graph_for search.now) place later
         next.new.set.items next.new.table.items best.new goal }
     ensures kept { IfNone result (best.new ≡ best.old) }
     ensures set { next.new.set.room ≡ next.old.set.room }
