@@ -1,7 +1,11 @@
+mod Rows
 pub mod BranchLemmas
 pub mod ClassItemLemmas
+pub mod ClassLemmas
 pub mod EndLemmas
 pub mod ItemLemmas
+pub mod DepthLemmas
+pub mod GroupLemmas
 pub mod JoinedLemmas
 pub mod PatternLemmas
 pub mod PlaceLemmas

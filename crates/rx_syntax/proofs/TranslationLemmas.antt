@@ -3,7 +3,7 @@ use Rattle.std.proofs.Common.{◌≡◌, ℕ, List, [], ◌∷◌, ◌++◌, ref
 use Rattle.std.proofs.lemmas.List.{append-nil}
 use Rattle.std.specs.Prelude.{map, flat_map, encode_utf8}
 use lib.Utf8.{encodes}
-use Rattle.rx_model.specs.Expression.{Expression, empty, literal, class, look, repetition, capture, concat, alternation}
+use Rattle.rx_model.specs.Expression.{Expression, literal}
 use Rattle.rx_syntax.specs.Normal.{literal_of, parts_of, join_literals, joined, sequence_of, concat_of}
 use Rattle.rx_syntax.specs.Syntax.{Syntax, character, syntaxes}
 use Rattle.rx_syntax.specs.AstViews.{expanded}

@@ -1,5 +1,5 @@
 -- What the program's syntax stands for.
-use Rattle.std.specs.Prelude.{ℕ, ◌<◌, ◌≤◌, List, [], ◌∷◌, ◌++◌, map, IfSome, All}
+use Rattle.std.specs.Prelude.{ℕ, ◌<◌, ◌≤◌, List, [], ◌∷◌, ◌++◌, map, IfSome}
 use Rattle.rx_syntax.specs.Syntax.{Syntax, character, dot, set, repeated, group, cat, alt, syntaxes}
 use Rattle.rx_syntax.specs.declared.ast.AstKind.{AstKind}
 use Rattle.rx_syntax.specs.declared.ast.AstKind.TheVariants.{Literal, Dot, Class, Repetition, Group, Concat, Alternation}
@@ -25,12 +25,12 @@ kind_view (Group number sub) = group number sub.value
 kind_view (Concat items) = cat (syntaxes (expanded items.items))
 kind_view (Alternation branches) = alt (syntaxes branches.items)
 
--- the ends of ranges and the counts of a repetition are in order, and the number of a group is above 0
+-- the counts of a repetition are in order, and the number of a group is above 0
 abbrev pub IsWellFormed : AstKind → Type 0
 IsWellFormed (Repetition min max greedy sub) = IfSome max (λ m. min ≤ m)
 IsWellFormed (Group number sub) = IfSome number (λ n. 0 < n)
 IsWellFormed (Literal c) = Unit {0}
 IsWellFormed Dot = Unit {0}
-IsWellFormed (Class negated ranges) = All (λ r. r.0 ≤ r.1) ranges.items
+IsWellFormed (Class negated ranges) = Unit {0}
 IsWellFormed (Concat items) = Unit {0}
 IsWellFormed (Alternation branches) = Unit {0}

@@ -1,23 +1,14 @@
--- Unions and complements of ranges of scalars, in fewest ranges.
-use Rattle.std.specs.Prelude.{ℕ, ◌-◌, ◌<◌, ◌≤◌, ◌==◌, min, max, nat_lt, List, [], ◌∷◌, ◌++◌, Option, Some, None, if◌then◌else◌}
-use Rattle.rx_syntax.specs.Ranges.{next_scalar}
+-- Complements of ranges of scalars.
+use Rattle.std.specs.Prelude.{ℕ, ◌-◌, ◌==◌, nat_lt, nat_le, List, [], ◌∷◌, ◌++◌, Option, Some, None, if◌then◌else◌}
+use Rattle.rx_syntax.specs.Ranges.{next_scalar, insert}
+
+-- a range more among fewest ranges; where its ends are out of order it has no members
+abbrev pub with_range : (low high : ℕ) → List (ℕ × ℕ) → List (ℕ × ℕ)
+with_range low high ranges = if nat_le low high then insert next_scalar low high ranges else ranges
 
 -- the scalar before this one
 abbrev pub previous_scalar : ℕ → ℕ
 previous_scalar c = if c == 0xE000 then 0xD7FF else c - 1
-
--- a range more among fewest ranges, joined with those that it meets or touches
-unfoldable pub insert_range : (low high : ℕ) → List (ℕ × ℕ) → List (ℕ × ℕ)
-insert_range low high [] = (low, high) ∷ []
-insert_range low high (r ∷ rs) =
-    if nat_lt (next_scalar high) r.0 then (low, high) ∷ r ∷ rs
-    else if nat_lt (next_scalar r.1) low then r ∷ insert_range low high rs
-    else insert_range (min low r.0) (max high r.1) rs
-
--- the fewest ranges that hold what these hold
-unfoldable pub fewest : List (ℕ × ℕ) → List (ℕ × ℕ)
-fewest [] = []
-fewest (r ∷ rs) = insert_range r.0 r.1 (fewest rs)
 
 -- the scalars from `low` to the one before `end`
 abbrev pub up_to : (low end : ℕ) → List (ℕ × ℕ)
@@ -40,12 +31,3 @@ complement ranges = outside 0 ranges
 abbrev pub or_past : Option ℕ → ℕ
 or_past None = 0x110000
 or_past (Some c) = c
-
--- no surrogate
-abbrev pub IsApart : ℕ → Type 0
-IsApart c = 0xD7FF < c → 0xE000 ≤ c
-
--- the ends are no surrogates
-abbrev pub HaveEnds : List (ℕ × ℕ) → Type 0
-HaveEnds [] = Unit {0}
-HaveEnds (r ∷ rs) = IsApart r.0 × IsApart r.1 × HaveEnds rs

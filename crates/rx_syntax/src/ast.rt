@@ -1,5 +1,5 @@
 //! A pattern as it is written: what the reader makes of a text, before it is translated.
-ghost use Rattle.std.specs.Prelude.{◌≡◌, ◌+◌, ◌<◌, ◌≤◌, ◌^◌, [], ◌∷◌, IfOk, IfSome, All};
+ghost use Rattle.std.specs.Prelude.{◌≡◌, ◌+◌, ◌<◌, ◌≤◌, ◌^◌, [], ◌∷◌, IfOk, IfSome};
 ghost use Rattle.rx_syntax.specs.Syntax.{Syntax, character, dot, set, repeated, group, cat, alt, syntaxes, depth, deepest};
 ghost use Rattle.rx_syntax.specs.AstViews.{expanded};
 
@@ -108,7 +108,6 @@ impl Ast {
     }
 
     pub(crate) fn class(negated: bool, ranges: Vec<(char, char)>) -> Ast
-        requires { All (λ r. r.0 ≤ r.1) ranges.items }
         ensures { result ≡ set negated ranges.items }
     {
         Ast {

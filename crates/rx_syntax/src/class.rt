@@ -1,5 +1,5 @@
 //! Escapes and classes.
-ghost use Rattle.std.specs.Prelude.{◌≡◌, ◌+◌, ◌<◌, ◌≤◌, ◌++◌, true, length, All, OnOk, IfOk, IfSome, IsTrue};
+ghost use Rattle.std.specs.Prelude.{◌≡◌, ◌+◌, ◌<◌, ◌≤◌, ◌++◌, true, length, OnOk, IsTrue};
 ghost use Rattle.rx_syntax.specs.Reading.{Place, first, at_end};
 ghost use Rattle.rx_syntax.specs.Grammar.{is_escapable, escape, is_class_plain, class_character, is_set_operator, begins_range, class_range, class_item, all_class_items, class};
 ghost use Rattle.rx_syntax.specs.Input.{place, unread, Reads, ReadsAs, IsPieceAt};
@@ -80,7 +80,6 @@ fn class_range(
     low: char,
 ) -> Result<Option<(char, char)>, ParseError>
     ensures value { (from p : Place) → IsPieceAt opening from → start ≡ p.at → Reads result (class_range from p low (place cursor.old)) (place cursor.new) }
-    ensures in_order { IfOk result (λ o. IfSome o (λ r. r.0 ≤ r.1)) }
     ensures progress { OnOk result (unread cursor.new ≤ unread cursor.old) }
 {
     if !begins_range(cursor) {
@@ -110,7 +109,6 @@ fn class_item(
     comes_first: bool,
 ) -> Result<Option<(char, char)>, ParseError>
     ensures value { (from : Place) → IsPieceAt opening from → Reads result (class_item from comes_first (place cursor.old)) (place cursor.new) }
-    ensures in_order { IfOk result (λ o. IfSome o (λ r. r.0 ≤ r.1)) }
     ensures progress { OnOk result (unread cursor.new < unread cursor.old) }
 {
     if cursor.is_at_end() {
@@ -134,7 +132,6 @@ fn class_item(
 /// Reads the items of a class, up to the bracket that closes it.
 fn class_items(cursor: &mut Cursor, opening: Piece) -> Result<Vec<(char, char)>, ParseError>
     ensures value { (from : Place) → IsPieceAt opening from → ReadsAs (λ ranges. ranges.items) result (all_class_items from true (place cursor.old)) (place cursor.new) }
-    ensures in_order { IfOk result (λ v. All (λ r. r.0 ≤ r.1) v.items) }
     ensures progress { OnOk result (unread cursor.new < unread cursor.old) }
 {
     let mut ranges = Vec::new(cursor.alloc());

@@ -8,8 +8,11 @@ ghost use Rattle.rx_syntax.specs.Normal.{fail, literal_of, copies_of, repetition
 mod alternation;
 mod class;
 mod concat;
+mod copy;
 mod kind;
 mod properties;
+mod scalars;
+mod set;
 
 pub use class::{Class, ClassBytes, ClassUnicode};
 use properties::Properties;

@@ -8,14 +8,15 @@
 mod ast;
 mod class;
 mod cursor;
+mod cost;
 mod error;
 mod hir;
 mod parser;
-mod scalars;
 mod thin;
 mod token;
 mod translate;
 
+pub use cost::greatest_group;
 pub use error::{ParseError, SyntaxError, SyntaxErrorKind};
 pub use hir::{Capture, Class, ClassBytes, ClassUnicode, Hir, HirKind, Repetition};
 pub use thin::parse;

@@ -1,14 +1,12 @@
 //! From a pattern as it is written to its expression.
-ghost use Rattle.std.specs.Prelude.{◌≡◌, ◌<◌, ◌≤◌, map, IfOk, IfSome, All};
+ghost use Rattle.std.specs.Prelude.{◌≡◌, ◌<◌, ◌≤◌, map, IfOk, IfSome};
 ghost use lib.Utf8.{encodes};
 ghost use Rattle.rx_syntax.specs.Normal.{literal_of, repetition_of};
-ghost use Rattle.rx_syntax.specs.Translation.{expression_of, group_of, dot_of, set_of, scalars_of};
-ghost use Rattle.rx_syntax.specs.Ranges.{AreScalarRanges};
+ghost use Rattle.rx_syntax.specs.Translation.{expression_of, group_of, dot_of, bracketed};
 ghost use Rattle.rx_syntax.specs.ItemViews.{item_expression};
 
 use crate::ast::{Ast, AstKind, Item};
-use crate::hir::{Capture, Hir, Repetition};
-use crate::scalars::{complement, fewest};
+use crate::hir::{Capture, Class, ClassUnicode, Hir, Repetition};
 use std::alloc::{AllocError, Global};
 
 /// The literal of these characters' encodings.
@@ -63,7 +61,7 @@ pub(crate) fn translate(alloc: Global, ast: &Ast) -> Result<Hir, AllocError>
     match &ast.kind {
         AstKind::Literal(c) => literal(alloc, &[*c]),
         AstKind::Dot => dot(alloc),
-        AstKind::Class { negated, ranges } => set(alloc, *negated, ranges),
+        AstKind::Class { negated, ranges } => bracketed(alloc, *negated, ranges),
         AstKind::Repetition {
             min,
             max,
@@ -114,25 +112,16 @@ fn translate_item(alloc: Global, item: &Item) -> Result<Hir, AllocError>
 fn dot(alloc: Global) -> Result<Hir, AllocError>
     ensures { IfOk result (λ h. h ≡ dot_of) }
 {
-    scalars(alloc, complement(alloc, &[('\n', '\n')])?)
+    bracketed(alloc, true, &[('\n', '\n')])
 }
 
 /// The scalars in the ranges, or outside them.
-fn set(alloc: Global, negated: bool, ranges: &[(char, char)]) -> Result<Hir, AllocError>
-    requires { All (λ r. r.0 ≤ r.1) ranges.now }
-    ensures { IfOk result (λ h. h ≡ set_of negated ranges.now) }
+fn bracketed(alloc: Global, negated: bool, ranges: &[(char, char)]) -> Result<Hir, AllocError>
+    ensures { IfOk result (λ h. h ≡ bracketed negated ranges.now) }
 {
-    let members = fewest(alloc, ranges)?;
+    let members = ClassUnicode::new(alloc, ranges)?;
     if negated {
-        return scalars(alloc, complement(alloc, &members)?);
+        return Hir::class(alloc, Class::Unicode(members.complement(alloc)?));
     }
-    scalars(alloc, members)
-}
-
-/// The class of these scalars, in fewest ranges.
-fn scalars(_alloc: Global, _ranges: Vec<(char, char)>) -> Result<Hir, AllocError>
-    requires { AreScalarRanges _ranges.items }
-    ensures { IfOk result (λ h. h ≡ scalars_of _ranges.items) }
-{
-    Err(AllocError)
+    Hir::class(alloc, Class::Unicode(members))
 }

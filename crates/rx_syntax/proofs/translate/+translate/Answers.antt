@@ -1,11 +1,11 @@
-use Rattle.std.proofs.Common.{◌≡◌, ℕ, ◌+◌, ◌*◌, ◌<◌, ◌≤◌, List, map, length, get_or, ◌∙◌, ap, sym, subst, suc, arith}
+use Rattle.std.proofs.Common.{◌≡◌, ◌+◌, ◌*◌, List, map, get_or, ◌∙◌, ap, sym, subst, arith}
 use Rattle.std.specs.Prelude.{IfOk}
 use Rattle.rx_model.specs.Expression.{Expression}
 use Rattle.rx_syntax.specs.Normal.{concat_of, alternation_of}
 use Rattle.rx_syntax.specs.Syntax.{Syntax, cat, alt, syntaxes}
 use Rattle.rx_syntax.specs.Coded.{syntax_size, greatest_size}
 use Rattle.rx_syntax.specs.AstViews.{expanded, kind_view}
-use Rattle.rx_syntax.specs.Translation.{expression_of, expressions_of}
+use Rattle.rx_syntax.specs.Translation.{expression_of}
 use Rattle.rx_syntax.specs.ItemViews.{item_expression, item_size}
 use Rattle.rx_syntax.specs.declared.ast.Item.{Item}
 use Rattle.rx_syntax.proofs.SizeLemmas.{size-branch, size-item}

@@ -1,9 +1,34 @@
-//! Unions and complements of ranges of scalars.
-ghost use Rattle.std.specs.Prelude.{◌≡◌, ℕ, ◌+◌, ◌<◌, ◌≤◌, ◌++◌, nat_lt, All, IfOk, OnOk};
-ghost use Rattle.rx_syntax.specs.Ranges.{next_scalar, AreScalarRanges};
-ghost use Rattle.rx_syntax.specs.Scalars.{previous_scalar, insert_range, fewest, up_to, from, complement, or_past, HaveEnds};
+//! Classes of scalars from ranges, and their complements.
+ghost use Rattle.std.specs.Prelude.{◌≡◌, ℕ, ◌+◌, ◌<◌, ◌≤◌, ◌++◌, nat_lt, IfOk, OnOk};
+ghost use Rattle.rx_syntax.specs.Ranges.{next_scalar, insert, fewest, AreScalarRanges};
+ghost use Rattle.rx_syntax.specs.Scalars.{with_range, previous_scalar, up_to, from, complement, or_past};
 
+use super::class::ClassUnicode;
 use std::alloc::{AllocError, Global};
+
+impl ClassUnicode {
+    /// The scalars in the ranges, each from its first to its last. A range whose ends are out of order has none.
+    pub fn new(alloc: Global, ranges: &[(char, char)]) -> Result<ClassUnicode, AllocError>
+        ensures { IfOk result (λ c. c ≡ fewest next_scalar ranges.now) }
+    {
+        let mut found = Vec::new(alloc);
+        let mut i = ranges.len();
+        while i > 0 {
+            i -= 1;
+            let (low, high) = ranges[i];
+            add_range(&mut found, low, high)?;
+        }
+        Ok(ClassUnicode { ranges: found })
+    }
+
+    /// The scalars that are not in the class.
+    pub fn complement(&self, alloc: Global) -> Result<ClassUnicode, AllocError>
+        ensures { IfOk result (λ c. c ≡ complement self.now) }
+    {
+        let ranges = ranges_outside(alloc, &self.ranges)?;
+        Ok(ClassUnicode { ranges })
+    }
+}
 
 /// The scalar after this one, if there is one.
 fn next_scalar(c: char) -> Option<char>
@@ -29,20 +54,32 @@ fn previous_scalar(c: char) -> char
     }
 }
 
-/// Whether the scalar comes after the next of the other one.
-fn is_apart(c: char, from: char) -> bool
-    ensures { result ≡ nat_lt (next_scalar c) from }
+/// Whether `c` comes after the scalar that follows `end`.
+fn is_apart(end: char, c: char) -> bool
+    ensures { result ≡ nat_lt (next_scalar end) c }
 {
-    match next_scalar(c) {
-        Some(next) => next < from,
+    match next_scalar(end) {
+        Some(next) => next < c,
         None => false,
     }
 }
 
+/// Adds the scalars of a range to fewest ranges. A range whose ends are out of order has none.
+fn add_range(ranges: &mut Vec<(char, char)>, low: char, high: char) -> Result<(), AllocError>
+    ensures value { OnOk result (ranges.new.items ≡ with_range low high ranges.old.items) }
+    ensures kept { OnOk result (AreScalarRanges ranges.old.items → AreScalarRanges ranges.new.items) }
+{
+    if high < low {
+        return Ok(());
+    }
+    insert_range(ranges, low, high)
+}
+
 /// Puts a range among fewest ranges.
 fn insert_range(ranges: &mut Vec<(char, char)>, low: char, high: char) -> Result<(), AllocError>
-    ensures value { OnOk result (ranges.new.items ≡ insert_range low high ranges.old.items) }
-    ensures ends { OnOk result (HaveEnds ranges.old.items → HaveEnds ranges.new.items) }
+    requires { low ≤ high }
+    ensures value { OnOk result (ranges.new.items ≡ insert next_scalar low high ranges.old.items) }
+    ensures kept { OnOk result (AreScalarRanges ranges.old.items → AreScalarRanges ranges.new.items) }
 {
     let mut low = low;
     let mut high = high;
@@ -63,27 +100,12 @@ fn insert_range(ranges: &mut Vec<(char, char)>, low: char, high: char) -> Result
     Ok(ranges.insert(at, (low, high))?)
 }
 
-/// The fewest ranges that hold what these hold.
-pub(crate) fn fewest(alloc: Global, ranges: &[(char, char)]) -> Result<Vec<(char, char)>, AllocError>
-    requires { All (λ r. r.0 ≤ r.1) ranges.now }
-    ensures value { IfOk result (λ v. v.items ≡ fewest ranges.now) }
-    ensures fewest { IfOk result (λ v. AreScalarRanges v.items) }
-    ensures ends { IfOk result (λ v. HaveEnds v.items) }
-{
-    let mut found = Vec::new(alloc);
-    let mut i = ranges.len();
-    while i > 0 {
-        i -= 1;
-        let (low, high) = ranges[i];
-        insert_range(&mut found, low, high)?;
-    }
-    Ok(found)
-}
-
 /// The scalars that fewest ranges don't hold, in fewest ranges.
-pub(crate) fn complement(alloc: Global, ranges: &[(char, char)]) -> Result<Vec<(char, char)>, AllocError>
-    requires fewest { AreScalarRanges ranges.now }
-    requires ends { HaveEnds ranges.now }
+fn ranges_outside(
+    alloc: Global,
+    ranges: &[(char, char)],
+) -> Result<Vec<(char, char)>, AllocError>
+    requires { AreScalarRanges ranges.now }
     ensures value { IfOk result (λ v. v.items ≡ complement ranges.now) }
     ensures fewest { IfOk result (λ v. AreScalarRanges v.items) }
 {

@@ -1,9 +1,8 @@
-use Rattle.std.proofs.Common.{◌≡◌, ◌∙◌, sym, refl, arith, subst, length, ◌≤◌}
-use Rattle.std.proofs.lemmas.Grind.{common_steps}
+use Rattle.std.proofs.Common.{◌∙◌, sym, refl, arith, subst, length, ◌≤◌}
 use Rattle.rx_syntax.specs.Ranges.{AreScalarRanges}
-use Rattle.rx_syntax.specs.Scalars.{complement, or_past}
+use Rattle.rx_syntax.specs.Scalars.{or_past}
 use Rattle.rx_syntax.proofs.ScalarLemmas.{outside-step, outside-last, AreScalarRanges-complement}
-use Rattle.rx_syntax.proofs.scalars.complement.Goals as goal
+use Rattle.rx_syntax.proofs.hir.scalars.ranges_outside.Goals as goal
 
 pub loop-first-preserved : goal.loop-first-preserved
 loop-first-preserved c =
@@ -17,4 +16,4 @@ returns-clause-value c =
     c.in_ok-push_from.ensures ∙ sym (outside-last c.args.ranges.now l.found.items l.first-index (or_past l.low) end) ∙ l.invariant
 
 pub returns-clause-fewest : goal.returns-clause-fewest
-returns-clause-fewest c = subst AreScalarRanges (sym (returns-clause-value c)) (AreScalarRanges-complement c.args.ranges.now c.requires.ends c.requires.fewest)
+returns-clause-fewest c = subst AreScalarRanges (sym (returns-clause-value c)) (AreScalarRanges-complement c.args.ranges.now c.requires)
