@@ -43,7 +43,7 @@ impl PikeVM {
         }
     }
 
-    /// The same engine; with `no` a match may start at any place.
+    /// The same engine. Unless `yes`, its matches may also start inside an encoded character.
     pub fn utf8_empty(mut self, yes: bool) -> PikeVM
         ensures { result ≡ record self { utf8_empty = yes } }
     {
