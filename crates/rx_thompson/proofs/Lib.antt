@@ -1,3 +1,6 @@
 pub mod AutomatonLemmas
 pub mod BuiltLemmas
 pub mod LoopLemmas
+pub mod ChainLemmas
+pub mod ImageLemmas
+pub mod ExpressionLemmas

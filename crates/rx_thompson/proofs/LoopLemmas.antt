@@ -6,14 +6,10 @@ use Rattle.std.proofs.Math.ListN.{length-set}
 use Rattle.rx_model.specs.Graph as graph
 use Rattle.rx_thompson.specs.Automaton.{state_at}
 use Rattle.rx_thompson.specs.Draft.{Draft, Extends, pushed, patched}
-use Rattle.rx_thompson.specs.Built.{Stands, IsImage, Rises, Mirrors, Built}
+use Rattle.rx_thompson.specs.Built.{ways, Stands, IsImage, Rises, Mirrors, Built}
 use Rattle.rx_thompson.proofs.BuiltLemmas.{Rises-from, Rises-to, Keeps, Mirrors-kept, Extends-pushed, pushed-length}
 use Rattle.rx_thompson.specs.declared.state.State.{State}
 use Rattle.rx_thompson.specs.declared.state.State.TheVariants.{Union, Fail}
-
--- the body and the exit, the preferred one first
-abbrev pub ways : Bool → ℕ → ℕ → List ℕ
-ways greedy body exit = if greedy then body ∷ exit ∷ [] else exit ∷ body ∷ []
 
 ways-map : (f : ℕ → ℕ) (greedy : Bool) (body body' exit exit' : ℕ) → f body ≡ body' → f exit ≡ exit' → Union (ways greedy body' exit') ≡ Union (map f (ways greedy body exit))
 ways-map f true body body' exit exit' b e = λ i. Union (sym b i ∷ sym e i ∷ [])

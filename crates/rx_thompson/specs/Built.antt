@@ -1,7 +1,9 @@
 -- What a compile function says of the states that it added for a part of the graph.
-use Rattle.std.specs.Prelude.{◌≡◌, ℕ, suc, ◌<◌, ◌≤◌, List, [], ◌∷◌, length, map, ⊤}
+use Rattle.std.specs.Prelude.{◌≡◌, ℕ, suc, ◌+◌, ◌-◌, ◌*◌, ◌<◌, ◌≤◌, Bool, List, [], ◌∷◌, length, map, ⊤, Option, Some, if◌then◌else◌, slice_get, slice_index}
 use Rattle.std.specs.List.{AllZip}
+use Rattle.rx_model.specs.Expression.{Expression}
 use Rattle.rx_model.specs.Graph as graph
+use Rattle.rx_model.specs.Search.{Patterns, slot_of}
 use Rattle.rx_thompson.specs.Automaton.{state_at}
 use Rattle.rx_thompson.specs.Draft.{Draft, Extends}
 use Rattle.rx_thompson.specs.declared.state.State.{State}
@@ -51,3 +53,22 @@ pub record Built (part : graph.Builder) (next : ℕ) (old new : Draft) (start : 
   pub rises : Rises (length old.states) (length new.states) images
   pub mirrors : (f : ℕ → ℕ) (next' base : ℕ) → f next' ≡ next → Sends f base images
       → Mirrors f (length old.states) new.states (part next' base) images start
+
+-- the body and the exit of a choice, the preferred one first
+abbrev pub ways : (greedy : Bool) → (body exit : ℕ) → List ℕ
+ways greedy body exit = if greedy then body ∷ exit ∷ [] else exit ∷ body ∷ []
+
+-- the first slot of each group, where that of group 1 is known
+abbrev pub slot_from : (first : ℕ) → ℕ → Option ℕ
+slot_from first group = Some (first + 2 * (group - 1))
+
+-- The part stands among the states, and starts at `start`.
+pub record HasPart (states : List State) (part : graph.Part) (start : ℕ) : Type 0 where
+  pub images : List ℕ
+  pub rises : Rises 0 (length states) images
+  pub mirrors : (f : ℕ → ℕ) → Sends f 0 images → Mirrors f 0 states part images start
+
+-- The first n patterns stand among the states, each from its start on.
+abbrev pub HasPatterns : List State → Patterns → (n : ℕ) → (starts : List ℕ) → Type 0
+HasPatterns states r n starts =
+    (p : ℕ) (h : Expression) → p < n → slice_get r.expressions p ≡ Some h → HasPart states (graph.build_pattern (slot_of r p) p h) (slice_index starts p)

@@ -2,3 +2,4 @@ pub mod Automaton
 pub mod Nfa
 pub mod Draft
 pub mod Built
+pub mod Covered

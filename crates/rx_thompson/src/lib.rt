@@ -5,8 +5,12 @@
 //! of the expressions, with pattern, end and slots. It stands on rx_syntax.
 #![tactic(auto)]
 
+mod builder;
+mod error;
+mod groups;
 mod nfa;
 mod state;
 
+pub use error::BuildError;
 pub use nfa::NFA;
 pub use state::{Alternates, State, Transition, Transitions};

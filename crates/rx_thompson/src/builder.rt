@@ -1,0 +1,86 @@
+//! An NFA in the making.
+ghost use Rattle.std.specs.Prelude.{◌≡◌, ◌<◌, ◌≤◌, [], length, All, IfOk};
+ghost use Rattle.rx_thompson.specs.Automaton.{NamesBelow, IsWithin};
+ghost use Rattle.rx_thompson.specs.Draft.{pushed, patched};
+ghost use Rattle.rx_thompson.specs.Nfa.{IsInRange};
+
+use crate::State;
+use crate::nfa::NFA;
+use rx_search::{Memory, StateID};
+use std::alloc::Global;
+use std::marker::Model;
+
+/// The states so far. Every state, pattern and slot that they name is there.
+#[derive(Drop)]
+pub struct Builder {
+    states: Vec<State>,
+    pattern_len: usize,
+    slot_len: usize,
+}
+
+impl Model for Builder {
+    ghost use Rattle.rx_thompson.specs.Draft.{Draft, AreInRange};
+
+    ghost Value = { Draft };
+
+    ghost view = { λ b. record {
+        states = b.states.items;
+        patterns = b.pattern_len;
+        slots = b.slot_len;
+    } };
+
+    ghost invariant = { λ b. AreInRange (record {
+        states = b.states.items;
+        patterns = b.pattern_len;
+        slots = b.slot_len;
+    }) };
+}
+
+impl Builder {
+    /// No states yet, for so many patterns and slots.
+    pub fn new(alloc: Global, pattern_len: usize, slot_len: usize) -> Builder
+        ensures { result ≡ record { states = []; patterns = pattern_len; slots = slot_len } }
+    {
+        Builder {
+            states: Vec::new(alloc),
+            pattern_len,
+            slot_len,
+        }
+    }
+
+    /// Appends a state, and answers its number.
+    pub fn push(&mut self, state: State) -> Result<StateID, Memory>
+        requires names { NamesBelow (length self.old.states) state }
+        requires within { IsWithin self.old.patterns self.old.slots state }
+        ensures id { IfOk result (λ id. id ≡ length self.old.states) }
+        ensures states { IfOk result (λ id. self.new ≡ pushed self.old state) }
+    {
+        let Some(id) = StateID::new(self.states.len()) else {
+            return Err(Memory);
+        };
+        self.states.push(state)?;
+        Ok(id)
+    }
+
+    /// Puts another state in place of the one of this number.
+    pub fn patch(&mut self, id: StateID, state: State)
+        requires inside { id < length self.old.states }
+        requires names { NamesBelow (length self.old.states) state }
+        requires within { IsWithin self.old.patterns self.old.slots state }
+        ensures { self.new ≡ patched self.old id state }
+    {
+        self.states[id.as_usize()] = state;
+    }
+
+    /// The NFA of these states.
+    pub fn finish(self, start_anchored: StateID, starts: Vec<StateID>) -> NFA
+        requires start { start_anchored < length self.states }
+        requires starts { All (λ q. q < length self.states) starts.items }
+        requires patterns { length starts.items ≡ self.patterns }
+        requires few { self.patterns ≤ 2147483647 }
+        ensures { result ≡ record { states = self.states; start_anchored = start_anchored; starts = starts.items; slots = self.slots } }
+    {
+        let slot_len = self.slot_len;
+        NFA::new(self.states, start_anchored, starts, slot_len)
+    }
+}
