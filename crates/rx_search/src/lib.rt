@@ -4,8 +4,16 @@
 //! want of memory can refuse.
 #![tactic(auto)]
 
+mod anchored;
+mod input;
+mod matches;
 mod memory;
 mod primitives;
+mod span;
 
+pub use anchored::{Anchored, MatchKind};
+pub use input::Input;
+pub use matches::{HalfMatch, Match};
 pub use memory::Memory;
 pub use primitives::{NonMaxUsize, PatternID, StateID};
+pub use span::Span;

@@ -1,0 +1,39 @@
+-- Refinement: a graph whose states do what those of another do, some of them over several states.
+use Rattle.std.specs.Prelude.{◌≡◌, ℕ, ◌<◌, ◌⊎◌, false, [], ◌∷◌, None, Contains, map}
+use Rattle.rx_model.specs.Runs.{Configuration, PriorityGraph, Passed, found}
+
+-- the same place in the state's image
+abbrev pub moved : (ℕ → ℕ) → Configuration → Configuration
+moved f c = record { state = f c.state; place = c.place }
+
+-- c was not passed, nor anything later in the text
+pub record IsFresh (p : Passed) (c : Configuration) : Type 0 where
+  pub new : p c ≡ false
+  pub ahead : (d : Configuration) → c.place < d.place → p d ≡ false
+
+module _ (g m : PriorityGraph) (f : ℕ → ℕ) where
+  -- c keeps its place in both graphs, and goes on alike
+  pub record Stays (c : Configuration) : Type 0 where
+    pub written : m.written (moved f c) ≡ g.written c
+    pub successors : m.successors (moved f c) ≡ map (moved f) (g.successors c)
+    pub places : (d : Configuration) → Contains (g.successors c) d → d.place ≡ c.place
+
+  -- c goes on to one later configuration, which the other graph comes to over states of its own
+  pub record Reads (c : Configuration) : Type 0 where
+    pub target : Configuration
+    pub written : g.written c ≡ None
+    pub successors : g.successors c ≡ target ∷ []
+    pub later : c.place < target.place
+    pub reads : (p : Passed) → IsFresh p (moved f c) → found m p (moved f c) ≡ found m p (moved f target)
+
+  -- c goes nowhere in either
+  pub record Fails (c : Configuration) : Type 0 where
+    pub successors : g.successors c ≡ []
+    pub fails : (p : Passed) → IsFresh p (moved f c) → found m p (moved f c) ≡ None
+
+  -- f is the image of the states that are live
+  pub record Refines (IsLive : ℕ → Type 0) : Type 0 where
+    pub apart : (a b : ℕ) → IsLive a → IsLive b → f a ≡ f b → a ≡ b
+    pub stays_live : (c d : Configuration) → IsLive c.state → Contains (g.successors c) d → IsLive d.state
+    pub accepted : (c : Configuration) → IsLive c.state → m.accepted (moved f c) ≡ g.accepted c
+    pub goes_on : (c : Configuration) → IsLive c.state → g.accepted c ≡ None → Stays c ⊎ Reads c ⊎ Fails c

@@ -1,0 +1,40 @@
+//! Laws of the runs of a priority graph.
+
+ghost use Rattle.std.specs.Prelude.{◌≡◌, ℕ, ◌≤◌, Bool, List, Some, None, IsTrue, IsFalse};
+ghost use Rattle.rx_model.specs.Runs.{Configuration, PriorityGraph, Passed, IsBounded, NeverFalls, IsClosed, IsRun, IsFirst, nowhere, and_at, first_run, first_trace, found};
+ghost use Rattle.rx_model.specs.Refinement.{Refines, moved};
+
+/// The search in order of preference finds the least accepting run, and none only where there is none.
+pub fn the_first_run_is_least()
+    ensures least { (g : PriorityGraph) → IsBounded g → (c : Configuration) (run : List Configuration)
+        → first_run g c ≡ Some run → IsFirst g nowhere c run }
+    ensures none { (g : PriorityGraph) → IsBounded g → (c : Configuration)
+        → first_run g c ≡ None → (run : List Configuration) → IsRun g nowhere c run → ⊥ }
+{}
+
+/// What was passed in vain may count as passed: where nothing is found from `x`, no other answer changes.
+/// Nor does it matter what was passed before the present place.
+pub fn dead_ends_may_count_as_passed()
+    ensures pruned { (g : PriorityGraph) (passed : Passed) (x : Configuration) → found g passed x ≡ None
+        → (c : Configuration) → found g (and_at x passed) c ≡ found g passed c }
+    ensures behind { (g : PriorityGraph) → NeverFalls g → (p q : Passed) (c : Configuration)
+        → ((d : Configuration) → c.place ≤ d.place → p d ≡ q d) → found g p c ≡ found g q c }
+{}
+
+/// What cannot be reached may count as passed: only what was passed in the states that the present one can
+/// lead to matters.
+pub fn the_unreachable_may_count_as_passed()
+    ensures alike { (g : PriorityGraph) (reached : ℕ → Bool) → IsClosed g (λ q. IsTrue (reached q))
+        → (p q : Passed) → ((d : Configuration) → IsTrue (reached d.state) → p d ≡ q d)
+        → (c : Configuration) → IsTrue (reached c.state) → found g p c ≡ found g q c }
+    ensures outside { (g : PriorityGraph) (reached : ℕ → Bool) → IsClosed g (λ q. IsTrue (reached q))
+        → (u : Configuration) → IsFalse (reached u.state)
+        → (passed : Passed) (c : Configuration) → IsTrue (reached c.state) → found g (and_at u passed) c ≡ found g passed c }
+{}
+
+/// A graph that refines another has the same first runs, with pattern, end and slots.
+pub fn refined_graphs_have_equal_first_runs()
+    ensures { (g m : PriorityGraph) → IsBounded g → IsBounded m → (image : ℕ → ℕ) (live : ℕ → Bool)
+        → Refines g m image (λ q. IsTrue (live q)) → (c : Configuration) → IsTrue (live c.state)
+        → first_trace m (moved image c) ≡ first_trace g c }
+{}

@@ -1,0 +1,3 @@
+pub mod Matches
+pub mod Anchored
+pub mod Input
