@@ -6,5 +6,7 @@
 #![tactic(auto)]
 
 mod error;
+mod hir;
 
 pub use error::{ParseError, SyntaxError, SyntaxErrorKind};
+pub use hir::{Capture, Class, ClassBytes, ClassUnicode, Hir, HirKind, Repetition};

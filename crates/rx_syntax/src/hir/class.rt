@@ -1,0 +1,85 @@
+//! Classes of scalars and of bytes.
+ghost use Rattle.std.specs.Prelude.{◌≡◌, []};
+ghost use Rattle.rx_syntax.specs.Ranges.{AreScalarRanges, AreByteRanges};
+
+use std::alloc::Global;
+use std::marker::Model;
+
+/// A class.
+#[derive(Drop)]
+pub enum Class {
+    Unicode(ClassUnicode),
+    Bytes(ClassBytes),
+}
+
+/// Scalars, which a contract sees as the fewest ranges that hold them, in ascending order.
+#[derive(Drop)]
+pub struct ClassUnicode {
+    ranges: Vec<(char, char)>,
+}
+
+impl Model for ClassUnicode {
+    ghost use Rattle.std.specs.Prelude.{List, ℕ};
+    ghost use Rattle.rx_syntax.specs.Ranges.{AreScalarRanges};
+
+    ghost Value = { List (ℕ × ℕ) };
+
+    ghost view = { λ c. c.ranges.items };
+
+    ghost invariant = { λ c. AreScalarRanges c.ranges.items };
+}
+
+/// Bytes, which a contract sees as the fewest ranges that hold them, in ascending order.
+#[derive(Drop)]
+pub struct ClassBytes {
+    ranges: Vec<(u8, u8)>,
+}
+
+impl Model for ClassBytes {
+    ghost use Rattle.std.specs.Prelude.{List, ℕ};
+    ghost use Rattle.rx_syntax.specs.Ranges.{AreByteRanges};
+
+    ghost Value = { List (ℕ × ℕ) };
+
+    ghost view = { λ c. c.ranges.items };
+
+    ghost invariant = { λ c. AreByteRanges c.ranges.items };
+}
+
+impl ClassUnicode {
+    /// Of no scalars.
+    pub fn empty(alloc: Global) -> ClassUnicode
+        ensures { result ≡ [] }
+    {
+        ClassUnicode {
+            ranges: Vec::new(alloc),
+        }
+    }
+
+    /// The ranges, each from its first member to its last.
+    pub fn ranges(&self) -> &[(char, char)]
+        ensures value { result.now ≡ self.now }
+        ensures fewest { AreScalarRanges self.now }
+    {
+        self.ranges.as_slice()
+    }
+}
+
+impl ClassBytes {
+    /// Of no bytes.
+    pub fn empty(alloc: Global) -> ClassBytes
+        ensures { result ≡ [] }
+    {
+        ClassBytes {
+            ranges: Vec::new(alloc),
+        }
+    }
+
+    /// The ranges, each from its first member to its last.
+    pub fn ranges(&self) -> &[(u8, u8)]
+        ensures value { result.now ≡ self.now }
+        ensures fewest { AreByteRanges self.now }
+    {
+        self.ranges.as_slice()
+    }
+}
