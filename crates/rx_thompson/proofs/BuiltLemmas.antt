@@ -80,6 +80,9 @@ Stands-kept low base old new le k q state s = record {
   is = k.kept q s.above s.inside ∙ s.is;
 }
 
+pub Stands-from : (low base : ℕ) (states : List State) (q : ℕ) (state : State) → low ≤ base → Stands base states q state → Stands low states q state
+Stands-from low base states q state le s = record { above = (let a = s.above in omega arith); inside = s.inside; is = s.is }
+
 pub Mirrors-kept : (f : ℕ → ℕ) (low base : ℕ) (old new : List State) (part : graph.Part) (images : List ℕ) (start : ℕ) → low ≤ base → Keeps base old new
     → Mirrors f base old part images start → Mirrors f low new part images start
 Mirrors-kept f low base old new part images start le k m = record {

@@ -1,10 +1,9 @@
 -- Lists of expressions, from the back.
-use Rattle.std.proofs.Common.{◌≡◌, ℕ, zero, suc, ◌+◌, ◌-◌, ◌*◌, ◌≤◌, ◌<◌, List, [], ◌∷◌, refl, sym, ◌∙◌, ap, arith, length, get_or, drop, drop-cons}
-use Rattle.std.specs.Prelude.{max, min, ◌^◌, slice_get, Some}
-use Rattle.std.proofs.lemmas.Option.{none-some, same_Some}
-use Rattle.rx_model.specs.Expression.{Expression, Expressions, cons}
+use Rattle.std.proofs.Common.{◌≡◌, ℕ, zero, suc, ◌+◌, ◌-◌, ◌≤◌, ◌<◌, List, [], ◌∷◌, refl, sym, ◌∙◌, ap, arith, length, get_or, drop, drop-cons}
+use Rattle.rx_model.specs.Expression.{Expression, cons}
 use Rattle.rx_model.specs.Search.{greatest_group, groups_before}
-use Rattle.rx_syntax.specs.Depth.{depth, greatest_depth, expressions}
+use Rattle.rx_syntax.specs.Normal.{expressions}
+use Rattle.rx_syntax.specs.Depth.{depth, greatest_depth}
 
 -- one expression more
 pub expressions-more : (hs : List Expression) (k : ℕ) (h d : Expression) → 0 < k → k ≤ length hs → h ≡ get_or hs (k - 1) d → expressions (drop (k - 1) hs) ≡ cons h (expressions (drop k hs))

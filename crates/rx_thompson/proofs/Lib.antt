@@ -4,3 +4,9 @@ pub mod LoopLemmas
 pub mod ChainLemmas
 pub mod ImageLemmas
 pub mod ExpressionLemmas
+pub mod TextLemmas
+pub mod ResultLemmas
+pub mod SlotLemmas
+pub mod ChoiceLemmas
+pub mod CompileLemmas
+pub mod PatternLemmas

@@ -1,20 +1,18 @@
 -- The expressions that the compiler covers so far.
-use Rattle.std.specs.Prelude.{ℕ, zero, suc, Bool, true, false, IsTrue, Option, Some, None, ⊤}
+use Rattle.std.specs.Prelude.{ℕ, ◌<◌, ⊤}
 use Rattle.rx_model.specs.Expression.{Expression, Expressions, empty, literal, class, look, repetition, capture, concat, alternation, nil, cons}
-use Rattle.rx_model.specs.Length.{minimum_len, is_positive}
 
 abbrev mutual
-  -- literals, concatenations, and `x*` where each x takes a byte
+  -- no classes yet; groups are numbered from 1 on
   pub IsCovered : Expression → Type 0
   IsCovered empty = ⊤
   IsCovered (literal bytes) = ⊤
   IsCovered (class members) = ⊥
-  IsCovered (look kind) = ⊥
-  IsCovered (repetition zero None true sub) = IsTrue (is_positive (minimum_len sub)) × IsCovered sub
-  IsCovered (repetition least greatest greedy sub) = ⊥
-  IsCovered (capture group sub) = ⊥
+  IsCovered (look kind) = ⊤
+  IsCovered (repetition least greatest greedy sub) = IsCovered sub
+  IsCovered (capture group sub) = (0 < group) × IsCovered sub
   IsCovered (concat subs) = AreCovered subs
-  IsCovered (alternation subs) = ⊥
+  IsCovered (alternation subs) = AreCovered subs
 
   pub AreCovered : Expressions → Type 0
   AreCovered nil = ⊤

@@ -3,3 +3,5 @@ pub mod Nfa
 pub mod Draft
 pub mod Built
 pub mod Covered
+pub mod Repeated
+pub mod Room

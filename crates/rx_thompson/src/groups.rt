@@ -1,9 +1,17 @@
 //! The groups that patterns name, and their slots.
 ghost use Rattle.std.specs.Prelude.{◌≡◌, ◌+◌, ◌*◌, ◌-◌, ◌^◌, length, min};
 ghost use Rattle.rx_model.specs.Search.{greatest_group, greatest_in, groups_before};
-ghost use Rattle.rx_syntax.specs.Depth.{expressions};
+ghost use Rattle.rx_syntax.specs.Normal.{expressions};
 
+use rx_search::PatternID;
 use rx_syntax::{Hir, HirKind};
+
+/// A pattern, and the first slot of the first group that it names.
+#[derive(Clone, Copy)]
+pub struct Groups {
+    pub pattern: PatternID,
+    pub first_slot: usize,
+}
 
 /// The greatest number of a group in the expression; 0 where it has none.
 #[cycle(groups)]
@@ -14,8 +22,8 @@ pub fn greatest_group(hir: &Hir) -> usize
         HirKind::Empty => 0,
         HirKind::Literal(_) => 0,
         HirKind::Class(_) => 0,
-        HirKind::Repetition { sub, .. } => greatest_group(sub),
-        HirKind::Capture { group, sub } => greatest_group(sub).max(*group),
+        HirKind::Repetition(repetition) => greatest_group(&repetition.sub),
+        HirKind::Capture(capture) => greatest_group(&capture.sub).max(capture.index),
         HirKind::Concat(subs) => greatest_in(subs),
         HirKind::Alternation(subs) => greatest_in(subs),
     }

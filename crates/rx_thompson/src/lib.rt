@@ -6,6 +6,7 @@
 #![tactic(auto)]
 
 mod builder;
+mod compiler;
 mod error;
 mod groups;
 mod nfa;

@@ -1,8 +1,8 @@
-use Rattle.std.proofs.Common.{◌≡◌, ◌+◌, ◌*◌, ◌-◌, ◌<◌, ◌≤◌, ◌∙◌, sym, ap, refl, arith, length}
+use Rattle.std.proofs.Common.{◌≡◌, ◌-◌, ◌∙◌, sym, ap, arith}
 use Rattle.std.specs.Prelude.{max}
 use Rattle.rx_model.specs.Search.{greatest_group, greatest_in}
-use Rattle.rx_syntax.specs.Depth.{expressions}
-use Rattle.rx_syntax.specs.Views.{kind_view}
+use Rattle.rx_syntax.specs.Normal.{expressions}
+use Rattle.rx_syntax.specs.HirViews.{kind_view}
 use Rattle.rx_thompson.proofs.ExpressionLemmas.{expressions-more, expressions-none, depth_at}
 use Rattle.rx_thompson.proofs.groups.+groups.Goals as goal
 
@@ -14,8 +14,8 @@ greatest_group-returns-in-Repetition t c =
 pub greatest_group-returns-in-Capture : goal.greatest_group-returns-in-Capture
 unfolding greatest_group
 greatest_group-returns-in-Capture t c =
-    let is : greatest_group c.deref-in-Capture.result.now ≡ greatest_group c.in-Capture.sub.value = ap greatest_group c.deref-in-Capture.ensures in
-    let whole : max c.in-Capture.group (greatest_group c.in-Capture.sub.value) ≡ greatest_group c.args.hir.now = ap greatest_group (sym (ap kind_view c.in-Capture.is) ∙ c.kind.ensures) in
+    let is : greatest_group c.deref-in-Capture.result.now ≡ greatest_group c.in-Capture.capture.sub.value = ap greatest_group c.deref-in-Capture.ensures in
+    let whole : max c.in-Capture.capture.index (greatest_group c.in-Capture.capture.sub.value) ≡ greatest_group c.args.hir.now = ap greatest_group (sym (ap kind_view c.in-Capture.is) ∙ c.kind.ensures) in
     omega arith
 
 pub greatest_group-returns-in-Empty : goal.greatest_group-returns-in-Empty

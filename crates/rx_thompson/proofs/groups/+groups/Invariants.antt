@@ -1,6 +1,7 @@
 use Rattle.std.proofs.Common.{◌≡◌, ◌≤◌, ◌+◌, ◌*◌, length, drop}
 use Rattle.rx_model.specs.Search.{greatest_in}
-use Rattle.rx_syntax.specs.Depth.{expressions, depth, greatest_depth}
+use Rattle.rx_syntax.specs.Normal.{expressions}
+use Rattle.rx_syntax.specs.Depth.{depth, greatest_depth}
 use Rattle.rx_thompson.proofs.groups.+groups.Given as goal
 
 abbrev pub invariant-greatest_in-loop-left : goal.invariant-greatest_in-loop-left

@@ -1,0 +1,2 @@
+//! From expressions to an NFA.
+mod expression;
