@@ -1,14 +1,13 @@
 -- Alternatives, one after the other, and the choice between them.
-use Rattle.std.proofs.Common.{◌≡◌, ℕ, zero, suc, ◌+◌, ◌≤◌, ◌<◌, List, [], ◌∷◌, ◌++◌, refl, sym, ◌∙◌, ap, subst, arith, length, append-nil}
-use Rattle.std.specs.Prelude.{Option, map, ⊤}
+use Rattle.std.proofs.Common.{◌≡◌, ℕ, ◌+◌, List, [], ◌∷◌, ◌++◌, refl, sym, ◌∙◌, ap, subst, arith, length}
+use Rattle.std.specs.Prelude.{Option, map}
 use Rattle.std.specs.List.{AllZip}
 use Rattle.rx_model.specs.Expression.{Expression}
 use Rattle.rx_model.specs.Graph as graph
 use Rattle.rx_syntax.specs.Normal.{expressions}
 use Rattle.rx_thompson.specs.Draft.{Draft, Extends, pushed}
 use Rattle.rx_thompson.specs.Built.{Stands, IsImage, Rises, Sends, Mirrors, Built}
-use Rattle.rx_thompson.proofs.BuiltLemmas.{Rises-append, Rises-to, Sends-append, AllZip-length, AllZip-append, AllZip-map, IsImage-map, Stands-kept, Keeps-same, Keeps-extends, Mirrors-kept, Extends-same, Extends-trans, Extends-pushed, Stands-pushed, Stands-from, pushed-length}
-use Rattle.rx_thompson.specs.declared.state.State.{State}
+use Rattle.rx_thompson.proofs.BuiltLemmas.{Rises-append, Sends-append, AllZip-length, AllZip-append, AllZip-map, IsImage-map, Stands-kept, Keeps-same, Keeps-extends, Mirrors-kept, Extends-same, Extends-trans, Extends-pushed, Stands-pushed, Stands-from, pushed-length}
 use Rattle.rx_thompson.specs.declared.state.State.TheVariants.{Union}
 
 -- the alternatives were built in this order, each to go on to `next`
@@ -112,7 +111,9 @@ Built-choice slot hs next old mid new starts q b id is =
                   (AllZip-map (IsImage (Stands (length old.states) mid.states) f) (IsImage (Stands (length old.states) (pushed mid (Union starts)).states) f)
                   (IsImage-map (Stands (length old.states) mid.states) (Stands (length old.states) (pushed mid (Union starts)).states)
                   (Stands-kept (length old.states) (length old.states) mid.states (pushed mid (Union starts)).states (omega arith) (Keeps-extends (length old.states) mid (pushed mid (Union starts)) (Extends-pushed mid (Union starts)))) f)
-                  parts.states p.images each)
-                  (subst (λ qs. Stands (length old.states) (pushed mid (Union starts)).states (length mid.states) (Union qs)) (sym (p.starts_are f next' base is sent.0))
-                  (Stands-from (length old.states) (length mid.states) (pushed mid (Union starts)).states (length mid.states) (Union starts) p.extends.longer (Stands-pushed mid (Union starts))), tt);
+                  parts.states p.images each) (
+                    subst (λ qs. Stands (length old.states) (pushed mid (Union starts)).states (length mid.states) (Union qs)) (sym (p.starts_are f next' base is sent.0))
+                        (Stands-from (length old.states) (length mid.states) (pushed mid (Union starts)).states (length mid.states) (Union starts) p.extends.longer (Stands-pushed mid (Union starts))),
+                    tt,
+                  );
             }

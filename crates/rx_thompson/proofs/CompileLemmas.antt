@@ -1,11 +1,11 @@
 -- What the functions of the compiler hand on to one another.
-use Rattle.std.proofs.Common.{◌≡◌, ℕ, zero, suc, ◌+◌, ◌*◌, ◌-◌, ◌≤◌, ◌<◌, List, [], ◌∷◌, ◌++◌, refl, sym, ◌∙◌, ap, subst, arith, length, get_or, take}
+use Rattle.std.proofs.Common.{◌≡◌, ℕ, zero, suc, ◌+◌, ◌-◌, ◌≤◌, ◌<◌, List, [], ◌∷◌, ◌++◌, refl, sym, ◌∙◌, ap, subst, arith, length, get_or, take}
 use Rattle.std.specs.Prelude.{Bool, true, false, Option, Some, None, Result, IfOk, All, min, ◌^◌, nat_lt}
 use Rattle.std.proofs.Math.ListN.{length-set}
 use Rattle.std.proofs.lemmas.Bool.Decides.{nat_tests}
 use Rattle.std.proofs.lemmas.List.{take_more}
 use Rattle.std.proofs.lemmas.List.Elements.{All-push, All-weaker}
-use Rattle.rx_model.specs.Expression.{Expression, Expressions}
+use Rattle.rx_model.specs.Expression.{Expression}
 use Rattle.rx_model.specs.Graph as graph
 use Rattle.rx_model.specs.Length.{is_positive}
 use Rattle.rx_model.specs.Search.{greatest_group, greatest_in}
@@ -104,9 +104,10 @@ module _ (greedy : Bool) (body : graph.Builder) (next choice start : ℕ) (old m
 
   pub loop-closed : Built body choice mid after start → Built (graph.loop greedy body) next old new choice × Built (graph.loop_once greedy body) next old new start
   loop-closed b =
-      let b' : Built body (length old.states) (pushed old blank) after start = subst (λ n. Built body n (pushed old blank) after start) choice_is (subst (λ d. Built body choice d after start) mid_is b) in
-      (subst (Built (graph.loop greedy body) next old new) (sym choice_is) (subst (λ d. Built (graph.loop greedy body) next old d (length old.states)) (sym new-written) (Built-loop greedy body next start old after blank b')),
-      subst (λ d. Built (graph.loop_once greedy body) next old d start) (sym new-written) (Built-loop_once greedy body next start old after blank b'))
+      let b' : Built body (length old.states) (pushed old blank) after start = subst (λ n. Built body n (pushed old blank) after start) choice_is (subst (λ d. Built body choice d after start) mid_is b) in (
+        subst (Built (graph.loop greedy body) next old new) (sym choice_is) (subst (λ d. Built (graph.loop greedy body) next old d (length old.states)) (sym new-written) (Built-loop greedy body next start old after blank b')),
+        subst (λ d. Built (graph.loop_once greedy body) next old d start) (sym new-written) (Built-loop_once greedy body next start old after blank b'),
+      )
 
   pub optional-closed : Built body next mid after start → Built (graph.build_optional greedy body) next old new choice
   optional-closed b =

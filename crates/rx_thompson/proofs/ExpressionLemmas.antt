@@ -34,3 +34,7 @@ groups_before-within [] (suc j) zero le = omega arith
 groups_before-within [] (suc j) (suc k) le = omega arith
 groups_before-within (h ∷ hs) (suc j) zero le = absurd (omega arith)
 groups_before-within (h ∷ hs) (suc j) (suc k) le = let later = groups_before-within hs j k (omega arith) in omega arith
+
+-- the groups of a pattern and of those before it are among all
+pub groups_before-all : (hs : List Expression) (k : ℕ) (h d : Expression) → k < length hs → h ≡ get_or hs k d → groups_before k hs + greatest_group h ≤ groups_before (length hs) hs
+groups_before-all hs k h d lt e = let more = groups_before-more hs k h d lt e in let within = groups_before-within hs (k + 1) (length hs) (omega arith) in omega arith

@@ -1,5 +1,5 @@
 -- Where the states of a graph have their images in an NFA, the first runs are alike.
-use Rattle.std.proofs.Common.{◌≡◌, ◌≢◌, ℕ, zero, suc, ◌+◌, ◌≤◌, ◌<◌, ◌⊎◌, List, [], ◌∷◌, length, refl, sym, ◌∙◌, ap, subst, inl, inr, ⊎_elim, arith}
+use Rattle.std.proofs.Common.{◌≡◌, ℕ, zero, suc, ◌+◌, ◌≤◌, ◌<◌, ◌⊎◌, List, [], ◌∷◌, length, refl, sym, ◌∙◌, ap, subst, inl, inr, ⊎_elim, arith}
 use Rattle.std.specs.Prelude.{true, false, nat_le, None, Contains, map, ⊤}
 use Rattle.std.specs.List.{AllZip}
 use Rattle.std.proofs.lemmas.Bool.{cases_lt}
@@ -61,12 +61,12 @@ Rises-le : (low high : ℕ) (qs : List ℕ) → Rises low high qs → low ≤ hi
 Rises-le low high [] r = r
 Rises-le low high (q ∷ qs) r = let first = r.0 in let later = Rises-le (suc q) high qs r.1 in omega arith
 
--- no image lies between the states of the part and n
-pub image-misses : (qs : List ℕ) (low high n u k : ℕ) → Rises low high qs → high ≤ u → u < n → image qs n k ≢ u
+-- each image is one of the part's states, or lies from n on
+pub image-either : (qs : List ℕ) (low high n k : ℕ) → Rises low high qs → (image qs n k < high) ⊎ (n ≤ image qs n k)
 unfolding image
-image-misses [] low high n u k r le lt e = omega arith
-image-misses (q ∷ qs) low high n u zero r le lt e = let later = Rises-le (suc q) high qs r.1 in omega arith
-image-misses (q ∷ qs) low high n u (suc k) r le lt e = image-misses qs (suc q) high (suc n) u k r.1 le (omega arith) e
+image-either [] low high n k r = inr (omega arith)
+image-either (q ∷ qs) low high n zero r = inl (let later = Rises-le (suc q) high qs r.1 in omega arith)
+image-either (q ∷ qs) low high n (suc k) r = ⊎_elim (λ lt. inl lt) (λ le. inr (omega arith)) (image-either qs (suc q) high (suc n) k r.1)
 
 -- it sends the numbers from 0 on to the list
 pub image-sends : (qs : List ℕ) (n : ℕ) → Sends (image qs n) 0 qs
@@ -75,9 +75,10 @@ image-sends qs n = from (image qs n) 0 qs n (λ k. let e : 0 + k ≡ k = omega a
   where
     from : (f : ℕ → ℕ) (base : ℕ) (qs : List ℕ) (n : ℕ) → ((k : ℕ) → f (base + k) ≡ image qs n k) → Sends f base qs
     from f base [] n each = tt
-    from f base (q ∷ qs) n each =
-        (let e : base ≡ base + 0 = omega arith in ap f e ∙ each 0,
-        from f (suc base) qs (suc n) (λ k. let e : suc base + k ≡ base + suc k = omega arith in ap f e ∙ each (suc k)))
+    from f base (q ∷ qs) n each = (
+      let e : base ≡ base + 0 = omega arith in ap f e ∙ each 0,
+      from f (suc base) qs (suc n) (λ k. let e : suc base + k ≡ base + suc k = omega arith in ap f e ∙ each (suc k)),
+    )
 
 -- side by side, by the number
 zip-at : (R : graph.State → ℕ → Type 0) (xs : List graph.State) (qs : List ℕ) (n k : ℕ) → AllZip R xs qs → k < length xs → R (graph.state_at xs k) (image qs n k)

@@ -1,11 +1,10 @@
 -- Parts that write slots.
-use Rattle.std.proofs.Common.{◌≡◌, ℕ, suc, ◌+◌, ◌-◌, ◌*◌, ◌≤◌, ◌<◌, refl, sym, ◌∙◌, ap, subst, arith, length}
+use Rattle.std.proofs.Common.{◌≡◌, ℕ, suc, ◌+◌, sym, ◌∙◌, ap, subst, arith, length}
 use Rattle.std.specs.Prelude.{Some}
 use Rattle.rx_model.specs.Graph as graph
-use Rattle.rx_thompson.specs.Draft.{Draft, Extends, pushed}
-use Rattle.rx_thompson.specs.Built.{Stands, IsImage, Built}
+use Rattle.rx_thompson.specs.Draft.{Draft, pushed}
+use Rattle.rx_thompson.specs.Built.{Stands, Built}
 use Rattle.rx_thompson.proofs.BuiltLemmas.{Stands-pushed, Extends-pushed, Built-state, Built-then, pushed-length}
-use Rattle.rx_thompson.specs.declared.state.State.{State}
 use Rattle.rx_thompson.specs.declared.state.State.TheVariants.{Capture}
 
 pub Built-slot : (number pattern next : ℕ) (old new : Draft) (q : ℕ) → q ≡ length old.states → new ≡ pushed old (Capture next pattern number) → Built (graph.build_state (graph.slot number)) next old new q

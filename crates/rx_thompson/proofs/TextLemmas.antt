@@ -1,10 +1,9 @@
 -- Parts that read bytes.
-use Rattle.std.proofs.Common.{◌≡◌, ℕ, zero, suc, ◌+◌, ◌-◌, ◌≤◌, ◌<◌, List, [], ◌∷◌, refl, sym, ◌∙◌, ap, subst, arith, length, get_or, drop, drop-cons}
+use Rattle.std.proofs.Common.{◌≡◌, ℕ, suc, ◌-◌, ◌≤◌, ◌<◌, List, [], ◌∷◌, sym, ◌∙◌, subst, arith, length, get_or, drop, drop-cons}
 use Rattle.rx_model.specs.Graph as graph
 use Rattle.rx_thompson.specs.Draft.{Draft, Extends, pushed}
-use Rattle.rx_thompson.specs.Built.{Stands, IsChain, IsImage, Built}
-use Rattle.rx_thompson.proofs.BuiltLemmas.{IsChain-map, Stands-kept, Stands-from, Stands-pushed, Keeps-extends, Extends-pushed, Extends-trans, Built-state, pushed-length}
-use Rattle.rx_thompson.specs.declared.state.State.{State}
+use Rattle.rx_thompson.specs.Built.{Stands, IsChain, Built}
+use Rattle.rx_thompson.proofs.BuiltLemmas.{IsChain-map, Stands-kept, Stands-from, Stands-pushed, Keeps-extends, Extends-pushed, Built-state, pushed-length}
 use Rattle.rx_thompson.specs.declared.state.State.TheVariants.{ByteRange, Union}
 
 -- one byte more, in front
@@ -15,9 +14,11 @@ IsChain-more old d new bytes k b start next extends some le is grown c =
     let back : suc (k - 1) ≡ k = omega arith in
     let here : drop (k - 1) bytes ≡ b ∷ drop k bytes = drop-cons bytes (k - 1) 0 (omega arith) ∙ (λ i. sym is i ∷ drop (back i) bytes) in
     let after : Draft = pushed d (ByteRange b b start) in
-    let chain : IsChain (Stands (length old.states) after.states) (length d.states) (b ∷ drop k bytes) next =
-    (start, Stands-from (length old.states) (length d.states) after.states (length d.states) (ByteRange b b start) extends.longer (Stands-pushed d (ByteRange b b start)),
-    IsChain-map (Stands (length old.states) d.states) (Stands (length old.states) after.states) (Stands-kept (length old.states) (length old.states) d.states after.states (omega arith) (Keeps-extends (length old.states) d after (Extends-pushed d (ByteRange b b start)))) start (drop k bytes) next c) in
+    let chain : IsChain (Stands (length old.states) after.states) (length d.states) (b ∷ drop k bytes) next = (
+      start,
+      Stands-from (length old.states) (length d.states) after.states (length d.states) (ByteRange b b start) extends.longer (Stands-pushed d (ByteRange b b start)),
+      IsChain-map (Stands (length old.states) d.states) (Stands (length old.states) after.states) (Stands-kept (length old.states) (length old.states) d.states after.states (omega arith) (Keeps-extends (length old.states) d after (Extends-pushed d (ByteRange b b start)))) start (drop k bytes) next c,
+    ) in
     subst (λ (e : Draft). IsChain (Stands (length old.states) e.states) (length d.states) (drop (k - 1) bytes) next) (sym grown)
     (subst (λ bs. IsChain (Stands (length old.states) after.states) (length d.states) bs next) (sym here) chain)
 

@@ -1,11 +1,11 @@
 -- What a compile function says of the states that it added for a part of the graph.
-use Rattle.std.specs.Prelude.{◌≡◌, ℕ, suc, ◌+◌, ◌-◌, ◌*◌, ◌<◌, ◌≤◌, Bool, List, [], ◌∷◌, length, map, ⊤, Option, Some, if◌then◌else◌, slice_get, slice_index}
+use Rattle.std.specs.Prelude.{◌≡◌, ℕ, suc, ◌+◌, ◌-◌, ◌*◌, ◌<◌, ◌≤◌, Bool, List, [], ◌∷◌, length, map, ⊤, Option, Some, if◌then◌else◌, slice_get, slice_index, ◌⊎◌}
 use Rattle.std.specs.List.{AllZip}
 use Rattle.rx_model.specs.Expression.{Expression}
 use Rattle.rx_model.specs.Graph as graph
 use Rattle.rx_model.specs.Search.{Patterns, slot_of}
 use Rattle.rx_thompson.specs.Automaton.{state_at}
-use Rattle.rx_thompson.specs.Draft.{Draft, Extends}
+use Rattle.rx_thompson.specs.Draft.{Draft, Extends, pushed}
 use Rattle.rx_thompson.specs.declared.state.State.{State}
 use Rattle.rx_thompson.specs.declared.state.State.TheVariants.{ByteRange, Union, Capture, Match}
 
@@ -72,3 +72,8 @@ pub record HasPart (states : List State) (part : graph.Part) (start : ℕ) : Typ
 abbrev pub HasPatterns : List State → Patterns → (n : ℕ) → (starts : List ℕ) → Type 0
 HasPatterns states r n starts =
     (p : ℕ) (h : Expression) → p < n → slice_get r.expressions p ≡ Some h → HasPart states (graph.build_pattern (slot_of r p) p h) (slice_index starts p)
+
+-- State q starts the runs from all of these starts, the first preferred: it is the only one of them, or a choice between
+-- them, which was added.
+abbrev pub StartsAll : (old new : Draft) → (starts : List ℕ) → (q : ℕ) → Type 0
+StartsAll old new starts q = ((starts ≡ q ∷ []) × (new ≡ old)) ⊎ ((q ≡ length old.states) × (new ≡ pushed old (Union starts)))

@@ -5,3 +5,4 @@ pub mod Built
 pub mod Covered
 pub mod Repeated
 pub mod Room
+pub mod Compiled

@@ -24,15 +24,15 @@ impl Model for Builder {
     ghost Value = { Draft };
 
     ghost view = { λ b. record {
-        states = b.states.items;
-        patterns = b.pattern_len;
-        slots = b.slot_len;
+      states = b.states.items;
+      patterns = b.pattern_len;
+      slots = b.slot_len;
     } };
 
     ghost invariant = { λ b. AreInRange (record {
-        states = b.states.items;
-        patterns = b.pattern_len;
-        slots = b.slot_len;
+      states = b.states.items;
+      patterns = b.pattern_len;
+      slots = b.slot_len;
     }) };
 }
 
@@ -78,7 +78,8 @@ impl Builder {
         requires starts { All (λ q. q < length self.states) starts.items }
         requires patterns { length starts.items ≡ self.patterns }
         requires few { self.patterns ≤ 2147483647 }
-        ensures { result ≡ record { states = self.states; start_anchored = start_anchored; starts = starts.items; slots = self.slots } }
+        ensures value { result ≡ record { states = self.states; start_anchored = start_anchored; starts = starts.items; slots = self.slots } }
+        ensures in_range { IsInRange result }
     {
         let slot_len = self.slot_len;
         NFA::new(self.states, start_anchored, starts, slot_len)

@@ -12,6 +12,7 @@ mod groups;
 mod nfa;
 mod state;
 
+pub use compiler::Compiler;
 pub use error::BuildError;
 pub use nfa::NFA;
 pub use state::{Alternates, State, Transition, Transitions};

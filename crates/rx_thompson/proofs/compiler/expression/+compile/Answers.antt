@@ -1,20 +1,20 @@
-use Rattle.std.proofs.Common.{◌≡◌, ◌<◌, ◌≤◌, ◌+◌, ◌-◌, ◌*◌, ◌∙◌, sym, ap, subst, refl, arith, length, drop, take}
+use Rattle.std.proofs.Common.{◌≡◌, ◌<◌, ◌+◌, ◌-◌, ◌*◌, ◌∙◌, sym, ap, subst, arith, length, drop, take}
 use Rattle.std.specs.Prelude.{max, false}
 use Rattle.std.proofs.lemmas.List.{take_all}
 use Rattle.rx_model.specs.Length.{minimum_len, is_positive}
-use Rattle.rx_model.specs.Expression.{Expression, empty, literal, repetition, capture, concat, alternation}
+use Rattle.rx_model.specs.Expression.{empty, literal, repetition, capture, concat, alternation}
 use Rattle.rx_model.specs.Graph.{text, build_state, build_in_turn, build_each, build_choice, build, loop_once}
 use Rattle.rx_model.specs.Search.{greatest_group, greatest_in}
 use Rattle.rx_syntax.specs.Normal.{expressions}
 use Rattle.rx_syntax.specs.Depth.{depth}
 use Rattle.rx_syntax.specs.HirViews.{kind_view}
 use Rattle.rx_thompson.specs.Built.{Built, slot_from}
-use Rattle.rx_thompson.specs.Covered.{IsCovered, AreCovered}
+use Rattle.rx_thompson.specs.Covered.{IsCovered}
 use Rattle.rx_thompson.specs.Room.{HasRoom}
 use Rattle.rx_thompson.proofs.ExpressionLemmas.{depth_at, expressions-more, expressions-none}
 use Rattle.rx_thompson.proofs.BuiltLemmas.{Built-nothing}
 use Rattle.rx_thompson.proofs.CompileLemmas.{Built-same, HasRoom-kept, HasRoom-less, AreCovered-at, greatest-at, BuiltEach-next, below-more}
-use Rattle.rx_thompson.specs.Draft.{Draft, pushed, patched}
+use Rattle.rx_thompson.specs.Draft.{Draft, pushed}
 use Rattle.rx_thompson.specs.Repeated.{tail}
 use Rattle.rx_thompson.specs.declared.state.State.TheVariants.{Union, Capture as Slot, Fail}
 use Rattle.rx_thompson.proofs.ResultLemmas.{IfOk-both}
@@ -39,10 +39,19 @@ compile-compile_capture-requires t c =
     let g = c.in-Capture.capture in
     let is : capture g.index g.sub.value ≡ c.args.hir.now = sym (ap kind_view c.in-Capture.is) ∙ c.kind.ensures in
     let deep = ap depth is in
-    let groups : max g.index (greatest_group g.sub.value) ≡ greatest_group c.args.hir.now = ap greatest_group is in
-    (omega arith, (subst IsCovered (sym is) c.requires.covered, (c.requires.next,
-    (HasRoom-less c.args.builder.now c.args.groups.now (greatest_group c.args.hir.now) g.index (omega arith) c.requires.room,
-    HasRoom-less c.args.builder.now c.args.groups.now (greatest_group c.args.hir.now) (greatest_group g.sub.value) (omega arith) c.requires.room))))
+    let groups : max g.index (greatest_group g.sub.value) ≡ greatest_group c.args.hir.now = ap greatest_group is in (
+      omega arith,
+      (
+        subst IsCovered (sym is) c.requires.covered,
+        (
+          c.requires.next,
+          (
+            HasRoom-less c.args.builder.now c.args.groups.now (greatest_group c.args.hir.now) g.index (omega arith) c.requires.room,
+            HasRoom-less c.args.builder.now c.args.groups.now (greatest_group c.args.hir.now) (greatest_group g.sub.value) (omega arith) c.requires.room,
+          ),
+        ),
+      ),
+    )
 
 pub compile-compile_concat-requires : goal.compile-compile_concat-requires
 unfolding greatest_group
@@ -108,10 +117,17 @@ compile_alternation-compile-requires t c =
     let item = c.sub-item.result in
     let k = c.loop-sub.sub-index in
     let lt : k < length c.args.subs.now = omega arith in
-    let deep = depth_at c.args.subs.now k item item lt c.sub-item.is in
-    (omega arith, (AreCovered-at c.args.subs.now k item item lt c.sub-item.is c.requires.covered, (omega arith,
-    HasRoom-kept c.args.builder.now c.loop-sub.builder c.args.groups.now (greatest_in (expressions c.args.subs.now)) (greatest_group item) c.loop-sub.invariant.patterns c.loop-sub.invariant.slots
-    (greatest-at c.args.subs.now k item item lt c.sub-item.is) c.requires.room)))
+    let deep = depth_at c.args.subs.now k item item lt c.sub-item.is in (
+      omega arith,
+      (
+        AreCovered-at c.args.subs.now k item item lt c.sub-item.is c.requires.covered,
+        (
+          omega arith,
+          HasRoom-kept c.args.builder.now c.loop-sub.builder c.args.groups.now (greatest_in (expressions c.args.subs.now)) (greatest_group item) c.loop-sub.invariant.patterns c.loop-sub.invariant.slots
+              (greatest-at c.args.subs.now k item item lt c.sub-item.is) c.requires.room,
+        ),
+      ),
+    )
 
 pub compile_alternation-loop-sub-preserved : goal.compile_alternation-loop-sub-preserved
 compile_alternation-loop-sub-preserved t c =
@@ -163,10 +179,17 @@ compile_concat-compile-requires t c =
     let k = c.loop-left.left - 1 in
     let lt : c.loop-left.left - 1 < length c.args.subs.now = omega arith in
     let deep = depth_at c.args.subs.now (c.loop-left.left - 1) item item lt c.index-subs-left.is in
-    let b = c.loop-left.invariant.built.extends in
-    (omega arith, (AreCovered-at c.args.subs.now (c.loop-left.left - 1) item item lt c.index-subs-left.is c.requires.covered, (c.loop-left.invariant.inside,
-    HasRoom-kept c.args.builder.now c.loop-left.builder c.args.groups.now (greatest_in (expressions c.args.subs.now)) (greatest_group item) b.patterns b.slots
-    (greatest-at c.args.subs.now (c.loop-left.left - 1) item item lt c.index-subs-left.is) c.requires.room)))
+    let b = c.loop-left.invariant.built.extends in (
+      omega arith,
+      (
+        AreCovered-at c.args.subs.now (c.loop-left.left - 1) item item lt c.index-subs-left.is c.requires.covered,
+        (
+          c.loop-left.invariant.inside,
+          HasRoom-kept c.args.builder.now c.loop-left.builder c.args.groups.now (greatest_in (expressions c.args.subs.now)) (greatest_group item) b.patterns b.slots
+              (greatest-at c.args.subs.now (c.loop-left.left - 1) item item lt c.index-subs-left.is) c.requires.room,
+        ),
+      ),
+    )
 
 pub compile_concat-loop-left-preserved : goal.compile_concat-loop-left-preserved
 unfolding build

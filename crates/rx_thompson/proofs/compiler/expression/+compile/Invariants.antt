@@ -1,4 +1,4 @@
-use Rattle.std.proofs.Common.{◌≡◌, ◌<◌, ◌≤◌, ◌+◌, ◌*◌, length, drop, take, ℕ}
+use Rattle.std.proofs.Common.{◌≡◌, ◌<◌, ◌≤◌, ◌+◌, ◌*◌, length, drop, take}
 use Rattle.std.specs.Prelude.{All}
 use Rattle.rx_model.specs.Graph.{build, build_in_turn, copies, options}
 use Rattle.rx_model.specs.Length.{minimum_len, is_positive}

@@ -1,6 +1,6 @@
-use Rattle.std.proofs.Common.{◌≡◌, ◌-◌, ◌<◌, subst, sym, ap, refl, arith, length, drop, get_or}
+use Rattle.std.proofs.Common.{◌≡◌, ◌-◌, subst, sym, ap, refl, arith, length, drop, get_or}
 use Rattle.rx_thompson.specs.Draft.{Draft, Extends, pushed}
-use Rattle.rx_thompson.specs.Built.{Stands, IsChain, Built}
+use Rattle.rx_thompson.specs.Built.{Stands, IsChain}
 use Rattle.rx_thompson.specs.declared.state.State.TheVariants.{ByteRange}
 use Rattle.rx_thompson.proofs.BuiltLemmas.{Extends-trans, Extends-pushed, pushed-length}
 use Rattle.rx_thompson.proofs.TextLemmas.{IsChain-more, Built-text}
