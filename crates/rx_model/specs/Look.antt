@@ -8,10 +8,11 @@ pub data Look : Type 0 where
 unfoldable pub holds : (terminator : ℕ) (text : List ℕ) → Look → (i : ℕ) → Bool
 holds terminator text kind i = elim kind [ ]
 
--- the number of a kind, and the kind of a number
+-- the number of a kind
 abbrev pub look_number : Look → ℕ
 look_number kind = elim kind [ ]
 
+-- the kind of a number, if it is one's
 abbrev pub look_of : ℕ → Option Look
 look_of n = None
 

@@ -33,7 +33,11 @@ module _ (g m : PriorityGraph) (f : ℕ → ℕ) where
 
   -- f is the image of the states that are live
   pub record Refines (IsLive : ℕ → Type 0) : Type 0 where
+    -- different states have different images
     pub apart : (a b : ℕ) → IsLive a → IsLive b → f a ≡ f b → a ≡ b
+    -- steps lead to live states
     pub stays_live : (c d : Configuration) → IsLive c.state → Contains (g.successors c) d → IsLive d.state
+    -- a state accepts what its image accepts
     pub accepted : (c : Configuration) → IsLive c.state → m.accepted (moved f c) ≡ g.accepted c
+    -- and goes on as its image does
     pub goes_on : (c : Configuration) → IsLive c.state → g.accepted c ≡ None → Stays c ⊎ Reads c ⊎ Fails c

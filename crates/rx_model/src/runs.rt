@@ -4,10 +4,13 @@ ghost use Rattle.std.specs.Prelude.{◌≡◌, ℕ, ◌≤◌, Bool, List, Some,
 ghost use Rattle.rx_model.specs.Runs.{Configuration, PriorityGraph, Passed, IsBounded, NeverFalls, IsClosed, IsRun, IsFirst, nowhere, and_at, first_run, first_trace, found};
 ghost use Rattle.rx_model.specs.Refinement.{Refines, moved};
 
-/// The search in order of preference finds the least accepting run, and none only where there is none.
+/// The search in order of preference finds the least accepting run, that one alone, and none only where
+/// there is none.
 pub fn the_first_run_is_least()
     ensures least { (g : PriorityGraph) → IsBounded g → (c : Configuration) (run : List Configuration)
         → first_run g c ≡ Some run → IsFirst g nowhere c run }
+    ensures only { (g : PriorityGraph) → IsBounded g → (c : Configuration) (run : List Configuration)
+        → IsFirst g nowhere c run → first_run g c ≡ Some run }
     ensures none { (g : PriorityGraph) → IsBounded g → (c : Configuration)
         → first_run g c ≡ None → (run : List Configuration) → IsRun g nowhere c run → ⊥ }
 {}

@@ -1,6 +1,6 @@
 -- What a search is given.
-use Rattle.std.specs.Prelude.{ℕ, ◌+◌, ◌≤◌, Bool, true, false, ◌&&◌, nat_le, List, length}
-use Rattle.rx_model.specs.Search.{Anchor, free, is_permitted}
+use Rattle.std.specs.Prelude.{ℕ, ◌+◌, ◌≤◌, Bool, true, false, ◌&&◌, nat_le, List, length, Option}
+use Rattle.rx_model.specs.Search.{Patterns, Anchor, free, is_permitted, Match, next_match}
 
 -- The haystack, the span of it that is searched, where a match may begin, and whether any match will do.
 pub record InputValue : Type 0 where
@@ -26,3 +26,7 @@ from_place i v = record v { start = i }
 -- a place at which a character begins, or the end of the text
 abbrev pub is_char_boundary : List ℕ → ℕ → Bool
 is_char_boundary text at = nat_le at (length text) && is_permitted true text at
+
+-- the next match of the patterns in the input's span
+abbrev pub next_in : Patterns → InputValue → Option Match
+next_in patterns v = next_match patterns v.haystack v.anchor v.end v.start

@@ -1,3 +1,5 @@
 pub mod Matches
 pub mod Anchored
 pub mod Input
+pub mod Searcher
+pub mod Example

@@ -1,19 +1,28 @@
 //! The words of a search: identifiers, spans, inputs and matches. It stands on rx_model alone.
 //!
 //! `PatternID`, `StateID` and `NonMaxUsize` are numbers with a limit; `Memory` is the error of a call that only
-//! want of memory can refuse.
+//! want of memory can refuse. An `Input` is what a search is given, and contracts see it as a record. A
+//! `Match` is what a search answers. A `Searcher` asks a `Finder` for one match after another, and what it
+//! gives is the list of successive matches.
 #![tactic(auto)]
 
 mod anchored;
+mod gate;
 mod input;
 mod matches;
 mod memory;
 mod primitives;
+mod searcher;
 mod span;
 
 pub use anchored::{Anchored, MatchKind};
+pub use gate::{Gate, Open};
 pub use input::Input;
 pub use matches::{HalfMatch, Match};
 pub use memory::Memory;
 pub use primitives::{NonMaxUsize, PatternID, StateID};
+pub use searcher::{Finder, Searcher, searches_give_the_matches};
 pub use span::Span;
+
+#[cfg(test)]
+mod tests;

@@ -1,15 +1,9 @@
 -- What an expression of the program stands for.
-use Rattle.rx_model.specs.Text.{Class, scalar_ranges, byte_ranges}
 use Rattle.rx_model.specs.Expression.{Expression, empty, literal, class, repetition, capture, concat, alternation}
+use Rattle.rx_syntax.specs.ClassViews.{class_view}
 use Rattle.rx_syntax.specs.Normal.{expressions}
-use Rattle.rx_syntax.specs.declared.hir.class.Class.{Class as HirClass}
-use Rattle.rx_syntax.specs.declared.hir.class.Class.TheVariants.{Unicode, Bytes}
 use Rattle.rx_syntax.specs.declared.hir.HirKind.{HirKind}
 use Rattle.rx_syntax.specs.declared.hir.HirKind.TheVariants.{Empty, Literal, Class as Set, Repetition, Capture, Concat, Alternation}
-
-abbrev pub class_view : HirClass → Class
-class_view (Unicode ranges) = scalar_ranges ranges
-class_view (Bytes ranges) = byte_ranges ranges
 
 -- one node, whose children are seen as expressions already
 abbrev pub kind_view : HirKind → Expression

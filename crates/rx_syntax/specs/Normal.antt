@@ -1,8 +1,9 @@
 -- The expressions that the constructors make of their parts.
-use Rattle.std.specs.Prelude.{ℕ, zero, suc, min, Bool, false, ◌==◌, List, [], ◌∷◌, ◌++◌, flat_map, Option, Some, None, if◌then◌else◌, encode_utf8}
+use Rattle.std.specs.Prelude.{ℕ, zero, suc, min, Bool, false, ◌==◌, List, [], ◌∷◌, ◌++◌, flat_map, Option, Some, None, option_map, if◌then◌else◌, encode_utf8}
 use Rattle.rx_model.specs.Text.{Class, scalar_ranges, byte_ranges}
 use Rattle.rx_model.specs.Expression.{Expression, Expressions, empty, literal, class, look, repetition, capture, concat, alternation, nil, cons}
 use Rattle.rx_syntax.specs.Length.{maximum_len}
+use Rattle.rx_syntax.specs.Ranges.{only_member}
 
 -- what nothing matches: the class of bytes without members
 abbrev pub fail : Expression
@@ -13,14 +14,24 @@ abbrev pub literal_of : List ℕ → Expression
 literal_of [] = empty
 literal_of (b ∷ bytes) = literal (b ∷ bytes)
 
--- a class in fewest ranges: where it has one member, the literal of that member's encoding
+-- the class, or `fail` where it has no ranges
+abbrev pub set_of : Class → Expression
+set_of (scalar_ranges []) = fail
+set_of (scalar_ranges (r ∷ rs)) = class (scalar_ranges (r ∷ rs))
+set_of (byte_ranges rs) = class (byte_ranges rs)
+
+-- the encoding of the member of a class that has one
+abbrev pub only_encoding : Class → Option (List ℕ)
+only_encoding (scalar_ranges rs) = option_map encode_utf8 (only_member rs)
+only_encoding (byte_ranges rs) = option_map (λ b. b ∷ []) (only_member rs)
+
+abbrev pub literal_or : Expression → Option (List ℕ) → Expression
+literal_or h None = h
+literal_or h (Some bytes) = literal bytes
+
+-- a class in fewest ranges: the literal of its member's encoding, where it has one member
 abbrev pub class_of : Class → Expression
-class_of (scalar_ranges []) = fail
-class_of (scalar_ranges (r ∷ [])) = if r.0 == r.1 then literal (encode_utf8 r.0) else class (scalar_ranges (r ∷ []))
-class_of (scalar_ranges (r ∷ s ∷ rs)) = class (scalar_ranges (r ∷ s ∷ rs))
-class_of (byte_ranges []) = fail
-class_of (byte_ranges (r ∷ [])) = if r.0 == r.1 then literal (r.0 ∷ []) else class (byte_ranges (r ∷ []))
-class_of (byte_ranges (r ∷ s ∷ rs)) = class (byte_ranges (r ∷ s ∷ rs))
+class_of members = literal_or (set_of members) (only_encoding members)
 
 -- Repetitions.
 

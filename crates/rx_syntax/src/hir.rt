@@ -10,6 +10,8 @@ mod class;
 mod concat;
 mod kind;
 mod properties;
+mod scalars;
+mod set;
 
 pub use class::{Class, ClassBytes, ClassUnicode};
 use properties::Properties;

@@ -5,8 +5,16 @@
 //! rx_model. It stands on rx_search.
 #![tactic(auto)]
 
+mod ast;
+mod class;
+mod cursor;
 mod error;
 mod hir;
+mod parser;
+mod thin;
+mod token;
+mod translate;
 
 pub use error::{ParseError, SyntaxError, SyntaxErrorKind};
 pub use hir::{Capture, Class, ClassBytes, ClassUnicode, Hir, HirKind, Repetition};
+pub use thin::parse;

@@ -10,3 +10,5 @@ pub mod SlotLemmas
 pub mod ChoiceLemmas
 pub mod CompileLemmas
 pub mod PatternLemmas
+pub mod StateLemmas
+pub mod NextMatchLemmas

@@ -1,5 +1,6 @@
 pub mod Automaton
 pub mod Nfa
+pub mod NextMatch
 pub mod Draft
 pub mod Built
 pub mod Covered

@@ -10,9 +10,11 @@ mod compiler;
 mod error;
 mod groups;
 mod nfa;
+mod sparse;
 mod state;
 
 pub use compiler::Compiler;
 pub use error::BuildError;
 pub use nfa::NFA;
+pub use sparse::matches_byte;
 pub use state::{Alternates, State, Transition, Transitions};

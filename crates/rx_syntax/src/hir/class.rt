@@ -1,6 +1,6 @@
 //! Classes of scalars and of bytes.
-ghost use Rattle.std.specs.Prelude.{◌≡◌, []};
-ghost use Rattle.rx_syntax.specs.Ranges.{AreScalarRanges, AreByteRanges};
+ghost use Rattle.std.specs.Prelude.{◌≡◌, [], length, ◌==◌};
+ghost use Rattle.rx_syntax.specs.Ranges.{AreScalarRanges, AreByteRanges, only_member};
 
 use std::alloc::Global;
 use std::marker::Model;
@@ -15,7 +15,7 @@ pub enum Class {
 /// Scalars, which a contract sees as the fewest ranges that hold them, in ascending order.
 #[derive(Drop)]
 pub struct ClassUnicode {
-    ranges: Vec<(char, char)>,
+    pub(super) ranges: Vec<(char, char)>,
 }
 
 impl Model for ClassUnicode {
@@ -63,6 +63,24 @@ impl ClassUnicode {
     {
         self.ranges.as_slice()
     }
+
+    /// The class has no members.
+    pub fn is_empty(&self) -> bool
+        ensures { result ≡ (length self.now == 0) }
+    {
+        self.ranges.is_empty()
+    }
+
+    /// The member of a class that has one.
+    pub fn only_member(&self) -> Option<char>
+        ensures { result ≡ only_member self.now }
+    {
+        if self.ranges.len() != 1 {
+            return None;
+        }
+        let (low, high) = self.ranges[0];
+        if low == high { Some(low) } else { None }
+    }
 }
 
 impl ClassBytes {
@@ -81,5 +99,23 @@ impl ClassBytes {
         ensures fewest { AreByteRanges self.now }
     {
         self.ranges.as_slice()
+    }
+
+    /// The class has no members.
+    pub fn is_empty(&self) -> bool
+        ensures { result ≡ (length self.now == 0) }
+    {
+        self.ranges.is_empty()
+    }
+
+    /// The member of a class that has one.
+    pub fn only_member(&self) -> Option<u8>
+        ensures { result ≡ only_member self.now }
+    {
+        if self.ranges.len() != 1 {
+            return None;
+        }
+        let (low, high) = self.ranges[0];
+        if low == high { Some(low) } else { None }
     }
 }

@@ -87,7 +87,7 @@ fn push_after(parts: &mut Vec<Hir>, last: Hir, bytes: Vec<u8>) -> Result<(), All
     Ok(())
 }
 
-fn bytes_in_row(bytes: Vec<u8>) -> Hir
+pub(super) fn bytes_in_row(bytes: Vec<u8>) -> Hir
     ensures { result ≡ literal bytes.items }
 {
     let properties = Properties::of_len(bytes.len());

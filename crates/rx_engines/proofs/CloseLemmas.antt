@@ -1,0 +1,45 @@
+-- The frames of a closure.
+use Rattle.std.proofs.Common.{◌≡◌, ℕ, ◌+◌, ◌<◌, ◌≤◌, List, [], ◌∷◌, ◌++◌, length, refl, sym, ◌∙◌, ap, subst, arith, true≢false}
+use Rattle.std.specs.Prelude.{map, All, Bool, true, false, not}
+use Rattle.rx_model.proofs.RunLemmas.{weight}
+use Rattle.std.proofs.lemmas.List.Elements.{All-head, All-tail}
+use Rattle.rx_thompson.specs.Automaton.{at}
+use Rattle.rx_engines.specs.Walk.{explore_all}
+use Rattle.rx_engines.specs.declared.frame.Frame.{Frame}
+use Rattle.rx_thompson.specs.Automaton.{state_at}
+use Rattle.rx_thompson.specs.declared.state.State.{State}
+use Rattle.rx_engines.specs.declared.frame.Frame.TheVariants.{Explore}
+use Rattle.rx_engines.specs.Threads.{has}
+use Rattle.rx_engines.specs.Simulation.{AllHere, cost, passed_at}
+use Rattle.rx_engines.proofs.LineLemmas.{line, cost_at, line-less}
+
+pub AllHere-union : (n i : ℕ) (qs : List ℕ) (frames : List Frame) → All (λ q. q < n) qs → AllHere n i frames → AllHere n i (explore_all (map (λ q. at q i) qs) ++ frames)
+AllHere-union n i [] frames all here = here
+AllHere-union n i (q ∷ qs) frames all here =
+    (All-head (λ x. x < n) q qs all, refl, AllHere-union n i qs frames (All-tail (λ x. x < n) q qs all) here)
+
+pub union-length : (qs : List ℕ) (i : ℕ) (frames : List Frame) → length (explore_all (map (λ q. at q i) qs) ++ frames) ≡ length qs + length frames
+union-length [] i frames = omega arith
+union-length (q ∷ qs) i frames = let h = union-length qs i frames in omega arith
+
+-- the frame that was taken off
+pub on_top : {n i : ℕ} {stack rest : List Frame} {frame : Frame} {q j : ℕ} → AllHere n i stack → stack ≡ frame ∷ rest → frame ≡ Explore q j
+    → (stack ≡ Explore q i ∷ rest) × (q < n) × AllHere n i rest
+on_top {n} {i} {stack} {rest} {frame} {q} {j} here off is =
+    let popped : stack ≡ Explore q j ∷ rest = off ∙ ap (λ f. f ∷ rest) is in
+    let all = subst (AllHere n i) popped here in
+    (popped ∙ ap (λ k. Explore q k ∷ rest) all.1, all.0, all.2)
+
+-- what is left, with the frames, falls by one and the cost of the state
+pub top-less : (states : List State) (i q : ℕ) (items : List ℕ) (stack rest : List Frame) → stack ≡ Explore q i ∷ rest → q < length states → has items q ≡ false
+    → weight (cost_at states) (line (length states) i) (passed_at (items ++ q ∷ []) i) + cost (state_at states q) + length rest + 1
+    ≤ weight (cost_at states) (line (length states) i) (passed_at items i) + length stack
+top-less states i q items stack rest popped lt new = let h = line-less states (length states) i q items lt new in let size = ap length popped in omega arith
+
+pub not-true : (b : Bool) → true ≡ not b → b ≡ false
+not-true true h = absurd (true≢false h)
+not-true false h = refl
+
+pub not-false : (b : Bool) → false ≡ not b → b ≡ true
+not-false true h = refl
+not-false false h = absurd (true≢false (sym h))

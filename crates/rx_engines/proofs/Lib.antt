@@ -1,0 +1,11 @@
+pub mod OptionLemmas
+pub mod WalkLemmas
+pub mod SlotLemmas
+pub mod SimulationLemmas
+pub mod LineLemmas
+pub mod SetLemmas
+pub mod TableLemmas
+pub mod CloseLemmas
+pub mod StepLemmas
+pub mod StartLemmas
+pub mod EngineLemmas

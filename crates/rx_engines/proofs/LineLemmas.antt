@@ -1,0 +1,60 @@
+-- The states at one place, and what is left of them.
+use Rattle.std.proofs.Common.{◌≡◌, ℕ, zero, suc, ◌+◌, ◌≤◌, ◌<◌, List, [], ◌∷◌, ◌++◌, refl, ◌∙◌, ap, arith}
+use Rattle.std.specs.Prelude.{true, false, ◌==◌}
+use Rattle.std.proofs.lemmas.Bool.Decides.{nat_tests}
+use Rattle.rx_model.specs.Runs.{Configuration, Passed, same, is_among}
+use Rattle.rx_model.proofs.RunLemmas.{by_test, weight, weight-less}
+use Rattle.rx_thompson.specs.Automaton.{at, state_at}
+use Rattle.rx_thompson.specs.declared.state.State.{State}
+use Rattle.rx_engines.specs.Threads.{has}
+use Rattle.rx_engines.specs.Simulation.{cost, cost_below, passed_at}
+use Rattle.rx_engines.proofs.SimulationLemmas.{passed_at-has, passed_at-push}
+
+-- the states below n, at place i
+abbrev pub line : ℕ → ℕ → List Configuration
+line zero i = []
+line (suc n) i = at n i ∷ line n i
+
+pub line-has : (n i q : ℕ) → q < n → is_among (line n i) (at q i) ≡ true
+line-has zero i q lt = absurd (omega arith)
+line-has (suc n) i q lt =
+    by_test (n == q)
+    (λ e. let here : same (at n i) (at q i) ≡ true = grind (arith, nat_tests) in rw here refl)
+    (λ e.
+    let apart : same (at n i) (at q i) ≡ false = grind (arith, nat_tests) in
+    let below : q < n = grind (arith, nat_tests) in
+    rw apart (line-has n i q below))
+
+pub line-count : (n i : ℕ) (p : Passed) → weight (λ c. 1) (line n i) p ≤ n
+unfolding weight
+line-count zero i p = omega arith
+line-count (suc n) i p =
+    let h = line-count n i p in
+    by_test (p (at n i)) (λ e. rw e (omega arith)) (λ e. rw e (omega arith))
+
+-- the frames that the states which are left will leave
+abbrev pub cost_at : List State → Configuration → ℕ
+cost_at states c = cost (state_at states c.state)
+
+pub line-cost : (states : List State) (n i : ℕ) (p : Passed) → weight (cost_at states) (line n i) p ≤ cost_below states n
+unfolding weight cost_below
+line-cost states zero i p = omega arith
+line-cost states (suc n) i p =
+    let h = line-cost states n i p in
+    by_test (p (at n i)) (λ e. rw e (omega arith)) (λ e. rw e (omega arith))
+
+-- a state that comes into the set takes its cost off
+pub line-less : (states : List State) (n i q : ℕ) (items : List ℕ) → q < n → has items q ≡ false
+    → weight (cost_at states) (line n i) (passed_at (items ++ q ∷ []) i) + cost (state_at states q) ≤ weight (cost_at states) (line n i) (passed_at items i)
+line-less states n i q items lt new =
+    rw (passed_at-push items i q) (weight-less (cost_at states) (line n i) (at q i) (passed_at items i) (line-has n i q lt) (passed_at-has items i q ∙ new))
+
+-- and leaves fewer of them
+pub count-less : (n i q : ℕ) (items : List ℕ) → q < n → has items q ≡ false
+    → weight (λ c. 1) (line n i) (passed_at (items ++ q ∷ []) i) + 1 ≤ weight (λ c. 1) (line n i) (passed_at items i)
+count-less n i q items lt new =
+    rw (passed_at-push items i q) (weight-less (λ c. 1) (line n i) (at q i) (passed_at items i) (line-has n i q lt) (passed_at-has items i q ∙ new))
+
+pub cost_below-more : (states : List State) (n : ℕ) → cost_below states (n + 1) ≡ cost (state_at states n) + cost_below states n
+unfolding cost_below
+cost_below-more states n = let e : n + 1 ≡ suc n = omega arith in ap (cost_below states) e

@@ -1,0 +1,173 @@
+-- The threads at a place, one after the other, over a byte.
+use Rattle.std.proofs.Common.{◌≡◌, ◌⊎◌, ℕ, suc, ◌+◌, ◌≤◌, ◌<◌, List, [], ◌∷◌, length, drop, refl, sym, ◌∙◌, ap, subst, inl, inr, arith, get_or}
+use Rattle.std.proofs.Math.Seq.{drop-cons}
+use Rattle.std.proofs.lemmas.List.{drop_all}
+use Rattle.std.specs.Prelude.{true, false, ◌&&◌, Option, Some, None, option_map, All, nat_lt, nat_le}
+use Rattle.std.specs.Option.{option_or}
+use Rattle.rx_model.specs.Runs.{Configuration, PriorityGraph, Passed, nowhere, and_at, same, Trace, with_write, found, first_some, IsBounded, NeverFalls}
+use Rattle.rx_model.proofs.RunLemmas.{by_test, same-true}
+use Rattle.rx_model.proofs.FoundLemmas.{found-accepted, found-prune, found-step, found-forget}
+use Rattle.std.proofs.lemmas.List.Elements.{All-nil, All-cons, All-head, All-tail}
+use Rattle.std.proofs.lemmas.Bool.Decides.{nat_tests}
+use Rattle.rx_model.proofs.FirstLemmas.{none-is-some, some-is}
+use Rattle.rx_thompson.specs.Automaton.{automaton, route, read_byte, state_step, state_accepts, state_writes, NamesBelow}
+use Rattle.rx_thompson.specs.declared.state.Transition.{Transition}
+use Rattle.rx_thompson.specs.declared.state.State.TheVariants.{ByteRange, Sparse, Union, Capture, Fail, Match as Accepts}
+use Rattle.rx_thompson.proofs.StateLemmas.{accepted-is, successors-is, written-is, state-known, names-known, read_byte-taken, read_byte-dead}
+use Rattle.rx_engines.specs.Simulation.{Acts, byte_at, onto, read_of, act_of}
+use Rattle.rx_engines.specs.declared.pikevm.step.Action.{Action}
+use Rattle.rx_thompson.specs.Automaton.{at, state_at}
+use Rattle.rx_engines.specs.Walk.{answer, pending}
+use Rattle.rx_thompson.specs.declared.state.State.{State}
+use Rattle.rx_engines.specs.declared.frame.Frame.TheVariants.{Explore}
+use Rattle.rx_engines.proofs.OptionLemmas.{or-none_right, or-assoc}
+use Rattle.rx_engines.specs.Threads.{Row, row_at}
+use Rattle.rx_engines.specs.Simulation.{is_resting, passed_at, Hit, hit, thread, among, IsStable, Waits, Closed}
+use Rattle.rx_engines.proofs.SimulationLemmas.{passed_at-elsewhere, among-alike}
+
+-- The threads put aside at the next place, then those that are left at this one, then what comes later.
+pub record Stepping (states : List State) (g : PriorityGraph) (i : ℕ) (later : Passed → Option Hit) (rows : List Row) (left : List ℕ) (items : List ℕ) (rows' : List Row) (goal : Option Hit) : Type 0 where
+  pub value : option_or (among states g nowhere (i + 1) rows' items) (option_or (among states g (passed_at items (i + 1)) i rows left) (later (passed_at items (i + 1)))) ≡ goal
+
+-- the threads after the first k
+abbrev pub onward : List State → PriorityGraph → ℕ → List Row → List ℕ → (Passed → Option Hit) → Passed → Option Hit
+onward states g i rows left later p = option_or (among states g p i rows left) (later p)
+
+module _ (states : List State) (g : PriorityGraph) where
+  pub among-left : (p : Passed) (i : ℕ) (rows : List Row) (qs : List ℕ) (k q : ℕ) → k < length qs → q ≡ get_or qs k 0
+      → among states g p i rows (drop k qs) ≡ option_or (thread states g p i rows q) (among states g p i rows (drop (k + 1) qs))
+  unfolding among
+  among-left p i rows qs k q lt is =
+      let more : suc k ≡ k + 1 = omega arith in
+      ap (among states g p i rows) (drop-cons qs k 0 lt ∙ (λ j. sym is j ∷ drop (more j) qs))
+
+  pub among-over : (p : Passed) (i : ℕ) (rows : List Row) (qs : List ℕ) (k : ℕ) → length qs ≤ k → among states g p i rows (drop k qs) ≡ None
+  unfolding among
+  among-over p i rows qs k le = ap (among states g p i rows) (drop_all k qs le)
+
+  pub among-empty : (p : Passed) (i : ℕ) (rows : List Row) (qs : List ℕ) → qs ≡ [] → among states g p i rows qs ≡ None
+  unfolding among
+  among-empty p i rows qs e = ap (among states g p i rows) e
+
+  pub onward-stable : (i : ℕ) (rows : List Row) (left : List ℕ) (later : Passed → Option Hit) → IsStable g later → IsStable g (onward states g i rows left later)
+  onward-stable i rows left later stable p x nothing j =
+      option_or (among-alike states g p (and_at x p) (λ c. found-prune g p x c nothing) i rows left j) (stable p x nothing j)
+
+module _ (states : List State) (g : PriorityGraph) (i : ℕ) (rows : List Row) (q : ℕ) (bounded : IsBounded g) (p : Passed) (new : p (at q i) ≡ false) where
+  pub thread-accepts : (pattern : ℕ) → is_resting (state_at states q) ≡ true → g.accepted (at q i) ≡ Some pattern
+      → thread states g p i rows q ≡ Some ((row_at rows q).0, record { pattern = pattern; end = i; slots = (row_at rows q).1 })
+  thread-accepts pattern rests accepts = rw (rests, found-accepted g p bounded (at q i) pattern new accepts) refl
+
+  pub thread-reads : NeverFalls g → (next : ℕ) → is_resting (state_at states q) ≡ true → g.accepted (at q i) ≡ None → g.written (at q i) ≡ None → g.successors (at q i) ≡ at next (i + 1) ∷ []
+      → thread states g p i rows q ≡ hit (row_at rows q).0 (answer (row_at rows q).1 (found g p (at next (i + 1))))
+  thread-reads rises next rests none unwritten goes =
+      rw rests (ap (λ o. hit (row_at rows q).0 (answer (row_at rows q).1 o)) is)
+    where
+      single : (o : Option Trace) → option_map (with_write None i) (option_or o None) ≡ o
+      single None = refl
+      single (Some t) = refl
+
+      elsewhere : (e : Configuration) → i + 1 ≤ e.place → and_at (at q i) p e ≡ p e
+      elsewhere e le =
+          by_test (same (at q i) e)
+          (λ h. let equal : i ≡ e.place = ap (λ (x : Configuration). x.place) (same-true (at q i) e h) in absurd (omega arith))
+          (λ h. rw h refl)
+
+      is : found g p (at q i) ≡ found g p (at next (i + 1))
+      is =
+          found-step g p bounded (at q i) new none
+          ∙ (λ k. option_map (with_write (unwritten k) i) (first_some (found g (and_at (at q i) p)) (goes k)))
+          ∙ single (found g (and_at (at q i) p) (at next (i + 1)))
+          ∙ found-forget g rises (and_at (at q i) p) p (at next (i + 1)) elsewhere
+
+  pub thread-ends : (is_resting (state_at states q) ≡ false) ⊎ ((g.accepted (at q i) ≡ None) × (g.successors (at q i) ≡ [])) → thread states g p i rows q ≡ None
+  thread-ends (inl moves) = rw moves refl
+  thread-ends (inr dead) =
+      by_test (is_resting (state_at states q))
+      (λ e. rw e (ap (λ o. hit (row_at rows q).0 (answer (row_at rows q).1 o)) (found-step g p bounded (at q i) new dead.0 ∙ ap (λ ds. option_map (with_write (g.written (at q i)) i) (first_some (found g (and_at (at q i) p)) ds)) dead.1)))
+      (λ e. rw e refl)
+
+not-here : (items : List ℕ) (q i : ℕ) → passed_at items (i + 1) (at q i) ≡ false
+not-here items q i = passed_at-elsewhere items (i + 1) (at q i) (omega arith)
+
+module _ {states : List State} {g : PriorityGraph} {i : ℕ} {later : Passed → Option Hit} {rows : List Row} {items : List ℕ} {rows' : List Row} {goal : Option Hit}
+    (bounded : IsBounded g) (qs : List ℕ) (k q : ℕ) (lt : k < length qs) (here : q ≡ get_or qs k 0) (s : Stepping states g i later rows (drop k qs) items rows' goal) where
+  -- the first of the threads stands alone
+  parted : option_or (among states g nowhere (i + 1) rows' items) (option_or (thread states g (passed_at items (i + 1)) i rows q) (onward states g i rows (drop (k + 1) qs) later (passed_at items (i + 1)))) ≡ goal
+  parted =
+      ap (option_or (among states g nowhere (i + 1) rows' items)) (sym (or-assoc (thread states g (passed_at items (i + 1)) i rows q) (among states g (passed_at items (i + 1)) i rows (drop (k + 1) qs)) (later (passed_at items (i + 1)))))
+      ∙ ap (λ o. option_or (among states g nowhere (i + 1) rows' items) (option_or o (later (passed_at items (i + 1))))) (sym (among-left states g (passed_at items (i + 1)) i rows qs k q lt here))
+      ∙ s.value
+
+  pub Stepping-accepts : (pattern : ℕ) → is_resting (state_at states q) ≡ true → g.accepted (at q i) ≡ Some pattern
+      → option_or (among states g nowhere (i + 1) rows' items) (Some ((row_at rows q).0, record { pattern = pattern; end = i; slots = (row_at rows q).1 })) ≡ goal
+  Stepping-accepts pattern rests accepts = rw (thread-accepts states g i rows q bounded (passed_at items (i + 1)) (not-here items q i) pattern rests accepts) at parted
+
+  pub Stepping-reads : NeverFalls g → (next : ℕ) → is_resting (state_at states q) ≡ true → g.accepted (at q i) ≡ None → g.written (at q i) ≡ None → g.successors (at q i) ≡ at next (i + 1) ∷ []
+      → Waits states g (i + 1) (row_at rows q).0 (onward states g i rows (drop (k + 1) qs) later) items rows' (Explore next (i + 1) ∷ []) (row_at rows q).1 goal
+  unfolding pending
+  Stepping-reads rises next rests none unwritten goes = record {
+    value =
+        ap (λ o. option_or (among states g nowhere (i + 1) rows' items) (option_or (hit (row_at rows q).0 o) (onward states g i rows (drop (k + 1) qs) later (passed_at items (i + 1))))) (or-none_right (answer (row_at rows q).1 (found g (passed_at items (i + 1)) (at next (i + 1)))))
+        ∙ ap (λ o. option_or (among states g nowhere (i + 1) rows' items) (option_or o (onward states g i rows (drop (k + 1) qs) later (passed_at items (i + 1))))) (sym (thread-reads states g i rows q bounded (passed_at items (i + 1)) (not-here items q i) rises next rests none unwritten goes))
+        ∙ parted;
+  }
+
+  pub Stepping-ends : (is_resting (state_at states q) ≡ false) ⊎ ((g.accepted (at q i) ≡ None) × (g.successors (at q i) ≡ [])) → Stepping states g i later rows (drop (k + 1) qs) items rows' goal
+  Stepping-ends ends = record { value = rw (thread-ends states g i rows q bounded (passed_at items (i + 1)) (not-here items q i) ends) at parted }
+
+pub Stepping-over : {states : List State} {g : PriorityGraph} {i : ℕ} {later : Passed → Option Hit} {rows : List Row} {items : List ℕ} {rows' : List Row} {goal : Option Hit} (qs : List ℕ) (k : ℕ)
+    → length qs ≤ k → Stepping states g i later rows (drop k qs) items rows' goal → Closed states g (i + 1) later items rows' goal
+Stepping-over {states} {g} {i} {later} {rows} {items} {rows'} {goal} qs k le s =
+    record { value = rw (among-over states g (passed_at items (i + 1)) i rows qs k le) at s.value }
+
+pub Stepping-begun : {states : List State} {g : PriorityGraph} {i : ℕ} {later : Passed → Option Hit} {rows : List Row} {qs : List ℕ} {items : List ℕ} {rows' : List Row} {goal : Option Hit}
+    → items ≡ [] → option_or (among states g nowhere i rows qs) (later nowhere) ≡ goal → Stepping states g i later rows qs items rows' goal
+unfolding among
+Stepping-begun e value = rw e (record { value = value })
+
+-- What a state does at a byte, as the machine says it.
+
+onto-names : (n : ℕ) (ts : List Transition) (b next : ℕ) → All (λ (t : Transition). t.next < n) ts → route ts b ≡ Some next → next < n
+onto-names n [] b next all goes = none-is-some goes
+onto-names n (t ∷ ts) b next all goes =
+    by_test (nat_le t.start b && nat_le b t.end)
+    (λ e. let is : t.next ≡ next = some-is (rw e at goes) in let lt = All-head (λ (t : Transition). t.next < n) t ts all in omega arith)
+    (λ e. onto-names n ts b next (All-tail (λ (t : Transition). t.next < n) t ts all) (rw e at goes))
+
+module _ (states : List State) (text : List ℕ) (end q i : ℕ) (names : All (NamesBelow (length states)) states) (state : q < length states) (place : i ≤ end) where
+  -- a state that reads a byte by these transitions
+  acts-read : (s : State) (ts : List Transition) → state_at states q ≡ s → is_resting s ≡ true → state_accepts s ≡ None → state_writes s ≡ None → state_step text end s i ≡ read_byte text end ts i
+      → All (λ (t : Transition). t.next < length states) ts → Acts states (automaton states text end) end q i (read_of ts (byte_at text end i))
+  acts-read s ts is rests none unwritten steps all =
+      by_test (nat_lt i end)
+      (λ e. rw e (at_byte (grind (arith, nat_tests)) (route ts (get_or text i 0)) refl))
+      (λ e. rw e (inr (accepts, goes ∙ read_byte-dead text end ts i (λ lt. absurd (grind (arith, nat_tests))))))
+    where
+      accepts : (automaton states text end).accepted (at q i) ≡ None
+      accepts = accepted-is states text end q i state place s is ∙ none
+
+      goes : (automaton states text end).successors (at q i) ≡ read_byte text end ts i
+      goes = successors-is states text end q i state place s is ∙ steps
+
+      at_byte : i < end → (o : Option ℕ) → route ts (get_or text i 0) ≡ o → Acts states (automaton states text end) end q i (onto o)
+      at_byte lt None e = inr (accepts, goes ∙ read_byte-dead text end ts i (λ _. e))
+      at_byte lt (Some next) e =
+          (ap is_resting is ∙ rests, onto-names (length states) ts (get_or text i 0) next all e, lt, accepts, written-is states text end q i state place s is ∙ unwritten, goes ∙ read_byte-taken text end ts next i lt e)
+
+  acts : (s : State) → state_at states q ≡ s → Acts states (automaton states text end) end q i (act_of s (byte_at text end i))
+  acts (ByteRange low high next) is =
+      acts-read (ByteRange low high next) (record { start = low; end = high; next = next } ∷ []) is refl refl refl refl (only (names-known states q (ByteRange low high next) names state is))
+    where
+      only : next < length states → All (λ (t : Transition). t.next < length states) (record { start = low; end = high; next = next } ∷ [])
+      only lt = All-cons (λ (t : Transition). t.next < length states) (record { start = low; end = high; next = next }) [] lt (All-nil (λ (t : Transition). t.next < length states))
+  acts (Sparse transitions) is = acts-read (Sparse transitions) transitions is refl refl refl refl (names-known states q (Sparse transitions) names state is)
+  acts (Union alternates) is = inl (ap is_resting is)
+  acts (Capture next pattern slot) is = inl (ap is_resting is)
+  acts Fail is = inl (ap is_resting is)
+  acts (Accepts pattern) is = (ap is_resting is, accepted-is states text end q i state place (Accepts pattern) is)
+
+  -- what was done with the state and the byte that were read
+  pub acts-known : (n : ℕ) (r : State) (b : Option ℕ) (a : Action) → n ≡ q → r ≡ get_or states n r → b ≡ byte_at text end i → a ≡ act_of r b → Acts states (automaton states text end) end q i a
+  acts-known n r b a same read byte is =
+      subst (Acts states (automaton states text end) end q i) (sym (is ∙ ap (act_of r) byte)) (acts r (state-known states n q r r same state read refl))

@@ -1,0 +1,137 @@
+-- A simulation by ordered threads: what the threads at a place lead to, and what a step keeps true.
+use Rattle.std.specs.Prelude.{◌≡◌, ◌⊎◌, ℕ, zero, suc, ◌+◌, ◌-◌, ◌<◌, ◌≤◌, Bool, true, false, List, [], ◌∷◌, length, map, replicate, Option, Some, None, option_map, nat_lt, slice_index, if◌then◌else◌}
+use Rattle.std.specs.Option.{option_or}
+use Rattle.rx_model.specs.Runs.{Configuration, PriorityGraph, Passed, nowhere, and_at, found, is_among}
+use Rattle.rx_model.specs.Search.{Match, is_permitted, first_start}
+use Rattle.rx_thompson.specs.Automaton.{at, automaton, state_at, route}
+use Rattle.rx_thompson.specs.declared.state.Transition.{Transition}
+use Rattle.rx_engines.specs.Walk.{Slots, Answer, answer, pending, write_all, Expands}
+use Rattle.rx_engines.specs.Search.{first_of}
+use Rattle.rx_thompson.specs.declared.state.State.{State}
+use Rattle.rx_thompson.specs.declared.state.State.TheVariants.{ByteRange, Sparse, Union, Capture, Fail, Match as Accepts}
+use Rattle.rx_engines.specs.declared.frame.Frame.{Frame}
+use Rattle.rx_engines.specs.declared.frame.Frame.TheVariants.{Explore, Restore}
+use Rattle.rx_engines.specs.Threads.{Row, row_at}
+use Rattle.rx_engines.specs.declared.pikevm.step.Action.{Action}
+use Rattle.rx_engines.specs.declared.pikevm.step.Action.TheVariants.{Accept, Read, Nothing}
+
+-- how many frames a state leaves on the stack
+abbrev pub cost : State → ℕ
+cost (ByteRange low high next) = 0
+cost (Sparse transitions) = 0
+cost (Union alternates) = length alternates
+cost (Capture next pattern slot) = 2
+cost Fail = 0
+cost (Accepts pattern) = 0
+
+-- the same of the first n states in all
+unfoldable pub cost_below : List State → ℕ → ℕ
+cost_below states zero = 0
+cost_below states (suc n) = cost (state_at states n) + cost_below states n
+
+-- a thread stays at this state until a byte is read
+abbrev pub is_resting : State → Bool
+is_resting (ByteRange low high next) = true
+is_resting (Sparse transitions) = true
+is_resting (Union alternates) = false
+is_resting (Capture next pattern slot) = false
+is_resting Fail = false
+is_resting (Accepts pattern) = true
+
+-- the states of the list, at place i
+abbrev pub passed_at : List ℕ → ℕ → Passed
+passed_at items i c = is_among (map (λ q. at q i) items) c
+
+-- an answer with the start of its match
+abbrev pub Hit : Type 0
+Hit = ℕ × Answer
+
+abbrev pub hit : ℕ → Option Answer → Option Hit
+hit start o = option_map (λ a. (start, a)) o
+
+-- what the thread that rests at q leads to
+abbrev pub thread : List State → PriorityGraph → Passed → ℕ → List Row → ℕ → Option Hit
+thread states g p i rows q =
+    if is_resting (state_at states q) then hit (row_at rows q).0 (answer (row_at rows q).1 (found g p (at q i))) else None
+
+-- the first hit of the threads at place i, in order
+unfoldable pub among : List State → PriorityGraph → Passed → ℕ → List Row → List ℕ → Option Hit
+among states g p i rows [] = None
+among states g p i rows (q ∷ qs) = option_or (thread states g p i rows q) (among states g p i rows qs)
+
+-- what comes later stays the same where a configuration that leads to nothing counts as passed
+abbrev pub IsStable : PriorityGraph → (Passed → Option Hit) → Type 0
+IsStable g later = (p : Passed) (x : Configuration) → found g p x ≡ None → later p ≡ later (and_at x p)
+
+-- the threads at place i, then what the frames lead to, then what comes later
+pub record Waits (states : List State) (g : PriorityGraph) (i start : ℕ) (later : Passed → Option Hit) (items : List ℕ) (rows : List Row) (frames : List Frame) (slots : Slots) (goal : Option Hit) : Type 0 where
+  pub value : option_or (among states g nowhere i rows items) (option_or (hit start (pending (found g (passed_at items i)) frames slots)) (later (passed_at items i))) ≡ goal
+
+-- the threads at place i, and then what comes later
+pub record Closed (states : List State) (g : PriorityGraph) (i : ℕ) (later : Passed → Option Hit) (items : List ℕ) (rows : List Row) (goal : Option Hit) : Type 0 where
+  pub value : option_or (among states g nowhere i rows items) (later (passed_at items i)) ≡ goal
+
+-- each frame to explore is a state below n at place i
+abbrev pub AllHere : ℕ → ℕ → List Frame → Type 0
+AllHere n i [] = Unit {0}
+AllHere n i (Explore q j ∷ rest) = (q < n) × (j ≡ i) × AllHere n i rest
+AllHere n i (Restore slot old ∷ rest) = AllHere n i rest
+
+-- the state rests, or gives way to others
+abbrev pub Visited : List State → ℕ → ℕ → Bool → List Frame → List Frame → Slots → Slots → Type 0
+Visited states q i true frames frames' slots slots' = (is_resting (state_at states q) ≡ true) × (frames' ≡ frames) × (slots' ≡ slots)
+Visited states q i false frames frames' slots slots' =
+    (is_resting (state_at states q) ≡ false) × ((text : List ℕ) (end : ℕ) → i ≤ end → Expands (automaton states text end) (at q i) frames frames' slots slots')
+
+-- the byte at the place, if it lies before the end
+abbrev pub byte_at : List ℕ → (end place : ℕ) → Option ℕ
+byte_at text end place = if nat_lt place end then Some (slice_index text place) else None
+
+-- what a state does at a byte
+abbrev pub onto : Option ℕ → Action
+onto None = Nothing
+onto (Some next) = Read next
+
+abbrev pub read_of : List Transition → Option ℕ → Action
+read_of transitions None = Nothing
+read_of transitions (Some byte) = onto (route transitions byte)
+
+abbrev pub act_of : State → Option ℕ → Action
+act_of (ByteRange low high next) byte = read_of (record { start = low; end = high; next = next } ∷ []) byte
+act_of (Sparse transitions) byte = read_of transitions byte
+act_of (Union alternates) byte = Nothing
+act_of (Capture next pattern slot) byte = Nothing
+act_of Fail byte = Nothing
+act_of (Accepts pattern) byte = Accept pattern
+
+-- what the action tells of the state, in the graph
+abbrev pub Acts : List State → PriorityGraph → ℕ → ℕ → ℕ → Action → Type 0
+Acts states g end q i (Accept pattern) = (is_resting (state_at states q) ≡ true) × (g.accepted (at q i) ≡ Some pattern)
+Acts states g end q i (Read next) =
+    (is_resting (state_at states q) ≡ true) × (next < length states) × (i < end) × (g.accepted (at q i) ≡ None) × (g.written (at q i) ≡ None) × (g.successors (at q i) ≡ at next (i + 1) ∷ [])
+Acts states g end q i Nothing =
+    (is_resting (state_at states q) ≡ false) ⊎ ((g.accepted (at q i) ≡ None) × (g.successors (at q i) ≡ []))
+
+-- what a step over a byte leaves: the threads at the next place, and then a match or what comes later
+abbrev pub Stepped : Option (ℕ × ℕ) → List State → PriorityGraph → ℕ → (Passed → Option Hit) → List ℕ → List Row → Slots → Option Hit → Type 0
+Stepped None states g i later items rows slots goal = Closed states g (i + 1) later items rows goal
+Stepped (Some r) states g i later items rows slots goal =
+    option_or (among states g nowhere (i + 1) rows items) (Some (r.1, record { pattern = r.0; end = i; slots = slots })) ≡ goal
+
+-- a match as a hit, with so many slots
+abbrev pub hit_of : ℕ → Match → Hit
+hit_of width m = (m.start, record { pattern = m.trace.pattern; end = m.trace.end; slots = write_all m.trace.writes (replicate width None) })
+
+-- the best match so far
+abbrev pub best_hit : Option (ℕ × ℕ × ℕ) → Slots → Option Hit
+best_hit None slots = None
+best_hit (Some b) slots = Some (b.1, record { pattern = b.0; end = b.2; slots = slots })
+
+module _ (states : List State) (text : List ℕ) (starts : List ℕ) (utf8_empty : Bool) (end : ℕ) where
+  -- the first match that starts in i..=last, past what was passed
+  abbrev pub from_starts : Passed → (last i : ℕ) → Option Match
+  from_starts p last i = first_start (is_permitted utf8_empty text) (first_of (found (automaton states text end) p) starts) (last + 1 - i) i
+
+  -- the best match so far, and else the starts to come
+  abbrev pub later_starts : (width : ℕ) → Option Hit → (last i : ℕ) → Passed → Option Hit
+  later_starts width best last i p = option_or best (option_map (hit_of width) (from_starts p last i))

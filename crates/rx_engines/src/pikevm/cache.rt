@@ -1,0 +1,228 @@
+ghost use Rattle.std.specs.Prelude.{◌≡◌, vec_len, ℕ, ◌+◌, ◌^◌, ◌<◌, ◌≤◌, [], length, All, is_some, Some, None, IfOk, OnOk, OnErr, IfSome, IfNone, option_map, replicate, nat_lt, slice_index_or, if◌then◌else◌};
+ghost use Rattle.rx_model.specs.Search.{slot_value};
+ghost use Rattle.rx_thompson.specs.Automaton.{NamesBelow};
+ghost use Rattle.rx_engines.specs.Search.{last_start, next_in, triple};
+ghost use Rattle.rx_engines.specs.Simulation.{cost, cost_below};
+ghost use Rattle.rx_engines.specs.Room.{Room, room_code};
+ghost use Rattle.rx_engines.specs.Engine.{Fits};
+
+use crate::pikevm::search::search_slots;
+use crate::pikevm::set::SparseSet;
+use crate::pikevm::stack::Stack;
+use crate::pikevm::table::Table;
+use crate::pikevm::threads::Threads;
+use crate::pikevm::vm::PikeVM;
+use crate::slots::Slot;
+use rx_search::{Memory, NonMaxUsize, PatternID, StateID};
+use rx_thompson::State;
+use std::alloc::Global;
+use std::marker::Model;
+
+/// What a search writes to. It is made once for an automaton, and a search takes no memory.
+#[derive(Drop)]
+pub struct Cache {
+    curr: Threads,
+    next: Threads,
+    stack: Stack,
+    scratch: Vec<Slot>,
+    best: Vec<Slot>,
+}
+
+/// For how many states, frames and slots it has room.
+impl Model for Cache {
+    ghost Value = { Room };
+
+    ghost coded = { room_code };
+
+    ghost view = { λ c. record {
+      states = c.curr.set.room;
+      stack = c.stack.room;
+      widest = vec_len c.best;
+    } };
+
+    ghost invariant = { λ c. (c.next.set.room ≡ c.curr.set.room)
+        × (length c.curr.table.items ≡ c.curr.set.room)
+        × (length c.next.table.items ≡ c.curr.set.room)
+        × (c.curr.table.widest ≡ vec_len c.best)
+        × (c.next.table.widest ≡ vec_len c.best)
+        × (vec_len c.scratch ≡ vec_len c.best)
+        × (c.stack.items ≡ []) };
+}
+
+impl Cache {
+    /// A cache that serves this engine.
+    pub fn new(alloc: Global, vm: &PikeVM) -> Result<Cache, Memory>
+        ensures { IfOk result (Fits vm.now) }
+    {
+        let nfa = vm.get_nfa();
+        Cache::with_room(alloc, nfa.states(), nfa.slot_len())
+    }
+
+    /// Makes the cache one that serves this engine. Where there is no memory, it stays as it was.
+    pub fn reset(&mut self, alloc: Global, vm: &PikeVM) -> Result<(), Memory>
+        ensures ok { OnOk result (Fits vm.now self.new) }
+        ensures err { OnErr result (self.new ≡ self.old) }
+    {
+        *self = Cache::new(alloc, vm)?;
+        Ok(())
+    }
+
+    /// Room for searches of the states with up to `widest` slots.
+    pub(crate) fn with_room(alloc: Global, states: &[State], widest: usize) -> Result<Cache, Memory>
+        requires { length states.now < 2 ^ 32 }
+        ensures states { IfOk result (λ c. c.states ≡ length states.now) }
+        ensures stack { IfOk result (λ c. cost_below states.now (length states.now) < c.stack) }
+        ensures widest { IfOk result (λ c. c.widest ≡ widest) }
+    {
+        let n = states.len();
+        let room = stack_room(states)?;
+        let curr = Threads {
+            set: SparseSet::new(alloc, n)?,
+            table: Table::new(alloc, n, widest)?,
+        };
+        let next = Threads {
+            set: SparseSet::new(alloc, n)?,
+            table: Table::new(alloc, n, widest)?,
+        };
+        let stack = Stack::new(alloc, room)?;
+        let none = Slot::none();
+        let scratch = vec![in alloc; none; widest]?;
+        let best = vec![in alloc; none; widest]?;
+        Ok(Cache {
+            curr,
+            next,
+            stack,
+            scratch,
+            best,
+        })
+    }
+
+    /// The pattern, the start and the end of the next match in `from..end`, from one of the start states, the
+    /// first of them preferred. The slots get its groups.
+    /// It starts at `from` if the search is anchored.
+    pub(crate) fn find(
+        &mut self,
+        states: &[State],
+        text: &[u8],
+        starts: &[StateID],
+        utf8_empty: bool,
+        anchored: bool,
+        from: usize,
+        end: usize,
+        slots: &mut [Option<NonMaxUsize>],
+    ) -> Option<(PatternID, usize, usize)>
+        requires states { All (NamesBelow (length states.now)) states.now }
+        requires starts { All (λ s. s < length states.now) starts.now }
+        requires from { from ≤ end }
+        requires end { end ≤ length text.now }
+        requires room { (self.old.states ≡ length states.now)
+            × (cost_below states.now (length states.now) < self.old.stack) }
+        ensures value { result ≡ option_map triple
+            (next_in states.now text.now starts.now utf8_empty anchored from end) }
+        ensures slots { IfSome (next_in states.now text.now starts.now utf8_empty anchored from end)
+            (λ m. (k : ℕ) → k < length slots.new → slice_index_or slots.new k None
+            ≡ (if nat_lt k self.old.widest then slot_value m k else None)) }
+        ensures cleared { IfNone result (slots.new ≡ replicate (length slots.old) None) }
+        ensures room { self.new ≡ self.old }
+    {
+        let width = slots.len().min(self.best.len());
+        self.curr.table.reset(width);
+        self.next.table.reset(width);
+        self.curr.set.clear();
+        search_slots(
+            states,
+            text,
+            starts,
+            utf8_empty,
+            from,
+            latest_start(anchored, from, end),
+            end,
+            false,
+            width,
+            &mut self.curr,
+            &mut self.next,
+            &mut self.stack,
+            &mut self.scratch,
+            &mut self.best,
+            slots,
+        )
+    }
+
+    /// Whether `find` would find a match. It stops as soon as it knows.
+    pub(crate) fn is_match(
+        &mut self,
+        states: &[State],
+        text: &[u8],
+        starts: &[StateID],
+        utf8_empty: bool,
+        anchored: bool,
+        from: usize,
+        end: usize,
+    ) -> bool
+        requires states { All (NamesBelow (length states.now)) states.now }
+        requires starts { All (λ s. s < length states.now) starts.now }
+        requires from { from ≤ end }
+        requires end { end ≤ length text.now }
+        requires room { (self.old.states ≡ length states.now)
+            × (cost_below states.now (length states.now) < self.old.stack) }
+        ensures value { result ≡ is_some
+            (next_in states.now text.now starts.now utf8_empty anchored from end) }
+        ensures room { self.new ≡ self.old }
+    {
+        self.curr.table.reset(0);
+        self.next.table.reset(0);
+        self.curr.set.clear();
+        search_slots(
+            states,
+            text,
+            starts,
+            utf8_empty,
+            from,
+            latest_start(anchored, from, end),
+            end,
+            true,
+            0,
+            &mut self.curr,
+            &mut self.next,
+            &mut self.stack,
+            &mut self.scratch,
+            &mut self.best,
+            &mut [],
+        )
+        .is_some()
+    }
+}
+
+/// Where a match may start at the latest.
+fn latest_start(anchored: bool, from: usize, end: usize) -> usize
+    requires { from ≤ end }
+    ensures value { result ≡ last_start anchored from end }
+    ensures within { (from ≤ result) × (result ≤ end) }
+{
+    if anchored { from } else { end }
+}
+
+/// A room for the frames of one closure of the states.
+fn stack_room(states: &[State]) -> Result<usize, Memory>
+    ensures { IfOk result (λ room. cost_below states.now (length states.now) < room) }
+{
+    let mut room: usize = 1;
+    for q in 0..states.len() {
+        let Some(more) = room.checked_add(frames_of(&states[q])) else {
+            return Err(Memory);
+        };
+        room = more;
+    }
+    Ok(room)
+}
+
+/// How many frames the state leaves on the stack.
+fn frames_of(state: &State) -> usize
+    ensures { result ≡ cost state.now }
+{
+    match state {
+        State::Capture { .. } => 2,
+        State::Union { alternates } => alternates.as_slice().len(),
+        State::ByteRange { .. } | State::Sparse { .. } | State::Fail | State::Match { .. } => 0,
+    }
+}

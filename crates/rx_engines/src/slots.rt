@@ -1,0 +1,97 @@
+ghost use Rattle.std.specs.Prelude.{◌≡◌, ℕ, ◌<◌, length, None, Some, replicate, slice_set, slice_index_or};
+
+use rx_search::NonMaxUsize;
+use std::marker::Model;
+
+/// A place or none, in one word. A contract sees it as an option.
+#[derive(Clone, Copy)]
+pub struct Slot {
+    word: usize,
+}
+
+impl Model for Slot {
+    ghost use Rattle.std.specs.Prelude.{ℕ, Option, ◌<◌, ◌^◌};
+    ghost use Rattle.rx_engines.specs.Slot.{place_of, word_of, word_of-place_of};
+
+    ghost Value = { Option ℕ };
+
+    ghost view = { λ s. place_of s.word };
+
+    ghost invariant = { λ s. s.word < 2 ^ 64 };
+
+    ghost inverse = { λ o. record { word = word_of o } };
+
+    ghost inverse_ok = { λ a h. λ i. record { word = word_of-place_of a.word h i } };
+}
+
+impl Slot {
+    /// No place.
+    pub fn none() -> Slot
+        ensures { result ≡ None }
+    {
+        Slot { word: usize::MAX }
+    }
+
+    /// This place.
+    pub fn at(place: usize) -> Slot
+        requires { place < usize.MAX }
+        ensures { result ≡ Some place }
+    {
+        Slot { word: place }
+    }
+
+    /// The place, if there is one.
+    pub fn get(self) -> Option<NonMaxUsize>
+        ensures { result ≡ self }
+    {
+        NonMaxUsize::new(self.word)
+    }
+}
+
+/// Sets the slot, where there is room for it.
+pub fn write(slots: &mut [Slot], slot: usize, value: Slot)
+    ensures { slots.new ≡ slice_set slots.old slot value }
+{
+    if slot < slots.len() {
+        slots[slot] = value;
+    }
+}
+
+/// The slot's value, where there is room for it.
+pub fn read(slots: &[Slot], slot: usize) -> Slot
+    ensures { result ≡ slice_index_or slots.now slot None }
+{
+    if slot < slots.len() {
+        slots[slot]
+    } else {
+        Slot::none()
+    }
+}
+
+/// Empties each slot.
+pub fn clear(slots: &mut [Slot])
+    ensures { slots.new ≡ replicate (length slots.old) None }
+{
+    for i in 0..slots.len() {
+        slots[i] = Slot::none();
+    }
+}
+
+/// Copies the slots as far as they go, and leaves None in those after them.
+pub fn report(slots: &[Slot], to: &mut [Option<NonMaxUsize>])
+    ensures { (k : ℕ) → k < length to.new
+        → slice_index_or to.new k None ≡ slice_index_or slots.now k None }
+{
+    for i in 0..to.len() {
+        to[i] = read(slots, i).get();
+    }
+}
+
+/// Leaves None in each slot.
+pub fn empty(slots: &mut [Option<NonMaxUsize>])
+    ensures { slots.new ≡ replicate (length slots.old) None }
+{
+    for i in 0..slots.len() {
+        slots[i] = None;
+    }
+}

@@ -1,0 +1,43 @@
+-- The next match and the successive matches, said as relations.
+use Rattle.std.specs.Prelude.{◌≡◌, ℕ, ◌≤◌, List, [], ◌∷◌, Option, Some, None, slice_get, IsTrue}
+use Rattle.rx_model.specs.Expression.{Expression}
+use Rattle.rx_model.specs.Runs.{Trace}
+use Rattle.rx_model.specs.Search.{Patterns, first, is_permitted, Anchor, free, anchored, anchored_to, Match, next_after}
+
+-- the place lies in a..b, and is its first one where the search is anchored
+abbrev pub IsStart : Anchor → (b a place : ℕ) → Type 0
+IsStart free b a place = (a ≤ place) × (place ≤ b)
+IsStart anchored b a place = (place ≡ a) × (a ≤ b)
+IsStart (anchored_to pattern) b a place = (place ≡ a) × (a ≤ b)
+
+-- the search looks for the pattern
+abbrev pub IsSought : Anchor → (pattern : ℕ) → Type 0
+IsSought free p = Unit {0}
+IsSought anchored p = Unit {0}
+IsSought (anchored_to pattern) p = p ≡ pattern
+
+module _ (r : Patterns) (text : List ℕ) (anchor : Anchor) (b : ℕ) where
+  -- the pattern is sought, and its first run from the place tells t
+  abbrev pub HasFirstRun : (place pattern : ℕ) → Trace → Type 0
+  HasFirstRun place p t = IsSought anchor p × ((h : Expression) × (slice_get r.expressions p ≡ Some h) × (first r text b p h place ≡ Some t))
+
+  module _ (a : ℕ) where
+    -- a match may start at the place
+    abbrev pub MayStart : (place : ℕ) → Type 0
+    MayStart place = IsStart anchor b a place × IsTrue (is_permitted r.utf8_empty text place)
+
+    -- The next match: at the least start from which a pattern has a run, the first run of the least such pattern.
+    pub record IsNextMatch (m : Match) : Type 0 where
+      pub start : MayStart m.start
+      -- what it tells is the first run of its pattern from its start
+      pub run : HasFirstRun m.start m.trace.pattern m.trace
+      -- no pattern has a run from an earlier start, nor an earlier pattern from this one
+      pub least_start : (place p : ℕ) (t : Trace) → MayStart place → HasFirstRun place p t → m.start ≤ place
+      pub least_pattern : (p : ℕ) (t : Trace) → HasFirstRun m.start p t → m.trace.pattern ≤ p
+
+-- The successive matches from the next one on: each is the one after the match before it, and after the last there is none.
+abbrev pub AreSuccessive : (ℕ → Option Match) → Option Match → List Match → Type 0
+AreSuccessive search None [] = Unit {0}
+AreSuccessive search None (n ∷ ms) = ⊥
+AreSuccessive search (Some m) [] = ⊥
+AreSuccessive search (Some m) (n ∷ ms) = (n ≡ m) × AreSuccessive search (next_after search m.trace.end) ms

@@ -1,0 +1,26 @@
+use Rattle.std.proofs.Common.{◌≡◌, ℕ, ◌+◌, ◌≤◌, List, length}
+use Rattle.std.specs.Prelude.{Option, map}
+use Rattle.rx_model.specs.Search.{Match}
+use Rattle.rx_search.specs.Input.{InputValue, from_place}
+use Rattle.rx_search.specs.Searcher.{SearcherValue, places_left, to_come}
+use Rattle.rx_search.proofs.SearcherLemmas.{Progress}
+use Rattle.rx_search.proofs.searcher.Searcher.count.Given as goal
+
+-- one for each match
+abbrev pub one : Match → Unit {0}
+one m = tt
+
+pub record Counted (searches : InputValue → Option Match) (all : List Match) (count : ℕ) (s : SearcherValue) : Type 0 where
+  pub so_far : List (Unit {0})
+  pub progress : Progress searches one (map one all) so_far s
+  pub counted : length so_far ≡ count
+
+abbrev pub invariant-loop-count : goal.invariant-loop-count
+invariant-loop-count g l = record {
+  counted : Counted (g.F.Finder.searches l.finder) (to_come (g.F.Finder.searches l.fn.finder) l.fn.self) l.count l.self;
+  can : (i : ℕ) → g.F.Finder.can_search l.finder (from_place i l.self.input);
+  room : l.count + places_left l.self ≤ places_left l.fn.self;
+}
+
+abbrev pub decreases-loop-count : goal.decreases-loop-count
+decreases-loop-count g l = places_left l.self

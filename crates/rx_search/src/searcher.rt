@@ -1,0 +1,158 @@
+ghost use Rattle.std.specs.Prelude.{◌≡◌, ℕ, ◌≤◌, ◌<◌, Option, IfOk, OnOk, OnErr, OnSome, IfSome, MatchOption, option_map, map, length};
+ghost use Rattle.rx_model.specs.Search.{Match as ModelMatch, Patterns, matches};
+ghost use Rattle.rx_search.specs.Matches.{match_value};
+ghost use Rattle.rx_search.specs.Input.{InputValue, from_place, next_in};
+ghost use Rattle.rx_search.specs.Searcher.{fresh, moved_past, upcoming, places_left, to_come, successive};
+
+use crate::input::Input;
+use crate::matches::Match;
+use std::alloc::{AllocFailed, Global};
+use std::marker::Model;
+
+/// What can search an input for its next match.
+pub trait Finder {
+    /// Why a search may have no answer.
+    type Error;
+
+    /// What the finder needs of itself and of the input.
+    ghost can_search: { Self → InputValue → Type 0 } = { λ _ _. Unit {0} };
+
+    /// The match that a search of an input answers.
+    ghost searches: { Self → InputValue → Option ModelMatch };
+
+    /// What the finder holds of the match that its last search answered, as that match's slots.
+    ghost tells: { Self → Option ModelMatch → Type 0 } = { λ _ _. Unit {0} };
+
+    /// The next match in the span of the input. A call, also one that fails, changes no later answer.
+    fn find(&mut self, input: &Input<'_>) -> Result<Option<Match>, Self::Error>
+        requires { can_search self.old input.now }
+        ensures answer { IfOk result (λ found. found ≡ option_map match_value (searches self.old input.now)) }
+        ensures within { IfOk result (λ found. IfSome found (λ m. (input.now.start ≤ m.start) × (m.end ≤ input.now.end))) }
+        ensures told { OnOk result (tells self.new (searches self.old input.now)) }
+        ensures same_answers { (v : InputValue) → searches self.new v ≡ searches self.old v }
+        ensures still_can { (v : InputValue) → can_search self.old v → can_search self.new v };
+}
+
+/// The matches in an input, one after another: each search begins where the last match ended. An empty
+/// match at the end of the match before it is passed over by one more search, from one byte further on.
+#[derive(Drop)]
+pub struct Searcher<'h> {
+    input: Input<'h>,
+    last_match_end: Option<usize>,
+}
+
+impl<'h> Model for Searcher<'h> {
+    ghost use Rattle.rx_search.specs.Searcher.{SearcherValue, begins_at};
+
+    ghost Value = { SearcherValue };
+
+    ghost view = { λ s. record { input = s.input; last_end = s.last_match_end } };
+
+    ghost invariant = { λ s. begins_at s.last_match_end s.input };
+}
+
+impl<'h> Searcher<'h> {
+    /// Before the first match in this input.
+    pub fn new(input: Input<'h>) -> Searcher<'h>
+        ensures { result ≡ fresh input.entry }
+    {
+        Searcher {
+            input,
+            last_match_end: None,
+        }
+    }
+
+    /// The input of the next search: that of `new`, and after a match its start is where the match ended.
+    pub fn input(&self) -> &Input<'h>
+        ensures { result.now ≡ self.now.input }
+    {
+        &self.input
+    }
+
+    /// The next match, or None where there is none. After an error, and after None, the searcher is as
+    /// before. Give each call the same finder, or one that answers alike: then None stays None.
+    pub fn advance<F: Finder>(&mut self, finder: &mut F) -> Result<Option<Match>, F::Error>
+        requires { (i : ℕ) → F.can_search finder.old (from_place i self.old.input) }
+        ensures answer { IfOk result (λ found. found ≡ option_map match_value (upcoming (F.searches finder.old) self.old)) }
+        ensures within { IfOk result (λ found. IfSome found (λ m. (self.old.input.start ≤ m.start) × (m.end ≤ self.old.input.end))) }
+        ensures moved { IfOk result (λ found. MatchOption found (self.new ≡ self.old) (λ m. self.new ≡ moved_past m self.old)) }
+        ensures fewer_left { IfOk result (λ found. OnSome found (places_left self.new < places_left self.old)) }
+        ensures err { OnErr result (self.new ≡ self.old) }
+        ensures told { OnOk result (F.tells finder.new (upcoming (F.searches finder.old) self.old)) }
+        ensures same_answers { (v : InputValue) → F.searches finder.new v ≡ F.searches finder.old v }
+        ensures still_can { (v : InputValue) → F.can_search finder.old v → F.can_search finder.new v }
+        ensures can_go_on { (i : ℕ) → F.can_search finder.new (from_place i self.new.input) }
+    {
+        let Some(found) = self.find_next(finder)? else {
+            return Ok(None);
+        };
+        self.input.set_start(found.end());
+        self.last_match_end = Some(found.end());
+        Ok(Some(found))
+    }
+
+    /// The number of matches that are still to come.
+    pub fn count<F: Finder>(mut self, finder: &mut F) -> Result<usize, F::Error>
+        requires { (i : ℕ) → F.can_search finder.old (from_place i self.input) }
+        ensures { IfOk result (λ n. n ≡ length (to_come (F.searches finder.old) self.entry)) }
+    {
+        // Each match ends at a place of its own, and the number of places fits a `usize`.
+        let _haystack = self.input.haystack();
+        let mut count = 0;
+        while let Some(_) = self.advance(finder)? {
+            count += 1;
+        }
+        Ok(count)
+    }
+
+    /// The matches that are still to come.
+    pub fn collect<F: Finder>(
+        mut self,
+        alloc: Global,
+        finder: &mut F,
+    ) -> Result<Vec<Match>, F::Error>
+    where
+        F::Error: From<AllocFailed<Match>>,
+        requires { (i : ℕ) → F.can_search finder.old (from_place i self.input) }
+        ensures { IfOk result (λ all. all.items ≡ map match_value (to_come (F.searches finder.old) self.entry)) }
+    {
+        let mut all = Vec::new(alloc);
+        while let Some(found) = self.advance(finder)? {
+            all.push(found)?;
+        }
+        Ok(all)
+    }
+
+    /// The match that comes next.
+    fn find_next<F: Finder>(&self, finder: &mut F) -> Result<Option<Match>, F::Error>
+        requires { (i : ℕ) → F.can_search finder.old (from_place i self.now.input) }
+        ensures answer { IfOk result (λ found. found ≡ option_map match_value (upcoming (F.searches finder.old) self.now)) }
+        ensures within { IfOk result (λ found. IfSome found (λ m. (self.now.input.start ≤ m.start) × (m.end ≤ self.now.input.end))) }
+        ensures later { IfOk result (λ found. IfSome found (λ m. IfSome self.now.last_end (λ last. last < m.end))) }
+        ensures told { OnOk result (F.tells finder.new (upcoming (F.searches finder.old) self.now)) }
+        ensures same_answers { (v : InputValue) → F.searches finder.new v ≡ F.searches finder.old v }
+        ensures still_can { (v : InputValue) → F.can_search finder.old v → F.can_search finder.new v }
+    {
+        let found = finder.find(&self.input)?;
+        let Some(last) = self.last_match_end else {
+            return Ok(found);
+        };
+        let Some(first) = found else {
+            return Ok(None);
+        };
+        if first.start() != last || first.end() != last {
+            return Ok(Some(first));
+        }
+        let mut further = self.input.clone();
+        further.set_start(last + 1);
+        finder.find(&further)
+    }
+}
+
+/// Where each search answers the next match of some patterns, what a searcher gives, one after another,
+/// is the list of their successive matches.
+pub fn searches_give_the_matches()
+    ensures { (searches : InputValue → Option ModelMatch) (patterns : Patterns) (v : InputValue)
+        → ((i : ℕ) → searches (from_place i v) ≡ next_in patterns (from_place i v))
+        → successive searches v ≡ matches patterns v.haystack v.anchor v.end v.start }
+{}
