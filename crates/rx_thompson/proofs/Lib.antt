@@ -11,4 +11,12 @@ pub mod ChoiceLemmas
 pub mod CompileLemmas
 pub mod PatternLemmas
 pub mod StateLemmas
+pub mod RowLemmas
+pub mod RangesLemmas
+pub mod BlockLemmas
+pub mod ClassLemmas
+pub mod ByteLemmas
+pub mod Utf8Lemmas
+pub mod ReadLemmas
+pub mod RefinedLemmas
 pub mod NextMatchLemmas

@@ -2,6 +2,11 @@ pub mod Automaton
 pub mod Nfa
 pub mod NextMatch
 pub mod Draft
+pub mod States
+pub mod Row
+pub mod Ranges
+pub mod Trie
+pub mod Reading
 pub mod Built
 pub mod Covered
 pub mod Repeated

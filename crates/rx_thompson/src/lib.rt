@@ -6,6 +6,7 @@
 #![tactic(auto)]
 
 mod builder;
+mod class;
 mod compiler;
 mod error;
 mod groups;
@@ -13,6 +14,7 @@ mod nfa;
 mod sparse;
 mod state;
 
+pub use class::the_states_read_the_class;
 pub use compiler::Compiler;
 pub use error::BuildError;
 pub use nfa::NFA;
