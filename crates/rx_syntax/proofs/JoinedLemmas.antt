@@ -1,5 +1,5 @@
 -- Joining literals part by part.
-use Rattle.std.proofs.Common.{◌≡◌, ℕ, List, [], ◌∷◌, ◌++◌, refl, ap, sym, ◌∙◌, append_assoc, Vec, Global, ◌<◌, ◌+◌, length, get_or, drop, append-nil}
+use Rattle.std.proofs.Common.{◌≡◌, ℕ, zero, suc, ◌≤◌, arith, List, [], ◌∷◌, ◌++◌, refl, ap, sym, ◌∙◌, append_assoc, Vec, Global, ◌<◌, ◌+◌, length, get_or, drop, append-nil}
 use Rattle.rx_model.specs.Expression.{Expression, literal, cons}
 use Rattle.rx_syntax.specs.Normal.{join_literals, joined, list_of, expressions}
 use Rattle.std.proofs.lemmas.List.{at_drop_more}
@@ -68,3 +68,9 @@ kind-IsNoLiteral kind only = λ b e. (cc)
 
 pub expressions-drop : (hs : List Expression) (i : ℕ) (h : Expression) → i < length hs → h ≡ get_or hs i h → expressions (drop i hs) ≡ cons h (expressions (drop (i + 1) hs))
 expressions-drop hs i h lt e = at_drop_more expressions hs i h lt ∙ ap (λ g. cons g (expressions (drop (i + 1) hs))) (sym e)
+
+pub drop-past : {A : Type 0} (xs : List A) (i : ℕ) → length xs ≤ i → drop i xs ≡ []
+drop-past [] zero le = refl
+drop-past [] (suc i) le = refl
+drop-past (x ∷ xs) zero le = absurd (omega arith)
+drop-past (x ∷ xs) (suc i) le = drop-past xs i (omega arith)

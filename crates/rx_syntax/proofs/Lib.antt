@@ -1,8 +1,10 @@
-mod Rows
 pub mod BranchLemmas
 pub mod ClassItemLemmas
 pub mod ClassLemmas
+pub mod CostLemmas
+pub mod DepthLemmas
 pub mod EndLemmas
+pub mod GroupLemmas
 pub mod ItemLemmas
 pub mod JoinedLemmas
 pub mod PatternLemmas
@@ -10,6 +12,7 @@ pub mod PlaceLemmas
 pub mod PropertiesLemmas
 pub mod ReadsLemmas
 pub mod RepeatLemmas
+mod Rows
 pub mod ScalarLemmas
 pub mod SizeLemmas
 pub mod StackLemmas

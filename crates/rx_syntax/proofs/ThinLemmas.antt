@@ -1,5 +1,5 @@
 -- Reading the first patterns item by item, with the characters of a run in one literal.
-use Rattle.std.proofs.Common.{◌≡◌, ℕ, zero, suc, ◌+◌, ◌<◌, ◌≤◌, Bool, true, false, List, [], ◌∷◌, ◌++◌, length, get_or, drop, refl, ap, sym, ◌∙◌, append_assoc, arith, Result, Ok, Err, eqb, cond, inl, inr}
+use Rattle.std.proofs.Common.{◌≡◌, ℕ, ◌+◌, ◌<◌, ◌≤◌, Bool, true, false, List, [], ◌∷◌, ◌++◌, length, get_or, drop, refl, ap, sym, ◌∙◌, append_assoc, arith, Result, Ok, Err, eqb, cond, inl, inr}
 use Rattle.std.specs.Prelude.{flat_map, not, ◌&&◌}
 use Rattle.std.proofs.lemmas.Bool.{cases_lt, false≢true, lt-ltb, le-ltb}
 use Rattle.std.specs.Char.{len_utf8}
@@ -8,6 +8,7 @@ use Rattle.std.proofs.lemmas.Grind.{flat_map-append}
 use Rattle.rx_model.specs.Expression.{Expression, literal}
 use Rattle.rx_syntax.specs.declared.error.SyntaxError.{SyntaxError}
 use Rattle.rx_syntax.specs.Normal.{join_literals, joined, parts_of, sequence_of, concat_of}
+use Rattle.rx_syntax.proofs.JoinedLemmas.{drop-past}
 use Rattle.rx_syntax.specs.Thin.{is_plain, is_star_at, character, starred, before, refuse, items, sequenced, reads}
 use Rattle.rx_syntax.specs.ThinViews.{run_of}
 
@@ -69,12 +70,6 @@ begins_star (d ∷ cs) = eqb d 42
 
 drop-at : (cs : List ℕ) (i c : ℕ) → i < length cs → c ≡ get_or cs i c → drop i cs ≡ c ∷ drop (i + 1) cs
 drop-at cs i c lt e = at_drop_more (λ x. x) cs i c lt ∙ ap (λ x. x ∷ drop (i + 1) cs) (sym e)
-
-drop-past : (cs : List ℕ) (i : ℕ) → length cs ≤ i → drop i cs ≡ []
-drop-past [] zero le = refl
-drop-past [] (suc i) le = refl
-drop-past (c ∷ cs) zero le = absurd (omega arith)
-drop-past (c ∷ cs) (suc i) le = drop-past cs i (omega arith)
 
 is_star_at-within : (cs : List ℕ) (i : ℕ) → i < length cs → is_star_at cs i ≡ eqb (get_or cs i 0) 42
 is_star_at-within cs i lt = ap (λ b. b && eqb (get_or cs i 0) 42) (lt-ltb i (length cs) lt)

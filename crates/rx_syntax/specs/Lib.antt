@@ -2,6 +2,7 @@ pub mod AstFalls
 pub mod AstViews
 pub mod ClassViews
 pub mod Coded
+pub mod Cost
 pub mod Depth
 pub mod Grammar
 pub mod HirFalls

@@ -8,12 +8,15 @@ ghost use Rattle.rx_syntax.specs.Normal.{fail, literal_of, copies_of, repetition
 mod alternation;
 mod class;
 mod concat;
+mod copy;
+mod groups;
 mod kind;
 mod properties;
 mod scalars;
 mod set;
 
 pub use class::{Class, ClassBytes, ClassUnicode};
+pub use groups::greatest_group;
 use properties::Properties;
 use std::alloc::Global;
 use std::marker::Model;

@@ -5,6 +5,7 @@
 //! rx_model. It stands on rx_search.
 #![tactic(auto)]
 
+mod accounting;
 mod ast;
 mod class;
 mod cursor;
@@ -15,6 +16,7 @@ mod thin;
 mod token;
 mod translate;
 
+pub use accounting::cost;
 pub use error::{ParseError, SyntaxError, SyntaxErrorKind};
-pub use hir::{Capture, Class, ClassBytes, ClassUnicode, Hir, HirKind, Repetition};
+pub use hir::{Capture, Class, ClassBytes, ClassUnicode, Hir, HirKind, Repetition, greatest_group};
 pub use thin::parse;

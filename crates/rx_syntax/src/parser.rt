@@ -15,6 +15,9 @@ use crate::translate::translate;
 use std::alloc::{AllocError, Global};
 use std::mem;
 
+#[cfg(test)]
+mod tests;
+
 /// How deep groups and repetitions nest at most.
 const NEST_LIMIT: u32 = 250;
 

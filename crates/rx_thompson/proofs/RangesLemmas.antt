@@ -23,7 +23,7 @@ module _ (next : ℕ → ℕ) (later : (c : ℕ) → c + 1 ≤ next c) where
   fewest-rise (r ∷ rs) h = (omega arith, h.0, rise-after r.1 rs h.1 h.2)
 
 pub AreScalarRanges-rise : (rs : List (ℕ × ℕ)) → AreScalarRanges rs → RisesFrom 0 rs
-AreScalarRanges-rise rs h = fewest-rise next_scalar (λ c. by_test (c == 0xD7FF) (λ e. rw e (grind (arith, nat_tests))) (λ e. rw e (omega arith))) rs h
+AreScalarRanges-rise rs h = fewest-rise next_scalar (λ c. by_test (c == 0xD7FF) (λ e. rw e (grind (arith, nat_tests))) (λ e. rw e (omega arith))) rs h.0
 
 pub AreByteRanges-rise : (rs : List (ℕ × ℕ)) → AreByteRanges rs → RisesFrom 0 rs
 AreByteRanges-rise rs h = fewest-rise next_byte (λ c. omega arith) rs h

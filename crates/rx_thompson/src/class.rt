@@ -170,6 +170,7 @@ pub fn compile_bytes(
     Ok(id)
 }
 
+/// On the bytes of a range.
 fn byte_transition(start: u8, end: u8, next: StateID) -> Transition
     ensures value { result ≡ transition_to next (start, end) }
     ensures byte { end ≤ 255 }
@@ -177,7 +178,8 @@ fn byte_transition(start: u8, end: u8, next: StateID) -> Transition
     Transition { start, end, next }
 }
 
-/// The members within the band.
+/// Adds the transitions on the first bytes of the band to `transitions`, and to `states` the states that read the rest
+/// of its members. `whole` is that of `row`, and may grow.
 fn add_band(
     alloc: Global,
     states: &mut Vec<State>,

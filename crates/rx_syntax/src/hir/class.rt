@@ -2,7 +2,7 @@
 ghost use Rattle.std.specs.Prelude.{◌≡◌, [], length, ◌==◌};
 ghost use Rattle.rx_syntax.specs.Ranges.{AreScalarRanges, AreByteRanges, only_member};
 
-use std::alloc::Global;
+use std::alloc::{AllocError, Global};
 use std::marker::Model;
 
 /// A class.
@@ -117,5 +117,27 @@ impl ClassBytes {
         }
         let (low, high) = self.ranges[0];
         if low == high { Some(low) } else { None }
+    }
+}
+
+impl Clone for ClassUnicode {
+    ghost use Rattle.std.specs.Prelude.{◌≡◌};
+
+    ghost is_clone = { λ class copy. copy ≡ class };
+
+    fn clone(&self) -> Result<ClassUnicode, AllocError> {
+        let ranges = Vec::from_slice(*self.ranges.allocator(), &self.ranges)?;
+        Ok(ClassUnicode { ranges })
+    }
+}
+
+impl Clone for ClassBytes {
+    ghost use Rattle.std.specs.Prelude.{◌≡◌};
+
+    ghost is_clone = { λ class copy. copy ≡ class };
+
+    fn clone(&self) -> Result<ClassBytes, AllocError> {
+        let ranges = Vec::from_slice(*self.ranges.allocator(), &self.ranges)?;
+        Ok(ClassBytes { ranges })
     }
 }

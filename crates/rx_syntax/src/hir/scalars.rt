@@ -101,10 +101,7 @@ fn insert_range(ranges: &mut Vec<(char, char)>, low: char, high: char) -> Result
 }
 
 /// The scalars that fewest ranges don't hold, in fewest ranges.
-fn ranges_outside(
-    alloc: Global,
-    ranges: &[(char, char)],
-) -> Result<Vec<(char, char)>, AllocError>
+fn ranges_outside(alloc: Global, ranges: &[(char, char)]) -> Result<Vec<(char, char)>, AllocError>
     requires { AreScalarRanges ranges.now }
     ensures value { IfOk result (λ v. v.items ≡ complement ranges.now) }
     ensures fewest { IfOk result (λ v. AreScalarRanges v.items) }

@@ -52,7 +52,7 @@ fn coverage_of(ranges: &[Range], start: u32, size: u32) -> Coverage
 }
 
 /// The state that reads `depth` continuation bytes, which pick a member from `start` on. None where none is
-/// a member. `whole` has the state for each depth at which all are members.
+/// a member. `whole` has for each depth the state that serves where all are members.
 #[cycle(trie)]
 fn block(
     alloc: Global,
@@ -141,7 +141,7 @@ pub fn row(
     Ok(())
 }
 
-/// Appends the states that read any continuation bytes, as deep as the blocks that the ranges cover want them.
+/// Appends to `whole` the states that read any continuation bytes, as deep as the blocks are that the ranges cover.
 pub fn deepen(
     alloc: Global,
     states: &mut Vec<State>,
@@ -170,7 +170,7 @@ pub fn deepen(
     Ok(())
 }
 
-/// Appends the states that read any continuation bytes, up to `depth` of them.
+/// Appends to `whole` the states that read any continuation bytes, up to `depth` of them.
 fn reach(
     alloc: Global,
     states: &mut Vec<State>,

@@ -4,7 +4,6 @@ use Rattle.rx_syntax.specs.Coded.{syntax_size, greatest_size}
 use Rattle.rx_syntax.specs.AstViews.{expanded}
 use Rattle.rx_syntax.specs.ItemViews.{item_expression, item_size}
 use Rattle.rx_syntax.specs.Translation.{expression_of}
-
 use Rattle.rx_syntax.proofs.translate.+translate.Given as goal
 
 abbrev pub decreases-translate : goal.decreases-translate
