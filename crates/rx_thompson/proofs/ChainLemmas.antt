@@ -8,7 +8,8 @@ use Rattle.rx_model.specs.Runs.{Configuration, PriorityGraph, Passed, and_at, sa
 use Rattle.rx_model.proofs.RunLemmas.{by_test, same-true}
 use Rattle.rx_model.proofs.FoundLemmas.{found-step, found-forget}
 use Rattle.rx_thompson.specs.Automaton.{at, state_step, state_accepts, state_writes, automaton}
-use Rattle.rx_thompson.specs.Built.{Stands, IsChain}
+use Rattle.rx_thompson.specs.States.{Stands}
+use Rattle.rx_thompson.specs.Built.{IsChain}
 use Rattle.rx_thompson.specs.declared.state.State.{State}
 use Rattle.rx_thompson.specs.declared.state.State.TheVariants.{ByteRange}
 use Rattle.rx_thompson.proofs.AutomatonLemmas.{automaton-bounded, automaton-rises, automaton-successors, automaton-accepted, automaton-written}

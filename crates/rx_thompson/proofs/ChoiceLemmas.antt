@@ -6,7 +6,8 @@ use Rattle.rx_model.specs.Expression.{Expression}
 use Rattle.rx_model.specs.Graph as graph
 use Rattle.rx_syntax.specs.Normal.{expressions}
 use Rattle.rx_thompson.specs.Draft.{Draft, Extends, pushed}
-use Rattle.rx_thompson.specs.Built.{Stands, IsImage, Rises, Sends, Mirrors, Built}
+use Rattle.rx_thompson.specs.States.{Stands}
+use Rattle.rx_thompson.specs.Built.{IsImage, Rises, Sends, Mirrors, Built}
 use Rattle.rx_thompson.proofs.BuiltLemmas.{Rises-append, Sends-append, AllZip-length, AllZip-append, AllZip-map, IsImage-map, Stands-kept, Keeps-same, Keeps-extends, Mirrors-kept, Extends-same, Extends-trans, Extends-pushed, Stands-pushed, Stands-from, pushed-length}
 use Rattle.rx_thompson.specs.declared.state.State.TheVariants.{Union}
 

@@ -5,7 +5,7 @@ use Rattle.std.specs.List.{AllZip}
 use Rattle.std.proofs.lemmas.Bool.{cases_lt}
 use Rattle.std.proofs.lemmas.Bool.Decides.{nat_tests}
 use Rattle.std.proofs.lemmas.List.{get_or_past}
-use Rattle.rx_model.specs.Text.{stands_at}
+use Rattle.rx_model.specs.Text.{stands_at, scalar_ranges, byte_ranges}
 use Rattle.rx_model.specs.Graph as graph
 use Rattle.rx_model.specs.Runs.{Configuration, PriorityGraph, Passed, IsBounded, found, nowhere}
 use Rattle.rx_model.specs.Machine.{is_inside, graph_of}
@@ -13,11 +13,13 @@ use Rattle.rx_model.proofs.RunLemmas.{by_test}
 use Rattle.rx_model.proofs.MachineLemmas.{graph_of-bounded}
 use Rattle.rx_model.proofs.RefineLemmas.{moved, IsFresh, Stays, Reads, Fails, Refines, Refines-found-past}
 use Rattle.rx_thompson.specs.Automaton.{at, state_at, state_step, state_accepts, state_writes, automaton}
-use Rattle.rx_thompson.specs.Built.{Stands, IsImage, Rises, Sends}
+use Rattle.rx_thompson.specs.States.{Stands}
+use Rattle.rx_thompson.specs.Built.{IsImage, Rises, Sends}
 use Rattle.rx_thompson.specs.declared.state.State.{State}
 use Rattle.rx_thompson.specs.declared.state.State.TheVariants.{Union, Capture, Match, Fail}
 use Rattle.rx_thompson.proofs.BuiltLemmas.{AllZip-length, Rises-to}
 use Rattle.rx_thompson.proofs.AutomatonLemmas.{stays-in, automaton-bounded, automaton-successors, automaton-accepted, automaton-written, automaton-successors-past, automaton-accepted-past, automaton-successors-beyond, automaton-accepted-beyond}
+use Rattle.rx_thompson.proofs.RefinedLemmas.{reads-accepts, reads-writes, IsReader-reading, set-refined, member_len-scalar, member_len-byte, IsClass-reads, IsByteClass-reads}
 use Rattle.rx_thompson.proofs.ChainLemmas.{chain-found, stands-none, after}
 
 -- The image of each number: those of the list, and past them the numbers from n on.
@@ -141,7 +143,8 @@ module _ (t : ℕ) (text : List ℕ) (end : ℕ) (inside : end ≤ length text) 
   image-inside : (s : graph.State) (q : ℕ) → IsImage (Stands low whole) f s q → q < length whole
   image-inside (graph.text [] next) q h = h.inside
   image-inside (graph.text (b ∷ bytes) next) q h = h.1.inside
-  image-inside (graph.set members next) q h = absurd h
+  image-inside (graph.set (scalar_ranges ranges) next) q h = h.reads.stands.inside
+  image-inside (graph.set (byte_ranges ranges) next) q h = h.1.reads.stands.inside
   image-inside (graph.assertion kind next) q h = absurd h
   image-inside (graph.slot number next) q h = h.1.inside
   image-inside (graph.choice qs) q h = h.inside
@@ -150,7 +153,8 @@ module _ (t : ℕ) (text : List ℕ) (end : ℕ) (inside : end ≤ length text) 
   image-accepts : (s : graph.State) (q : ℕ) → IsImage (Stands low whole) f s q → state_accepts (state_at whole q) ≡ graph.state_accepts s
   image-accepts (graph.text [] next) q h = ap state_accepts h.is
   image-accepts (graph.text (b ∷ bytes) next) q h = ap state_accepts h.1.is
-  image-accepts (graph.set members next) q h = absurd h
+  image-accepts (graph.set (scalar_ranges ranges) next) q h = reads-accepts (state_at whole q) h.row (IsReader-reading low whole q h.row h.reads)
+  image-accepts (graph.set (byte_ranges ranges) next) q h = reads-accepts (state_at whole q) h.1.row (IsReader-reading low whole q h.1.row h.1.reads)
   image-accepts (graph.assertion kind next) q h = absurd h
   image-accepts (graph.slot number next) q h = ap state_accepts h.1.is
   image-accepts (graph.choice qs) q h = ap state_accepts h.is
@@ -159,7 +163,8 @@ module _ (t : ℕ) (text : List ℕ) (end : ℕ) (inside : end ≤ length text) 
   image-writes : (s : graph.State) (q : ℕ) → IsImage (Stands low whole) f s q → state_writes (state_at whole q) ≡ graph.state_writes s
   image-writes (graph.text [] next) q h = ap state_writes h.is
   image-writes (graph.text (b ∷ bytes) next) q h = ap state_writes h.1.is
-  image-writes (graph.set members next) q h = absurd h
+  image-writes (graph.set (scalar_ranges ranges) next) q h = reads-writes (state_at whole q) h.row (IsReader-reading low whole q h.row h.reads)
+  image-writes (graph.set (byte_ranges ranges) next) q h = reads-writes (state_at whole q) h.1.row (IsReader-reading low whole q h.1.row h.1.reads)
   image-writes (graph.assertion kind next) q h = absurd h
   image-writes (graph.slot number next) q h = ap state_writes h.1.is
   image-writes (graph.choice qs) q h = ap state_writes h.is
@@ -231,7 +236,10 @@ module _ (t : ℕ) (text : List ℕ) (end : ℕ) (inside : end ≤ length text) 
           })))
           (λ short. inr (inr (record { successors = in_g ∙ rw (stands, short) refl; fails = λ p fresh. reads p fresh ∙ rw (stands, short) refl }))))
           (λ gone. inr (inr (record { successors = in_g ∙ rw gone refl; fails = λ p fresh. reads p fresh ∙ rw gone refl })))
-      kinds (graph.set members next) h w in_g in_m = absurd h
+      kinds (graph.set (scalar_ranges ranges) next) h w in_g in_m =
+          inr (set-refined g m f t text end c.state next c.place (scalar_ranges ranges) (λ n e. member_len-scalar text ranges c.place n e) w in_g (IsClass-reads whole text end low (f next) (f c.state) ranges inside h))
+      kinds (graph.set (byte_ranges ranges) next) h w in_g in_m =
+          inr (set-refined g m f t text end c.state next c.place (byte_ranges ranges) (λ n e. member_len-byte text ranges c.place n e) w in_g (IsByteClass-reads whole text end low (f next) (f c.state) ranges inside h.0 h.1))
       kinds (graph.assertion kind next) h w in_g in_m = absurd h
       kinds (graph.slot number next) h w in_g in_m = inl (stays c (next ∷ []) in_g (in_m (Capture (f next) h.0 number) h.1.is))
       kinds (graph.choice qs) h w in_g in_m = inl (stays c qs in_g (in_m (Union (map f qs)) h.is))

@@ -20,3 +20,4 @@ pub mod Utf8Lemmas
 pub mod ReadLemmas
 pub mod RefinedLemmas
 pub mod NextMatchLemmas
+pub mod SetLemmas

@@ -6,7 +6,8 @@ use Rattle.std.proofs.Math.ListN.{length-set}
 use Rattle.rx_model.specs.Graph as graph
 use Rattle.rx_thompson.specs.Automaton.{state_at}
 use Rattle.rx_thompson.specs.Draft.{Draft, Extends, pushed, patched}
-use Rattle.rx_thompson.specs.Built.{ways, Sends, Stands, IsImage, Rises, Mirrors, Built}
+use Rattle.rx_thompson.specs.States.{Stands}
+use Rattle.rx_thompson.specs.Built.{ways, Sends, IsImage, Rises, Mirrors, Built}
 use Rattle.rx_thompson.proofs.BuiltLemmas.{Rises-from, Rises-to, Rises-append, Sends-append, AllZip-length, AllZip-append, AllZip-map, IsImage-map, Stands-kept, Keeps-same, Keeps-extends, Extends-trans, Keeps, Mirrors-kept, Extends-pushed, pushed-length}
 use Rattle.rx_thompson.specs.declared.state.State.{State}
 use Rattle.rx_thompson.specs.declared.state.State.TheVariants.{Union, Fail}

@@ -14,7 +14,8 @@ use Rattle.rx_model.proofs.FoundLemmas.{found-step, found-passed}
 use Rattle.rx_thompson.specs.Automaton.{at, automaton, state_accepts, state_writes, state_step}
 use Rattle.rx_thompson.specs.Nfa.{Nfa, HasFirstRuns}
 use Rattle.rx_thompson.specs.Draft.{Draft, Extends, pushed}
-use Rattle.rx_thompson.specs.Built.{Stands, Sends, Mirrors, Built, HasPart, HasPatterns, StartsAll}
+use Rattle.rx_thompson.specs.States.{Stands}
+use Rattle.rx_thompson.specs.Built.{Sends, Mirrors, Built, HasPart, HasPatterns, StartsAll}
 use Rattle.rx_thompson.specs.declared.state.State.{State}
 use Rattle.rx_thompson.specs.declared.state.State.TheVariants.{Union, Match}
 use Rattle.rx_thompson.proofs.AutomatonLemmas.{automaton-bounded, automaton-successors, automaton-accepted, automaton-written, automaton-successors-past, automaton-accepted-past}

@@ -3,7 +3,8 @@ use Rattle.std.proofs.Common.{◌≡◌, ℕ, suc, ◌+◌, sym, ◌∙◌, ap, 
 use Rattle.std.specs.Prelude.{Some}
 use Rattle.rx_model.specs.Graph as graph
 use Rattle.rx_thompson.specs.Draft.{Draft, pushed}
-use Rattle.rx_thompson.specs.Built.{Stands, Built}
+use Rattle.rx_thompson.specs.States.{Stands}
+use Rattle.rx_thompson.specs.Built.{Built}
 use Rattle.rx_thompson.proofs.BuiltLemmas.{Stands-pushed, Extends-pushed, Built-state, Built-then, pushed-length}
 use Rattle.rx_thompson.specs.declared.state.State.TheVariants.{Capture}
 

@@ -2,7 +2,8 @@
 use Rattle.std.proofs.Common.{◌≡◌, ℕ, suc, ◌-◌, ◌≤◌, ◌<◌, List, [], ◌∷◌, sym, ◌∙◌, subst, arith, length, get_or, drop, drop-cons}
 use Rattle.rx_model.specs.Graph as graph
 use Rattle.rx_thompson.specs.Draft.{Draft, Extends, pushed}
-use Rattle.rx_thompson.specs.Built.{Stands, IsChain, Built}
+use Rattle.rx_thompson.specs.States.{Stands}
+use Rattle.rx_thompson.specs.Built.{IsChain, Built}
 use Rattle.rx_thompson.proofs.BuiltLemmas.{IsChain-map, Stands-kept, Stands-from, Stands-pushed, Keeps-extends, Extends-pushed, Built-state, pushed-length}
 use Rattle.rx_thompson.specs.declared.state.State.TheVariants.{ByteRange, Union}
 

@@ -2,18 +2,16 @@
 use Rattle.std.specs.Prelude.{◌≡◌, ℕ, suc, ◌+◌, ◌-◌, ◌*◌, ◌<◌, ◌≤◌, Bool, List, [], ◌∷◌, length, map, ⊤, Option, Some, if◌then◌else◌, slice_get, slice_index, ◌⊎◌}
 use Rattle.std.specs.List.{AllZip}
 use Rattle.rx_model.specs.Expression.{Expression}
+use Rattle.rx_model.specs.Text.{scalar_ranges, byte_ranges}
 use Rattle.rx_model.specs.Graph as graph
 use Rattle.rx_model.specs.Search.{Patterns, slot_of}
-use Rattle.rx_thompson.specs.Automaton.{state_at}
+use Rattle.rx_thompson.specs.Ranges.{StaysBelow}
+use Rattle.rx_thompson.specs.Row.{HasReader}
+use Rattle.rx_thompson.specs.States.{Stands}
+use Rattle.rx_thompson.specs.Trie.{IsClass, IsByteClass}
 use Rattle.rx_thompson.specs.Draft.{Draft, Extends, pushed}
 use Rattle.rx_thompson.specs.declared.state.State.{State}
 use Rattle.rx_thompson.specs.declared.state.State.TheVariants.{ByteRange, Union, Capture, Match}
-
--- state q is one of the states from the base on, and it is `state`
-pub record Stands (base : ℕ) (states : List State) (q : ℕ) (state : State) : Type 0 where
-  pub above : base ≤ q
-  pub inside : q < length states
-  pub is : state_at states q ≡ state
 
 -- byte by byte from state q to state r
 abbrev pub IsChain : (IsAt : ℕ → State → Type 0) → ℕ → List ℕ → ℕ → Type 0
@@ -24,7 +22,8 @@ IsChain IsAt q (b ∷ bytes) r = (next : ℕ) × IsAt q (ByteRange b b next) × 
 abbrev pub IsImage : (IsAt : ℕ → State → Type 0) → (f : ℕ → ℕ) → graph.State → ℕ → Type 0
 IsImage IsAt f (graph.text [] next) q = IsAt q (Union (f next ∷ []))
 IsImage IsAt f (graph.text (b ∷ bytes) next) q = IsChain IsAt q (b ∷ bytes) (f next)
-IsImage IsAt f (graph.set members next) q = ⊥
+IsImage IsAt f (graph.set (scalar_ranges ranges) next) q = IsClass (HasReader IsAt) (f next) ranges q
+IsImage IsAt f (graph.set (byte_ranges ranges) next) q = StaysBelow 255 ranges × IsByteClass (HasReader IsAt) (f next) ranges q
 IsImage IsAt f (graph.assertion kind next) q = ⊥
 IsImage IsAt f (graph.slot number next) q = (pattern : ℕ) × IsAt q (Capture (f next) pattern number)
 IsImage IsAt f (graph.choice states) q = IsAt q (Union (map f states))

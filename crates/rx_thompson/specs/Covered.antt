@@ -3,11 +3,11 @@ use Rattle.std.specs.Prelude.{◌<◌, ⊤}
 use Rattle.rx_model.specs.Expression.{Expression, Expressions, empty, literal, class, look, repetition, capture, concat, alternation, nil, cons}
 
 abbrev mutual
-  -- no classes yet; groups are numbered from 1 on
+  -- groups are numbered from 1 on
   pub IsCovered : Expression → Type 0
   IsCovered empty = ⊤
   IsCovered (literal bytes) = ⊤
-  IsCovered (class members) = ⊥
+  IsCovered (class members) = ⊤
   IsCovered (look kind) = ⊤
   IsCovered (repetition least greatest greedy sub) = IsCovered sub
   IsCovered (capture group sub) = (0 < group) × IsCovered sub

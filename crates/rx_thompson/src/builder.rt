@@ -1,14 +1,27 @@
 //! An NFA in the making.
 ghost use Rattle.std.specs.Prelude.{◌≡◌, ◌<◌, ◌≤◌, [], length, All, IfOk};
 ghost use Rattle.rx_thompson.specs.Automaton.{NamesBelow, IsWithin};
+ghost use Rattle.rx_model.specs.Graph.{build_state, set};
+ghost use Rattle.rx_model.specs.Text.{scalar_ranges, byte_ranges};
+ghost use Rattle.rx_syntax.specs.ClassViews.{class_view};
+ghost use Rattle.rx_thompson.specs.Built.{Built};
 ghost use Rattle.rx_thompson.specs.Draft.{pushed, patched};
 ghost use Rattle.rx_thompson.specs.Nfa.{IsInRange};
 
 use crate::State;
+use crate::class::{compile_bytes, compile_class};
 use crate::nfa::NFA;
 use rx_search::{Memory, StateID};
+use rx_syntax::{Class, ClassBytes, ClassUnicode};
 use std::alloc::Global;
 use std::marker::Model;
+use std::mem;
+
+/// The most states that an NFA may have.
+const STATE_LIMIT: usize = 2147483647;
+
+/// The most states that a range of scalars may have.
+const RANGE_LIMIT: usize = 65;
 
 /// The states so far. Every state, pattern and slot that they name is there.
 #[derive(Drop)]
@@ -60,6 +73,64 @@ impl Builder {
         };
         self.states.push(state)?;
         Ok(id)
+    }
+
+    /// Appends the states of a class, which go on to the state `next`. Answers where they start. Where there was no
+    /// memory, no states are left.
+    pub fn push_class(
+        &mut self,
+        alloc: Global,
+        class: &Class,
+        next: StateID,
+    ) -> Result<StateID, Memory>
+        requires { next < length self.old.states }
+        ensures built { IfOk result (λ start. Built (build_state (set (class_view class.now))) next self.old self.new start) }
+        ensures inside { IfOk result (λ start. start < length self.new.states) }
+    {
+        match class {
+            Class::Unicode(scalars) => self.push_scalars(alloc, scalars, next),
+            Class::Bytes(bytes) => self.push_bytes(alloc, bytes, next),
+        }
+    }
+
+    fn push_scalars(
+        &mut self,
+        alloc: Global,
+        scalars: &ClassUnicode,
+        next: StateID,
+    ) -> Result<StateID, Memory>
+        requires { next < length self.old.states }
+        ensures built { IfOk result (λ start. Built (build_state (set (scalar_ranges scalars.now))) next self.old self.new start) }
+        ensures inside { IfOk result (λ start. start < length self.new.states) }
+    {
+        let ranges = scalars.ranges();
+        let most = RANGE_LIMIT.saturating_mul(ranges.len());
+        if most.saturating_add(self.states.len() + 1) > STATE_LIMIT {
+            return Err(Memory);
+        }
+        let mut states = mem::replace(&mut self.states, Vec::new(alloc));
+        let start = compile_class(alloc, &mut states, ranges, next)?;
+        self.states = states;
+        Ok(start)
+    }
+
+    fn push_bytes(
+        &mut self,
+        alloc: Global,
+        bytes: &ClassBytes,
+        next: StateID,
+    ) -> Result<StateID, Memory>
+        requires { next < length self.old.states }
+        ensures built { IfOk result (λ start. Built (build_state (set (byte_ranges bytes.now))) next self.old self.new start) }
+        ensures inside { IfOk result (λ start. start < length self.new.states) }
+    {
+        if self.states.len() >= STATE_LIMIT {
+            return Err(Memory);
+        }
+        let mut states = mem::replace(&mut self.states, Vec::new(alloc));
+        let start = compile_bytes(alloc, &mut states, bytes.ranges(), next)?;
+        self.states = states;
+        Ok(start)
     }
 
     /// Puts another state in place of the one of this number.

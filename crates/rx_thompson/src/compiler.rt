@@ -12,12 +12,12 @@ mod expression;
 
 use crate::builder::Builder;
 use crate::error::BuildError;
-use crate::groups::{Groups, greatest_group, slot_len};
+use crate::groups::{Groups, slot_len};
 use crate::nfa::NFA;
 use crate::state::{Alternates, State};
 use expression::compile;
 use rx_search::{Memory, PatternID, StateID};
-use rx_syntax::Hir;
+use rx_syntax::{Hir, greatest_group};
 use std::alloc::Global;
 
 /// The most patterns that an NFA may have.
@@ -121,19 +121,18 @@ fn compile_pattern(
     ensures has { IfOk result (λ start. HasPart builder.new.states (build_pattern (slot_from groups.now.first_slot) groups.now.pattern hir.now) start) }
     ensures inside { IfOk result (λ start. start < length builder.new.states) }
 {
-    let slot = 2 * groups.pattern.as_usize();
-    let accept = builder.push(State::Match {
-        pattern: groups.pattern,
-    })?;
+    let pattern = groups.pattern;
+    let slot = 2 * pattern.as_usize();
+    let accept = builder.push(State::Match { pattern })?;
     let close = builder.push(State::Capture {
         next: accept,
-        pattern: groups.pattern,
+        pattern,
         slot: slot + 1,
     })?;
     let body = compile(alloc, builder, groups, hir, close)?;
     let open = builder.push(State::Capture {
         next: body,
-        pattern: groups.pattern,
+        pattern,
         slot,
     })?;
     Ok(open)

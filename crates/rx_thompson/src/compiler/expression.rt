@@ -35,7 +35,7 @@ pub fn compile(
     match hir.kind() {
         HirKind::Empty => Ok(next),
         HirKind::Literal(bytes) => compile_literal(alloc, builder, bytes, next),
-        HirKind::Class(_) => Ok(next),
+        HirKind::Class(class) => builder.push_class(alloc, class, next),
         HirKind::Repetition(repetition) => {
             compile_repetition(alloc, builder, groups, repetition, next)
         }
@@ -316,8 +316,8 @@ fn compile_options(
     for _option in 0..count {
         let choice = builder.push(State::Fail)?;
         let body = compile(alloc, builder, groups, &repetition.sub, start)?;
-        let state = two_ways(alloc, repetition.greedy, body, next)?;
-        builder.patch(choice, state);
+        let option = two_ways(alloc, repetition.greedy, body, next)?;
+        builder.patch(choice, option);
         start = choice;
     }
     Ok(start)

@@ -2,11 +2,12 @@ use Rattle.std.proofs.Common.{◌≡◌, ◌<◌, ◌+◌, ◌-◌, ◌*◌, ◌
 use Rattle.std.specs.Prelude.{max, false}
 use Rattle.std.proofs.lemmas.List.{take_all}
 use Rattle.rx_model.specs.Length.{minimum_len, is_positive}
-use Rattle.rx_model.specs.Expression.{empty, literal, repetition, capture, concat, alternation}
+use Rattle.rx_model.specs.Expression.{empty, literal, class, repetition, capture, concat, alternation}
 use Rattle.rx_model.specs.Graph.{text, build_state, build_in_turn, build_each, build_choice, build, loop_once}
 use Rattle.rx_model.specs.Search.{greatest_group, greatest_in}
 use Rattle.rx_syntax.specs.Normal.{expressions}
 use Rattle.rx_syntax.specs.Depth.{depth}
+use Rattle.rx_syntax.specs.ClassViews.{class_view}
 use Rattle.rx_syntax.specs.HirViews.{kind_view}
 use Rattle.rx_thompson.specs.Built.{Built, slot_from}
 use Rattle.rx_thompson.specs.Covered.{IsCovered}
@@ -228,11 +229,11 @@ compile_options-loop-option-preserved t c =
     let one = pushed-length c.loop-option.builder Fail in
     let longer = c.in_ok-body.ensures.built.extends.longer in
     let written = ap (λ (d : Draft). length d.states) c.patch.ensures in
-    let same = patched-length c.compile.new.builder c.in_ok-choice.choice c.in_ok-state.state in
+    let same = patched-length c.compile.new.builder c.in_ok-choice.choice c.in_ok-option.option in
     let id = c.in_ok-choice.ensures.id in
     record {
       built = option-closed r.greedy c.loop-option._option (build (slot_from c.args.groups.now.first_slot) r.sub.value) c.args.next c.loop-option.start c.in_ok-choice.choice c.in_ok-body.body c.args.builder.now c.loop-option.builder c.push.new.self
-          c.compile.new.builder c.patch.new.self Fail c.in_ok-state.state c.in_ok-choice.ensures.id c.in_ok-choice.ensures.states c.in_ok-state.ensures c.patch.ensures c.loop-option.invariant.built body;
+          c.compile.new.builder c.patch.new.self Fail c.in_ok-option.option c.in_ok-choice.ensures.id c.in_ok-choice.ensures.states c.in_ok-option.ensures c.patch.ensures c.loop-option.invariant.built body;
       inside = omega arith;
     }
 
@@ -256,3 +257,10 @@ compile_unbounded-returns-clause-built t c =
     subst (λ part. Built part c.args.next c.args.builder.now c.patch.new.self c.in_ok-choice.choice) (tail-star (is_positive (minimum_len c.args.repetition.now.sub.value)) c.args.repetition.now.min r.greedy body none empty)
     (optional-closed r.greedy (loop_once r.greedy body) c.args.next c.in_ok-choice.choice c.in_ok-inner.inner.body c.args.builder.now c.push.new.self c.compile_loop-2.new.builder c.patch.new.self Fail c.in_ok-state.state
     c.in_ok-choice.ensures.id c.in_ok-choice.ensures.states c.in_ok-state.ensures c.patch.ensures c.in_ok-inner.ensures.from_body)
+
+pub compile-returns-in-Class-clause-built : goal.compile-returns-in-Class-clause-built
+unfolding build
+compile-returns-in-Class-clause-built t c =
+    let is : class (class_view c.in-Class.class) ≡ c.args.hir.now = sym (ap kind_view c.in-Class.is) ∙ c.kind.ensures in
+    Built-same _ _ c.args.next c.args.builder.now c.push_class.new.self c.push_class.result
+    (ap (build (slot_from c.args.groups.now.first_slot)) is) c.push_class.ensures.built

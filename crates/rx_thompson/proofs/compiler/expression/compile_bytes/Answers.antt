@@ -1,6 +1,7 @@
 use Rattle.std.proofs.Common.{◌≡◌, ◌-◌, subst, sym, ap, refl, arith, length, drop, get_or}
 use Rattle.rx_thompson.specs.Draft.{Draft, Extends, pushed}
-use Rattle.rx_thompson.specs.Built.{Stands, IsChain}
+use Rattle.rx_thompson.specs.States.{Stands}
+use Rattle.rx_thompson.specs.Built.{IsChain}
 use Rattle.rx_thompson.specs.declared.state.State.TheVariants.{ByteRange}
 use Rattle.rx_thompson.proofs.BuiltLemmas.{Extends-trans, Extends-pushed, pushed-length}
 use Rattle.rx_thompson.proofs.TextLemmas.{IsChain-more, Built-text}

@@ -1,6 +1,7 @@
 use Rattle.std.proofs.Common.{◌<◌, ◌≤◌, length, drop}
 use Rattle.rx_thompson.specs.Draft.{Extends}
-use Rattle.rx_thompson.specs.Built.{Stands, IsChain}
+use Rattle.rx_thompson.specs.States.{Stands}
+use Rattle.rx_thompson.specs.Built.{IsChain}
 use Rattle.rx_thompson.proofs.compiler.expression.compile_bytes.Given as goal
 
 abbrev pub invariant-loop-left : goal.invariant-loop-left
