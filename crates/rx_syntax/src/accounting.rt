@@ -16,8 +16,9 @@ pub fn cost(hir: &Hir) -> u64
     32u64.saturating_mul(states)
 }
 
+/// How many states are accounted for an expression, or the greatest `u64` where they are more.
 #[cycle(states)]
-fn states(hir: &Hir) -> u64
+pub fn states(hir: &Hir) -> u64
     ensures { result ≡ capped (accounted_states hir.now) }
 {
     states_of_kind(hir.kind())

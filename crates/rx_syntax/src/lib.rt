@@ -16,7 +16,7 @@ mod thin;
 mod token;
 mod translate;
 
-pub use accounting::cost;
+pub use accounting::{cost, states as accounted_states};
 pub use error::{ParseError, SyntaxError, SyntaxErrorKind};
 pub use hir::{Capture, Class, ClassBytes, ClassUnicode, Hir, HirKind, Repetition, greatest_group};
 pub use thin::parse;

@@ -15,10 +15,10 @@ pub automaton-bounded : (states : List State) (text : List ℕ) (end : ℕ) → 
 unfolding automaton
 automaton-bounded states text end = graph_of-bounded (machine states text end) end
 
-nothing_in : (d : Configuration) → Contains [] d → ⊥
+pub nothing_in : (d : Configuration) → Contains [] d → ⊥
 nothing_in d member = let lt = member.1 in omega arith
 
-only-in : (x d : Configuration) → Contains (x ∷ []) d → x ≡ d
+pub only-in : (x d : Configuration) → Contains (x ∷ []) d → x ≡ d
 only-in x d h = first h.0 h.1 h.2
   where
     first : (k : ℕ) → k < 1 → slice_index_or (x ∷ []) k d ≡ d → x ≡ d
@@ -26,7 +26,7 @@ only-in x d h = first h.0 h.1 h.2
     first (suc k) lt e = absurd (omega arith)
 
 -- each of these stays at the place
-stays-in : (i : ℕ) (qs : List ℕ) (d : Configuration) → Contains (map (λ q. at q i) qs) d → i ≡ d.place
+pub stays-in : (i : ℕ) (qs : List ℕ) (d : Configuration) → Contains (map (λ q. at q i) qs) d → i ≡ d.place
 stays-in i qs d h = among qs h.0 h.1 h.2
   where
     among : (qs : List ℕ) (k : ℕ) → k < length (map (λ q. at q i) qs) → slice_index_or (map (λ q. at q i) qs) k d ≡ d → i ≡ d.place

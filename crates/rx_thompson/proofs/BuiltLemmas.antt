@@ -3,10 +3,15 @@ use Rattle.std.proofs.Common.{◌≡◌, ℕ, suc, ◌+◌, ◌-◌, ◌≤◌, 
 use Rattle.std.specs.Prelude.{map}
 use Rattle.std.specs.List.{AllZip}
 use Rattle.std.proofs.lemmas.List.{length-append, get_or_append_left, get_or-append_right}
+use Rattle.rx_model.specs.Text.{scalar_ranges, byte_ranges}
 use Rattle.rx_model.specs.Graph as graph
+use Rattle.rx_thompson.specs.Row.{HasReader}
+use Rattle.rx_thompson.proofs.RowLemmas.{HasReader-map}
+use Rattle.rx_thompson.proofs.ClassLemmas.{IsClass-map, IsByteClass-map}
 use Rattle.rx_thompson.specs.Automaton.{state_at}
 use Rattle.rx_thompson.specs.Draft.{Draft, Extends, pushed}
-use Rattle.rx_thompson.specs.Built.{Stands, IsChain, IsImage, Rises, Sends, Mirrors, Built}
+use Rattle.rx_thompson.specs.States.{Stands}
+use Rattle.rx_thompson.specs.Built.{IsChain, IsImage, Rises, Sends, Mirrors, Built}
 use Rattle.rx_thompson.specs.declared.state.State.{State}
 use Rattle.rx_thompson.specs.declared.state.State.TheVariants.{ByteRange, Union, Capture, Fail, Match}
 
@@ -62,7 +67,8 @@ module _ (IsAt IsAt' : ℕ → State → Type 0) (kept : (q : ℕ) (state : Stat
   pub IsImage-map : (f : ℕ → ℕ) (s : graph.State) (q : ℕ) → IsImage IsAt f s q → IsImage IsAt' f s q
   IsImage-map f (graph.text [] next) q h = kept q (Union (f next ∷ [])) h
   IsImage-map f (graph.text (b ∷ bytes) next) q h = IsChain-map q (b ∷ bytes) (f next) h
-  IsImage-map f (graph.set members next) q h = h
+  IsImage-map f (graph.set (scalar_ranges ranges) next) q h = IsClass-map (HasReader IsAt) (HasReader IsAt') (f next) (HasReader-map IsAt IsAt' kept) ranges q h
+  IsImage-map f (graph.set (byte_ranges ranges) next) q h = (h.0, IsByteClass-map (HasReader IsAt) (HasReader IsAt') (f next) (HasReader-map IsAt IsAt' kept) ranges q h.1)
   IsImage-map f (graph.assertion kind next) q h = h
   IsImage-map f (graph.slot number next) q h = (h.0, kept q (Capture (f next) h.0 number) h.1)
   IsImage-map f (graph.choice states) q h = kept q (Union (map f states)) h
@@ -79,6 +85,9 @@ Stands-kept low base old new le k q state s = record {
   inside = (let a = s.inside in let l = k.longer in omega arith);
   is = k.kept q s.above s.inside ∙ s.is;
 }
+
+pub Stands-from : (low base : ℕ) (states : List State) (q : ℕ) (state : State) → low ≤ base → Stands base states q state → Stands low states q state
+Stands-from low base states q state le s = record { above = (let a = s.above in omega arith); inside = s.inside; is = s.is }
 
 pub Mirrors-kept : (f : ℕ → ℕ) (low base : ℕ) (old new : List State) (part : graph.Part) (images : List ℕ) (start : ℕ) → low ≤ base → Keeps base old new
     → Mirrors f base old part images start → Mirrors f low new part images start

@@ -1,6 +1,15 @@
 pub mod AutomatonLemmas
 pub mod BuiltLemmas
 pub mod LoopLemmas
+pub mod ChainLemmas
+pub mod ImageLemmas
+pub mod ExpressionLemmas
+pub mod TextLemmas
+pub mod ResultLemmas
+pub mod SlotLemmas
+pub mod ChoiceLemmas
+pub mod CompileLemmas
+pub mod PatternLemmas
 pub mod StateLemmas
 pub mod RowLemmas
 pub mod RangesLemmas
@@ -11,3 +20,4 @@ pub mod Utf8Lemmas
 pub mod ReadLemmas
 pub mod RefinedLemmas
 pub mod NextMatchLemmas
+pub mod SetLemmas

@@ -1,19 +1,16 @@
 -- Parts that begin with a choice: it is written once the body is there.
-use Rattle.std.proofs.Common.{◌≡◌, ◌≢◌, ℕ, suc, ◌<◌, List, [], ◌∷◌, sym, ◌∙◌, subst, arith, length, get_or-set_other, get_or-set_same}
-use Rattle.std.specs.Prelude.{Bool, true, false, map, if◌then◌else◌}
+use Rattle.std.proofs.Common.{◌≡◌, ◌≢◌, ℕ, suc, ◌+◌, ◌<◌, [], ◌++◌, ◌∷◌, sym, ◌∙◌, subst, arith, length, get_or-set_other, get_or-set_same}
+use Rattle.std.specs.Prelude.{Bool, true, false, map}
 use Rattle.std.specs.List.{AllZip}
 use Rattle.std.proofs.Math.ListN.{length-set}
 use Rattle.rx_model.specs.Graph as graph
 use Rattle.rx_thompson.specs.Automaton.{state_at}
 use Rattle.rx_thompson.specs.Draft.{Draft, Extends, pushed, patched}
-use Rattle.rx_thompson.specs.Built.{Stands, IsImage, Rises, Mirrors, Built}
-use Rattle.rx_thompson.proofs.BuiltLemmas.{Rises-from, Rises-to, Keeps, Mirrors-kept, Extends-pushed, pushed-length}
+use Rattle.rx_thompson.specs.States.{Stands}
+use Rattle.rx_thompson.specs.Built.{ways, Sends, IsImage, Rises, Mirrors, Built}
+use Rattle.rx_thompson.proofs.BuiltLemmas.{Rises-from, Rises-to, Rises-append, Sends-append, AllZip-length, AllZip-append, AllZip-map, IsImage-map, Stands-kept, Keeps-same, Keeps-extends, Extends-trans, Keeps, Mirrors-kept, Extends-pushed, pushed-length}
 use Rattle.rx_thompson.specs.declared.state.State.{State}
 use Rattle.rx_thompson.specs.declared.state.State.TheVariants.{Union, Fail}
-
--- the body and the exit, the preferred one first
-abbrev pub ways : Bool → ℕ → ℕ → List ℕ
-ways greedy body exit = if greedy then body ∷ exit ∷ [] else exit ∷ body ∷ []
 
 ways-map : (f : ℕ → ℕ) (greedy : Bool) (body body' exit exit' : ℕ) → f body ≡ body' → f exit ≡ exit' → Union (ways greedy body' exit') ≡ Union (map f (ways greedy body exit))
 ways-map f true body body' exit exit' b e = λ i. Union (sym b i ∷ sym e i ∷ [])
@@ -100,3 +97,38 @@ module _ (greedy : Bool) (body : graph.Builder) (next start : ℕ) (old after : 
       each = each greedy body next next start old after blank b f (body next' (suc base)) next' is (b.mirrors f next' (suc base) is sends.1);
     };
   }
+
+-- One option more: its body goes on to the options inside it, and its exit is theirs.
+module _ (greedy : Bool) (n : ℕ) (body : graph.Builder) (next inner start : ℕ) (old mid after : Draft) (blank : State) (o : Built (graph.options greedy n body) next old mid inner)
+    (b : Built body inner (pushed mid blank) after start) where
+  abbrev later : Draft
+  later = written greedy body next inner start mid after blank b
+
+  pub Built-option : Built (graph.options greedy (suc n) body) next old later (length mid.states)
+  Built-option = record {
+    extends = Extends-trans old mid later o.extends (written-extends greedy body next inner start mid after blank b);
+    images = o.images ++ (length mid.states ∷ b.images);
+    rises = Rises-append (length old.states) (length mid.states) (length later.states) o.images (length mid.states ∷ b.images) o.rises (rises greedy body next inner start mid after blank b);
+    mirrors = λ f next' base is sends. mirrors f next' base is (Sends-append f base o.images (length mid.states ∷ b.images) sends);
+  }
+    where
+      mirrors : (f : ℕ → ℕ) (next' base : ℕ) → f next' ≡ next → Sends f base o.images × Sends f (base + length o.images) (length mid.states ∷ b.images)
+          → Mirrors f (length old.states) later.states (graph.options greedy (suc n) body next' base) (o.images ++ (length mid.states ∷ b.images)) (length mid.states)
+      mirrors f next' base is sent =
+          let i = graph.options greedy n body next' base in
+          let m = o.mirrors f next' base is sent.0 in
+          let long = AllZip-length (IsImage (Stands (length old.states) mid.states) f) i.states o.images m.each in
+          let c = base + length i.states in
+          let sent' : Sends f (base + length i.states) (length mid.states ∷ b.images) = subst (λ k. Sends f (base + k) (length mid.states ∷ b.images)) (sym long) sent.1 in
+          let r = b.mirrors f i.start (suc (base + length i.states)) m.start_is sent'.1 in
+          let kept = Mirrors-kept f (length old.states) (length old.states) mid.states later.states i o.images inner (omega arith) (Keeps-extends (length old.states) mid later (written-extends greedy body next inner start mid after blank b)) m in
+          let part = body i.start (suc (base + length i.states)) in
+          record {
+            start_is = sent'.0;
+            each =
+                AllZip-append (IsImage (Stands (length old.states) later.states) f) i.states (graph.prefer greedy part.start next' ∷ part.states) o.images (length mid.states ∷ b.images) kept.each
+                (AllZip-map (IsImage (Stands (length mid.states) later.states) f) (IsImage (Stands (length old.states) later.states) f)
+                (IsImage-map (Stands (length mid.states) later.states) (Stands (length old.states) later.states) (Stands-kept (length old.states) (length mid.states) later.states later.states o.extends.longer (Keeps-same (length mid.states) later.states)) f)
+                (graph.prefer greedy part.start next' ∷ part.states) (length mid.states ∷ b.images)
+                (each greedy body next inner start mid after blank b f part next' is r));
+          }

@@ -1,17 +1,17 @@
 -- What a compile function says of the states that it added for a part of the graph.
-use Rattle.std.specs.Prelude.{◌≡◌, ℕ, suc, ◌<◌, ◌≤◌, List, [], ◌∷◌, length, map, ⊤}
+use Rattle.std.specs.Prelude.{◌≡◌, ℕ, suc, ◌+◌, ◌-◌, ◌*◌, ◌<◌, ◌≤◌, Bool, List, [], ◌∷◌, length, map, ⊤, Option, Some, if◌then◌else◌, slice_get, slice_index, ◌⊎◌}
 use Rattle.std.specs.List.{AllZip}
+use Rattle.rx_model.specs.Expression.{Expression}
+use Rattle.rx_model.specs.Text.{scalar_ranges, byte_ranges}
 use Rattle.rx_model.specs.Graph as graph
-use Rattle.rx_thompson.specs.Automaton.{state_at}
-use Rattle.rx_thompson.specs.Draft.{Draft, Extends}
+use Rattle.rx_model.specs.Search.{Patterns, slot_of}
+use Rattle.rx_thompson.specs.Ranges.{StaysBelow}
+use Rattle.rx_thompson.specs.Row.{HasReader}
+use Rattle.rx_thompson.specs.States.{Stands}
+use Rattle.rx_thompson.specs.Trie.{IsClass, IsByteClass}
+use Rattle.rx_thompson.specs.Draft.{Draft, Extends, pushed}
 use Rattle.rx_thompson.specs.declared.state.State.{State}
 use Rattle.rx_thompson.specs.declared.state.State.TheVariants.{ByteRange, Union, Capture, Match}
-
--- state q is one of the states from the base on, and it is `state`
-pub record Stands (base : ℕ) (states : List State) (q : ℕ) (state : State) : Type 0 where
-  pub above : base ≤ q
-  pub inside : q < length states
-  pub is : state_at states q ≡ state
 
 -- byte by byte from state q to state r
 abbrev pub IsChain : (IsAt : ℕ → State → Type 0) → ℕ → List ℕ → ℕ → Type 0
@@ -22,7 +22,8 @@ IsChain IsAt q (b ∷ bytes) r = (next : ℕ) × IsAt q (ByteRange b b next) × 
 abbrev pub IsImage : (IsAt : ℕ → State → Type 0) → (f : ℕ → ℕ) → graph.State → ℕ → Type 0
 IsImage IsAt f (graph.text [] next) q = IsAt q (Union (f next ∷ []))
 IsImage IsAt f (graph.text (b ∷ bytes) next) q = IsChain IsAt q (b ∷ bytes) (f next)
-IsImage IsAt f (graph.set members next) q = ⊥
+IsImage IsAt f (graph.set (scalar_ranges ranges) next) q = IsClass (HasReader IsAt) (f next) ranges q
+IsImage IsAt f (graph.set (byte_ranges ranges) next) q = StaysBelow 255 ranges × IsByteClass (HasReader IsAt) (f next) ranges q
 IsImage IsAt f (graph.assertion kind next) q = ⊥
 IsImage IsAt f (graph.slot number next) q = (pattern : ℕ) × IsAt q (Capture (f next) pattern number)
 IsImage IsAt f (graph.choice states) q = IsAt q (Union (map f states))
@@ -51,3 +52,27 @@ pub record Built (part : graph.Builder) (next : ℕ) (old new : Draft) (start : 
   pub rises : Rises (length old.states) (length new.states) images
   pub mirrors : (f : ℕ → ℕ) (next' base : ℕ) → f next' ≡ next → Sends f base images
       → Mirrors f (length old.states) new.states (part next' base) images start
+
+-- the body and the exit of a choice, the preferred one first
+abbrev pub ways : (greedy : Bool) → (body exit : ℕ) → List ℕ
+ways greedy body exit = if greedy then body ∷ exit ∷ [] else exit ∷ body ∷ []
+
+-- the first slot of each group, where that of group 1 is known
+abbrev pub slot_from : (first : ℕ) → ℕ → Option ℕ
+slot_from first group = Some (first + 2 * (group - 1))
+
+-- The part stands among the states, and starts at `start`.
+pub record HasPart (states : List State) (part : graph.Part) (start : ℕ) : Type 0 where
+  pub images : List ℕ
+  pub rises : Rises 0 (length states) images
+  pub mirrors : (f : ℕ → ℕ) → Sends f 0 images → Mirrors f 0 states part images start
+
+-- The first n patterns stand among the states, each from its start on.
+abbrev pub HasPatterns : List State → Patterns → (n : ℕ) → (starts : List ℕ) → Type 0
+HasPatterns states r n starts =
+    (p : ℕ) (h : Expression) → p < n → slice_get r.expressions p ≡ Some h → HasPart states (graph.build_pattern (slot_of r p) p h) (slice_index starts p)
+
+-- State q starts the runs from all of these starts, the first preferred: it is the only one of them, or a choice between
+-- them, which was added.
+abbrev pub StartsAll : (old new : Draft) → (starts : List ℕ) → (q : ℕ) → Type 0
+StartsAll old new starts q = ((starts ≡ q ∷ []) × (new ≡ old)) ⊎ ((q ≡ length old.states) × (new ≡ pushed old (Union starts)))

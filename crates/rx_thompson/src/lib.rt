@@ -5,12 +5,18 @@
 //! of the expressions, with pattern, end and slots. It stands on rx_syntax.
 #![tactic(auto)]
 
+mod builder;
 mod class;
+mod compiler;
+mod error;
+mod groups;
 mod nfa;
 mod sparse;
 mod state;
 
 pub use class::the_states_read_the_class;
+pub use compiler::Compiler;
+pub use error::BuildError;
 pub use nfa::NFA;
 pub use sparse::matches_byte;
 pub use state::{Alternates, State, Transition, Transitions};

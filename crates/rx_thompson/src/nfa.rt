@@ -37,6 +37,24 @@ impl Model for NFA {
 }
 
 impl NFA {
+    /// The NFA of these parts, which must fit together.
+    pub(crate) fn new(
+        states: Vec<State>,
+        start_anchored: StateID,
+        starts: Vec<StateID>,
+        slot_len: usize,
+    ) -> NFA
+        requires { IsInRange (record { states = states.items; start_anchored = start_anchored; starts = starts.items; slots = slot_len }) }
+        ensures { result ≡ record { states = states.items; start_anchored = start_anchored; starts = starts.items; slots = slot_len } }
+    {
+        NFA {
+            states,
+            start_anchored,
+            starts,
+            slot_len,
+        }
+    }
+
     /// Where the runs of all the patterns start. The first pattern is preferred.
     pub fn start_anchored(&self) -> StateID
         ensures value { result ≡ self.now.start_anchored }

@@ -1,0 +1,16 @@
+use Rattle.std.proofs.Common.{◌<◌, ◌≤◌, length, drop}
+use Rattle.rx_thompson.specs.Draft.{Extends}
+use Rattle.rx_thompson.specs.States.{Stands}
+use Rattle.rx_thompson.specs.Built.{IsChain}
+use Rattle.rx_thompson.proofs.compiler.expression.compile_bytes.Given as goal
+
+abbrev pub invariant-loop-left : goal.invariant-loop-left
+invariant-loop-left l = record {
+  extends : Extends l.initial.builder l.builder;
+  chain : IsChain (Stands (length l.initial.builder.states) l.builder.states) l.start (drop l.left l.bytes) l.fn.next;
+  within : l.left ≤ length l.bytes;
+  inside : l.start < length l.builder.states;
+}
+
+abbrev pub decreases-loop-left : goal.decreases-loop-left
+decreases-loop-left l = l.left

@@ -1,0 +1,10 @@
+-- Slots for the groups of a pattern.
+use Rattle.std.specs.Prelude.{ℕ, ◌+◌, ◌*◌, ◌<◌, ◌≤◌}
+use Rattle.rx_thompson.specs.Draft.{Draft}
+use Rattle.rx_thompson.specs.declared.groups.Groups.{Groups}
+
+-- the draft has the pattern, and slots for its groups up to the greatest
+pub record HasRoom (d : Draft) (groups : Groups) (greatest : ℕ) : Type 0 where
+  pub pattern : groups.pattern < d.patterns
+  pub slots : groups.first_slot + 2 * greatest ≤ d.slots
+  pub few : d.slots ≤ 2147483646

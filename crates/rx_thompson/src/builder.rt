@@ -1,0 +1,158 @@
+//! An NFA in the making.
+ghost use Rattle.std.specs.Prelude.{◌≡◌, ◌<◌, ◌≤◌, [], length, All, IfOk};
+ghost use Rattle.rx_thompson.specs.Automaton.{NamesBelow, IsWithin};
+ghost use Rattle.rx_model.specs.Graph.{build_state, set};
+ghost use Rattle.rx_model.specs.Text.{scalar_ranges, byte_ranges};
+ghost use Rattle.rx_syntax.specs.ClassViews.{class_view};
+ghost use Rattle.rx_thompson.specs.Built.{Built};
+ghost use Rattle.rx_thompson.specs.Draft.{pushed, patched};
+ghost use Rattle.rx_thompson.specs.Nfa.{IsInRange};
+
+use crate::State;
+use crate::class::{compile_bytes, compile_class};
+use crate::nfa::NFA;
+use rx_search::{Memory, StateID};
+use rx_syntax::{Class, ClassBytes, ClassUnicode};
+use std::alloc::Global;
+use std::marker::Model;
+use std::mem;
+
+/// The most states that an NFA may have.
+const STATE_LIMIT: usize = 2147483647;
+
+/// The most states that a range of scalars may have.
+const RANGE_LIMIT: usize = 65;
+
+/// The states so far. Every state, pattern and slot that they name is there.
+#[derive(Drop)]
+pub struct Builder {
+    states: Vec<State>,
+    pattern_len: usize,
+    slot_len: usize,
+}
+
+impl Model for Builder {
+    ghost use Rattle.rx_thompson.specs.Draft.{Draft, AreInRange};
+
+    ghost Value = { Draft };
+
+    ghost view = { λ b. record {
+      states = b.states.items;
+      patterns = b.pattern_len;
+      slots = b.slot_len;
+    } };
+
+    ghost invariant = { λ b. AreInRange (record {
+      states = b.states.items;
+      patterns = b.pattern_len;
+      slots = b.slot_len;
+    }) };
+}
+
+impl Builder {
+    /// No states yet, for so many patterns and slots.
+    pub fn new(alloc: Global, pattern_len: usize, slot_len: usize) -> Builder
+        ensures { result ≡ record { states = []; patterns = pattern_len; slots = slot_len } }
+    {
+        Builder {
+            states: Vec::new(alloc),
+            pattern_len,
+            slot_len,
+        }
+    }
+
+    /// Appends a state, and answers its number.
+    pub fn push(&mut self, state: State) -> Result<StateID, Memory>
+        requires names { NamesBelow (length self.old.states) state }
+        requires within { IsWithin self.old.patterns self.old.slots state }
+        ensures id { IfOk result (λ id. id ≡ length self.old.states) }
+        ensures states { IfOk result (λ id. self.new ≡ pushed self.old state) }
+    {
+        let Some(id) = StateID::new(self.states.len()) else {
+            return Err(Memory);
+        };
+        self.states.push(state)?;
+        Ok(id)
+    }
+
+    /// Appends the states of a class, which go on to the state `next`. Answers where they start. Where there was no
+    /// memory, no states are left.
+    pub fn push_class(
+        &mut self,
+        alloc: Global,
+        class: &Class,
+        next: StateID,
+    ) -> Result<StateID, Memory>
+        requires { next < length self.old.states }
+        ensures built { IfOk result (λ start. Built (build_state (set (class_view class.now))) next self.old self.new start) }
+        ensures inside { IfOk result (λ start. start < length self.new.states) }
+    {
+        match class {
+            Class::Unicode(scalars) => self.push_scalars(alloc, scalars, next),
+            Class::Bytes(bytes) => self.push_bytes(alloc, bytes, next),
+        }
+    }
+
+    fn push_scalars(
+        &mut self,
+        alloc: Global,
+        scalars: &ClassUnicode,
+        next: StateID,
+    ) -> Result<StateID, Memory>
+        requires { next < length self.old.states }
+        ensures built { IfOk result (λ start. Built (build_state (set (scalar_ranges scalars.now))) next self.old self.new start) }
+        ensures inside { IfOk result (λ start. start < length self.new.states) }
+    {
+        let ranges = scalars.ranges();
+        let most = RANGE_LIMIT.saturating_mul(ranges.len());
+        if most.saturating_add(self.states.len() + 1) > STATE_LIMIT {
+            return Err(Memory);
+        }
+        let mut states = mem::replace(&mut self.states, Vec::new(alloc));
+        let start = compile_class(alloc, &mut states, ranges, next)?;
+        self.states = states;
+        Ok(start)
+    }
+
+    fn push_bytes(
+        &mut self,
+        alloc: Global,
+        bytes: &ClassBytes,
+        next: StateID,
+    ) -> Result<StateID, Memory>
+        requires { next < length self.old.states }
+        ensures built { IfOk result (λ start. Built (build_state (set (byte_ranges bytes.now))) next self.old self.new start) }
+        ensures inside { IfOk result (λ start. start < length self.new.states) }
+    {
+        if self.states.len() >= STATE_LIMIT {
+            return Err(Memory);
+        }
+        let mut states = mem::replace(&mut self.states, Vec::new(alloc));
+        let start = compile_bytes(alloc, &mut states, bytes.ranges(), next)?;
+        self.states = states;
+        Ok(start)
+    }
+
+    /// Puts another state in place of the one of this number.
+    pub fn patch(&mut self, id: StateID, state: State)
+        requires inside { id < length self.old.states }
+        requires names { NamesBelow (length self.old.states) state }
+        requires within { IsWithin self.old.patterns self.old.slots state }
+        ensures { self.new ≡ patched self.old id state }
+    {
+        self.states[id.as_usize()] = state;
+    }
+
+    /// The NFA of these states.
+    pub fn finish(self, start_anchored: StateID, starts: Vec<StateID>) -> NFA
+        requires start { start_anchored < length self.states }
+        requires starts { All (λ q. q < length self.states) starts.items }
+        requires patterns { length starts.items ≡ self.patterns }
+        requires few { self.patterns ≤ 2147483647 }
+        ensures value { result ≡ record { states = self.states; start_anchored = start_anchored; starts = starts.items; slots = self.slots } }
+        ensures in_range { IsInRange result }
+    {
+        let slot_len = self.slot_len;
+        NFA::new(self.states, start_anchored, starts, slot_len)
+    }
+}

@@ -1,0 +1,153 @@
+//! From expressions to an NFA.
+ghost use Rattle.std.specs.Prelude.{◌≡◌, ◌+◌, ◌*◌, ◌<◌, ◌≤◌, length, All, IfOk, OnOk, MatchResult, true};
+ghost use Rattle.rx_model.specs.Graph.{build_pattern};
+ghost use Rattle.rx_model.specs.Search.{greatest_group};
+ghost use Rattle.rx_thompson.specs.Built.{slot_from, HasPart, HasPatterns, StartsAll};
+ghost use Rattle.rx_thompson.specs.Compiled.{patterns_of, slots_of, AreFew, IsCompiled, IsRefusal};
+ghost use Rattle.rx_thompson.specs.Covered.{IsCovered};
+ghost use Rattle.rx_thompson.specs.Draft.{Extends};
+ghost use Rattle.rx_thompson.specs.Room.{HasRoom};
+
+mod expression;
+
+use crate::builder::Builder;
+use crate::error::BuildError;
+use crate::groups::{Groups, slot_len};
+use crate::nfa::NFA;
+use crate::state::{Alternates, State};
+use expression::compile;
+use rx_search::{Memory, PatternID, StateID};
+use rx_syntax::{Hir, greatest_group};
+use std::alloc::Global;
+
+/// The most patterns that an NFA may have.
+const PATTERN_LIMIT: usize = 2147483647;
+
+/// The most slots that a match may have.
+const SLOT_LIMIT: usize = 2147483646;
+
+/// Makes NFAs of expressions.
+#[derive(Clone, Copy)]
+pub struct Compiler {}
+
+impl Compiler {
+    /// A compiler.
+    pub fn new() -> Compiler {
+        Compiler {}
+    }
+
+    /// The NFA of these expressions, one pattern each. A match's slots come in the order of the patterns: two for each
+    /// whole match, and after these two for each group that a pattern names.
+    ///
+    /// Refused, in this order: more than 2147483647 patterns, more than 2147483646 slots, want of memory.
+    pub fn build_many_from_hir(&self, alloc: Global, exprs: &[Hir]) -> Result<NFA, BuildError>
+        requires { All IsCovered exprs.now }
+        ensures { MatchResult result (IsCompiled exprs.now) (IsRefusal exprs.now) }
+    {
+        if exprs.len() > PATTERN_LIMIT {
+            return Err(BuildError::TooManyPatterns {
+                given: exprs.len(),
+                limit: PATTERN_LIMIT,
+            });
+        }
+        let slots = slot_len(exprs);
+        if slots > SLOT_LIMIT {
+            return Err(BuildError::TooManyGroups {
+                given: slots,
+                limit: SLOT_LIMIT,
+            });
+        }
+        let nfa = build(alloc, exprs, slots)?;
+        Ok(nfa)
+    }
+}
+
+/// The NFA of few enough patterns and slots.
+fn build(alloc: Global, exprs: &[Hir], slots: usize) -> Result<NFA, Memory>
+    requires covered { All IsCovered exprs.now }
+    requires few { AreFew exprs.now }
+    requires slots { slots ≡ slots_of exprs.now }
+    ensures { IfOk result (IsCompiled exprs.now) }
+{
+    let mut builder = Builder::new(alloc, exprs.len(), slots);
+    let starts = compile_patterns(alloc, &mut builder, exprs)?;
+    let start = start_of_all(alloc, &mut builder, &starts)?;
+    Ok(builder.finish(start, starts))
+}
+
+/// The states of the patterns, one after another, and where each starts.
+fn compile_patterns(
+    alloc: Global,
+    builder: &mut Builder,
+    exprs: &[Hir],
+) -> Result<Vec<StateID>, Memory>
+    requires covered { All IsCovered exprs.now }
+    requires few { AreFew exprs.now }
+    requires patterns { builder.old.patterns ≡ length exprs.now }
+    requires slots { builder.old.slots ≡ slots_of exprs.now }
+    ensures extends { OnOk result (Extends builder.old builder.new) }
+    ensures len { IfOk result (λ starts. length starts.items ≡ length exprs.now) }
+    ensures has { IfOk result (λ starts. HasPatterns builder.new.states (patterns_of exprs.now true 0) (length exprs.now) starts.items) }
+    ensures inside { IfOk result (λ starts. All (λ q. q < length builder.new.states) starts.items) }
+{
+    let mut starts = Vec::new(alloc);
+    let mut first_slot = 2 * exprs.len();
+    for hir in exprs {
+        let Some(pattern) = PatternID::new(starts.len()) else {
+            return Err(Memory);
+        };
+        let groups = Groups {
+            pattern,
+            first_slot,
+        };
+        let start = compile_pattern(alloc, builder, &groups, hir)?;
+        starts.push(start)?;
+        first_slot += 2 * greatest_group(hir);
+    }
+    Ok(starts)
+}
+
+/// The states of a pattern: its expression between the slots of its whole match, and the state that accepts it.
+fn compile_pattern(
+    alloc: Global,
+    builder: &mut Builder,
+    groups: &Groups,
+    hir: &Hir,
+) -> Result<StateID, Memory>
+    requires covered { IsCovered hir.now }
+    requires room { HasRoom builder.old groups.now (greatest_group hir.now) }
+    requires whole { 2 * builder.old.patterns ≤ builder.old.slots }
+    ensures extends { OnOk result (Extends builder.old builder.new) }
+    ensures has { IfOk result (λ start. HasPart builder.new.states (build_pattern (slot_from groups.now.first_slot) groups.now.pattern hir.now) start) }
+    ensures inside { IfOk result (λ start. start < length builder.new.states) }
+{
+    let pattern = groups.pattern;
+    let slot = 2 * pattern.as_usize();
+    let accept = builder.push(State::Match { pattern })?;
+    let close = builder.push(State::Capture {
+        next: accept,
+        pattern,
+        slot: slot + 1,
+    })?;
+    let body = compile(alloc, builder, groups, hir, close)?;
+    let open = builder.push(State::Capture {
+        next: body,
+        pattern,
+        slot,
+    })?;
+    Ok(open)
+}
+
+/// Where the runs of all the patterns start: at the only start, or at a choice between them.
+fn start_of_all(alloc: Global, builder: &mut Builder, starts: &[StateID]) -> Result<StateID, Memory>
+    requires { All (λ q. q < length builder.old.states) starts.now }
+    ensures starts { IfOk result (StartsAll builder.old builder.new starts.now) }
+    ensures inside { IfOk result (λ start. start < length builder.new.states) }
+{
+    if let [only] = starts {
+        return Ok(*only);
+    }
+    let alternates = Alternates::new(Vec::from_slice(alloc, starts)?);
+    let start = builder.push(State::Union { alternates })?;
+    Ok(start)
+}

@@ -1,0 +1,346 @@
+//! The states of an expression. Each function appends them, for a part that goes on to the state `next`, and answers
+//! where the part starts.
+ghost use Rattle.std.specs.Prelude.{◌≡◌, ◌+◌, ◌*◌, ◌-◌, ◌<◌, ◌≤◌, length, IfOk, None, ◌∷◌, []};
+ghost use Rattle.rx_model.specs.Graph.{text, build_state, build_group, build, build_in_turn, build_each, build_choice, build_repetition, loop, loop_once, options};
+ghost use Rattle.rx_model.specs.Length.{minimum_len, is_positive};
+ghost use Rattle.rx_model.specs.Search.{greatest_group, greatest_in};
+ghost use Rattle.rx_syntax.specs.Normal.{expressions};
+ghost use Rattle.rx_thompson.specs.Built.{Built, slot_from, ways};
+ghost use Rattle.rx_thompson.specs.Covered.{IsCovered, AreCovered};
+ghost use Rattle.rx_thompson.specs.Repeated.{star, tail, leading};
+ghost use Rattle.rx_thompson.specs.Room.{HasRoom};
+ghost use Rattle.rx_thompson.specs.declared.state.State.TheVariants.{Union};
+
+use crate::builder::Builder;
+use crate::groups::Groups;
+use crate::state::{Alternates, State};
+use rx_search::{Memory, StateID};
+use rx_syntax::{Capture, Hir, HirKind, Repetition};
+use std::alloc::Global;
+
+#[cycle(compile)]
+pub fn compile(
+    alloc: Global,
+    builder: &mut Builder,
+    groups: &Groups,
+    hir: &Hir,
+    next: StateID,
+) -> Result<StateID, Memory>
+    requires covered { IsCovered hir.now }
+    requires next { next < length builder.old.states }
+    requires room { HasRoom builder.old groups.now (greatest_group hir.now) }
+    ensures built { IfOk result (λ start. Built (build (slot_from groups.now.first_slot) hir.now) next builder.old builder.new start) }
+    ensures inside { IfOk result (λ start. start < length builder.new.states) }
+{
+    match hir.kind() {
+        HirKind::Empty => Ok(next),
+        HirKind::Literal(bytes) => compile_literal(alloc, builder, bytes, next),
+        HirKind::Class(class) => builder.push_class(alloc, class, next),
+        HirKind::Repetition(repetition) => {
+            compile_repetition(alloc, builder, groups, repetition, next)
+        }
+        HirKind::Capture(capture) => compile_capture(alloc, builder, groups, capture, next),
+        HirKind::Concat(subs) => compile_concat(alloc, builder, groups, subs, next),
+        HirKind::Alternation(subs) => compile_alternation(alloc, builder, groups, subs, next),
+    }
+}
+
+/// A state for each byte, the last one first. No bytes have one state that goes on.
+fn compile_literal(
+    alloc: Global,
+    builder: &mut Builder,
+    bytes: &[u8],
+    next: StateID,
+) -> Result<StateID, Memory>
+    requires next { next < length builder.old.states }
+    ensures built { IfOk result (λ start. Built (build_state (text bytes.now)) next builder.old builder.new start) }
+    ensures inside { IfOk result (λ start. start < length builder.new.states) }
+{
+    if bytes.is_empty() {
+        let alternates = one_way(alloc, next)?;
+        return builder.push(State::Union { alternates });
+    }
+    compile_bytes(builder, bytes, next)
+}
+
+fn compile_bytes(builder: &mut Builder, bytes: &[u8], next: StateID) -> Result<StateID, Memory>
+    requires next { next < length builder.old.states }
+    requires some { 0 < length bytes.now }
+    ensures built { IfOk result (λ start. Built (build_state (text bytes.now)) next builder.old builder.new start) }
+    ensures inside { IfOk result (λ start. start < length builder.new.states) }
+{
+    let mut start = next;
+    let mut left = bytes.len();
+    while left > 0 {
+        left -= 1;
+        start = builder.push(State::ByteRange {
+            start: bytes[left],
+            end: bytes[left],
+            next: start,
+        })?;
+    }
+    Ok(start)
+}
+
+/// A slot before the group, and one after it.
+#[cycle(compile)]
+fn compile_capture(
+    alloc: Global,
+    builder: &mut Builder,
+    groups: &Groups,
+    capture: &Capture,
+    next: StateID,
+) -> Result<StateID, Memory>
+    requires covered { (0 < capture.now.index) × IsCovered capture.now.sub.value }
+    requires next { next < length builder.old.states }
+    requires group { HasRoom builder.old groups.now capture.now.index }
+    requires room { HasRoom builder.old groups.now (greatest_group capture.now.sub.value) }
+    ensures built { IfOk result (λ start. Built (build_group (slot_from groups.now.first_slot capture.now.index) (build (slot_from groups.now.first_slot) capture.now.sub.value))
+        next builder.old builder.new start) }
+    ensures inside { IfOk result (λ start. start < length builder.new.states) }
+{
+    let slot = groups.first_slot + 2 * (capture.index - 1);
+    let close = builder.push(State::Capture {
+        next,
+        pattern: groups.pattern,
+        slot: slot + 1,
+    })?;
+    let body = compile(alloc, builder, groups, &capture.sub, close)?;
+    builder.push(State::Capture {
+        next: body,
+        pattern: groups.pattern,
+        slot,
+    })
+}
+
+/// One expression after another, the last one first.
+#[cycle(compile)]
+fn compile_concat(
+    alloc: Global,
+    builder: &mut Builder,
+    groups: &Groups,
+    subs: &[Hir],
+    next: StateID,
+) -> Result<StateID, Memory>
+    requires covered { AreCovered (expressions subs.now) }
+    requires next { next < length builder.old.states }
+    requires room { HasRoom builder.old groups.now (greatest_in (expressions subs.now)) }
+    ensures built { IfOk result (λ start. Built (build_in_turn (slot_from groups.now.first_slot) (expressions subs.now)) next builder.old builder.new start) }
+    ensures inside { IfOk result (λ start. start < length builder.new.states) }
+{
+    let mut start = next;
+    let mut left = subs.len();
+    while left > 0 {
+        left -= 1;
+        start = compile(alloc, builder, groups, &subs[left], start)?;
+    }
+    Ok(start)
+}
+
+/// The alternatives, and a choice between them, the first one preferred.
+#[cycle(compile)]
+fn compile_alternation(
+    alloc: Global,
+    builder: &mut Builder,
+    groups: &Groups,
+    subs: &[Hir],
+    next: StateID,
+) -> Result<StateID, Memory>
+    requires covered { AreCovered (expressions subs.now) }
+    requires next { next < length builder.old.states }
+    requires room { HasRoom builder.old groups.now (greatest_in (expressions subs.now)) }
+    ensures built { IfOk result (λ start. Built (build_choice (build_each (slot_from groups.now.first_slot) (expressions subs.now))) next builder.old builder.new start) }
+    ensures inside { IfOk result (λ start. start < length builder.new.states) }
+{
+    let mut starts = Vec::new(alloc);
+    for sub in subs {
+        let start = compile(alloc, builder, groups, sub, next)?;
+        starts.push(start)?;
+    }
+    builder.push(State::Union {
+        alternates: Alternates::new(starts),
+    })
+}
+
+/// The copies that must be there, and what may follow them.
+#[cycle(compile)]
+fn compile_repetition(
+    alloc: Global,
+    builder: &mut Builder,
+    groups: &Groups,
+    repetition: &Repetition,
+    next: StateID,
+) -> Result<StateID, Memory>
+    requires covered { IsCovered repetition.now.sub.value }
+    requires next { next < length builder.old.states }
+    requires room { HasRoom builder.old groups.now (greatest_group repetition.now.sub.value) }
+    ensures built { IfOk result (λ start. Built (build_repetition (is_positive (minimum_len repetition.now.sub.value)) repetition.now.min repetition.now.max
+        repetition.now.greedy (build (slot_from groups.now.first_slot) repetition.now.sub.value)) next builder.old builder.new start) }
+    ensures inside { IfOk result (λ start. start < length builder.new.states) }
+{
+    let copies = leading(repetition);
+    let mut start = compile_tail(alloc, builder, groups, repetition, next)?;
+    for _copy in 0..copies {
+        start = compile(alloc, builder, groups, &repetition.sub, start)?;
+    }
+    Ok(start)
+}
+
+/// How many copies come before what may follow them.
+fn leading(repetition: &Repetition) -> u32
+    ensures { result ≡ leading repetition.now.min repetition.now.max }
+{
+    match repetition.max {
+        Some(_) => repetition.min,
+        None => repetition.min.saturating_sub(1),
+    }
+}
+
+/// What follows the copies that must be there.
+#[cycle(compile)]
+fn compile_tail(
+    alloc: Global,
+    builder: &mut Builder,
+    groups: &Groups,
+    repetition: &Repetition,
+    next: StateID,
+) -> Result<StateID, Memory>
+    requires covered { IsCovered repetition.now.sub.value }
+    requires next { next < length builder.old.states }
+    requires room { HasRoom builder.old groups.now (greatest_group repetition.now.sub.value) }
+    ensures built { IfOk result (λ start. Built (tail (is_positive (minimum_len repetition.now.sub.value)) repetition.now.min repetition.now.max
+        repetition.now.greedy (build (slot_from groups.now.first_slot) repetition.now.sub.value)) next builder.old builder.new start) }
+    ensures inside { IfOk result (λ start. start < length builder.new.states) }
+{
+    match repetition.max {
+        Some(max) => compile_options(
+            alloc,
+            builder,
+            groups,
+            repetition,
+            max.saturating_sub(repetition.min),
+            next,
+        ),
+        None => compile_unbounded(alloc, builder, groups, repetition, next),
+    }
+}
+
+/// One copy and more where some must be there, else any number of them.
+#[cycle(compile)]
+fn compile_unbounded(
+    alloc: Global,
+    builder: &mut Builder,
+    groups: &Groups,
+    repetition: &Repetition,
+    next: StateID,
+) -> Result<StateID, Memory>
+    requires covered { IsCovered repetition.now.sub.value }
+    requires next { next < length builder.old.states }
+    requires room { HasRoom builder.old groups.now (greatest_group repetition.now.sub.value) }
+    ensures built { IfOk result (λ start. Built (tail (is_positive (minimum_len repetition.now.sub.value)) repetition.now.min None
+        repetition.now.greedy (build (slot_from groups.now.first_slot) repetition.now.sub.value)) next builder.old builder.new start) }
+    ensures inside { IfOk result (λ start. start < length builder.new.states) }
+{
+    if repetition.min > 0 {
+        let turn = compile_loop(alloc, builder, groups, repetition, next)?;
+        return Ok(turn.body);
+    }
+    if takes_bytes(&repetition.sub) {
+        let turn = compile_loop(alloc, builder, groups, repetition, next)?;
+        return Ok(turn.choice);
+    }
+    let choice = builder.push(State::Fail)?;
+    let inner = compile_loop(alloc, builder, groups, repetition, next)?;
+    let state = two_ways(alloc, repetition.greedy, inner.body, next)?;
+    builder.patch(choice, state);
+    Ok(choice)
+}
+
+/// Whether each match of the expression is known to take a byte.
+fn takes_bytes(hir: &Hir) -> bool
+    ensures { result ≡ is_positive (minimum_len hir.now) }
+{
+    match hir.minimum_len() {
+        Some(len) => len > 0,
+        None => false,
+    }
+}
+
+/// A loop: where it chooses to go round or to leave, and where its body starts.
+#[derive(Clone, Copy)]
+struct Turn {
+    choice: StateID,
+    body: StateID,
+}
+
+/// The choice and the body, which goes back to the choice.
+#[cycle(compile)]
+fn compile_loop(
+    alloc: Global,
+    builder: &mut Builder,
+    groups: &Groups,
+    repetition: &Repetition,
+    next: StateID,
+) -> Result<Turn, Memory>
+    requires covered { IsCovered repetition.now.sub.value }
+    requires next { next < length builder.old.states }
+    requires room { HasRoom builder.old groups.now (greatest_group repetition.now.sub.value) }
+    ensures from_choice { IfOk result (λ turn. Built (loop repetition.now.greedy (build (slot_from groups.now.first_slot) repetition.now.sub.value)) next builder.old builder.new turn.choice) }
+    ensures from_body { IfOk result (λ turn. Built (loop_once repetition.now.greedy (build (slot_from groups.now.first_slot) repetition.now.sub.value)) next builder.old builder.new turn.body) }
+    ensures inside { IfOk result (λ turn. (turn.choice < length builder.new.states) × (turn.body < length builder.new.states)) }
+{
+    let choice = builder.push(State::Fail)?;
+    let body = compile(alloc, builder, groups, &repetition.sub, choice)?;
+    let state = two_ways(alloc, repetition.greedy, body, next)?;
+    builder.patch(choice, state);
+    Ok(Turn { choice, body })
+}
+
+/// This many options, one inside the other, all with the same exit. The inmost comes first.
+#[cycle(compile)]
+fn compile_options(
+    alloc: Global,
+    builder: &mut Builder,
+    groups: &Groups,
+    repetition: &Repetition,
+    count: u32,
+    next: StateID,
+) -> Result<StateID, Memory>
+    requires covered { IsCovered repetition.now.sub.value }
+    requires next { next < length builder.old.states }
+    requires room { HasRoom builder.old groups.now (greatest_group repetition.now.sub.value) }
+    ensures built { IfOk result (λ start. Built (options repetition.now.greedy count (build (slot_from groups.now.first_slot) repetition.now.sub.value)) next builder.old builder.new start) }
+    ensures inside { IfOk result (λ start. start < length builder.new.states) }
+{
+    let mut start = next;
+    for _option in 0..count {
+        let choice = builder.push(State::Fail)?;
+        let body = compile(alloc, builder, groups, &repetition.sub, start)?;
+        let option = two_ways(alloc, repetition.greedy, body, next)?;
+        builder.patch(choice, option);
+        start = choice;
+    }
+    Ok(start)
+}
+
+/// On to this state alone.
+fn one_way(alloc: Global, next: StateID) -> Result<Alternates, Memory>
+    ensures { IfOk result (λ alternates. alternates ≡ next ∷ []) }
+{
+    let mut ids = Vec::new(alloc);
+    ids.push(next)?;
+    Ok(Alternates::new(ids))
+}
+
+/// The choice between the body and the exit. The body is preferred where it is greedy.
+fn two_ways(alloc: Global, greedy: bool, body: StateID, exit: StateID) -> Result<State, Memory>
+    ensures { IfOk result (λ state. state ≡ Union (ways greedy body exit)) }
+{
+    let (first, second) = if greedy { (body, exit) } else { (exit, body) };
+    let mut ids = Vec::new(alloc);
+    ids.push(first)?;
+    ids.push(second)?;
+    Ok(State::Union {
+        alternates: Alternates::new(ids),
+    })
+}
