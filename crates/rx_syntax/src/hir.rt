@@ -6,11 +6,13 @@ ghost use Rattle.rx_syntax.specs.Length.{maximum_len, saturated, in_64_bits};
 ghost use Rattle.rx_syntax.specs.Normal.{fail, literal_of, copies_of, repetition_of};
 
 mod alternation;
+mod bytes;
 mod class;
 mod concat;
 mod copy;
 mod groups;
 mod kind;
+mod laws;
 mod properties;
 mod scalars;
 mod set;
