@@ -21,7 +21,5 @@ pub mod Refusal
 pub mod Scalars
 pub mod Stack
 pub mod Syntax
-pub mod Thin
-pub mod ThinViews
 pub mod Tokens
 pub mod Translation

@@ -12,11 +12,13 @@ mod cursor;
 mod error;
 mod hir;
 mod parser;
-mod thin;
 mod token;
 mod translate;
 
 pub use accounting::{cost, states as accounted_states};
 pub use error::{ParseError, SyntaxError, SyntaxErrorKind};
-pub use hir::{Capture, Class, ClassBytes, ClassUnicode, Hir, HirKind, Repetition, greatest_group};
-pub use thin::parse;
+pub use hir::{
+    Capture, Class, ClassBytes, ClassUnicode, Hir, HirKind, Repetition,
+    fewest_ranges_hold_the_members, greatest_group, lengths_bound_the_meaning,
+};
+pub use parser::parse;
