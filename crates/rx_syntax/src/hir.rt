@@ -16,9 +16,12 @@ mod laws;
 mod properties;
 mod scalars;
 mod set;
+#[cfg(test)]
+mod tests;
 
 pub use class::{Class, ClassBytes, ClassUnicode};
 pub use groups::greatest_group;
+pub use laws::{fewest_ranges_hold_the_members, lengths_bound_the_meaning};
 use properties::Properties;
 use std::alloc::Global;
 use std::marker::Model;

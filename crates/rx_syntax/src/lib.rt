@@ -18,5 +18,8 @@ mod translate;
 
 pub use accounting::cost;
 pub use error::{ParseError, SyntaxError, SyntaxErrorKind};
-pub use hir::{Capture, Class, ClassBytes, ClassUnicode, Hir, HirKind, Repetition, greatest_group};
+pub use hir::{
+    Capture, Class, ClassBytes, ClassUnicode, Hir, HirKind, Repetition,
+    fewest_ranges_hold_the_members, greatest_group, lengths_bound_the_meaning,
+};
 pub use thin::parse;

@@ -1,7 +1,11 @@
-//! Laws of classes.
-ghost use Rattle.std.specs.Prelude.{◌≡◌, ℕ, List};
+//! Laws of classes and of lengths.
+ghost use Rattle.std.specs.Prelude.{◌≡◌, ℕ, ◌+◌, ◌≤◌, List, Some};
 ghost use Rattle.std.specs.Char.{IsScalar};
+ghost use Rattle.rx_model.specs.Expression.{Expression};
+ghost use Rattle.rx_model.specs.Length.{minimum_len};
+ghost use Rattle.rx_model.specs.Meaning.{Means};
 ghost use Rattle.rx_model.specs.Text.{is_member};
+ghost use Rattle.rx_syntax.specs.Length.{maximum_len, saturated, in_64_bits};
 ghost use Rattle.rx_syntax.specs.Ranges.{next_scalar, next_byte, fewest, HaveScalarEnds, AreScalarRanges, AreByteRanges};
 
 /// A class holds exactly the members of the ranges that it was made of, in fewest ranges, and no other list of
@@ -16,4 +20,13 @@ pub fn fewest_ranges_hold_the_members()
     ensures byte_ranges { (rs : List (ℕ × ℕ)) → AreByteRanges (fewest next_byte rs) }
     ensures one_list_of_bytes { (qs rs : List (ℕ × ℕ)) → AreByteRanges qs → AreByteRanges rs
         → ((b : ℕ) → is_member qs b ≡ is_member rs b) → qs ≡ rs }
+{}
+
+/// What an expression means is as long as `minimum_len` says at least, and at most as long as `maximum_len`
+/// says, where they are known.
+pub fn lengths_bound_the_meaning()
+    ensures least { (t : ℕ) (text : List ℕ) (h : Expression) (n : ℕ) → saturated (minimum_len h) ≡ Some n
+        → (i j : ℕ) → Means t text h i j → i + n ≤ j }
+    ensures greatest { (t : ℕ) (text : List ℕ) (h : Expression) (n : ℕ) → in_64_bits (maximum_len h) ≡ Some n
+        → (i j : ℕ) → Means t text h i j → j ≤ i + n }
 {}
