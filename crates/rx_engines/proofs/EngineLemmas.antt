@@ -15,9 +15,10 @@ use Rattle.rx_thompson.specs.Nfa.{Nfa, IsInRange}
 use Rattle.rx_thompson.specs.NextMatch.{start_of, first_from, next_match_of}
 use Rattle.rx_thompson.proofs.NextMatchLemmas.{first_start-alike, next_match_of-patterns, next_match_of-slot, next_match_of-within}
 use Rattle.rx_thompson.specs.declared.state.State.{State}
-use Rattle.rx_engines.specs.Search.{first_of, last_start, next_in, triple}
+use Rattle.rx_engines.specs.Simulation.{first_of}
+use Rattle.rx_engines.specs.Search.{triple}
 use Rattle.rx_engines.specs.Walk.{Slots}
-use Rattle.rx_engines.specs.Engine.{PikeVMValue, next_match_in, next_match_for, IsOf, HasSlots}
+use Rattle.rx_engines.specs.Engine.{PikeVMValue, next_match_in, next_match_for, last_start, IsOf, HasSlots}
 use Rattle.rx_engines.proofs.OptionLemmas.{or-none_right}
 
 first_start-none : (permitted : ℕ → Bool) (n i : ℕ) → first_start permitted (λ j. None) n i ≡ None
@@ -40,17 +41,18 @@ module _ (nfa : Nfa) (utf8_empty : Bool) (text : List ℕ) (anchor : Anchor) (en
       ∙ first_start-none (is_permitted utf8_empty text) (starts anchor start end) start
 
   -- how many starts there are
-  starts-is : start ≤ end → starts anchor start end ≡ last_start (is_anchored anchor) start end + 1 - start
+  starts-is : start ≤ end → starts anchor start end ≡ (if is_anchored anchor then start else end) + 1 - start
   starts-is le =
       let e : nat_lt end start ≡ false = grind (arith, nat_tests) in
       by_test (is_anchored anchor) (λ a. rw (e, a) (omega arith)) (λ a. rw (e, a) refl)
 
-  pub next_match_of-start : (q : ℕ) → start ≤ end → start_of nfa anchor ≡ Some q → next_in nfa.states text (q ∷ []) utf8_empty (is_anchored anchor) start end ≡ next_match_of nfa utf8_empty text anchor end start
+  pub next_match_of-start : (q last : ℕ) → start ≤ end → start_of nfa anchor ≡ Some q → last ≡ (if is_anchored anchor then start else end)
+      → first_start (is_permitted utf8_empty text) (first_of (first_trace (automaton nfa.states text end)) (q ∷ [])) (last + 1 - start) start ≡ next_match_of nfa utf8_empty text anchor end start
   unfolding next_match_of
-  next_match_of-start q le is =
-      first_start-alike (is_permitted utf8_empty text) (first_of (first_trace (automaton nfa.states text end)) (q ∷ [])) (first_from nfa.states text end (start_of nfa anchor)) (last_start (is_anchored anchor) start end + 1 - start) start
+  next_match_of-start q last le is at_last =
+      first_start-alike (is_permitted utf8_empty text) (first_of (first_trace (automaton nfa.states text end)) (q ∷ [])) (first_from nfa.states text end (start_of nfa anchor)) (last + 1 - start) start
       (λ j _. or-none_right (first_trace (automaton nfa.states text end) (at q j)) ∙ ap (λ s. first_from nfa.states text end s j) (sym is))
-      ∙ ap (λ n. first_start (is_permitted utf8_empty text) (first_from nfa.states text end (start_of nfa anchor)) n start) (sym (starts-is le))
+      ∙ ap (λ n. first_start (is_permitted utf8_empty text) (first_from nfa.states text end (start_of nfa anchor)) n start) (ap (λ l. l + 1 - start) at_last ∙ sym (starts-is le))
 
 -- the start is there
 pub start-inside : (nfa : Nfa) (anchor : Anchor) (q : ℕ) → IsInRange nfa → start_of nfa anchor ≡ Some q → All (λ s. s < length nfa.states) (q ∷ [])
@@ -69,10 +71,12 @@ module _ (vm : PikeVMValue) (v : InputValue) where
   patterns-agree within r of = next_match_of-patterns vm.nfa r v.haystack v.end within of.runs vm.utf8_empty v.anchor v.start of.utf8_empty
 
   -- what the search of the states was given
-  pub found-is : {states : List State} {text : List ℕ} {q from end : ℕ} {utf8_empty anchored : Bool} → states ≡ vm.nfa.states → text ≡ v.haystack → utf8_empty ≡ vm.utf8_empty → anchored ≡ is_anchored v.anchor → from ≡ v.start → end ≡ v.end
-      → v.start ≤ v.end → start_of vm.nfa v.anchor ≡ Some q → next_in states text (q ∷ []) utf8_empty anchored from end ≡ next_match_in vm v
-  found-is {q = q} a b c d e f le is =
-      (λ j. next_in (a j) (b j) (q ∷ []) (c j) (d j) (e j) (f j)) ∙ next_match_of-start vm.nfa vm.utf8_empty v.haystack v.anchor v.end v.start q le is
+  pub found-is : {states : List State} {text : List ℕ} {q last from end : ℕ} {utf8_empty : Bool} → states ≡ vm.nfa.states → text ≡ v.haystack → utf8_empty ≡ vm.utf8_empty → last ≡ last_start v → from ≡ v.start → end ≡ v.end
+      → v.start ≤ v.end → start_of vm.nfa v.anchor ≡ Some q
+      → first_start (is_permitted utf8_empty text) (first_of (first_trace (automaton states text end)) (q ∷ [])) (last + 1 - from) from ≡ next_match_in vm v
+  found-is {q = q} {last = last} a b c at_last d e le is =
+      (λ j. first_start (is_permitted (c j) (b j)) (first_of (first_trace (automaton (a j) (b j) (e j))) (q ∷ [])) (last + 1 - d j) (d j))
+      ∙ next_match_of-start vm.nfa vm.utf8_empty v.haystack v.anchor v.end v.start q last le is at_last
 
   pub triple-in_order : (o : Option Match) → o ≡ next_match_in vm v → (found : Option (ℕ × ℕ × ℕ)) → found ≡ option_map triple o → IfSome found (λ f. f.1 ≤ f.2)
   triple-in_order None e found is = rw is tt

@@ -24,7 +24,7 @@ use Rattle.std.proofs.Math.Seq.{drop-cons}
 use Rattle.std.proofs.lemmas.List.{drop_all}
 use Rattle.rx_engines.specs.Threads.{Row}
 use Rattle.rx_engines.specs.Simulation.{is_resting, Closed, passed_at, Hit, hit, hit_of, best_hit, among, IsStable, Waits, Stepped, from_starts, later_starts}
-use Rattle.rx_engines.specs.Search.{first_of}
+use Rattle.rx_engines.specs.Simulation.{first_of}
 use Rattle.rx_engines.proofs.SimulationLemmas.{passed_at-elsewhere}
 
 -- a start, as a hit

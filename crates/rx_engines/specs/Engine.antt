@@ -1,6 +1,6 @@
 -- What an engine is to a contract, and what its searches answer.
-use Rattle.std.specs.Prelude.{◌≡◌, ℕ, ◌<◌, Bool, List, length, Option, None, slice_index_or}
-use Rattle.rx_model.specs.Search.{Patterns, Match, next_match, slot_value}
+use Rattle.std.specs.Prelude.{◌≡◌, ℕ, ◌<◌, Bool, List, length, Option, None, slice_index_or, if◌then◌else◌}
+use Rattle.rx_model.specs.Search.{Patterns, Match, is_anchored, next_match, slot_value}
 use Rattle.rx_search.specs.Input.{InputValue}
 use Rattle.rx_thompson.specs.Nfa.{Nfa, HasFirstRuns}
 use Rattle.rx_thompson.specs.NextMatch.{next_match_of}
@@ -15,6 +15,10 @@ pub record PikeVMValue : Type 0 where
 -- the next match of the engine's NFA in the input's span
 abbrev pub next_match_in : PikeVMValue → InputValue → Option Match
 next_match_in vm v = next_match_of vm.nfa vm.utf8_empty v.haystack v.anchor v.end v.start
+
+-- the place at which a match may start at the latest
+abbrev pub last_start : InputValue → ℕ
+last_start v = if is_anchored v.anchor then v.start else v.end
 
 -- the engine's NFA has the first runs of these patterns
 pub record IsOf (vm : PikeVMValue) (r : Patterns) : Type 0 where

@@ -1,26 +1,26 @@
--- The next match of a list of states.
-use Rattle.std.specs.Prelude.{ℕ, ◌+◌, ◌-◌, Bool, List, [], ◌∷◌, Option, None, if◌then◌else◌}
-use Rattle.std.specs.Option.{option_or}
-use Rattle.rx_model.specs.Runs.{Configuration, Trace, first_trace}
+-- What is searched, and the next match there.
+use Rattle.std.specs.Prelude.{ℕ, ◌+◌, ◌-◌, ◌≤◌, ◌<◌, length, All, Option}
+use Rattle.rx_model.specs.Runs.{PriorityGraph, first_trace}
 use Rattle.rx_model.specs.Search.{Match, is_permitted, first_start}
-use Rattle.rx_thompson.specs.Automaton.{at, automaton}
-use Rattle.rx_thompson.specs.declared.state.State.{State}
+use Rattle.rx_thompson.specs.Automaton.{automaton, NamesBelow}
+use Rattle.rx_engines.specs.Simulation.{first_of}
+use Rattle.rx_engines.specs.declared.pikevm.search.Search.{Search}
 
--- what the first of these states that leads to anything tells, at place i
-abbrev pub first_of : (Configuration → Option Trace) → List ℕ → ℕ → Option Trace
-first_of go [] i = None
-first_of go (q ∷ qs) i = option_or (go (at q i)) (first_of go qs i)
+-- the states that are named are there, and the places are in order
+pub record IsInside (s : Search) : Type 0 where
+  pub names : All (NamesBelow (length s.states.now)) s.states.now
+  pub starts : All (λ q. q < length s.states.now) s.starts.now
+  pub last : s.last ≤ s.end
+  pub end : s.end ≤ length s.text.now
 
--- where a match of from..end may start at the latest
-abbrev pub last_start : (anchored : Bool) → (from end : ℕ) → ℕ
-last_start anchored from end = if anchored then from else end
+-- the graph whose runs are searched
+abbrev pub graph_for : Search → PriorityGraph
+graph_for s = automaton s.states.now s.text.now s.end
 
--- The next match of the states in from..end, from any of the starts, the first of them preferred. Anchored, it
--- is one that starts at `from`.
-abbrev pub next_in : List State → List ℕ → (starts : List ℕ) → Bool → (anchored : Bool) → (from end : ℕ) → Option Match
-next_in states text starts utf8_empty anchored from end =
-    first_start (is_permitted utf8_empty text) (first_of (first_trace (automaton states text end)) starts)
-    (last_start anchored from end + 1 - from) from
+-- the next match that starts at `from` or after it
+abbrev pub next_of : Search → (from : ℕ) → Option Match
+next_of s from =
+    first_start (is_permitted s.utf8_empty s.text.now) (first_of (first_trace (graph_for s)) s.starts.now) (s.last + 1 - from) from
 
 -- a match as pattern, start and end
 abbrev pub triple : Match → ℕ × ℕ × ℕ

@@ -1,12 +1,11 @@
 -- A simulation by ordered threads: what the threads at a place lead to, and what a step keeps true.
 use Rattle.std.specs.Prelude.{◌≡◌, ◌⊎◌, ℕ, zero, suc, ◌+◌, ◌-◌, ◌<◌, ◌≤◌, Bool, true, false, List, [], ◌∷◌, length, map, replicate, Option, Some, None, option_map, nat_lt, slice_index, if◌then◌else◌}
 use Rattle.std.specs.Option.{option_or}
-use Rattle.rx_model.specs.Runs.{Configuration, PriorityGraph, Passed, nowhere, and_at, found, is_among}
+use Rattle.rx_model.specs.Runs.{Trace, Configuration, PriorityGraph, Passed, nowhere, and_at, found, is_among}
 use Rattle.rx_model.specs.Search.{Match, is_permitted, first_start}
 use Rattle.rx_thompson.specs.Automaton.{at, automaton, state_at, route}
 use Rattle.rx_thompson.specs.declared.state.Transition.{Transition}
 use Rattle.rx_engines.specs.Walk.{Slots, Answer, answer, pending, write_all, Expands}
-use Rattle.rx_engines.specs.Search.{first_of}
 use Rattle.rx_thompson.specs.declared.state.State.{State}
 use Rattle.rx_thompson.specs.declared.state.State.TheVariants.{ByteRange, Sparse, Union, Capture, Fail, Match as Accepts}
 use Rattle.rx_engines.specs.declared.frame.Frame.{Frame}
@@ -126,6 +125,11 @@ hit_of width m = (m.start, record { pattern = m.trace.pattern; end = m.trace.end
 abbrev pub best_hit : Option (ℕ × ℕ × ℕ) → Slots → Option Hit
 best_hit None slots = None
 best_hit (Some b) slots = Some (b.1, record { pattern = b.0; end = b.2; slots = slots })
+
+-- what the first of these states that leads to anything tells, at place i
+abbrev pub first_of : (Configuration → Option Trace) → List ℕ → ℕ → Option Trace
+first_of go [] i = None
+first_of go (q ∷ qs) i = option_or (go (at q i)) (first_of go qs i)
 
 module _ (states : List State) (text : List ℕ) (starts : List ℕ) (utf8_empty : Bool) (end : ℕ) where
   -- the first match that starts in i..=last, past what was passed

@@ -7,6 +7,7 @@ mod finder;
 mod search;
 mod seed;
 mod set;
+mod simulate;
 mod stack;
 mod step;
 mod table;

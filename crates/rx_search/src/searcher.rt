@@ -23,6 +23,9 @@ pub trait Finder {
     /// What the finder holds of the match that its last search answered, as that match's slots.
     ghost tells: { Self → Option ModelMatch → Type 0 } = { λ _ _. Unit {0} };
 
+    /// What no call changes: the second finder is as the first one in this respect.
+    ghost keeps: { Self → Self → Type 0 } = { λ _ _. Unit {0} };
+
     /// The next match in the span of the input. A call, also one that fails, changes no later answer.
     fn find(&mut self, input: &Input<'_>) -> Result<Option<Match>, Self::Error>
         requires { can_search self.old input.now }
@@ -30,7 +33,8 @@ pub trait Finder {
         ensures within { IfOk result (λ found. IfSome found (λ m. (input.now.start ≤ m.start) × (m.end ≤ input.now.end))) }
         ensures told { OnOk result (tells self.new (searches self.old input.now)) }
         ensures same_answers { (v : InputValue) → searches self.new v ≡ searches self.old v }
-        ensures still_can { (v : InputValue) → can_search self.old v → can_search self.new v };
+        ensures still_can { (v : InputValue) → can_search self.old v → can_search self.new v }
+        ensures stays { (s : Self) → keeps s self.old → keeps s self.new };
 }
 
 /// The matches in an input, one after another: each search begins where the last match ended. An empty
@@ -82,6 +86,7 @@ impl<'h> Searcher<'h> {
         ensures same_answers { (v : InputValue) → F.searches finder.new v ≡ F.searches finder.old v }
         ensures still_can { (v : InputValue) → F.can_search finder.old v → F.can_search finder.new v }
         ensures can_go_on { (i : ℕ) → F.can_search finder.new (from_place i self.new.input) }
+        ensures stays { (s : F) → F.keeps s finder.old → F.keeps s finder.new }
     {
         let Some(found) = self.find_next(finder)? else {
             return Ok(None);
@@ -132,6 +137,7 @@ impl<'h> Searcher<'h> {
         ensures told { OnOk result (F.tells finder.new (upcoming (F.searches finder.old) self.now)) }
         ensures same_answers { (v : InputValue) → F.searches finder.new v ≡ F.searches finder.old v }
         ensures still_can { (v : InputValue) → F.can_search finder.old v → F.can_search finder.new v }
+        ensures stays { (s : F) → F.keeps s finder.old → F.keeps s finder.new }
     {
         let found = finder.find(&self.input)?;
         let Some(last) = self.last_match_end else {

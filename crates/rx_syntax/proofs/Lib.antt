@@ -7,14 +7,17 @@ pub mod EndLemmas
 pub mod GroupLemmas
 pub mod ItemLemmas
 pub mod JoinedLemmas
+pub mod MergeLemmas
 pub mod PatternLemmas
 pub mod PlaceLemmas
 pub mod PropertiesLemmas
+pub mod RangeLemmas
 pub mod ReadsLemmas
 pub mod RepeatLemmas
 mod Rows
 pub mod ScalarLemmas
 pub mod SizeLemmas
 pub mod StackLemmas
+pub mod SuccessorLemmas
 pub mod ThinLemmas
 pub mod TranslationLemmas

@@ -11,6 +11,7 @@ pub mod Input
 pub mod ItemViews
 pub mod Joined
 pub mod Length
+pub mod Merged
 pub mod Normal
 pub mod Pattern
 pub mod Properties

@@ -1,10 +1,6 @@
 -- Complements of ranges of scalars.
-use Rattle.std.specs.Prelude.{ℕ, ◌-◌, ◌==◌, nat_lt, nat_le, List, [], ◌∷◌, ◌++◌, Option, Some, None, if◌then◌else◌}
-use Rattle.rx_syntax.specs.Ranges.{next_scalar, insert}
-
--- a range more among fewest ranges; where its ends are out of order it has no members
-abbrev pub with_range : (low high : ℕ) → List (ℕ × ℕ) → List (ℕ × ℕ)
-with_range low high ranges = if nat_le low high then insert next_scalar low high ranges else ranges
+use Rattle.std.specs.Prelude.{ℕ, ◌-◌, ◌==◌, nat_lt, List, [], ◌∷◌, ◌++◌, Option, Some, None, if◌then◌else◌}
+use Rattle.rx_syntax.specs.Ranges.{next_scalar}
 
 -- the scalar before this one
 abbrev pub previous_scalar : ℕ → ℕ

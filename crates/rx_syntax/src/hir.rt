@@ -1,16 +1,19 @@
 //! Expressions.
 ghost use Rattle.std.specs.Prelude.{◌≡◌, ◌≢◌, ◌<◌, ◌≤◌, IfSome, Some};
+ghost use Rattle.std.specs.Int.NonZero.{non_zero_usize_get};
 ghost use Rattle.rx_model.specs.Expression.{empty, repetition, capture};
 ghost use Rattle.rx_model.specs.Length.{minimum_len};
 ghost use Rattle.rx_syntax.specs.Length.{maximum_len, saturated, in_64_bits};
 ghost use Rattle.rx_syntax.specs.Normal.{fail, literal_of, copies_of, repetition_of};
 
 mod alternation;
+mod bytes;
 mod class;
 mod concat;
 mod copy;
 mod groups;
 mod kind;
+mod laws;
 mod properties;
 mod scalars;
 mod set;
@@ -20,6 +23,7 @@ pub use groups::greatest_group;
 use properties::Properties;
 use std::alloc::Global;
 use std::marker::Model;
+use std::num::NonZeroUsize;
 
 /// A regular expression, which a contract sees as an `Expression`. It is always what the constructors make:
 /// no part of a concatenation is empty or a concatenation, no two literals in it are neighbours, no
@@ -66,7 +70,7 @@ pub struct Repetition {
 #[cycle(hir)]
 #[derive(Drop)]
 pub struct Capture {
-    pub index: usize,
+    pub index: NonZeroUsize,
     pub sub: Box<Hir>,
 }
 
@@ -145,8 +149,7 @@ impl Hir {
 
     /// The capture group of this number.
     pub fn capture(group: Capture) -> Hir
-        requires { 0 < group.index }
-        ensures { result ≡ capture group.index group.sub.value }
+        ensures { result ≡ capture (non_zero_usize_get group.index) group.sub.value }
     {
         let properties = group.sub.properties;
         Hir {

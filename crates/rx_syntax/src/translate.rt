@@ -8,6 +8,7 @@ ghost use Rattle.rx_syntax.specs.ItemViews.{item_expression};
 use crate::ast::{Ast, AstKind, Item};
 use crate::hir::{Capture, Class, ClassUnicode, Hir, Repetition};
 use std::alloc::{AllocError, Global};
+use std::num::NonZeroUsize;
 
 /// The literal of these characters' encodings.
 fn literal(alloc: Global, chars: &[char]) -> Result<Hir, AllocError>
@@ -44,7 +45,7 @@ fn group(alloc: Global, number: Option<usize>, sub: Hir) -> Result<Hir, AllocErr
     requires { IfSome number (λ n. 0 < n) }
     ensures { IfOk result (λ h. h ≡ group_of number sub) }
 {
-    match number {
+    match number.and_then(NonZeroUsize::new) {
         None => Ok(sub),
         Some(index) => {
             let sub = Box::new(alloc, sub)?;

@@ -14,7 +14,6 @@ use Rattle.rx_search.specs.declared.memory.Memory.{Memory}
 use Rattle.rx_syntax.specs.Length.{saturated}
 use Rattle.rx_syntax.specs.Normal.{expressions}
 use Rattle.rx_thompson.specs.Built.{Built, ways}
-use Rattle.rx_thompson.specs.Covered.{IsCovered, AreCovered}
 use Rattle.rx_thompson.specs.Draft.{Draft, pushed, patched}
 use Rattle.rx_thompson.specs.Repeated.{tail, leading}
 use Rattle.rx_thompson.specs.Room.{HasRoom}
@@ -36,11 +35,6 @@ HasRoom-kept old new groups m n patterns slots le h =
 
 pub HasRoom-less : (d : Draft) (groups : Groups) (m n : ℕ) → n ≤ m → HasRoom d groups m → HasRoom d groups n
 HasRoom-less d groups m n le h = HasRoom-kept d d groups m n refl refl le h
-
-pub AreCovered-at : (hs : List Expression) (k : ℕ) (h d : Expression) → k < length hs → h ≡ get_or hs k d → AreCovered (expressions hs) → IsCovered h
-AreCovered-at [] k h d lt e c = absurd (omega arith)
-AreCovered-at (x ∷ hs) zero h d lt e c = subst IsCovered (sym e) c.0
-AreCovered-at (x ∷ hs) (suc k) h d lt e c = AreCovered-at hs k h d (omega arith) e c.1
 
 pub greatest-at : (hs : List Expression) (k : ℕ) (h d : Expression) → k < length hs → h ≡ get_or hs k d → greatest_group h ≤ greatest_in (expressions hs)
 unfolding greatest_group

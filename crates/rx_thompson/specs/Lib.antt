@@ -8,7 +8,6 @@ pub mod Ranges
 pub mod Trie
 pub mod Reading
 pub mod Built
-pub mod Covered
 pub mod Repeated
 pub mod Room
 pub mod Compiled

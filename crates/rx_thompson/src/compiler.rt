@@ -4,7 +4,6 @@ ghost use Rattle.rx_model.specs.Graph.{build_pattern};
 ghost use Rattle.rx_model.specs.Search.{greatest_group};
 ghost use Rattle.rx_thompson.specs.Built.{slot_from, HasPart, HasPatterns, StartsAll};
 ghost use Rattle.rx_thompson.specs.Compiled.{patterns_of, slots_of, AreFew, AreAllowed, IsCompiled, IsRefusal};
-ghost use Rattle.rx_thompson.specs.Covered.{IsCovered};
 ghost use Rattle.rx_thompson.specs.Draft.{Extends};
 ghost use Rattle.rx_thompson.specs.Room.{HasRoom};
 
@@ -66,7 +65,6 @@ impl Compiler {
     /// Refused before anything is built, in this order: more than 2147483647 patterns, more than 2147483646 slots, more
     /// than 2147483647 states accounted, more bytes accounted than the configured limit. Want of memory comes last.
     pub fn build_many_from_hir(&self, alloc: Global, exprs: &[Hir]) -> Result<NFA, BuildError>
-        requires { All IsCovered exprs.now }
         ensures compiled { IfOk result (IsCompiled exprs.now) }
         ensures allowed { OnOk result (AreAllowed self.now.config.nfa_size_limit exprs.now) }
         ensures refused { IfErr result (IsRefusal self.now.config.nfa_size_limit exprs.now) }
@@ -112,7 +110,6 @@ fn exceeded(limit: Option<usize>, size: usize) -> Option<usize>
 
 /// The NFA of few enough patterns and slots.
 fn build(alloc: Global, exprs: &[Hir], slots: usize) -> Result<NFA, Memory>
-    requires covered { All IsCovered exprs.now }
     requires few { AreFew exprs.now }
     requires slots { slots ≡ slots_of exprs.now }
     ensures { IfOk result (IsCompiled exprs.now) }
@@ -129,7 +126,6 @@ fn compile_patterns(
     builder: &mut Builder,
     exprs: &[Hir],
 ) -> Result<Vec<StateID>, Memory>
-    requires covered { All IsCovered exprs.now }
     requires few { AreFew exprs.now }
     requires patterns { builder.old.patterns ≡ length exprs.now }
     requires slots { builder.old.slots ≡ slots_of exprs.now }
@@ -162,7 +158,6 @@ fn compile_pattern(
     groups: &Groups,
     hir: &Hir,
 ) -> Result<StateID, Memory>
-    requires covered { IsCovered hir.now }
     requires room { HasRoom builder.old groups.now (greatest_group hir.now) }
     requires whole { 2 * builder.old.patterns ≤ builder.old.slots }
     ensures extends { OnOk result (Extends builder.old builder.new) }

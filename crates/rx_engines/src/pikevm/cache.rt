@@ -1,19 +1,19 @@
 ghost use Rattle.std.specs.Prelude.{◌≡◌, vec_len, ℕ, ◌+◌, ◌^◌, ◌<◌, ◌≤◌, [], length, All, is_some, Some, None, IfOk, OnOk, OnErr, IfSome, IfNone, option_map, replicate, nat_lt, slice_index_or, if◌then◌else◌};
 ghost use Rattle.rx_model.specs.Search.{slot_value};
-ghost use Rattle.rx_thompson.specs.Automaton.{NamesBelow};
-ghost use Rattle.rx_engines.specs.Search.{last_start, next_in, triple};
+ghost use Rattle.rx_engines.specs.Search.{IsInside, next_of, triple};
 ghost use Rattle.rx_engines.specs.Simulation.{cost, cost_below};
 ghost use Rattle.rx_engines.specs.Room.{Room, room_code};
 ghost use Rattle.rx_engines.specs.Engine.{Fits};
 
-use crate::pikevm::search::search_slots;
+use crate::pikevm::search::Search;
 use crate::pikevm::set::SparseSet;
+use crate::pikevm::simulate::simulate_slots;
 use crate::pikevm::stack::Stack;
 use crate::pikevm::table::Table;
 use crate::pikevm::threads::Threads;
 use crate::pikevm::vm::PikeVM;
 use crate::slots::Slot;
-use rx_search::{Memory, NonMaxUsize, PatternID, StateID};
+use rx_search::{Memory, NonMaxUsize, PatternID};
 use rx_thompson::State;
 use std::alloc::Global;
 use std::marker::Model;
@@ -97,30 +97,21 @@ impl Cache {
         })
     }
 
-    /// The pattern, the start and the end of the next match in `from..end`, from one of the start states, the
-    /// first of them preferred. The slots get its groups.
-    /// It starts at `from` if the search is anchored.
+    /// The pattern, the start and the end of the next match that starts at `from` or after it. The slots get what
+    /// it leaves in them.
     pub(crate) fn find(
         &mut self,
-        states: &[State],
-        text: &[u8],
-        starts: &[StateID],
-        utf8_empty: bool,
-        anchored: bool,
+        search: &Search<'_>,
         from: usize,
-        end: usize,
         slots: &mut [Option<NonMaxUsize>],
     ) -> Option<(PatternID, usize, usize)>
-        requires states { All (NamesBelow (length states.now)) states.now }
-        requires starts { All (λ s. s < length states.now) starts.now }
-        requires from { from ≤ end }
-        requires end { end ≤ length text.now }
-        requires room { (self.old.states ≡ length states.now)
-            × (cost_below states.now (length states.now) < self.old.stack) }
-        ensures value { result ≡ option_map triple
-            (next_in states.now text.now starts.now utf8_empty anchored from end) }
-        ensures slots { IfSome (next_in states.now text.now starts.now utf8_empty anchored from end)
-            (λ m. (k : ℕ) → k < length slots.new → slice_index_or slots.new k None
+        requires search { IsInside search.now }
+        requires from { from ≤ search.now.last }
+        requires room { (self.old.states ≡ length search.now.states.now)
+            × (cost_below search.now.states.now (length search.now.states.now) < self.old.stack) }
+        ensures value { result ≡ option_map triple (next_of search.now from) }
+        ensures slots { IfSome (next_of search.now from) (λ m. (k : ℕ) → k < length slots.new
+            → slice_index_or slots.new k None
             ≡ (if nat_lt k self.old.widest then slot_value m k else None)) }
         ensures cleared { IfNone result (slots.new ≡ replicate (length slots.old) None) }
         ensures room { self.new ≡ self.old }
@@ -129,14 +120,9 @@ impl Cache {
         self.curr.table.reset(width);
         self.next.table.reset(width);
         self.curr.set.clear();
-        search_slots(
-            states,
-            text,
-            starts,
-            utf8_empty,
+        simulate_slots(
+            search,
             from,
-            latest_start(anchored, from, end),
-            end,
             false,
             width,
             &mut self.curr,
@@ -149,37 +135,20 @@ impl Cache {
     }
 
     /// Whether `find` would find a match. It stops as soon as it knows.
-    pub(crate) fn is_match(
-        &mut self,
-        states: &[State],
-        text: &[u8],
-        starts: &[StateID],
-        utf8_empty: bool,
-        anchored: bool,
-        from: usize,
-        end: usize,
-    ) -> bool
-        requires states { All (NamesBelow (length states.now)) states.now }
-        requires starts { All (λ s. s < length states.now) starts.now }
-        requires from { from ≤ end }
-        requires end { end ≤ length text.now }
-        requires room { (self.old.states ≡ length states.now)
-            × (cost_below states.now (length states.now) < self.old.stack) }
-        ensures value { result ≡ is_some
-            (next_in states.now text.now starts.now utf8_empty anchored from end) }
+    pub(crate) fn is_match(&mut self, search: &Search<'_>, from: usize) -> bool
+        requires search { IsInside search.now }
+        requires from { from ≤ search.now.last }
+        requires room { (self.old.states ≡ length search.now.states.now)
+            × (cost_below search.now.states.now (length search.now.states.now) < self.old.stack) }
+        ensures value { result ≡ is_some (next_of search.now from) }
         ensures room { self.new ≡ self.old }
     {
         self.curr.table.reset(0);
         self.next.table.reset(0);
         self.curr.set.clear();
-        search_slots(
-            states,
-            text,
-            starts,
-            utf8_empty,
+        simulate_slots(
+            search,
             from,
-            latest_start(anchored, from, end),
-            end,
             true,
             0,
             &mut self.curr,
@@ -191,15 +160,6 @@ impl Cache {
         )
         .is_some()
     }
-}
-
-/// Where a match may start at the latest.
-fn latest_start(anchored: bool, from: usize, end: usize) -> usize
-    requires { from ≤ end }
-    ensures value { result ≡ last_start anchored from end }
-    ensures within { (from ≤ result) × (result ≤ end) }
-{
-    if anchored { from } else { end }
 }
 
 /// A room for the frames of one closure of the states.

@@ -5,9 +5,8 @@ ghost use Rattle.rx_engines.specs.declared.frame.Frame.TheVariants.{Explore};
 ghost use Rattle.rx_engines.specs.Simulation.{cost, cost_below, Hit, IsStable, Waits, Closed, Visited, AllHere};
 
 use crate::frame::Frame;
-use crate::pikevm::set::SparseSet;
 use crate::pikevm::stack::{Stack, push_all};
-use crate::pikevm::table::Table;
+use crate::pikevm::threads::Threads;
 use crate::slots::{Slot, read, write};
 use rx_search::StateID;
 use rx_thompson::State;
@@ -61,30 +60,29 @@ pub fn close(
     state: StateID,
     place: usize,
     start: usize,
-    set: &mut SparseSet,
-    table: &mut Table,
+    threads: &mut Threads,
     stack: &mut Stack,
     slots: &mut [Slot],
 )
     requires states { All (NamesBelow (length states.now)) states.now }
     requires state { state < length states.now }
     requires place { place < usize.MAX }
-    requires set { set.old.room ≡ length states.now }
-    requires table { length table.old.items ≡ length states.now }
-    requires width { length slots.old ≡ table.old.width }
+    requires set { threads.old.set.room ≡ length states.now }
+    requires table { length threads.old.table.items ≡ length states.now }
+    requires width { length slots.old ≡ threads.old.table.width }
     requires empty { stack.old.items ≡ [] }
     requires stack { cost_below states.now (length states.now) < stack.old.room }
     ensures closed { (text : List ℕ) (end : ℕ) (later : Passed → Option Hit) (goal : Option Hit)
         → place ≤ end
         → IsStable (automaton states.now text end) later
         → Waits states.now (automaton states.now text end) place start later
-        set.old.items table.old.items (Explore state place ∷ []) slots.old goal
+        threads.old.set.items threads.old.table.items (Explore state place ∷ []) slots.old goal
         → Closed states.now (automaton states.now text end) place later
-        set.new.items table.new.items goal }
-    ensures set { set.new.room ≡ set.old.room }
-    ensures table { length table.new.items ≡ length table.old.items }
-    ensures width { table.new.width ≡ table.old.width }
-    ensures widest { table.new.widest ≡ table.old.widest }
+        threads.new.set.items threads.new.table.items goal }
+    ensures set { threads.new.set.room ≡ threads.old.set.room }
+    ensures table { length threads.new.table.items ≡ length threads.old.table.items }
+    ensures width { threads.new.table.width ≡ threads.old.table.width }
+    ensures widest { threads.new.table.widest ≡ threads.old.table.widest }
     ensures slots { length slots.new ≡ length slots.old }
     ensures empty { stack.new.items ≡ [] }
     ensures stack { stack.new.room ≡ stack.old.room }
@@ -94,9 +92,9 @@ pub fn close(
         match frame {
             Frame::Restore { slot, old } => write(slots, slot, old),
             Frame::Explore { state, .. } => {
-                if set.insert(state) {
+                if threads.set.insert(state) {
                     if visit(states, state, place, stack, slots) {
-                        table.set(state, start, slots);
+                        threads.table.set(state, start, slots);
                     }
                 }
             }

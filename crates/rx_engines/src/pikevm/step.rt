@@ -1,13 +1,13 @@
 ghost use Rattle.std.specs.Prelude.{◌≡◌, ℕ, ◌+◌, ◌<◌, ◌≤◌, List, [], length, All, Option, IfNone};
 ghost use Rattle.rx_model.specs.Runs.{Passed, nowhere};
 ghost use Rattle.std.specs.Option.{option_or};
-ghost use Rattle.rx_thompson.specs.Automaton.{automaton, NamesBelow};
 ghost use Rattle.rx_engines.specs.Simulation.{cost_below, Hit, among, IsStable, Stepped, byte_at, act_of, read_of};
+ghost use Rattle.rx_engines.specs.Search.{IsInside, graph_for};
 
 use crate::pikevm::close::close;
-use crate::pikevm::set::SparseSet;
+use crate::pikevm::search::Search;
 use crate::pikevm::stack::Stack;
-use crate::pikevm::table::Table;
+use crate::pikevm::threads::Threads;
 use crate::slots::Slot;
 use rx_search::{PatternID, StateID};
 use rx_thompson::{State, Transition, matches_byte};
@@ -61,62 +61,57 @@ fn byte_before(text: &[u8], end: usize, place: usize) -> Option<u8>
 /// Moves the threads over the byte at the place, up to the first one that accepts: its pattern and start,
 /// and `best` gets its slots.
 pub fn step(
-    states: &[State],
-    text: &[u8],
-    end: usize,
+    search: &Search<'_>,
     place: usize,
-    set: &SparseSet,
-    table: &Table,
-    next_set: &mut SparseSet,
-    next_table: &mut Table,
+    curr: &Threads,
+    next: &mut Threads,
     stack: &mut Stack,
     slots: &mut [Slot],
     best: &mut [Slot],
 ) -> Option<(PatternID, usize)>
-    requires states { All (NamesBelow (length states.now)) states.now }
-    requires place { place ≤ end }
-    requires end { end ≤ length text.now }
-    requires set { (set.now.room ≡ length states.now) × (next_set.old.room ≡ length states.now) }
-    requires table { (length table.now.items ≡ length states.now)
-        × (length next_table.old.items ≡ length states.now) }
-    requires width { (table.now.width ≡ length best.old) × (next_table.old.width ≡ length best.old)
+    requires search { IsInside search.now }
+    requires place { place ≤ search.now.end }
+    requires set { (curr.now.set.room ≡ length search.now.states.now) × (next.old.set.room ≡ length search.now.states.now) }
+    requires table { (length curr.now.table.items ≡ length search.now.states.now)
+        × (length next.old.table.items ≡ length search.now.states.now) }
+    requires width { (curr.now.table.width ≡ length best.old) × (next.old.table.width ≡ length best.old)
         × (length slots.old ≡ length best.old) }
     requires empty { stack.old.items ≡ [] }
-    requires stack { cost_below states.now (length states.now) < stack.old.room }
-    requires none { next_set.old.items ≡ [] }
+    requires stack { cost_below search.now.states.now (length search.now.states.now) < stack.old.room }
+    requires none { next.old.set.items ≡ [] }
     ensures stepped { (later : Passed → Option Hit) (goal : Option Hit)
-        → IsStable (automaton states.now text.now end) later
-        → option_or (among states.now (automaton states.now text.now end) nowhere place
-        table.now.items set.now.items) (later nowhere) ≡ goal
-        → Stepped result states.now (automaton states.now text.now end) place later
-        next_set.new.items next_table.new.items best.new goal }
+        → IsStable (graph_for search.now) later
+        → option_or (among search.now.states.now (graph_for search.now) nowhere place
+        curr.now.table.items curr.now.set.items) (later nowhere) ≡ goal
+        → Stepped result search.now.states.now (graph_for search.now) place later
+        next.new.set.items next.new.table.items best.new goal }
     ensures kept { IfNone result (best.new ≡ best.old) }
-    ensures set { next_set.new.room ≡ next_set.old.room }
-    ensures table { length next_table.new.items ≡ length next_table.old.items }
-    ensures width { next_table.new.width ≡ next_table.old.width }
-    ensures widest { next_table.new.widest ≡ next_table.old.widest }
+    ensures set { next.new.set.room ≡ next.old.set.room }
+    ensures table { length next.new.table.items ≡ length next.old.table.items }
+    ensures width { next.new.table.width ≡ next.old.table.width }
+    ensures widest { next.new.table.widest ≡ next.old.table.widest }
     ensures slots { length slots.new ≡ length slots.old }
     ensures best { length best.new ≡ length best.old }
     ensures empty { stack.new.items ≡ [] }
     ensures stack { stack.new.room ≡ stack.old.room }
 {
-    let byte = byte_before(text, end, place);
-    for k in 0..set.len() {
-        let state = set.get(k);
+    let states = search.states;
+    let byte = byte_before(search.text, search.end, place);
+    for k in 0..curr.set.len() {
+        let state = curr.set.get(k);
         match act(&states[state.as_usize()], byte) {
             Action::Accept(pattern) => {
-                best.copy_from_slice(table.slots(state));
-                return Some((pattern, table.start(state)));
+                best.copy_from_slice(curr.table.slots(state));
+                return Some((pattern, curr.table.start(state)));
             }
-            Action::Read(next) => {
-                slots.copy_from_slice(table.slots(state));
+            Action::Read(target) => {
+                slots.copy_from_slice(curr.table.slots(state));
                 close(
                     states,
-                    next,
+                    target,
                     place + 1,
-                    table.start(state),
-                    next_set,
-                    next_table,
+                    curr.table.start(state),
+                    next,
                     stack,
                     slots,
                 );

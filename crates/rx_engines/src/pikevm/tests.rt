@@ -2,6 +2,7 @@ ghost use Rattle.std.specs.Prelude.{◌≡◌, ◌<◌, ◌^◌, ℕ, IsTrue, le
 ghost use Rattle.rx_thompson.specs.Automaton.{NamesBelow};
 
 use crate::pikevm::cache::Cache;
+use crate::pikevm::search::Search;
 use rx_search::{Memory, NonMaxUsize, PatternID, StateID};
 use rx_thompson::{Alternates, State, Transition, Transitions};
 use std::alloc::Global;
@@ -108,16 +109,15 @@ fn find(
     assert!(rt; starts_below(starts, states.len()));
     assert!(rt; from <= text.len());
     let mut cache = Cache::with_room(alloc, states, 4)?;
-    Ok(cache.find(
+    let search = Search {
         states,
-        text,
         starts,
-        true,
-        anchored,
-        from,
-        text.len(),
-        slots,
-    ))
+        text,
+        utf8_empty: true,
+        last: if anchored { from } else { text.len() },
+        end: text.len(),
+    };
+    Ok(cache.find(&search, from, slots))
 }
 
 #[test]

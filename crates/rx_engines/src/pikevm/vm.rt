@@ -4,9 +4,10 @@ ghost use Rattle.rx_search.specs.Anchored.{anchor_of};
 ghost use Rattle.rx_search.specs.Matches.{match_value};
 ghost use Rattle.rx_thompson.specs.Nfa.{IsInRange};
 ghost use Rattle.rx_thompson.specs.NextMatch.{start_of};
-ghost use Rattle.rx_engines.specs.Engine.{PikeVMValue, next_match_in, next_match_for, IsOf, HasSlots, Fits};
+ghost use Rattle.rx_engines.specs.Engine.{PikeVMValue, next_match_in, next_match_for, last_start, IsOf, HasSlots, Fits};
 
 use crate::pikevm::cache::Cache;
+use crate::pikevm::search::Search;
 use crate::slots::empty;
 use rx_search::{Anchored, Input, Match, Memory, NonMaxUsize, PatternID, Span, StateID};
 use rx_thompson::NFA;
@@ -42,7 +43,7 @@ impl PikeVM {
         }
     }
 
-    /// The same engine; with `no` a match may start at any place.
+    /// The same engine. Unless `yes`, its matches may also start inside an encoded character.
     pub fn utf8_empty(mut self, yes: bool) -> PikeVM
         ensures { result ≡ record self { utf8_empty = yes } }
     {
@@ -80,15 +81,15 @@ impl PikeVM {
         if input.is_done() {
             return false;
         }
-        cache.is_match(
-            self.nfa.states(),
-            haystack,
-            &[start],
-            self.utf8_empty,
-            anchored.is_anchored(),
-            input.start(),
-            input.end(),
-        )
+        let search = Search {
+            states: self.nfa.states(),
+            starts: &[start],
+            text: haystack,
+            utf8_empty: self.utf8_empty,
+            last: latest_start(input),
+            end: input.end(),
+        };
+        cache.is_match(&search, input.start())
     }
 
     /// The next match in the input's span.
@@ -152,16 +153,15 @@ impl PikeVM {
             empty(slots);
             return None;
         }
-        let found = cache.find(
-            self.nfa.states(),
-            haystack,
-            &[start],
-            self.utf8_empty,
-            anchored.is_anchored(),
-            input.start(),
-            input.end(),
-            slots,
-        );
+        let search = Search {
+            states: self.nfa.states(),
+            starts: &[start],
+            text: haystack,
+            utf8_empty: self.utf8_empty,
+            last: latest_start(input),
+            end: input.end(),
+        };
+        let found = cache.find(&search, input.start(), slots);
         reported(found)
     }
 
@@ -174,6 +174,19 @@ impl PikeVM {
             Anchored::No | Anchored::Yes => Some(self.nfa.start_anchored()),
             Anchored::Pattern(pattern) => self.nfa.start_pattern(pattern),
         }
+    }
+}
+
+/// The place at which a match may start at the latest.
+fn latest_start(input: &Input<'_>) -> usize
+    requires { input.now.start ≤ input.now.end }
+    ensures value { result ≡ last_start input.now }
+    ensures within { (input.now.start ≤ result) × (result ≤ input.now.end) }
+{
+    if input.get_anchored().is_anchored() {
+        input.start()
+    } else {
+        input.end()
     }
 }
 

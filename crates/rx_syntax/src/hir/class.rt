@@ -32,7 +32,7 @@ impl Model for ClassUnicode {
 /// Bytes, which a contract sees as the fewest ranges that hold them, in ascending order.
 #[derive(Drop)]
 pub struct ClassBytes {
-    ranges: Vec<(u8, u8)>,
+    pub(super) ranges: Vec<(u8, u8)>,
 }
 
 impl Model for ClassBytes {

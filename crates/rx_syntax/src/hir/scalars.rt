@@ -1,7 +1,8 @@
 //! Classes of scalars from ranges, and their complements.
-ghost use Rattle.std.specs.Prelude.{◌≡◌, ℕ, ◌+◌, ◌<◌, ◌≤◌, ◌++◌, nat_lt, IfOk, OnOk};
-ghost use Rattle.rx_syntax.specs.Ranges.{next_scalar, insert, fewest, AreScalarRanges};
-ghost use Rattle.rx_syntax.specs.Scalars.{with_range, previous_scalar, up_to, from, complement, or_past};
+ghost use Rattle.std.specs.Prelude.{◌≡◌, ℕ, [], ◌∷◌, ◌+◌, ◌<◌, ◌≤◌, ◌++◌, nat_lt, IfOk, OnOk};
+ghost use Rattle.rx_syntax.specs.Merged.{extend, add, add_all};
+ghost use Rattle.rx_syntax.specs.Ranges.{next_scalar, fewest, HaveScalarEnds, AreScalarRanges};
+ghost use Rattle.rx_syntax.specs.Scalars.{previous_scalar, up_to, from, complement, or_past};
 
 use super::class::ClassUnicode;
 use std::alloc::{AllocError, Global};
@@ -11,14 +12,10 @@ impl ClassUnicode {
     pub fn new(alloc: Global, ranges: &[(char, char)]) -> Result<ClassUnicode, AllocError>
         ensures { IfOk result (λ c. c ≡ fewest next_scalar ranges.now) }
     {
-        let mut found = Vec::new(alloc);
-        let mut i = ranges.len();
-        while i > 0 {
-            i -= 1;
-            let (low, high) = ranges[i];
-            add_range(&mut found, low, high)?;
-        }
-        Ok(ClassUnicode { ranges: found })
+        let mut sorted = Vec::from_slice(alloc, ranges)?;
+        sorted.sort_unstable_by_key(|range| range.0);
+        let ranges = fewest(alloc, &sorted)?;
+        Ok(ClassUnicode { ranges })
     }
 
     /// The scalars that are not in the class.
@@ -64,40 +61,48 @@ fn is_apart(end: char, c: char) -> bool
     }
 }
 
-/// Adds the scalars of a range to fewest ranges. A range whose ends are out of order has none.
-fn add_range(ranges: &mut Vec<(char, char)>, low: char, high: char) -> Result<(), AllocError>
-    ensures value { OnOk result (ranges.new.items ≡ with_range low high ranges.old.items) }
-    ensures kept { OnOk result (AreScalarRanges ranges.old.items → AreScalarRanges ranges.new.items) }
+/// The fewest ranges of ranges in order of their first members.
+fn fewest(alloc: Global, sorted: &[(char, char)]) -> Result<Vec<(char, char)>, AllocError>
+    ensures value { IfOk result (λ v. v.items ≡ add_all next_scalar [] sorted.now) }
+    ensures ends { OnOk result (HaveScalarEnds sorted.now) }
+{
+    let mut found = Vec::new(alloc);
+    for (low, high) in sorted {
+        add(&mut found, *low, *high)?;
+    }
+    Ok(found)
+}
+
+/// Adds a range that begins no earlier than the last one.
+fn add(found: &mut Vec<(char, char)>, low: char, high: char) -> Result<(), AllocError>
+    ensures { OnOk result (found.new.items ≡ add next_scalar found.old.items low high) }
 {
     if high < low {
         return Ok(());
     }
-    insert_range(ranges, low, high)
+    if let Some(last) = found.pop() {
+        return add_after(found, last, low, high);
+    }
+    found.push((low, high))?;
+    Ok(())
 }
 
-/// Puts a range among fewest ranges.
-fn insert_range(ranges: &mut Vec<(char, char)>, low: char, high: char) -> Result<(), AllocError>
-    requires { low ≤ high }
-    ensures value { OnOk result (ranges.new.items ≡ insert next_scalar low high ranges.old.items) }
-    ensures kept { OnOk result (AreScalarRanges ranges.old.items → AreScalarRanges ranges.new.items) }
+/// Adds the range that was the last one, and then another, which may be joined with it.
+fn add_after(
+    found: &mut Vec<(char, char)>,
+    last: (char, char),
+    low: char,
+    high: char,
+) -> Result<(), AllocError>
+    ensures { OnOk result (found.new.items ≡ found.old.items ++ extend next_scalar (last ∷ []) low high) }
 {
-    let mut low = low;
-    let mut high = high;
-    let mut at = 0;
-    while at < ranges.len() {
-        let (first, last) = ranges[at];
-        if is_apart(high, first) {
-            return Ok(ranges.insert(at, (low, high))?);
-        }
-        if is_apart(last, low) {
-            at += 1;
-        } else {
-            low = low.min(first);
-            high = high.max(last);
-            ranges.remove(at);
-        }
+    if is_apart(last.1, low) {
+        found.push(last)?;
+        found.push((low, high))?;
+    } else {
+        found.push((last.0, last.1.max(high)))?;
     }
-    Ok(ranges.insert(at, (low, high))?)
+    Ok(())
 }
 
 /// The scalars that fewest ranges don't hold, in fewest ranges.

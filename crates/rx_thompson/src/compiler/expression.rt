@@ -1,12 +1,12 @@
 //! The states of an expression. Each function appends them, for a part that goes on to the state `next`, and answers
 //! where the part starts.
 ghost use Rattle.std.specs.Prelude.{◌≡◌, ◌+◌, ◌*◌, ◌-◌, ◌<◌, ◌≤◌, length, IfOk, None, ◌∷◌, []};
+ghost use Rattle.std.specs.Int.NonZero.{non_zero_usize_get};
 ghost use Rattle.rx_model.specs.Graph.{text, build_state, build_group, build, build_in_turn, build_each, build_choice, build_repetition, loop, loop_once, options};
 ghost use Rattle.rx_model.specs.Length.{minimum_len, is_positive};
 ghost use Rattle.rx_model.specs.Search.{greatest_group, greatest_in};
 ghost use Rattle.rx_syntax.specs.Normal.{expressions};
 ghost use Rattle.rx_thompson.specs.Built.{Built, slot_from, ways};
-ghost use Rattle.rx_thompson.specs.Covered.{IsCovered, AreCovered};
 ghost use Rattle.rx_thompson.specs.Repeated.{star, tail, leading};
 ghost use Rattle.rx_thompson.specs.Room.{HasRoom};
 ghost use Rattle.rx_thompson.specs.declared.state.State.TheVariants.{Union};
@@ -26,7 +26,6 @@ pub fn compile(
     hir: &Hir,
     next: StateID,
 ) -> Result<StateID, Memory>
-    requires covered { IsCovered hir.now }
     requires next { next < length builder.old.states }
     requires room { HasRoom builder.old groups.now (greatest_group hir.now) }
     ensures built { IfOk result (λ start. Built (build (slot_from groups.now.first_slot) hir.now) next builder.old builder.new start) }
@@ -91,15 +90,14 @@ fn compile_capture(
     capture: &Capture,
     next: StateID,
 ) -> Result<StateID, Memory>
-    requires covered { (0 < capture.now.index) × IsCovered capture.now.sub.value }
     requires next { next < length builder.old.states }
-    requires group { HasRoom builder.old groups.now capture.now.index }
+    requires group { HasRoom builder.old groups.now (non_zero_usize_get capture.now.index) }
     requires room { HasRoom builder.old groups.now (greatest_group capture.now.sub.value) }
-    ensures built { IfOk result (λ start. Built (build_group (slot_from groups.now.first_slot capture.now.index) (build (slot_from groups.now.first_slot) capture.now.sub.value))
+    ensures built { IfOk result (λ start. Built (build_group (slot_from groups.now.first_slot (non_zero_usize_get capture.now.index)) (build (slot_from groups.now.first_slot) capture.now.sub.value))
         next builder.old builder.new start) }
     ensures inside { IfOk result (λ start. start < length builder.new.states) }
 {
-    let slot = groups.first_slot + 2 * (capture.index - 1);
+    let slot = groups.first_slot + 2 * (capture.index.get() - 1);
     let close = builder.push(State::Capture {
         next,
         pattern: groups.pattern,
@@ -122,7 +120,6 @@ fn compile_concat(
     subs: &[Hir],
     next: StateID,
 ) -> Result<StateID, Memory>
-    requires covered { AreCovered (expressions subs.now) }
     requires next { next < length builder.old.states }
     requires room { HasRoom builder.old groups.now (greatest_in (expressions subs.now)) }
     ensures built { IfOk result (λ start. Built (build_in_turn (slot_from groups.now.first_slot) (expressions subs.now)) next builder.old builder.new start) }
@@ -146,7 +143,6 @@ fn compile_alternation(
     subs: &[Hir],
     next: StateID,
 ) -> Result<StateID, Memory>
-    requires covered { AreCovered (expressions subs.now) }
     requires next { next < length builder.old.states }
     requires room { HasRoom builder.old groups.now (greatest_in (expressions subs.now)) }
     ensures built { IfOk result (λ start. Built (build_choice (build_each (slot_from groups.now.first_slot) (expressions subs.now))) next builder.old builder.new start) }
@@ -171,7 +167,6 @@ fn compile_repetition(
     repetition: &Repetition,
     next: StateID,
 ) -> Result<StateID, Memory>
-    requires covered { IsCovered repetition.now.sub.value }
     requires next { next < length builder.old.states }
     requires room { HasRoom builder.old groups.now (greatest_group repetition.now.sub.value) }
     ensures built { IfOk result (λ start. Built (build_repetition (is_positive (minimum_len repetition.now.sub.value)) repetition.now.min repetition.now.max
@@ -205,7 +200,6 @@ fn compile_tail(
     repetition: &Repetition,
     next: StateID,
 ) -> Result<StateID, Memory>
-    requires covered { IsCovered repetition.now.sub.value }
     requires next { next < length builder.old.states }
     requires room { HasRoom builder.old groups.now (greatest_group repetition.now.sub.value) }
     ensures built { IfOk result (λ start. Built (tail (is_positive (minimum_len repetition.now.sub.value)) repetition.now.min repetition.now.max
@@ -234,7 +228,6 @@ fn compile_unbounded(
     repetition: &Repetition,
     next: StateID,
 ) -> Result<StateID, Memory>
-    requires covered { IsCovered repetition.now.sub.value }
     requires next { next < length builder.old.states }
     requires room { HasRoom builder.old groups.now (greatest_group repetition.now.sub.value) }
     ensures built { IfOk result (λ start. Built (tail (is_positive (minimum_len repetition.now.sub.value)) repetition.now.min None
@@ -282,7 +275,6 @@ fn compile_loop(
     repetition: &Repetition,
     next: StateID,
 ) -> Result<Turn, Memory>
-    requires covered { IsCovered repetition.now.sub.value }
     requires next { next < length builder.old.states }
     requires room { HasRoom builder.old groups.now (greatest_group repetition.now.sub.value) }
     ensures from_choice { IfOk result (λ turn. Built (loop repetition.now.greedy (build (slot_from groups.now.first_slot) repetition.now.sub.value)) next builder.old builder.new turn.choice) }
@@ -306,7 +298,6 @@ fn compile_options(
     count: u32,
     next: StateID,
 ) -> Result<StateID, Memory>
-    requires covered { IsCovered repetition.now.sub.value }
     requires next { next < length builder.old.states }
     requires room { HasRoom builder.old groups.now (greatest_group repetition.now.sub.value) }
     ensures built { IfOk result (λ start. Built (options repetition.now.greedy count (build (slot_from groups.now.first_slot) repetition.now.sub.value)) next builder.old builder.new start) }

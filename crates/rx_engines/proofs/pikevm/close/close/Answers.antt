@@ -14,7 +14,7 @@ pub loop-frame-init : goal.loop-frame-init
 loop-frame-init c =
     let one : c.push.new.self ≡ record { items = Explore c.args.state c.args.place ∷ []; room = c.args.stack.now.room } =
     c.push.ensures ∙ ap (λ xs. record { items = Explore c.args.state c.args.place ∷ xs; room = c.args.stack.now.room }) c.requires.empty in
-    let cost = line-cost c.args.states.now (length c.args.states.now) c.args.place (passed_at c.args.set.now.items c.args.place) in
+    let cost = line-cost c.args.states.now (length c.args.states.now) c.args.place (passed_at c.args.threads.now.set.items c.args.place) in
     rw one
     (record {
       waits = λ text end later goal le stable w. w;
@@ -49,16 +49,16 @@ loop-frame-preserved-in-Restore c =
 pub visit-requires-clause-room : goal.visit-requires-clause-room
 visit-requires-clause-room c =
     let t = on_top c.loop-frame.invariant.here (ap (λ (f : Frames). f.items) c.in-Some.ensures.some) c.in-Explore.is in
-    let new : has c.loop-frame.set.items c.in-Explore.state ≡ false = not-true _ (sym c.if-insert.true ∙ c.insert.ensures.new) in
-    let less = top-less c.args.states.now c.args.place c.in-Explore.state c.loop-frame.set.items c.loop-frame.stack.items c.pop.new.self.items t.0 t.1 new in
+    let new : has c.loop-frame.threads.set.items c.in-Explore.state ≡ false = not-true _ (sym c.if-insert.true ∙ c.insert.ensures.new) in
+    let less = top-less c.args.states.now c.args.place c.in-Explore.state c.loop-frame.threads.set.items c.loop-frame.stack.items c.pop.new.self.items t.0 t.1 new in
     let few = c.loop-frame.invariant.few in
     omega arith
 
 pub loop-frame-smaller-then-visit : goal.loop-frame-smaller-then-visit
 loop-frame-smaller-then-visit c =
     let t = on_top c.loop-frame.invariant.here (ap (λ (f : Frames). f.items) c.in-Some.ensures.some) c.in-Explore.is in
-    let new : has c.loop-frame.set.items c.in-Explore.state ≡ false = not-true _ (sym c.if-insert.true ∙ c.insert.ensures.new) in
-    let less = top-less c.args.states.now c.args.place c.in-Explore.state c.loop-frame.set.items c.loop-frame.stack.items c.pop.new.self.items t.0 t.1 new in
+    let new : has c.loop-frame.threads.set.items c.in-Explore.state ≡ false = not-true _ (sym c.if-insert.true ∙ c.insert.ensures.new) in
+    let less = top-less c.args.states.now c.args.place c.in-Explore.state c.loop-frame.threads.set.items c.loop-frame.stack.items c.pop.new.self.items t.0 t.1 new in
     let more = rw c.if-insert.true at c.insert.ensures.after in
     let frames = c.visit.ensures.frames in
     rw more (omega arith)
@@ -66,8 +66,8 @@ loop-frame-smaller-then-visit c =
 pub loop-frame-smaller-else-visit : goal.loop-frame-smaller-else-visit
 loop-frame-smaller-else-visit c =
     let t = on_top c.loop-frame.invariant.here (ap (λ (f : Frames). f.items) c.in-Some.ensures.some) c.in-Explore.is in
-    let new : has c.loop-frame.set.items c.in-Explore.state ≡ false = not-true _ (sym c.if-insert.true ∙ c.insert.ensures.new) in
-    let less = top-less c.args.states.now c.args.place c.in-Explore.state c.loop-frame.set.items c.loop-frame.stack.items c.pop.new.self.items t.0 t.1 new in
+    let new : has c.loop-frame.threads.set.items c.in-Explore.state ≡ false = not-true _ (sym c.if-insert.true ∙ c.insert.ensures.new) in
+    let less = top-less c.args.states.now c.args.place c.in-Explore.state c.loop-frame.threads.set.items c.loop-frame.stack.items c.pop.new.self.items t.0 t.1 new in
     let more = rw c.if-insert.true at c.insert.ensures.after in
     let frames = c.visit.ensures.frames in
     rw more (omega arith)
@@ -75,7 +75,7 @@ loop-frame-smaller-else-visit c =
 pub loop-frame-preserved-then-visit : goal.loop-frame-preserved-then-visit
 loop-frame-preserved-then-visit c =
     let t = on_top c.loop-frame.invariant.here (ap (λ (f : Frames). f.items) c.in-Some.ensures.some) c.in-Explore.is in
-    let items = c.loop-frame.set.items in
+    let items = c.loop-frame.threads.set.items in
     let q = c.in-Explore.state in
     let new : has items q ≡ false = not-true _ (sym c.if-insert.true ∙ c.insert.ensures.new) in
     let less = top-less c.args.states.now c.args.place q items c.loop-frame.stack.items c.pop.new.self.items t.0 t.1 new in
@@ -83,7 +83,7 @@ loop-frame-preserved-then-visit c =
     let more = rw c.if-insert.true at c.insert.ensures.after in
     let v = rw c.if-visit.true at c.visit.ensures.visited in
     let frames = c.visit.ensures.frames in
-    let rows = length-set c.loop-frame.table.items q (c.args.start, c.visit.new.slots) in
+    let rows = length-set c.loop-frame.threads.table.items q (c.args.start, c.visit.new.slots) in
     let inside = c.visit.ensures.inside in
     rw (more, c.set.ensures)
     (record {
@@ -106,7 +106,7 @@ loop-frame-preserved-then-visit c =
 pub loop-frame-preserved-else-visit : goal.loop-frame-preserved-else-visit
 loop-frame-preserved-else-visit c =
     let t = on_top c.loop-frame.invariant.here (ap (λ (f : Frames). f.items) c.in-Some.ensures.some) c.in-Explore.is in
-    let items = c.loop-frame.set.items in
+    let items = c.loop-frame.threads.set.items in
     let q = c.in-Explore.state in
     let new : has items q ≡ false = not-true _ (sym c.if-insert.true ∙ c.insert.ensures.new) in
     let less = top-less c.args.states.now c.args.place q items c.loop-frame.stack.items c.pop.new.self.items t.0 t.1 new in

@@ -11,18 +11,18 @@ use Rattle.rx_engines.proofs.pikevm.close.close.Given as goal
 abbrev pub invariant-loop-frame : goal.invariant-loop-frame
 invariant-loop-frame l = record {
   waits : (text : List ℕ) (end : ℕ) (later : Passed → Option Hit) (goal : Option Hit) → l.place ≤ end → IsStable (automaton l.states text end) later
-      → Waits l.states (automaton l.states text end) l.place l.start later l.fn.set.items l.fn.table.items (Explore l.fn.state l.place ∷ []) l.fn.slots goal
-      → Waits l.states (automaton l.states text end) l.place l.start later l.set.items l.table.items l.stack.items l.slots goal;
+      → Waits l.states (automaton l.states text end) l.place l.start later l.fn.threads.set.items l.fn.threads.table.items (Explore l.fn.state l.place ∷ []) l.fn.slots goal
+      → Waits l.states (automaton l.states text end) l.place l.start later l.threads.set.items l.threads.table.items l.stack.items l.slots goal;
   here : AllHere (length l.states) l.place l.stack.items;
-  few : weight (cost_at l.states) (line (length l.states) l.place) (passed_at l.set.items l.place) + length l.stack.items ≤ l.stack.room;
-  room : l.set.room ≡ length l.states;
-  rows : length l.table.items ≡ length l.states;
-  width : l.table.width ≡ l.fn.table.width;
-  widest : l.table.widest ≡ l.fn.table.widest;
+  few : weight (cost_at l.states) (line (length l.states) l.place) (passed_at l.threads.set.items l.place) + length l.stack.items ≤ l.stack.room;
+  room : l.threads.set.room ≡ length l.states;
+  rows : length l.threads.table.items ≡ length l.states;
+  width : l.threads.table.width ≡ l.fn.threads.table.width;
+  widest : l.threads.table.widest ≡ l.fn.threads.table.widest;
   slots_len : length l.slots ≡ length l.fn.slots;
   stack_room : l.stack.room ≡ l.fn.stack.room;
 }
 
 abbrev pub decreases-loop-frame : goal.decreases-loop-frame
 decreases-loop-frame l =
-    weight (cost_at l.states) (line (length l.states) l.place) (passed_at l.set.items l.place) + length l.stack.items
+    weight (cost_at l.states) (line (length l.states) l.place) (passed_at l.threads.set.items l.place) + length l.stack.items

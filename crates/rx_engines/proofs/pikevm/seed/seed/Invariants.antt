@@ -10,13 +10,13 @@ use Rattle.rx_engines.proofs.pikevm.seed.seed.Given as goal
 abbrev pub invariant-loop-k : goal.invariant-loop-k
 invariant-loop-k l = record {
   seeding : (end : ℕ) (best goal : Option Hit) → l.place ≤ end → l.matched ≡ is_some best
-      → option_or (among l.states (automaton l.states l.text end) nowhere l.place l.fn.table.items l.fn.set.items)
-      (later_starts l.states l.text l.starts l.utf8_empty end (length l.fn.slots) best l.last l.place (passed_at l.fn.set.items l.place)) ≡ goal
-      → Closed l.states (automaton l.states l.text end) l.place (after_seeds l.states l.text l.starts l.utf8_empty end (length l.fn.slots) l.last best l.place (drop l.k l.starts)) l.set.items l.table.items goal;
-  room : l.set.room ≡ length l.states;
-  rows : length l.table.items ≡ length l.states;
-  width : l.table.width ≡ l.fn.table.width;
-  widest : l.table.widest ≡ l.fn.table.widest;
+      → option_or (among l.search.states.now (automaton l.search.states.now l.search.text.now end) nowhere l.place l.fn.threads.table.items l.fn.threads.set.items)
+      (later_starts l.search.states.now l.search.text.now l.search.starts.now l.search.utf8_empty end (length l.fn.slots) best l.search.last l.place (passed_at l.fn.threads.set.items l.place)) ≡ goal
+      → Closed l.search.states.now (automaton l.search.states.now l.search.text.now end) l.place (after_seeds l.search.states.now l.search.text.now l.search.starts.now l.search.utf8_empty end (length l.fn.slots) l.search.last best l.place (drop l.k l.search.starts.now)) l.threads.set.items l.threads.table.items goal;
+  room : l.threads.set.room ≡ length l.search.states.now;
+  rows : length l.threads.table.items ≡ length l.search.states.now;
+  width : l.threads.table.width ≡ l.fn.threads.table.width;
+  widest : l.threads.table.widest ≡ l.fn.threads.table.widest;
   slots_len : length l.slots ≡ length l.fn.slots;
   empty : l.stack.items ≡ [];
   stack_room : l.stack.room ≡ l.fn.stack.room;

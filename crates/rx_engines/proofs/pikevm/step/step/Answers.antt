@@ -21,24 +21,24 @@ loop-k-init c = record {
 
 pub returns-in-Accept-clause-stepped : goal.returns-in-Accept-clause-stepped
 returns-in-Accept-clause-stepped c later goal stable value =
-    let acts = acts-known c.args.states.now c.args.text.now c.args.end c.get-state.result c.args.place c.requires.states (omega arith) c.requires.place _ _ _ _ c.as_usize.ensures.value c.index-states-as_usize.is c.byte_before-byte.ensures c.in-Accept.ensures in
+    let acts = acts-known c.args.search.now.states.now c.args.search.now.text.now c.args.search.now.end c.get-state.result c.args.place c.requires.search.names (omega arith) c.requires.place _ _ _ _ c.as_usize.ensures.value c.index-states-as_usize.is c.byte_before-byte.ensures c.in-Accept.ensures in
     rw (c.start.ensures, c.copy_from_slice.ensures.after, c.slots.ensures.value)
-    (Stepping-accepts (automaton-bounded c.args.states.now c.args.text.now c.args.end) c.args.set.now.items c.loop-k.k c.get-state.result (omega arith) c.get-state.ensures.value
+    (Stepping-accepts (automaton-bounded c.args.search.now.states.now c.args.search.now.text.now c.args.search.now.end) c.args.curr.now.set.items c.loop-k.k c.get-state.result (omega arith) c.get-state.ensures.value
     (c.loop-k.invariant.stepping later goal stable value) c.in-Accept.pattern acts.0 acts.1)
 
 pub loop-k-preserved : goal.loop-k-preserved
 loop-k-preserved c =
     elim c.match-act.branch [
       | in-Read w ↦
-          let acts = acts-known c.args.states.now c.args.text.now c.args.end c.get-state.result c.args.place c.requires.states (omega arith) c.requires.place _ _ _ _ c.as_usize.ensures.value c.index-states-as_usize.is c.byte_before-byte.ensures w.in-Read.ensures in
-          rw (w.next_set-is, w.next_table-is, w.stack-is, w.slots-is)
+          let acts = acts-known c.args.search.now.states.now c.args.search.now.text.now c.args.search.now.end c.get-state.result c.args.place c.requires.search.names (omega arith) c.requires.place _ _ _ _ c.as_usize.ensures.value c.index-states-as_usize.is c.byte_before-byte.ensures w.in-Read.ensures in
+          rw (w.next-is, w.stack-is, w.slots-is)
           (record {
             stepping = λ later goal stable value.
-                (let waits = Stepping-reads (automaton-bounded c.args.states.now c.args.text.now c.args.end) c.args.set.now.items c.loop-k.k c.get-state.result (omega arith) c.get-state.ensures.value
-                (c.loop-k.invariant.stepping later goal stable value) (automaton-rises c.args.states.now c.args.text.now c.args.end) w.in-Read.next acts.0 acts.3 acts.4 acts.5 in
-                let closed = w.close.ensures.closed c.args.text.now c.args.end (onward c.args.states.now (automaton c.args.states.now c.args.text.now c.args.end) c.args.place c.args.table.now.items (drop (c.loop-k.k + 1) c.args.set.now.items) later) goal
+                (let waits = Stepping-reads (automaton-bounded c.args.search.now.states.now c.args.search.now.text.now c.args.search.now.end) c.args.curr.now.set.items c.loop-k.k c.get-state.result (omega arith) c.get-state.ensures.value
+                (c.loop-k.invariant.stepping later goal stable value) (automaton-rises c.args.search.now.states.now c.args.search.now.text.now c.args.search.now.end) w.in-Read.target acts.0 acts.3 acts.4 acts.5 in
+                let closed = w.close.ensures.closed c.args.search.now.text.now c.args.search.now.end (onward c.args.search.now.states.now (automaton c.args.search.now.states.now c.args.search.now.text.now c.args.search.now.end) c.args.place c.args.curr.now.table.items (drop (c.loop-k.k + 1) c.args.curr.now.set.items) later) goal
                 (let lt = acts.2 in omega arith)
-                (onward-stable c.args.states.now (automaton c.args.states.now c.args.text.now c.args.end) c.args.place c.args.table.now.items (drop (c.loop-k.k + 1) c.args.set.now.items) later stable)
+                (onward-stable c.args.search.now.states.now (automaton c.args.search.now.states.now c.args.search.now.text.now c.args.search.now.end) c.args.place c.args.curr.now.table.items (drop (c.loop-k.k + 1) c.args.curr.now.set.items) later stable)
                 (rw (w.start-in-Read.ensures, w.copy_from_slice-in-Read.ensures.after, w.slots-in-Read.ensures.value) waits) in
                 record { value = closed.value });
             room = w.close.ensures.set ∙ c.loop-k.invariant.room;
@@ -51,10 +51,10 @@ loop-k-preserved c =
             stack_room = w.close.ensures.stack ∙ c.loop-k.invariant.stack_room;
           })
       | in-Nothing w ↦
-          let acts = acts-known c.args.states.now c.args.text.now c.args.end c.get-state.result c.args.place c.requires.states (omega arith) c.requires.place _ _ _ _ c.as_usize.ensures.value c.index-states-as_usize.is c.byte_before-byte.ensures w.in-Nothing.ensures in
-          rw (w.next_set-is, w.next_table-is, w.stack-is, w.slots-is)
+          let acts = acts-known c.args.search.now.states.now c.args.search.now.text.now c.args.search.now.end c.get-state.result c.args.place c.requires.search.names (omega arith) c.requires.place _ _ _ _ c.as_usize.ensures.value c.index-states-as_usize.is c.byte_before-byte.ensures w.in-Nothing.ensures in
+          rw (w.next-is, w.stack-is, w.slots-is)
           (record {
-            stepping = λ later goal stable value. Stepping-ends (automaton-bounded c.args.states.now c.args.text.now c.args.end) c.args.set.now.items c.loop-k.k c.get-state.result (omega arith) c.get-state.ensures.value
+            stepping = λ later goal stable value. Stepping-ends (automaton-bounded c.args.search.now.states.now c.args.search.now.text.now c.args.search.now.end) c.args.curr.now.set.items c.loop-k.k c.get-state.result (omega arith) c.get-state.ensures.value
                 (c.loop-k.invariant.stepping later goal stable value) acts;
             room = c.loop-k.invariant.room;
             rows = c.loop-k.invariant.rows;
@@ -69,8 +69,8 @@ loop-k-preserved c =
 
 pub returns-clause-stepped : goal.returns-clause-stepped
 returns-clause-stepped c later goal stable value =
-    Stepping-over c.args.set.now.items c.loop-k.k (omega arith) (c.loop-k.invariant.stepping later goal stable value)
+    Stepping-over c.args.curr.now.set.items c.loop-k.k (omega arith) (c.loop-k.invariant.stepping later goal stable value)
 
 pub close-requires-clause-state : goal.close-requires-clause-state
 close-requires-clause-state c =
-    (acts-known c.args.states.now c.args.text.now c.args.end c.get-state.result c.args.place c.requires.states (omega arith) c.requires.place _ _ _ _ c.as_usize.ensures.value c.index-states-as_usize.is c.byte_before-byte.ensures c.in-Read.ensures).1
+    (acts-known c.args.search.now.states.now c.args.search.now.text.now c.args.search.now.end c.get-state.result c.args.place c.requires.search.names (omega arith) c.requires.place _ _ _ _ c.as_usize.ensures.value c.index-states-as_usize.is c.byte_before-byte.ensures c.in-Read.ensures).1

@@ -9,13 +9,13 @@ use Rattle.rx_engines.proofs.pikevm.step.step.Given as goal
 
 abbrev pub invariant-loop-k : goal.invariant-loop-k
 invariant-loop-k l = record {
-  stepping : (later : Passed → Option Hit) (goal : Option Hit) → IsStable (automaton l.states l.text l.end) later
-      → option_or (among l.states (automaton l.states l.text l.end) nowhere l.place l.table.items l.set.items) (later nowhere) ≡ goal
-      → Stepping l.states (automaton l.states l.text l.end) l.place later l.table.items (drop l.k l.set.items) l.next_set.items l.next_table.items goal;
-  room : l.next_set.room ≡ length l.states;
-  rows : length l.next_table.items ≡ length l.states;
-  width : l.next_table.width ≡ l.fn.next_table.width;
-  widest : l.next_table.widest ≡ l.fn.next_table.widest;
+  stepping : (later : Passed → Option Hit) (goal : Option Hit) → IsStable (automaton l.search.states.now l.search.text.now l.search.end) later
+      → option_or (among l.search.states.now (automaton l.search.states.now l.search.text.now l.search.end) nowhere l.place l.curr.table.items l.curr.set.items) (later nowhere) ≡ goal
+      → Stepping l.search.states.now (automaton l.search.states.now l.search.text.now l.search.end) l.place later l.curr.table.items (drop l.k l.curr.set.items) l.next.set.items l.next.table.items goal;
+  room : l.next.set.room ≡ length l.search.states.now;
+  rows : length l.next.table.items ≡ length l.search.states.now;
+  width : l.next.table.width ≡ l.fn.next.table.width;
+  widest : l.next.table.widest ≡ l.fn.next.table.widest;
   slots_len : length l.slots ≡ length l.fn.slots;
   kept : l.best ≡ l.fn.best;
   empty : l.stack.items ≡ [];

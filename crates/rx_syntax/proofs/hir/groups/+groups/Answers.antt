@@ -34,7 +34,7 @@ greatest_of_kind-returns-in-Repetition t c =
 pub greatest_of_kind-returns-in-Capture : goal.greatest_of_kind-returns-in-Capture
 unfolding greatest_group
 greatest_of_kind-returns-in-Capture t c =
-    c.max.ensures ∙ ap (max c.in-Capture.capture.index) (c.greatest_group-in-Capture.ensures ∙ ap greatest_group c.deref-in-Capture.ensures)
+    c.max.ensures ∙ (λ i. max (c.get.ensures.value i) ((c.greatest_group-in-Capture.ensures ∙ ap greatest_group c.deref-in-Capture.ensures) i))
     ∙ sym (ap (λ k. greatest_group (kind_view k)) c.in-Capture.is)
 
 pub greatest_of_kind-returns-in-Empty : goal.greatest_of_kind-returns-in-Empty

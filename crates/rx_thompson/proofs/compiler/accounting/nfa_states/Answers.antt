@@ -1,6 +1,4 @@
-use Rattle.std.proofs.Common.{◌≡◌, ◌+◌, ◌≤◌, ◌-◌, ◌^◌, arith, drop, length}
-use Rattle.rx_syntax.specs.Cost.{accounted_states}
-use Rattle.rx_thompson.specs.Compiled.{nfa_states}
+use Rattle.std.proofs.Common.{arith}
 use Rattle.rx_thompson.proofs.ExpressionLemmas.{nfa_states-drop, nfa_states-none}
 use Rattle.rx_thompson.proofs.compiler.accounting.nfa_states.Goals as goal
 

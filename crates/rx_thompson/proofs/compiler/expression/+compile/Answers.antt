@@ -1,20 +1,20 @@
 use Rattle.std.proofs.Common.{◌≡◌, ◌<◌, ◌+◌, ◌-◌, ◌*◌, ◌∙◌, sym, ap, subst, arith, length, drop, take}
-use Rattle.std.specs.Prelude.{max, false}
+use Rattle.std.specs.Prelude.{max, false, IfOk}
+use Rattle.std.specs.Int.NonZero.{non_zero_usize_get}
 use Rattle.std.proofs.lemmas.List.{take_all}
 use Rattle.rx_model.specs.Length.{minimum_len, is_positive}
 use Rattle.rx_model.specs.Expression.{empty, literal, class, repetition, capture, concat, alternation}
-use Rattle.rx_model.specs.Graph.{text, build_state, build_in_turn, build_each, build_choice, build, loop_once}
+use Rattle.rx_model.specs.Graph.{text, build_state, build_group, build_in_turn, build_each, build_choice, build, loop_once}
 use Rattle.rx_model.specs.Search.{greatest_group, greatest_in}
 use Rattle.rx_syntax.specs.Normal.{expressions}
 use Rattle.rx_syntax.specs.Depth.{depth}
 use Rattle.rx_syntax.specs.ClassViews.{class_view}
 use Rattle.rx_syntax.specs.HirViews.{kind_view}
 use Rattle.rx_thompson.specs.Built.{Built, slot_from}
-use Rattle.rx_thompson.specs.Covered.{IsCovered}
 use Rattle.rx_thompson.specs.Room.{HasRoom}
 use Rattle.rx_thompson.proofs.ExpressionLemmas.{depth_at, expressions-more, expressions-none}
 use Rattle.rx_thompson.proofs.BuiltLemmas.{Built-nothing}
-use Rattle.rx_thompson.proofs.CompileLemmas.{Built-same, HasRoom-kept, HasRoom-less, AreCovered-at, greatest-at, BuiltEach-next, below-more}
+use Rattle.rx_thompson.proofs.CompileLemmas.{Built-same, HasRoom-kept, HasRoom-less, greatest-at, BuiltEach-next, below-more}
 use Rattle.rx_thompson.specs.Draft.{Draft, pushed}
 use Rattle.rx_thompson.specs.Repeated.{tail}
 use Rattle.rx_thompson.specs.declared.state.State.TheVariants.{Union, Capture as Slot, Fail}
@@ -32,24 +32,21 @@ compile-compile_repetition-requires t c =
     let is : repetition r.min r.max r.greedy r.sub.value ≡ c.args.hir.now = sym (ap kind_view c.in-Repetition.is) ∙ c.kind.ensures in
     let deep = ap depth is in
     let groups : greatest_group r.sub.value ≡ greatest_group c.args.hir.now = ap greatest_group is in
-    (omega arith, (subst IsCovered (sym is) c.requires.covered, (c.requires.next, HasRoom-less c.args.builder.now c.args.groups.now (greatest_group c.args.hir.now) (greatest_group r.sub.value) (omega arith) c.requires.room)))
+    (omega arith, (c.requires.next, HasRoom-less c.args.builder.now c.args.groups.now (greatest_group c.args.hir.now) (greatest_group r.sub.value) (omega arith) c.requires.room))
 
 pub compile-compile_capture-requires : goal.compile-compile_capture-requires
 unfolding greatest_group
 compile-compile_capture-requires t c =
     let g = c.in-Capture.capture in
-    let is : capture g.index g.sub.value ≡ c.args.hir.now = sym (ap kind_view c.in-Capture.is) ∙ c.kind.ensures in
+    let is : capture (non_zero_usize_get g.index) g.sub.value ≡ c.args.hir.now = sym (ap kind_view c.in-Capture.is) ∙ c.kind.ensures in
     let deep = ap depth is in
-    let groups : max g.index (greatest_group g.sub.value) ≡ greatest_group c.args.hir.now = ap greatest_group is in (
+    let groups : max (non_zero_usize_get g.index) (greatest_group g.sub.value) ≡ greatest_group c.args.hir.now = ap greatest_group is in (
       omega arith,
       (
-        subst IsCovered (sym is) c.requires.covered,
+        c.requires.next,
         (
-          c.requires.next,
-          (
-            HasRoom-less c.args.builder.now c.args.groups.now (greatest_group c.args.hir.now) g.index (omega arith) c.requires.room,
-            HasRoom-less c.args.builder.now c.args.groups.now (greatest_group c.args.hir.now) (greatest_group g.sub.value) (omega arith) c.requires.room,
-          ),
+          HasRoom-less c.args.builder.now c.args.groups.now (greatest_group c.args.hir.now) (non_zero_usize_get g.index) (omega arith) c.requires.room,
+          HasRoom-less c.args.builder.now c.args.groups.now (greatest_group c.args.hir.now) (greatest_group g.sub.value) (omega arith) c.requires.room,
         ),
       ),
     )
@@ -60,7 +57,7 @@ compile-compile_concat-requires t c =
     let is : concat (expressions c.deref-in-Concat.result.now) ≡ c.args.hir.now = ap (λ hs. concat (expressions hs)) c.deref-in-Concat.ensures.value ∙ sym (ap kind_view c.in-Concat.is) ∙ c.kind.ensures in
     let deep = ap depth is in
     let groups : greatest_in (expressions c.deref-in-Concat.result.now) ≡ greatest_group c.args.hir.now = ap greatest_group is in
-    (omega arith, (subst IsCovered (sym is) c.requires.covered, (c.requires.next, subst (HasRoom c.args.builder.now c.args.groups.now) (sym groups) c.requires.room)))
+    (omega arith, (c.requires.next, subst (HasRoom c.args.builder.now c.args.groups.now) (sym groups) c.requires.room))
 
 pub compile-compile_alternation-requires : goal.compile-compile_alternation-requires
 unfolding greatest_group
@@ -68,7 +65,7 @@ compile-compile_alternation-requires t c =
     let is : alternation (expressions c.deref-in-Alternation.result.now) ≡ c.args.hir.now = ap (λ hs. alternation (expressions hs)) c.deref-in-Alternation.ensures.value ∙ sym (ap kind_view c.in-Alternation.is) ∙ c.kind.ensures in
     let deep = ap depth is in
     let groups : greatest_in (expressions c.deref-in-Alternation.result.now) ≡ greatest_group c.args.hir.now = ap greatest_group is in
-    (omega arith, (subst IsCovered (sym is) c.requires.covered, (c.requires.next, subst (HasRoom c.args.builder.now c.args.groups.now) (sym groups) c.requires.room)))
+    (omega arith, (c.requires.next, subst (HasRoom c.args.builder.now c.args.groups.now) (sym groups) c.requires.room))
 
 pub compile-returns-in-Empty-clause-built : goal.compile-returns-in-Empty-clause-built
 unfolding build
@@ -95,7 +92,7 @@ pub compile-returns-in-Capture-clause-built : goal.compile-returns-in-Capture-cl
 unfolding build
 compile-returns-in-Capture-clause-built t c =
     let g = c.in-Capture.capture in
-    let is : capture g.index g.sub.value ≡ c.args.hir.now = sym (ap kind_view c.in-Capture.is) ∙ c.kind.ensures in
+    let is : capture (non_zero_usize_get g.index) g.sub.value ≡ c.args.hir.now = sym (ap kind_view c.in-Capture.is) ∙ c.kind.ensures in
     Built-same _ _ c.args.next c.args.builder.now c.compile_capture.new.builder c.compile_capture.result
     (ap (build (slot_from c.args.groups.now.first_slot)) is) c.compile_capture.ensures.built
 
@@ -121,12 +118,9 @@ compile_alternation-compile-requires t c =
     let deep = depth_at c.args.subs.now k item item lt c.sub-item.is in (
       omega arith,
       (
-        AreCovered-at c.args.subs.now k item item lt c.sub-item.is c.requires.covered,
-        (
-          omega arith,
-          HasRoom-kept c.args.builder.now c.loop-sub.builder c.args.groups.now (greatest_in (expressions c.args.subs.now)) (greatest_group item) c.loop-sub.invariant.patterns c.loop-sub.invariant.slots
-              (greatest-at c.args.subs.now k item item lt c.sub-item.is) c.requires.room,
-        ),
+        omega arith,
+        HasRoom-kept c.args.builder.now c.loop-sub.builder c.args.groups.now (greatest_in (expressions c.args.subs.now)) (greatest_group item) c.loop-sub.invariant.patterns c.loop-sub.invariant.slots
+            (greatest-at c.args.subs.now k item item lt c.sub-item.is) c.requires.room,
       ),
     )
 
@@ -156,13 +150,13 @@ compile_alternation-returns-clause-built t c =
 
 pub compile_capture-returns-clause-built : goal.compile_capture-returns-clause-built
 compile_capture-returns-clause-built t c =
-    let slot = c.args.groups.now.first_slot + 2 * (c.args.capture.now.index - 1) in
-    let after = c.compile.new.builder in
     let body = subst (λ h. Built (build (slot_from c.args.groups.now.first_slot) h) c.in_ok-close.close c.push.new.self c.compile.new.builder c.in_ok-body.body) c.deref.ensures c.in_ok-body.ensures.built in
-    IfOk-both (λ id. id ≡ length c.compile.new.builder.states) (λ id. c.push-2.new.self ≡ pushed c.compile.new.builder (Slot c.in_ok-body.body c.args.groups.now.pattern (c.args.groups.now.first_slot + 2 * (c.args.capture.now.index - 1)))) _
+    subst (λ number. IfOk c.push-2.result (λ start. Built (build_group (slot_from c.args.groups.now.first_slot number) (build (slot_from c.args.groups.now.first_slot) c.args.capture.now.sub.value)) c.args.next c.args.builder.now c.push-2.new.self start))
+    c.get.ensures.value
+    (IfOk-both (λ id. id ≡ length c.compile.new.builder.states) (λ id. c.push-2.new.self ≡ pushed c.compile.new.builder (Slot c.in_ok-body.body c.args.groups.now.pattern (c.args.groups.now.first_slot + 2 * (c.get.result - 1)))) _
     c.push-2.result c.push-2.ensures.id c.push-2.ensures.states
-    (λ start id is. Built-group (build (slot_from c.args.groups.now.first_slot) c.args.capture.now.sub.value) (c.args.groups.now.first_slot + 2 * (c.args.capture.now.index - 1)) c.args.groups.now.pattern c.args.next c.in_ok-close.close c.in_ok-body.body start
-    c.args.builder.now c.push.new.self c.compile.new.builder c.push-2.new.self c.in_ok-close.ensures.id c.in_ok-close.ensures.states body id is)
+    (λ start id is. Built-group (build (slot_from c.args.groups.now.first_slot) c.args.capture.now.sub.value) (c.args.groups.now.first_slot + 2 * (c.get.result - 1)) c.args.groups.now.pattern c.args.next c.in_ok-close.close c.in_ok-body.body start
+    c.args.builder.now c.push.new.self c.compile.new.builder c.push-2.new.self c.in_ok-close.ensures.id c.in_ok-close.ensures.states body id is))
 
 pub compile_concat-loop-left-init : goal.compile_concat-loop-left-init
 unfolding build
@@ -183,12 +177,9 @@ compile_concat-compile-requires t c =
     let b = c.loop-left.invariant.built.extends in (
       omega arith,
       (
-        AreCovered-at c.args.subs.now (c.loop-left.left - 1) item item lt c.index-subs-left.is c.requires.covered,
-        (
-          c.loop-left.invariant.inside,
-          HasRoom-kept c.args.builder.now c.loop-left.builder c.args.groups.now (greatest_in (expressions c.args.subs.now)) (greatest_group item) b.patterns b.slots
-              (greatest-at c.args.subs.now (c.loop-left.left - 1) item item lt c.index-subs-left.is) c.requires.room,
-        ),
+        c.loop-left.invariant.inside,
+        HasRoom-kept c.args.builder.now c.loop-left.builder c.args.groups.now (greatest_in (expressions c.args.subs.now)) (greatest_group item) b.patterns b.slots
+            (greatest-at c.args.subs.now (c.loop-left.left - 1) item item lt c.index-subs-left.is) c.requires.room,
       ),
     )
 

@@ -5,14 +5,14 @@ use Rattle.rx_engines.proofs.StartLemmas.{reported-value, reported-slots, report
 use Rattle.rx_engines.proofs.pikevm.cache.Cache.find.Goals as goal
 
 pub returns-clause-value : goal.returns-clause-value
-returns-clause-value c = rw (← c.latest_start.ensures.value) (reported-value _ _ _ _ (c.search_slots.ensures.found refl))
+returns-clause-value c = reported-value _ _ _ _ (c.simulate_slots.ensures.found refl)
 
 pub returns-clause-slots : goal.returns-clause-slots
 returns-clause-slots c =
     let widest = ap (λ (r : Room). r.widest) c.self.view_is in
-    let given = c.search_slots.auto.slots in
-    let fits : c.min-width.result ≡ min (length c.search_slots.new.slots) c.args.self.now.widest = omega arith in
-    rw (← c.latest_start.ensures.value) (reported-slots _ _ _ _ _ _ (c.search_slots.ensures.found refl) fits c.search_slots.ensures.reported)
+    let given = c.simulate_slots.auto.slots in
+    let fits : c.min-width.result ≡ min (length c.simulate_slots.new.slots) c.args.self.now.widest = omega arith in
+    reported-slots _ _ _ _ _ _ (c.simulate_slots.ensures.found refl) fits c.simulate_slots.ensures.reported
 
 pub returns-clause-cleared : goal.returns-clause-cleared
-returns-clause-cleared c = reported-none _ _ _ _ _ c.search_slots.ensures.cleared c.search_slots.auto.slots c.search_slots.ensures.reported
+returns-clause-cleared c = reported-none _ _ _ _ _ c.simulate_slots.ensures.cleared c.simulate_slots.auto.slots c.simulate_slots.ensures.reported

@@ -1,6 +1,5 @@
-use Rattle.std.proofs.Common.{sym, ◌∙◌, ap, subst, arith}
+use Rattle.std.proofs.Common.{length, sym, ◌∙◌, ap, subst, arith}
 use Rattle.std.specs.Prelude.{option_map, IfSome}
-use Rattle.rx_model.specs.Search.{is_anchored}
 use Rattle.rx_search.specs.Matches.{match_value}
 use Rattle.rx_thompson.specs.NextMatch.{start_of}
 use Rattle.rx_engines.specs.Engine.{PikeVMValue, HasSlots}
@@ -42,23 +41,37 @@ returns-then-is_done-clause-slots c =
 
 -- the search
 
-pub find-found-requires-clause-starts : goal.find-found-requires-clause-starts
-find-found-requires-clause-starts c =
+pub latest_start-requires : goal.latest_start-requires
+latest_start-requires c = grind (arith, c.is_done.ensures, c.if-is_done.false)
+
+pub find-found-requires-clause-search : goal.find-found-requires-clause-search
+find-found-requires-clause-search c =
     let is = sym (c.start.ensures.value ∙ ap (start_of c.args.self.now.nfa) c.get_anchored-anchored.ensures) ∙ c.in-Some.is in
-    rw (c.states.ensures.value ∙ ap (λ (vm : PikeVMValue). vm.nfa.states) c.self.view_is) (start-inside c.args.self.now.nfa c.args.input.now.anchor c.in-Some.start c.start.ensures.in_range is)
+    let same = c.states.ensures.value ∙ ap (λ (vm : PikeVMValue). vm.nfa.states) c.self.view_is in
+    let last = c.latest_start.ensures.within in
+    let spanned = c.end.ensures.spanned in
+    let given = c.haystack-haystack.ensures.value in
+    let ends = c.end.ensures.value in
+    let size = ap length given in
+    record {
+      names = rw same c.start.ensures.in_range.names;
+      starts = rw same (start-inside c.args.self.now.nfa c.args.input.now.anchor c.in-Some.start c.start.ensures.in_range is);
+      last = omega arith;
+      end = omega arith;
+    }
 
 pub reported-requires : goal.reported-requires
 reported-requires c =
     let is = sym (c.start.ensures.value ∙ ap (start_of c.args.self.now.nfa) c.get_anchored-anchored.ensures) ∙ c.in-Some.is in
     let m = found-is c.args.self.now c.args.input.now (c.states.ensures.value ∙ ap (λ (vm : PikeVMValue). vm.nfa.states) c.self.view_is) c.haystack-haystack.ensures.value (ap (λ (vm : PikeVMValue). vm.utf8_empty) c.self.view_is)
-    (c.is_anchored.ensures ∙ ap is_anchored c.get_anchored-anchored.ensures) c.start-2.ensures.value c.end.ensures.value (grind (arith, c.is_done.ensures, c.if-is_done.false)) is in
+    c.latest_start.ensures.value c.start-2.ensures.value c.end.ensures.value (grind (arith, c.is_done.ensures, c.if-is_done.false)) is in
     triple-in_order c.args.self.now c.args.input.now _ m c.find-found.result c.find-found.ensures.value
 
 pub returns-clause-value : goal.returns-clause-value
 returns-clause-value c =
     let is = sym (c.start.ensures.value ∙ ap (start_of c.args.self.now.nfa) c.get_anchored-anchored.ensures) ∙ c.in-Some.is in
     let m = found-is c.args.self.now c.args.input.now (c.states.ensures.value ∙ ap (λ (vm : PikeVMValue). vm.nfa.states) c.self.view_is) c.haystack-haystack.ensures.value (ap (λ (vm : PikeVMValue). vm.utf8_empty) c.self.view_is)
-    (c.is_anchored.ensures ∙ ap is_anchored c.get_anchored-anchored.ensures) c.start-2.ensures.value c.end.ensures.value (grind (arith, c.is_done.ensures, c.if-is_done.false)) is in
+    c.latest_start.ensures.value c.start-2.ensures.value c.end.ensures.value (grind (arith, c.is_done.ensures, c.if-is_done.false)) is in
     c.reported.ensures ∙ ap (option_map _) c.find-found.ensures.value ∙ triple-value _ ∙ ap (option_map match_value) m
 
 pub returns-clause-patterns : goal.returns-clause-patterns
@@ -68,12 +81,12 @@ pub returns-clause-slots : goal.returns-clause-slots
 returns-clause-slots c =
     let is = sym (c.start.ensures.value ∙ ap (start_of c.args.self.now.nfa) c.get_anchored-anchored.ensures) ∙ c.in-Some.is in
     let m = found-is c.args.self.now c.args.input.now (c.states.ensures.value ∙ ap (λ (vm : PikeVMValue). vm.nfa.states) c.self.view_is) c.haystack-haystack.ensures.value (ap (λ (vm : PikeVMValue). vm.utf8_empty) c.self.view_is)
-    (c.is_anchored.ensures ∙ ap is_anchored c.get_anchored-anchored.ensures) c.start-2.ensures.value c.end.ensures.value (grind (arith, c.is_done.ensures, c.if-is_done.false)) is in
+    c.latest_start.ensures.value c.start-2.ensures.value c.end.ensures.value (grind (arith, c.is_done.ensures, c.if-is_done.false)) is in
     slots-told c.args.self.now c.args.input.now c.start.ensures.in_range c.requires.widest _ m c.find-found.new.slots c.find-found.ensures.slots
 
 pub returns-clause-within : goal.returns-clause-within
 returns-clause-within c =
     let is = sym (c.start.ensures.value ∙ ap (start_of c.args.self.now.nfa) c.get_anchored-anchored.ensures) ∙ c.in-Some.is in
     let m = found-is c.args.self.now c.args.input.now (c.states.ensures.value ∙ ap (λ (vm : PikeVMValue). vm.nfa.states) c.self.view_is) c.haystack-haystack.ensures.value (ap (λ (vm : PikeVMValue). vm.utf8_empty) c.self.view_is)
-    (c.is_anchored.ensures ∙ ap is_anchored c.get_anchored-anchored.ensures) c.start-2.ensures.value c.end.ensures.value (grind (arith, c.is_done.ensures, c.if-is_done.false)) is in
+    c.latest_start.ensures.value c.start-2.ensures.value c.end.ensures.value (grind (arith, c.is_done.ensures, c.if-is_done.false)) is in
     value-within c.args.self.now c.args.input.now _ m c.reported.result (c.reported.ensures ∙ ap (option_map _) c.find-found.ensures.value ∙ triple-value _)

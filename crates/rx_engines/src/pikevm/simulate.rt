@@ -1,0 +1,144 @@
+ghost use Rattle.std.specs.Prelude.{◌≡◌, ℕ, ◌+◌, ◌<◌, ◌≤◌, List, [], length, take, All, Bool, false, is_some, Option, Some, None, IfSome, IfNone, option_map, replicate, slice_index_or};
+ghost use Rattle.rx_engines.specs.Simulation.{cost_below, best_hit, hit_of};
+ghost use Rattle.rx_engines.specs.Search.{IsInside, next_of};
+
+use crate::pikevm::search::Search;
+use crate::pikevm::seed::seed;
+use crate::pikevm::stack::Stack;
+use crate::pikevm::step::step;
+use crate::pikevm::threads::Threads;
+use crate::slots::{Slot, clear, report};
+use rx_search::{NonMaxUsize, PatternID};
+use std::mem;
+
+/// The search for a match that starts at `from` or after it, with so many slots to a thread. `slots`
+/// gets those of the match, as far as they go. With `earliest` it stops at any match.
+pub fn simulate_slots(
+    search: &Search<'_>,
+    from: usize,
+    earliest: bool,
+    width: usize,
+    curr: &mut Threads,
+    next: &mut Threads,
+    stack: &mut Stack,
+    scratch: &mut [Slot],
+    best: &mut [Slot],
+    slots: &mut [Option<NonMaxUsize>],
+) -> Option<(PatternID, usize, usize)>
+    requires search { IsInside search.now }
+    requires from { from ≤ search.now.last }
+    requires none { curr.old.set.items ≡ [] }
+    requires set { (curr.old.set.room ≡ length search.now.states.now)
+        × (next.old.set.room ≡ length search.now.states.now) }
+    requires table { (length curr.old.table.items ≡ length search.now.states.now)
+        × (length next.old.table.items ≡ length search.now.states.now) }
+    requires width { (curr.old.table.width ≡ width) × (next.old.table.width ≡ width)
+        × (width ≤ length scratch.old) × (width ≤ length best.old)
+        × (next.old.table.widest ≡ curr.old.table.widest) }
+    requires empty { stack.old.items ≡ [] }
+    requires stack { cost_below search.now.states.now (length search.now.states.now) < stack.old.room }
+    ensures found { earliest ≡ false → best_hit result (take width best.new)
+        ≡ option_map (hit_of width) (next_of search.now from) }
+    ensures any { is_some result ≡ is_some
+        (next_of search.now from) }
+    ensures cleared { IfNone result (take width best.new ≡ replicate width None) }
+    ensures reported { (k : ℕ) → k < length slots.new
+        → slice_index_or slots.new k None ≡ slice_index_or (take width best.new) k None }
+    ensures set { (curr.new.set.room ≡ length search.now.states.now)
+        × (next.new.set.room ≡ length search.now.states.now) }
+    ensures table { (length curr.new.table.items ≡ length search.now.states.now)
+        × (length next.new.table.items ≡ length search.now.states.now) }
+    ensures widest { (curr.new.table.widest ≡ curr.old.table.widest)
+        × (next.new.table.widest ≡ curr.old.table.widest) }
+    ensures empty { stack.new.items ≡ [] }
+    ensures stack { stack.new.room ≡ stack.old.room }
+{
+    let found = simulate(
+        search,
+        from,
+        earliest,
+        curr,
+        next,
+        stack,
+        &mut scratch[..width],
+        &mut best[..width],
+    );
+    report(&best[..width], slots);
+    found
+}
+
+/// The search for a match that starts at `from` or after it. `slots` gets its slots. With `earliest` it
+/// stops at any match.
+fn simulate(
+    search: &Search<'_>,
+    from: usize,
+    earliest: bool,
+    curr: &mut Threads,
+    next: &mut Threads,
+    stack: &mut Stack,
+    row: &mut [Slot],
+    slots: &mut [Slot],
+) -> Option<(PatternID, usize, usize)>
+    requires search { IsInside search.now }
+    requires from { from ≤ search.now.last }
+    requires none { curr.old.set.items ≡ [] }
+    requires set { (curr.old.set.room ≡ length search.now.states.now)
+        × (next.old.set.room ≡ length search.now.states.now) }
+    requires table { (length curr.old.table.items ≡ length search.now.states.now)
+        × (length next.old.table.items ≡ length search.now.states.now) }
+    requires width { (curr.old.table.width ≡ length slots.old)
+        × (next.old.table.width ≡ length slots.old) × (length row.old ≡ length slots.old)
+        × (next.old.table.widest ≡ curr.old.table.widest) }
+    requires empty { stack.old.items ≡ [] }
+    requires stack { cost_below search.now.states.now (length search.now.states.now) < stack.old.room }
+    ensures found { earliest ≡ false → best_hit result slots.new
+        ≡ option_map (hit_of (length slots.old)) (next_of search.now from) }
+    ensures any { is_some result ≡ is_some
+        (next_of search.now from) }
+    ensures cleared { IfNone result (slots.new ≡ replicate (length slots.old) None) }
+    ensures set { (curr.new.set.room ≡ length search.now.states.now)
+        × (next.new.set.room ≡ length search.now.states.now) }
+    ensures table { (length curr.new.table.items ≡ length search.now.states.now)
+        × (length next.new.table.items ≡ length search.now.states.now) }
+    ensures widest { (curr.new.table.widest ≡ curr.old.table.widest)
+        × (next.new.table.widest ≡ curr.old.table.widest) }
+    ensures empty { stack.new.items ≡ [] }
+    ensures stack { stack.new.room ≡ stack.old.room }
+{
+    clear(slots);
+    let mut best = None;
+    for place in from..search.end + 1 {
+        seed(search, place, best.is_some(), curr, stack, row);
+        if curr.set.len() == 0 {
+            if best.is_some() {
+                return best;
+            }
+            if search.last <= place {
+                return None;
+            }
+        }
+        next.set.clear();
+        let found = step(search, place, curr, next, stack, row, slots);
+        best = better(best, found, place);
+        if earliest && best.is_some() {
+            return best;
+        }
+        mem::swap(curr, next);
+    }
+    best
+}
+
+/// A match that ends at the place comes before the best one so far.
+fn better(
+    best: Option<(PatternID, usize, usize)>,
+    found: Option<(PatternID, usize)>,
+    place: usize,
+) -> Option<(PatternID, usize, usize)>
+    ensures some { IfSome found (λ f. result ≡ Some (f.0, f.1, place)) }
+    ensures none { IfNone found (result ≡ best) }
+{
+    match found {
+        Some((pattern, start)) => Some((pattern, start, place)),
+        None => best,
+    }
+}
