@@ -17,7 +17,7 @@ use Rattle.rx_thompson.specs.Built.{Built, ways}
 use Rattle.rx_thompson.specs.Draft.{Draft, pushed, patched}
 use Rattle.rx_thompson.specs.Repeated.{tail, leading}
 use Rattle.rx_thompson.specs.Room.{HasRoom}
-use Rattle.rx_thompson.specs.declared.groups.Groups.{Groups}
+use Rattle.rx_thompson.specs.declared.compiler.groups.Groups.{Groups}
 use Rattle.rx_thompson.specs.declared.state.State.{State}
 use Rattle.rx_thompson.specs.declared.state.State.TheVariants.{Union}
 use Rattle.rx_thompson.proofs.BuiltLemmas.{Built-then}

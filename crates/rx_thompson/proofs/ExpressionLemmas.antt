@@ -2,6 +2,8 @@
 use Rattle.std.proofs.Common.{◌≡◌, ℕ, zero, suc, ◌+◌, ◌-◌, ◌≤◌, ◌<◌, List, [], ◌∷◌, refl, sym, ◌∙◌, ap, arith, length, get_or, drop, drop-cons}
 use Rattle.rx_model.specs.Expression.{Expression, cons}
 use Rattle.rx_model.specs.Search.{greatest_group, groups_before}
+use Rattle.rx_syntax.specs.Cost.{accounted_states}
+use Rattle.rx_thompson.specs.Compiled.{nfa_states}
 use Rattle.rx_syntax.specs.Normal.{expressions}
 use Rattle.rx_syntax.specs.Depth.{depth, greatest_depth}
 
@@ -38,3 +40,15 @@ groups_before-within (h ∷ hs) (suc j) (suc k) le = let later = groups_before-w
 -- the groups of a pattern and of those before it are among all
 pub groups_before-all : (hs : List Expression) (k : ℕ) (h d : Expression) → k < length hs → h ≡ get_or hs k d → groups_before k hs + greatest_group h ≤ groups_before (length hs) hs
 groups_before-all hs k h d lt e = let more = groups_before-more hs k h d lt e in let within = groups_before-within hs (k + 1) (length hs) (omega arith) in omega arith
+
+-- the states of one pattern more
+pub nfa_states-drop : (hs : List Expression) (k : ℕ) (h d : Expression) → k < length hs → h ≡ get_or hs k d → nfa_states (drop k hs) ≡ accounted_states h + 3 + nfa_states (drop (k + 1) hs)
+nfa_states-drop hs k h d lt e =
+    let more : suc k ≡ k + 1 = omega arith in
+    ap nfa_states (drop-cons hs k d lt) ∙ (λ i. accounted_states (sym e i) + 3 + nfa_states (drop (more i) hs))
+
+pub nfa_states-none : (hs : List Expression) (n : ℕ) → length hs ≤ n → nfa_states (drop n hs) ≡ 4
+nfa_states-none [] zero le = refl
+nfa_states-none [] (suc n) le = refl
+nfa_states-none (h ∷ hs) zero le = absurd (omega arith)
+nfa_states-none (h ∷ hs) (suc n) le = nfa_states-none hs n (omega arith)

@@ -1,7 +1,7 @@
 -- Slots for the groups of a pattern.
 use Rattle.std.specs.Prelude.{ℕ, ◌+◌, ◌*◌, ◌<◌, ◌≤◌}
 use Rattle.rx_thompson.specs.Draft.{Draft}
-use Rattle.rx_thompson.specs.declared.groups.Groups.{Groups}
+use Rattle.rx_thompson.specs.declared.compiler.groups.Groups.{Groups}
 
 -- the draft has the pattern, and slots for its groups up to the greatest
 pub record HasRoom (d : Draft) (groups : Groups) (greatest : ℕ) : Type 0 where

@@ -1,20 +1,25 @@
 //! From expressions to an NFA.
-ghost use Rattle.std.specs.Prelude.{◌≡◌, ◌+◌, ◌*◌, ◌<◌, ◌≤◌, length, All, IfOk, OnOk, MatchResult, true};
+ghost use Rattle.std.specs.Prelude.{◌≡◌, ◌+◌, ◌*◌, ◌<◌, ◌≤◌, length, All, IfOk, IfErr, IfSome, OnOk, MatchOption, None, Some, true};
 ghost use Rattle.rx_model.specs.Graph.{build_pattern};
 ghost use Rattle.rx_model.specs.Search.{greatest_group};
 ghost use Rattle.rx_thompson.specs.Built.{slot_from, HasPart, HasPatterns, StartsAll};
-ghost use Rattle.rx_thompson.specs.Compiled.{patterns_of, slots_of, AreFew, IsCompiled, IsRefusal};
+ghost use Rattle.rx_thompson.specs.Compiled.{patterns_of, slots_of, AreFew, AreAllowed, IsCompiled, IsRefusal};
 ghost use Rattle.rx_thompson.specs.Draft.{Extends};
 ghost use Rattle.rx_thompson.specs.Room.{HasRoom};
 
+mod accounting;
+mod config;
 mod expression;
+mod groups;
 
 use crate::builder::Builder;
 use crate::error::BuildError;
-use crate::groups::{Groups, slot_len};
 use crate::nfa::NFA;
 use crate::state::{Alternates, State};
+use accounting::{nfa_states, slot_len};
+pub use config::Config;
 use expression::compile;
+use groups::Groups;
 use rx_search::{Memory, PatternID, StateID};
 use rx_syntax::{Hir, greatest_group};
 use std::alloc::Global;
@@ -25,22 +30,44 @@ const PATTERN_LIMIT: usize = 2147483647;
 /// The most slots that a match may have.
 const SLOT_LIMIT: usize = 2147483646;
 
+/// The most states that an NFA may have.
+const STATE_LIMIT: usize = 2147483647;
+
+/// The bytes that are accounted for a state.
+const STATE_SIZE: usize = 32;
+
 /// Makes NFAs of expressions.
 #[derive(Clone, Copy)]
-pub struct Compiler {}
+pub struct Compiler {
+    config: Config,
+}
 
 impl Compiler {
-    /// A compiler.
-    pub fn new() -> Compiler {
-        Compiler {}
+    /// With the configuration that `Config::new` makes.
+    pub fn new() -> Compiler
+        ensures { result.config.nfa_size_limit ≡ None }
+    {
+        Compiler {
+            config: Config::new(),
+        }
+    }
+
+    /// Puts this configuration in place of the last.
+    pub fn configure(&mut self, config: Config)
+        ensures { self.new.config ≡ config }
+    {
+        self.config = config;
     }
 
     /// The NFA of these expressions, one pattern each. A match's slots come in the order of the patterns: two for each
     /// whole match, and after these two for each group that a pattern names.
     ///
-    /// Refused, in this order: more than 2147483647 patterns, more than 2147483646 slots, want of memory.
+    /// Refused before anything is built, in this order: more than 2147483647 patterns, more than 2147483646 slots, more
+    /// than 2147483647 states accounted, more bytes accounted than the configured limit. Want of memory comes last.
     pub fn build_many_from_hir(&self, alloc: Global, exprs: &[Hir]) -> Result<NFA, BuildError>
-        ensures { MatchResult result (IsCompiled exprs.now) (IsRefusal exprs.now) }
+        ensures compiled { IfOk result (IsCompiled exprs.now) }
+        ensures allowed { OnOk result (AreAllowed self.now.config.nfa_size_limit exprs.now) }
+        ensures refused { IfErr result (IsRefusal self.now.config.nfa_size_limit exprs.now) }
     {
         if exprs.len() > PATTERN_LIMIT {
             return Err(BuildError::TooManyPatterns {
@@ -55,8 +82,29 @@ impl Compiler {
                 limit: SLOT_LIMIT,
             });
         }
+        let states = nfa_states(exprs);
+        if states > STATE_LIMIT {
+            return Err(BuildError::TooManyStates {
+                given: states,
+                limit: STATE_LIMIT,
+            });
+        }
+        let size = STATE_SIZE * states;
+        if let Some(limit) = exceeded(self.config.get_nfa_size_limit(), size) {
+            return Err(BuildError::ExceededSizeLimit { limit, size });
+        }
         let nfa = build(alloc, exprs, slots)?;
         Ok(nfa)
+    }
+}
+
+/// The limit, where the size is above it.
+fn exceeded(limit: Option<usize>, size: usize) -> Option<usize>
+    ensures { MatchOption result (IfSome limit (λ most. size ≤ most)) (λ most. (limit ≡ Some most) × (most < size)) }
+{
+    match limit {
+        Some(most) => { if most < size { Some(most) } else { None } }
+        None => None,
     }
 }
 

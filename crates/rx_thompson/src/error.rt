@@ -11,6 +11,10 @@ pub enum BuildError {
     TooManyPatterns { given: usize, limit: usize },
     /// More slots than a match may have.
     TooManyGroups { given: usize, limit: usize },
+    /// More states than identifiers tell apart, by what is accounted for the patterns.
+    TooManyStates { given: usize, limit: usize },
+    /// An NFA of more bytes than the configured limit, by what is accounted for the patterns.
+    ExceededSizeLimit { limit: usize, size: usize },
     /// There was no memory.
     Memory,
 }

@@ -9,13 +9,12 @@ mod builder;
 mod class;
 mod compiler;
 mod error;
-mod groups;
 mod nfa;
 mod sparse;
 mod state;
 
 pub use class::the_states_read_the_class;
-pub use compiler::Compiler;
+pub use compiler::{Compiler, Config};
 pub use error::BuildError;
 pub use nfa::NFA;
 pub use sparse::matches_byte;

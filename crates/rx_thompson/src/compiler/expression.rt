@@ -12,7 +12,7 @@ ghost use Rattle.rx_thompson.specs.Room.{HasRoom};
 ghost use Rattle.rx_thompson.specs.declared.state.State.TheVariants.{Union};
 
 use crate::builder::Builder;
-use crate::groups::Groups;
+use crate::compiler::groups::Groups;
 use crate::state::{Alternates, State};
 use rx_search::{Memory, StateID};
 use rx_syntax::{Capture, Hir, HirKind, Repetition};

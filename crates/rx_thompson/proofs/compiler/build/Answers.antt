@@ -18,7 +18,6 @@ returns c =
     let all : StartsAll old new starts c.in_ok-start.start = subst (λ qs. StartsAll old new qs c.in_ok-start.start) c.deref.ensures.value c.in_ok-start.ensures.starts in
     let slots = c.in_ok-starts.ensures.extends.slots in
     record {
-      few = c.requires.few;
       in_range = c.finish.ensures.in_range;
       slots = ap (λ (n : Nfa). n.slots) is ∙ StartsAll-slots old new starts c.in_ok-start.start all ∙ slots ∙ ap (λ (d : Draft). d.slots) c.new-builder.ensures ∙ c.requires.slots;
       first_runs = λ utf8_empty terminator.
