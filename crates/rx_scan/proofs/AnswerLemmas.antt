@@ -1,0 +1,92 @@
+-- Which answer an input has.
+use Rattle.std.proofs.Common.{◌≡◌, ℕ, ◌<◌, ◌≤◌, Bool, true, false, cond, ltb, List, length, Result, Ok, Err, refl, sym, ap, ◌∙◌, lit≤}
+use Rattle.std.proofs.lemmas.Bool.{lt-ltb, le-ltb, ltb-false, false_from_ne_true, false≢true}
+use Rattle.std.specs.Str.{IsUtf8, is_utf8}
+use Rattle.std.specs.Str.Lossy.{utf8_valid_len}
+use Rattle.std.proofs.lemmas.Str.{IsUtf8-from_is_utf8, is_utf8-from_IsUtf8}
+use Rattle.rx_model.specs.Expression.{Expression}
+use Rattle.rx_syntax.specs.declared.error.SyntaxErrorKind.{SyntaxErrorKind}
+use Rattle.rx_scan.specs.Lines.{lines, patterns, haystacks}
+use Rattle.rx_scan.specs.Patterns.{Refusal, readings, are_small}
+use Rattle.rx_scan.specs.Answer.{AnswerValue, too_long, not_utf8, refused, too_big, all_rows, answer_patterns, answer_text, answer_input, answer, usage}
+use Rattle.rx_scan.specs.Status.{code, needs_all}
+use Rattle.rx_scan.specs.Words.{is_scan}
+
+-- the answer by the two tests
+by_tests : List ℕ → (long text : Bool) → AnswerValue
+by_tests input long text = cond long too_long (cond text (answer_text input) (not_utf8 (utf8_valid_len input)))
+
+pub answer_input-too_long : (input : List ℕ) → 16777216 < length input → answer_input input ≡ too_long
+unfolding answer_input by_tests
+answer_input-too_long input long = ap (λ b. by_tests input b (is_utf8 input)) (lt-ltb _ _ long)
+
+pub answer_input-text : (input : List ℕ) → length input ≤ 16777216 → IsUtf8 input → answer_input input ≡ answer_text input
+unfolding answer_input by_tests
+answer_input-text input short text =
+    ap (λ b. by_tests input b (is_utf8 input)) (le-ltb _ _ short) ∙ ap (λ b. by_tests input false b) (is_utf8-from_IsUtf8 input text)
+
+pub answer_input-not_utf8 : (input : List ℕ) (n : ℕ) → length input ≤ 16777216 → ¬ (IsUtf8 input) → n ≡ utf8_valid_len input → answer_input input ≡ not_utf8 n
+unfolding answer_input by_tests
+answer_input-not_utf8 input n short bytes e =
+    ap (λ b. by_tests input b (is_utf8 input)) (le-ltb _ _ short)
+    ∙ ap (λ b. by_tests input false b) (false_from_ne_true _ (λ yes. bytes (IsUtf8-from_is_utf8 input yes))) ∙ ap not_utf8 (sym e)
+
+-- every answer has a status up to 5
+by_size-few : (hs : List Expression) (texts : List (List ℕ)) (small : Bool) → code (cond small (all_rows hs texts) too_big).status ≤ 5
+by_size-few hs texts true = lit≤ tt
+by_size-few hs texts false = lit≤ tt
+
+answer_patterns-few : (r : Result (List Expression) Refusal) (texts : List (List ℕ)) → code (answer_patterns r texts).status ≤ 5
+unfolding answer_patterns
+answer_patterns-few (Err refusal) texts = lit≤ tt
+answer_patterns-few (Ok hs) texts = by_size-few hs texts (are_small hs)
+
+pub answer_text-few : (text : List ℕ) → code (answer_text text).status ≤ 5
+unfolding answer_text
+answer_text-few text = answer_patterns-few (readings 0 (patterns (lines text))) (haystacks (lines text))
+
+by_tests-few : (input : List ℕ) (long text : Bool) → code (by_tests input long text).status ≤ 5
+unfolding by_tests
+by_tests-few input true text = lit≤ tt
+by_tests-few input false true = answer_text-few input
+by_tests-few input false false = lit≤ tt
+
+pub answer_input-few : (input : List ℕ) → code (answer_input input).status ≤ 5
+unfolding answer_input by_tests
+answer_input-few input = by_tests-few input (ltb 16777216 (length input)) (is_utf8 input)
+
+pub answer-scan : (words : List (List ℕ)) (input : List ℕ) → is_scan words ≡ true → answer words input ≡ answer_input input
+unfolding answer
+answer-scan words input e = ap (λ b. cond b (answer_input input) usage) e
+
+pub answer-usage : (words : List (List ℕ)) (input : List ℕ) → is_scan words ≡ false → answer words input ≡ usage
+unfolding answer
+answer-usage words input e = ap (λ b. cond b (answer_input input) usage) e
+
+short_by_test : (input : List ℕ) (long text : Bool) → ltb 16777216 (length input) ≡ long → needs_all (by_tests input long text).status ≡ true → length input ≤ 16777216
+unfolding by_tests
+short_by_test input true text e all = absurd (false≢true all)
+short_by_test input false text e all = ltb-false _ _ e
+
+-- an answer that depends on the whole input is to one that is not too long
+pub answer_input-short : (input : List ℕ) → needs_all (answer_input input).status ≡ true → length input ≤ 16777216
+unfolding answer_input by_tests
+answer_input-short input all = short_by_test input (ltb 16777216 (length input)) (is_utf8 input) refl all
+
+-- by the size of the patterns
+pub answer_patterns-small : (hs : List Expression) (texts : List (List ℕ)) → are_small hs ≡ true → answer_patterns (Ok hs) texts ≡ all_rows hs texts
+unfolding answer_patterns
+answer_patterns-small hs texts e = ap (λ b. cond b (all_rows hs texts) too_big) e
+
+pub answer_patterns-big : (hs : List Expression) (texts : List (List ℕ)) → are_small hs ≡ false → answer_patterns (Ok hs) texts ≡ too_big
+unfolding answer_patterns
+answer_patterns-big hs texts e = ap (λ b. cond b (all_rows hs texts) too_big) e
+
+pub answer_text-is : (text : List ℕ) (r : Result (List Expression) Refusal) (texts : List (List ℕ)) → readings 0 (patterns (lines text)) ≡ r → texts ≡ haystacks (lines text)
+    → answer_text text ≡ answer_patterns r texts
+unfolding answer_text
+answer_text-is text r texts e f = λ i. answer_patterns (e i) (sym f i)
+
+pub answer_patterns-refused : (p : ℕ) (kind : SyntaxErrorKind) (texts : List (List ℕ)) → answer_patterns (Err (record { pattern = p; kind = kind })) texts ≡ refused p kind
+unfolding answer_patterns
+answer_patterns-refused p kind texts = refl

@@ -1,0 +1,29 @@
+-- What a source gives and a sink takes, and when they may fail.
+use Rattle.std.specs.Prelude.{◌≡◌, ℕ, ◌<◌, ◌≤◌, ◌⊎◌, List, [], ◌++◌, length, take, ⊤, Option, Some, None, Result, MatchResult}
+use Rattle.std.specs.Io.KnownBytes.{Consumes, IsAtEnd}
+
+-- Faults were counted between. A count that stands at the end of its type may have stood still, so it is taken as one that rose.
+abbrev pub HasRisen : (before after : ℕ) → Type 0
+HasRisen before after = (before < after) ⊎ (after ≡ 18446744073709551615)
+
+-- The sink holds these bytes more, where it tells what it holds. A sink may stop telling.
+abbrev pub Gains : (before after : Option (List ℕ)) → List ℕ → Type 0
+Gains before None bytes = ⊤
+Gains None (Some now) bytes = ⊥
+Gains (Some had) (Some now) bytes = now ≡ had ++ bytes
+
+-- `read` gave the first n bytes of its buffer at `Ok(n)`, none only at the end of the input or without room, and nothing at an error
+abbrev pub Reads : {E : Type 0} → (before after : Option (List ℕ)) → (buffer : List ℕ) → Result ℕ E → Type 0
+Reads before after buffer r =
+    MatchResult r (λ n. (n ≤ length buffer) × Consumes before after (take n buffer) × (n ≡ 0 → 0 < length buffer → IsAtEnd after))
+    (λ _. Consumes before after [])
+
+-- `write` took the first n bytes of the piece at `Ok(n)`, none only of an empty piece, and nothing at an error
+abbrev pub Writes : {E : Type 0} → (before after : Option (List ℕ)) → (piece : List ℕ) → Result ℕ E → Type 0
+Writes before after piece r =
+    MatchResult r (λ n. (n ≤ length piece) × (0 < length piece → 0 < n) × Gains before after (take n piece))
+    (λ _. Gains before after [])
+
+-- The sink gained a front of the text, shorter than it.
+abbrev pub GainsPrefix : (before after : Option (List ℕ)) → List ℕ → Type 0
+GainsPrefix before after text = (n : ℕ) × (n < length text) × Gains before after (take n text)

@@ -1,0 +1,11 @@
+pub mod Answer
+pub mod Compile
+pub mod Ends
+pub mod Lines
+pub mod Patterns
+pub mod Refused
+pub mod Row
+pub mod Run
+pub mod Slots
+pub mod Status
+pub mod Words

@@ -1,0 +1,144 @@
+//! The answer to an input.
+ghost use Rattle.std.specs.Prelude.{◌≡◌, true, Ok, IfOk};
+ghost use Rattle.rx_thompson.specs.Nfa.{HasFirstRuns};
+ghost use Rattle.rx_scan.specs.Answer.{too_long, not_utf8, refused, too_big, all_rows, answer_patterns, answer_text, answer_input};
+ghost use Rattle.rx_scan.specs.Lines.{lines};
+ghost use Rattle.rx_scan.specs.Patterns.{patterns_of, are_small};
+
+use crate::compile::{CompileError, compile};
+use crate::engine::Engine;
+use crate::patterns::{PatternError, parse_patterns};
+use crate::reading::INPUT_LIMIT;
+use crate::row::push_number;
+use crate::rows::push_rows;
+use crate::status::Status;
+use rx_search::{Gate, Memory};
+use rx_syntax::{Hir, SyntaxErrorKind};
+use rx_thompson::NFA;
+use std::alloc::Global;
+use std::marker::Model;
+use std::str;
+
+/// A status and the text that goes with it.
+#[derive(Drop)]
+pub struct Answer {
+    pub status: Status,
+    pub text: Vec<u8>,
+}
+
+impl Model for Answer {
+    ghost use Rattle.rx_scan.specs.Answer.{AnswerValue};
+
+    ghost Value = { AnswerValue };
+
+    ghost view = { λ a. record { status = a.status; text = a.text.items } };
+}
+
+/// The answer to an input. `gate` is told of each haystack before it is searched.
+pub fn answer_input<G: Gate>(alloc: Global, input: &[u8], gate: &G) -> Result<Answer, Memory>
+    ensures { IfOk result (λ a. a ≡ answer_input input.now) }
+{
+    if input.len() > INPUT_LIMIT {
+        return too_long(alloc);
+    }
+    match str::from_utf8(input) {
+        Ok(text) => answer_text(alloc, text, gate),
+        Err(error) => not_utf8(alloc, error.valid_up_to()),
+    }
+}
+
+/// The answer to a text that is not too long.
+fn answer_text<G: Gate>(alloc: Global, text: &str, gate: &G) -> Result<Answer, Memory>
+    ensures { IfOk result (λ a. a ≡ answer_text text.now) }
+{
+    match parse_patterns(alloc, text) {
+        Ok((expressions, haystacks)) => answer_patterns(alloc, expressions, haystacks, gate),
+        Err(PatternError::Refused { pattern, kind }) => refused(alloc, pattern, kind),
+        Err(PatternError::Memory) => Err(Memory),
+    }
+}
+
+/// The answer to the expressions of the patterns and the text of the haystacks.
+fn answer_patterns<G: Gate>(
+    alloc: Global,
+    expressions: Vec<Hir>,
+    haystacks: &str,
+    gate: &G,
+) -> Result<Answer, Memory>
+    ensures { IfOk result (λ a. a ≡ answer_patterns (Ok expressions.items) (lines haystacks.now)) }
+{
+    match compile(alloc, &expressions) {
+        Ok(nfa) => all_rows(alloc, expressions, nfa, haystacks, gate),
+        Err(CompileError::TooBig) => too_big(alloc),
+        Err(CompileError::Memory) => Err(Memory),
+    }
+}
+
+/// The rows of the matches of these expressions, over their NFA.
+fn all_rows<G: Gate>(
+    alloc: Global,
+    expressions: Vec<Hir>,
+    nfa: NFA,
+    haystacks: &str,
+    gate: &G,
+) -> Result<Answer, Memory>
+    requires runs { HasFirstRuns nfa (patterns_of expressions.items) }
+    requires small { are_small expressions.items ≡ true }
+    ensures { IfOk result (λ a. a ≡ all_rows expressions.items (lines haystacks.now)) }
+{
+    let mut engine = Engine::new(alloc, expressions, nfa)?;
+    let mut text = Vec::new(alloc);
+    push_rows(&mut text, haystacks, &mut engine, gate)?;
+    Ok(Answer {
+        status: Status::Rows,
+        text,
+    })
+}
+
+/// This pattern is refused.
+fn refused(alloc: Global, pattern: usize, kind: SyntaxErrorKind) -> Result<Answer, Memory>
+    ensures { IfOk result (λ a. a ≡ refused pattern kind) }
+{
+    let mut text = Vec::from_slice(alloc, b"pattern ")?;
+    push_number(&mut text, pattern)?;
+    text.extend_from_slice(b": ")?;
+    text.extend_from_slice(kind.to_string(alloc)?.as_bytes())?;
+    text.extend_from_slice(b"\n")?;
+    Ok(Answer {
+        status: Status::Pattern,
+        text,
+    })
+}
+
+fn too_big(alloc: Global) -> Result<Answer, Memory>
+    ensures { IfOk result (λ a. a ≡ too_big) }
+{
+    let text = Vec::from_slice(alloc, b"patterns too big\n")?;
+    Ok(Answer {
+        status: Status::TooBig,
+        text,
+    })
+}
+
+fn too_long(alloc: Global) -> Result<Answer, Memory>
+    ensures { IfOk result (λ a. a ≡ too_long) }
+{
+    let text = Vec::from_slice(alloc, b"input too long\n")?;
+    Ok(Answer {
+        status: Status::TooLong,
+        text,
+    })
+}
+
+/// The longest UTF-8 prefix of the input has this length.
+fn not_utf8(alloc: Global, valid_up_to: usize) -> Result<Answer, Memory>
+    ensures { IfOk result (λ a. a ≡ not_utf8 valid_up_to) }
+{
+    let mut text = Vec::from_slice(alloc, b"input is not UTF-8 at byte ")?;
+    push_number(&mut text, valid_up_to)?;
+    text.extend_from_slice(b"\n")?;
+    Ok(Answer {
+        status: Status::NotUtf8,
+        text,
+    })
+}

@@ -1,0 +1,26 @@
+//! From the bytes of an input to the rows of its matches.
+//!
+//! `run` reads patterns and haystacks from a `Source`, and writes a row for each match into a `Sink`.
+//! Its contract says what the sink then holds, for all words and every input.
+#![tactic(auto)]
+
+mod answer;
+mod command;
+mod compile;
+mod ends;
+mod engine;
+mod lines;
+mod memory_ends;
+mod patterns;
+mod reading;
+mod row;
+mod rows;
+mod standard;
+mod status;
+mod words;
+mod writing;
+
+pub use command::run;
+pub use ends::{Failed, Sink, Source};
+pub use memory_ends::{Bytes, BytesSure, Kept, KeptSure};
+pub use standard::{StandardInput, StandardOutput};
