@@ -6,8 +6,9 @@ use Rattle.std.proofs.lemmas.Bool.{cases_lt, le-leb}
 use Rattle.std.proofs.lemmas.Option.{slice_get_read}
 use Rattle.rx_model.specs.Expression.{Expression}
 use Rattle.rx_model.specs.Search.{greatest_group, groups_before}
-use Rattle.std.specs.Prelude.{Bool}
-use Rattle.rx_thompson.specs.Compiled.{AreFew}
+use Rattle.std.specs.Prelude.{Bool, false, nat_le, Some}
+use Rattle.std.proofs.lemmas.Bool.Decides.{nat_tests}
+use Rattle.rx_thompson.specs.Compiled.{AreAllowed, nfa_states}
 use Rattle.rx_scan.specs.Patterns.{first_slot, slot_count, are_small, AreBounds}
 use Rattle.rx_scan.specs.Row.{group_count}
 
@@ -62,5 +63,30 @@ bound-read bounds hs p x b le is = get_or_read bounds p x (omega (arith, b.count
 both : (a b : Bool) → a ≡ true → b ≡ true → a && b ≡ true
 both a b e f = rw (e, f) refl
 
-pub small-few : (hs : List Expression) → AreFew hs → are_small hs ≡ true
-small-few hs few = both _ _ (le-leb (length hs) 2147483647 few.patterns) (le-leb (slot_count hs) 2147483646 few.slots)
+first-false : (a b : Bool) → a ≡ false → a && b ≡ false
+first-false a b e = rw e refl
+
+second-false : (a b : Bool) → b ≡ false → a && b ≡ false
+second-false true b e = e
+second-false false b e = refl
+
+pub small-allowed : (hs : List Expression) → AreAllowed (Some 10485760) hs → are_small hs ≡ true
+small-allowed hs a =
+    both _ _ (both _ _ (le-leb (length hs) 2147483647 a.few.patterns) (le-leb (slot_count hs) 2147483646 a.few.slots))
+    (both _ _ (le-leb (nfa_states hs) 2147483647 a.states) (le-leb (32 * nfa_states hs) 10485760 a.size))
+
+above : (n limit : ℕ) → limit < n → nat_le n limit ≡ false
+above n limit lt = grind (arith, nat_tests)
+
+-- more patterns, slots, states or cost than there may be
+pub big-patterns : (hs : List Expression) → 2147483647 < length hs → are_small hs ≡ false
+big-patterns hs lt = first-false _ _ (first-false _ _ (above _ _ lt))
+
+pub big-slots : (hs : List Expression) → 2147483646 < slot_count hs → are_small hs ≡ false
+big-slots hs lt = first-false _ _ (second-false _ _ (above _ _ lt))
+
+pub big-states : (hs : List Expression) → 2147483647 < nfa_states hs → are_small hs ≡ false
+big-states hs lt = second-false _ _ (first-false _ _ (above _ _ lt))
+
+pub big-cost : (hs : List Expression) → 10485760 < 32 * nfa_states hs → are_small hs ≡ false
+big-cost hs lt = second-false _ _ (second-false _ _ (above _ _ lt))

@@ -2,13 +2,14 @@
 use Rattle.std.specs.Prelude.{◌≡◌, ℕ, ◌+◌, ◌*◌, ◌≤◌, Bool, true, ◌&&◌, nat_le, List, [], ◌∷◌, length, slice_index, chars, Result, Ok, Err}
 use Rattle.rx_model.specs.Expression.{Expression}
 use Rattle.rx_model.specs.Search.{Patterns, groups_before, all}
-use Rattle.rx_syntax.specs.Thin.{reads}
+use Rattle.rx_syntax.specs.Pattern.{reads}
+use Rattle.rx_thompson.specs.Compiled.{nfa_states}
 use Rattle.rx_syntax.specs.declared.error.SyntaxError.{SyntaxError}
 use Rattle.rx_syntax.specs.declared.error.SyntaxErrorKind.{SyntaxErrorKind}
 
--- what a pattern reads as, or its refusal
+-- what a pattern reads as, or its refusal; groups and repetitions may nest 250 deep
 abbrev pub reading : List ℕ → Result Expression SyntaxError
-reading text = reads (chars text)
+reading text = reads 250 (chars text)
 
 -- the number of the first pattern that is refused, and what is wrong with it
 pub record Refusal : Type 0 where
@@ -38,9 +39,12 @@ first_slot hs p = 2 * length hs + 2 * groups_before p hs
 abbrev pub slot_count : List Expression → ℕ
 slot_count hs = first_slot hs (length hs)
 
--- no count passes its limit
+-- No count passes its limit: the patterns, the slots, the states that are accounted for an NFA, and its cost, which is
+-- 32 for each of these states.
 abbrev pub are_small : List Expression → Bool
-are_small hs = nat_le (length hs) 2147483647 && nat_le (slot_count hs) 2147483646
+are_small hs =
+    (nat_le (length hs) 2147483647 && nat_le (slot_count hs) 2147483646)
+    && (nat_le (nfa_states hs) 2147483647 && nat_le (32 * nfa_states hs) 10485760)
 
 -- where the slots of each pattern's groups begin, and where the last ones end
 pub record AreBounds (bounds : List ℕ) (hs : List Expression) : Type 0 where
