@@ -11,6 +11,8 @@ mod accounting;
 mod config;
 mod expression;
 mod groups;
+#[cfg(test)]
+mod tests;
 
 use crate::builder::Builder;
 use crate::error::BuildError;
