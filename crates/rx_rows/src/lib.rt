@@ -1,0 +1,11 @@
+//! Whole runs as tables: words and input in, status and text out.
+#![tactic(auto)]
+
+#[cfg(test)]
+mod ends;
+#[cfg(test)]
+mod limits;
+#[cfg(test)]
+mod rows;
+#[cfg(test)]
+mod words;
