@@ -17,7 +17,7 @@ struct Row {
 
 const SCAN: &[&str] = &["scan"];
 
-static ROWS: [Row; 26] = [
+static ROWS: [Row; 34] = [
     Row {
         words: SCAN,
         input: b"[a-zA-Z]+ing\n\ntingling\n",
@@ -171,6 +171,54 @@ static ROWS: [Row; 26] = [
     Row {
         words: &[""],
         input: b"\xff",
+        status: 2,
+        text: USAGE,
+    },
+    Row {
+        words: &["scan", "64"],
+        input: b"a*\n\nba\n",
+        status: 0,
+        text: "1:0:0..0\n1:0:1..2\n",
+    },
+    Row {
+        words: &["scan", "off:dhobp"],
+        input: b"a*\n\nba\n",
+        status: 0,
+        text: "1:0:0..0\n1:0:1..2\n",
+    },
+    Row {
+        words: &["scan", "3", "off:b"],
+        input: b"a*\n\nba\n",
+        status: 0,
+        text: "1:0:0..0\n1:0:1..2\n",
+    },
+    Row {
+        words: &["scan", "65"],
+        input: b"a\n\na\n",
+        status: 2,
+        text: USAGE,
+    },
+    Row {
+        words: &["scan", "065"],
+        input: b"a\n\na\n",
+        status: 2,
+        text: USAGE,
+    },
+    Row {
+        words: &["scan", "off:dd"],
+        input: b"a\n\na\n",
+        status: 2,
+        text: USAGE,
+    },
+    Row {
+        words: &["scan", "off:b", "3"],
+        input: b"a\n\na\n",
+        status: 2,
+        text: USAGE,
+    },
+    Row {
+        words: &["explain"],
+        input: b"a\n\na\n",
         status: 2,
         text: USAGE,
     },
