@@ -1,8 +1,9 @@
 -- The next match and the successive matches, said as relations.
 use Rattle.std.specs.Prelude.{◌≡◌, ℕ, ◌≤◌, List, [], ◌∷◌, Option, Some, None, slice_get, IsTrue}
 use Rattle.rx_model.specs.Expression.{Expression}
-use Rattle.rx_model.specs.Runs.{Trace}
-use Rattle.rx_model.specs.Search.{Patterns, first, is_permitted, Anchor, free, anchored, anchored_to, Match, next_after}
+use Rattle.rx_model.specs.Runs.{Configuration, PriorityGraph, Trace, IsRun, nowhere, trace}
+use Rattle.rx_model.specs.Graph.{Part, at, build_pattern, runs_of}
+use Rattle.rx_model.specs.Search.{Patterns, slot_of, first, is_permitted, Anchor, free, anchored, anchored_to, Match, next_after}
 
 -- the place lies in a..b, and is its first one where the search is anchored
 abbrev pub IsStart : Anchor → (b a place : ℕ) → Type 0
@@ -15,6 +16,14 @@ abbrev pub IsSought : Anchor → (pattern : ℕ) → Type 0
 IsSought free p = Unit {0}
 IsSought anchored p = Unit {0}
 IsSought (anchored_to pattern) p = p ≡ pattern
+
+-- the part that is the graph of pattern p
+abbrev pub part_of : Patterns → ℕ → Expression → Part
+part_of r p h = build_pattern (slot_of r p) p h
+
+-- the runs of pattern p within `end`
+abbrev pub runs_of_pattern : Patterns → (text : List ℕ) → (end p : ℕ) → Expression → PriorityGraph
+runs_of_pattern r text end p h = runs_of r.terminator text end (part_of r p h).states
 
 module _ (r : Patterns) (text : List ℕ) (anchor : Anchor) (b : ℕ) where
   -- the pattern is sought, and its first run from the place tells t
@@ -34,6 +43,16 @@ module _ (r : Patterns) (text : List ℕ) (anchor : Anchor) (b : ℕ) where
       -- no pattern has a run from an earlier start, nor an earlier pattern from this one
       pub least_start : (place p : ℕ) (t : Trace) → MayStart place → HasFirstRun place p t → m.start ≤ place
       pub least_pattern : (p : ℕ) (t : Trace) → HasFirstRun m.start p t → m.trace.pattern ≤ p
+
+    -- A match: what an accepting run tells, of a pattern that is sought, from where a match may start.
+    pub record IsMatch (m : Match) : Type 0 where
+      pub start : MayStart m.start
+      pub sought : IsSought anchor m.trace.pattern
+      pub expression : Expression
+      pub is_there : slice_get r.expressions m.trace.pattern ≡ Some expression
+      pub run : List Configuration
+      pub accepting : IsRun (runs_of_pattern r text b m.trace.pattern expression) nowhere (at (part_of r m.trace.pattern expression).start m.start) run
+      pub tells : m.trace ≡ trace (runs_of_pattern r text b m.trace.pattern expression) (at (part_of r m.trace.pattern expression).start m.start) run
 
 -- The successive matches from the next one on: each is the one after the match before it, and after the last there is none.
 abbrev pub AreSuccessive : (ℕ → Option Match) → Option Match → List Match → Type 0
