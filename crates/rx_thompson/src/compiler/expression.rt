@@ -81,7 +81,7 @@ fn compile_bytes(builder: &mut Builder, bytes: &[u8], next: StateID) -> Result<S
     Ok(start)
 }
 
-/// A slot before the group, and one after it.
+/// A slot before the group, and one after it. The group alone, where groups have no slots.
 #[cycle(compile)]
 fn compile_capture(
     alloc: Global,
@@ -97,7 +97,10 @@ fn compile_capture(
         next builder.old builder.new start) }
     ensures inside { IfOk result (λ start. start < length builder.new.states) }
 {
-    let slot = groups.first_slot + 2 * (capture.index.get() - 1);
+    let Some(first) = groups.first_slot else {
+        return compile(alloc, builder, groups, &capture.sub, next);
+    };
+    let slot = first + 2 * (capture.index.get() - 1);
     let close = builder.push(State::Capture {
         next,
         pattern: groups.pattern,
@@ -315,7 +318,7 @@ fn compile_options(
 }
 
 /// On to this state alone.
-fn one_way(alloc: Global, next: StateID) -> Result<Alternates, Memory>
+pub fn one_way(alloc: Global, next: StateID) -> Result<Alternates, Memory>
     ensures { IfOk result (λ alternates. alternates ≡ next ∷ []) }
 {
     let mut ids = Vec::new(alloc);
