@@ -1,6 +1,6 @@
 -- Which expressions of a list can be empty, from each place on.
-use Rattle.std.proofs.Common.{◌≡◌, ℕ, ◌+◌, ◌<◌, ◌≤◌, List, length, get_or, drop, ap}
-use Rattle.std.specs.Prelude.{true, false, ◌&&◌, ◌||◌}
+use Rattle.std.proofs.Common.{◌≡◌, ℕ, ◌+◌, ◌<◌, ◌≤◌, List, length, get_or, drop, ap, refl}
+use Rattle.std.specs.Prelude.{Bool, true, false, ◌&&◌, ◌||◌}
 use Rattle.rx_model.specs.Expression.{Expression}
 use Rattle.rx_model.specs.Empty.{can_be_empty, all_can_be_empty, one_can_be_empty}
 use Rattle.rx_syntax.specs.Normal.{expressions}
@@ -23,3 +23,9 @@ one-drop hs i h lt at = ap one_can_be_empty (expressions-drop hs i h lt at)
 pub one-past : (hs : List Expression) (i : ℕ) → length hs ≤ i → one_can_be_empty (expressions (drop i hs)) ≡ false
 unfolding can_be_empty
 one-past hs i le = ap (λ ys. one_can_be_empty (expressions ys)) (drop-past hs i le)
+
+pub and-true : (a b : Bool) → a ≡ true → (a && b) ≡ b
+and-true a b e = rw e refl
+
+pub or-false : (a b : Bool) → a ≡ false → (a || b) ≡ b
+or-false a b e = rw e refl
