@@ -108,21 +108,21 @@ writes-within patterns slots slot Fail within writes = none-is-some writes
 writes-within patterns slots slot (Accepts pattern) within writes = none-is-some writes
 
 writes-none : (patterns slots : ℕ) (s : State) → slots ≡ 0 → IsWithin patterns slots s → state_writes s ≡ None
-writes-none patterns slots (ByteRange low high next) no within = refl
-writes-none patterns slots (Sparse transitions) no within = refl
-writes-none patterns slots (Union alternates) no within = refl
-writes-none patterns slots (Capture next pattern number) no within = let lt = within.1 in absurd (omega arith)
-writes-none patterns slots Fail no within = refl
-writes-none patterns slots (Accepts pattern) no within = refl
+writes-none patterns slots (ByteRange low high next) empty within = refl
+writes-none patterns slots (Sparse transitions) empty within = refl
+writes-none patterns slots (Union alternates) empty within = refl
+writes-none patterns slots (Capture next pattern number) empty within = let lt = within.1 in absurd (omega arith)
+writes-none patterns slots Fail empty within = refl
+writes-none patterns slots (Accepts pattern) empty within = refl
 
 -- where there are no slots nothing is written
 pub written-none : (nfa : Nfa) → IsInRange nfa → nfa.slots ≡ 0 → (text : List ℕ) (end : ℕ) (c : Configuration) → (automaton nfa.states text end).written c ≡ None
-written-none nfa range no text end c =
+written-none nfa range empty text end c =
     automaton-written nfa.states text end c.state c.place
     ∙ by_test (nat_lt c.state (length nfa.states))
     (λ e.
     let lt : c.state < length nfa.states = grind (arith, nat_tests) in
-    writes-none (length nfa.starts) nfa.slots (state_at nfa.states c.state) no (All-get_or (IsWithin (length nfa.starts) nfa.slots) nfa.states c.state _ lt range.within))
+    writes-none (length nfa.starts) nfa.slots (state_at nfa.states c.state) empty (All-get_or (IsWithin (length nfa.starts) nfa.slots) nfa.states c.state _ lt range.within))
     (λ e. let fails : state_at nfa.states c.state ≡ Fail = get_or_past nfa.states c.state Fail (grind (arith, nat_tests)) in ap state_writes fails)
 
 module _ (nfa : Nfa) (range : IsInRange nfa) (text : List ℕ) (end slot : ℕ) (past : nfa.slots ≤ slot) where
