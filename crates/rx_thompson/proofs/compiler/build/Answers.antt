@@ -1,4 +1,4 @@
-use Rattle.std.proofs.Common.{◌∙◌, sym, ap, subst, refl}
+use Rattle.std.proofs.Common.{◌∙◌, sym, ap, subst, refl, arith, length}
 use Rattle.rx_thompson.specs.Built.{StartsAll}
 use Rattle.rx_thompson.specs.Compiled.{patterns_of}
 use Rattle.rx_thompson.specs.Draft.{Draft}
@@ -19,6 +19,12 @@ returns c =
     let slots = c.in_ok-starts.ensures.extends.slots in
     record {
       in_range = c.finish.ensures.in_range;
+      few =
+          (let states = ap (λ (n : Nfa). length n.states) is in
+          let none = ap (λ (d : Draft). length d.states) c.new-builder.ensures in
+          let patterns = c.in_ok-starts.ensures.count in
+          let last = c.in_ok-start.ensures.count in
+          omega arith);
       slots = ap (λ (n : Nfa). n.slots) is ∙ StartsAll-slots old new starts c.in_ok-start.start all ∙ slots ∙ ap (λ (d : Draft). d.slots) c.new-builder.ensures ∙ c.requires.slots;
       first_runs = λ utf8_empty terminator.
           subst (λ n. HasFirstRuns n (patterns_of exprs utf8_empty terminator)) (sym is)
