@@ -48,11 +48,7 @@ pub fn compile(
 }
 
 /// A state for each byte, the last one first.
-fn compile_literal(
-    builder: &mut Builder,
-    bytes: &[u8],
-    next: StateID,
-) -> Result<StateID, Memory>
+fn compile_literal(builder: &mut Builder, bytes: &[u8], next: StateID) -> Result<StateID, Memory>
     requires next { next < length builder.old.states }
     requires some { 0 < length bytes.now }
     requires fits { length builder.old.states + length bytes.now ≤ 2147483647 }
