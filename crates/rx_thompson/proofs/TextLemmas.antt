@@ -30,15 +30,3 @@ Built-text old new [] start next some extends c = absurd (omega arith)
 Built-text old new (b ∷ bytes) start next some extends c =
     Built-state (graph.text (b ∷ bytes)) next old new start extends c.1.above c.1.inside
     (λ f next' is. subst (λ n. IsChain (Stands (length old.states) new.states) start (b ∷ bytes) n) (sym is) c)
-
--- the text of no bytes
-pub Built-none : (old new : Draft) (next : ℕ) → new ≡ pushed old (Union (next ∷ [])) → Built (graph.build_state (graph.text [])) next old new (length old.states)
-Built-none old new next is =
-    subst (λ d. Built (graph.build_state (graph.text [])) next old d (length old.states)) (sym is)
-    (Built-state (graph.text []) next old (pushed old (Union (next ∷ []))) (length old.states) (Extends-pushed old (Union (next ∷ []))) (omega arith) (let l = pushed-length old (Union (next ∷ [])) in omega arith)
-    (λ f next' same. subst (λ n. Stands (length old.states) (pushed old (Union (next ∷ []))).states (length old.states) (Union (n ∷ []))) (sym same) (Stands-pushed old (Union (next ∷ [])))))
-
-pub Built-empty : (old new : Draft) (bytes : List ℕ) (start next : ℕ) → length bytes ≡ 0 → start ≡ length old.states → new ≡ pushed old (Union (next ∷ []))
-    → Built (graph.build_state (graph.text bytes)) next old new start
-Built-empty old new [] start next none id is = subst (Built (graph.build_state (graph.text [])) next old new) (sym id) (Built-none old new next is)
-Built-empty old new (b ∷ bytes) start next none id is = absurd (omega arith)

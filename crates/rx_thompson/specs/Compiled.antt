@@ -43,13 +43,14 @@ pub record AreAllowed (config : Config) (hs : List Expression) : Type 0 where
   pub states : nfa_states hs ≤ 2147483647
   pub size : IfSome (size_limit_of config) (λ limit. 32 * nfa_states hs ≤ limit)
 
--- the NFA is in range, and does what the patterns ask for
+-- the NFA is in range, has no more states than are accounted, and does what the patterns ask for
 pub record IsCompiled (config : Config) (hs : List Expression) (nfa : Nfa) : Type 0 where
   pub in_range : IsInRange nfa
+  pub few : length nfa.states ≤ nfa_states hs
+  pub accounted : nfa.accounted ≡ nfa_states hs
   pub slots : nfa.slots ≡ slots_of (captures_of config) hs
   pub utf8 : nfa.utf8 ≡ utf8_of config
   pub has_empty : nfa.has_empty ≡ one_can_be_empty (expressions hs)
-  pub accounted : nfa.accounted ≡ nfa_states hs
   -- a first run looks neither at where a match may start nor at a terminator
   pub first_runs : (utf8_empty : Bool) (terminator : ℕ) → HasFirstRuns nfa (patterns_of hs utf8_empty terminator (captures_of config))
 

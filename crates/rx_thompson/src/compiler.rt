@@ -1,10 +1,11 @@
 //! From expressions to an NFA.
-ghost use Rattle.std.specs.Prelude.{◌≡◌, ◌+◌, ◌*◌, ◌<◌, ◌≤◌, length, All, IfOk, IfErr, IfSome, OnOk, MatchOption, None, Some, true};
+ghost use Rattle.std.specs.Prelude.{◌≡◌, ◌+◌, ◌*◌, ◌<◌, ◌≤◌, length, All, IfOk, IfErr, IfSome, OnOk, MatchOption, None, Some, true, ◌∷◌, []};
 ghost use Rattle.rx_model.specs.Graph.{build_state};
 ghost use Rattle.rx_model.specs.Search.{greatest_group};
+ghost use Rattle.rx_syntax.specs.Cost.{accounted_states};
 ghost use Rattle.rx_thompson.specs.Built.{Built, slot_from, bound, compiled_pattern, HasPart, HasPatterns, StartsAll};
 ghost use Rattle.rx_thompson.specs.Config.{captures_kind, captures_of, overwritten, nothing_set};
-ghost use Rattle.rx_thompson.specs.Compiled.{patterns_of, slots_of, AreFew, AreAllowed, nfa_states, IsCompiled, IsRefusal};
+ghost use Rattle.rx_thompson.specs.Compiled.{patterns_of, slots_of, nfa_states, AreFew, AreAllowed, IsCompiled, IsRefusal};
 ghost use Rattle.rx_thompson.specs.Draft.{Extends};
 ghost use Rattle.rx_thompson.specs.Room.{HasRoom};
 
@@ -22,7 +23,7 @@ use crate::nfa::NFA;
 use crate::state::{Alternates, State};
 use accounting::{nfa_states, slot_len};
 pub use config::{Config, WhichCaptures};
-use expression::{compile, one_way};
+use expression::compile;
 use groups::Groups;
 use rx_search::{Memory, PatternID, StateID};
 use rx_syntax::{Hir, one_can_be_empty};
@@ -66,11 +67,11 @@ impl Compiler {
 
     /// The NFA of these expressions, one pattern each. A match's slots come in the order of the patterns: two for each
     /// whole match, and after these two for each group that a pattern names. Groups that the configuration leaves out
-    /// have no slots.
+    /// have no slots. The NFA has no more states than are accounted for the expressions.
     ///
     /// Refused before anything is built, in this order: more than 2147483647 patterns, more than 2147483646 slots under
     /// the configuration, more than 2147483647 states accounted, more bytes accounted than the configured limit. Want of
-    /// memory comes last.
+    /// memory comes last, and is then the only reason left.
     pub fn build_many_from_hir(&self, alloc: Global, exprs: &[Hir]) -> Result<NFA, BuildError>
         ensures compiled { IfOk result (IsCompiled self.now.config exprs.now) }
         ensures allowed { OnOk result (AreAllowed self.now.config exprs.now) }
@@ -151,17 +152,17 @@ fn compile_patterns(
     requires few { AreFew (captures_kind which) exprs.now }
     requires patterns { builder.old.patterns ≡ length exprs.now }
     requires slots { builder.old.slots ≡ slots_of (captures_kind which) exprs.now }
+    requires fits { length builder.old.states + nfa_states exprs.now ≤ 2147483647 }
     ensures extends { OnOk result (Extends builder.old builder.new) }
     ensures len { IfOk result (λ starts. length starts.items ≡ length exprs.now) }
     ensures has { IfOk result (λ starts. HasPatterns builder.new.states (patterns_of exprs.now true 0 (captures_kind which)) (length exprs.now) starts.items) }
     ensures inside { IfOk result (λ starts. All (λ q. q < length builder.new.states) starts.items) }
+    ensures count { OnOk result (length builder.new.states + 4 ≤ length builder.old.states + nfa_states exprs.now) }
 {
     let mut starts = Vec::new(alloc);
     let mut first_slot = first_slot(which, exprs);
     for hir in exprs {
-        let Some(pattern) = PatternID::new(starts.len()) else {
-            return Err(Memory);
-        };
+        let pattern = PatternID::new(starts.len()).unwrap();
         let groups = Groups {
             pattern,
             whole_slot: whole_slot(which, pattern),
@@ -183,10 +184,12 @@ fn compile_pattern(
 ) -> Result<StateID, Memory>
     requires room { HasRoom builder.old groups.now (greatest_group hir.now) }
     requires whole { IfSome groups.now.whole_slot (λ slot. slot + 1 < builder.old.slots) }
+    requires fits { length builder.old.states + (accounted_states hir.now + 3) ≤ 2147483647 }
     ensures extends { OnOk result (Extends builder.old builder.new) }
     ensures has { IfOk result (λ start. HasPart builder.new.states
         (compiled_pattern groups.now.whole_slot (slot_from groups.now.first_slot) groups.now.pattern hir.now) start) }
     ensures inside { IfOk result (λ start. start < length builder.new.states) }
+    ensures count { OnOk result (length builder.new.states ≤ length builder.old.states + (accounted_states hir.now + 3)) }
 {
     let pattern = groups.pattern;
     let last_slot = second_slot(groups.whole_slot);
@@ -208,8 +211,10 @@ fn push_bound(
     requires next { next < length builder.old.states }
     requires pattern { pattern < builder.old.patterns }
     requires slot { IfSome slot (λ number. number < builder.old.slots) }
+    requires fits { length builder.old.states < 2147483647 }
     ensures built { IfOk result (λ start. Built (build_state (bound slot)) next builder.old builder.new start) }
     ensures inside { IfOk result (λ start. start < length builder.new.states) }
+    ensures count { OnOk result (length builder.new.states ≤ length builder.old.states + 1) }
 {
     match slot {
         Some(slot) => builder.push(State::Capture {
@@ -224,10 +229,21 @@ fn push_bound(
     }
 }
 
+/// On to this state alone.
+fn one_way(alloc: Global, next: StateID) -> Result<Alternates, Memory>
+    ensures { IfOk result (λ alternates. alternates ≡ next ∷ []) }
+{
+    let mut ids = Vec::new(alloc);
+    ids.push(next)?;
+    Ok(Alternates::new(ids))
+}
+
 /// Where the runs of all the patterns start: at the only start, or at a choice between them.
 fn start_of_all(alloc: Global, builder: &mut Builder, starts: &[StateID]) -> Result<StateID, Memory>
-    requires { All (λ q. q < length builder.old.states) starts.now }
+    requires inside { All (λ q. q < length builder.old.states) starts.now }
+    requires fits { length builder.old.states < 2147483647 }
     ensures starts { IfOk result (StartsAll builder.old builder.new starts.now) }
+    ensures count { OnOk result (length builder.new.states ≤ length builder.old.states + 1) }
     ensures inside { IfOk result (λ start. start < length builder.new.states) }
 {
     if let [only] = starts {

@@ -1,4 +1,4 @@
-use Rattle.std.proofs.Common.{◌≡◌, ◌∙◌, sym, ap, subst, refl, length}
+use Rattle.std.proofs.Common.{◌≡◌, ◌∙◌, sym, ap, subst, refl, arith, length}
 use Rattle.std.specs.Prelude.{true}
 use Rattle.rx_thompson.specs.Automaton.{automaton}
 use Rattle.rx_thompson.specs.Built.{StartsAll, HasPatterns}
@@ -29,6 +29,12 @@ returns c =
     (ap captures_kind c.get_which_captures.ensures) c.in_ok-starts.ensures.has in
     record {
       in_range = c.in_ok-nfa.ensures.in_range;
+      few =
+          (let grown = ap (λ (n : Nfa). length n.states) is in
+          let none = ap (λ (d : Draft). length d.states) c.new-builder.ensures in
+          let patterns = c.in_ok-starts.ensures.count in
+          let last = c.in_ok-start.ensures.count in
+          omega arith);
       slots = slots;
       utf8 = ap (λ (n : Nfa). n.utf8) is ∙ c.get_utf8.ensures;
       has_empty = ap (λ (n : Nfa). n.has_empty) is ∙ c.one_can_be_empty.ensures;

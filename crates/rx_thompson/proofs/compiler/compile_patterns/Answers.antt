@@ -5,6 +5,7 @@ use Rattle.rx_model.specs.Search.{Patterns, greatest_group}
 use Rattle.rx_thompson.specs.Built.{HasPart, part_of}
 use Rattle.rx_thompson.specs.Compiled.{patterns_of, slots_of, first_slot_of}
 use Rattle.rx_thompson.specs.Config.{captures_kind}
+use Rattle.rx_thompson.proofs.ExpressionLemmas.{nfa_states-drop, nfa_states-none}
 use Rattle.rx_thompson.proofs.BuiltLemmas.{Extends-trans}
 use Rattle.rx_thompson.proofs.CompileLemmas.{below-more}
 use Rattle.rx_thompson.proofs.PatternLemmas.{HasPatterns-more}
@@ -20,7 +21,7 @@ compile_pattern-requires-clause-room c =
     let few = c.requires.few.slots in
     let slots : c.loop-hir.builder.slots ≡ slots_of (captures_kind c.args.which) c.args.exprs.now = c.loop-hir.invariant.extends.slots ∙ c.requires.slots in
     let patterns = c.loop-hir.invariant.extends.patterns in
-    let is = c.in-Some.ensures in
+    let is = rw c.unwrap-pattern.ensures at c.new.ensures in
     let index = is.0 in
     record {
       pattern = omega arith;
@@ -32,8 +33,9 @@ compile_pattern-requires-clause-room c =
 pub compile_pattern-requires-clause-whole : goal.compile_pattern-requires-clause-whole
 compile_pattern-requires-clause-whole c =
     let slots : c.loop-hir.builder.slots ≡ slots_of (captures_kind c.args.which) c.args.exprs.now = c.loop-hir.invariant.extends.slots ∙ c.requires.slots in
-    let index : c.in-Some.pattern ≡ c.loop-hir.hir-index = c.in-Some.ensures.0 ∙ c.len.ensures ∙ c.loop-hir.invariant.len in
-    let inside = whole-inside (captures_kind c.args.which) c.args.exprs.now c.in-Some.pattern (omega arith) in
+    let is = rw c.unwrap-pattern.ensures at c.new.ensures in
+    let index : c.unwrap-pattern.result ≡ c.loop-hir.hir-index = is.0 ∙ c.len.ensures ∙ c.loop-hir.invariant.len in
+    let inside = whole-inside (captures_kind c.args.which) c.args.exprs.now c.unwrap-pattern.result (omega arith) in
     subst (λ n. IfSome c.whole_slot.result (λ slot. slot + 1 < n)) (sym slots)
     (subst (λ o. IfSome o (λ slot. slot + 1 < slots_of (captures_kind c.args.which) c.args.exprs.now)) (sym c.whole_slot.ensures) inside)
 
@@ -56,18 +58,37 @@ loop-hir-preserved c =
     let new = c.compile_pattern.new.builder in
     let start = c.in_ok-start.start in
     let grown = c.in_ok-push.ensures.items in
-    let index : c.in-Some.pattern ≡ c.loop-hir.hir-index = c.in-Some.ensures.0 ∙ c.len.ensures ∙ c.loop-hir.invariant.len in
+    let is = rw c.unwrap-pattern.ensures at c.new.ensures in
+    let index : c.unwrap-pattern.result ≡ c.loop-hir.hir-index = is.0 ∙ c.len.ensures ∙ c.loop-hir.invariant.len in
     let e = c.in_ok-start.ensures.extends in
-    let part = part-is r c.in-Some.pattern k item c.whole_slot.result c.loop-hir.first_slot c.whole_slot.ensures c.loop-hir.invariant.first_slot index in
+    let part = part-is r c.unwrap-pattern.result k item c.whole_slot.result c.loop-hir.first_slot c.whole_slot.ensures c.loop-hir.invariant.first_slot index in
     let has : HasPart new.states (part_of r k item) start = subst (λ p. HasPart c.compile_pattern.new.builder.states p c.in_ok-start.start) part c.in_ok-start.ensures.has in
     let long = ap length grown in
     let sum = length-append c.loop-hir.starts.items (start ∷ []) in
     record {
       extends = Extends-trans c.args.builder.now old new before.extends e;
       len = c.in_ok-push.ensures.len ∙ ap (λ n. n + 1) before.len;
+      count =
+          (let states = nfa_states-drop exprs k item item (omega arith) c.hir-item.is in
+          let one = c.in_ok-start.ensures.count in
+          let count = before.count in
+          omega arith);
       items = omega arith;
       first_slot = c.slot_after-first_slot.ensures ∙ ap (option_map (λ first. first + 2 * greatest_group c.hir-item.result)) before.first_slot
           ∙ first_slot-more which exprs k item (omega arith) c.hir-item.is;
       has = HasPatterns-more r k old new c.loop-hir.starts.items c.push.new.self.items start item e before.items grown (omega arith) c.hir-item.is before.has has;
       inside = below-more (length old.states) (length new.states) c.loop-hir.starts.items c.push.new.self.items start e.longer c.in_ok-start.ensures.inside grown before.inside;
     }
+
+pub compile_pattern-requires-clause-fits : goal.compile_pattern-requires-clause-fits
+compile_pattern-requires-clause-fits c =
+    let states = nfa_states-drop c.args.exprs.now c.loop-hir.hir-index c.hir-item.result c.hir-item.result (omega arith) c.hir-item.is in
+    let count = c.loop-hir.invariant.count in
+    let fits = c.requires.fits in
+    omega arith
+
+pub returns-clause-count : goal.returns-clause-count
+returns-clause-count c =
+    let none = nfa_states-none c.args.exprs.now c.loop-hir.hir-index (omega arith) in
+    let count = c.loop-hir.invariant.count in
+    omega arith
