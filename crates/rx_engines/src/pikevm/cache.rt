@@ -1,6 +1,6 @@
 ghost use Rattle.std.specs.Prelude.{◌≡◌, vec_len, ℕ, ◌+◌, ◌^◌, ◌<◌, ◌≤◌, [], length, All, is_some, Some, None, IfOk, OnOk, OnErr, IfSome, IfNone, option_map, replicate, nat_lt, slice_index_or, if◌then◌else◌};
 ghost use Rattle.rx_model.specs.Search.{slot_value};
-ghost use Rattle.rx_engines.specs.Search.{IsInside, next_of, triple};
+ghost use Rattle.rx_engines.specs.Search.{IsInside, next_of, answer_of, triple};
 ghost use Rattle.rx_engines.specs.Simulation.{cost, cost_below};
 ghost use Rattle.rx_engines.specs.Room.{Room, room_code};
 ghost use Rattle.rx_engines.specs.Engine.{Fits};
@@ -98,19 +98,21 @@ impl Cache {
     }
 
     /// The pattern, the start and the end of the next match that starts at `from` or after it. The slots get what
-    /// it leaves in them.
+    /// it leaves in them. With `earliest` the search stops at the first place by which a match ends.
     pub(crate) fn find(
         &mut self,
         search: &Search<'_>,
         from: usize,
+        earliest: bool,
         slots: &mut [Option<NonMaxUsize>],
     ) -> Option<(PatternID, usize, usize)>
         requires search { IsInside search.now }
         requires from { from ≤ search.now.last }
         requires room { (self.old.states ≡ length search.now.states.now)
             × (cost_below search.now.states.now (length search.now.states.now) < self.old.stack) }
-        ensures value { result ≡ option_map triple (next_of search.now from) }
-        ensures slots { IfSome (next_of search.now from) (λ m. (k : ℕ) → k < length slots.new
+        ensures value { result ≡ option_map triple (answer_of search.now earliest from) }
+        ensures any { is_some result ≡ is_some (next_of search.now from) }
+        ensures slots { IfSome (answer_of search.now earliest from) (λ m. (k : ℕ) → k < length slots.new
             → slice_index_or slots.new k None
             ≡ (if nat_lt k self.old.widest then slot_value m k else None)) }
         ensures cleared { IfNone result (slots.new ≡ replicate (length slots.old) None) }
@@ -123,7 +125,7 @@ impl Cache {
         simulate_slots(
             search,
             from,
-            false,
+            earliest,
             width,
             &mut self.curr,
             &mut self.next,

@@ -14,6 +14,7 @@ invariant_of-result c =
     let P : PikeVMValue → Type 0 = λ vm. IsOf vm (patterns_of hs) in
     record {
       of_patterns = subst P (sym c.build_from_nfa-vm.ensures) (record { runs = c.requires.runs; utf8_empty = refl });
+      leftmost = ap (λ (vm : PikeVMValue). vm.kind) c.build_from_nfa-vm.ensures;
       fits = c.in_ok-cache.ensures;
       bounded = bounds;
       wide = c.in_ok-slots.ensures ∙ bound-read _ hs (length hs) _ bounds (omega arith) last;
