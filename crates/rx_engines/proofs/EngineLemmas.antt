@@ -8,6 +8,7 @@ use Rattle.rx_model.specs.Runs.{Trace, first_trace}
 use Rattle.rx_model.specs.Search.{Patterns, Anchor, free, anchored, anchored_to, is_anchored, Match, is_permitted, first_start, starts, slot_value}
 use Rattle.rx_model.proofs.RunLemmas.{by_test}
 use Rattle.rx_model.proofs.FirstLemmas.{some-is}
+use Rattle.rx_model.proofs.WithinLemmas.{next-later}
 use Rattle.rx_search.specs.Matches.{match_value, MatchValue}
 use Rattle.rx_search.specs.Input.{InputValue}
 use Rattle.rx_thompson.specs.Automaton.{at, automaton}
@@ -72,7 +73,7 @@ start-inside nfa anchor q range is = All-cons (λ s. s < length nfa.states) q []
 
 module _ (vm : PikeVMValue) (v : InputValue) where
   pub patterns-agree : v.end ≤ length v.haystack → (r : Patterns) → IsOf vm r → next_match_in vm v ≡ next_match_for r v
-  patterns-agree within r of = next_match_of-patterns vm.nfa r v.haystack v.end within of.runs vm.utf8_empty v.anchor v.start of.utf8_empty
+  patterns-agree within r of = next_match_of-patterns vm.nfa r v.haystack v.end within of.runs vm.nfa.utf8 v.anchor v.start of.utf8
 
   -- where a search stops
   pub stop-within : v.start ≤ v.end → (v.start ≤ stop_in vm v) × (stop_in vm v ≤ v.end)
@@ -84,12 +85,12 @@ module _ (vm : PikeVMValue) (v : InputValue) where
   pub answer_in-done : v.end < v.start → answer_in vm v ≡ None
   unfolding first_place
   answer_in-done past =
-      let none = next_match_of-done vm.nfa vm.utf8_empty v.haystack v.anchor v.end v.start past in
+      let none = next_match_of-done vm.nfa vm.nfa.utf8 v.haystack v.anchor v.end v.start past in
       let no_places : v.end - v.start ≡ 0 = omega arith in
       by_test v.earliest (λ e. rw (e, no_places) none) (λ e. rw e none)
 
   pub answer_in-missing : start_of vm.nfa v.anchor ≡ None → answer_in vm v ≡ None
-  answer_in-missing none = next_match_of-missing vm.nfa vm.utf8_empty v.haystack v.anchor (stop_in vm v) v.start none
+  answer_in-missing none = next_match_of-missing vm.nfa vm.nfa.utf8 v.haystack v.anchor (stop_in vm v) v.start none
 
   -- without `earliest` the answer is the next match
   pub answer_in-late : v.earliest ≡ false → answer_in vm v ≡ next_match_in vm v
@@ -98,7 +99,17 @@ module _ (vm : PikeVMValue) (v : InputValue) where
   -- what is found is a match
   pub answer-is_match : v.end ≤ length v.haystack → v.start ≤ v.end → (r : Patterns) → IsOf vm r → (Holds : Match → Type 0) → (o : Option Match) → o ≡ answer_in vm v → IfSome o Holds → IfSome o (λ m. IsMatchWith r v Holds)
   answer-is_match within le r of Holds None e holds = tt
-  answer-is_match within le r of Holds (Some m) e holds = ?
+  answer-is_match within le r of Holds (Some m) e holds =
+      let stop = (stop-within le).1 in
+      let same = next_match_of-patterns vm.nfa r v.haystack (stop_in vm v) (omega arith) of.runs vm.nfa.utf8 v.anchor v.start of.utf8 in
+      (m, next-later r v.haystack v.anchor (stop_in vm v) v.end v.start m (sym same ∙ sym e) stop, holds)
+
+  -- what is reported is the answer, with its slots
+  pub reported-is_match : v.end ≤ length v.haystack → v.start ≤ v.end → (r : Patterns) → IsOf vm r → (slots : Slots) → (o : Option Match) → o ≡ answer_in vm v → (result : Option MatchValue) → result ≡ option_map match_value o → IfSome (answer_in vm v) (HasSlots slots)
+      → IfSome result (λ found. IsMatchWith r v (λ m. (found ≡ match_value m) × HasSlots slots m))
+  reported-is_match within le r of slots None e result is told = rw is tt
+  reported-is_match within le r of slots (Some m) e result is told =
+      rw is (answer-is_match within le r of (λ n. (match_value m ≡ match_value n) × HasSlots slots n) (Some m) e (refl, subst (λ x. IfSome x (HasSlots slots)) (sym e) told))
 
   module _ (q : ℕ) (s : Search) (of : IsSearchOf vm v (q ∷ []) s) (le : v.start ≤ v.end) (is : start_of vm.nfa v.anchor ≡ Some q) where
     pub search-inside : IsInRange vm.nfa → IsInside s
@@ -117,8 +128,8 @@ module _ (vm : PikeVMValue) (v : InputValue) where
 
     pub until-is : (end : ℕ) → v.start ≤ end → end ≤ v.end → next_until s v.start end ≡ next_match_by vm v end
     until-is end low high =
-        (λ j. first_start (is_permitted (of.utf8_empty j) (of.text j)) (first_of (first_trace (automaton (of.states j) (of.text j) end)) (of.starts j)) (of.last j + 1 - v.start) v.start)
-        ∙ next_match_of-until vm.nfa vm.utf8_empty v.haystack v.anchor end v.start v.end q low high is
+        (λ j. first_start (is_permitted (of.utf8 j) (of.text j)) (first_of (first_trace (automaton (of.states j) (of.text j) end)) (of.starts j)) (of.last j + 1 - v.start) v.start)
+        ∙ next_match_of-until vm.nfa vm.nfa.utf8 v.haystack v.anchor end v.start v.end q low high is
 
     pub next-is : {from : ℕ} → from ≡ v.start → next_of s from ≡ next_match_in vm v
     next-is same = (λ j. next_until s (same j) (of.end j)) ∙ until-is v.end le (omega arith)
@@ -138,12 +149,12 @@ module _ (vm : PikeVMValue) (v : InputValue) where
 
   pub triple-in_order : (o : Option Match) → o ≡ answer_in vm v → (found : Option (ℕ × ℕ × ℕ)) → found ≡ option_map triple o → IfSome found (λ f. f.1 ≤ f.2)
   triple-in_order None e found is = rw is tt
-  triple-in_order (Some m) e found is = rw is (next_match_of-within vm.nfa vm.utf8_empty v.haystack v.anchor (stop_in vm v) v.start m (sym e)).1
+  triple-in_order (Some m) e found is = rw is (next_match_of-within vm.nfa vm.nfa.utf8 v.haystack v.anchor (stop_in vm v) v.start m (sym e)).1
 
   pub value-within : v.start ≤ v.end → (o : Option Match) → o ≡ answer_in vm v → (result : Option MatchValue) → result ≡ option_map match_value o → IfSome result (λ m. (v.start ≤ m.start) × (m.end ≤ v.end))
   value-within le None e result is = rw is tt
   value-within le (Some m) e result is =
-      let within = next_match_of-within vm.nfa vm.utf8_empty v.haystack v.anchor (stop_in vm v) v.start m (sym e) in
+      let within = next_match_of-within vm.nfa vm.nfa.utf8 v.haystack v.anchor (stop_in vm v) v.start m (sym e) in
       let high = within.2 in
       let stop = (stop-within le).1 in
       rw is (within.0, omega arith)
@@ -156,7 +167,7 @@ module _ (vm : PikeVMValue) (v : InputValue) where
       subst (λ x. IfSome x (HasSlots slots)) e
       (λ k lt. by_test (nat_lt k widest)
       (λ t. rw t at (told k lt))
-      (λ t. (rw t at (told k lt)) ∙ sym (next_match_of-slot vm.nfa range v.haystack (stop_in vm v) k (grind (arith, nat_tests)) vm.utf8_empty v.anchor v.start m (sym e))))
+      (λ t. (rw t at (told k lt)) ∙ sym (next_match_of-slot vm.nfa range v.haystack (stop_in vm v) k (grind (arith, nat_tests)) vm.nfa.utf8 v.anchor v.start m (sym e))))
 
 -- a match as the search of the states reports it
 pub triple-value : (o : Option Match) → option_map (λ (f : ℕ × ℕ × ℕ). let m : MatchValue = record { pattern = f.0; start = f.1; end = f.2 } in m) (option_map triple o) ≡ option_map match_value o

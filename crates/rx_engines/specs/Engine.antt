@@ -1,5 +1,5 @@
 -- What an engine is to a contract, and what its searches answer.
-use Rattle.std.specs.Prelude.{◌≡◌, ℕ, ◌-◌, ◌<◌, Bool, List, length, Option, None, is_some, slice_index_or, if◌then◌else◌}
+use Rattle.std.specs.Prelude.{◌≡◌, ℕ, ◌-◌, ◌*◌, ◌^◌, ◌<◌, min, List, length, Option, None, is_some, slice_index_or, if◌then◌else◌}
 use Rattle.rx_model.specs.Search.{Patterns, Match, is_anchored, next_match, slot_value}
 use Rattle.rx_model.specs.Matches.{IsMatch}
 use Rattle.rx_search.specs.Input.{InputValue, IsSpanned}
@@ -15,12 +15,10 @@ pub record PikeVMValue : Type 0 where
   pub nfa : Nfa
   -- which of the matches that begin at one place is reported
   pub kind : MatchKind
-  -- no match starts inside a character
-  pub utf8_empty : Bool
 
 -- the next match of the engine's NFA that starts in the input's span and ends by `end`
 abbrev pub next_match_by : PikeVMValue → InputValue → (end : ℕ) → Option Match
-next_match_by vm v end = next_match_of vm.nfa vm.utf8_empty v.haystack v.anchor end v.start
+next_match_by vm v end = next_match_of vm.nfa vm.nfa.utf8 v.haystack v.anchor end v.start
 
 -- the next match of the engine's NFA in the input's span
 abbrev pub next_match_in : PikeVMValue → InputValue → Option Match
@@ -42,7 +40,7 @@ last_start v = if is_anchored v.anchor then v.start else v.end
 -- the engine's NFA has the first runs of these patterns
 pub record IsOf (vm : PikeVMValue) (r : Patterns) : Type 0 where
   pub runs : HasFirstRuns vm.nfa r
-  pub utf8_empty : r.utf8_empty ≡ vm.utf8_empty
+  pub utf8 : r.utf8_empty ≡ vm.nfa.utf8
 
 -- the next match of the patterns in the input's span
 abbrev pub next_match_for : Patterns → InputValue → Option Match
@@ -61,10 +59,15 @@ pub record IsSearchOf (vm : PikeVMValue) (v : InputValue) (qs : List ℕ) (s : S
   pub states : s.states.now ≡ vm.nfa.states
   pub starts : s.starts.now ≡ qs
   pub text : s.text.now ≡ v.haystack
-  pub utf8_empty : s.utf8_empty ≡ vm.utf8_empty
+  pub utf8 : s.utf8_empty ≡ vm.nfa.utf8
   pub last : s.last ≡ last_start v
   pub end : s.end ≡ v.end
   pub spanned : IsSpanned v
+
+-- The bytes that are accounted for a cache: 16 for each slot of each accounted state, up to the greatest number of
+-- 64 bits.
+abbrev pub accounted_memory : Nfa → ℕ
+accounted_memory nfa = min (2 ^ 64 - 1) (16 * nfa.accounted * nfa.slots)
 
 -- a cache with this room serves the engine
 pub record Fits (vm : PikeVMValue) (room : Room) : Type 0 where

@@ -32,6 +32,7 @@ impl Engine {
     /// The engine of these expressions, over their NFA.
     pub fn new(alloc: Global, expressions: Vec<Hir>, nfa: NFA) -> Result<Engine, Memory>
         requires runs { HasFirstRuns nfa (patterns_of expressions.items) }
+        requires utf8 { nfa.utf8 ≡ true }
         requires small { are_small expressions.items ≡ true }
         ensures { IfOk result (λ e. e.expressions.items ≡ expressions.items) }
     {

@@ -111,7 +111,7 @@ fn find(
     assert!(rt; all_below(states));
     assert!(rt; starts_below(starts, states.len()));
     assert!(rt; from <= text.len());
-    let mut cache = Cache::with_room(alloc, states, 4)?;
+    let mut cache = Cache::with_room(alloc, states, 4, 0)?;
     let search = Search {
         states,
         starts,
@@ -309,5 +309,21 @@ fn each_number_of_slots(rt: HostRuntime) -> Result<(), Fail> {
         assert!(rt; found == None);
         assert!(rt; slots.iter().all(|slot| slot.is_none()));
     }
+    Ok(())
+}
+
+#[test]
+fn memory_is_fixed_when_a_cache_is_made(rt: HostRuntime) -> Result<(), Fail> {
+    let alloc = rt.alloc();
+    // 4 states, 2 and 3 of the pattern, with 2 slots; and 4, 4 and 3, with 4 slots.
+    let small = engine(&rt, alloc, &["ab"], MatchKind::LeftmostFirst)?;
+    let great = engine(&rt, alloc, &["(a)b"], MatchKind::All)?;
+    let mut cache = small.create_cache(alloc)?;
+    assert_eq!(rt; cache.memory_usage(), 16 * 9 * 2);
+    assert!(rt; small.is_match(&mut cache, &Input::new(b"ab")));
+    assert_eq!(rt; cache.memory_usage(), 16 * 9 * 2);
+    cache.reset(alloc, &great)?;
+    assert_eq!(rt; cache.memory_usage(), 16 * 11 * 4);
+    assert!(rt; great.is_match(&mut cache, &Input::new(b"ab")));
     Ok(())
 }

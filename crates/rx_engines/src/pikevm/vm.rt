@@ -1,10 +1,10 @@
-ghost use Rattle.std.specs.Prelude.{◌≡◌, ◌≤◌, true, length, None, replicate, is_some, IfOk, IfNone, IfSome, option_map};
+ghost use Rattle.std.specs.Prelude.{◌≡◌, ◌≤◌, length, None, replicate, is_some, IfOk, IfNone, IfSome, option_map};
 ghost use Rattle.rx_model.specs.Search.{Patterns};
 ghost use Rattle.rx_search.specs.Anchored.{anchor_of};
 ghost use Rattle.rx_search.specs.Matches.{match_value};
 ghost use Rattle.rx_thompson.specs.Nfa.{IsInRange};
 ghost use Rattle.rx_thompson.specs.NextMatch.{start_of};
-ghost use Rattle.rx_engines.specs.Engine.{PikeVMValue, next_match_in, next_match_for, answer_in, last_start, IsOf, IsMatchWith, IsSearchOf, HasSlots, Fits};
+ghost use Rattle.rx_engines.specs.Engine.{PikeVMValue, next_match_in, next_match_for, answer_in, last_start, IsOf, IsMatchWith, IsSearchOf, HasSlots, Fits, accounted_memory};
 ghost use Rattle.rx_search.specs.declared.anchored.MatchKind.TheVariants.{LeftmostFirst};
 
 use crate::pikevm::cache::Cache;
@@ -23,7 +23,6 @@ use std::marker::Model;
 pub struct PikeVM {
     nfa: NFA,
     kind: MatchKind,
-    utf8_empty: bool,
 }
 
 impl Model for PikeVM {
@@ -31,28 +30,16 @@ impl Model for PikeVM {
 
     ghost Value = { PikeVMValue };
 
-    ghost view = { λ v. record { nfa = v.nfa; kind = v.kind; utf8_empty = v.utf8_empty } };
+    ghost view = { λ v. record { nfa = v.nfa; kind = v.kind } };
 }
 
 impl PikeVM {
-    /// The engine of this NFA, which reports matches of this kind. Its matches start at no place inside an encoded
-    /// character.
+    /// The engine of this NFA, which reports matches of this kind. Whether they may start inside an encoded
+    /// character is the NFA's to say.
     pub fn build_from_nfa(nfa: NFA, kind: MatchKind) -> PikeVM
-        ensures { result ≡ record { nfa = nfa; kind = kind; utf8_empty = true } }
+        ensures { result ≡ record { nfa = nfa; kind = kind } }
     {
-        PikeVM {
-            nfa,
-            kind,
-            utf8_empty: true,
-        }
-    }
-
-    /// The same engine. Unless `yes`, its matches may also start inside an encoded character.
-    pub fn utf8_empty(mut self, yes: bool) -> PikeVM
-        ensures { result ≡ record self { utf8_empty = yes } }
-    {
-        self.utf8_empty = yes;
-        self
+        PikeVM { nfa, kind }
     }
 
     /// The NFA.
@@ -64,7 +51,8 @@ impl PikeVM {
 
     /// A cache that serves this engine.
     pub fn create_cache(&self, alloc: Global) -> Result<Cache, Memory>
-        ensures { IfOk result (Fits self.now) }
+        ensures fits { IfOk result (Fits self.now) }
+        ensures memory { IfOk result (λ c. c.memory ≡ accounted_memory self.now.nfa) }
     {
         Cache::new(alloc, self)
     }
@@ -178,7 +166,7 @@ impl PikeVM {
             states: self.nfa.states(),
             starts,
             text: input.haystack(),
-            utf8_empty: self.utf8_empty,
+            utf8_empty: self.nfa.is_utf8(),
             last: latest_start(input),
             end: input.end(),
         }

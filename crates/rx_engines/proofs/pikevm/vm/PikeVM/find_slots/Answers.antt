@@ -3,7 +3,7 @@ use Rattle.std.specs.Prelude.{is_some, option_map, IfSome}
 use Rattle.rx_search.specs.Matches.{match_value}
 use Rattle.rx_thompson.specs.NextMatch.{start_of}
 use Rattle.rx_engines.specs.Engine.{HasSlots}
-use Rattle.rx_engines.proofs.EngineLemmas.{next_match_of-done, next_match_of-missing, answer_in-done, answer_in-missing, patterns-agree, search-inside, next-is, answer-is, answer-is_match, found-is_match, triple-in_order, value-within, slots-told, triple-value, reported-any}
+use Rattle.rx_engines.proofs.EngineLemmas.{next_match_of-done, next_match_of-missing, answer_in-done, answer_in-missing, patterns-agree, search-inside, next-is, answer-is, reported-is_match, triple-in_order, value-within, slots-told, triple-value, reported-any}
 use Rattle.rx_engines.proofs.pikevm.vm.PikeVM.find_slots.Goals as goal
 
 -- the pattern is not there
@@ -16,7 +16,7 @@ returns-in_default-clause-value c leftmost =
 pub returns-in_default-clause-any : goal.returns-in_default-clause-any
 returns-in_default-clause-any c =
     let none = sym (c.start.ensures.value ∙ ap (start_of c.args.self.now.nfa) c.get_anchored.ensures) ∙ c.in_default.is in
-    sym (ap is_some (next_match_of-missing c.args.self.now.nfa c.args.self.now.utf8_empty c.args.input.now.haystack c.args.input.now.anchor c.args.input.now.end c.args.input.now.start none))
+    sym (ap is_some (next_match_of-missing c.args.self.now.nfa c.args.self.now.nfa.utf8 c.args.input.now.haystack c.args.input.now.anchor c.args.input.now.end c.args.input.now.start none))
 
 pub returns-in_default-clause-patterns : goal.returns-in_default-clause-patterns
 returns-in_default-clause-patterns c = patterns-agree c.args.self.now c.args.input.now c.start-from.ensures.spanned.end
@@ -36,7 +36,7 @@ returns-then-is_done-clause-value c leftmost =
 pub returns-then-is_done-clause-any : goal.returns-then-is_done-clause-any
 returns-then-is_done-clause-any c =
     let past = c.is_done.ensures.0 c.if-is_done.true in
-    sym (ap is_some (next_match_of-done c.args.self.now.nfa c.args.self.now.utf8_empty c.args.input.now.haystack c.args.input.now.anchor c.args.input.now.end c.args.input.now.start past))
+    sym (ap is_some (next_match_of-done c.args.self.now.nfa c.args.self.now.nfa.utf8 c.args.input.now.haystack c.args.input.now.anchor c.args.input.now.end c.args.input.now.start past))
 
 pub returns-then-is_done-clause-slots : goal.returns-then-is_done-clause-slots
 returns-then-is_done-clause-slots c leftmost =
@@ -76,7 +76,7 @@ pub returns-clause-is_match : goal.returns-clause-is_match
 returns-clause-is_match c r of =
     let is = sym (c.start.ensures.value ∙ ap (start_of c.args.self.now.nfa) c.get_anchored.ensures) ∙ c.in-Some.is in
     let le : c.args.input.now.start ≤ c.args.input.now.end = grind (arith, c.is_done.ensures, c.if-is_done.false) in
-    ?
+    reported-is_match c.args.self.now c.args.input.now c.start-from.ensures.spanned.end le r of c.find-found.new.slots _ (answer-is c.args.self.now c.args.input.now c.in-Some.start c.search_for-search.result c.search_for-search.ensures le is c.start-from.ensures.value c.get_earliest.ensures) c.reported.result (c.reported.ensures ∙ ap (option_map _) c.find-found.ensures.value ∙ triple-value _) (slots-told c.args.self.now c.args.input.now c.start.ensures.in_range c.requires.widest _ (answer-is c.args.self.now c.args.input.now c.in-Some.start c.search_for-search.result c.search_for-search.ensures le is c.start-from.ensures.value c.get_earliest.ensures) c.find-found.new.slots c.find-found.ensures.slots)
 
 pub returns-clause-slots : goal.returns-clause-slots
 returns-clause-slots c leftmost =

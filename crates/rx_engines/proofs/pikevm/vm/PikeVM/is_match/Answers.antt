@@ -7,12 +7,12 @@ use Rattle.rx_engines.proofs.pikevm.vm.PikeVM.is_match.Goals as goal
 pub returns-in_default-clause-value : goal.returns-in_default-clause-value
 returns-in_default-clause-value c =
     let none = sym (c.start.ensures.value ∙ ap (start_of c.args.self.now.nfa) c.get_anchored.ensures) ∙ c.in_default.is in
-    sym (ap is_some (next_match_of-missing c.args.self.now.nfa c.args.self.now.utf8_empty c.args.input.now.haystack c.args.input.now.anchor c.args.input.now.end c.args.input.now.start none))
+    sym (ap is_some (next_match_of-missing c.args.self.now.nfa c.args.self.now.nfa.utf8 c.args.input.now.haystack c.args.input.now.anchor c.args.input.now.end c.args.input.now.start none))
 
 pub returns-then-is_done-clause-value : goal.returns-then-is_done-clause-value
 returns-then-is_done-clause-value c =
     let past = c.is_done.ensures.0 c.if-is_done.true in
-    sym (ap is_some (next_match_of-done c.args.self.now.nfa c.args.self.now.utf8_empty c.args.input.now.haystack c.args.input.now.anchor c.args.input.now.end c.args.input.now.start past))
+    sym (ap is_some (next_match_of-done c.args.self.now.nfa c.args.self.now.nfa.utf8 c.args.input.now.haystack c.args.input.now.anchor c.args.input.now.end c.args.input.now.start past))
 
 pub search_for-search-requires : goal.search_for-search-requires
 search_for-search-requires c = grind (arith, c.is_done.ensures, c.if-is_done.false)
