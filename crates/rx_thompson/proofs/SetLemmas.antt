@@ -1,13 +1,11 @@
 -- Parts that read members of classes.
-use Rattle.std.proofs.Common.{◌≡◌, ℕ, ◌+◌, ◌*◌, ◌≤◌, List, [], ◌∷◌, sym, subst, arith, length}
-use Rattle.std.specs.Prelude.{nat_lt, ◌||◌, ◌-◌, max, min}
+use Rattle.std.proofs.Common.{◌≡◌, ℕ, ◌≤◌, List, sym, subst, length}
 use Rattle.rx_model.specs.Text.{scalar_ranges, byte_ranges}
 use Rattle.rx_model.specs.Graph as graph
-use Rattle.rx_model.proofs.RunLemmas.{by_test}
 use Rattle.rx_thompson.specs.Draft.{Draft, Extends, AreInRange}
 use Rattle.rx_thompson.specs.States.{AreClosed}
 use Rattle.rx_thompson.specs.declared.state.State.{State}
-use Rattle.rx_thompson.specs.Ranges.{StaysBelow, clip, is_narrow, cost_of_part, cost_of_parts, cost_of_class}
+use Rattle.rx_thompson.specs.Ranges.{StaysBelow}
 use Rattle.rx_thompson.specs.Row.{IsReader, AddsReaders}
 use Rattle.rx_thompson.specs.Trie.{IsClass, IsByteClass}
 use Rattle.rx_thompson.specs.Built.{Built}

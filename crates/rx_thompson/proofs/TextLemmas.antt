@@ -4,8 +4,8 @@ use Rattle.rx_model.specs.Graph as graph
 use Rattle.rx_thompson.specs.Draft.{Draft, Extends, pushed}
 use Rattle.rx_thompson.specs.States.{Stands}
 use Rattle.rx_thompson.specs.Built.{IsChain, Built}
-use Rattle.rx_thompson.proofs.BuiltLemmas.{IsChain-map, Stands-kept, Stands-from, Stands-pushed, Keeps-extends, Extends-pushed, Built-state, pushed-length}
-use Rattle.rx_thompson.specs.declared.state.State.TheVariants.{ByteRange, Union}
+use Rattle.rx_thompson.proofs.BuiltLemmas.{IsChain-map, Stands-kept, Stands-from, Stands-pushed, Keeps-extends, Extends-pushed, Built-state}
+use Rattle.rx_thompson.specs.declared.state.State.TheVariants.{ByteRange}
 
 -- one byte more, in front
 pub IsChain-more : (old d new : Draft) (bytes : List ℕ) (k b start next : ℕ) → Extends old d → 0 < k → k ≤ length bytes → b ≡ get_or bytes (k - 1) 0

@@ -6,9 +6,9 @@ use Rattle.rx_model.specs.Length.{minimum_len, is_positive}
 use Rattle.rx_model.specs.Expression.{empty, literal, class, repetition, capture, concat, alternation}
 use Rattle.rx_model.specs.Graph.{text, build_state, build_group, build_in_turn, build_each, build_choice, build, loop_once}
 use Rattle.rx_model.specs.Search.{greatest_group, greatest_in}
-use Rattle.rx_syntax.specs.Cost.{accounted_states, accounted_in, states_of_copies}
+use Rattle.rx_syntax.specs.Cost.{accounted_states}
 use Rattle.rx_syntax.specs.Sound.{IsSound}
-use Rattle.rx_syntax.proofs.CostLemmas.{accounted_in-drop, accounted_in-past}
+use Rattle.rx_syntax.proofs.CostLemmas.{accounted_in-drop}
 use Rattle.rx_syntax.specs.Normal.{expressions}
 use Rattle.rx_syntax.specs.Depth.{depth}
 use Rattle.rx_syntax.specs.ClassViews.{class_view}
