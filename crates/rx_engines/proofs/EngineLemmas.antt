@@ -5,7 +5,7 @@ use Rattle.std.proofs.lemmas.List.Elements.{All-nil, All-cons, All-get_or}
 use Rattle.std.proofs.lemmas.Option.{get_or_from_slice_get, slice_get_within}
 use Rattle.std.specs.Prelude.{Bool, true, false, Option, Some, None, option_map, IfSome, All, nat_lt, if◌then◌else◌}
 use Rattle.rx_model.specs.Runs.{first_trace}
-use Rattle.rx_model.specs.Search.{Patterns, Anchor, free, anchored, anchored_to, is_anchored, Match, is_permitted, first_start, starts, slot_value}
+use Rattle.rx_model.specs.Search.{Patterns, told_of, Anchor, free, anchored, anchored_to, is_anchored, Match, is_permitted, first_start, starts, slot_value}
 use Rattle.rx_model.proofs.RunLemmas.{by_test}
 use Rattle.rx_model.proofs.FirstLemmas.{some-is}
 use Rattle.rx_search.specs.Matches.{match_value, MatchValue}
@@ -67,7 +67,7 @@ start-inside nfa anchor q range is = All-cons (λ s. s < length nfa.states) q []
         omega arith
 
 module _ (vm : PikeVMValue) (v : InputValue) where
-  pub patterns-agree : v.end ≤ length v.haystack → (r : Patterns) → IsOf vm r → next_match_in vm v ≡ next_match_for r v
+  pub patterns-agree : v.end ≤ length v.haystack → (r : Patterns) → IsOf vm r → next_match_in vm v ≡ option_map (told_of r.which_captures) (next_match_for r v)
   patterns-agree within r of = next_match_of-patterns vm.nfa r v.haystack v.end within of.runs vm.utf8_empty v.anchor v.start of.utf8_empty
 
   -- what the search of the states was given

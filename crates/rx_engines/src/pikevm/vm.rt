@@ -1,5 +1,5 @@
 ghost use Rattle.std.specs.Prelude.{◌≡◌, ◌≤◌, true, length, None, replicate, is_some, IfOk, IfNone, IfSome, option_map};
-ghost use Rattle.rx_model.specs.Search.{Patterns};
+ghost use Rattle.rx_model.specs.Search.{Patterns, told_of};
 ghost use Rattle.rx_search.specs.Anchored.{anchor_of};
 ghost use Rattle.rx_search.specs.Matches.{match_value};
 ghost use Rattle.rx_thompson.specs.Nfa.{IsInRange};
@@ -70,7 +70,7 @@ impl PikeVM {
         requires { Fits self.now cache.old }
         ensures value { result ≡ is_some (next_match_in self.now input.now) }
         ensures patterns { (r : Patterns) → IsOf self.now r
-            → next_match_in self.now input.now ≡ next_match_for r input.now }
+            → next_match_in self.now input.now ≡ option_map (told_of r.which_captures) (next_match_for r input.now) }
         ensures cache { cache.new ≡ cache.old }
     {
         let haystack = input.haystack();
@@ -97,7 +97,7 @@ impl PikeVM {
         requires { Fits self.now cache.old }
         ensures value { result ≡ option_map match_value (next_match_in self.now input.now) }
         ensures patterns { (r : Patterns) → IsOf self.now r
-            → next_match_in self.now input.now ≡ next_match_for r input.now }
+            → next_match_in self.now input.now ≡ option_map (told_of r.which_captures) (next_match_for r input.now) }
         ensures within { IfSome result (λ m. (input.now.start ≤ m.start) × (m.end ≤ input.now.end)) }
         ensures cache { cache.new ≡ cache.old }
     {
@@ -115,7 +115,7 @@ impl PikeVM {
         requires { Fits self.now cache.old }
         ensures value { result ≡ option_map (λ m. m.trace.pattern) (next_match_in self.now input.now) }
         ensures patterns { (r : Patterns) → IsOf self.now r
-            → next_match_in self.now input.now ≡ next_match_for r input.now }
+            → next_match_in self.now input.now ≡ option_map (told_of r.which_captures) (next_match_for r input.now) }
         ensures slots { IfSome (next_match_in self.now input.now) (HasSlots slots.new) }
         ensures none { IfNone result (slots.new ≡ replicate (length slots.old) None) }
         ensures cache { cache.new ≡ cache.old }
@@ -137,7 +137,7 @@ impl PikeVM {
         requires { Fits self.now cache.old }
         ensures value { result ≡ option_map match_value (next_match_in self.now input.now) }
         ensures patterns { (r : Patterns) → IsOf self.now r
-            → next_match_in self.now input.now ≡ next_match_for r input.now }
+            → next_match_in self.now input.now ≡ option_map (told_of r.which_captures) (next_match_for r input.now) }
         ensures slots { IfSome (next_match_in self.now input.now) (HasSlots slots.new) }
         ensures none { IfNone result (slots.new ≡ replicate (length slots.old) None) }
         ensures within { IfSome result (λ m. (input.now.start ≤ m.start) × (m.end ≤ input.now.end)) }
