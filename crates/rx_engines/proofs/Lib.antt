@@ -9,3 +9,7 @@ pub mod CloseLemmas
 pub mod StepLemmas
 pub mod StartLemmas
 pub mod EngineLemmas
+pub mod BitLemmas
+pub mod SearchingLemmas
+pub mod YieldLemmas
+pub mod AttemptLemmas
