@@ -11,6 +11,7 @@ ghost use Rattle.rx_thompson.specs.Nfa.{IsInRange};
 use crate::State;
 use crate::class::{compile_bytes, compile_class};
 use crate::nfa::NFA;
+use crate::nfa::inner::Inner;
 use rx_search::{Memory, StateID};
 use rx_syntax::{Class, ClassBytes, ClassUnicode};
 use std::alloc::Global;
@@ -22,6 +23,14 @@ const STATE_LIMIT: usize = 2147483647;
 
 /// The most states that a range of scalars may have.
 const RANGE_LIMIT: usize = 65;
+
+/// What an NFA tells beside its states.
+#[derive(Clone, Copy)]
+pub struct Facts {
+    pub utf8: bool,
+    pub has_empty: bool,
+    pub accounted_states: usize,
+}
 
 /// The states so far. Every state, pattern and slot that they name is there.
 #[derive(Drop)]
@@ -144,15 +153,35 @@ impl Builder {
     }
 
     /// The NFA of these states.
-    pub fn finish(self, start_anchored: StateID, starts: Vec<StateID>) -> NFA
+    pub fn finish(
+        self,
+        alloc: Global,
+        start_anchored: StateID,
+        starts: Vec<StateID>,
+        facts: Facts,
+    ) -> Result<NFA, Memory>
         requires start { start_anchored < length self.states }
         requires starts { All (λ q. q < length self.states) starts.items }
         requires patterns { length starts.items ≡ self.patterns }
         requires few { self.patterns ≤ 2147483647 }
-        ensures value { result ≡ record { states = self.states; start_anchored = start_anchored; starts = starts.items; slots = self.slots } }
-        ensures in_range { IsInRange result }
+        requires accounted { facts.accounted_states ≤ 2147483647 }
+        ensures value { IfOk result (λ nfa. nfa ≡ record { states = self.states; start_anchored = start_anchored; starts = starts.items; slots = self.slots;
+            utf8 = facts.utf8; has_empty = facts.has_empty; accounted = facts.accounted_states }) }
+        ensures in_range { IfOk result IsInRange }
     {
         let slot_len = self.slot_len;
-        NFA::new(self.states, start_anchored, starts, slot_len)
+        let nfa = NFA::new(
+            alloc,
+            Inner {
+                states: self.states,
+                start_anchored,
+                starts,
+                slot_len,
+                utf8: facts.utf8,
+                has_empty: facts.has_empty,
+                accounted_states: facts.accounted_states,
+            },
+        )?;
+        Ok(nfa)
     }
 }
