@@ -139,7 +139,7 @@ next_match_within nfa v = next_match_of nfa nfa.utf8 v.haystack v.anchor v.end v
 -- the NFA has the first runs of these patterns
 pub record IsNfaOf (nfa : Nfa) (r : Patterns) : Type 0 where
   pub runs : HasFirstRuns nfa r
-  pub utf8_empty : r.utf8_empty ≡ nfa.utf8
+  pub utf8 : r.utf8_empty ≡ nfa.utf8
 
 -- the length of the longest span that is searched, with a bit for each accounted state at each place
 abbrev pub max_len : Nfa → ℕ
