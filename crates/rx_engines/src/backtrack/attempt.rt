@@ -33,10 +33,9 @@ pub fn attempt(
     ensures width { length slots.new ≡ length slots.old }
 {
     stack.clear();
-    stack.push(Frame::Explore {
-        state: search.start,
-        place: from,
-    })?;
+    if let Some(found) = follow(search, search.start, from, visited, stack, slots)? {
+        return Ok(Some(found));
+    }
     while let Some(frame) = stack.pop() {
         match frame {
             Frame::Restore { slot, old } => write(slots, slot, old),
