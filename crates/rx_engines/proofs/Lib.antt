@@ -8,6 +8,7 @@ pub mod TableLemmas
 pub mod CloseLemmas
 pub mod StepLemmas
 pub mod StartLemmas
+pub mod StageLemmas
 pub mod EngineLemmas
 pub mod BitLemmas
 pub mod SearchingLemmas
