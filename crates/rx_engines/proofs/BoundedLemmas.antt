@@ -6,7 +6,7 @@ use Rattle.std.proofs.lemmas.List.{length-replicate}
 use Rattle.std.proofs.lemmas.Bool.Decides.{nat_tests}
 use Rattle.std.specs.Prelude.{Bool, true, false, Option, Some, None, option_map, IfSome, replicate, nat_lt, if◌then◌else◌, ◌^◌}
 use Rattle.rx_model.specs.Runs.{Trace, first_trace}
-use Rattle.rx_model.specs.Search.{Patterns, Anchor, free, anchored, anchored_to, Match, is_anchored, is_permitted, first_start, starts, slot_value}
+use Rattle.rx_model.specs.Search.{Patterns, told_of, Anchor, free, anchored, anchored_to, Match, is_anchored, is_permitted, first_start, starts, slot_value}
 use Rattle.rx_model.proofs.RunLemmas.{by_test}
 use Rattle.rx_model.proofs.FirstLemmas.{none-is-some, some-is}
 use Rattle.rx_search.specs.Input.{InputValue}
@@ -83,7 +83,7 @@ match-answered s i n r slots slots' goal is le allowed empty next =
 -- What the search of an NFA finds.
 
 module _ (nfa : Nfa) (v : InputValue) where
-  pub patterns-met : v.end ≤ length v.haystack → (r : Patterns) → IsNfaOf nfa r → next_match_within nfa v ≡ next_match_for r v
+  pub patterns-met : v.end ≤ length v.haystack → (r : Patterns) → IsNfaOf nfa r → next_match_within nfa v ≡ option_map (told_of r.which_captures) (next_match_for r v)
   patterns-met within r of = next_match_of-patterns nfa r v.haystack v.end within of.runs nfa.utf8 v.anchor v.start of.utf8
 
   -- how many starts there are

@@ -80,7 +80,10 @@ fn follow(
     while visited.insert(index(search, state, place)) {
         match step(search, state, place, stack, slots)? {
             Onward::Accept(pattern) => return Ok(Some((pattern, place))),
-            Onward::To { state: next, place: at } => {
+            Onward::To {
+                state: next,
+                place: at,
+            } => {
                 state = next;
                 place = at;
             }

@@ -20,9 +20,7 @@ fn engine(
     let mut compiler = Compiler::new();
     compiler.configure(Config::new().utf8(utf8));
     let nfa = compiler.build_many_from_hir(alloc, &expressions);
-    Ok(BoundedBacktracker::build_from_nfa(
-        nfa.ok().expect(rt, "an NFA"),
-    ))
+    Ok(BoundedBacktracker::build_from_nfa(nfa.ok().expect(rt, "an NFA")))
 }
 
 /// The place that a slot holds.
@@ -122,7 +120,11 @@ fn empty_loops_end(rt: HostRuntime) -> Result<(), Fail> {
     let mut slots = [None; 4];
     let cases = [("aab", (0, 0, 2), Some(0)), ("baa", (0, 0, 0), Some(0))];
     for (haystack, want, group) in cases {
-        let found = backtracker.try_find_slots(&mut cache, &Input::new(haystack.as_bytes()), &mut slots);
+        let found = backtracker.try_find_slots(
+            &mut cache,
+            &Input::new(haystack.as_bytes()),
+            &mut slots,
+        );
         assert_eq!(rt; told(found.ok().expect(&rt, "no error")), Some(want));
         assert_eq!(rt; place(slots[2]), group);
     }
