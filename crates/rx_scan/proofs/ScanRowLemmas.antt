@@ -1,13 +1,12 @@
 -- Rows as data: what they are made of, and that they print as their matches.
-use Rattle.std.proofs.Common.{◌≡◌, ℕ, zero, suc, ◌+◌, ◌-◌, ◌*◌, ◌<◌, ◌≤◌, Bool, true, false, List, [], ◌∷◌, ◌++◌, length, take, drop, get_or, Option, Some, None, refl, sym, ap, subst, ◌∙◌, append_assoc, append-nil, arith, add-zero, add-one, drop-cons, length-drop}
+use Rattle.std.proofs.Common.{◌≡◌, ℕ, zero, suc, ◌+◌, ◌-◌, ◌*◌, ◌<◌, ◌≤◌, Bool, true, false, List, [], ◌∷◌, ◌++◌, length, take, drop, get_or, Option, Some, None, refl, sym, ap, ◌∙◌, append_assoc, append-nil, arith, add-zero, add-one, drop-cons, length-drop}
 use Rattle.std.specs.Prelude.{codes, decimal, map}
 use Rattle.std.specs.List.{flat_map}
 use Rattle.std.proofs.lemmas.List.{get_or-take, get_or-drop, get_or-map, drop_all, length-map, length-take-le}
-use Rattle.rx_model.specs.Search.{Patterns, all, Match, groups_before, slot_of, slot_value, next_match, matches, matches_from, free, is_empty_at, next_after}
+use Rattle.rx_model.specs.Search.{Patterns, Match, groups_before, slot_of, slot_value, next_match, matches, matches_from, free, is_empty_at, next_after}
 use Rattle.rx_model.proofs.WithinLemmas.{next-run, match-slots}
-use Rattle.rx_engines.specs.Engine.{HasSlots}
 use Rattle.rx_scan.specs.Row.{span_text, place_text, slot_text, groups_text, group_count, row, rows, haystack_rows}
-use Rattle.rx_scan.specs.Slots.{group_text, pairs_text}
+use Rattle.rx_scan.specs.Slots.{pairs_text}
 use Rattle.rx_scan.specs.ScanRow.{RowValue, group_slot, group_places, places_from, row_of, scan_rows, places_text, printed, printed_rows, AreSlotsOf}
 
 -- the first slot of an explicit group
@@ -55,7 +54,7 @@ row-slots r m slots pattern from to are span within =
     let long : length part ≡ 2 * n = length-take-le (2 * n) (drop from slots) (omega (arith, are.ends, within, length-drop from slots)) in
     let groups = places-are r m n 1 from part (omega arith) long
     (λ k lt. ap (λ which. slot_of (record r { which_captures = which }) p (1 + k)) are.captures
-    ∙ ap (λ j. Some j) (let e : 2 * length hs + 2 * groups_before p hs + 2 * (1 + k - 1) ≡ from + 2 * k = omega (arith, are.begins) in e))
+    ∙ ap (λ j. Some j) (let e : 2 * length hs + 2 * groups_before p hs + 2 * (1 + k - 1) ≡ from + 2 * k = omega (arith, are.begins (omega arith)) in e))
     (λ k lt. get_or-take (2 * n) (drop from slots) k None (omega arith) ∙ get_or-drop from slots k None ∙ are.left (from + k) (omega (arith, are.ends, within, long, lt))) in
     let whole : take 2 (drop (2 * pattern) slots) ≡ group_places m (Some (2 * p)) =
     two-of slots (2 * pattern) span

@@ -1,7 +1,7 @@
 -- The rows of a haystack's matches, as data, and the text that tells them.
-use Rattle.std.specs.Prelude.{◌≡◌, ℕ, zero, suc, ◌+◌, ◌*◌, ◌-◌, ◌<◌, List, [], ◌∷◌, ◌++◌, length, map, take, drop, Option, Some, None, codes, decimal}
+use Rattle.std.specs.Prelude.{◌≡◌, ℕ, zero, suc, ◌+◌, ◌*◌, ◌<◌, List, [], ◌∷◌, ◌++◌, length, map, Option, Some, None, codes, decimal}
 use Rattle.std.specs.List.{flat_map}
-use Rattle.rx_model.specs.Search.{Patterns, WhichCaptures, all, Match, groups_before, slot_of, slot_value, matches, free}
+use Rattle.rx_model.specs.Search.{Patterns, all, Match, groups_before, slot_of, slot_value, matches, free}
 use Rattle.rx_engines.specs.Engine.{HasSlots}
 use Rattle.rx_scan.specs.Row.{place_text, group_count}
 use Rattle.rx_scan.specs.Slots.{pairs_text}
@@ -56,5 +56,5 @@ pub record AreSlotsOf (r : Patterns) (m : Match) (slots : List (Option ℕ)) (pa
   pub left : HasSlots slots m
   pub captures : r.which_captures ≡ all
   pub own : pattern ≡ m.trace.pattern
-  pub begins : from ≡ 2 * length r.expressions + 2 * groups_before m.trace.pattern r.expressions
+  pub begins : 0 < group_count r.expressions m.trace.pattern → from ≡ 2 * length r.expressions + 2 * groups_before m.trace.pattern r.expressions
   pub ends : to ≡ from + 2 * group_count r.expressions m.trace.pattern

@@ -1,5 +1,5 @@
 use Rattle.std.proofs.Common.{◌≡◌, ◌++◌, ◌-◌, ◌+◌, ◌*◌, take, drop, ◌∙◌, ap}
-use Rattle.rx_scan.specs.ScanRow.{row_of, AreSlotsOf}
+use Rattle.rx_scan.specs.ScanRow.{row_of}
 use Rattle.rx_scan.proofs.ScanRowLemmas.{made-slots}
 use Rattle.rx_scan.proofs.scan_row.Row.from_slots.Goals as goal
 
