@@ -25,7 +25,7 @@ mod span;
 pub use anchored::{Anchored, MatchKind};
 pub use gate::{Gate, Open};
 pub use group_error::GroupInfoError;
-pub use group_info::GroupInfo;
+pub use group_info::{GroupInfo, slots_are_written};
 pub use input::Input;
 pub use match_error::MatchError;
 pub use matches::{HalfMatch, Match};
