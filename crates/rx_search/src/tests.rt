@@ -247,7 +247,8 @@ fn groups_of(alloc: Global, patterns: &[&[&str]]) -> Result<Vec<Vec<Option<Strin
 #[test]
 fn groups_of_one_pattern(rt: HostRuntime) -> Result<(), Fail> {
     let groups = groups_of(rt.alloc(), &[&["", "k"]])?;
-    let info = GroupInfo::new(rt.alloc(), groups.as_slice())?.clone()?;
+    let info = GroupInfo::new(rt.alloc(), groups.as_slice())?;
+    let copy = info.clone()?;
     let pid = PatternID::ZERO;
     assert_eq!(rt;
         (info.slot_len(), info.all_group_len(), info.pattern_len()),
@@ -263,6 +264,10 @@ fn groups_of_one_pattern(rt: HostRuntime) -> Result<(), Fail> {
     );
     assert_eq!(rt; info.to_name(pid, 2), None);
     assert_eq!(rt; info.to_index(PatternID::MAX, "k"), None);
+    assert_eq!(rt;
+        (copy.slot_len(), copy.to_name(pid, 1)),
+        (info.slot_len(), info.to_name(pid, 1))
+    );
     Ok(())
 }
 
