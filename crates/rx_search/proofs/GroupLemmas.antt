@@ -1,11 +1,12 @@
 -- The flat tables of the groups of patterns.
-use Rattle.std.proofs.Common.{ℕ, zero, suc, ◌+◌, ◌-◌, ◌*◌, ◌≡◌, ◌≤◌, List, [], ◌∷◌, length, map, take, drop, Option, Some, None, option_map, unwrap_or, slice_get, slice_range, ap, ◌∙◌, refl, arith, length-drop, subst, String, string_bytes, Bool, not, cond, nat_lt, position}
-use Rattle.std.proofs.lemmas.List.{length-take-le, length-map, take-map, drop-map}
+use Rattle.std.proofs.Common.{ℕ, zero, suc, ◌+◌, ◌-◌, ◌*◌, ◌≡◌, ◌≤◌, ◌<◌, List, [], ◌∷◌, ◌++◌, length, length-append, sym, map, take, drop, Option, Some, None, option_map, unwrap_or, slice_get, slice_range, ap, ◌∙◌, refl, arith, length-drop, subst, String, string_bytes, Bool, not, cond, sum, nat_lt, position}
+use Rattle.std.proofs.lemmas.List.{length-take-le, length-map, take-map, drop-map, drop-append-le, take-append-le, drop_at, take_all, map_push, length-replicate}
+use Rattle.std.proofs.lemmas.List.Sums.{sum_by-cons}
 use Rattle.std.proofs.lemmas.Option.{slice_get-map, none-some, same_Some, slice_get_within}
 use Rattle.std.proofs.lemmas.Bool.Decides.{nat_tests}
 use Rattle.std.specs.List.{prefix_len}
-use Rattle.rx_search.specs.GroupInfo.{names_of, is_named, explicit_before, group_count, groups_at}
-use Rattle.rx_search.specs.GroupTables.{groups_in, table_groups, AreInRow, IsRowOf}
+use Rattle.rx_search.specs.GroupInfo.{names_of, is_named, explicit_before, group_count, slot_count, groups_at, unnamed_groups}
+use Rattle.rx_search.specs.GroupTables.{groups_in, table_groups, AreInRow, AreOf, IsRowOf}
 use Rattle.rx_search.specs.declared.group_info.Explicit.{Explicit}
 
 -- the length of a part within the list
@@ -115,3 +116,73 @@ position-names name names =
     ap (λ (n : ℕ). cond (nat_lt (1 + n) (suc (length (names_of names)))) (Some (1 + n)) None) front
     ∙ ap (λ (m : ℕ). cond (nat_lt (1 + prefix_len (λ x. not (is_named name (option_map string_bytes x))) names) (suc m)) (Some (1 + prefix_len (λ x. not (is_named name (option_map string_bytes x))) names)) None) many
     ∙ position_shift _ _
+
+-- a part of a list that goes on
+pub slice_range-append : {X : Type 0} (xs ys : List X) (a b : ℕ) → a ≤ b → b ≤ length xs → slice_range (xs ++ ys) a b ≡ slice_range xs a b
+slice_range-append xs ys a b order within =
+    let room : b - a ≤ length (drop a xs) = rw length-drop (omega arith) in
+    ap (take (b - a)) (drop-append-le a xs ys (omega arith)) ∙ take-append-le (b - a) (drop a xs) ys room
+
+-- more names change no row
+pub table_groups-append : (names more : List (Option (List ℕ))) (from : ℕ) (rows : List Explicit) (to : ℕ) → AreInRow from rows to → to ≤ length names → table_groups (names ++ more) rows ≡ table_groups names rows
+table_groups-append names more from [] to laid few = refl
+table_groups-append names more from (row ∷ rows) to laid few =
+    let rises : row.end ≤ to = AreInRow-rises row.end rows to laid.2 in
+    ap (λ (g : List (Option (List ℕ))). (None ∷ g) ∷ table_groups (names ++ more) rows) (slice_range-append names more row.start row.end laid.1 (omega arith))
+    ∙ ap (λ (gs : List (List (Option (List ℕ)))). groups_in names row ∷ gs) (table_groups-append names more row.end rows to laid.2 few)
+
+-- one row more
+pub AreInRow-push : (from : ℕ) (rows : List Explicit) (to end : ℕ) → AreInRow from rows to → to ≤ end → AreInRow from (rows ++ record { start = to; end = end } ∷ []) end
+AreInRow-push from [] to end laid order = (sym laid, order, refl)
+AreInRow-push from (row ∷ rows) to end laid order = (laid.0, laid.1, AreInRow-push row.end rows to end laid.2 order)
+
+-- the last part of a list
+pub slice_range-last : {X : Type 0} (xs ys : List X) → slice_range (xs ++ ys) (length xs) (length (xs ++ ys)) ≡ ys
+slice_range-last xs ys =
+    let len = length-append xs ys in
+    ap (take (length (xs ++ ys) - length xs)) (drop_at xs ys (length xs) refl) ∙ take_all (length (xs ++ ys) - length xs) ys (omega (arith, len))
+
+-- one pattern more
+pub AreOf-push : {A : Type 0} (info : List (List (Option (List ℕ)))) (names longer : List (Option (String A))) (rows : List Explicit) (g more : List (Option (List ℕ))) (start end : ℕ) → AreOf info names rows → names_of longer ≡ names_of names ++ more → g ≡ None ∷ more → start ≡ length names → end ≡ length longer → AreOf (info ++ g ∷ []) longer (rows ++ record { start = start; end = end } ∷ [])
+AreOf-push info names longer rows g more start end tables longer_is g_is start_is end_is =
+    let many : length (names_of names) ≡ length names = length-map names (option_map string_bytes) in
+    let many_longer : length (names_of longer) ≡ length longer = length-map longer (option_map string_bytes) in
+    let row : Explicit = record { start = start; end = end } in
+    let len : length (names_of longer) ≡ length (names_of names) + length more = ap length longer_is ∙ length-append (names_of names) more in
+    let same_start : length (names_of names) ≡ start = omega (arith, many, start_is) in
+    let same_end : length (names_of names ++ more) ≡ end = sym (ap length longer_is) ∙ omega (arith, many_longer, end_is) in
+    let last : slice_range (names_of names ++ more) start end ≡ more =
+    subst (λ (a : ℕ). slice_range (names_of names ++ more) a end ≡ more) same_start
+    (subst (λ (b : ℕ). slice_range (names_of names ++ more) (length (names_of names)) b ≡ more) same_end (slice_range-last (names_of names) more)) in
+    let front : table_groups (names_of names ++ more) rows ≡ info = table_groups-append (names_of names) more 0 rows (length names) tables.in_row (omega arith) ∙ tables.groups in
+    let rows_laid = AreInRow-push 0 rows (length names) end tables.in_row (omega (arith, start_is, end_is, len, many, many_longer)) in
+    record {
+      groups =
+          ap (λ (ns : List (Option (List ℕ))). table_groups ns (rows ++ row ∷ [])) longer_is
+          ∙ map_push (groups_in (names_of names ++ more)) rows row
+          ∙ ap (λ (gs : List (List (Option (List ℕ)))). gs ++ groups_in (names_of names ++ more) row ∷ []) front
+          ∙ ap (λ (ns : List (Option (List ℕ))). info ++ (None ∷ ns) ∷ []) last
+          ∙ ap (λ (h : List (Option (List ℕ))). info ++ h ∷ []) (sym g_is);
+      in_row =
+          subst (λ (n : ℕ). AreInRow 0 (rows ++ row ∷ []) n) end_is
+          (subst (λ (n : ℕ). AreInRow 0 (rows ++ record { start = n; end = end } ∷ []) end) (sym start_is) rows_laid);
+    }
+
+-- the tables of groups that are few are those of a `GroupInfo`
+pub AreOf-tables : {A : Type 0} (info : List (List (Option (List ℕ)))) (names : List (Option (String A))) (rows : List Explicit) → AreOf info names rows → slot_count info ≤ 2147483646 → AreTables names rows
+AreOf-tables info names rows tables few =
+    let many : length (names_of names) ≡ length names = length-map names (option_map string_bytes) in
+    let all = group_count-rows (names_of names) 0 rows (length names) tables.in_row (omega arith) in
+    (tables.in_row, omega (arith, all, few, ap group_count tables.groups))
+
+-- groups without names are counted by their numbers
+pub group_count-unnamed : (lens : List ℕ) → group_count (map unnamed_groups lens) ≡ sum lens
+group_count-unnamed [] = refl
+group_count-unnamed (n ∷ lens) =
+    let none : Option (List ℕ) = None in
+    omega (arith, length-replicate n none, group_count-unnamed lens, sum_by-cons (λ (x : ℕ). x) n lens)
+
+-- the first of some groups without names
+pub unnamed_groups-first : (n : ℕ) → 0 < n → unnamed_groups n ≡ None ∷ unnamed_groups (n - 1)
+unnamed_groups-first zero some = absurd (omega arith)
+unnamed_groups-first (suc n) some = ap (λ (m : ℕ). None ∷ unnamed_groups m) (omega arith)

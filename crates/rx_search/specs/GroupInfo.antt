@@ -72,6 +72,10 @@ fault_of p [] = Some (MissingGroups p)
 fault_of p (Some name ∷ groups) = Some (FirstMustBeUnnamed p)
 fault_of p (None ∷ groups) = if has_duplicate groups then Some (Duplicate p) else None
 
+-- that is wrong with the groups of pattern p, or there was no memory
+abbrev pub IsFault : ℕ → List (Option (List ℕ)) → GroupInfoError → Type 0
+IsFault p groups e = (fault_of p groups ≡ Some e) ⊎ (e ≡ Memory)
+
 -- what is wrong with the first pattern at fault; they are numbered from p on
 abbrev pub first_fault : ℕ → List (List (Option (List ℕ))) → Option GroupInfoError
 first_fault p [] = None

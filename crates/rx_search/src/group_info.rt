@@ -1,9 +1,13 @@
-ghost use Rattle.std.specs.Prelude.{◌≡◌, ◌+◌, ◌-◌, ◌*◌, ◌≤◌, ◌<◌, IfOk, IfSome, MatchResult, All, map, length, sum, option_map, option_copied, string_bytes, position, slice_range, MatchOption, Some, None, ◌∷◌, if◌then◌else◌};
-ghost use Rattle.rx_search.specs.GroupInfo.{names_of, is_named};
+ghost use Rattle.std.specs.Prelude.{◌≡◌, ◌+◌, ◌-◌, ◌*◌, ◌≤◌, ◌<◌, IfOk, IfSome, MatchResult, All, map, length, sum, option_map, option_copied, string_bytes, position, slice_range, MatchOption, Some, None, ◌∷◌, ◌++◌, drop};
+ghost use Rattle.rx_search.specs.GroupInfo.{names_of, groups_of, unnamed_groups, is_named, first_fault, refusal, IsRefusal};
+ghost use Rattle.rx_search.specs.GroupTables.{AreOf, IsRowOf};
 ghost use Rattle.std.specs.Arc.{arc_value};
 
+use crate::group_check::check;
+use crate::group_error::GroupInfoError;
 use crate::memory::Memory;
 use crate::primitives::PatternID;
+use std::alloc::Global;
 use std::marker::Model;
 use std::sync::Arc;
 
@@ -50,7 +54,30 @@ impl Model for GroupInfo {
 
 impl GroupInfo {
     ghost use Rattle.rx_search.specs.GroupInfo.{groups_at, group_count, slot_count, slot_at, index_of, name_at};
-    ghost use Rattle.rx_search.specs.GroupTables.{IsRowOf};
+
+    /// The groups of these patterns, by their names. Refused are, in this order within a pattern: one without groups,
+    /// one whose first group has a name, and one in which a name stands twice. The first pattern at fault is told,
+    /// of the first 2147483647. Then more than 2147483646 slots in all are refused, and so are more patterns than
+    /// that. `Memory` may come at any time.
+    pub fn new(alloc: Global, groups: &[Vec<Option<String>>]) -> Result<GroupInfo, GroupInfoError>
+        ensures { MatchResult result (λ info. (info ≡ groups_of groups.now) × (refusal (groups_of groups.now) ≡ None)) (IsRefusal (groups_of groups.now)) }
+    {
+        check(alloc, groups)?;
+        let tables = named_tables(alloc, groups)?;
+        let tables = Arc::new(alloc, tables)?;
+        Ok(GroupInfo { tables })
+    }
+
+    /// The groups of patterns of which each has this number of groups, above 0, and none of them a name.
+    pub fn unnamed(alloc: Global, group_lens: &[usize]) -> Result<GroupInfo, Memory>
+        requires each { All (λ n. 0 < n) group_lens.now }
+        requires few { 2 * sum group_lens.now ≤ 2147483646 }
+        ensures { IfOk result (λ info. info ≡ map unnamed_groups group_lens.now) }
+    {
+        let tables = unnamed_tables(alloc, group_lens)?;
+        let tables = Arc::new(alloc, tables)?;
+        Ok(GroupInfo { tables })
+    }
 
     /// The number of patterns.
     pub fn pattern_len(&self) -> usize
@@ -167,6 +194,71 @@ impl GroupInfo {
     {
         let explicit = *self.tables.patterns.get(pid.as_usize())?;
         Some(part(self.tables.names.as_slice(), explicit))
+    }
+}
+
+/// The tables of these groups, of which the first of each pattern has no name.
+fn named_tables(alloc: Global, groups: &[Vec<Option<String>>]) -> Result<Tables, Memory>
+    requires { first_fault 0 (groups_of groups.now) ≡ None }
+    ensures { IfOk result (λ tables. AreOf (groups_of groups.now) tables.names.items tables.patterns.items) }
+{
+    let mut patterns = Vec::new(alloc);
+    let mut names = Vec::new(alloc);
+    for pattern in groups {
+        let start = names.len();
+        push_explicit(&mut names, pattern.as_slice())?;
+        let end = names.len();
+        patterns.push(Explicit { start, end })?;
+    }
+    Ok(Tables { patterns, names })
+}
+
+/// The tables of patterns with so many groups, none of them with a name.
+fn unnamed_tables(alloc: Global, group_lens: &[usize]) -> Result<Tables, Memory>
+    requires { All (λ n. 0 < n) group_lens.now }
+    ensures { IfOk result (λ tables. AreOf (map unnamed_groups group_lens.now) tables.names.items tables.patterns.items) }
+{
+    let mut patterns = Vec::new(alloc);
+    let mut names = Vec::new(alloc);
+    for group_len in group_lens {
+        let start = names.len();
+        push_unnamed(&mut names, *group_len)?;
+        let end = names.len();
+        patterns.push(Explicit { start, end })?;
+    }
+    Ok(Tables { patterns, names })
+}
+
+/// Appends the names of the groups but for the first.
+fn push_explicit(names: &mut Vec<Option<String>>, groups: &[Option<String>]) -> Result<(), Memory>
+    ensures { IfOk result (λ _. names_of names.new.items ≡ names_of names.old.items ++ drop 1 (names_of groups.now)) }
+{
+    let Some((_, explicit)) = groups.split_first() else {
+        return Ok(());
+    };
+    for group in explicit {
+        names.push(copy_of(group)?)?;
+    }
+    Ok(())
+}
+
+/// Appends that each of so many groups but the first has no name.
+fn push_unnamed(names: &mut Vec<Option<String>>, group_len: usize) -> Result<(), Memory>
+    ensures { IfOk result (λ _. names_of names.new.items ≡ names_of names.old.items ++ unnamed_groups (group_len - 1)) }
+{
+    for _ in 1..group_len {
+        names.push(None)?;
+    }
+    Ok(())
+}
+
+/// The same name.
+fn copy_of(group: &Option<String>) -> Result<Option<String>, Memory>
+    ensures { IfOk result (λ copy. option_map string_bytes copy ≡ option_map string_bytes group.now) }
+{
+    match group {
+        None => Ok(None),
+        Some(name) => Ok(Some(name.clone()?)),
     }
 }
 

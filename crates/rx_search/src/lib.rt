@@ -8,6 +8,7 @@
 
 mod anchored;
 mod gate;
+mod group_check;
 mod group_error;
 mod group_info;
 mod input;

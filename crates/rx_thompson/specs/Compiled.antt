@@ -33,9 +33,10 @@ pub record AreAllowed (size_limit : Option ℕ) (hs : List Expression) : Type 0 
   pub states : nfa_states hs ≤ 2147483647
   pub size : IfSome size_limit (λ limit. 32 * nfa_states hs ≤ limit)
 
--- the NFA is in range, and does what the patterns ask for
+-- the NFA is in range, has no more states than are accounted, and does what the patterns ask for
 pub record IsCompiled (config : Config) (hs : List Expression) (nfa : Nfa) : Type 0 where
   pub in_range : IsInRange nfa
+  pub few : length nfa.states ≤ nfa_states hs
   pub slots : nfa.slots ≡ slots_of hs
   pub utf8 : nfa.utf8 ≡ utf8_of config
   pub accounted : nfa.accounted ≡ nfa_states hs

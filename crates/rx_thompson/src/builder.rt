@@ -1,9 +1,10 @@
 //! An NFA in the making.
-ghost use Rattle.std.specs.Prelude.{◌≡◌, ◌<◌, ◌≤◌, [], length, All, IfOk};
+ghost use Rattle.std.specs.Prelude.{◌≡◌, ◌+◌, ◌<◌, ◌≤◌, [], length, All, IfOk, OnOk};
 ghost use Rattle.rx_thompson.specs.Automaton.{NamesBelow, IsWithin};
 ghost use Rattle.rx_model.specs.Graph.{build_state, set};
 ghost use Rattle.rx_model.specs.Text.{scalar_ranges, byte_ranges};
 ghost use Rattle.rx_syntax.specs.ClassViews.{class_view};
+ghost use Rattle.rx_syntax.specs.Cost.{states_of_class};
 ghost use Rattle.rx_thompson.specs.Built.{Built};
 ghost use Rattle.rx_thompson.specs.Draft.{pushed, patched};
 ghost use Rattle.rx_thompson.specs.Nfa.{IsInRange};
@@ -17,12 +18,6 @@ use rx_syntax::{Class, ClassBytes, ClassUnicode};
 use std::alloc::Global;
 use std::marker::Model;
 use std::mem;
-
-/// The most states that an NFA may have.
-const STATE_LIMIT: usize = 2147483647;
-
-/// The most states that a range of scalars may have.
-const RANGE_LIMIT: usize = 65;
 
 /// What an NFA tells beside its states.
 #[derive(Clone, Copy)]
@@ -72,14 +67,13 @@ impl Builder {
 
     /// Appends a state, and answers its number.
     pub fn push(&mut self, state: State) -> Result<StateID, Memory>
+        requires room { length self.old.states < 2147483647 }
         requires names { NamesBelow (length self.old.states) state }
         requires within { IsWithin self.old.patterns self.old.slots state }
         ensures id { IfOk result (λ id. id ≡ length self.old.states) }
         ensures states { IfOk result (λ id. self.new ≡ pushed self.old state) }
     {
-        let Some(id) = StateID::new(self.states.len()) else {
-            return Err(Memory);
-        };
+        let id = StateID::new(self.states.len()).unwrap();
         self.states.push(state)?;
         Ok(id)
     }
@@ -92,9 +86,11 @@ impl Builder {
         class: &Class,
         next: StateID,
     ) -> Result<StateID, Memory>
-        requires { next < length self.old.states }
+        requires next { next < length self.old.states }
+        requires room { length self.old.states + states_of_class (class_view class.now) ≤ 2147483647 }
         ensures built { IfOk result (λ start. Built (build_state (set (class_view class.now))) next self.old self.new start) }
         ensures inside { IfOk result (λ start. start < length self.new.states) }
+        ensures count { OnOk result (length self.new.states ≤ length self.old.states + states_of_class (class_view class.now)) }
     {
         match class {
             Class::Unicode(scalars) => self.push_scalars(alloc, scalars, next),
@@ -108,15 +104,13 @@ impl Builder {
         scalars: &ClassUnicode,
         next: StateID,
     ) -> Result<StateID, Memory>
-        requires { next < length self.old.states }
+        requires next { next < length self.old.states }
+        requires room { length self.old.states + states_of_class (scalar_ranges scalars.now) ≤ 2147483647 }
         ensures built { IfOk result (λ start. Built (build_state (set (scalar_ranges scalars.now))) next self.old self.new start) }
         ensures inside { IfOk result (λ start. start < length self.new.states) }
+        ensures count { OnOk result (length self.new.states ≤ length self.old.states + states_of_class (scalar_ranges scalars.now)) }
     {
         let ranges = scalars.ranges();
-        let most = RANGE_LIMIT.saturating_mul(ranges.len());
-        if most.saturating_add(self.states.len() + 1) > STATE_LIMIT {
-            return Err(Memory);
-        }
         let mut states = mem::replace(&mut self.states, Vec::new(alloc));
         let start = compile_class(alloc, &mut states, ranges, next)?;
         self.states = states;
@@ -129,13 +123,12 @@ impl Builder {
         bytes: &ClassBytes,
         next: StateID,
     ) -> Result<StateID, Memory>
-        requires { next < length self.old.states }
+        requires next { next < length self.old.states }
+        requires room { length self.old.states < 2147483647 }
         ensures built { IfOk result (λ start. Built (build_state (set (byte_ranges bytes.now))) next self.old self.new start) }
         ensures inside { IfOk result (λ start. start < length self.new.states) }
+        ensures count { OnOk result (length self.new.states ≡ length self.old.states + 1) }
     {
-        if self.states.len() >= STATE_LIMIT {
-            return Err(Memory);
-        }
         let mut states = mem::replace(&mut self.states, Vec::new(alloc));
         let start = compile_bytes(alloc, &mut states, bytes.ranges(), next)?;
         self.states = states;

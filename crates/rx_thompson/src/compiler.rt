@@ -3,6 +3,7 @@ ghost use Rattle.std.specs.Prelude.{◌≡◌, ◌+◌, ◌*◌, ◌<◌, ◌≤
 ghost use Rattle.rx_model.specs.Graph.{build_pattern};
 ghost use Rattle.rx_model.specs.Search.{greatest_group};
 ghost use Rattle.rx_thompson.specs.Built.{slot_from, HasPart, HasPatterns, StartsAll};
+ghost use Rattle.rx_syntax.specs.Cost.{accounted_states};
 ghost use Rattle.rx_thompson.specs.Config.{size_limit_of, overwritten, nothing_set};
 ghost use Rattle.rx_thompson.specs.Compiled.{patterns_of, slots_of, AreFew, AreAllowed, nfa_states, IsCompiled, IsRefusal};
 ghost use Rattle.rx_thompson.specs.Draft.{Extends};
@@ -63,10 +64,12 @@ impl Compiler {
     }
 
     /// The NFA of these expressions, one pattern each. A match's slots come in the order of the patterns: two for each
-    /// whole match, and after these two for each group that a pattern names.
+    /// whole match, and after these two for each group that a pattern names. The NFA has no more states than are
+    /// accounted for the expressions.
     ///
     /// Refused before anything is built, in this order: more than 2147483647 patterns, more than 2147483646 slots, more
-    /// than 2147483647 states accounted, more bytes accounted than the configured limit. Want of memory comes last.
+    /// than 2147483647 states accounted, more bytes accounted than the configured limit. Want of memory comes last, and
+    /// is then the only reason left.
     pub fn build_many_from_hir(&self, alloc: Global, exprs: &[Hir]) -> Result<NFA, BuildError>
         ensures compiled { IfOk result (IsCompiled self.now.config exprs.now) }
         ensures allowed { OnOk result (AreAllowed (size_limit_of self.now.config) exprs.now) }
@@ -146,17 +149,17 @@ fn compile_patterns(
     requires few { AreFew exprs.now }
     requires patterns { builder.old.patterns ≡ length exprs.now }
     requires slots { builder.old.slots ≡ slots_of exprs.now }
+    requires fits { length builder.old.states + nfa_states exprs.now ≤ 2147483647 }
     ensures extends { OnOk result (Extends builder.old builder.new) }
     ensures len { IfOk result (λ starts. length starts.items ≡ length exprs.now) }
     ensures has { IfOk result (λ starts. HasPatterns builder.new.states (patterns_of exprs.now true 0) (length exprs.now) starts.items) }
     ensures inside { IfOk result (λ starts. All (λ q. q < length builder.new.states) starts.items) }
+    ensures count { OnOk result (length builder.new.states + 4 ≤ length builder.old.states + nfa_states exprs.now) }
 {
     let mut starts = Vec::new(alloc);
     let mut first_slot = 2 * exprs.len();
     for hir in exprs {
-        let Some(pattern) = PatternID::new(starts.len()) else {
-            return Err(Memory);
-        };
+        let pattern = PatternID::new(starts.len()).unwrap();
         let groups = Groups {
             pattern,
             first_slot,
@@ -177,9 +180,11 @@ fn compile_pattern(
 ) -> Result<StateID, Memory>
     requires room { HasRoom builder.old groups.now (greatest_group hir.now) }
     requires whole { 2 * builder.old.patterns ≤ builder.old.slots }
+    requires fits { length builder.old.states + (accounted_states hir.now + 3) ≤ 2147483647 }
     ensures extends { OnOk result (Extends builder.old builder.new) }
     ensures has { IfOk result (λ start. HasPart builder.new.states (build_pattern (slot_from groups.now.first_slot) groups.now.pattern hir.now) start) }
     ensures inside { IfOk result (λ start. start < length builder.new.states) }
+    ensures count { OnOk result (length builder.new.states ≤ length builder.old.states + (accounted_states hir.now + 3)) }
 {
     let pattern = groups.pattern;
     let slot = 2 * pattern.as_usize();
@@ -200,8 +205,10 @@ fn compile_pattern(
 
 /// Where the runs of all the patterns start: at the only start, or at a choice between them.
 fn start_of_all(alloc: Global, builder: &mut Builder, starts: &[StateID]) -> Result<StateID, Memory>
-    requires { All (λ q. q < length builder.old.states) starts.now }
+    requires inside { All (λ q. q < length builder.old.states) starts.now }
+    requires fits { length builder.old.states < 2147483647 }
     ensures starts { IfOk result (StartsAll builder.old builder.new starts.now) }
+    ensures count { OnOk result (length builder.new.states ≤ length builder.old.states + 1) }
     ensures inside { IfOk result (λ start. start < length builder.new.states) }
 {
     if let [only] = starts {

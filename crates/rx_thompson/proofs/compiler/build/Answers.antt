@@ -1,4 +1,4 @@
-use Rattle.std.proofs.Common.{◌∙◌, sym, ap, subst, refl}
+use Rattle.std.proofs.Common.{◌∙◌, sym, ap, subst, refl, arith, length}
 use Rattle.std.specs.Prelude.{false}
 use Rattle.rx_thompson.specs.Built.{StartsAll}
 use Rattle.rx_thompson.specs.Compiled.{patterns_of}
@@ -20,6 +20,12 @@ returns c =
     let slots = c.in_ok-starts.ensures.extends.slots in
     record {
       in_range = c.in_ok-nfa.ensures.in_range;
+      few =
+          (let states = ap (λ (n : Nfa). length n.states) is in
+          let none = ap (λ (d : Draft). length d.states) c.new-builder.ensures in
+          let patterns = c.in_ok-starts.ensures.count in
+          let last = c.in_ok-start.ensures.count in
+          omega arith);
       slots = ap (λ (n : Nfa). n.slots) is ∙ StartsAll-slots old new starts c.in_ok-start.start all ∙ slots ∙ ap (λ (d : Draft). d.slots) c.new-builder.ensures ∙ c.requires.slots;
       utf8 = ap (λ (n : Nfa). n.utf8) is ∙ c.get_utf8.ensures;
       accounted = ap (λ (n : Nfa). n.accounted) is ∙ c.requires.states;
