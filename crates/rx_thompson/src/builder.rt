@@ -161,8 +161,16 @@ impl Builder {
         requires few { self.patterns ≤ 2147483647 }
         requires slots { self.slots ≡ slot_count facts.group_info }
         requires accounted { facts.accounted_states ≤ 2147483647 }
-        ensures value { IfOk result (λ nfa. nfa ≡ record { states = self.states; start_anchored = start_anchored; starts = starts.items; slots = self.slots; groups = facts.group_info;
-            utf8 = facts.utf8; has_empty = facts.has_empty; accounted = facts.accounted_states }) }
+        ensures value { IfOk result (λ nfa. nfa ≡ record {
+          states = self.states;
+          start_anchored = start_anchored;
+          starts = starts.items;
+          slots = self.slots;
+          groups = facts.group_info;
+          utf8 = facts.utf8;
+          has_empty = facts.has_empty;
+          accounted = facts.accounted_states;
+        }) }
         ensures in_range { IfOk result IsInRange }
     {
         let slot_len = self.slot_len;
