@@ -18,7 +18,8 @@ use Rattle.rx_thompson.proofs.NextMatchLemmas.{first_start-alike, next_match_of-
 use Rattle.rx_thompson.specs.declared.state.State.{State}
 use Rattle.rx_engines.specs.Engine.{next_match_for, last_start, HasSlots}
 use Rattle.rx_engines.specs.Walk.{Slots, Answer, answer, write_all}
-use Rattle.rx_engines.specs.Backtrack.{graph_for, returned, triple, next_match_within, IsNfaOf}
+use Rattle.rx_engines.specs.Backtrack.{graph_for, returned, triple}
+use Rattle.rx_engines.specs.Bounded.{next_match_within, IsNfaOf}
 use Rattle.rx_engines.specs.declared.backtrack.search.Search.{Search}
 use Rattle.rx_engines.proofs.SlotLemmas.{slot-of_match, length-write_all}
 
