@@ -3,10 +3,10 @@ use Rattle.std.specs.Prelude.{◌≡◌, ℕ, ◌+◌, ◌-◌, ◌*◌, ◌/◌
 use Rattle.std.specs.Coded.{Coded, code_by, coded×, coded_ℕ}
 use Rattle.rx_model.specs.Search.{Patterns, Match}
 use Rattle.rx_search.specs.Input.{InputValue}
+use Rattle.rx_search.specs.declared.match_error.MatchError.{MatchError}
+use Rattle.rx_search.specs.declared.match_error.MatchError.TheVariants.{Quit, GaveUp, HaystackTooLong, UnsupportedAnchored, Memory}
 use Rattle.rx_thompson.specs.Nfa.{Nfa, HasFirstRuns}
 use Rattle.rx_thompson.specs.NextMatch.{next_match_of}
-use Rattle.rx_engines.specs.declared.backtrack.error.MatchError.{MatchError}
-use Rattle.rx_engines.specs.declared.backtrack.error.MatchError.TheVariants.{HaystackTooLong, Memory}
 
 -- the next match of the NFA in the input's span
 abbrev pub next_match_within : Nfa → InputValue → Option Match
@@ -45,5 +45,8 @@ pub record Fits (nfa : Nfa) (room : Room) : Type 0 where
 
 -- Why a search has no answer: the span is too long; or it isn't, and there was no memory.
 abbrev pub IsRefusal : Nfa → InputValue → MatchError → Type 0
+IsRefusal nfa v (Quit byte offset) = ⊥
+IsRefusal nfa v (GaveUp offset) = ⊥
 IsRefusal nfa v (HaystackTooLong len) = (len ≡ span_len v) × (max_len nfa < len)
+IsRefusal nfa v (UnsupportedAnchored mode) = ⊥
 IsRefusal nfa v Memory = span_len v ≤ max_len nfa

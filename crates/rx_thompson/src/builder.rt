@@ -158,8 +158,15 @@ impl Builder {
         requires patterns { length starts.items ≡ self.patterns }
         requires few { self.patterns ≤ 2147483647 }
         requires accounted { facts.accounted_states ≤ 2147483647 }
-        ensures value { IfOk result (λ nfa. nfa ≡ record { states = self.states; start_anchored = start_anchored; starts = starts.items; slots = self.slots;
-            utf8 = facts.utf8; has_empty = facts.has_empty; accounted = facts.accounted_states }) }
+        ensures value { IfOk result (λ nfa. nfa ≡ record {
+          states = self.states;
+          start_anchored = start_anchored;
+          starts = starts.items;
+          slots = self.slots;
+          utf8 = facts.utf8;
+          has_empty = facts.has_empty;
+          accounted = facts.accounted_states;
+        }) }
         ensures in_range { IfOk result IsInRange }
     {
         let slot_len = self.slot_len;

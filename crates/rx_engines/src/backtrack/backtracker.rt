@@ -9,12 +9,11 @@ ghost use Rattle.rx_engines.specs.Engine.{next_match_for, HasSlots, accounted_me
 ghost use Rattle.rx_engines.specs.Bounded.{next_match_within, IsNfaOf, max_len, span_len, IsRefusal, Fits};
 
 use crate::backtrack::cache::Cache;
-use crate::backtrack::error::MatchError;
 use crate::backtrack::search::Search;
 use crate::report::reported;
 use crate::slots::empty;
 use crate::starts::latest_start;
-use rx_search::{Anchored, Input, Match, Memory, NonMaxUsize, PatternID, StateID};
+use rx_search::{Anchored, Input, Match, MatchError, Memory, NonMaxUsize, PatternID, StateID};
 use rx_thompson::NFA;
 use std::alloc::Global;
 use std::marker::Model;

@@ -43,8 +43,13 @@ returns c =
           subst (λ n. HasFirstRuns n (patterns_of exprs utf8_empty terminator which)) (sym is)
           (HasFirstRuns-from (patterns_of exprs utf8_empty terminator which)
           (record {
-            states = new.states; start_anchored = c.in_ok-start.start; starts = starts; slots = new.slots;
-            utf8 = c.get_utf8.result; has_empty = c.one_can_be_empty.result; accounted = c.args.states;
+            states = new.states;
+            start_anchored = c.in_ok-start.start;
+            starts = starts;
+            slots = new.slots;
+            utf8 = c.get_utf8.result;
+            has_empty = c.one_can_be_empty.result;
+            accounted = c.args.states;
           })
           old new has long refl all
           (λ none text end x. ap (λ qs. (automaton qs text end).written x) (sym states)
