@@ -10,11 +10,7 @@ use rx_syntax::{Hir, greatest_group};
 use std::alloc::Global;
 
 /// The groups that have slots, without names.
-pub fn group_info(
-    alloc: Global,
-    which: WhichCaptures,
-    exprs: &[Hir],
-) -> Result<GroupInfo, Memory>
+pub fn group_info(alloc: Global, which: WhichCaptures, exprs: &[Hir]) -> Result<GroupInfo, Memory>
     requires { AreFew (captures_kind which) exprs.now }
     ensures { IfOk result (λ info. info ≡ groups_of (captures_kind which) exprs.now) }
 {

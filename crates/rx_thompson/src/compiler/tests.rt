@@ -93,7 +93,10 @@ fn group_lens(alloc: Global, which: WhichCaptures) -> Result<[usize; 4], Fail> {
 #[test]
 fn tells_the_groups_of_each_kind(rt: HostRuntime) -> Result<(), Fail> {
     assert_eq!(rt; group_lens(rt.alloc(), WhichCaptures::All)?, [2, 3, 2, 10]);
-    assert_eq!(rt; group_lens(rt.alloc(), WhichCaptures::Implicit)?, [2, 1, 1, 4]);
+    assert_eq!(rt;
+        group_lens(rt.alloc(), WhichCaptures::Implicit)?,
+        [2, 1, 1, 4]
+    );
     assert_eq!(rt; group_lens(rt.alloc(), WhichCaptures::None)?, [0, 0, 0, 0]);
     Ok(())
 }
