@@ -1,5 +1,6 @@
 -- The kinds of look-around, when each holds at a place of a text, and the number that tells a kind.
-use Rattle.std.specs.Prelude.{◌≡◌, refl, ℕ, ◌-◌, Bool, true, false, not, ◌&&◌, ◌||◌, ◌==◌, List, [], ◌∷◌, length, Option, Some, None, if◌then◌else◌, nat_le, slice_get}
+use Rattle.std.specs.Prelude.{◌≡◌, refl, ℕ, ◌-◌, Bool, false, not, ◌&&◌, ◌||◌, ◌==◌, List, [], ◌∷◌, length, Option, Some, None, if◌then◌else◌, is_some, nat_le, slice_get}
+use Rattle.std.specs.Bool.{beq}
 use Rattle.std.specs.Char.{len_utf8}
 use Rattle.std.specs.Option.{option_or}
 use Rattle.unicode.specs.Perl.{is_word_char, is_word_byte}
@@ -10,10 +11,10 @@ pub data Look : Type 0 where
   -- the start of the text, and its end
   start_text : Look
   end_text : Look
-  -- the start of a line that ends in the line terminator, and its end
+  -- the start of a line, where the line terminator ends lines, and its end
   start_lf : Look
   end_lf : Look
-  -- the start of a line that ends in `\r`, `\n` or `\r\n`, and its end; no line starts or ends within `\r\n`
+  -- the start of a line, where `\r`, `\n` and `\r\n` end lines, and its end
   start_crlf : Look
   end_crlf : Look
   -- a word character on one side and none on the other, and not so
@@ -36,11 +37,6 @@ pub data Look : Type 0 where
 abbrev pub is_some_and : Option ℕ → (ℕ → Bool) → Bool
 is_some_and None test = false
 is_some_and (Some x) test = test x
-
--- one of the two, and not both
-abbrev pub differ : Bool → Bool → Bool
-differ true b = not b
-differ false b = b
 
 -- the character, where its encoding takes n bytes
 abbrev pub of_length : ℕ → Option ℕ → Option ℕ
@@ -91,24 +87,38 @@ module _ (text : List ℕ) (i : ℕ) where
 
   -- the text starts at the place or a character ends there; the text ends there or a character begins there
   abbrev pub is_whole_before : Bool
-  is_whole_before = i == 0 || is_some_and char_before (λ c. true)
+  is_whole_before = i == 0 || is_some char_before
 
   abbrev pub is_whole_after : Bool
-  is_whole_after = i == length text || is_some_and char_after (λ c. true)
+  is_whole_after = i == length text || is_some char_after
+
+  -- a line starts at the place, or one ends there, where the terminator ends lines
+  abbrev pub is_line_start : (terminator : ℕ) → Bool
+  is_line_start terminator = i == 0 || is_before terminator
+
+  abbrev pub is_line_end : (terminator : ℕ) → Bool
+  is_line_end terminator = i == length text || is_after terminator
+
+  -- the same, where `\r`, `\n` and `\r\n` end lines; the place within `\r\n` is neither
+  abbrev pub is_crlf_line_start : Bool
+  is_crlf_line_start = i == 0 || is_before 10 || (is_before 13 && not (is_after 10))
+
+  abbrev pub is_crlf_line_end : Bool
+  is_crlf_line_end = i == length text || is_after 13 || (is_after 10 && not (is_before 13))
 
 -- the look-around holds at place i of the text, under the line terminator
 unfoldable pub holds : (terminator : ℕ) (text : List ℕ) → Look → (i : ℕ) → Bool
 holds terminator text start_text i = i == 0
 holds terminator text end_text i = i == length text
-holds terminator text start_lf i = i == 0 || is_before text i terminator
-holds terminator text end_lf i = i == length text || is_after text i terminator
-holds terminator text start_crlf i = i == 0 || is_before text i 10 || (is_before text i 13 && not (is_after text i 10))
-holds terminator text end_crlf i = i == length text || is_after text i 13 || (is_after text i 10 && not (is_before text i 13))
-holds terminator text word_ascii i = differ (word_byte_before text i) (word_byte_after text i)
-holds terminator text word_ascii_negate i = not (differ (word_byte_before text i) (word_byte_after text i))
-holds terminator text word_unicode i = differ (word_char_before text i) (word_char_after text i)
+holds terminator text start_lf i = is_line_start text i terminator
+holds terminator text end_lf i = is_line_end text i terminator
+holds terminator text start_crlf i = is_crlf_line_start text i
+holds terminator text end_crlf i = is_crlf_line_end text i
+holds terminator text word_ascii i = not (beq (word_byte_before text i) (word_byte_after text i))
+holds terminator text word_ascii_negate i = beq (word_byte_before text i) (word_byte_after text i)
+holds terminator text word_unicode i = not (beq (word_char_before text i) (word_char_after text i))
 holds terminator text word_unicode_negate i =
-    is_whole_before text i && is_whole_after text i && not (differ (word_char_before text i) (word_char_after text i))
+    is_whole_before text i && is_whole_after text i && beq (word_char_before text i) (word_char_after text i)
 holds terminator text word_start_ascii i = not (word_byte_before text i) && word_byte_after text i
 holds terminator text word_end_ascii i = word_byte_before text i && not (word_byte_after text i)
 holds terminator text word_start_unicode i = not (word_char_before text i) && word_char_after text i
