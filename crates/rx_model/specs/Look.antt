@@ -106,6 +106,17 @@ module _ (text : List ℕ) (i : ℕ) where
   abbrev pub is_crlf_line_end : Bool
   is_crlf_line_end = i == length text || is_after 13 || (is_after 10 && not (is_before 13))
 
+  -- whole characters, or ends of the text, on both sides of the place, and no end of a word there
+  abbrev pub is_no_word_boundary : Bool
+  is_no_word_boundary = is_whole_before && is_whole_after && beq word_char_before word_char_after
+
+  -- a whole character that is none of a word, or the end of the text, before the place; after it
+  abbrev pub is_word_start_half : Bool
+  is_word_start_half = is_whole_before && not word_char_before
+
+  abbrev pub is_word_end_half : Bool
+  is_word_end_half = is_whole_after && not word_char_after
+
 -- the look-around holds at place i of the text, under the line terminator
 unfoldable pub holds : (terminator : ℕ) (text : List ℕ) → Look → (i : ℕ) → Bool
 holds terminator text start_text i = i == 0
@@ -117,16 +128,15 @@ holds terminator text end_crlf i = is_crlf_line_end text i
 holds terminator text word_ascii i = not (beq (word_byte_before text i) (word_byte_after text i))
 holds terminator text word_ascii_negate i = beq (word_byte_before text i) (word_byte_after text i)
 holds terminator text word_unicode i = not (beq (word_char_before text i) (word_char_after text i))
-holds terminator text word_unicode_negate i =
-    is_whole_before text i && is_whole_after text i && beq (word_char_before text i) (word_char_after text i)
+holds terminator text word_unicode_negate i = is_no_word_boundary text i
 holds terminator text word_start_ascii i = not (word_byte_before text i) && word_byte_after text i
 holds terminator text word_end_ascii i = word_byte_before text i && not (word_byte_after text i)
 holds terminator text word_start_unicode i = not (word_char_before text i) && word_char_after text i
 holds terminator text word_end_unicode i = word_char_before text i && not (word_char_after text i)
 holds terminator text word_start_half_ascii i = not (word_byte_before text i)
 holds terminator text word_end_half_ascii i = not (word_byte_after text i)
-holds terminator text word_start_half_unicode i = is_whole_before text i && not (word_char_before text i)
-holds terminator text word_end_half_unicode i = is_whole_after text i && not (word_char_after text i)
+holds terminator text word_start_half_unicode i = is_word_start_half text i
+holds terminator text word_end_half_unicode i = is_word_end_half text i
 
 -- the kinds, in order
 abbrev pub kinds : List Look

@@ -1,4 +1,4 @@
-//! The words of a search: identifiers, spans, inputs and matches. It stands on rx_model alone.
+//! The words of a search: identifiers, spans, inputs and matches. It stands on rx_model.
 //!
 //! `PatternID`, `StateID` and `NonMaxUsize` are numbers with a limit; `Memory` is the error of a call that only
 //! want of memory can refuse. An `Input` is what a search is given, and contracts see it as a record. A
@@ -9,6 +9,9 @@
 mod anchored;
 mod gate;
 mod input;
+mod look;
+mod look_matcher;
+mod look_set;
 mod matches;
 mod memory;
 mod primitives;
@@ -18,6 +21,9 @@ mod span;
 pub use anchored::{Anchored, MatchKind};
 pub use gate::{Gate, Open};
 pub use input::Input;
+pub use look::Look;
+pub use look_matcher::LookMatcher;
+pub use look_set::{LookSet, LookSetIter};
 pub use matches::{HalfMatch, Match};
 pub use memory::Memory;
 pub use primitives::{NonMaxUsize, PatternID, StateID};
