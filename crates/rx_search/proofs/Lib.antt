@@ -1,1 +1,2 @@
 pub mod SearcherLemmas
+pub mod CharacterLemmas
