@@ -1,2 +1,3 @@
 pub mod SearcherLemmas
 pub mod CharacterLemmas
+pub mod LookSetLemmas
