@@ -1,17 +1,17 @@
 -- The characters on both sides of a place, by what decodes there.
-use Rattle.std.proofs.Common.{◌≡◌, ℕ, zero, suc, ◌+◌, ◌-◌, ◌*◌, ◌/◌, ◌%◌, ◌<◌, ◌≤◌, ◌⊎◌, Bool, true, false, cond, List, [], ◌∷◌, ◌++◌, length, take, drop, Option, Some, None, slice_index, ◌==◌, nat_le, refl, sym, ap, ◌∙◌, subst, inl, inr, ⊎_elim, arith, lt-ltb, le-ltb, length-append, length-drop, length-take-le, take-append-drop, append-nil, take_all}
+use Rattle.std.proofs.Common.{◌≡◌, ℕ, zero, suc, ◌+◌, ◌-◌, ◌/◌, ◌%◌, ◌<◌, ◌≤◌, ◌⊎◌, true, false, List, [], ◌∷◌, ◌++◌, length, take, drop, Option, Some, None, slice_index, ◌==◌, nat_le, refl, sym, ap, ◌∙◌, subst, inl, inr, ⊎_elim, arith, lt-ltb, le-ltb, length-drop, length-take-le, take-append-drop, append-nil}
 use Rattle.std.proofs.lemmas.Bool.{cond-true, cond-false, cases_lt}
 use Rattle.std.proofs.lemmas.Bool.Decides.{nat_tests}
-use Rattle.std.proofs.lemmas.List.{drop_all, drop-append-le, drop-take}
+use Rattle.std.proofs.lemmas.List.{drop_all, drop-append-le}
 use Rattle.std.proofs.lemmas.Option.{none-some, cond_some}
-use Rattle.std.proofs.lemmas.Str.{length-encode, len_utf8_bounds, encode_ascii}
+use Rattle.std.proofs.lemmas.Str.{length-encode, len_utf8_bounds}
 use Rattle.std.proofs.Math.Seq.{take-append_seam, take-append-add}
 use Rattle.std.specs.Char.{IsScalar, len_utf8, encode_utf8}
 use Rattle.std.specs.Option.{option_or}
 use Rattle.bstr.specs.Utf8.{Decoded, good, decoded, continues, IsLastPiece}
 use Rattle.bstr.proofs.lemmas.EncodeLemmas.{decoded-encode}
 use Rattle.bstr.proofs.lemmas.PieceLemmas.{IsLastPiece-whole}
-use Rattle.bstr.proofs.lemmas.SoundLemmas.{SpellsChar, SpellsChar-decoded, IsLastPiece-decoded, IsLastPiece-same}
+use Rattle.bstr.proofs.lemmas.SoundLemmas.{SpellsChar-decoded, IsLastPiece-decoded, IsLastPiece-same}
 use Rattle.rx_model.specs.Text.{char_at}
 use Rattle.rx_model.specs.Look.{char_before, char_of_length_before, of_length}
 use Rattle.rx_model.proofs.CharLemmas.{char_at_parts, char_at_from}

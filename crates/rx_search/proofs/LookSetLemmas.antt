@@ -1,13 +1,15 @@
 -- Sets of look-arounds, bit by bit.
-use Rattle.std.proofs.Common.{◌≡◌, ℕ, zero, suc, ◌+◌, ◌-◌, ◌*◌, ◌/◌, ◌%◌, ◌^◌, ◌<◌, ◌≤◌, Bool, true, false, not, ◌&&◌, ◌||◌, ◌==◌, bit_and, bit_or, refl, sym, ap, ap₂, ◌∙◌, arith}
-use Rattle.std.proofs.lemmas.Bool.{cases_Bool}
+use Rattle.std.proofs.Common.{◌≡◌, ℕ, zero, suc, ◌+◌, ◌-◌, ◌*◌, ◌/◌, ◌%◌, ◌^◌, ◌<◌, ◌≤◌, Bool, true, false, not, ◌&&◌, ◌||◌, ◌==◌, bit_and, bit_or, if◌then◌else◌, ◌∷◌, drop, filter, get_or, slice_get, List, [], Some, subst, refl, sym, ap, ap₂, ◌∙◌, arith}
+use Rattle.std.proofs.lemmas.Bool.{cond-true, cond-false}
+use Rattle.std.proofs.lemmas.List.{drop_more}
+use Rattle.std.proofs.lemmas.Option.{none-some, slice_get_within, get_or_from_slice_get}
 use Rattle.std.proofs.lemmas.Bool.Decides.{nat_tests}
 use Rattle.std.proofs.lemmas.Grind.{and-not_self, and_not_bit}
 use Rattle.std.proofs.lemmas.Nat.{and_le_l, and_mask, and_shr, or_shr, and_mod, or_mod, bit_set_by_shift, pow_apart, shl-shr, shr-shr}
-use Rattle.rx_model.specs.Look.{Look, look_number, start_text, end_text, start_lf, end_lf, start_crlf, end_crlf, word_ascii, word_ascii_negate, word_unicode, word_unicode_negate, word_start_ascii, word_end_ascii, word_start_unicode, word_end_unicode, word_start_half_ascii, word_end_half_ascii, word_start_half_unicode, word_end_half_unicode}
+use Rattle.rx_model.specs.Look.{Look, look_number, look_of, look-back, kinds, start_text, end_text, start_lf, end_lf, start_crlf, end_crlf, word_ascii, word_ascii_negate, word_unicode, word_unicode_negate, word_start_ascii, word_end_ascii, word_start_unicode, word_end_unicode, word_start_half_ascii, word_end_half_ascii, word_start_half_unicode, word_end_half_unicode}
 use Rattle.rx_model.proofs.RunLemmas.{by_test}
 use Rattle.rx_search.specs.Look.{is_same_kind}
-use Rattle.rx_search.specs.LookSet.{has}
+use Rattle.rx_search.specs.LookSet.{has, kinds_in, kinds_from}
 
 -- the bit of number k
 abbrev digit : ℕ → ℕ → Bool
@@ -194,3 +196,50 @@ no_bits s small none =
     let b1 = halves s 1 b2 (clear end_text) in
     let b0 = halves s 0 b1 (clear start_text) in
     omega (arith, b0)
+
+-- the kinds from a number on are its kind, where the set has it, and those from the next number on
+kinds_from-next : (set number : ℕ) (kind : Look) → look_of number ≡ Some kind
+    → kinds_from set number ≡ (if has set kind then kind ∷ kinds_from set (number + 1) else kinds_from set (number + 1))
+kinds_from-next set number kind is =
+    let within : number < 18 = slice_get_within kinds number kind is in
+    let first : get_or kinds number kind ≡ kind = get_or_from_slice_get kinds number kind kind is in
+    ap (filter (has set)) (drop_more kinds number kind within ∙ ap (λ k. k ∷ drop (number + 1) kinds) first)
+
+pub kinds_from-has : (set number : ℕ) (kind : Look) → look_of number ≡ Some kind → has set kind ≡ true
+    → kinds_from set number ≡ kind ∷ kinds_from set (number + 1)
+kinds_from-has set number kind is found = kinds_from-next set number kind is ∙ cond-true _ _ _ found
+
+pub kinds_from-lacks : (set number : ℕ) (kind : Look) → look_of number ≡ Some kind → has set kind ≡ false
+    → kinds_from set number ≡ kinds_from set (number + 1)
+kinds_from-lacks set number kind is lacking = kinds_from-next set number kind is ∙ cond-false _ _ _ lacking
+
+-- the test holds at each kind of the list
+abbrev pub Each : (Look → Bool) → List Look → Type 0
+Each test [] = Unit {0}
+Each test (kind ∷ ks) = (test kind ≡ true) × Each test ks
+
+filter-each : (f test : Look → Bool) (ks : List Look) → ((kind : Look) → f kind ≡ true → test kind ≡ true) → Each test (filter f ks)
+filter-each f test [] h = tt
+filter-each f test (k ∷ ks) h =
+    by_test (f k)
+    (λ e. subst (Each test) (sym (cond-true _ (k ∷ filter f ks) (filter f ks) e)) (h k e, filter-each f test ks h))
+    (λ e. subst (Each test) (sym (cond-false _ (k ∷ filter f ks) (filter f ks) e)) (filter-each f test ks h))
+
+each-of-filter : (f test : Look → Bool) (ks : List Look) → Each test (filter f ks) → (n : ℕ) (kind : Look) → slice_get ks n ≡ Some kind
+    → f kind ≡ true → test kind ≡ true
+each-of-filter f test [] all n kind is e = absurd (none-some kind is)
+each-of-filter f test (k ∷ ks) all zero kind is e =
+    let same : k ≡ kind = cc in
+    let here : f k ≡ true = ap f same ∙ e in
+    ap test (sym same) ∙ (subst (Each test) (cond-true _ (k ∷ filter f ks) (filter f ks) here) all).0
+each-of-filter f test (k ∷ ks) all (suc n) kind is e =
+    by_test (f k)
+    (λ there. each-of-filter f test ks (subst (Each test) (cond-true _ (k ∷ filter f ks) (filter f ks) there) all).1 n kind is e)
+    (λ away. each-of-filter f test ks (subst (Each test) (cond-false _ (k ∷ filter f ks) (filter f ks) away) all) n kind is e)
+
+-- a test holds at each kind that is in a set exactly where it holds at each of the list of these
+pub each-kind : (set : ℕ) (test : Look → Bool) → ((kind : Look) → has set kind ≡ true → test kind ≡ true) → Each test (kinds_in set)
+each-kind set test h = filter-each (has set) test kinds h
+
+pub kind-of-each : (set : ℕ) (test : Look → Bool) → Each test (kinds_in set) → (kind : Look) → has set kind ≡ true → test kind ≡ true
+kind-of-each set test all kind e = each-of-filter (has set) test kinds all (look_number kind) kind (look-back kind) e

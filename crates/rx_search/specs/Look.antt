@@ -1,6 +1,5 @@
 -- Look-around: the kinds as the model has them, and sets of kinds.
-use Rattle.std.specs.Prelude.{ℕ, ◌^◌, ◌<◌, Bool, true, not, ◌==◌, ◌≡◌, List, filter, drop}
-use Rattle.std.specs.Int.RustNames.{bit_and}
+use Rattle.std.specs.Prelude.{Bool, ◌==◌}
 use Rattle.rx_model.specs.Look as model
 use Rattle.rx_model.specs.Look.{holds, kinds, look_number, start_text, end_text, start_lf, end_lf, start_crlf, end_crlf, word_ascii, word_ascii_negate, word_unicode, word_unicode_negate, word_start_ascii, word_end_ascii, word_start_unicode, word_end_unicode, word_start_half_ascii, word_end_half_ascii, word_start_half_unicode, word_end_half_unicode}
 use Rattle.rx_search.specs.declared.look.Look.{Look}

@@ -52,6 +52,7 @@ impl LookMatcher {
 
     /// Whether the look-around holds at the byte offset `at`. It reads no more than the character on either
     /// side of it.
+    #[tactic(auto, unfolding(rx_model::specs::Look::holds))]
     pub fn matches(&self, look: Look, haystack: &[u8], at: usize) -> bool
         requires { at ≤ length haystack.now }
         ensures { result ≡ holds self.now haystack.now (kind_of look) at }

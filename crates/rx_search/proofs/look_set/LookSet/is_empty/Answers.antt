@@ -1,6 +1,5 @@
-use Rattle.std.proofs.Common.{◌≡◌, ℕ, false, sym, ap, ◌∙◌, arith}
+use Rattle.std.proofs.Common.{◌≡◌, ℕ, sym, ap, ◌∙◌, arith}
 use Rattle.std.proofs.lemmas.Bool.Decides.{nat_tests}
-use Rattle.rx_model.specs.Look.{Look}
 use Rattle.rx_search.specs.LookSet.{has}
 use Rattle.rx_search.proofs.LookSetLemmas.{has-none, no_bits}
 use Rattle.rx_search.proofs.look_set.LookSet.is_empty.Goals as goal
