@@ -112,10 +112,10 @@ IsWhole-encode c =
     ⊎_elim
     (λ (within : c < 0x1_0000).
     subst IsWhole (sym (cond-false _ _ _ (le-ltb c 128 past) ∙ cond-false _ _ _ (le-ltb c 2048 past') ∙ cond-true _ _ _ (lt-ltb c 65536 within)))
-        (three _ _ _ (grind (arith, nat_tests)) (low (c / 64)) (low c)))
+    (three _ _ _ (grind (arith, nat_tests)) (low (c / 64)) (low c)))
     (λ (past'' : 0x1_0000 ≤ c).
     subst IsWhole (sym (cond-false _ _ _ (le-ltb c 128 past) ∙ cond-false _ _ _ (le-ltb c 2048 past') ∙ cond-false _ _ _ (le-ltb c 65536 past'')))
-        (four _ _ _ _ (grind (arith, nat_tests)) (low (c / 4096)) (low (c / 64)) (low c)))
+    (four _ _ _ _ (grind (arith, nat_tests)) (low (c / 4096)) (low (c / 64)) (low c)))
     (cases_lt c 0x1_0000))
     (cases_lt c 0x800))
     (cases_lt c 0x80)
@@ -154,7 +154,7 @@ module _ (text : List ℕ) (i : ℕ) (within : i ≤ length text) where
       let whole : text ≡ take (i - n) text ++ (ys ++ drop (i - n + len_utf8 c) text) = sym (take-append-drop (i - n) text) ∙ ap (λ r. take (i - n) text ++ r) stands.1 in
       let place : i ≡ length (take (i - n) text) + n = omega arith in
       let front : take i text ≡ take (i - n) text ++ ys = (λ k. take (place k) (whole k)) ∙ take-append-add (take (i - n) text) (ys ++ drop (i - n + len_utf8 c) text) n
-          ∙ ap (λ r. take (i - n) text ++ r) (ap (λ m. take m (ys ++ drop (i - n + len_utf8 c) text)) (sym size) ∙ take-append_seam ys (drop (i - n + len_utf8 c) text)) in
+      ∙ ap (λ r. take (i - n) text ++ r) (ap (λ m. take m (ys ++ drop (i - n + len_utf8 c) text)) (sym size) ∙ take-append_seam ys (drop (i - n + len_utf8 c) text)) in
       subst (λ bs. IsLastPiece bs (good c n)) (sym front) (subst (λ m. IsLastPiece (take (i - n) text ++ ys) (good c m)) parts.1 (IsLastPiece-encode (take (i - n) text) c stands.0))
 
   module _ (p : Decoded) (last : IsLastPiece (take i text) p) where

@@ -25,8 +25,8 @@ has-digit s kind =
     (λ none.
     let clear : bit_and s (2 ^ k) ≡ 0 = grind (arith, nat_tests) in
     let zero_digit : digit s k ≡ false = by_test (digit s k)
-        (λ yes. let one : s / 2 ^ k % 2 ≡ 1 = grind (arith, nat_tests) in absurd (set.0 (low ∙ one) clear))
-        (λ no. no) in
+    (λ yes. let one : s / 2 ^ k % 2 ≡ 1 = grind (arith, nat_tests) in absurd (set.0 (low ∙ one) clear))
+    (λ no. no) in
     ap not none ∙ sym zero_digit)
     (λ some.
     let one : bit_and (s / 2 ^ k) 1 ≡ 1 = set.1 (λ clear. grind (arith, nat_tests)) in

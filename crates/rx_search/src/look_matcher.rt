@@ -10,6 +10,9 @@ use crate::look_set::LookSet;
 use std::marker::Model;
 use unicode::perl::is_word_character;
 
+#[cfg(test)]
+mod tests;
+
 /// Tells where look-arounds hold.
 #[derive(Clone, Copy, Debug, PartialEq, Eq)]
 pub struct LookMatcher {
@@ -64,7 +67,8 @@ impl LookMatcher {
             Look::EndLF => is_line_end(haystack, at, self.line_terminator),
             Look::StartCRLF => is_crlf_line_start(haystack, at),
             Look::EndCRLF => is_crlf_line_end(haystack, at),
-            Look::WordAscii => is_word_byte_before(haystack, at) != is_word_byte_after(haystack, at),
+            Look::WordAscii => is_word_byte_before(haystack, at)
+                != is_word_byte_after(haystack, at),
             Look::WordAsciiNegate => {
                 is_word_byte_before(haystack, at) == is_word_byte_after(haystack, at)
             }

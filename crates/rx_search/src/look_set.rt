@@ -7,6 +7,9 @@ ghost use Rattle.rx_search.specs.LookSet.{has, kinds_in, kinds_from};
 use crate::look::Look;
 use std::marker::Model;
 
+#[cfg(test)]
+mod tests;
+
 /// A set of kinds of look-around.
 #[derive(Clone, Copy, Debug, PartialEq, Eq)]
 pub struct LookSet {

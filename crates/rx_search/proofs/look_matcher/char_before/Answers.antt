@@ -6,4 +6,4 @@ pub returns : goal.returns
 returns c =
     let last = c.decode_last in
     sym (char_before-decoded c.args.haystack.now c.args.at (record { char = last.result.0; size = last.result.1 }) c.requires
-        (λ e. (last.ensures.empty e).0) last.ensures.last)
+    (λ e. (last.ensures.empty e).0) last.ensures.last)

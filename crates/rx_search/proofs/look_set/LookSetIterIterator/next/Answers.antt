@@ -23,5 +23,5 @@ loop-look-preserved c =
     let is = sym c.from_number.ensures ∙ ap (option_map kind_of) c.in-Some.is in (
       c.loop-look.invariant.0,
       sym (kinds_from-lacks c.loop-look.self.set c.loop-look.self.number (kind_of c.in-Some.look) is (sym c.contains.ensures ∙ c.if-contains.false))
-      ∙ c.loop-look.invariant.1,
+          ∙ c.loop-look.invariant.1,
     )
