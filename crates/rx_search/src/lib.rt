@@ -1,9 +1,10 @@
-//! The words of a search: identifiers, spans, inputs and matches. It stands on rx_model.
+//! The words of a search: identifiers, spans, inputs and matches. It stands on rx_model, and takes word
+//! characters from `unicode` and the reading of UTF-8 from `bstr`.
 //!
 //! `PatternID`, `StateID` and `NonMaxUsize` are numbers with a limit; `Memory` is the error of a call that only
 //! want of memory can refuse. An `Input` is what a search is given, and contracts see it as a record. A
 //! `Match` is what a search answers. A `Searcher` asks a `Finder` for one match after another, and what it
-//! gives is the list of successive matches.
+//! gives is the list of successive matches. A `LookMatcher` tells where look-arounds hold.
 #![tactic(auto)]
 
 mod anchored;

@@ -2,7 +2,7 @@ ghost use Rattle.std.specs.Prelude.{◌≡◌, ◌||◌, ◌&&◌, not, false, �
 ghost use Rattle.std.specs.Iterator.{YieldsFirstBy, item_count};
 ghost use Rattle.rx_model.specs.Look as model;
 ghost use Rattle.rx_search.specs.Look.{kind_of, is_same_kind};
-ghost use Rattle.rx_search.specs.LookSet.{has, kinds_in, kinds_from};
+ghost use Rattle.rx_search.specs.LookSet.{has, kinds_in};
 
 use crate::look::Look;
 use std::marker::Model;
@@ -88,7 +88,7 @@ impl LookSet {
 
     /// The kinds in the set, in order.
     pub fn iter(self) -> LookSetIter
-        ensures { kinds_from result.set result.number ≡ kinds_in self }
+        ensures { result ≡ kinds_in self }
     {
         LookSetIter {
             set: self,
@@ -104,12 +104,22 @@ pub struct LookSetIter {
     number: u32,
 }
 
+impl Model for LookSetIter {
+    ghost use Rattle.std.specs.Prelude.{List};
+    ghost use Rattle.rx_model.specs.Look as model;
+    ghost use Rattle.rx_search.specs.LookSet.{kinds_from};
+
+    ghost Value = { List model.Look };
+
+    ghost view = { λ it. kinds_from it.set it.number };
+}
+
 impl Iterator for LookSetIter {
     type Item = Look;
 
-    ghost next_gives = { YieldsFirstBy kind_of (λ it. kinds_from it.set it.number) };
+    ghost next_gives = { YieldsFirstBy kind_of (λ it. it) };
 
-    ghost remaining = { item_count (λ it. kinds_from it.set it.number) };
+    ghost remaining = { item_count (λ it. it) };
 
     fn next(&mut self) -> Option<Look> {
         while let Some(look) = Look::from_number(self.number) {

@@ -9,7 +9,7 @@ use Rattle.rx_search.proofs.look_matcher.LookMatcher.matches_set.Goals as goal
 pub loop-look-init : goal.loop-look-init
 loop-look-init c =
     let test = λ (kind : model.Look). holds c.args.self.now c.args.haystack.now kind c.args.at in
-    let all = ap (λ it. kinds_from it.set it.number) c.into_iter-look-iterator.ensures.into_iter_gives ∙ c.iter-look-items.ensures in (
+    let all = c.into_iter-look-iterator.ensures.into_iter_gives ∙ c.iter-look-items.ensures in (
       λ each. kind-of-each c.args.set test (subst (Each test) all each),
       λ h. subst (Each test) (sym all) (each-kind c.args.set test h),
     )

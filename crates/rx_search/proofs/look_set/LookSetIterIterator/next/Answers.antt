@@ -1,4 +1,4 @@
-use Rattle.std.proofs.Common.{◌+◌, ◌<◌, length, sym, ap, ◌∙◌, subst, arith}
+use Rattle.std.proofs.Common.{◌≡◌, ◌+◌, ◌<◌, length, sym, ap, ◌∙◌, subst, arith}
 use Rattle.std.specs.Option.{option_map}
 use Rattle.rx_search.specs.Look.{kind_of}
 use Rattle.rx_search.specs.LookSet.{kinds_from}
@@ -7,21 +7,23 @@ use Rattle.rx_search.proofs.look_set.LookSetIterIterator.next.Goals as goal
 
 pub returns-then-contains-clause-steps : goal.returns-then-contains-clause-steps
 returns-then-contains-clause-steps c =
+    let it = c.loop-look.self-inside in
     let is = sym c.from_number.ensures ∙ ap (option_map kind_of) c.in-Some.is in
-    sym c.loop-look.invariant.1
-    ∙ kinds_from-has c.loop-look.self.set c.loop-look.self.number (kind_of c.in-Some.look) is (sym c.contains.ensures ∙ c.if-contains.true)
+    sym c.loop-look.invariant
+    ∙ kinds_from-has it.set it.number (kind_of c.in-Some.look) is (sym c.contains.ensures ∙ c.if-contains.true)
 
 pub returns-then-contains-clause-goes : goal.returns-then-contains-clause-goes
-returns-then-contains-clause-goes c = record {
-  on = λ _. (tt, tt, subst (λ ks. length (kinds_from c.loop-look.self.set (c.loop-look.self.number + 1)) < length ks) (sym (returns-then-contains-clause-steps c)) (omega arith));
-  keeps = tt;
-  rests = λ _. tt;
-}
+returns-then-contains-clause-goes c =
+    let it = c.loop-look.self-inside in
+    record {
+      on = λ _. (tt, tt, subst (λ ks. length (kinds_from it.set (it.number + 1)) < length ks) (sym (returns-then-contains-clause-steps c)) (omega arith));
+      keeps = tt;
+      rests = λ _. tt;
+    }
 
 pub loop-look-preserved : goal.loop-look-preserved
 loop-look-preserved c =
-    let is = sym c.from_number.ensures ∙ ap (option_map kind_of) c.in-Some.is in (
-      c.loop-look.invariant.0,
-      sym (kinds_from-lacks c.loop-look.self.set c.loop-look.self.number (kind_of c.in-Some.look) is (sym c.contains.ensures ∙ c.if-contains.false))
-          ∙ c.loop-look.invariant.1,
-    )
+    let it = c.loop-look.self-inside in
+    let is = sym c.from_number.ensures ∙ ap (option_map kind_of) c.in-Some.is in
+    sym (kinds_from-lacks it.set it.number (kind_of c.in-Some.look) is (sym c.contains.ensures ∙ c.if-contains.false))
+    ∙ c.loop-look.invariant

@@ -4,8 +4,7 @@ use Rattle.rx_search.proofs.look_set.LookSetIterIterator.next.Given as goal
 
 -- the kinds that are still to come are those at the start
 abbrev pub invariant-loop-look : goal.invariant-loop-look
-invariant-loop-look l =
-    (l.self.set ≡ l.initial.self.set) × (kinds_from l.self.set l.self.number ≡ kinds_from l.initial.self.set l.initial.self.number)
+invariant-loop-look l = kinds_from l.self-inside.set l.self-inside.number ≡ l.fn.self
 
 abbrev pub decreases-loop-look : goal.decreases-loop-look
-decreases-loop-look l = 18 - l.self.number
+decreases-loop-look l = 18 - l.self-inside.number
