@@ -1,3 +1,5 @@
 pub mod SearcherLemmas
 pub mod CharacterLemmas
 pub mod LookSetLemmas
+pub mod GroupLemmas
+pub mod FaultLemmas

@@ -5,3 +5,5 @@ pub mod Searcher
 pub mod Example
 pub mod Look
 pub mod LookSet
+pub mod GroupInfo
+pub mod GroupTables

@@ -9,6 +9,9 @@
 
 mod anchored;
 mod gate;
+mod group_check;
+mod group_error;
+mod group_info;
 mod input;
 mod look;
 mod look_matcher;
@@ -21,6 +24,8 @@ mod span;
 
 pub use anchored::{Anchored, MatchKind};
 pub use gate::{Gate, Open};
+pub use group_error::GroupInfoError;
+pub use group_info::GroupInfo;
 pub use input::Input;
 pub use look::Look;
 pub use look_matcher::LookMatcher;
