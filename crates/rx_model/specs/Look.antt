@@ -106,11 +106,12 @@ module _ (text : List ℕ) (i : ℕ) where
   abbrev pub is_crlf_line_end : Bool
   is_crlf_line_end = i == length text || is_after 13 || (is_after 10 && not (is_before 13))
 
-  -- whole characters, or ends of the text, on both sides of the place, and no end of a word there
+  -- whole characters, or ends of the text, on both sides of the place, and a word character on both or on none
   abbrev pub is_no_word_boundary : Bool
   is_no_word_boundary = is_whole_before && is_whole_after && beq word_char_before word_char_after
 
-  -- a whole character that is none of a word, or the end of the text, before the place; after it
+  -- before the place a whole character that is no word character, or the start of the text; after the place
+  -- such a character, or the end of the text
   abbrev pub is_word_start_half : Bool
   is_word_start_half = is_whole_before && not word_char_before
 
