@@ -1,4 +1,6 @@
 pub mod SearcherLemmas
+pub mod CharacterLemmas
+pub mod LookSetLemmas
 pub mod GroupLemmas
 pub mod FaultLemmas
 pub mod GroupSlotLemmas

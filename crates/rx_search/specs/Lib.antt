@@ -3,5 +3,7 @@ pub mod Anchored
 pub mod Input
 pub mod Searcher
 pub mod Example
+pub mod Look
+pub mod LookSet
 pub mod GroupInfo
 pub mod GroupTables

@@ -1,12 +1,12 @@
-//! The words of a search: identifiers, spans, inputs, matches and groups. It stands on rx_model, and on thiserror
-//! for the texts of one error.
+//! The words of a search: identifiers, spans, inputs, matches and groups. It stands on rx_model, and takes word
+//! characters from `unicode`, the reading of UTF-8 from `bstr` and the texts of one error from `thiserror`.
 //!
 //! `PatternID`, `StateID` and `NonMaxUsize` are numbers with a limit; `Memory` is the error of a call that only
 //! want of memory can refuse. An `Input` is what a search is given, and contracts see it as a record. A
 //! `Match` is what a search answers. A `Searcher` asks a `Finder` for one match after another, and what it
 //! gives is the list of successive matches. A `GroupInfo` has the capturing groups of patterns, with their names
 //! and slots, and contracts see it as the list of names of each pattern's groups. A `MatchError` says why a search
-//! gives no answer.
+//! gives no answer. A `LookMatcher` tells where look-arounds hold.
 #![tactic(auto)]
 
 mod anchored;
@@ -16,6 +16,9 @@ mod group_error;
 mod group_info;
 mod input;
 mod match_error;
+mod look;
+mod look_matcher;
+mod look_set;
 mod matches;
 mod memory;
 mod primitives;
@@ -28,6 +31,9 @@ pub use group_error::GroupInfoError;
 pub use group_info::{GroupInfo, slots_are_written};
 pub use input::Input;
 pub use match_error::MatchError;
+pub use look::Look;
+pub use look_matcher::LookMatcher;
+pub use look_set::{LookSet, LookSetIter};
 pub use matches::{HalfMatch, Match};
 pub use memory::Memory;
 pub use primitives::{NonMaxUsize, PatternID, StateID};
