@@ -134,15 +134,23 @@ impl NFA {
         self.inner.utf8
     }
 
-    /// Whether one of the patterns can match the empty string.
+    /// Whether one of the patterns can match the empty string. Where it is false, no match is empty: the law
+    /// `what_means_the_empty_string_can_be_empty` of rx_model.
     pub fn has_empty(&self) -> bool
         ensures value { result ≡ self.now.has_empty }
     {
         self.inner.has_empty
     }
 
-    /// Whether each match starts where the text starts: never, since no expression can ask for that yet.
+    /// Whether every pattern asks for the start of the text: false, since no expression can ask for that yet.
     pub fn is_always_start_anchored(&self) -> bool
+        ensures { result ≡ false }
+    {
+        false
+    }
+
+    /// Whether the NFA reads its texts backwards: false, since every NFA is a forward one yet.
+    pub fn is_reverse(&self) -> bool
         ensures { result ≡ false }
     {
         false

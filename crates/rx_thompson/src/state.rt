@@ -6,13 +6,15 @@ use std::marker::Model;
 /// On a byte from `start` to `end`, both included, to the state `next`.
 #[derive(Clone, Copy)]
 pub struct Transition {
+    /// The first byte.
     pub start: u8,
+    /// The last byte.
     pub end: u8,
+    /// Where it leads.
     pub next: StateID,
 }
 
-/// Transitions in ascending order of their bytes, no two of which share a byte. A contract sees
-/// them as a list.
+/// Transitions, the first of those that have a byte taken on it. A contract sees them as a list.
 #[derive(Drop)]
 pub struct Transitions {
     items: Vec<Transition>,
@@ -35,6 +37,7 @@ impl Transitions {
         Transitions { items }
     }
 
+    /// The transitions, in order.
     pub fn as_slice(&self) -> &[Transition]
         ensures { result.now ≡ self.now }
     {
@@ -64,6 +67,7 @@ impl Alternates {
         Alternates { ids }
     }
 
+    /// The states, in order.
     pub fn as_slice(&self) -> &[StateID]
         ensures { result.now ≡ self.now }
     {

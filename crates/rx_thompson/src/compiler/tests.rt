@@ -43,6 +43,29 @@ fn refuses_a_size_above_the_limit(rt: HostRuntime) -> Result<(), Fail> {
     Ok(())
 }
 
+/// So many characters `a`, as one pattern.
+fn long_pattern(alloc: Global, len: usize) -> Result<Vec<Hir>, AllocError> {
+    let mut exprs = Vec::new(alloc);
+    exprs.push(Hir::literal(vec![in alloc; b'a'; len]?))?;
+    Ok(exprs)
+}
+
+#[test]
+fn the_default_limit_of_a_regex_takes_327673_characters(rt: HostRuntime) -> Result<(), Fail> {
+    let mut compiler = Compiler::new();
+    compiler.configure(Config::new().nfa_size_limit(Some(10485760)));
+    let fits = long_pattern(rt.alloc(), 327673)?;
+    let nfa = compiler.build_many_from_hir(rt.alloc(), &fits)?;
+    assert_eq!(rt; nfa.memory_usage(), 10485760);
+    let too_long = long_pattern(rt.alloc(), 327674)?;
+    let refusal = BuildError::ExceededSizeLimit {
+        limit: 10485760,
+        size: 10485792,
+    };
+    assert!(rt; compiler.build_many_from_hir(rt.alloc(), &too_long).err() == Some(refusal));
+    Ok(())
+}
+
 #[test]
 fn tells_what_was_set(rt: HostRuntime) -> Result<(), Fail> {
     let config = Config::new();
