@@ -39,6 +39,19 @@ fn told(found: Option<Match>) -> Option<(usize, usize, usize)> {
     }
 }
 
+/// The pattern, the start and the end that the engine finds with a cache of its own.
+fn find(
+    rt: &impl Abort,
+    alloc: Global,
+    backtracker: &BoundedBacktracker,
+    input: &Input<'_>,
+    slots: &mut [Option<NonMaxUsize>],
+) -> Result<Option<(usize, usize, usize)>, Fail> {
+    let mut cache = backtracker.create_cache(alloc)?;
+    let found = backtracker.try_find_slots(&mut cache, input, slots);
+    Ok(told(found.ok().expect(rt, "no error")))
+}
+
 #[test]
 fn the_first_alternative_is_preferred(rt: HostRuntime) -> Result<(), Fail> {
     let alloc = rt.alloc();
@@ -87,7 +100,6 @@ fn a_span_may_be_too_long(rt: HostRuntime) -> Result<(), Fail> {
 fn searches_within_the_span(rt: HostRuntime) -> Result<(), Fail> {
     let alloc = rt.alloc();
     let backtracker = engine(&rt, alloc, &["b", "ab?"], true)?;
-    let mut cache = backtracker.create_cache(alloc)?;
     let second = PatternID::new(1).expect(&rt, "a number of a pattern");
     let cases = [
         (Anchored::No, 0, 5, Some((1, 1, 3))),
@@ -105,8 +117,8 @@ fn searches_within_the_span(rt: HostRuntime) -> Result<(), Fail> {
             let mut input = Input::new(b"xabab").anchored(anchored).earliest(earliest);
             assert!(rt; end <= 5 && start <= end);
             input.set_span(Span { start, end });
-            let found = backtracker.try_find_slots(&mut cache, &input, &mut []);
-            assert_eq!(rt; told(found.ok().expect(&rt, "no error")), want);
+            let found = find(&rt, alloc, &backtracker, &input, &mut [])?;
+            assert_eq!(rt; found, want);
         }
     }
     Ok(())
@@ -116,16 +128,12 @@ fn searches_within_the_span(rt: HostRuntime) -> Result<(), Fail> {
 fn empty_loops_end(rt: HostRuntime) -> Result<(), Fail> {
     let alloc = rt.alloc();
     let backtracker = engine(&rt, alloc, &["(a*)*"], true)?;
-    let mut cache = backtracker.create_cache(alloc)?;
     let mut slots = [None; 4];
     let cases = [("aab", (0, 0, 2), Some(0)), ("baa", (0, 0, 0), Some(0))];
     for (haystack, want, group) in cases {
-        let found = backtracker.try_find_slots(
-            &mut cache,
-            &Input::new(haystack.as_bytes()),
-            &mut slots,
-        );
-        assert_eq!(rt; told(found.ok().expect(&rt, "no error")), Some(want));
+        let input = Input::new(haystack.as_bytes());
+        let found = find(&rt, alloc, &backtracker, &input, &mut slots)?;
+        assert_eq!(rt; found, Some(want));
         assert_eq!(rt; place(slots[2]), group);
     }
     Ok(())
@@ -136,12 +144,11 @@ fn no_match_starts_inside_a_character(rt: HostRuntime) -> Result<(), Fail> {
     let alloc = rt.alloc();
     for (utf8, want) in [(true, (0, 2, 2)), (false, (0, 1, 1))] {
         let backtracker = engine(&rt, alloc, &[""], utf8)?;
-        let mut cache = backtracker.create_cache(alloc)?;
         let mut input = Input::new("é".as_bytes());
         assert!(rt; "é".len() == 2);
         input.set_start(1);
-        let found = backtracker.try_find_slots(&mut cache, &input, &mut []);
-        assert_eq!(rt; told(found.ok().expect(&rt, "no error")), Some(want));
+        let found = find(&rt, alloc, &backtracker, &input, &mut [])?;
+        assert_eq!(rt; found, Some(want));
     }
     Ok(())
 }
