@@ -1,6 +1,6 @@
 -- What a pattern's accepting runs write: the span of the whole match into the pattern's own slots, and places between into those of its groups.
 use Rattle.std.proofs.Common.{◌≡◌, ℕ, zero, suc, ◌+◌, ◌*◌, ◌-◌, ◌≤◌, ◌<◌, ◌⊎◌, Bool, true, false, List, [], ◌∷◌, ◌++◌, length, get_or, length-append, Option, Some, None, refl, sym, ◌∙◌, ap, subst, inl, inr, arith}
-use Rattle.std.specs.Prelude.{Contains, if◌then◌else◌, nat_le, ◌==◌, max}
+use Rattle.std.specs.Prelude.{Contains, if◌then◌else◌, nat_le, ◌==◌}
 use Rattle.std.specs.Option.{option_or}
 use Rattle.std.proofs.lemmas.Bool.Decides.{nat_tests}
 use Rattle.std.proofs.lemmas.List.{get_or_append_left}
@@ -11,8 +11,8 @@ use Rattle.rx_model.specs.Runs.{Configuration, PriorityGraph, Passed, nowhere, a
 use Rattle.rx_model.specs.Machine.{is_inside, graph_of}
 use Rattle.rx_model.specs.Expression.{Expression, Expressions, empty, literal, class, look, repetition, capture, concat, alternation, nil, cons}
 use Rattle.rx_model.specs.Graph.{State, text, set, assertion, slot, choice, accept, Builder, build_nothing, build_state, build_then, prefer, loop, loop_once, build_optional, copies, options, build_repetition, build_group, Parts, build_choice, build, build_in_turn, build_each, build_pattern, at, go_by, state_step, state_accepts, state_writes, machine_of, runs_of}
-use Rattle.rx_model.specs.Search.{Patterns, groups_before, slot_of, has_explicit_groups, greatest_group, greatest_in}
-use Rattle.rx_model.specs.Matches.{IsExplicit}
+use Rattle.rx_model.specs.Search.{Patterns, groups_before, slot_of, has_explicit_groups}
+use Rattle.rx_model.specs.Matches.{StandsIn, StandsAmong, IsExplicit}
 use Rattle.rx_model.proofs.RunLemmas.{by_test}
 use Rattle.rx_model.proofs.FirstLemmas.{none-is-some, some-is, tells}
 use Rattle.rx_model.proofs.MemberLemmas.{number-cases, choice-member, only-member, none-member}
@@ -167,35 +167,37 @@ module _ (low high : ℕ) (W : ℕ → Type 0) where
       let x = a next base (room.0, from, omega arith) in
       ((omega arith, omega arith), body-append p.states (choice p.starts ∷ []) x.1 (body-cons (choice p.starts) [] x.0 body-none))
 
-  module _ (slots : ℕ → Option ℕ) (top : ℕ) (own : (g n : ℕ) → g ≤ top → slots g ≡ Some n → W n × W (suc n)) where
+  module _ (slots : ℕ → Option ℕ) (Group : ℕ → Type 0) (own : (g n : ℕ) → Group g → slots g ≡ Some n → W n × W (suc n)) where
     mutual
-      unfolding build greatest_group
+      unfolding build StandsIn
 
       -- so are the states of an expression whose groups have slots of the set
-      pub build-body : (h : Expression) → greatest_group h ≤ top → BuildsBody (build slots h)
-      build-body empty le = nothing-body
-      build-body (literal bytes) le = state-body (text bytes) (λ next is. is)
-      build-body (class members) le = state-body (set members) (λ next is. is)
-      build-body (look kind) le = state-body (assertion kind) (λ next is. is)
-      build-body (repetition min max greedy sub) le = repetition-body (is_positive (minimum_len sub)) greedy (build slots sub) (build-body sub le) min max
-      build-body (capture group sub) le = group-body (slots group) (λ n e. own group n (omega arith) e) (build slots sub) (build-body sub (omega arith))
-      build-body (concat subs) le = in_turn-body subs le
-      build-body (alternation subs) le = choice-body (build_each slots subs) (each-body subs le)
+      pub build-body : (h : Expression) → ((g : ℕ) → StandsIn g h → Group g) → BuildsBody (build slots h)
+      build-body empty are = nothing-body
+      build-body (literal bytes) are = state-body (text bytes) (λ next is. is)
+      build-body (class members) are = state-body (set members) (λ next is. is)
+      build-body (look kind) are = state-body (assertion kind) (λ next is. is)
+      build-body (repetition min max greedy sub) are = repetition-body (is_positive (minimum_len sub)) greedy (build slots sub) (build-body sub are) min max
+      build-body (capture group sub) are =
+          group-body (slots group) (λ n e. own group n (are group (inl refl)) e) (build slots sub) (build-body sub (λ g s. are g (inr s)))
+      build-body (concat subs) are = in_turn-body subs are
+      build-body (alternation subs) are = choice-body (build_each slots subs) (each-body subs are)
 
-      in_turn-body : (hs : Expressions) → greatest_in hs ≤ top → BuildsBody (build_in_turn slots hs)
-      in_turn-body nil le = nothing-body
-      in_turn-body (cons sub subs) le = then-body (build slots sub) (build_in_turn slots subs) (build-body sub (omega arith)) (in_turn-body subs (omega arith))
+      in_turn-body : (hs : Expressions) → ((g : ℕ) → StandsAmong g hs → Group g) → BuildsBody (build_in_turn slots hs)
+      in_turn-body nil are = nothing-body
+      in_turn-body (cons sub subs) are =
+          then-body (build slots sub) (build_in_turn slots subs) (build-body sub (λ g s. are g (inl s))) (in_turn-body subs (λ g s. are g (inr s)))
 
-      each-body : (hs : Expressions) → greatest_in hs ≤ top → BuildsAll (build_each slots hs)
-      each-body nil le next base room = (λ q m. absurd (no-members q m), body-none)
-      each-body (cons sub subs) le next base room =
+      each-body : (hs : Expressions) → ((g : ℕ) → StandsAmong g hs → Group g) → BuildsAll (build_each slots hs)
+      each-body nil are next base room = (λ q m. absurd (no-members q m), body-none)
+      each-body (cons sub subs) are next base room =
           let f = build slots sub next base in
           let o = build_each slots subs next (base + length f.states) in
           let from = room.1 in
           let to = room.2 in
           let both = length-append f.states o.states in
-          let x = build-body sub (omega arith) next base (room.0, from, omega arith) in
-          let y = each-body subs (omega arith) next (base + length f.states) (room.0, omega arith, omega arith) in (
+          let x = build-body sub (λ g s. are g (inl s)) next base (room.0, from, omega arith) in
+          let y = each-body subs (λ g s. are g (inr s)) next (base + length f.states) (room.0, omega arith, omega arith) in (
             λ q m. elim (number-cases f.start q o.starts m) [ inl e ↦ subst IsBetween e x.0 | inr more ↦ y.0 q more ],
             body-append f.states o.states x.1 y.1,
           )
@@ -404,7 +406,7 @@ module _ (terminator : ℕ) (hay : List ℕ) (end : ℕ) where
 
 -- what an accepting run of a pattern tells
 module _ (terminator : ℕ) (hay : List ℕ) (end : ℕ) (slots : ℕ → Option ℕ) (p : ℕ) (h : Expression) (W : ℕ → Type 0)
-    (own : (g n : ℕ) → g ≤ greatest_group h → slots g ≡ Some n → W n × W (suc n)) (apart : W (2 * p) → ⊥) where
+    (own : (g n : ℕ) → StandsIn g h → slots g ≡ Some n → W n × W (suc n)) (apart : W (2 * p) → ⊥) where
   abbrev pattern_graph : PriorityGraph
   pattern_graph = runs_of terminator hay end (build_pattern slots p h).states
 
@@ -419,7 +421,7 @@ module _ (terminator : ℕ) (hay : List ℕ) (end : ℕ) (slots : ℕ → Option
       let high = 1 + length inner in
       let whole = accept p ∷ (inner ++ opening) in
       let placed = Placed-rest whole 0 (accept p) (inner ++ opening) (Placed-whole whole) in
-      let is_body = build-body 1 high W slots (greatest_group h) own h (omega arith) 1 2 ((omega arith, omega arith), omega arith, omega arith) in
+      let is_body = build-body 1 high W slots (λ g. StandsIn g h) own h (λ g s. s) 1 2 ((omega arith, omega arith), omega arith, omega arith) in
       opening-run terminator hay end whole p first high W refl refl
       (body-states b.states high opening is_body.1 (omega arith))
       nowhere (at high i) run b.start (Placed-first whole high (slot first b.start) [] (Placed-back whole 1 inner opening placed)).1 is_body.0 apart r
@@ -433,13 +435,13 @@ module _ (terminator : ℕ) (hay : List ℕ) (end : ℕ) (slots : ℕ → Option
 
 -- the slots of a pattern's groups are its own
 module _ (r : Patterns) (p : ℕ) (h : Expression) where
-  pub explicit-own : (g n : ℕ) → g ≤ greatest_group h → slot_of r p g ≡ Some n → IsExplicit r p h n × IsExplicit r p h (suc n)
-  explicit-own g n le e =
-      by_test (has_explicit_groups r.which_captures)
-      (λ told.
-      let is : 2 * length r.expressions + 2 * groups_before p r.expressions + 2 * (g - 1) ≡ n = some-is (rw told at e) in
-      ((omega arith, omega arith), (omega arith, omega arith)))
-      (λ none. none-is-some (rw none at e))
+  pub explicit-own : (g n : ℕ) → StandsIn g h → slot_of r p g ≡ Some n → IsExplicit r p h n × IsExplicit r p h (suc n)
+  explicit-own g n stands e = ((g, n, stands, e, inl refl), (g, n, stands, e, inr (omega arith)))
 
   pub explicit-apart : p < length r.expressions → IsExplicit r p h (2 * p) → ⊥
-  explicit-apart below is = let low = is.0 in omega arith
+  explicit-apart below is =
+      by_test (has_explicit_groups r.which_captures)
+      (λ told.
+      let at_first : 2 * length r.expressions + 2 * groups_before p r.expressions + 2 * (is.0 - 1) ≡ is.1 = some-is (rw told at is.3) in
+      elim is.4 [ inl e ↦ omega arith | inr e ↦ omega arith ])
+      (λ none. none-is-some (rw none at is.3))

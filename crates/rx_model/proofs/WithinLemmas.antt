@@ -12,7 +12,7 @@ use Rattle.rx_model.specs.Graph.{State, text, set, assertion, slot, choice, acce
 use Rattle.rx_model.specs.Search.{Patterns, slot_of, first, Anchor, free, anchored, anchored_to, Match, next_match, slot_value}
 use Rattle.rx_model.specs.Matches.{IsStart, HasFirstRun, IsMatch, IsSlotOf, IsExplicit, part_of, runs_of_pattern}
 use Rattle.rx_model.proofs.RunLemmas.{by_test}
-use Rattle.rx_model.proofs.FirstLemmas.{some-is, found-is_run, run-is_found}
+use Rattle.rx_model.proofs.FirstLemmas.{some-is, tells, found-is_run, run-is_found}
 use Rattle.rx_model.proofs.MemberLemmas.{none-member}
 use Rattle.rx_model.proofs.RiseLemmas.{trace-end, run-rises, run-accepts, mapped-some}
 use Rattle.rx_model.proofs.CoverLemmas.{run-means}
@@ -176,6 +176,14 @@ module _ (r : Patterns) (hay : List ℕ) (anchor : Anchor) where
             x.1,
             x.2,
           )
+
+      -- all others have none
+      pub match-others : (h : Expression) → slice_get r.expressions p ≡ Some h → (k : ℕ) → (IsSlotOf r p h k → ⊥) → slot_value m k ≡ None
+      match-others h there k other =
+          elim (tells (slot_value m k)) [
+            | inl none ↦ none
+            | inr some ↦ absurd (other (match-own h there k some.0 some.1).0)
+          ]
 
   -- a next match within an end is a match within each later end
   pub next-later : (e b a : ℕ) (m : Match) → next_match r hay anchor e a ≡ Some m → e ≤ b → IsMatch r hay anchor b a m

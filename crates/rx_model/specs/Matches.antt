@@ -1,9 +1,9 @@
 -- The next match and the successive matches, said as relations.
-use Rattle.std.specs.Prelude.{◌≡◌, ℕ, ◌+◌, ◌*◌, ◌≤◌, ◌<◌, ◌⊎◌, max, List, [], ◌∷◌, length, Option, Some, None, slice_get, IsTrue}
-use Rattle.rx_model.specs.Expression.{Expression}
+use Rattle.std.specs.Prelude.{◌≡◌, ℕ, ◌+◌, ◌*◌, ◌≤◌, ◌⊎◌, List, [], ◌∷◌, Option, Some, None, slice_get, IsTrue}
+use Rattle.rx_model.specs.Expression.{Expression, Expressions, empty, literal, class, look, repetition, capture, concat, alternation, nil, cons}
 use Rattle.rx_model.specs.Runs.{Configuration, PriorityGraph, Trace, IsRun, nowhere, trace}
 use Rattle.rx_model.specs.Graph.{Part, at, build_pattern, runs_of}
-use Rattle.rx_model.specs.Search.{Patterns, greatest_group, groups_before, slot_of, first, is_permitted, Anchor, free, anchored, anchored_to, Match, next_after}
+use Rattle.rx_model.specs.Search.{Patterns, slot_of, first, is_permitted, Anchor, free, anchored, anchored_to, Match, next_after}
 
 -- the place lies in a..b, and is its first one where the search is anchored
 abbrev pub IsStart : Anchor → (b a place : ℕ) → Type 0
@@ -61,12 +61,28 @@ AreSuccessive search None (n ∷ ms) = ⊥
 AreSuccessive search (Some m) [] = ⊥
 AreSuccessive search (Some m) (n ∷ ms) = (n ≡ m) × AreSuccessive search (next_after search m.trace.end) ms
 
--- The slot is in the range of the explicit groups of pattern p, whose expression is h. A group with the number 0 has
--- the slots of group 1.
+-- a group with this number stands in
+unfoldable mutual
+  -- the expression
+  pub StandsIn : (group : ℕ) → Expression → Type 0
+  StandsIn g empty = ⊥
+  StandsIn g (literal bytes) = ⊥
+  StandsIn g (class members) = ⊥
+  StandsIn g (look kind) = ⊥
+  StandsIn g (repetition least greatest greedy sub) = StandsIn g sub
+  StandsIn g (capture group sub) = (g ≡ group) ⊎ StandsIn g sub
+  StandsIn g (concat subs) = StandsAmong g subs
+  StandsIn g (alternation subs) = StandsAmong g subs
+
+  -- one of the list
+  pub StandsAmong : (group : ℕ) → Expressions → Type 0
+  StandsAmong g nil = ⊥
+  StandsAmong g (cons sub subs) = StandsIn g sub ⊎ StandsAmong g subs
+
+-- the slot is one of the two of an explicit group of pattern p, whose expression is h; there are none where the
+-- explicit groups have no slots
 abbrev pub IsExplicit : Patterns → ℕ → Expression → (slot : ℕ) → Type 0
-IsExplicit r p h slot =
-    (2 * length r.expressions + 2 * groups_before p r.expressions ≤ slot)
-    × (slot < 2 * length r.expressions + 2 * groups_before p r.expressions + 2 * max 1 (greatest_group h))
+IsExplicit r p h slot = (g : ℕ) × (first : ℕ) × StandsIn g h × (slot_of r p g ≡ Some first) × ((slot ≡ first) ⊎ (slot ≡ first + 1))
 
 -- the slot is of pattern p: one of its whole match, or one of its explicit groups
 abbrev pub IsSlotOf : Patterns → ℕ → Expression → (slot : ℕ) → Type 0

@@ -39,7 +39,9 @@ pub fn successive_matches_go_on()
 {}
 
 /// The slots of the whole match are its span: slot 2p holds the start of a match of pattern p, and slot 2p + 1 its
-/// end. Each other slot that has a place is one of that pattern's groups, and its place lies in the span.
+/// end. Each other slot that has a place is one of the two of an explicit group that stands in that pattern's
+/// expression, where such groups have slots, and its place lies in the span. So a match leaves nothing in any slot
+/// that is not of its pattern.
 pub fn the_slots_of_the_whole_match_are_its_span()
     ensures next { (r : Patterns) (text : List ℕ) (anchor : Anchor) (b a : ℕ) (m : Match)
         → next_match r text anchor b a ≡ Some m → (m.trace.pattern < length r.expressions)
@@ -48,6 +50,9 @@ pub fn the_slots_of_the_whole_match_are_its_span()
         → next_match r text anchor b a ≡ Some m → (h : Expression) → slice_get r.expressions m.trace.pattern ≡ Some h
         → (slot place : ℕ) → slot_value m slot ≡ Some place
         → IsSlotOf r m.trace.pattern h slot × (m.start ≤ place) × (place ≤ m.trace.end) }
+    ensures next_others { (r : Patterns) (text : List ℕ) (anchor : Anchor) (b a : ℕ) (m : Match)
+        → next_match r text anchor b a ≡ Some m → (h : Expression) → slice_get r.expressions m.trace.pattern ≡ Some h
+        → (slot : ℕ) → (IsSlotOf r m.trace.pattern h slot → ⊥) → slot_value m slot ≡ None }
     ensures each { (r : Patterns) (text : List ℕ) (anchor : Anchor) (b a : ℕ) (m : Match)
         → IsMatch r text anchor b a m → (m.trace.pattern < length r.expressions)
         × (slot_value m (2 * m.trace.pattern) ≡ Some m.start) × (slot_value m (2 * m.trace.pattern + 1) ≡ Some m.trace.end) }
@@ -55,6 +60,9 @@ pub fn the_slots_of_the_whole_match_are_its_span()
         → IsMatch r text anchor b a m → (h : Expression) → slice_get r.expressions m.trace.pattern ≡ Some h
         → (slot place : ℕ) → slot_value m slot ≡ Some place
         → IsSlotOf r m.trace.pattern h slot × (m.start ≤ place) × (place ≤ m.trace.end) }
+    ensures each_others { (r : Patterns) (text : List ℕ) (anchor : Anchor) (b a : ℕ) (m : Match)
+        → IsMatch r text anchor b a m → (h : Expression) → slice_get r.expressions m.trace.pattern ≡ Some h
+        → (slot : ℕ) → (IsSlotOf r m.trace.pattern h slot → ⊥) → slot_value m slot ≡ None }
 {}
 
 /// The next match within an end is a match within each later end.
