@@ -1,0 +1,2 @@
+pub mod Strategy
+pub mod Cache
