@@ -8,4 +8,5 @@ pub mod TableLemmas
 pub mod CloseLemmas
 pub mod StepLemmas
 pub mod StartLemmas
+pub mod StageLemmas
 pub mod EngineLemmas

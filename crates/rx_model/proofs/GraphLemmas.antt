@@ -131,7 +131,7 @@ module _ (terminator : ℕ) (hay : List ℕ) (end : ℕ) where
   stay-rises : (q i : ℕ) (d : Configuration) → Contains (at q i ∷ []) d → i ≤ d.place
   stay-rises q i d m = let e : i ≡ d.place = ap (λ (c : Configuration). c.place) (only-member (at q i) d m) in omega arith
 
-  step-rises : (s : State) (i : ℕ) (d : Configuration) → Contains (state_step terminator hay end s i) d → i ≤ d.place
+  pub step-rises : (s : State) (i : ℕ) (d : Configuration) → Contains (state_step terminator hay end s i) d → i ≤ d.place
   step-rises (text bytes next) i d m = go_by-rises (if stands_at hay i bytes then Some (length bytes) else None) next i d m
   step-rises (set members next) i d m = go_by-rises (member_len hay members i) next i d m
   step-rises (assertion kind next) i d m =
@@ -163,7 +163,7 @@ module _ (terminator : ℕ) (hay : List ℕ) (end : ℕ) where
         (λ e. absurd (true≢false (sym (rw e at h))))
 
     -- what it accepts is what a state accepts
-    runs_of-accepts : (c : Configuration) (q : ℕ) → (runs_of terminator hay end states).accepted c ≡ Some q → state_accepts (get_or states c.state (choice [])) ≡ Some q
+    pub runs_of-accepts : (c : Configuration) (q : ℕ) → (runs_of terminator hay end states).accepted c ≡ Some q → state_accepts (get_or states c.state (choice [])) ≡ Some q
     unfolding runs_of graph_of
     runs_of-accepts c q h =
         by_test (is_inside (machine_of terminator hay end states) end c)

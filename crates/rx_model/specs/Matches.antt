@@ -1,9 +1,9 @@
 -- The next match and the successive matches, said as relations.
-use Rattle.std.specs.Prelude.{◌≡◌, ℕ, ◌≤◌, List, [], ◌∷◌, Option, Some, None, slice_get, IsTrue}
+use Rattle.std.specs.Prelude.{◌≡◌, ℕ, ◌+◌, ◌*◌, ◌≤◌, ◌<◌, ◌⊎◌, max, List, [], ◌∷◌, length, Option, Some, None, slice_get, IsTrue}
 use Rattle.rx_model.specs.Expression.{Expression}
 use Rattle.rx_model.specs.Runs.{Configuration, PriorityGraph, Trace, IsRun, nowhere, trace}
 use Rattle.rx_model.specs.Graph.{Part, at, build_pattern, runs_of}
-use Rattle.rx_model.specs.Search.{Patterns, slot_of, first, is_permitted, Anchor, free, anchored, anchored_to, Match, next_after}
+use Rattle.rx_model.specs.Search.{Patterns, greatest_group, groups_before, slot_of, first, is_permitted, Anchor, free, anchored, anchored_to, Match, next_after}
 
 -- the place lies in a..b, and is its first one where the search is anchored
 abbrev pub IsStart : Anchor → (b a place : ℕ) → Type 0
@@ -60,3 +60,14 @@ AreSuccessive search None [] = Unit {0}
 AreSuccessive search None (n ∷ ms) = ⊥
 AreSuccessive search (Some m) [] = ⊥
 AreSuccessive search (Some m) (n ∷ ms) = (n ≡ m) × AreSuccessive search (next_after search m.trace.end) ms
+
+-- The slot is in the range of the explicit groups of pattern p, whose expression is h. A group with the number 0 has
+-- the slots of group 1.
+abbrev pub IsExplicit : Patterns → ℕ → Expression → (slot : ℕ) → Type 0
+IsExplicit r p h slot =
+    (2 * length r.expressions + 2 * groups_before p r.expressions ≤ slot)
+    × (slot < 2 * length r.expressions + 2 * groups_before p r.expressions + 2 * max 1 (greatest_group h))
+
+-- the slot is of pattern p: one of its whole match, or one of its explicit groups
+abbrev pub IsSlotOf : Patterns → ℕ → Expression → (slot : ℕ) → Type 0
+IsSlotOf r p h slot = (slot ≡ 2 * p) ⊎ (slot ≡ 2 * p + 1) ⊎ IsExplicit r p h slot

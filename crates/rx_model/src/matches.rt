@@ -1,9 +1,11 @@
 //! Laws of the next match and of successive matches.
 
-ghost use Rattle.std.specs.Prelude.{◌≡◌, ℕ, ◌+◌, ◌-◌, ◌<◌, ◌≤◌, List, Some, None, All, AllPairs};
+ghost use Rattle.std.specs.Prelude.{◌≡◌, ◌≢◌, ℕ, ◌+◌, ◌-◌, ◌*◌, ◌<◌, ◌≤◌, List, length, slice_get, Some, None, All, AllPairs};
+ghost use Rattle.rx_model.specs.Expression.{Expression, AreOrdered};
+ghost use Rattle.rx_model.specs.Meaning.{Means};
 ghost use Rattle.rx_model.specs.Runs.{Trace};
-ghost use Rattle.rx_model.specs.Search.{Patterns, Anchor, Match, next_match, matches, matches_from};
-ghost use Rattle.rx_model.specs.Matches.{MayStart, HasFirstRun, IsNextMatch, AreSuccessive};
+ghost use Rattle.rx_model.specs.Search.{Patterns, Anchor, Match, next_match, matches, matches_from, slot_value};
+ghost use Rattle.rx_model.specs.Matches.{MayStart, HasFirstRun, IsNextMatch, IsMatch, IsSlotOf, AreSuccessive};
 
 /// The search finds the next match: at the least permitted start from which a pattern has a run, the first
 /// run of the least such pattern. It finds none only where there is none.
@@ -34,4 +36,43 @@ pub fn successive_matches_go_on()
         → AllPairs (λ (m n : Match). (m.start < n.start) × (m.trace.end ≤ n.start)) (matches r text anchor b a) }
     ensures within { (r : Patterns) (text : List ℕ) (anchor : Anchor) (b a : ℕ)
         → All (λ (m : Match). (a ≤ m.start) × (m.start ≤ m.trace.end) × (m.trace.end ≤ b)) (matches r text anchor b a) }
+{}
+
+/// The slots of the whole match are its span: slot 2p holds the start of a match of pattern p, and slot 2p + 1 its
+/// end. Each other slot that has a place is one of that pattern's groups, and its place lies in the span.
+pub fn the_slots_of_the_whole_match_are_its_span()
+    ensures next { (r : Patterns) (text : List ℕ) (anchor : Anchor) (b a : ℕ) (m : Match)
+        → next_match r text anchor b a ≡ Some m → (m.trace.pattern < length r.expressions)
+        × (slot_value m (2 * m.trace.pattern) ≡ Some m.start) × (slot_value m (2 * m.trace.pattern + 1) ≡ Some m.trace.end) }
+    ensures next_groups { (r : Patterns) (text : List ℕ) (anchor : Anchor) (b a : ℕ) (m : Match)
+        → next_match r text anchor b a ≡ Some m → (h : Expression) → slice_get r.expressions m.trace.pattern ≡ Some h
+        → (slot place : ℕ) → slot_value m slot ≡ Some place
+        → IsSlotOf r m.trace.pattern h slot × (m.start ≤ place) × (place ≤ m.trace.end) }
+    ensures each { (r : Patterns) (text : List ℕ) (anchor : Anchor) (b a : ℕ) (m : Match)
+        → IsMatch r text anchor b a m → (m.trace.pattern < length r.expressions)
+        × (slot_value m (2 * m.trace.pattern) ≡ Some m.start) × (slot_value m (2 * m.trace.pattern + 1) ≡ Some m.trace.end) }
+    ensures each_groups { (r : Patterns) (text : List ℕ) (anchor : Anchor) (b a : ℕ) (m : Match)
+        → IsMatch r text anchor b a m → (h : Expression) → slice_get r.expressions m.trace.pattern ≡ Some h
+        → (slot place : ℕ) → slot_value m slot ≡ Some place
+        → IsSlotOf r m.trace.pattern h slot × (m.start ≤ place) × (place ≤ m.trace.end) }
+{}
+
+/// The next match within an end is a match within each later end.
+pub fn a_match_within_an_end_is_one_within_a_later_end()
+    ensures { (r : Patterns) (text : List ℕ) (anchor : Anchor) (e b a : ℕ) (m : Match)
+        → next_match r text anchor e a ≡ Some m → e ≤ b → IsMatch r text anchor b a m }
+{}
+
+/// Where there is a match, there is a next match, and it starts no later. A match lies in the span, and its
+/// expression means it.
+pub fn a_match_is_meant_and_a_next_match_is_there()
+    ensures next { (r : Patterns) (text : List ℕ) (anchor : Anchor) (b a : ℕ) (m : Match)
+        → IsMatch r text anchor b a m → next_match r text anchor b a ≢ None }
+    ensures earliest { (r : Patterns) (text : List ℕ) (anchor : Anchor) (b a : ℕ) (m n : Match)
+        → IsMatch r text anchor b a m → next_match r text anchor b a ≡ Some n → n.start ≤ m.start }
+    ensures within { (r : Patterns) (text : List ℕ) (anchor : Anchor) (b a : ℕ) (m : Match)
+        → IsMatch r text anchor b a m → (a ≤ m.start) × (m.start ≤ m.trace.end) × (m.trace.end ≤ b) }
+    ensures meant { (r : Patterns) (text : List ℕ) (anchor : Anchor) (b a : ℕ) (m : Match)
+        → IsMatch r text anchor b a m → (h : Expression) → slice_get r.expressions m.trace.pattern ≡ Some h → AreOrdered h
+        → Means r.terminator text h m.start m.trace.end }
 {}

@@ -17,6 +17,7 @@ pub mod RepeatLemmas
 mod Rows
 pub mod ScalarLemmas
 pub mod SizeLemmas
+pub mod SoundLemmas
 pub mod SpanLemmas
 pub mod StackLemmas
 pub mod SuccessorLemmas

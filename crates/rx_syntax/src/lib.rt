@@ -20,5 +20,6 @@ pub use error::{ParseError, SyntaxError, SyntaxErrorKind};
 pub use hir::{
     Capture, Class, ClassBytes, ClassUnicode, Hir, HirKind, Repetition,
     fewest_ranges_hold_the_members, greatest_group, lengths_bound_the_meaning,
+    sound_expressions_are_ordered,
 };
 pub use parser::parse;

@@ -1,3 +1,4 @@
+pub mod AccountedLemmas
 pub mod AutomatonLemmas
 pub mod BuiltLemmas
 pub mod LoopLemmas

@@ -3,6 +3,8 @@ use Rattle.std.specs.Prelude.{◌≡◌, ℕ, ◌+◌, ◌*◌, ◌<◌, ◌≤�
 use Rattle.rx_model.specs.Expression.{Expression}
 use Rattle.rx_model.specs.Search.{Patterns, all, groups_before}
 use Rattle.rx_syntax.specs.Cost.{accounted_states, capped}
+use Rattle.rx_thompson.specs.Config.{utf8_of}
+use Rattle.rx_thompson.specs.declared.compiler.config.Config.{Config}
 use Rattle.rx_thompson.specs.Nfa.{Nfa, IsInRange, HasFirstRuns}
 use Rattle.rx_thompson.specs.declared.error.BuildError.{BuildError}
 use Rattle.rx_thompson.specs.declared.error.BuildError.TheVariants.{TooManyPatterns, TooManyGroups, TooManyStates, ExceededSizeLimit, Memory}
@@ -31,10 +33,13 @@ pub record AreAllowed (size_limit : Option ℕ) (hs : List Expression) : Type 0 
   pub states : nfa_states hs ≤ 2147483647
   pub size : IfSome size_limit (λ limit. 32 * nfa_states hs ≤ limit)
 
--- the NFA is in range, and does what the patterns ask for
-pub record IsCompiled (hs : List Expression) (nfa : Nfa) : Type 0 where
+-- the NFA is in range, has no more states than are accounted, and does what the patterns ask for
+pub record IsCompiled (config : Config) (hs : List Expression) (nfa : Nfa) : Type 0 where
   pub in_range : IsInRange nfa
+  pub few : length nfa.states ≤ nfa_states hs
   pub slots : nfa.slots ≡ slots_of hs
+  pub utf8 : nfa.utf8 ≡ utf8_of config
+  pub accounted : nfa.accounted ≡ nfa_states hs
   -- a first run looks neither at where a match may start nor at a terminator
   pub first_runs : (utf8_empty : Bool) (terminator : ℕ) → HasFirstRuns nfa (patterns_of hs utf8_empty terminator)
 

@@ -1,5 +1,5 @@
 -- What an NFA is to a contract, and what it has to do with the patterns that it was built from.
-use Rattle.std.specs.Prelude.{◌≡◌, ℕ, ◌<◌, ◌≤◌, List, length, All, Some, slice_get, slice_index}
+use Rattle.std.specs.Prelude.{◌≡◌, ℕ, ◌<◌, ◌≤◌, Bool, List, length, All, Some, slice_get, slice_index}
 use Rattle.rx_model.specs.Expression.{Expression}
 use Rattle.rx_model.specs.Runs.{first_trace}
 use Rattle.rx_model.specs.Search.{Patterns, first, first_of_patterns}
@@ -14,6 +14,12 @@ pub record Nfa : Type 0 where
   pub starts : List ℕ
   -- how many slots there are
   pub slots : ℕ
+  -- no match is to start inside a character
+  pub utf8 : Bool
+  -- one of the patterns can match the empty string
+  pub has_empty : Bool
+  -- how many states were accounted for the patterns
+  pub accounted : ℕ
 
 -- every state, pattern and slot that is named is there
 pub record IsInRange (nfa : Nfa) : Type 0 where
@@ -23,6 +29,7 @@ pub record IsInRange (nfa : Nfa) : Type 0 where
   pub within : All (IsWithin (length nfa.starts) nfa.slots) nfa.states
   pub few_states : length nfa.states ≤ 2147483647
   pub few_patterns : length nfa.starts ≤ 2147483647
+  pub few_accounted : nfa.accounted ≤ 2147483647
 
 -- The first runs of the states are those of the patterns' graphs, with pattern, end and slots.
 pub record HasFirstRuns (nfa : Nfa) (r : Patterns) : Type 0 where

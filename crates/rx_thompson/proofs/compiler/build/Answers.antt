@@ -1,4 +1,5 @@
-use Rattle.std.proofs.Common.{◌∙◌, sym, ap, subst, refl}
+use Rattle.std.proofs.Common.{◌∙◌, sym, ap, subst, refl, arith, length}
+use Rattle.std.specs.Prelude.{false}
 use Rattle.rx_thompson.specs.Built.{StartsAll}
 use Rattle.rx_thompson.specs.Compiled.{patterns_of}
 use Rattle.rx_thompson.specs.Draft.{Draft}
@@ -12,16 +13,27 @@ returns c =
     let starts = c.in_ok-starts.starts.items in
     let old = c.compile_patterns.new.builder in
     let new = c.start_of_all.new.builder in
-    let nfa = c.finish.result in
-    let is = c.finish.ensures.value in
+    let nfa = c.in_ok-nfa.nfa in
+    let is = c.in_ok-nfa.ensures.value in
     let long = c.in_ok-starts.ensures.len in
     let all : StartsAll old new starts c.in_ok-start.start = subst (λ qs. StartsAll old new qs c.in_ok-start.start) c.deref.ensures.value c.in_ok-start.ensures.starts in
     let slots = c.in_ok-starts.ensures.extends.slots in
     record {
-      in_range = c.finish.ensures.in_range;
+      in_range = c.in_ok-nfa.ensures.in_range;
+      few =
+          (let states = ap (λ (n : Nfa). length n.states) is in
+          let none = ap (λ (d : Draft). length d.states) c.new-builder.ensures in
+          let patterns = c.in_ok-starts.ensures.count in
+          let last = c.in_ok-start.ensures.count in
+          omega arith);
       slots = ap (λ (n : Nfa). n.slots) is ∙ StartsAll-slots old new starts c.in_ok-start.start all ∙ slots ∙ ap (λ (d : Draft). d.slots) c.new-builder.ensures ∙ c.requires.slots;
+      utf8 = ap (λ (n : Nfa). n.utf8) is ∙ c.get_utf8.ensures;
+      accounted = ap (λ (n : Nfa). n.accounted) is ∙ c.requires.states;
       first_runs = λ utf8_empty terminator.
           subst (λ n. HasFirstRuns n (patterns_of exprs utf8_empty terminator)) (sym is)
-          (HasFirstRuns-from (patterns_of exprs utf8_empty terminator) (record { states = new.states; start_anchored = c.in_ok-start.start; starts = starts; slots = new.slots }) old new
+          (HasFirstRuns-from (patterns_of exprs utf8_empty terminator) (record {
+            states = new.states; start_anchored = c.in_ok-start.start; starts = starts; slots = new.slots;
+            utf8 = c.get_utf8.result; has_empty = false; accounted = c.args.states;
+          }) old new
           c.in_ok-starts.ensures.has long refl all);
     }
