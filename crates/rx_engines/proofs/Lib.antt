@@ -10,3 +10,7 @@ pub mod StepLemmas
 pub mod StartLemmas
 pub mod StageLemmas
 pub mod EngineLemmas
+pub mod BitLemmas
+pub mod SearchingLemmas
+pub mod YieldLemmas
+pub mod AttemptLemmas
