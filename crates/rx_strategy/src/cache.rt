@@ -1,5 +1,5 @@
 ghost use Rattle.std.specs.Prelude.{◌≡◌, IfOk, OnOk, OnErr};
-ghost use Rattle.rx_strategy.specs.Cache.{Fits};
+ghost use Rattle.rx_strategy.specs.Cache.{Fits, cache_code};
 
 use crate::core::Core;
 use rx_engines::{backtrack, pikevm};
@@ -15,9 +15,11 @@ pub struct Cache {
 }
 
 impl Model for Cache {
-    ghost use Rattle.rx_strategy.specs.Cache.{CacheValue};
+    ghost use Rattle.rx_strategy.specs.Cache.{CacheValue, cache_code};
 
     ghost Value = { CacheValue };
+
+    ghost coded = { cache_code };
 
     ghost view = { λ c. record { pikevm = c.pikevm; backtrack = c.backtrack } };
 }
@@ -27,12 +29,7 @@ impl Cache {
     pub fn new(alloc: Global, core: &Core) -> Result<Cache, Memory>
         ensures { IfOk result (Fits core.now) }
     {
-        let pikevm = core.pikevm().create_cache(alloc)?;
-        let backtrack = match core.backtracker() {
-            Some(engine) => Some(engine.create_cache(alloc)?),
-            None => None,
-        };
-        Ok(Cache { pikevm, backtrack })
+        core.create_cache(alloc)
     }
 
     /// Makes the cache one that serves this strategy. Where there is no memory, it stays as it was.
@@ -44,7 +41,7 @@ impl Cache {
         Ok(())
     }
 
-    /// The bytes that are accounted for it.
+    /// The bytes that are accounted for the caches of the engines, at most `usize::MAX`.
     pub fn memory_usage(&self) -> usize {
         let backtrack = match &self.backtrack {
             Some(cache) => cache.memory_usage(),

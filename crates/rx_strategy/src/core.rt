@@ -1,15 +1,17 @@
 //! The strategy that runs the engines.
-ghost use Rattle.std.specs.Prelude.{◌≡◌, ◌≤◌, false, length, None, replicate, is_some, Option, IfOk, IfNone, IfSome, OnOk, OnErr, option_map};
-ghost use Rattle.rx_model.specs.Search.{Patterns, Match as ModelMatch};
+ghost use Rattle.std.specs.Prelude.{◌≡◌, ◌≤◌, false, length, None, replicate, is_some, IfOk, IfNone, IfSome, MatchOption, option_map};
+ghost use Rattle.rx_model.specs.Search.{Patterns, told_of};
 ghost use Rattle.rx_search.specs.Input.{next_in};
 ghost use Rattle.rx_search.specs.Matches.{match_value, half_match_value};
 ghost use Rattle.rx_engines.specs.Engine.{HasSlots};
+ghost use Rattle.rx_thompson.specs.Config.{captures_kind};
+ghost use Rattle.rx_strategy.specs.Config.{kind_of, captures_of, has_backtracker};
 ghost use Rattle.rx_strategy.specs.Strategy.{StrategyValue, IsOf, told_in, told_for, next_match_in, IsMatchWith};
 ghost use Rattle.rx_strategy.specs.Cache.{Fits};
 
 use crate::cache::Cache;
 use crate::config::Config;
-use rx_engines::backtrack::BoundedBacktracker;
+use rx_engines::backtrack::{self, BoundedBacktracker};
 use rx_engines::pikevm::PikeVM;
 use rx_search::{HalfMatch, Input, Match, MatchKind, Memory, NonMaxUsize, PatternID};
 use rx_thompson::{NFA, WhichCaptures};
@@ -20,29 +22,51 @@ use std::marker::Model;
 /// search changes no answer.
 #[derive(Drop)]
 pub struct Core {
-    which_captures: WhichCaptures,
     pikevm: PikeVM,
     backtrack: Option<BoundedBacktracker>,
+    which_captures: WhichCaptures,
+}
+
+impl Model for Core {
+    ghost use Rattle.std.specs.Prelude.{◌≡◌, is_some, IfSome};
+    ghost use Rattle.rx_search.specs.declared.anchored.MatchKind.TheVariants.{LeftmostFirst};
+    ghost use Rattle.rx_thompson.specs.Config.{captures_kind};
+    ghost use Rattle.rx_strategy.specs.Strategy.{StrategyValue};
+
+    ghost Value = { StrategyValue };
+
+    ghost view = { λ c. record {
+      nfa = c.pikevm.nfa;
+      kind = c.pikevm.kind;
+      which_captures = captures_kind c.which_captures;
+      backtracks = is_some c.backtrack;
+    } };
+
+    ghost invariant = { λ c. IfSome c.backtrack (λ nfa. (nfa ≡ c.pikevm.nfa) × (c.pikevm.kind ≡ LeftmostFirst)) };
 }
 
 impl Core {
     /// The strategy of this NFA, which was built under the configuration.
-    pub fn new(config: &Config, nfa: NFA) -> Result<Core, Memory> {
-        let kind = config.get_match_kind();
-        let backtrack = if config.get_backtrack() && kind == MatchKind::LeftmostFirst {
-            Some(BoundedBacktracker::build_from_nfa(nfa.clone()?))
-        } else {
-            None
-        };
+    pub fn new(config: &Config, nfa: NFA) -> Result<Core, Memory>
+        ensures { IfOk result (λ core. core ≡ record {
+            nfa = nfa;
+            kind = kind_of config.now;
+            which_captures = captures_of config.now;
+            backtracks = has_backtracker config.now;
+        }) }
+    {
+        let backtrack = backtracker(config, &nfa)?;
         Ok(Core {
-            which_captures: config.get_which_captures(),
-            pikevm: PikeVM::build_from_nfa(nfa, kind),
+            pikevm: PikeVM::build_from_nfa(nfa, config.get_match_kind()),
             backtrack,
+            which_captures: config.get_which_captures(),
         })
     }
 
     /// The NFA.
-    pub fn get_nfa(&self) -> &NFA {
+    pub fn get_nfa(&self) -> &NFA
+        ensures { result.now ≡ self.now.nfa }
+    {
         self.pikevm.get_nfa()
     }
 
@@ -50,52 +74,99 @@ impl Core {
     pub fn create_cache(&self, alloc: Global) -> Result<Cache, Memory>
         ensures { IfOk result (Fits self.now) }
     {
-        Cache::new(alloc, self)
+        let pikevm = self.pikevm.create_cache(alloc)?;
+        let backtrack = match &self.backtrack {
+            Some(engine) => Some(engine.create_cache(alloc)?),
+            None => None,
+        };
+        Ok(Cache { pikevm, backtrack })
     }
 
     /// Whether there is a match in the input's span, under each kind of match and of captures.
     pub fn is_match(&self, cache: &mut Cache, input: &Input<'_>) -> bool
         requires { Fits self.now cache.old }
         ensures value { result ≡ is_some (next_match_in self.now input.now) }
-        ensures patterns { (r : Patterns) → IsOf self.now r → is_some (next_match_in self.now input.now) ≡ is_some (next_in r input.now) }
-        ensures fits { Fits self.now cache.new }
+        ensures patterns { (r : Patterns) → IsOf self.now r → next_match_in self.now input.now ≡ option_map (told_of r.which_captures) (next_in r input.now) }
+        ensures cache { cache.new ≡ cache.old }
     {
         self.pikevm.is_match(&mut cache.pikevm, input)
     }
 
-    /// The next match in the input's span. With `earliest` it is some match. Where no captures are asked for there is
-    /// never an answer.
+    /// The next match in the input's span. Each slot gets the place that the match leaves in it, and None where there is
+    /// no match. With `earliest` it is some match, and there is one exactly where there is a next match. No match is
+    /// told where the configuration asks for no captures.
     pub fn search(
         &self,
-        alloc: Global,
-        cache: &mut Cache,
-        input: &Input<'_>,
-    ) -> Result<Option<Match>, Memory>
-    {
-        self.search_with_slots(alloc, cache, input, &mut [])
-    }
-
-    /// The pattern and the end of the next match.
-    pub fn search_half(
-        &self,
-        alloc: Global,
-        cache: &mut Cache,
-        input: &Input<'_>,
-    ) -> Result<Option<HalfMatch>, Memory> {
-        let found = self.search(alloc, cache, input)?;
-        Ok(half_of(found))
-    }
-
-    /// The pattern of the next match. Each slot gets the place that the match leaves in it, and None where there is no match or
-    /// no such slot.
-    pub fn search_slots(
-        &self,
-        alloc: Global,
         cache: &mut Cache,
         input: &Input<'_>,
         slots: &mut [Option<NonMaxUsize>],
-    ) -> Result<Option<PatternID>, Memory> {
-        let found = self.search_with_slots(alloc, cache, input, slots)?;
-        Ok(pattern_of(found))
+    ) -> Option<Match>
+        requires { Fits self.now cache.old }
+        ensures value { input.now.earliest ≡ false → result ≡ option_map match_value (told_in self.now input.now) }
+        ensures exists { is_some result ≡ is_some (told_in self.now input.now) }
+        ensures patterns { (r : Patterns) → IsOf self.now r → told_in self.now input.now ≡ told_for r input.now }
+        ensures is_match { (r : Patterns) → IsOf self.now r
+            → IfSome result (λ found. IsMatchWith r input.now (λ m. (found ≡ match_value m) × HasSlots slots.new m)) }
+        ensures slots { input.now.earliest ≡ false → IfSome (told_in self.now input.now) (HasSlots slots.new) }
+        ensures none { IfNone result (slots.new ≡ replicate (length slots.old) None) }
+        ensures within { IfSome result (λ m. (input.now.start ≤ m.start) × (m.end ≤ input.now.end)) }
+        ensures cache { cache.new ≡ cache.old }
+    {
+        match self.which_captures {
+            WhichCaptures::All | WhichCaptures::Implicit => self.find(cache, input, slots),
+            WhichCaptures::None => {
+                empty(slots);
+                None
+            }
+        }
     }
+
+    /// As `search`, under every configuration of captures.
+    fn find(
+        &self,
+        cache: &mut Cache,
+        input: &Input<'_>,
+        slots: &mut [Option<NonMaxUsize>],
+    ) -> Option<Match>
+        requires { Fits self.now cache.old }
+        ensures value { input.now.earliest ≡ false → result ≡ option_map match_value (next_match_in self.now input.now) }
+        ensures exists { is_some result ≡ is_some (next_match_in self.now input.now) }
+        ensures patterns { (r : Patterns) → IsOf self.now r → next_match_in self.now input.now ≡ option_map (told_of r.which_captures) (next_in r input.now) }
+        ensures is_match { (r : Patterns) → IsOf self.now r
+            → IfSome result (λ found. IsMatchWith r input.now (λ m. (found ≡ match_value m) × HasSlots slots.new m)) }
+        ensures slots { input.now.earliest ≡ false → IfSome (next_match_in self.now input.now) (HasSlots slots.new) }
+        ensures none { IfNone result (slots.new ≡ replicate (length slots.old) None) }
+        ensures within { IfSome result (λ m. (input.now.start ≤ m.start) × (m.end ≤ input.now.end)) }
+        ensures cache { cache.new ≡ cache.old }
+    {
+        if let Some(found) = self.try_backtrack(&mut cache.backtrack, input, slots) {
+            return found;
+        }
+        self.pikevm.find_slots(&mut cache.pikevm, input, slots)
+    }
+
+    /// What the backtracker answers. None where it does not serve this search: there is none, the span is too long for
+    /// it, or it wants memory.
+    fn try_backtrack(
+        &self,
+        cache: &mut Option<backtrack::Cache>,
+        input: &Input<'_>,
+        slots: &mut [Option<NonMaxUsize>],
+    ) -> Option<Option<Match>>
+    {
+        match (&self.backtrack, cache) {
+            (Some(engine), Some(cache)) => answered(engine.try_find_slots(cache, input, slots)),
+            _ => None,
+        }
+    }
+}
+
+/// The backtracker, where the configuration has it.
+fn backtracker(config: &Config, nfa: &NFA) -> Result<Option<BoundedBacktracker>, Memory>
+    ensures { IfOk result (λ o. MatchOption o (has_backtracker config.now ≡ false) (λ b. (has_backtracker config.now ≡ true) × (b ≡ nfa.now))) }
+{
+    if config.get_backtrack() && config.get_match_kind() == MatchKind::LeftmostFirst {
+        return Ok(Some(BoundedBacktracker::build_from_nfa(nfa.clone()?)));
+    }
+    Ok(None)
 }
