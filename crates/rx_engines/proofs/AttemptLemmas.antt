@@ -31,6 +31,16 @@ module _ (s : Search) where
     pub is_new : new ≡ not (is_set words ((i - s.first) * length s.states.now + q))
     pub after : (k : ℕ) → is_set words' k ≡ (((i - s.first) * length s.states.now + q == k) || is_set words k)
 
+  pub inserts-at : (words words' : List ℕ) (new : Bool) (q i n : ℕ) → q < length s.states.now → s.first ≤ i → i ≤ s.end → n ≡ (i - s.first) * length s.states.now + q
+      → new ≡ not (is_set words n) → ((k : ℕ) → is_set words' k ≡ ((n == k) || is_set words k)) → Inserts words words' new q i
+  inserts-at words words' new q i n state above below at_n is_new after = record {
+    state = state;
+    above = above;
+    below = below;
+    is_new = is_new ∙ ap (λ m. not (is_set words m)) at_n;
+    after = λ k. after k ∙ ap (λ m. (m == k) || is_set words k) at_n;
+  }
+
 module _ {s : Search} {words words' : List ℕ} {new : Bool} {q i : ℕ} (t : Inserts s words words' new q i) where
   now_passed : passed_by s words' ≡ and_at (at q i) (passed_by s words)
   now_passed = passed_in-set (length s.states.now) s.first s.end q i words words' t.state t.above t.below t.after

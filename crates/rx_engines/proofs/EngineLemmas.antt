@@ -5,9 +5,9 @@ use Rattle.std.proofs.lemmas.List.Elements.{All-nil, All-cons, All-get_or}
 use Rattle.std.proofs.lemmas.Option.{get_or_from_slice_get, slice_get_within}
 use Rattle.std.specs.Prelude.{Bool, true, false, Option, Some, None, option_map, is_some, IfSome, All, nat_lt, if◌then◌else◌}
 use Rattle.rx_model.specs.Runs.{Trace, first_trace}
-use Rattle.rx_model.specs.Search.{Patterns, Anchor, free, anchored, anchored_to, is_anchored, Match, is_permitted, first_start, starts, slot_value}
+use Rattle.rx_model.specs.Search.{Patterns, told_of, Anchor, free, anchored, anchored_to, is_anchored, Match, is_permitted, first_start, starts, next_match, slot_value}
 use Rattle.rx_model.proofs.RunLemmas.{by_test}
-use Rattle.rx_model.proofs.FirstLemmas.{some-is}
+use Rattle.rx_model.proofs.FirstLemmas.{none-is-some, some-is}
 use Rattle.rx_model.proofs.WithinLemmas.{next-later}
 use Rattle.rx_search.specs.Matches.{match_value, MatchValue}
 use Rattle.rx_search.specs.Input.{InputValue}
@@ -71,8 +71,13 @@ start-inside nfa anchor q range is = All-cons (λ s. s < length nfa.states) q []
         let lt = All-get_or (λ s. s < length nfa.states) nfa.starts p 0 (slice_get_within nfa.starts p q e) range.starts in
         omega arith
 
+-- what is told is told of something
+told-from : (tell : Match → Match) (o : Option Match) (m : Match) → option_map tell o ≡ Some m → (n : Match) × (o ≡ Some n) × (tell n ≡ m)
+told-from tell None m e = none-is-some e
+told-from tell (Some n) m e = (n, refl, some-is e)
+
 module _ (vm : PikeVMValue) (v : InputValue) where
-  pub patterns-agree : v.end ≤ length v.haystack → (r : Patterns) → IsOf vm r → next_match_in vm v ≡ next_match_for r v
+  pub patterns-agree : v.end ≤ length v.haystack → (r : Patterns) → IsOf vm r → next_match_in vm v ≡ option_map (told_of r.which_captures) (next_match_for r v)
   patterns-agree within r of = next_match_of-patterns vm.nfa r v.haystack v.end within of.runs vm.nfa.utf8 v.anchor v.start of.utf8
 
   -- where a search stops
@@ -102,7 +107,8 @@ module _ (vm : PikeVMValue) (v : InputValue) where
   answer-is_match within le r of Holds (Some m) e holds =
       let stop = (stop-within le).1 in
       let same = next_match_of-patterns vm.nfa r v.haystack (stop_in vm v) (omega arith) of.runs vm.nfa.utf8 v.anchor v.start of.utf8 in
-      (m, next-later r v.haystack v.anchor (stop_in vm v) v.end v.start m (sym same ∙ sym e) stop, holds)
+      let n = told-from (told_of r.which_captures) (next_match r v.haystack v.anchor (stop_in vm v) v.start) m (sym same ∙ sym e) in
+      (n.0, next-later r v.haystack v.anchor (stop_in vm v) v.end v.start n.0 n.1 stop, subst Holds (sym n.2) holds)
 
   -- what is reported is the answer, with its slots
   pub reported-is_match : v.end ≤ length v.haystack → v.start ≤ v.end → (r : Patterns) → IsOf vm r → (slots : Slots) → (o : Option Match) → o ≡ answer_in vm v → (result : Option MatchValue) → result ≡ option_map match_value o → IfSome (answer_in vm v) (HasSlots slots)

@@ -14,3 +14,4 @@ pub mod BitLemmas
 pub mod SearchingLemmas
 pub mod YieldLemmas
 pub mod AttemptLemmas
+pub mod BoundedLemmas

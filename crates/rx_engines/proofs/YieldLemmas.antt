@@ -100,12 +100,12 @@ AllWithin-read n first end text ts i rest le all inside = at_target (target_of t
     at_target None e = inside
     at_target (Some next) e =
         let lt = target-within text end ts i next e in
-        (target-names n ts (byte_at text end i) next all e, (omega arith, (omega arith, inside)))
+        (target-names n ts (byte_at text end i) next all e, omega arith, omega arith, inside)
 
 pub AllWithin-union : (n first end i : ℕ) (qs : List ℕ) (frames : List Frame) → first ≤ i → i ≤ end → All (λ q. q < n) qs → AllWithin n first end frames → AllWithin n first end (explore_all (map (λ q. at q i) qs) ++ frames)
 AllWithin-union n first end i [] frames ge le all inside = inside
 AllWithin-union n first end i (q ∷ qs) frames ge le all inside =
-    (All-head (λ x. x < n) q qs all, (ge, (le, AllWithin-union n first end i qs frames ge le (All-tail (λ x. x < n) q qs all) inside)))
+    (All-head (λ x. x < n) q qs all, ge, le, AllWithin-union n first end i qs frames ge le (All-tail (λ x. x < n) q qs all) inside)
 
 pub AllWithin-saved : (n first end slot i : ℕ) (frames frames' : List Frame) (slots slots' : Slots) → Saves slot i frames frames' slots slots' → AllWithin n first end frames → AllWithin n first end frames'
 AllWithin-saved n first end slot i frames frames' slots slots' saved inside =

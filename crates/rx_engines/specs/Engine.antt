@@ -1,6 +1,6 @@
 -- What an engine is to a contract, and what its searches answer.
 use Rattle.std.specs.Prelude.{◌≡◌, ℕ, ◌-◌, ◌*◌, ◌^◌, ◌<◌, min, List, length, Option, None, is_some, slice_index_or, if◌then◌else◌}
-use Rattle.rx_model.specs.Search.{Patterns, Match, is_anchored, next_match, slot_value}
+use Rattle.rx_model.specs.Search.{Patterns, Match, told_of, is_anchored, next_match, slot_value}
 use Rattle.rx_model.specs.Matches.{IsMatch}
 use Rattle.rx_search.specs.Input.{InputValue, IsSpanned}
 use Rattle.rx_search.specs.declared.anchored.MatchKind.{MatchKind}
@@ -50,9 +50,9 @@ next_match_for r v = next_match r v.haystack v.anchor v.end v.start
 abbrev pub HasSlots : List (Option ℕ) → Match → Type 0
 HasSlots slots m = (k : ℕ) → k < length slots → slice_index_or slots k None ≡ slot_value m k
 
--- Where something is found it is a match of the patterns in the input's span, of which this holds.
+-- Where something is found it is a match of the patterns in the input's span, and this holds of what is told of it.
 abbrev pub IsMatchWith : Patterns → InputValue → (Match → Type 0) → Type 0
-IsMatchWith r v Holds = (m : Match) × IsMatch r v.haystack v.anchor v.end v.start m × Holds m
+IsMatchWith r v Holds = (m : Match) × IsMatch r v.haystack v.anchor v.end v.start m × Holds (told_of r.which_captures m)
 
 -- the search that an engine makes of an input
 pub record IsSearchOf (vm : PikeVMValue) (v : InputValue) (qs : List ℕ) (s : Search) : Type 0 where

@@ -1,8 +1,8 @@
 -- What means the empty string can be empty, and what can be empty means it, where there is no look-around.
-use Rattle.std.proofs.Common.{◌≡◌, ℕ, zero, suc, ◌+◌, ◌≤◌, ◌⊎◌, Bool, true, false, length, Option, Some, None, refl, sym, ap, ◌∙◌, inl, inr, arith}
+use Rattle.std.proofs.Common.{◌≡◌, ℕ, zero, suc, ◌+◌, ◌≤◌, ◌⊎◌, Bool, true, false, List, length, subst, Option, Some, None, refl, sym, ap, ◌∙◌, inl, inr, arith}
 use Rattle.std.specs.Prelude.{nat_lt, IfSome, ◌==◌, ◌||◌, ◌&&◌}
 use Rattle.std.proofs.lemmas.Bool.Decides.{nat_tests}
-use Rattle.std.proofs.lemmas.Bool.{or_left, or_right, or_cases, and_parts, and_both}
+use Rattle.std.proofs.lemmas.Bool.{or_left, or_right, or_cases}
 use Rattle.std.specs.Char.{len_utf8}
 use Rattle.rx_model.specs.Text.{Class, scalar_ranges, byte_ranges, member_len, stands_at}
 use Rattle.rx_model.specs.Expression.{Expression, Expressions, empty, literal, class, look, repetition, capture, concat, alternation, nil, cons, AreOrdered, AllOrdered}
@@ -26,6 +26,19 @@ pieces-rise R each (suc count) i j h =
     let now = each i h.0 h.1 in
     let later = pieces-rise R each count h.0 j h.2 in
     omega arith
+
+-- of pieces from i to i each is from i to i
+first-empty : (R : ℕ → ℕ → Type 0) → ((i j : ℕ) → R i j → i ≤ j) → (count i : ℕ) → Pieces R (suc count) i i → R i i
+first-empty R each count i h =
+    let up = each i h.0 h.1 in
+    let down = pieces-rise R each count h.0 i h.2 in
+    let same : h.0 ≡ i = omega arith in
+    subst (R i) same h.1
+
+-- there are none, or one of them shows that the body can be empty
+pieces-empty : (R : ℕ → ℕ → Type 0) → ((i j : ℕ) → R i j → i ≤ j) → (can : Bool) → ((k : ℕ) → R k k → can ≡ true) → (least n i : ℕ) → least ≤ n → Pieces R n i i → ((least == 0) || can) ≡ true
+pieces-empty R each can shows least zero i le h = or_left (least == 0) can (grind (arith, nat_tests))
+pieces-empty R each can shows least (suc n) i le h = or_right (least == 0) can (shows i (first-empty R each n i h))
 
 module _ (terminator : ℕ) (text : List ℕ) where
   mutual
@@ -53,14 +66,6 @@ module _ (terminator : ℕ) (text : List ℕ) where
     one-rises nil i j m = absurd m
     one-rises (cons sub subs) i j m = elim m [ inl is ↦ means-rises sub i j is | inr is ↦ one-rises subs i j is ]
 
-  -- of pieces from i to i each is from i to i
-  first-empty : (R : ℕ → ℕ → Type 0) → ((i j : ℕ) → R i j → i ≤ j) → (count i : ℕ) → Pieces R (suc count) i i → R i i
-  first-empty R each count i h =
-      let up = each i h.0 h.1 in
-      let down = pieces-rise R each count h.0 i h.2 in
-      let same : h.0 ≡ i = omega arith in
-      subst (R i) same h.1
-
   mutual
     unfolding Means can_be_empty
 
@@ -70,11 +75,8 @@ module _ (terminator : ℕ) (text : List ℕ) where
     means-empty (literal bytes) i m = let e = m.1 in grind (arith, nat_tests)
     means-empty (class members) i m = let long = member-takes text members i m.0 m.1 in let e = m.2 in absurd (omega arith)
     means-empty (look kind) i m = refl
-    means-empty (repetition least greatest greedy sub) i m = of_pieces m.0 m.1.0 m.2
-      where
-        of_pieces : (n : ℕ) → least ≤ n → Pieces (Means terminator text sub) n i i → ((least == 0) || can_be_empty sub) ≡ true
-        of_pieces zero le h = or_left (least == 0) (can_be_empty sub) (grind (arith, nat_tests))
-        of_pieces (suc n) le h = or_right (least == 0) (can_be_empty sub) (means-empty sub i (first-empty (Means terminator text sub) (λ a b piece. means-rises sub a b piece) n i h))
+    means-empty (repetition least greatest greedy sub) i m =
+        pieces-empty (Means terminator text sub) (λ a b piece. means-rises sub a b piece) (can_be_empty sub) (λ k piece. means-empty sub k piece) least m.0 i m.1.0 m.2
     means-empty (capture group sub) i m = means-empty sub i m
     means-empty (concat subs) i m = in_turn-empty subs i m
     means-empty (alternation subs) i m = one-empty subs i m

@@ -5,6 +5,7 @@ pub mod CostLemmas
 pub mod DepthLemmas
 pub mod EndLemmas
 pub mod GroupLemmas
+pub mod EmptyLemmas
 pub mod ItemLemmas
 pub mod JoinedLemmas
 pub mod MergeLemmas

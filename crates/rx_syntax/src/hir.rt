@@ -11,6 +11,7 @@ mod bytes;
 mod class;
 mod concat;
 mod copy;
+mod emptiness;
 mod groups;
 mod kind;
 mod laws;
@@ -21,6 +22,7 @@ mod set;
 mod tests;
 
 pub use class::{Class, ClassBytes, ClassUnicode};
+pub use emptiness::{can_be_empty, one_can_be_empty};
 pub use groups::greatest_group;
 pub use laws::{
     fewest_ranges_hold_the_members, lengths_bound_the_meaning, sound_expressions_are_ordered,

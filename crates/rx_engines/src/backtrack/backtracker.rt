@@ -67,7 +67,7 @@ impl BoundedBacktracker {
     pub fn max_haystack_len(&self) -> usize
         ensures { result ≡ max_len self.now }
     {
-        (BITS / self.nfa.states_len()).saturating_sub(1)
+        (BITS / self.nfa.accounted_states().max(1)).saturating_sub(1)
     }
 
     /// The pattern of the next match in the input's span. Each slot gets the place that the match leaves in it,
@@ -129,7 +129,7 @@ impl BoundedBacktracker {
             return Err(MatchError::HaystackTooLong { len });
         }
         let anchored = input.get_anchored();
-        let Some(start) = self.start(anchored) else {
+        let Some(start) = self.start_state(anchored) else {
             empty(slots);
             return Ok(None);
         };
@@ -141,7 +141,7 @@ impl BoundedBacktracker {
             states: self.nfa.states(),
             start,
             text: input.haystack(),
-            utf8: true,
+            utf8: self.nfa.is_utf8(),
             first: input.start(),
             last: latest_start(input),
             end: input.end(),
@@ -153,7 +153,7 @@ impl BoundedBacktracker {
     }
 
     /// Where the runs start, if the pattern that is asked for is there.
-    fn start(&self, anchored: Anchored) -> Option<StateID>
+    fn start_state(&self, anchored: Anchored) -> Option<StateID>
         ensures value { result ≡ start_of self.now (anchor_of anchored) }
         ensures in_range { IsInRange self.now }
     {

@@ -49,7 +49,7 @@ impl Cache {
         let none = Slot::none();
         let slots = vec![in alloc; none; nfa.slot_len()]?;
         let memory = 16usize
-            .saturating_mul(nfa.states_len())
+            .saturating_mul(nfa.accounted_states())
             .saturating_mul(nfa.slot_len());
         Ok(Cache {
             visited,

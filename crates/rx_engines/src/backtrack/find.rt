@@ -28,8 +28,8 @@ pub fn find(
     clear(slots);
     for place in search.first..search.last + 1 {
         if is_allowed(search.text, search.utf8, place) {
-            if let Some((pattern, end)) = attempt(search, place, visited, stack, slots)? {
-                return Ok(Some((pattern, place, end)));
+            if let Some(found) = attempt(search, place, visited, stack, slots)? {
+                return Ok(Some((found.0, place, found.1)));
             }
         }
     }

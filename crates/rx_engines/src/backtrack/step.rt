@@ -39,7 +39,8 @@ pub fn step(
     ensures inside { IfOk result (λ r. AllInside search.now (frames_of r stack.new)) }
     ensures width { length slots.new ≡ length slots.old }
 {
-    match &search.states[state.as_usize()] {
+    let states = search.states;
+    match &states[state.as_usize()] {
         State::ByteRange { start, end, next } => {
             let byte = byte_before(search.text, search.end, place);
             Ok(toward(in_range(*start, *end, *next, byte), place + 1))

@@ -1,5 +1,5 @@
 ghost use Rattle.std.specs.Prelude.{◌≡◌, ◌≤◌, length, None, replicate, is_some, IfOk, IfNone, IfSome, option_map};
-ghost use Rattle.rx_model.specs.Search.{Patterns};
+ghost use Rattle.rx_model.specs.Search.{Patterns, told_of};
 ghost use Rattle.rx_search.specs.Anchored.{anchor_of};
 ghost use Rattle.rx_search.specs.Matches.{match_value};
 ghost use Rattle.rx_thompson.specs.Nfa.{IsInRange};
@@ -62,7 +62,7 @@ impl PikeVM {
         requires { Fits self.now cache.old }
         ensures value { result ≡ is_some (next_match_in self.now input.now) }
         ensures patterns { (r : Patterns) → IsOf self.now r
-            → next_match_in self.now input.now ≡ next_match_for r input.now }
+            → next_match_in self.now input.now ≡ option_map (told_of r.which_captures) (next_match_for r input.now) }
         ensures cache { cache.new ≡ cache.old }
     {
         let from = input.start();
@@ -85,7 +85,7 @@ impl PikeVM {
             → result ≡ option_map match_value (answer_in self.now input.now) }
         ensures any { is_some result ≡ is_some (next_match_in self.now input.now) }
         ensures patterns { (r : Patterns) → IsOf self.now r
-            → next_match_in self.now input.now ≡ next_match_for r input.now }
+            → next_match_in self.now input.now ≡ option_map (told_of r.which_captures) (next_match_for r input.now) }
         ensures is_match { (r : Patterns) → IsOf self.now r
             → IfSome result (λ found. IsMatchWith r input.now (λ m. found ≡ match_value m)) }
         ensures within { IfSome result (λ m. (input.now.start ≤ m.start) × (m.end ≤ input.now.end)) }
@@ -107,7 +107,7 @@ impl PikeVM {
             → result ≡ option_map (λ m. m.trace.pattern) (answer_in self.now input.now) }
         ensures any { is_some result ≡ is_some (next_match_in self.now input.now) }
         ensures patterns { (r : Patterns) → IsOf self.now r
-            → next_match_in self.now input.now ≡ next_match_for r input.now }
+            → next_match_in self.now input.now ≡ option_map (told_of r.which_captures) (next_match_for r input.now) }
         ensures is_match { (r : Patterns) → IsOf self.now r
             → IfSome result (λ p. IsMatchWith r input.now (λ m. (p ≡ m.trace.pattern) × HasSlots slots.new m)) }
         ensures slots { self.now.kind ≡ LeftmostFirst
@@ -133,7 +133,7 @@ impl PikeVM {
             → result ≡ option_map match_value (answer_in self.now input.now) }
         ensures any { is_some result ≡ is_some (next_match_in self.now input.now) }
         ensures patterns { (r : Patterns) → IsOf self.now r
-            → next_match_in self.now input.now ≡ next_match_for r input.now }
+            → next_match_in self.now input.now ≡ option_map (told_of r.which_captures) (next_match_for r input.now) }
         ensures is_match { (r : Patterns) → IsOf self.now r
             → IfSome result (λ found. IsMatchWith r input.now (λ m. (found ≡ match_value m) × HasSlots slots.new m)) }
         ensures slots { self.now.kind ≡ LeftmostFirst

@@ -1,11 +1,23 @@
 ghost use Rattle.std.specs.Prelude.{◌≡◌, Some};
-ghost use Rattle.rx_thompson.specs.Config.{utf8_of, size_limit_of, overwritten, nothing_set};
+ghost use Rattle.rx_thompson.specs.Config.{utf8_of, size_limit_of, which_of, overwritten, nothing_set};
+
+/// Which groups of a match have slots.
+#[derive(Clone, Copy, Debug, PartialEq, Eq)]
+pub enum WhichCaptures {
+    /// The whole match, and each group that a pattern names.
+    All,
+    /// The whole match alone.
+    Implicit,
+    /// None.
+    None,
+}
 
 /// How NFAs are built. What is not set is as by default, or as in the configuration that this one is put over.
 #[derive(Clone, Copy)]
 pub struct Config {
     utf8: Option<bool>,
     nfa_size_limit: Option<Option<usize>>,
+    which_captures: Option<WhichCaptures>,
 }
 
 impl Config {
@@ -16,6 +28,7 @@ impl Config {
         Config {
             utf8: None,
             nfa_size_limit: None,
+            which_captures: None,
         }
     }
 
@@ -36,6 +49,14 @@ impl Config {
         self
     }
 
+    /// Which groups of a match have slots. By default all have.
+    pub fn which_captures(mut self, which: WhichCaptures) -> Config
+        ensures { result ≡ record self { which_captures = Some which } }
+    {
+        self.which_captures = Some(which);
+        self
+    }
+
     /// Whether no match is to start inside an encoded character.
     pub fn get_utf8(&self) -> bool
         ensures { result ≡ utf8_of self.now }
@@ -50,6 +71,13 @@ impl Config {
         self.nfa_size_limit.unwrap_or(None)
     }
 
+    /// Which groups of a match have slots.
+    pub fn get_which_captures(&self) -> WhichCaptures
+        ensures { result ≡ which_of self.now }
+    {
+        self.which_captures.unwrap_or(WhichCaptures::All)
+    }
+
     /// This configuration, with what the other one sets in place of its own.
     pub(crate) fn overwrite(&self, other: Config) -> Config
         ensures { result ≡ overwritten self.now other }
@@ -57,6 +85,7 @@ impl Config {
         Config {
             utf8: other.utf8.or(self.utf8),
             nfa_size_limit: other.nfa_size_limit.or(self.nfa_size_limit),
+            which_captures: other.which_captures.or(self.which_captures),
         }
     }
 }

@@ -69,7 +69,7 @@ fn compile_literal(builder: &mut Builder, bytes: &[u8], next: StateID) -> Result
     Ok(start)
 }
 
-/// A slot before the group, and one after it.
+/// A slot before the group, and one after it. The group alone, where groups have no slots.
 #[cycle(compile)]
 fn compile_capture(
     alloc: Global,
@@ -87,7 +87,10 @@ fn compile_capture(
     ensures inside { IfOk result (λ start. start < length builder.new.states) }
     ensures count { OnOk result (length builder.new.states ≤ length builder.old.states + (accounted_states capture.now.sub.value + 2)) }
 {
-    let slot = groups.first_slot + 2 * (capture.index.get() - 1);
+    let Some(first) = groups.first_slot else {
+        return compile(alloc, builder, groups, &capture.sub, next);
+    };
+    let slot = first + 2 * (capture.index.get() - 1);
     let close = builder.push(State::Capture {
         next,
         pattern: groups.pattern,

@@ -185,13 +185,18 @@ compile_alternation-returns-clause-built t c =
 
 pub compile_capture-returns-clause-built : goal.compile_capture-returns-clause-built
 compile_capture-returns-clause-built t c =
-    let body = subst (λ h. Built (build (slot_from c.args.groups.now.first_slot) h) c.in_ok-close.close c.push.new.self c.compile.new.builder c.in_ok-body.body) c.deref.ensures c.in_ok-body.ensures.built in
+    let first = c.in-Some.first in
+    let slot = slot_from c.args.groups.now.first_slot in
+    let sub = c.args.capture.now.sub.value in
+    let body = subst (λ h. Built (build (slot_from c.args.groups.now.first_slot) h) c.in_ok-close.close c.push.new.self c.compile-2.new.builder c.in_ok-body.body) c.deref-2.ensures c.in_ok-body.ensures.built in
     subst (λ number. IfOk c.push-2.result (λ start. Built (build_group (slot_from c.args.groups.now.first_slot number) (build (slot_from c.args.groups.now.first_slot) c.args.capture.now.sub.value)) c.args.next c.args.builder.now c.push-2.new.self start))
     c.get.ensures.value
-    (IfOk-both (λ id. id ≡ length c.compile.new.builder.states) (λ id. c.push-2.new.self ≡ pushed c.compile.new.builder (Slot c.in_ok-body.body c.args.groups.now.pattern (c.args.groups.now.first_slot + 2 * (c.get.result - 1)))) _
+    (subst (λ o. IfOk c.push-2.result (λ start. Built (build_group (slot_from o c.get.result) (build (slot_from c.args.groups.now.first_slot) c.args.capture.now.sub.value)) c.args.next c.args.builder.now c.push-2.new.self start))
+    (sym c.in-Some.is)
+    (IfOk-both (λ id. id ≡ length c.compile-2.new.builder.states) (λ id. c.push-2.new.self ≡ pushed c.compile-2.new.builder (Slot c.in_ok-body.body c.args.groups.now.pattern (c.in-Some.first + 2 * (c.get.result - 1)))) _
     c.push-2.result c.push-2.ensures.id c.push-2.ensures.states
-    (λ start id is. Built-group (build (slot_from c.args.groups.now.first_slot) c.args.capture.now.sub.value) (c.args.groups.now.first_slot + 2 * (c.get.result - 1)) c.args.groups.now.pattern c.args.next c.in_ok-close.close c.in_ok-body.body start
-    c.args.builder.now c.push.new.self c.compile.new.builder c.push-2.new.self c.in_ok-close.ensures.id c.in_ok-close.ensures.states body id is))
+    (λ start id is. Built-group (build slot sub) (first + 2 * (c.get.result - 1)) c.args.groups.now.pattern c.args.next c.in_ok-close.close c.in_ok-body.body start
+    c.args.builder.now c.push.new.self c.compile-2.new.builder c.push-2.new.self c.in_ok-close.ensures.id c.in_ok-close.ensures.states body id is)))
 
 pub compile_concat-loop-left-init : goal.compile_concat-loop-left-init
 unfolding build
