@@ -5,7 +5,6 @@ ghost use Rattle.rx_search.specs.Matches.{match_value};
 ghost use Rattle.rx_thompson.specs.Nfa.{IsInRange};
 ghost use Rattle.rx_thompson.specs.NextMatch.{start_of};
 ghost use Rattle.rx_engines.specs.Engine.{PikeVMValue, next_match_in, next_match_for, answer_in, last_start, IsOf, IsMatchWith, IsSearchOf, HasSlots, Fits, accounted_memory};
-ghost use Rattle.rx_search.specs.declared.anchored.MatchKind.TheVariants.{LeftmostFirst};
 
 use crate::pikevm::cache::Cache;
 use crate::pikevm::search::Search;
@@ -81,8 +80,7 @@ impl PikeVM {
     /// ends, and answers the next match up to there. Under `All` it answers some match, and which one is not promised.
     pub fn find(&self, cache: &mut Cache, input: &Input<'_>) -> Option<Match>
         requires { Fits self.now cache.old }
-        ensures value { self.now.kind ≡ LeftmostFirst
-            → result ≡ option_map match_value (answer_in self.now input.now) }
+        ensures value { result ≡ option_map match_value (answer_in self.now input.now) }
         ensures any { is_some result ≡ is_some (next_match_in self.now input.now) }
         ensures patterns { (r : Patterns) → IsOf self.now r
             → next_match_in self.now input.now ≡ option_map (told_of r.which_captures) (next_match_for r input.now) }
@@ -103,15 +101,13 @@ impl PikeVM {
         slots: &mut [Option<NonMaxUsize>],
     ) -> Option<PatternID>
         requires { Fits self.now cache.old }
-        ensures value { self.now.kind ≡ LeftmostFirst
-            → result ≡ option_map (λ m. m.trace.pattern) (answer_in self.now input.now) }
+        ensures value { result ≡ option_map (λ m. m.trace.pattern) (answer_in self.now input.now) }
         ensures any { is_some result ≡ is_some (next_match_in self.now input.now) }
         ensures patterns { (r : Patterns) → IsOf self.now r
             → next_match_in self.now input.now ≡ option_map (told_of r.which_captures) (next_match_for r input.now) }
         ensures is_match { (r : Patterns) → IsOf self.now r
             → IfSome result (λ p. IsMatchWith r input.now (λ m. (p ≡ m.trace.pattern) × HasSlots slots.new m)) }
-        ensures slots { self.now.kind ≡ LeftmostFirst
-            → IfSome (answer_in self.now input.now) (HasSlots slots.new) }
+        ensures slots { IfSome (answer_in self.now input.now) (HasSlots slots.new) }
         ensures none { IfNone result (slots.new ≡ replicate (length slots.old) None) }
         ensures cache { cache.new ≡ cache.old }
     {
@@ -129,15 +125,13 @@ impl PikeVM {
         slots: &mut [Option<NonMaxUsize>],
     ) -> Option<Match>
         requires { Fits self.now cache.old }
-        ensures value { self.now.kind ≡ LeftmostFirst
-            → result ≡ option_map match_value (answer_in self.now input.now) }
+        ensures value { result ≡ option_map match_value (answer_in self.now input.now) }
         ensures any { is_some result ≡ is_some (next_match_in self.now input.now) }
         ensures patterns { (r : Patterns) → IsOf self.now r
             → next_match_in self.now input.now ≡ option_map (told_of r.which_captures) (next_match_for r input.now) }
         ensures is_match { (r : Patterns) → IsOf self.now r
             → IfSome result (λ found. IsMatchWith r input.now (λ m. (found ≡ match_value m) × HasSlots slots.new m)) }
-        ensures slots { self.now.kind ≡ LeftmostFirst
-            → IfSome (answer_in self.now input.now) (HasSlots slots.new) }
+        ensures slots { IfSome (answer_in self.now input.now) (HasSlots slots.new) }
         ensures none { IfNone result (slots.new ≡ replicate (length slots.old) None) }
         ensures within { IfSome result (λ m. (input.now.start ≤ m.start) × (m.end ≤ input.now.end)) }
         ensures cache { cache.new ≡ cache.old }
