@@ -58,16 +58,16 @@ module _ (states : List State) (text : List ℕ) (end q i : ℕ) (state : q < le
         accepts = accepted-is states text end q i state place s e ∙ none;
         goes_on = elim saved [
           | inl h ↦ inl (
-              λ k other. (let same : slot ≡ k = some-is (sym written ∙ other) in let past = h.0 in omega arith),
-              ap (λ fs. Explore next i ∷ fs) h.1 ∙ ap (λ ds. explore_all ds ++ frames) (sym successors),
-              h.2,
-            )
+            λ k other. (let same : slot ≡ k = some-is (sym written ∙ other) in let past = h.0 in omega arith),
+            ap (λ fs. Explore next i ∷ fs) h.1 ∙ ap (λ ds. explore_all ds ++ frames) (sym successors),
+            h.2,
+          )
           | inr h ↦ inr (
-              slot,
-              written,
-              ap (λ fs. Explore next i ∷ fs) h.0 ∙ ap (λ ds. explore_all ds ++ (Restore slot (get_or slots slot None) ∷ frames)) (sym successors),
-              h.1,
-            )
+            slot,
+            written,
+            ap (λ fs. Explore next i ∷ fs) h.0 ∙ ap (λ ds. explore_all ds ++ (Restore slot (get_or slots slot None) ∷ frames)) (sym successors),
+            h.1,
+          )
         ];
       }
 

@@ -1,5 +1,5 @@
 -- A depth-first search that tries each state at each place of a span once.
-use Rattle.std.specs.Prelude.{◌≡◌, ◌⊎◌, ℕ, ◌+◌, ◌-◌, ◌*◌, ◌/◌, ◌%◌, ◌<◌, ◌≤◌, Bool, true, false, ◌&&◌, ◌==◌, List, [], ◌∷◌, ◌++◌, length, All, Option, Some, None, nat_lt, nat_le, slice_index, slice_index_or, slice_set, min, max, refl, ◌^◌}
+use Rattle.std.specs.Prelude.{◌≡◌, ◌⊎◌, ℕ, ◌+◌, ◌-◌, ◌*◌, ◌/◌, ◌%◌, ◌<◌, ◌≤◌, Bool, true, false, ◌&&◌, ◌==◌, List, [], ◌∷◌, ◌++◌, length, All, Option, Some, None, nat_lt, nat_le, slice_index, slice_index_or, slice_set, max, refl, ◌^◌}
 use Rattle.std.specs.Coded.{Coded, code_by, coded×, coded_ℕ}
 use Rattle.std.specs.Int.{bit_at}
 use Rattle.rx_model.specs.Runs.{Configuration, PriorityGraph, Passed, found, first_trace}
@@ -139,7 +139,7 @@ next_match_within nfa v = next_match_of nfa nfa.utf8 v.haystack v.anchor v.end v
 -- the NFA has the first runs of these patterns
 pub record IsNfaOf (nfa : Nfa) (r : Patterns) : Type 0 where
   pub runs : HasFirstRuns nfa r
-  pub utf8_empty : r.utf8_empty ≡ nfa.utf8
+  pub utf8 : r.utf8_empty ≡ nfa.utf8
 
 -- the length of the longest span that is searched, with a bit for each accounted state at each place
 abbrev pub max_len : Nfa → ℕ
@@ -148,10 +148,6 @@ max_len nfa = 2097152 / max 1 nfa.accounted - 1
 -- how long the input's span is; nothing is left of a done one
 abbrev pub span_len : InputValue → ℕ
 span_len v = v.end - v.start
-
--- what is accounted for a cache of the NFA, in bytes, up to the greatest number of 64 bits
-abbrev pub accounted_memory : Nfa → ℕ
-accounted_memory nfa = min (2 ^ 64 - 1) (16 * nfa.accounted * nfa.slots)
 
 -- The room that a cache has.
 pub record Room : Type 0 where

@@ -15,3 +15,5 @@ pub use backtracker::BoundedBacktracker;
 pub use cache::Cache;
 pub use error::MatchError;
 
+#[cfg(test)]
+mod tests;

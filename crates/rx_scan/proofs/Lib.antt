@@ -6,3 +6,4 @@ pub mod ReadingLemmas
 pub mod RowLemmas
 pub mod RowsLemmas
 pub mod RunLemmas
+pub mod ScanRowLemmas

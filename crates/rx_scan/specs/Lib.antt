@@ -6,6 +6,7 @@ pub mod Patterns
 pub mod Refused
 pub mod Row
 pub mod Run
+pub mod ScanRow
 pub mod Slots
 pub mod Status
 pub mod Words

@@ -26,7 +26,7 @@ fn push_span(text: &mut Vec<u8>, start: usize, end: usize) -> Result<(), Memory>
 }
 
 /// Appends a group's span, or `-` where it has none.
-fn push_place(
+pub fn push_place(
     text: &mut Vec<u8>,
     start: Option<NonMaxUsize>,
     end: Option<NonMaxUsize>,
@@ -59,7 +59,7 @@ fn push_group(
 }
 
 /// Appends the groups from 1 on, whose starts and ends these are.
-fn push_groups(text: &mut Vec<u8>, slots: &[Option<NonMaxUsize>]) -> Result<(), Memory>
+pub fn push_groups(text: &mut Vec<u8>, slots: &[Option<NonMaxUsize>]) -> Result<(), Memory>
     ensures { OnOk result (text.new.items ≡ text.old.items ++ pairs_text slots.now 1) }
 {
     let mut group = 1;
