@@ -1,12 +1,12 @@
 -- The starts of a bounded search, and what it reports.
-use Rattle.std.proofs.Common.{◌≡◌, ℕ, zero, suc, ◌+◌, ◌-◌, ◌*◌, ◌/◌, ◌≤◌, ◌<◌, List, ◌∷◌, [], length, get_or, refl, sym, ◌∙◌, ap, subst, arith}
+use Rattle.std.proofs.Common.{◌≡◌, ℕ, suc, ◌+◌, ◌-◌, ◌*◌, ◌/◌, ◌≤◌, ◌<◌, List, length, get_or, refl, sym, ◌∙◌, ap, subst, arith}
 use Rattle.std.proofs.Math.Nat.{div-le_self}
 use Rattle.std.proofs.lemmas.Nat.{mul-le}
 use Rattle.std.proofs.lemmas.List.{length-replicate}
 use Rattle.std.proofs.lemmas.Bool.Decides.{nat_tests}
 use Rattle.std.specs.Prelude.{Bool, true, false, Option, Some, None, option_map, IfSome, replicate, nat_lt, if◌then◌else◌, ◌^◌}
 use Rattle.rx_model.specs.Runs.{Trace, first_trace}
-use Rattle.rx_model.specs.Search.{Patterns, told_of, Anchor, free, anchored, anchored_to, Match, is_anchored, is_permitted, first_start, starts, slot_value}
+use Rattle.rx_model.specs.Search.{Patterns, told_of, Match, is_anchored, is_permitted, first_start, starts, slot_value}
 use Rattle.rx_model.proofs.RunLemmas.{by_test}
 use Rattle.rx_model.proofs.FirstLemmas.{none-is-some, some-is}
 use Rattle.rx_search.specs.Input.{InputValue}
@@ -18,7 +18,8 @@ use Rattle.rx_thompson.proofs.NextMatchLemmas.{first_start-alike, next_match_of-
 use Rattle.rx_thompson.specs.declared.state.State.{State}
 use Rattle.rx_engines.specs.Engine.{next_match_for, last_start, HasSlots}
 use Rattle.rx_engines.specs.Walk.{Slots, Answer, answer, write_all}
-use Rattle.rx_engines.specs.Backtrack.{graph_for, next_of, returned, triple, next_match_within, IsNfaOf, max_len, span_len}
+use Rattle.rx_engines.specs.Backtrack.{graph_for, returned, triple}
+use Rattle.rx_engines.specs.Bounded.{next_match_within, IsNfaOf}
 use Rattle.rx_engines.specs.declared.backtrack.search.Search.{Search}
 use Rattle.rx_engines.proofs.SlotLemmas.{slot-of_match, length-write_all}
 

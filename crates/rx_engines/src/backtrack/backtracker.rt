@@ -6,16 +6,14 @@ ghost use Rattle.rx_search.specs.Matches.{match_value};
 ghost use Rattle.rx_thompson.specs.Nfa.{IsInRange};
 ghost use Rattle.rx_thompson.specs.NextMatch.{start_of};
 ghost use Rattle.rx_engines.specs.Engine.{next_match_for, HasSlots, accounted_memory};
-ghost use Rattle.rx_engines.specs.Backtrack.{next_match_within, IsNfaOf, max_len, span_len, Fits};
-ghost use Rattle.rx_engines.specs.Refusal.{IsRefusal};
+ghost use Rattle.rx_engines.specs.Bounded.{next_match_within, IsNfaOf, max_len, span_len, IsRefusal, Fits};
 
 use crate::backtrack::cache::Cache;
-use crate::backtrack::error::MatchError;
 use crate::backtrack::search::Search;
 use crate::report::reported;
 use crate::slots::empty;
 use crate::starts::latest_start;
-use rx_search::{Anchored, Input, Match, Memory, NonMaxUsize, PatternID, StateID};
+use rx_search::{Anchored, Input, Match, MatchError, Memory, NonMaxUsize, PatternID, StateID};
 use rx_thompson::NFA;
 use std::alloc::Global;
 use std::marker::Model;

@@ -1,7 +1,8 @@
 ghost use Rattle.std.specs.Prelude.{◌≡◌, vec_len, ℕ, ◌*◌, ◌+◌, ◌<◌, ◌≤◌, length, min, None, IfOk, OnOk, OnErr, IfSome, IfNone, option_map, replicate, nat_lt, slice_index_or, if◌then◌else◌};
 ghost use Rattle.std.specs.Result.{IfErr};
 ghost use Rattle.rx_model.specs.Search.{slot_value};
-ghost use Rattle.rx_engines.specs.Backtrack.{IsInside, extent, next_of, triple, Room, room_code, Fits};
+ghost use Rattle.rx_engines.specs.Backtrack.{IsInside, extent, next_of, triple};
+ghost use Rattle.rx_engines.specs.Bounded.{Room, room_code, Fits};
 ghost use Rattle.rx_engines.specs.Engine.{accounted_memory};
 
 use crate::accounting::memory_of;

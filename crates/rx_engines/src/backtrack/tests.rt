@@ -1,5 +1,5 @@
-use crate::backtrack::{BoundedBacktracker, MatchError};
-use rx_search::{Anchored, Input, Match, NonMaxUsize, PatternID, Span};
+use crate::backtrack::BoundedBacktracker;
+use rx_search::{Anchored, Input, Match, MatchError, NonMaxUsize, PatternID, Span};
 use rx_syntax::parse;
 use rx_thompson::{Compiler, Config};
 use std::alloc::Global;

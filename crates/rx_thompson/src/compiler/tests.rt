@@ -72,13 +72,13 @@ fn keeps_what_is_left_open(rt: HostRuntime) -> Result<(), Fail> {
 }
 
 /// How many groups `(a)|b(c)` and `(d)` have, in order.
-fn group_lens(rt: &impl Alloc, which: WhichCaptures) -> Result<[usize; 4], Fail> {
-    let mut exprs = Vec::new(rt.alloc());
-    exprs.push(parse(rt.alloc(), "(a)|b(c)")?)?;
-    exprs.push(parse(rt.alloc(), "(d)")?)?;
+fn group_lens(alloc: Global, which: WhichCaptures) -> Result<[usize; 4], Fail> {
+    let mut exprs = Vec::new(alloc);
+    exprs.push(parse(alloc, "(a)|b(c)")?)?;
+    exprs.push(parse(alloc, "(d)")?)?;
     let mut compiler = Compiler::new();
     compiler.configure(Config::new().which_captures(which));
-    let nfa = compiler.build_many_from_hir(rt.alloc(), &exprs)?;
+    let nfa = compiler.build_many_from_hir(alloc, &exprs)?;
     let info = nfa.group_info();
     let first = PatternID::new(0).ok_or("0")?;
     let second = PatternID::new(1).ok_or("1")?;
@@ -92,9 +92,9 @@ fn group_lens(rt: &impl Alloc, which: WhichCaptures) -> Result<[usize; 4], Fail>
 
 #[test]
 fn tells_the_groups_of_each_kind(rt: HostRuntime) -> Result<(), Fail> {
-    assert_eq!(rt; group_lens(&rt, WhichCaptures::All)?, [2, 3, 2, 10]);
-    assert_eq!(rt; group_lens(&rt, WhichCaptures::Implicit)?, [2, 1, 1, 4]);
-    assert_eq!(rt; group_lens(&rt, WhichCaptures::None)?, [0, 0, 0, 0]);
+    assert_eq!(rt; group_lens(rt.alloc(), WhichCaptures::All)?, [2, 3, 2, 10]);
+    assert_eq!(rt; group_lens(rt.alloc(), WhichCaptures::Implicit)?, [2, 1, 1, 4]);
+    assert_eq!(rt; group_lens(rt.alloc(), WhichCaptures::None)?, [0, 0, 0, 0]);
     Ok(())
 }
 

@@ -6,9 +6,23 @@ use Rattle.rx_thompson.specs.Compiled.{patterns_of, slots_of, groups_of}
 use Rattle.rx_thompson.specs.Config.{captures_of, captures_kind}
 use Rattle.rx_thompson.specs.Draft.{Draft}
 use Rattle.rx_thompson.specs.Nfa.{Nfa, HasFirstRuns}
+use Rattle.rx_search.specs.GroupInfo.{slot_count}
+use Rattle.rx_thompson.proofs.GroupLemmas.{slots-counted}
 use Rattle.rx_thompson.proofs.NextMatchLemmas.{written-none}
 use Rattle.rx_thompson.proofs.PatternLemmas.{HasFirstRuns-from, StartsAll-slots}
 use Rattle.rx_thompson.proofs.compiler.build.Goals as goal
+
+pub finish-requires-clause-slots : goal.finish-requires-clause-slots
+finish-requires-clause-slots c =
+    let exprs = c.args.exprs.now in
+    let starts = c.in_ok-starts.starts.items in
+    let old = c.compile_patterns.new.builder in
+    let new = c.start_of_all.new.builder in
+    let all : StartsAll old new starts c.in_ok-start.start = subst (λ qs. StartsAll c.compile_patterns.new.builder c.start_of_all.new.builder qs c.in_ok-start.start) c.deref.ensures.value c.in_ok-start.ensures.starts in
+    let extended = c.in_ok-starts.ensures.extends.slots in
+    let groups : c.in_ok-group_info.group_info ≡ groups_of (captures_of c.args.config) c.args.exprs.now = c.in_ok-group_info.ensures ∙ ap (λ w. groups_of w c.args.exprs.now) (ap captures_kind c.get_which_captures-which.ensures) in
+    StartsAll-slots old new starts c.in_ok-start.start all ∙ extended ∙ ap (λ (d : Draft). d.slots) c.new-builder.ensures ∙ c.requires.slots
+    ∙ slots-counted (captures_of c.args.config) exprs ∙ sym (ap slot_count groups)
 
 pub returns : goal.returns
 returns c =
