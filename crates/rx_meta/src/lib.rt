@@ -1,0 +1,20 @@
+//! Regexes: patterns and a configuration go in, and matches come out.
+//!
+//! A `Regex` is built once, and searched from anywhere. Its contract names its patterns alone: a search answers their
+//! next match, with its slots, whichever strategy and engine served. It stands on rx_strategy.
+#![tactic(auto)]
+
+mod builder;
+mod cache;
+mod error;
+mod reading;
+mod regex;
+
+pub use builder::Builder;
+pub use cache::Cache;
+pub use error::BuildError;
+pub use regex::Regex;
+pub use rx_strategy::Config;
+
+#[cfg(test)]
+mod tests;
