@@ -3,11 +3,12 @@ use Rattle.std.proofs.Common.{◌≡◌, ℕ, zero, suc, ◌+◌, ◌-◌, ◌�
 use Rattle.std.proofs.lemmas.Bool.Decides.{nat_tests}
 use Rattle.std.proofs.lemmas.List.Elements.{All-nil, All-cons, All-get_or}
 use Rattle.std.proofs.lemmas.Option.{get_or_from_slice_get, slice_get_within}
-use Rattle.std.specs.Prelude.{Bool, true, false, Option, Some, None, option_map, IfSome, All, nat_lt, if◌then◌else◌}
-use Rattle.rx_model.specs.Runs.{first_trace}
-use Rattle.rx_model.specs.Search.{Patterns, Anchor, free, anchored, anchored_to, is_anchored, Match, is_permitted, first_start, starts, slot_value}
+use Rattle.std.specs.Prelude.{Bool, true, false, Option, Some, None, option_map, is_some, IfSome, All, nat_lt, if◌then◌else◌}
+use Rattle.rx_model.specs.Runs.{Trace, first_trace}
+use Rattle.rx_model.specs.Search.{Patterns, told_of, Anchor, free, anchored, anchored_to, is_anchored, Match, is_permitted, first_start, starts, next_match, slot_value}
 use Rattle.rx_model.proofs.RunLemmas.{by_test}
-use Rattle.rx_model.proofs.FirstLemmas.{some-is}
+use Rattle.rx_model.proofs.FirstLemmas.{none-is-some, some-is}
+use Rattle.rx_model.proofs.WithinLemmas.{next-later}
 use Rattle.rx_search.specs.Matches.{match_value, MatchValue}
 use Rattle.rx_search.specs.Input.{InputValue}
 use Rattle.rx_thompson.specs.Automaton.{at, automaton}
@@ -16,16 +17,13 @@ use Rattle.rx_thompson.specs.NextMatch.{start_of, first_from, next_match_of}
 use Rattle.rx_thompson.proofs.NextMatchLemmas.{first_start-alike, next_match_of-patterns, next_match_of-slot, next_match_of-within}
 use Rattle.rx_thompson.specs.declared.state.State.{State}
 use Rattle.rx_engines.specs.Simulation.{first_of}
-use Rattle.rx_engines.specs.Search.{triple}
+use Rattle.rx_engines.specs.Search.{IsInside, next_until, next_of, first_place, stop_of, answer_of, triple}
+use Rattle.rx_engines.specs.declared.pikevm.search.Search.{Search}
 use Rattle.rx_engines.specs.Walk.{Slots}
-use Rattle.rx_engines.specs.Engine.{PikeVMValue, next_match_in, next_match_for, last_start, IsOf, HasSlots}
+use Rattle.rx_engines.specs.Engine.{PikeVMValue, next_match_by, next_match_in, next_match_for, stop_in, answer_in, last_start, IsOf, IsMatchWith, IsSearchOf, HasSlots}
 use Rattle.rx_engines.proofs.OptionLemmas.{or-none_right}
-
-first_start-none : (permitted : ℕ → Bool) (n i : ℕ) → first_start permitted (λ j. None) n i ≡ None
-unfolding first_start
-first_start-none permitted zero i = refl
-first_start-none permitted (suc n) i =
-    by_test (permitted i) (λ e. rw (e, first_start-none permitted n (i + 1)) refl) (λ e. rw (e, first_start-none permitted n (i + 1)) refl)
+use Rattle.rx_engines.proofs.StartLemmas.{first_start-none, first_start-more, first_of-beyond}
+use Rattle.rx_engines.proofs.StageLemmas.{first_place-within, first_place-alike}
 
 module _ (nfa : Nfa) (utf8_empty : Bool) (text : List ℕ) (anchor : Anchor) (end start : ℕ) where
   -- nothing is left to search
@@ -37,22 +35,29 @@ module _ (nfa : Nfa) (utf8_empty : Bool) (text : List ℕ) (anchor : Anchor) (en
   pub next_match_of-missing : start_of nfa anchor ≡ None → next_match_of nfa utf8_empty text anchor end start ≡ None
   unfolding next_match_of
   next_match_of-missing none =
-      first_start-alike (is_permitted utf8_empty text) (first_from nfa.states text end (start_of nfa anchor)) (λ j. None) (starts anchor start end) start (λ j le. ap (λ s. first_from nfa.states text end s j) none)
-      ∙ first_start-none (is_permitted utf8_empty text) (starts anchor start end) start
+      first_start-none (is_permitted utf8_empty text) (first_from nfa.states text end (start_of nfa anchor)) (starts anchor start end) start (λ j le. ap (λ s. first_from nfa.states text end s j) none)
 
-  -- how many starts there are
-  starts-is : start ≤ end → starts anchor start end ≡ (if is_anchored anchor then start else end) + 1 - start
-  starts-is le =
-      let e : nat_lt end start ≡ false = grind (arith, nat_tests) in
-      by_test (is_anchored anchor) (λ a. rw (e, a) (omega arith)) (λ a. rw (e, a) refl)
-
-  pub next_match_of-start : (q last : ℕ) → start ≤ end → start_of nfa anchor ≡ Some q → last ≡ (if is_anchored anchor then start else end)
-      → first_start (is_permitted utf8_empty text) (first_of (first_trace (automaton nfa.states text end)) (q ∷ [])) (last + 1 - start) start ≡ next_match_of nfa utf8_empty text anchor end start
+  -- a search up to a later place looks at more starts, from which no run ends by here
+  pub next_match_of-until : (top q : ℕ) → start ≤ end → end ≤ top → start_of nfa anchor ≡ Some q
+      → first_start (is_permitted utf8_empty text) (first_of (first_trace (automaton nfa.states text end)) (q ∷ [])) ((if is_anchored anchor then start else top) + 1 - start) start ≡ next_match_of nfa utf8_empty text anchor end start
   unfolding next_match_of
-  next_match_of-start q last le is at_last =
-      first_start-alike (is_permitted utf8_empty text) (first_of (first_trace (automaton nfa.states text end)) (q ∷ [])) (first_from nfa.states text end (start_of nfa anchor)) (last + 1 - start) start
+  next_match_of-until top q low high is =
+      fewer
+      ∙ first_start-alike (is_permitted utf8_empty text) from_start (first_from nfa.states text end (start_of nfa anchor)) (starts anchor start end) start
       (λ j _. or-none_right (first_trace (automaton nfa.states text end) (at q j)) ∙ ap (λ s. first_from nfa.states text end s j) (sym is))
-      ∙ ap (λ n. first_start (is_permitted utf8_empty text) (first_from nfa.states text end (start_of nfa anchor)) n start) (ap (λ l. l + 1 - start) at_last ∙ sym (starts-is le))
+    where
+      from_start : ℕ → Option Trace
+      from_start = first_of (first_trace (automaton nfa.states text end)) (q ∷ [])
+
+      in_order : nat_lt end start ≡ false
+      in_order = grind (arith, nat_tests)
+
+      fewer : first_start (is_permitted utf8_empty text) from_start ((if is_anchored anchor then start else top) + 1 - start) start ≡ first_start (is_permitted utf8_empty text) from_start (starts anchor start end) start
+      fewer =
+          by_test (is_anchored anchor)
+          (λ a. rw (in_order, a) (let one : start + 1 - start ≡ 1 = omega arith in ap (λ n. first_start (is_permitted utf8_empty text) from_start n start) one))
+          (λ a. rw (in_order, a)
+          (first_start-more (is_permitted utf8_empty text) from_start (end + 1 - start) (top + 1 - start) start (omega arith) (λ j le. first_of-beyond nfa.states text [] utf8_empty end 0 0 (q ∷ []) j (omega arith))))
 
 -- the start is there
 pub start-inside : (nfa : Nfa) (anchor : Anchor) (q : ℕ) → IsInRange nfa → start_of nfa anchor ≡ Some q → All (λ s. s < length nfa.states) (q ∷ [])
@@ -66,37 +71,115 @@ start-inside nfa anchor q range is = All-cons (λ s. s < length nfa.states) q []
         let lt = All-get_or (λ s. s < length nfa.states) nfa.starts p 0 (slice_get_within nfa.starts p q e) range.starts in
         omega arith
 
+-- what is told is told of something
+told-from : (tell : Match → Match) (o : Option Match) (m : Match) → option_map tell o ≡ Some m → (n : Match) × (o ≡ Some n) × (tell n ≡ m)
+told-from tell None m e = none-is-some e
+told-from tell (Some n) m e = (n, refl, some-is e)
+
 module _ (vm : PikeVMValue) (v : InputValue) where
-  pub patterns-agree : v.end ≤ length v.haystack → (r : Patterns) → IsOf vm r → next_match_in vm v ≡ next_match_for r v
-  patterns-agree within r of = next_match_of-patterns vm.nfa r v.haystack v.end within of.runs vm.utf8_empty v.anchor v.start of.utf8_empty
+  pub patterns-agree : v.end ≤ length v.haystack → (r : Patterns) → IsOf vm r → next_match_in vm v ≡ option_map (told_of r.which_captures) (next_match_for r v)
+  patterns-agree within r of = next_match_of-patterns vm.nfa r v.haystack v.end within of.runs vm.nfa.utf8 v.anchor v.start of.utf8
 
-  -- what the search of the states was given
-  pub found-is : {states : List State} {text : List ℕ} {q last from end : ℕ} {utf8_empty : Bool} → states ≡ vm.nfa.states → text ≡ v.haystack → utf8_empty ≡ vm.utf8_empty → last ≡ last_start v → from ≡ v.start → end ≡ v.end
-      → v.start ≤ v.end → start_of vm.nfa v.anchor ≡ Some q
-      → first_start (is_permitted utf8_empty text) (first_of (first_trace (automaton states text end)) (q ∷ [])) (last + 1 - from) from ≡ next_match_in vm v
-  found-is {q = q} {last = last} a b c at_last d e le is =
-      (λ j. first_start (is_permitted (c j) (b j)) (first_of (first_trace (automaton (a j) (b j) (e j))) (q ∷ [])) (last + 1 - d j) (d j))
-      ∙ next_match_of-start vm.nfa vm.utf8_empty v.haystack v.anchor v.end v.start q last le is at_last
+  -- where a search stops
+  pub stop-within : v.start ≤ v.end → (v.start ≤ stop_in vm v) × (stop_in vm v ≤ v.end)
+  stop-within le =
+      by_test v.earliest
+      (λ e. rw e (first_place-within (λ e. is_some (next_match_by vm v e)) v.end (v.end - v.start) v.start (omega arith)))
+      (λ e. rw e (le, omega arith))
 
-  pub triple-in_order : (o : Option Match) → o ≡ next_match_in vm v → (found : Option (ℕ × ℕ × ℕ)) → found ≡ option_map triple o → IfSome found (λ f. f.1 ≤ f.2)
+  pub answer_in-done : v.end < v.start → answer_in vm v ≡ None
+  unfolding first_place
+  answer_in-done past =
+      let none = next_match_of-done vm.nfa vm.nfa.utf8 v.haystack v.anchor v.end v.start past in
+      let no_places : v.end - v.start ≡ 0 = omega arith in
+      by_test v.earliest (λ e. rw (e, no_places) none) (λ e. rw e none)
+
+  pub answer_in-missing : start_of vm.nfa v.anchor ≡ None → answer_in vm v ≡ None
+  answer_in-missing none = next_match_of-missing vm.nfa vm.nfa.utf8 v.haystack v.anchor (stop_in vm v) v.start none
+
+  -- without `earliest` the answer is the next match
+  pub answer_in-late : v.earliest ≡ false → answer_in vm v ≡ next_match_in vm v
+  answer_in-late late = ap (λ b. next_match_by vm v (if b then first_place (λ e. is_some (next_match_by vm v e)) v.end (v.end - v.start) v.start else v.end)) late
+
+  -- what is found is a match
+  pub answer-is_match : v.end ≤ length v.haystack → v.start ≤ v.end → (r : Patterns) → IsOf vm r → (Holds : Match → Type 0) → (o : Option Match) → o ≡ answer_in vm v → IfSome o Holds → IfSome o (λ m. IsMatchWith r v Holds)
+  answer-is_match within le r of Holds None e holds = tt
+  answer-is_match within le r of Holds (Some m) e holds =
+      let stop = (stop-within le).1 in
+      let same = next_match_of-patterns vm.nfa r v.haystack (stop_in vm v) (omega arith) of.runs vm.nfa.utf8 v.anchor v.start of.utf8 in
+      let n = told-from (told_of r.which_captures) (next_match r v.haystack v.anchor (stop_in vm v) v.start) m (sym same ∙ sym e) in
+      (n.0, next-later r v.haystack v.anchor (stop_in vm v) v.end v.start n.0 n.1 stop, subst Holds (sym n.2) holds)
+
+  -- what is reported is the answer, with its slots
+  pub reported-is_match : v.end ≤ length v.haystack → v.start ≤ v.end → (r : Patterns) → IsOf vm r → (slots : Slots) → (o : Option Match) → o ≡ answer_in vm v → (result : Option MatchValue) → result ≡ option_map match_value o → IfSome (answer_in vm v) (HasSlots slots)
+      → IfSome result (λ found. IsMatchWith r v (λ m. (found ≡ match_value m) × HasSlots slots m))
+  reported-is_match within le r of slots None e result is told = rw is tt
+  reported-is_match within le r of slots (Some m) e result is told =
+      rw is (answer-is_match within le r of (λ n. (match_value m ≡ match_value n) × HasSlots slots n) (Some m) e (refl, subst (λ x. IfSome x (HasSlots slots)) (sym e) told))
+
+  module _ (q : ℕ) (s : Search) (of : IsSearchOf vm v (q ∷ []) s) (le : v.start ≤ v.end) (is : start_of vm.nfa v.anchor ≡ Some q) where
+    pub search-inside : IsInRange vm.nfa → IsInside s
+    search-inside range =
+        let last = of.last in
+        let end = of.end in
+        let spanned = of.spanned.end in
+        let size = ap length of.text in
+        let at_last : last_start v ≤ v.end = by_test (is_anchored v.anchor) (λ a. rw a le) (λ a. rw a (omega arith)) in
+        record {
+          names = rw of.states range.names;
+          starts = rw (of.states, of.starts) (start-inside vm.nfa v.anchor q range is);
+          last = omega arith;
+          end = omega arith;
+        }
+
+    pub until-is : (end : ℕ) → v.start ≤ end → end ≤ v.end → next_until s v.start end ≡ next_match_by vm v end
+    until-is end low high =
+        (λ j. first_start (is_permitted (of.utf8 j) (of.text j)) (first_of (first_trace (automaton (of.states j) (of.text j) end)) (of.starts j)) (of.last j + 1 - v.start) v.start)
+        ∙ next_match_of-until vm.nfa vm.nfa.utf8 v.haystack v.anchor end v.start v.end q low high is
+
+    pub next-is : {from : ℕ} → from ≡ v.start → next_of s from ≡ next_match_in vm v
+    next-is same = (λ j. next_until s (same j) (of.end j)) ∙ until-is v.end le (omega arith)
+
+    stop-is : stop_of s v.earliest v.start ≡ stop_in vm v
+    stop-is =
+        by_test v.earliest
+        (λ e. rw e
+        ((λ j. first_place (λ e. is_some (next_until s v.start e)) (of.end j) (of.end j - v.start) v.start)
+        ∙ first_place-alike (λ e. is_some (next_until s v.start e)) (λ e. is_some (next_match_by vm v e)) v.end (v.end - v.start) v.start (λ e low high. ap is_some (until-is e low (omega arith)))))
+        (λ e. rw e of.end)
+
+    pub answer-is : {from : ℕ} {earliest : Bool} → from ≡ v.start → earliest ≡ v.earliest → answer_of s earliest from ≡ answer_in vm v
+    answer-is same flag =
+        let w = stop-within le in
+        (λ j. answer_of s (flag j) (same j)) ∙ ap (next_until s v.start) stop-is ∙ until-is (stop_in vm v) w.0 w.1
+
+  pub triple-in_order : (o : Option Match) → o ≡ answer_in vm v → (found : Option (ℕ × ℕ × ℕ)) → found ≡ option_map triple o → IfSome found (λ f. f.1 ≤ f.2)
   triple-in_order None e found is = rw is tt
-  triple-in_order (Some m) e found is = rw is (next_match_of-within vm.nfa vm.utf8_empty v.haystack v.anchor v.end v.start m (sym e)).1
+  triple-in_order (Some m) e found is = rw is (next_match_of-within vm.nfa vm.nfa.utf8 v.haystack v.anchor (stop_in vm v) v.start m (sym e)).1
 
-  pub value-within : (o : Option Match) → o ≡ next_match_in vm v → (result : Option MatchValue) → result ≡ option_map match_value o → IfSome result (λ m. (v.start ≤ m.start) × (m.end ≤ v.end))
-  value-within None e result is = rw is tt
-  value-within (Some m) e result is = let within = next_match_of-within vm.nfa vm.utf8_empty v.haystack v.anchor v.end v.start m (sym e) in rw is (within.0, within.2)
+  pub value-within : v.start ≤ v.end → (o : Option Match) → o ≡ answer_in vm v → (result : Option MatchValue) → result ≡ option_map match_value o → IfSome result (λ m. (v.start ≤ m.start) × (m.end ≤ v.end))
+  value-within le None e result is = rw is tt
+  value-within le (Some m) e result is =
+      let within = next_match_of-within vm.nfa vm.nfa.utf8 v.haystack v.anchor (stop_in vm v) v.start m (sym e) in
+      let high = within.2 in
+      let stop = (stop-within le).1 in
+      rw is (within.0, omega arith)
 
   -- a slot that the engine has no room for stays empty
-  pub slots-told : IsInRange vm.nfa → {widest : ℕ} → widest ≡ vm.nfa.slots → (o : Option Match) → o ≡ next_match_in vm v → (slots : Slots)
-      → IfSome o (λ m. (k : ℕ) → k < length slots → get_or slots k None ≡ (if nat_lt k widest then slot_value m k else None)) → IfSome (next_match_in vm v) (HasSlots slots)
+  pub slots-told : IsInRange vm.nfa → {widest : ℕ} → widest ≡ vm.nfa.slots → (o : Option Match) → o ≡ answer_in vm v → (slots : Slots)
+      → IfSome o (λ m. (k : ℕ) → k < length slots → get_or slots k None ≡ (if nat_lt k widest then slot_value m k else None)) → IfSome (answer_in vm v) (HasSlots slots)
   slots-told range {widest} wide None e slots told = subst (λ x. IfSome x (HasSlots slots)) e tt
   slots-told range {widest} wide (Some m) e slots told =
       subst (λ x. IfSome x (HasSlots slots)) e
       (λ k lt. by_test (nat_lt k widest)
       (λ t. rw t at (told k lt))
-      (λ t. (rw t at (told k lt)) ∙ sym (next_match_of-slot vm.nfa range v.haystack v.end k (grind (arith, nat_tests)) vm.utf8_empty v.anchor v.start m (sym e))))
+      (λ t. (rw t at (told k lt)) ∙ sym (next_match_of-slot vm.nfa range v.haystack (stop_in vm v) k (grind (arith, nat_tests)) vm.nfa.utf8 v.anchor v.start m (sym e))))
 
 -- a match as the search of the states reports it
 pub triple-value : (o : Option Match) → option_map (λ (f : ℕ × ℕ × ℕ). let m : MatchValue = record { pattern = f.0; start = f.1; end = f.2 } in m) (option_map triple o) ≡ option_map match_value o
 triple-value None = refl
 triple-value (Some m) = refl
+
+pub reported-any : (found : Option (ℕ × ℕ × ℕ)) (o : Option MatchValue) → o ≡ option_map (λ (f : ℕ × ℕ × ℕ). let m : MatchValue = record { pattern = f.0; start = f.1; end = f.2 } in m) found → is_some o ≡ is_some found
+reported-any None o h = ap is_some h
+reported-any (Some f) o h = ap is_some h

@@ -8,4 +8,10 @@ pub mod TableLemmas
 pub mod CloseLemmas
 pub mod StepLemmas
 pub mod StartLemmas
+pub mod StageLemmas
 pub mod EngineLemmas
+pub mod BitLemmas
+pub mod SearchingLemmas
+pub mod YieldLemmas
+pub mod AttemptLemmas
+pub mod BoundedLemmas

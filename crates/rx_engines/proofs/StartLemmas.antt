@@ -27,6 +27,22 @@ use Rattle.rx_engines.specs.Simulation.{is_resting, Closed, passed_at, Hit, hit,
 use Rattle.rx_engines.specs.Simulation.{first_of}
 use Rattle.rx_engines.proofs.SimulationLemmas.{passed_at-elsewhere}
 
+-- where no start tells anything
+pub first_start-none : (permitted : ℕ → Bool) (f : ℕ → Option Trace) (n i : ℕ) → ((j : ℕ) → i ≤ j → f j ≡ None) → first_start permitted f n i ≡ None
+unfolding first_start
+first_start-none permitted f zero i none = refl
+first_start-none permitted f (suc n) i none =
+    let rest = first_start-none permitted f n (i + 1) (λ j le. none j (omega arith)) in
+    by_test (permitted i) (λ e. rw (e, none i (omega arith), rest) refl) (λ e. rw (e, rest) refl)
+
+-- starts that tell nothing may come after the others
+pub first_start-more : (permitted : ℕ → Bool) (f : ℕ → Option Trace) (n m i : ℕ) → n ≤ m → ((j : ℕ) → i + n ≤ j → f j ≡ None) → first_start permitted f m i ≡ first_start permitted f n i
+unfolding first_start
+first_start-more permitted f zero m i le none = first_start-none permitted f m i (λ j low. none j (omega arith))
+first_start-more permitted f (suc n) zero i le none = absurd (omega arith)
+first_start-more permitted f (suc n) (suc m) i le none =
+    rw (first_start-more permitted f n m (i + 1) (omega arith) (λ j low. none j (omega arith))) refl
+
 -- a start, as a hit
 pub start-hit : (width i : ℕ) (o : Option Trace) → option_map (hit_of width) (option_map (λ t. record { start = i; trace = t }) o) ≡ hit i (answer (replicate width None) o)
 start-hit width i None = refl
@@ -203,6 +219,14 @@ module _ (states : List State) (text : List ℕ) (states_of_start : List ℕ) (u
   among-beyond i rows [] lt = refl
   among-beyond i rows (q ∷ qs) lt =
       rw (beyond q i lt, among-beyond i rows qs lt) (by_test (is_resting (state_at states q)) (λ e. rw e refl) (λ e. rw e refl))
+
+  pub first_of-beyond : (ss : List ℕ) (i : ℕ) → end < i → first_of (found g nowhere) ss i ≡ None
+  first_of-beyond [] i lt = refl
+  first_of-beyond (q ∷ qs) i lt = rw (beyond q i lt, first_of-beyond qs i lt) refl
+
+  -- nothing starts past the end
+  pub starts-beyond : (i : ℕ) → end < i → starts nowhere i ≡ None
+  starts-beyond i lt = first_start-none (is_permitted utf8_empty text) (first_of (found g nowhere) states_of_start) (last + 1 - i) i (λ j le. first_of-beyond states_of_start j (omega arith))
 
   -- or the span is over
   pub over-end : (best : Option (ℕ × ℕ × ℕ)) (slots : Slots) (items : List ℕ) (rows : List Row) (p : Passed) (i : ℕ) (goal : Option Hit) → end < i → last < i

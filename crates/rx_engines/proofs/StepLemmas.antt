@@ -16,6 +16,8 @@ use Rattle.rx_thompson.specs.declared.state.State.TheVariants.{ByteRange, Sparse
 use Rattle.rx_thompson.proofs.StateLemmas.{accepted-is, successors-is, written-is, state-known, names-known, read_byte-taken, read_byte-dead}
 use Rattle.rx_engines.specs.Simulation.{Acts, byte_at, onto, read_of, act_of}
 use Rattle.rx_engines.specs.declared.pikevm.step.Action.{Action}
+use Rattle.rx_engines.specs.declared.pikevm.step.Action.TheVariants.{Accept, Read, Nothing}
+use Rattle.rx_thompson.proofs.AutomatonLemmas.{automaton-bounded}
 use Rattle.rx_thompson.specs.Automaton.{at, state_at}
 use Rattle.rx_engines.specs.Walk.{answer, pending}
 use Rattle.rx_thompson.specs.declared.state.State.{State}
@@ -171,3 +173,48 @@ module _ (states : List State) (text : List ℕ) (end q i : ℕ) (names : All (N
   pub acts-known : (n : ℕ) (r : State) (b : Option ℕ) (a : Action) → n ≡ q → r ≡ get_or states n r → b ≡ byte_at text end i → a ≡ act_of r b → Acts states (automaton states text end) end q i a
   acts-known n r b a same read byte is =
       subst (Acts states (automaton states text end) end q i) (sym (is ∙ ap (act_of r) byte)) (acts r (state-known states n q r r same state read refl))
+
+-- What a state does where no byte may be read.
+
+abbrev idle : Action → Action
+idle (Accept pattern) = Accept pattern
+idle (Read next) = Nothing
+idle Nothing = Nothing
+
+idle-read : (ts : List Transition) (b : Option ℕ) → Nothing ≡ idle (read_of ts b)
+idle-read ts None = refl
+idle-read ts (Some byte) = each (route ts byte)
+  where
+    each : (o : Option ℕ) → Nothing ≡ idle (onto o)
+    each None = refl
+    each (Some next) = refl
+
+act-idle : (s : State) (b : Option ℕ) → act_of s None ≡ idle (act_of s b)
+act-idle (ByteRange low high next) b = idle-read (record { start = low; end = high; next = next } ∷ []) b
+act-idle (Sparse transitions) b = idle-read transitions b
+act-idle (Union alternates) b = refl
+act-idle (Capture next pattern slot) b = refl
+act-idle Fail b = refl
+act-idle (Accepts pattern) b = refl
+
+module _ (states : List State) (text : List ℕ) (q i : ℕ) (names : All (NamesBelow (length states)) states) (state : q < length states) (rows : List Row) where
+  abbrev here : PriorityGraph
+  here = automaton states text i
+
+  -- what was done with the state and some byte, in the graph that ends at this place
+  pub idle-known : (n : ℕ) (r : State) (b : Option ℕ) (a : Action) → n ≡ q → r ≡ get_or states n r → a ≡ act_of r b → Acts states here i q i (idle a)
+  idle-known n r b a same read is =
+      let no_byte : byte_at text i i ≡ None = let e : nat_lt i i ≡ false = grind (arith, nat_tests) in rw e refl in
+      acts-known states text i q i names state (omega arith) n r None (idle a) same read (sym no_byte) (ap idle is ∙ sym (act-idle r b))
+
+  pub idle-ends : (qs : List ℕ) (k : ℕ) (a : Action) → k < length qs → q ≡ get_or qs k 0 → Nothing ≡ idle a → Acts states here i q i (idle a)
+      → among states here nowhere i rows (drop k qs) ≡ among states here nowhere i rows (drop (k + 1) qs)
+  idle-ends qs k a lt is ends acts =
+      among-left states here nowhere i rows qs k q lt is
+      ∙ ap (λ o. option_or o (among states here nowhere i rows (drop (k + 1) qs))) (thread-ends states here i rows q (automaton-bounded states text i) nowhere refl (subst (Acts states here i q i) (sym ends) acts))
+
+  pub idle-accepts : (qs : List ℕ) (k pattern : ℕ) → k < length qs → q ≡ get_or qs k 0 → Acts states here i q i (Accept pattern)
+      → among states here nowhere i rows (drop k qs) ≡ Some ((row_at rows q).0, record { pattern = pattern; end = i; slots = (row_at rows q).1 })
+  idle-accepts qs k pattern lt is acts =
+      among-left states here nowhere i rows qs k q lt is
+      ∙ ap (λ o. option_or o (among states here nowhere i rows (drop (k + 1) qs))) (thread-accepts states here i rows q (automaton-bounded states text i) nowhere refl pattern acts.0 acts.1)

@@ -1,20 +1,37 @@
 -- What an engine is to a contract, and what its searches answer.
-use Rattle.std.specs.Prelude.{◌≡◌, ℕ, ◌<◌, Bool, List, length, Option, None, slice_index_or, if◌then◌else◌}
-use Rattle.rx_model.specs.Search.{Patterns, Match, is_anchored, next_match, slot_value}
-use Rattle.rx_search.specs.Input.{InputValue}
+use Rattle.std.specs.Prelude.{◌≡◌, ℕ, ◌-◌, ◌*◌, ◌^◌, ◌<◌, min, List, length, Option, None, is_some, slice_index_or, if◌then◌else◌}
+use Rattle.rx_model.specs.Search.{Patterns, Match, told_of, is_anchored, next_match, slot_value}
+use Rattle.rx_model.specs.Matches.{IsMatch}
+use Rattle.rx_search.specs.Input.{InputValue, IsSpanned}
+use Rattle.rx_search.specs.declared.anchored.MatchKind.{MatchKind}
 use Rattle.rx_thompson.specs.Nfa.{Nfa, HasFirstRuns}
 use Rattle.rx_thompson.specs.NextMatch.{next_match_of}
 use Rattle.rx_engines.specs.Room.{Room}
 use Rattle.rx_engines.specs.Simulation.{cost_below}
+use Rattle.rx_engines.specs.Search.{first_place}
+use Rattle.rx_engines.specs.declared.pikevm.search.Search.{Search}
 
 pub record PikeVMValue : Type 0 where
   pub nfa : Nfa
-  -- no match starts inside a character
-  pub utf8_empty : Bool
+  -- which of the matches that begin at one place is reported
+  pub kind : MatchKind
+
+-- the next match of the engine's NFA that starts in the input's span and ends by `end`
+abbrev pub next_match_by : PikeVMValue → InputValue → (end : ℕ) → Option Match
+next_match_by vm v end = next_match_of vm.nfa vm.nfa.utf8 v.haystack v.anchor end v.start
 
 -- the next match of the engine's NFA in the input's span
 abbrev pub next_match_in : PikeVMValue → InputValue → Option Match
-next_match_in vm v = next_match_of vm.nfa vm.utf8_empty v.haystack v.anchor v.end v.start
+next_match_in vm v = next_match_by vm v v.end
+
+-- Where a search stops: at the end of the span, or with `earliest` at the first place by which a match ends.
+abbrev pub stop_in : PikeVMValue → InputValue → ℕ
+stop_in vm v = if v.earliest then first_place (λ e. is_some (next_match_by vm v e)) v.end (v.end - v.start) v.start else v.end
+
+-- What a leftmost-first search answers: the next match that ends by the place where it stops. Without `earliest`
+-- it is the next match in the input's span.
+abbrev pub answer_in : PikeVMValue → InputValue → Option Match
+answer_in vm v = next_match_by vm v (stop_in vm v)
 
 -- the place at which a match may start at the latest
 abbrev pub last_start : InputValue → ℕ
@@ -23,7 +40,7 @@ last_start v = if is_anchored v.anchor then v.start else v.end
 -- the engine's NFA has the first runs of these patterns
 pub record IsOf (vm : PikeVMValue) (r : Patterns) : Type 0 where
   pub runs : HasFirstRuns vm.nfa r
-  pub utf8_empty : r.utf8_empty ≡ vm.utf8_empty
+  pub utf8 : r.utf8_empty ≡ vm.nfa.utf8
 
 -- the next match of the patterns in the input's span
 abbrev pub next_match_for : Patterns → InputValue → Option Match
@@ -32,6 +49,25 @@ next_match_for r v = next_match r v.haystack v.anchor v.end v.start
 -- the slots are those of the match
 abbrev pub HasSlots : List (Option ℕ) → Match → Type 0
 HasSlots slots m = (k : ℕ) → k < length slots → slice_index_or slots k None ≡ slot_value m k
+
+-- Where something is found it is a match of the patterns in the input's span, and this holds of what is told of it.
+abbrev pub IsMatchWith : Patterns → InputValue → (Match → Type 0) → Type 0
+IsMatchWith r v Holds = (m : Match) × IsMatch r v.haystack v.anchor v.end v.start m × Holds (told_of r.which_captures m)
+
+-- the search that an engine makes of an input
+pub record IsSearchOf (vm : PikeVMValue) (v : InputValue) (qs : List ℕ) (s : Search) : Type 0 where
+  pub states : s.states.now ≡ vm.nfa.states
+  pub starts : s.starts.now ≡ qs
+  pub text : s.text.now ≡ v.haystack
+  pub utf8 : s.utf8_empty ≡ vm.nfa.utf8
+  pub last : s.last ≡ last_start v
+  pub end : s.end ≡ v.end
+  pub spanned : IsSpanned v
+
+-- The bytes that are accounted for a cache: 16 for each slot of each accounted state, up to the greatest number of
+-- 64 bits.
+abbrev pub accounted_memory : Nfa → ℕ
+accounted_memory nfa = min (2 ^ 64 - 1) (16 * nfa.accounted * nfa.slots)
 
 -- a cache with this room serves the engine
 pub record Fits (vm : PikeVMValue) (room : Room) : Type 0 where

@@ -5,3 +5,5 @@ pub mod Simulation
 pub mod Search
 pub mod Room
 pub mod Engine
+pub mod Backtrack
+pub mod Refusal

@@ -1,6 +1,6 @@
 -- What is searched, and the next match there.
-use Rattle.std.specs.Prelude.{ℕ, ◌+◌, ◌-◌, ◌≤◌, ◌<◌, length, All, Option}
-use Rattle.rx_model.specs.Runs.{PriorityGraph, first_trace}
+use Rattle.std.specs.Prelude.{ℕ, zero, suc, ◌+◌, ◌-◌, ◌≤◌, ◌<◌, Bool, length, All, Option, is_some, if◌then◌else◌}
+use Rattle.rx_model.specs.Runs.{first_trace}
 use Rattle.rx_model.specs.Search.{Match, is_permitted, first_start}
 use Rattle.rx_thompson.specs.Automaton.{automaton, NamesBelow}
 use Rattle.rx_engines.specs.Simulation.{first_of}
@@ -13,14 +13,27 @@ pub record IsInside (s : Search) : Type 0 where
   pub last : s.last ≤ s.end
   pub end : s.end ≤ length s.text.now
 
--- the graph whose runs are searched
-abbrev pub graph_for : Search → PriorityGraph
-graph_for s = automaton s.states.now s.text.now s.end
+-- the next match that starts at `from` or after it and ends by `end`
+abbrev pub next_until : Search → (from end : ℕ) → Option Match
+next_until s from end =
+    first_start (is_permitted s.utf8_empty s.text.now) (first_of (first_trace (automaton s.states.now s.text.now end)) s.starts.now) (s.last + 1 - from) from
 
--- the next match that starts at `from` or after it
+-- the same in all that is searched
 abbrev pub next_of : Search → (from : ℕ) → Option Match
-next_of s from =
-    first_start (is_permitted s.utf8_empty s.text.now) (first_of (first_trace (graph_for s)) s.starts.now) (s.last + 1 - from) from
+next_of s from = next_until s from s.end
+
+-- the first of the n places from i on at which the test holds, or else the other place
+unfoldable pub first_place : (ℕ → Bool) → (other n i : ℕ) → ℕ
+first_place test other zero i = other
+first_place test other (suc n) i = if test i then i else first_place test other n (i + 1)
+
+-- Where the search stops: at the end, or with `earliest` at the first place by which a match ends.
+abbrev pub stop_of : Search → (earliest : Bool) → (from : ℕ) → ℕ
+stop_of s earliest from = if earliest then first_place (λ e. is_some (next_until s from e)) s.end (s.end - from) from else s.end
+
+-- what the search answers: the next match that ends by the place where it stops
+abbrev pub answer_of : Search → (earliest : Bool) → (from : ℕ) → Option Match
+answer_of s earliest from = next_until s from (stop_of s earliest from)
 
 -- a match as pattern, start and end
 abbrev pub triple : Match → ℕ × ℕ × ℕ

@@ -117,6 +117,11 @@ Stepped None states g i later items rows slots goal = Closed states g (i + 1) la
 Stepped (Some r) states g i later items rows slots goal =
     option_or (among states g nowhere (i + 1) rows items) (Some (r.1, record { pattern = r.0; end = i; slots = slots })) ≡ goal
 
+-- what a thread that accepts at place i tells
+abbrev pub accepted_hit : Option (ℕ × ℕ) → ℕ → Slots → Option Hit
+accepted_hit None i slots = None
+accepted_hit (Some r) i slots = Some (r.1, record { pattern = r.0; end = i; slots = slots })
+
 -- a match as a hit, with so many slots
 abbrev pub hit_of : ℕ → Match → Hit
 hit_of width m = (m.start, record { pattern = m.trace.pattern; end = m.trace.end; slots = write_all m.trace.writes (replicate width None) })

@@ -3,6 +3,7 @@
 //! `pikevm` simulates all its threads at once, place by place. Its contract is the next match, with slots.
 #![tactic(auto)]
 
+pub mod backtrack;
 mod frame;
 pub mod pikevm;
 mod slots;

@@ -11,6 +11,12 @@ pub record IsFresh (p : Passed) (c : Configuration) : Type 0 where
   pub new : p c ≡ false
   pub ahead : (d : Configuration) → c.place < d.place → p d ≡ false
 
+-- the two graphs do the same, but for what they write
+pub record AgreesButForWrites (g m : PriorityGraph) : Type 0 where
+  pub successors : (c : Configuration) → m.successors c ≡ g.successors c
+  pub accepted : (c : Configuration) → m.accepted c ≡ g.accepted c
+  pub all : m.all ≡ g.all
+
 module _ (g m : PriorityGraph) (f : ℕ → ℕ) where
   -- c keeps its place in both graphs, and goes on alike
   pub record Stays (c : Configuration) : Type 0 where

@@ -1,8 +1,9 @@
 //! Laws of what an expression means.
 
-ghost use Rattle.std.specs.Prelude.{◌≡◌, ℕ, ◌+◌, ◌<◌, ◌≤◌, ◌↔◌, List, take, drop, length, slice_index, Option, Some, None, IsTrue, IsFalse, encode_utf8};
+ghost use Rattle.std.specs.Prelude.{◌≡◌, ℕ, ◌+◌, ◌<◌, ◌≤◌, ◌↔◌, List, take, drop, length, slice_index, Option, Some, None, true, IsTrue, IsFalse, encode_utf8};
 ghost use Rattle.std.specs.Char.{IsScalar, len_utf8};
 ghost use Rattle.rx_model.specs.Text.{scalar_ranges, byte_ranges, is_member, member_len};
+ghost use Rattle.rx_model.specs.Empty.{can_be_empty};
 ghost use Rattle.rx_model.specs.Length.{minimum_len, shortest_member};
 ghost use Rattle.rx_model.specs.Runs.{Configuration, IsRun, nowhere, last_of, Trace};
 ghost use Rattle.rx_model.specs.Expression.{Expression, AreOrdered};
@@ -37,6 +38,11 @@ pub fn the_first_run_is_meant()
 pub fn the_least_length_is_a_lower_bound()
     ensures { (t : ℕ) (text : List ℕ) (h : Expression) (n : ℕ) → minimum_len h ≡ Some n
         → (i j : ℕ) → Means t text h i j → i + n ≤ j }
+{}
+
+/// An expression that means the empty string somewhere can be empty.
+pub fn what_means_the_empty_string_can_be_empty()
+    ensures { (t : ℕ) (text : List ℕ) (h : Expression) (i : ℕ) → Means t text h i i → can_be_empty h ≡ true }
 {}
 
 /// The least length of a class is that of the encoding of a member, and none only where it has no members.

@@ -1,8 +1,9 @@
 //! Laws of the runs of a priority graph.
 
-ghost use Rattle.std.specs.Prelude.{◌≡◌, ℕ, ◌≤◌, Bool, List, Some, None, IsTrue, IsFalse};
+ghost use Rattle.std.specs.Prelude.{◌≡◌, ℕ, ◌≤◌, Bool, List, Some, None, option_map, IsTrue, IsFalse};
 ghost use Rattle.rx_model.specs.Runs.{Configuration, PriorityGraph, Passed, IsBounded, NeverFalls, IsClosed, IsRun, IsFirst, nowhere, and_at, first_run, first_trace, found};
-ghost use Rattle.rx_model.specs.Refinement.{Refines, moved};
+ghost use Rattle.rx_model.specs.Search.{told, none};
+ghost use Rattle.rx_model.specs.Refinement.{Refines, moved, AgreesButForWrites};
 
 /// The search in order of preference finds the least accepting run, that one alone, and none only where
 /// there is none.
@@ -40,4 +41,11 @@ pub fn refined_graphs_have_equal_first_runs()
     ensures { (g m : PriorityGraph) → IsBounded g → IsBounded m → (image : ℕ → ℕ) (live : ℕ → Bool)
         → Refines g m image (λ q. IsTrue (live q)) → (c : Configuration) → IsTrue (live c.state)
         → first_trace m (moved image c) ≡ first_trace g c }
+{}
+
+/// What a graph writes has no part in which run is first: graphs that agree but for their writes have the
+/// same first runs, with pattern and end.
+pub fn writes_choose_no_run()
+    ensures { (g m : PriorityGraph) → AgreesButForWrites g m → (passed : Passed) (c : Configuration)
+        → option_map (told none) (found m passed c) ≡ option_map (told none) (found g passed c) }
 {}

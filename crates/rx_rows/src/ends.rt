@@ -5,9 +5,22 @@ use rx_scan::{Bytes, BytesSure, Kept, KeptSure, run};
 use rx_search::Open;
 use std::test::Fail;
 
+/// The stored run of `rxscan`.
 const INPUT: &[u8] = b"a*\n\nba\n";
 
 const ROWS: &[u8] = b"1:0:0..0\n1:0:1..2\n";
+
+/// Reads and writes one byte at a time.
+#[test]
+fn a_run_in_pieces_of_one_byte(rt: HostRuntime) -> Result<(), Fail> {
+    let alloc = rt.alloc();
+    let words = words_of(alloc, &["scan"])?;
+    let mut source = Bytes::new(Vec::from_slice(alloc, INPUT)?, 1, Vec::new(alloc));
+    let mut sink = Kept::new(alloc, 1, Vec::new(alloc));
+    assert_eq!(rt; run(&rt, alloc, &words, &mut source, &mut sink, &Open), 0);
+    assert_eq!(rt; sink.held(), ROWS);
+    Ok(())
+}
 
 /// Fails at each write in turn, of one byte each.
 #[test]
@@ -15,7 +28,7 @@ fn a_sink_fails_at_each_write(rt: HostRuntime) -> Result<(), Fail> {
     let alloc = rt.alloc();
     let words = words_of(alloc, &["scan"])?;
     for call in 0..ROWS.len() {
-        let mut source = BytesSure::new(Vec::from_slice(alloc, INPUT)?);
+        let mut source = Bytes::new(Vec::from_slice(alloc, INPUT)?, 1, Vec::new(alloc));
         let mut sink = Kept::new(alloc, 1, Vec::from_slice(alloc, &[call])?);
         assert_eq!(rt; run(&rt, alloc, &words, &mut source, &mut sink, &Open), 7);
         assert_eq!(rt; sink.held(), &ROWS[..call]);

@@ -3,7 +3,7 @@ use Rattle.std.proofs.Common.{◌≡◌, ℕ, ◌+◌, ◌-◌, ◌≤◌, List,
 use Rattle.std.proofs.Math.Seq.{take-add, take-take, take-append_seam}
 use Rattle.std.proofs.KnownBytes.{Consumes-nil, Consumes-trans}
 use Rattle.std.specs.Io.KnownBytes.{Consumes}
-use Rattle.rx_scan.specs.Ends.{HasRisen, Gains}
+use Rattle.rx_scan.specs.Ends.{HasRisen, Gains, CountsCall, CountsAtMost}
 
 -- a count that rose later rose since
 pub HasRisen-since : (a b c : ℕ) → a ≤ b → HasRisen b c → HasRisen a c
@@ -42,3 +42,13 @@ Consumes-same a b c xs ys p q e = Consumes-more a b c xs ys xs p q (sym (ap (λ 
 -- what was lent as a whole comes back as a whole
 pub take-front : (n : ℕ) (xs ys : List ℕ) → length xs ≡ n → take n (xs ++ ys) ≡ xs
 take-front n xs ys e = ap (λ k. take k (xs ++ ys)) (sym e) ∙ take-append_seam xs ys
+
+pub CountsAtMost-none : (a : Option ℕ) (most : ℕ) → CountsAtMost a a most
+CountsAtMost-none None most = tt
+CountsAtMost-none (Some n) most = omega arith
+
+pub CountsAtMost-more : (a b c : Option ℕ) (n m : ℕ) → CountsAtMost a b n → CountsCall b c → n + 1 ≤ m → CountsAtMost a c m
+CountsAtMost-more a b None n m p q le = tt
+CountsAtMost-more a None (Some z) n m p q le = absurd q
+CountsAtMost-more None (Some y) (Some z) n m p q le = absurd p
+CountsAtMost-more (Some x) (Some y) (Some z) n m p q le = omega (arith, p, q, le)

@@ -6,9 +6,10 @@ use Rattle.std.proofs.lemmas.Bool.{cases_lt, le-leb}
 use Rattle.std.proofs.lemmas.Option.{slice_get_read}
 use Rattle.rx_model.specs.Expression.{Expression}
 use Rattle.rx_model.specs.Search.{greatest_group, groups_before}
-use Rattle.std.specs.Prelude.{Bool, false, nat_le, Some}
+use Rattle.std.specs.Prelude.{Bool, false, nat_le, Some, None}
 use Rattle.std.proofs.lemmas.Bool.Decides.{nat_tests}
 use Rattle.rx_thompson.specs.Compiled.{AreAllowed, nfa_states}
+use Rattle.rx_thompson.specs.declared.compiler.config.Config.{Config}
 use Rattle.rx_scan.specs.Patterns.{first_slot, slot_count, are_small, AreBounds}
 use Rattle.rx_scan.specs.Row.{group_count}
 
@@ -70,7 +71,11 @@ second-false : (a b : Bool) → b ≡ false → a && b ≡ false
 second-false true b e = e
 second-false false b e = refl
 
-pub small-allowed : (hs : List Expression) → AreAllowed (Some 10485760) hs → are_small hs ≡ true
+-- the configuration that a scan builds with
+abbrev pub scan_config : Config
+scan_config = record { utf8 = None; nfa_size_limit = Some (Some 10485760); which_captures = None }
+
+pub small-allowed : (hs : List Expression) → AreAllowed scan_config hs → are_small hs ≡ true
 small-allowed hs a =
     both _ _ (both _ _ (le-leb (length hs) 2147483647 a.few.patterns) (le-leb (slot_count hs) 2147483646 a.few.slots))
     (both _ _ (le-leb (nfa_states hs) 2147483647 a.states) (le-leb (32 * nfa_states hs) 10485760 a.size))

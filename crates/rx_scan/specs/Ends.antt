@@ -1,10 +1,30 @@
 -- What a source gives and a sink takes, and when they may fail.
-use Rattle.std.specs.Prelude.{◌≡◌, ℕ, ◌<◌, ◌≤◌, ◌⊎◌, List, [], ◌++◌, length, take, ⊤, Option, Some, None, Result, MatchResult}
+use Rattle.std.specs.Prelude.{◌≡◌, ℕ, ◌+◌, ◌<◌, ◌≤◌, nat_lt, ◌⊎◌, List, [], ◌++◌, length, take, ⊤, Option, Some, None, Result, MatchResult, if◌then◌else◌}
 use Rattle.std.specs.Io.KnownBytes.{Consumes, IsAtEnd}
 
 -- Faults were counted between. A count that stands at the end of its type may have stood still, so it is taken as one that rose.
 abbrev pub HasRisen : (before after : ℕ) → Type 0
 HasRisen before after = (before < after) ⊎ (after ≡ 18446744073709551615)
+
+-- a count of calls, which tells nothing once it stands at the end of its type
+abbrev pub counted : ℕ → Option ℕ
+counted n = if nat_lt n 18446744073709551615 then Some n else None
+
+-- One call more was counted, where calls are counted. A source may stop counting.
+abbrev pub CountsCall : (before after : Option ℕ) → Type 0
+CountsCall before None = ⊤
+CountsCall None (Some now) = ⊥
+CountsCall (Some had) (Some now) = now ≡ had + 1
+
+-- at most so many calls more were counted, where calls are counted
+abbrev pub CountsAtMost : (before after : Option ℕ) → (most : ℕ) → Type 0
+CountsAtMost before None most = ⊤
+CountsAtMost None (Some now) most = ⊥
+CountsAtMost (Some had) (Some now) most = now ≤ had + most
+
+-- the source gave at most so many bytes, where it tells them
+abbrev pub GivesAtMost : (before after : Option (List ℕ)) → (most : ℕ) → Type 0
+GivesAtMost before after most = (given : List ℕ) × Consumes before after given × (length given ≤ most)
 
 -- The sink holds these bytes more, where it tells what it holds. A sink may stop telling.
 abbrev pub Gains : (before after : Option (List ℕ)) → List ℕ → Type 0

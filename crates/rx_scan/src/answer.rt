@@ -83,6 +83,7 @@ fn all_rows<G: Gate>(
     gate: &G,
 ) -> Result<Answer, Memory>
     requires runs { HasFirstRuns nfa (patterns_of expressions.items) }
+    requires utf8 { nfa.utf8 ≡ true }
     requires small { are_small expressions.items ≡ true }
     ensures { IfOk result (λ a. a ≡ all_rows expressions.items (lines haystacks.now)) }
 {

@@ -2,7 +2,7 @@
 ghost use Rattle.std.specs.Prelude.{◌≡◌, ◌<◌, ◌≤◌, ◌⊎◌, ℕ, List, true, false, map, vec_len, IfOk, IsErrOf};
 ghost use Rattle.std.specs.String.{string_bytes};
 ghost use Rattle.rx_scan.specs.Answer.{answer_input};
-ghost use Rattle.rx_scan.specs.Ends.{HasRisen};
+ghost use Rattle.rx_scan.specs.Ends.{HasRisen, CountsAtMost, GivesAtMost};
 ghost use Rattle.rx_scan.specs.Run.{Gave, Answers, BreaksOff, Finished};
 ghost use Rattle.rx_scan.specs.Words.{is_scan};
 
@@ -58,6 +58,11 @@ pub fn run<R: Threads + Wait + Sync, S: Source, K: Sink, G: Gate + Sync>(
 
     ensures reads_nothing { is_scan (map string_bytes words.now) ≡ false → source.new ≡ source.old }
 
+    // One read for each byte of the longest input, and one for its end. The source gives no more than that input and one
+    // byte; as it may fill each buffer, no read asks for more than what is left to that.
+    ensures reads { CountsAtMost (S.reads source.old) (S.reads source.new) 16777217 }
+    ensures takes { GivesAtMost (S.left source.old) (S.left source.new) 16777217 }
+
     // Where no end failed, the status is the answer's, or there was no memory.
     ensures complete { ¬ (HasRisen (S.faults source.old) (S.faults source.new))
         → ¬ (HasRisen (K.faults sink.old) (K.faults sink.new)) → (result ≤ 5) ⊎ (result ≡ 8) }
@@ -97,6 +102,8 @@ fn answer_source<S: Source, G: Gate + Sync>(
 ) -> Result<Answer, ReadError>
     ensures answered { IfOk result (λ a. (given : List ℕ) × Gave (S.left source.old) (S.left source.new) given a.status × (a ≡ answer_input given)) }
     ensures failed { IsErrOf result ReadError.Source → HasRisen (S.faults source.old) (S.faults source.new) }
+    ensures reads { CountsAtMost (S.reads source.old) (S.reads source.new) 16777217 }
+    ensures takes { GivesAtMost (S.left source.old) (S.left source.new) 16777217 }
 {
     let input = read_input(alloc, source)?;
     let answer = answer_input(alloc, &input, gate)?;

@@ -23,7 +23,7 @@ const NFA_SIZE_LIMIT: usize = 10485760;
 /// The NFA of the expressions.
 pub fn compile(alloc: Global, expressions: &[Hir]) -> Result<NFA, CompileError>
     ensures { MatchResult result
-        (λ nfa. HasFirstRuns nfa (patterns_of expressions.now) × (are_small expressions.now ≡ true))
+        (λ nfa. HasFirstRuns nfa (patterns_of expressions.now) × (nfa.utf8 ≡ true) × (are_small expressions.now ≡ true))
         (λ e. IsRefusal e expressions.now) }
 {
     let mut compiler = Compiler::new();

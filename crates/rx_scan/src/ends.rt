@@ -1,6 +1,6 @@
 //! Where the input comes from and where the text goes.
 ghost use Rattle.std.specs.Prelude.{ℕ, ◌≤◌, List, Option, OnErr};
-ghost use Rattle.rx_scan.specs.Ends.{HasRisen, Reads, Writes};
+ghost use Rattle.rx_scan.specs.Ends.{HasRisen, Reads, Writes, CountsCall};
 
 /// A source or a sink failed. It counted the fault.
 #[derive(Clone, Copy, Debug, PartialEq, Eq)]
@@ -14,11 +14,15 @@ pub trait Source {
     /// How often the source has failed.
     ghost faults: { Self → ℕ };
 
+    /// How often the source was read, where it counts.
+    ghost reads: { Self → Option ℕ };
+
     /// Reads the next bytes into the buffer and answers how many there are. It answers 0 only at the end of the input
     /// or where the buffer is empty. At an error, which comes only with a fault, nothing was taken.
     fn read(&mut self, buf: &mut [u8]) -> Result<usize, Failed>
         ensures bytes { Reads (left self.old) (left self.new) buf.new result }
         ensures counts { faults self.old ≤ faults self.new }
+        ensures call { CountsCall (reads self.old) (reads self.new) }
         ensures failed { OnErr result (HasRisen (faults self.old) (faults self.new)) };
 }
 

@@ -1,13 +1,14 @@
 //! The engine of a scan: it finds matches, and holds the slots of the last one.
-ghost use Rattle.std.specs.Prelude.{◌≡◌, ◌+◌, ◌-◌, ◌*◌, ◌<◌, ◌≤◌, true, length, take, drop, IfOk, IfSome};
+ghost use Rattle.std.specs.Prelude.{◌≡◌, ◌+◌, ◌-◌, ◌*◌, ◌<◌, ◌≤◌, true, false, length, take, drop, IfOk, IfSome};
 ghost use Rattle.rx_search.specs.Input.{next_in};
+ghost use Rattle.rx_search.specs.declared.anchored.MatchKind.TheVariants.{LeftmostFirst};
 ghost use Rattle.rx_thompson.specs.Nfa.{HasFirstRuns};
 ghost use Rattle.rx_engines.specs.Engine.{IsOf, Fits, HasSlots};
 ghost use Rattle.rx_scan.specs.Patterns.{patterns_of, first_slot, slot_count, are_small, AreBounds};
 ghost use Rattle.rx_scan.specs.Row.{group_count};
 
 use rx_engines::pikevm::{Cache, PikeVM};
-use rx_search::{Finder, Input, Match, Memory, NonMaxUsize};
+use rx_search::{Finder, Input, Match, MatchKind, Memory, NonMaxUsize};
 use rx_syntax::{Hir, greatest_group};
 use rx_thompson::NFA;
 use std::alloc::Global;
@@ -21,6 +22,7 @@ pub struct Engine {
     slots: Vec<Option<NonMaxUsize>>,
     bounds: Vec<usize>,
     ghost of_patterns: { IsOf vm (patterns_of expressions.items) },
+    ghost leftmost: { vm.kind ≡ LeftmostFirst },
     ghost fits: { Fits vm cache },
     ghost bounded: { AreBounds bounds.items expressions.items },
     ghost wide: { length slots.items ≡ slot_count expressions.items },
@@ -30,12 +32,13 @@ impl Engine {
     /// The engine of these expressions, over their NFA.
     pub fn new(alloc: Global, expressions: Vec<Hir>, nfa: NFA) -> Result<Engine, Memory>
         requires runs { HasFirstRuns nfa (patterns_of expressions.items) }
+        requires utf8 { nfa.utf8 ≡ true }
         requires small { are_small expressions.items ≡ true }
         ensures { IfOk result (λ e. e.expressions.items ≡ expressions.items) }
     {
         let bounds = slot_bounds(alloc, &expressions)?;
         let slots = empty_slots(alloc, bounds[expressions.len()])?;
-        let vm = PikeVM::build_from_nfa(nfa);
+        let vm = PikeVM::build_from_nfa(nfa, MatchKind::LeftmostFirst);
         let cache = vm.create_cache(alloc)?;
         Ok(Engine {
             expressions,
@@ -58,6 +61,8 @@ impl Engine {
 
 impl Finder for Engine {
     type Error = Memory;
+
+    ghost can_search = { λ e v. v.earliest ≡ false };
 
     ghost searches = { λ e v. next_in (patterns_of e.expressions.items) v };
 

@@ -1,5 +1,7 @@
 //! Sources and sinks in memory.
 ghost use Rattle.std.specs.Prelude.{◌≡◌, ℕ, ◌+◌, ◌<◌, ◌≤◌, [], length, drop, take, vec_len, Some, None, if◌then◌else◌};
+ghost use Rattle.std.specs.Option.{option_map};
+ghost use Rattle.rx_scan.specs.Ends.{counted};
 
 use crate::ends::{Failed, Sink, Source};
 use crate::reading::read_at_most;
@@ -37,6 +39,8 @@ impl Source for BytesSure {
 
     ghost faults = { λ _. 0 };
 
+    ghost reads = { λ _. None };
+
     fn read(&mut self, buf: &mut [u8]) -> Result<usize, Failed> {
         let n = copy_front(buf, &self.bytes[self.at..]);
         self.at += n;
@@ -59,7 +63,9 @@ impl Bytes {
     /// It gives at most `most` bytes at a time, and fails at the calls of these numbers, counted from 0.
     pub fn new(bytes: Vec<u8>, most: usize, failing: Vec<usize>) -> Bytes
         requires { 0 < most }
-        ensures { ⟦<Bytes as Source>⟧.left result ≡ Some bytes.items }
+        ensures left { ⟦<Bytes as Source>⟧.left result ≡ Some bytes.items }
+        ensures faults { ⟦<Bytes as Source>⟧.faults result ≡ 0 }
+        ensures reads { ⟦<Bytes as Source>⟧.reads result ≡ Some 0 }
     {
         Bytes {
             bytes: BytesSure::new(bytes),
@@ -75,6 +81,8 @@ impl Source for Bytes {
     ghost left = { λ s. ⟦<BytesSure as Source>⟧.left s.bytes };
 
     ghost faults = { λ s. s.faults };
+
+    ghost reads = { λ s. counted s.calls };
 
     fn read(&mut self, buf: &mut [u8]) -> Result<usize, Failed> {
         let call = self.calls;
@@ -105,7 +113,9 @@ impl KeptSure {
     }
 
     /// What it holds; None where memory ran out.
-    pub fn held(&self) -> Option<&[u8]> {
+    pub fn held(&self) -> Option<&[u8]>
+        ensures { ⟦<KeptSure as Sink>⟧.held self.now ≡ option_map (λ held. held.now) result }
+    {
         if self.is_whole {
             Some(&self.held)
         } else {
@@ -142,7 +152,8 @@ impl Kept {
     /// It takes at most `most` bytes at a time, and fails at the calls of these numbers, counted from 0.
     pub fn new(alloc: Global, most: usize, failing: Vec<usize>) -> Kept
         requires { 0 < most }
-        ensures { ⟦<Kept as Sink>⟧.held result ≡ Some [] }
+        ensures held { ⟦<Kept as Sink>⟧.held result ≡ Some [] }
+        ensures faults { ⟦<Kept as Sink>⟧.faults result ≡ 0 }
     {
         Kept {
             held: Vec::new(alloc),

@@ -1,7 +1,7 @@
 //! Reading the input to its end.
 ghost use Rattle.std.specs.Prelude.{◌≡◌, ◌+◌, ◌<◌, ◌≤◌, [], length, take, vec_len, IfOk, OnErr, IsErrOf};
 ghost use Rattle.std.specs.Io.KnownBytes.{Consumes, IsAtEnd};
-ghost use Rattle.rx_scan.specs.Ends.{HasRisen};
+ghost use Rattle.rx_scan.specs.Ends.{HasRisen, CountsCall, CountsAtMost, GivesAtMost};
 ghost use Rattle.rx_scan.specs.declared.reading.ReadError.TheVariants.{Source, Memory};
 
 use crate::ends;
@@ -58,6 +58,7 @@ pub fn read_at_most<S: ends::Source>(
     ensures end { IfOk result (λ n. n ≡ 0 → 0 < most → 0 < length buf.old → IsAtEnd (S.left source.new)) }
     ensures kept { OnErr result (Consumes (S.left source.old) (S.left source.new) []) }
     ensures counts { S.faults source.old ≤ S.faults source.new }
+    ensures call { CountsCall (S.reads source.old) (S.reads source.new) }
     ensures failed { OnErr result (HasRisen (S.faults source.old) (S.faults source.new)) }
 {
     let most = buf.len().min(most);
@@ -77,6 +78,8 @@ pub fn read_input<S: ends::Source>(alloc: Global, source: &mut S) -> Result<Vec<
     ensures whole { IfOk result (λ input. vec_len input ≤ INPUT_LIMIT → IsAtEnd (S.left source.new)) }
     ensures limit { IfOk result (λ input. vec_len input ≤ INPUT_LIMIT + 1) }
     ensures failed { IsErrOf result ReadError.Source → HasRisen (S.faults source.old) (S.faults source.new) }
+    ensures reads { CountsAtMost (S.reads source.old) (S.reads source.new) (INPUT_LIMIT + 1) }
+    ensures takes { GivesAtMost (S.left source.old) (S.left source.new) (INPUT_LIMIT + 1) }
 {
     let mut input = Vec::new(alloc);
     let mut piece = make_piece(alloc)?;

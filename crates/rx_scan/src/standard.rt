@@ -1,5 +1,5 @@
 //! The real ends: standard input and standard output. They tell no bytes.
-ghost use Rattle.std.specs.Prelude.{None};
+ghost use Rattle.std.specs.Prelude.{◌≡◌, None};
 ghost use Rattle.rx_scan.specs.Ends.{HasRisen};
 
 use crate::ends::{Failed, Sink, Source};
@@ -19,9 +19,18 @@ pub struct StandardInput<R> {
     faults: u64,
 }
 
-impl<R> StandardInput<R> {
-    pub fn new(reader: R) -> StandardInput<R> {
+impl<R: Read> StandardInput<R> {
+    pub fn new(reader: R) -> StandardInput<R>
+        ensures { ⟦<StandardInput<R> as Source>⟧.faults result ≡ 0 }
+    {
         StandardInput { reader, faults: 0 }
+    }
+
+    /// How often it has failed.
+    pub fn faults(&self) -> u64
+        ensures { result ≡ ⟦<StandardInput<R> as Source>⟧.faults self.now }
+    {
+        self.faults
     }
 }
 
@@ -29,6 +38,8 @@ impl<R: Read> Source for StandardInput<R> {
     ghost left = { λ _. None };
 
     ghost faults = { λ s. s.faults };
+
+    ghost reads = { λ _. None };
 
     fn read(&mut self, buf: &mut [u8]) -> Result<usize, Failed> {
         match self.reader.read(buf) {
@@ -48,9 +59,18 @@ pub struct StandardOutput<W> {
     faults: u64,
 }
 
-impl<W> StandardOutput<W> {
-    pub fn new(writer: W) -> StandardOutput<W> {
+impl<W: Write> StandardOutput<W> {
+    pub fn new(writer: W) -> StandardOutput<W>
+        ensures { ⟦<StandardOutput<W> as Sink>⟧.faults result ≡ 0 }
+    {
         StandardOutput { writer, faults: 0 }
+    }
+
+    /// How often it has failed.
+    pub fn faults(&self) -> u64
+        ensures { result ≡ ⟦<StandardOutput<W> as Sink>⟧.faults self.now }
+    {
+        self.faults
     }
 }
 

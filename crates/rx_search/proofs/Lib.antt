@@ -1,1 +1,3 @@
 pub mod SearcherLemmas
+pub mod GroupLemmas
+pub mod FaultLemmas

@@ -3,3 +3,5 @@ pub mod Anchored
 pub mod Input
 pub mod Searcher
 pub mod Example
+pub mod GroupInfo
+pub mod GroupTables

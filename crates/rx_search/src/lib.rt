@@ -8,6 +8,9 @@
 
 mod anchored;
 mod gate;
+mod group_check;
+mod group_error;
+mod group_info;
 mod input;
 mod matches;
 mod memory;
@@ -17,6 +20,8 @@ mod span;
 
 pub use anchored::{Anchored, MatchKind};
 pub use gate::{Gate, Open};
+pub use group_error::GroupInfoError;
+pub use group_info::GroupInfo;
 pub use input::Input;
 pub use matches::{HalfMatch, Match};
 pub use memory::Memory;

@@ -5,6 +5,7 @@ pub mod CostLemmas
 pub mod DepthLemmas
 pub mod EndLemmas
 pub mod GroupLemmas
+pub mod EmptyLemmas
 pub mod ItemLemmas
 pub mod JoinedLemmas
 pub mod MergeLemmas
@@ -17,6 +18,7 @@ pub mod RepeatLemmas
 mod Rows
 pub mod ScalarLemmas
 pub mod SizeLemmas
+pub mod SoundLemmas
 pub mod SpanLemmas
 pub mod StackLemmas
 pub mod SuccessorLemmas

@@ -19,6 +19,7 @@ pub mod Ranges
 pub mod Reading
 pub mod Refusal
 pub mod Scalars
+pub mod Sound
 pub mod Stack
 pub mod Syntax
 pub mod Tokens

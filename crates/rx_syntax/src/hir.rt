@@ -11,6 +11,7 @@ mod bytes;
 mod class;
 mod concat;
 mod copy;
+mod emptiness;
 mod groups;
 mod kind;
 mod laws;
@@ -21,16 +22,18 @@ mod set;
 mod tests;
 
 pub use class::{Class, ClassBytes, ClassUnicode};
+pub use emptiness::{can_be_empty, one_can_be_empty};
 pub use groups::greatest_group;
-pub use laws::{fewest_ranges_hold_the_members, lengths_bound_the_meaning};
+pub use laws::{
+    fewest_ranges_hold_the_members, lengths_bound_the_meaning, sound_expressions_are_ordered,
+};
 use properties::Properties;
 use std::alloc::Global;
 use std::marker::Model;
 use std::num::NonZeroUsize;
 
-/// A regular expression, which a contract sees as an `Expression`. It is always what the constructors make:
-/// no part of a concatenation is empty or a concatenation, no two literals in it are neighbours, no
-/// alternative is an alternation, and no class has one member.
+/// A regular expression, which a contract sees as an `Expression`. Only the constructors make one: no literal
+/// in it is without bytes, and the counts of each repetition are in order.
 #[cycle(hir)]
 #[derive(Drop)]
 pub struct Hir {
@@ -83,6 +86,7 @@ impl Model for Hir {
     ghost use Rattle.rx_model.specs.Coded.{coded_expression};
     ghost use Rattle.rx_syntax.specs.Depth.{depth};
     ghost use Rattle.rx_syntax.specs.Properties.{properties_of};
+    ghost use Rattle.rx_syntax.specs.Sound.{IsSound};
 
     ghost Value = { Expression };
 
@@ -92,7 +96,7 @@ impl Model for Hir {
 
     ghost view = { λ h. kind_view h.kind };
 
-    ghost invariant = { λ h. h.properties ≡ properties_of (kind_view h.kind) };
+    ghost invariant = { λ h. (h.properties ≡ properties_of (kind_view h.kind)) × IsSound (kind_view h.kind) };
 
     ghost size = { depth };
 
@@ -190,7 +194,8 @@ fn copies(repetition: Repetition) -> Hir
 }
 
 fn some_copies(copies: Repetition) -> Hir
-    requires { copies.max ≢ Some 0 }
+    requires some { copies.max ≢ Some 0 }
+    requires ordered { IfSome copies.max (λ m. copies.min ≤ m) }
     ensures { result ≡ repetition copies.min copies.max copies.greedy copies.sub.value }
 {
     let properties = copies.sub.properties.repeated(copies.min, copies.max);

@@ -1,6 +1,6 @@
 -- What the functions of the compiler hand on to one another.
-use Rattle.std.proofs.Common.{◌≡◌, ℕ, zero, suc, ◌+◌, ◌-◌, ◌≤◌, ◌<◌, List, [], ◌∷◌, ◌++◌, refl, sym, ◌∙◌, ap, subst, arith, length, get_or, take}
-use Rattle.std.specs.Prelude.{Bool, true, false, Option, Some, None, Result, IfOk, All, min, ◌^◌, nat_lt}
+use Rattle.std.proofs.Common.{◌≡◌, ℕ, zero, suc, ◌+◌, ◌*◌, ◌-◌, ◌≤◌, ◌<◌, List, [], ◌∷◌, ◌++◌, refl, sym, ◌∙◌, ap, subst, arith, length, get_or, take}
+use Rattle.std.specs.Prelude.{Bool, true, false, Option, Some, None, Result, IfOk, IfSome, All, min, ◌^◌, nat_lt}
 use Rattle.std.proofs.Math.ListN.{length-set}
 use Rattle.std.proofs.lemmas.Bool.Decides.{nat_tests}
 use Rattle.std.proofs.lemmas.List.{take_more}
@@ -31,7 +31,11 @@ Built-same a b next old new r e h = subst (λ part. IfOk r (λ start. Built part
 -- there is room for fewer groups, and in a draft of the same patterns and slots
 pub HasRoom-kept : (old new : Draft) (groups : Groups) (m n : ℕ) → new.patterns ≡ old.patterns → new.slots ≡ old.slots → n ≤ m → HasRoom old groups m → HasRoom new groups n
 HasRoom-kept old new groups m n patterns slots le h =
-    let a = h.pattern in let b = h.slots in let d = h.few in record { pattern = omega arith; slots = omega arith; few = omega arith }
+    let a = h.pattern in let d = h.few in record { pattern = omega arith; slots = room groups.first_slot h.slots; few = omega arith }
+  where
+    room : (o : Option ℕ) → IfSome o (λ first. first + 2 * m ≤ old.slots) → IfSome o (λ first. first + 2 * n ≤ new.slots)
+    room None fits = tt
+    room (Some first) fits = omega arith
 
 pub HasRoom-less : (d : Draft) (groups : Groups) (m n : ℕ) → n ≤ m → HasRoom d groups m → HasRoom d groups n
 HasRoom-less d groups m n le h = HasRoom-kept d d groups m n refl refl le h

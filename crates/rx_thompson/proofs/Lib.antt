@@ -1,3 +1,4 @@
+pub mod AccountedLemmas
 pub mod AutomatonLemmas
 pub mod BuiltLemmas
 pub mod LoopLemmas
@@ -6,6 +7,7 @@ pub mod ImageLemmas
 pub mod ExpressionLemmas
 pub mod TextLemmas
 pub mod ResultLemmas
+pub mod SilentLemmas
 pub mod SlotLemmas
 pub mod ChoiceLemmas
 pub mod CompileLemmas

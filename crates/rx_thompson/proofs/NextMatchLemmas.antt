@@ -8,7 +8,7 @@ use Rattle.std.specs.Prelude.{Bool, true, false, Option, Some, None, option_map,
 use Rattle.std.specs.Option.{option_or}
 use Rattle.rx_model.specs.Expression.{Expression}
 use Rattle.rx_model.specs.Runs.{Configuration, PriorityGraph, Trace, trace, with_write, last_write, first_trace, first_past, nowhere}
-use Rattle.rx_model.specs.Search.{Patterns, Anchor, free, anchored, anchored_to, Match, is_permitted, first_start, starts, starting_at, first_of_pattern, next_match, slot_value}
+use Rattle.rx_model.specs.Search.{Patterns, WhichCaptures, all as every_group, told, told_of, Anchor, free, anchored, anchored_to, Match, is_permitted, first_start, starts, starting_at, first_of_pattern, next_match, slot_value}
 use Rattle.rx_model.proofs.RunLemmas.{by_test}
 use Rattle.rx_model.proofs.FirstLemmas.{none-is-some, some-is}
 use Rattle.rx_model.proofs.RiseLemmas.{found-end}
@@ -46,15 +46,31 @@ first_start-from permitted from (suc n) i m h =
       | inr later ↦ let x = first_start-from permitted from n (i + 1) m later in let le = x.0 in (omega arith, x.1)
     ]
 
+-- what is told of the traces is told of the first match
+first_start-told : (which : WhichCaptures) (permitted : ℕ → Bool) (from : ℕ → Option Trace) (n i : ℕ)
+    → first_start permitted (λ j. option_map (told which) (from j)) n i ≡ option_map (told_of which) (first_start permitted from n i)
+unfolding first_start
+first_start-told which permitted from zero i = refl
+first_start-told which permitted from (suc n) i =
+    ap (λ rest. option_or (if permitted i then option_map (λ t. record { start = i; trace = t }) (option_map (told which) (from i)) else None) rest) (first_start-told which permitted from n (i + 1))
+    ∙ told-pick (permitted i) (from i) (first_start permitted from n (i + 1))
+  where
+    told-pick : (b : Bool) (o : Option Trace) (rest : Option Match)
+        → option_or (if b then option_map (λ t. record { start = i; trace = t }) (option_map (told which) o) else None) (option_map (told_of which) rest)
+        ≡ option_map (told_of which) (option_or (if b then option_map (λ t. record { start = i; trace = t }) o else None) rest)
+    told-pick true (Some t) rest = refl
+    told-pick true None rest = refl
+    told-pick false o rest = refl
+
 module _ (nfa : Nfa) (r : Patterns) (text : List ℕ) (end : ℕ) (within : end ≤ length text) (runs : HasFirstRuns nfa r) where
-  -- what a start tells is what the patterns tell there
-  starting-alike : (anchor : Anchor) (i : ℕ) → first_from nfa.states text end (start_of nfa anchor) i ≡ starting_at r text end anchor i
+  -- what a start tells is what is told of the patterns there
+  starting-alike : (anchor : Anchor) (i : ℕ) → first_from nfa.states text end (start_of nfa anchor) i ≡ option_map (told r.which_captures) (starting_at r text end anchor i)
   unfolding starting_at
   starting-alike free i = runs.all text end i within
   starting-alike anchored i = runs.all text end i within
   starting-alike (anchored_to p) i = named (slice_get r.expressions p) refl
     where
-      named : (o : Option Expression) → slice_get r.expressions p ≡ o → first_from nfa.states text end (slice_get nfa.starts p) i ≡ first_of_pattern r text end p o i
+      named : (o : Option Expression) → slice_get r.expressions p ≡ o → first_from nfa.states text end (slice_get nfa.starts p) i ≡ option_map (told r.which_captures) (first_of_pattern r text end p o i)
       named None e =
           elim (slice_get_cases r.expressions p).1 [
             | inl there ↦ none-is-some (sym e ∙ there.2)
@@ -68,11 +84,18 @@ module _ (nfa : Nfa) (r : Patterns) (text : List ℕ) (end : ℕ) (within : end 
           let same = runs.patterns in
           ap (λ s. first_from nfa.states text end s i) (slice_get-get_or nfa.starts p 0 (omega arith)) ∙ runs.each text end p i h within e
 
-  pub next_match_of-patterns : (utf8_empty : Bool) (anchor : Anchor) (start : ℕ) → r.utf8_empty ≡ utf8_empty → next_match_of nfa utf8_empty text anchor end start ≡ next_match r text anchor end start
+  pub next_match_of-patterns : (utf8_empty : Bool) (anchor : Anchor) (start : ℕ) → r.utf8_empty ≡ utf8_empty
+      → next_match_of nfa utf8_empty text anchor end start ≡ option_map (told_of r.which_captures) (next_match r text anchor end start)
   unfolding next_match_of next_match
   next_match_of-patterns utf8_empty anchor start same =
-      first_start-alike (is_permitted utf8_empty text) (first_from nfa.states text end (start_of nfa anchor)) (starting_at r text end anchor) (starts anchor start end) start (λ j le. starting-alike anchor j)
-      ∙ ap (λ u. first_start (is_permitted u text) (starting_at r text end anchor) (starts anchor start end) start) (sym same)
+      first_start-alike (is_permitted utf8_empty text) (first_from nfa.states text end (start_of nfa anchor)) (λ j. option_map (told r.which_captures) (starting_at r text end anchor j)) (starts anchor start end) start (λ j le. starting-alike anchor j)
+      ∙ first_start-told r.which_captures (is_permitted utf8_empty text) (starting_at r text end anchor) (starts anchor start end) start
+      ∙ ap (λ u. option_map (told_of r.which_captures) (first_start (is_permitted u text) (starting_at r text end anchor) (starts anchor start end) start)) (sym same)
+
+-- all is told of a match, but under `none`
+pub told_of-all : (o : Option Match) → option_map (told_of every_group) o ≡ o
+told_of-all None = refl
+told_of-all (Some m) = refl
 
 -- Slots are written only where they are there.
 
@@ -83,6 +106,24 @@ writes-within patterns slots slot (Union alternates) within writes = none-is-som
 writes-within patterns slots slot (Capture next pattern number) within writes = let same : number ≡ slot = some-is writes in let lt = within.1 in omega arith
 writes-within patterns slots slot Fail within writes = none-is-some writes
 writes-within patterns slots slot (Accepts pattern) within writes = none-is-some writes
+
+writes-none : (patterns slots : ℕ) (s : State) → slots ≡ 0 → IsWithin patterns slots s → state_writes s ≡ None
+writes-none patterns slots (ByteRange low high next) empty within = refl
+writes-none patterns slots (Sparse transitions) empty within = refl
+writes-none patterns slots (Union alternates) empty within = refl
+writes-none patterns slots (Capture next pattern number) empty within = let lt = within.1 in absurd (omega arith)
+writes-none patterns slots Fail empty within = refl
+writes-none patterns slots (Accepts pattern) empty within = refl
+
+-- where there are no slots nothing is written
+pub written-none : (nfa : Nfa) → IsInRange nfa → nfa.slots ≡ 0 → (text : List ℕ) (end : ℕ) (c : Configuration) → (automaton nfa.states text end).written c ≡ None
+written-none nfa range empty text end c =
+    automaton-written nfa.states text end c.state c.place
+    ∙ by_test (nat_lt c.state (length nfa.states))
+    (λ e.
+    let lt : c.state < length nfa.states = grind (arith, nat_tests) in
+    writes-none (length nfa.starts) nfa.slots (state_at nfa.states c.state) empty (All-get_or (IsWithin (length nfa.starts) nfa.slots) nfa.states c.state _ lt range.within))
+    (λ e. let fails : state_at nfa.states c.state ≡ Fail = get_or_past nfa.states c.state Fail (grind (arith, nat_tests)) in ap state_writes fails)
 
 module _ (nfa : Nfa) (range : IsInRange nfa) (text : List ℕ) (end slot : ℕ) (past : nfa.slots ≤ slot) where
   abbrev graph : PriorityGraph

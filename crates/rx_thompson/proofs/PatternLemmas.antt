@@ -8,18 +8,20 @@ use Rattle.std.proofs.lemmas.List.{get_or_append_left, get_or-append_right}
 use Rattle.rx_model.specs.Expression.{Expression}
 use Rattle.rx_model.specs.Graph as graph
 use Rattle.rx_model.specs.Runs.{Configuration, PriorityGraph, Passed, Trace, with_write, nowhere, and_at, same, found, first_some, first_trace}
-use Rattle.rx_model.specs.Search.{Patterns, slot_of, first, first_of_patterns}
+use Rattle.rx_model.specs.Search.{Patterns, WhichCaptures, all as every_group, implicit as whole_alone, none as no_group, told, slot_of, first, first_of_patterns}
+use Rattle.rx_model.proofs.WriteLemmas.{told-or, told-all, told-implicit, found-silent}
 use Rattle.rx_model.proofs.RunLemmas.{by_test, same-true}
 use Rattle.rx_model.proofs.FoundLemmas.{found-step, found-passed}
 use Rattle.rx_thompson.specs.Automaton.{at, automaton, state_accepts, state_writes, state_step}
 use Rattle.rx_thompson.specs.Nfa.{Nfa, HasFirstRuns}
 use Rattle.rx_thompson.specs.Draft.{Draft, Extends, pushed}
 use Rattle.rx_thompson.specs.States.{Stands}
-use Rattle.rx_thompson.specs.Built.{Sends, Mirrors, Built, HasPart, HasPatterns, StartsAll}
+use Rattle.rx_thompson.specs.Built.{Sends, Mirrors, Built, build_bounds, compiled_pattern, part_of, HasPart, HasPatterns, StartsAll}
 use Rattle.rx_thompson.specs.declared.state.State.{State}
 use Rattle.rx_thompson.specs.declared.state.State.TheVariants.{Union, Match}
 use Rattle.rx_thompson.proofs.AutomatonLemmas.{automaton-bounded, automaton-successors, automaton-accepted, automaton-written, automaton-successors-past, automaton-accepted-past}
 use Rattle.rx_thompson.proofs.BuiltLemmas.{Extends-pushed, Extends-same, Rises-from, Rises-to, Mirrors-kept, Keeps-same, Keeps-extends, Stands-pushed, Stands-kept, pushed-length}
+use Rattle.rx_thompson.proofs.SilentLemmas.{told-part}
 use Rattle.rx_thompson.proofs.ImageLemmas.{image, image-sends, image-either, image-found}
 
 -- what stands among the states stays there
@@ -30,22 +32,22 @@ HasPart-extends old new part start e h = record {
   mirrors = λ f sends. Mirrors-kept f 0 0 old.states new.states part h.images start (omega arith) (Keeps-extends 0 old new e) (h.mirrors f sends);
 }
 
--- a pattern: its accepting state, and before it its group
-pub HasPart-pattern : (slot : ℕ → Option ℕ) (p : ℕ) (h : Expression) (old mid new : Draft) (start : ℕ) → mid ≡ pushed old (Match p)
-    → Built (graph.build_group (Some (2 * p)) (graph.build slot h)) (length old.states) mid new start → HasPart new.states (graph.build_pattern slot p h) start
-unfolding graph.build_pattern
-HasPart-pattern slot p h old mid new start is b' = record {
+-- a pattern: its accepting state, and before it the part between its slots
+pub HasPart-pattern : (whole : Option ℕ) (slot : ℕ → Option ℕ) (p : ℕ) (h : Expression) (old mid new : Draft) (start : ℕ) → mid ≡ pushed old (Match p)
+    → Built (build_bounds whole (graph.build slot h)) (length old.states) mid new start → HasPart new.states (compiled_pattern whole slot p h) start
+unfolding compiled_pattern
+HasPart-pattern whole slot p h old mid new start is b' = record {
   images = length old.states ∷ b.images;
   rises = (omega arith, Rises-from (suc (length old.states)) (length (pushed old (Match p)).states) (length new.states) b.images (let l = pushed-length old (Match p) in omega arith) b.rises);
   mirrors = λ f sends. mirrors f sends;
 }
   where
-    b : Built (graph.build_group (Some (2 * p)) (graph.build slot h)) (length old.states) (pushed old (Match p)) new start
-    b = subst (λ d. Built (graph.build_group (Some (2 * p)) (graph.build slot h)) (length old.states) d new start) is b'
+    b : Built (build_bounds whole (graph.build slot h)) (length old.states) (pushed old (Match p)) new start
+    b = subst (λ d. Built (build_bounds whole (graph.build slot h)) (length old.states) d new start) is b'
 
-    mirrors : (f : ℕ → ℕ) → Sends f 0 (length old.states ∷ b.images) → Mirrors f 0 new.states (graph.build_pattern slot p h) (length old.states ∷ b.images) start
+    mirrors : (f : ℕ → ℕ) → Sends f 0 (length old.states ∷ b.images) → Mirrors f 0 new.states (compiled_pattern whole slot p h) (length old.states ∷ b.images) start
     mirrors f sends =
-        let part = graph.build_group (Some (2 * p)) (graph.build slot h) 0 1 in
+        let part = build_bounds whole (graph.build slot h) 0 1 in
         let m = Mirrors-kept f 0 (length (pushed old (Match p)).states) new.states new.states part b.images start (omega arith) (Keeps-same (length (pushed old (Match p)).states) new.states) (b.mirrors f 0 1 sends.0 sends.1) in
         record {
           start_is = m.start_is;
@@ -61,7 +63,8 @@ found-far states text end q s i far =
     ∙ ap (λ ds. option_map (with_write ((automaton states text end).written (at s i)) i) (first_some (found (automaton states text end) (and_at (at s i) q)) ds)) (automaton-successors-past states text end s i far))
 
 -- In a later draft, whatever was passed of states that were added since.
-module _ (r : Patterns) (text : List ℕ) (end : ℕ) (inside : end ≤ length text) (old new : Draft) (e : Extends old new) where
+module _ (r : Patterns) (text : List ℕ) (end : ℕ) (inside : end ≤ length text) (old new : Draft) (e : Extends old new)
+  (silent : r.which_captures ≡ no_group → (c : Configuration) → (automaton new.states text end).written c ≡ None) where
   abbrev m : PriorityGraph
   m = automaton new.states text end
 
@@ -72,57 +75,67 @@ module _ (r : Patterns) (text : List ℕ) (end : ℕ) (inside : end ≤ length t
   IsAhead : Passed → ℕ → Type 0
   IsAhead q i = (d : Configuration) → i < d.place → q d ≡ false
 
-  HasPart-found : (p : ℕ) (h : Expression) (start : ℕ) → HasPart old.states (graph.build_pattern (slot_of r p) p h) start → (q : Passed) (i : ℕ) → IsClear q → IsAhead q i
-      → found m q (at start i) ≡ first r text end p h i
+  -- the automaton tells what it is to tell
+  told-found : (which : WhichCaptures) → (which ≡ no_group → (c : Configuration) → m.written c ≡ None) → (q : Passed) (c : Configuration) → option_map (told which) (found m q c) ≡ found m q c
+  told-found every_group unwritten q c = told-all (found m q c)
+  told-found whole_alone unwritten q c = told-implicit (found m q c)
+  told-found no_group unwritten q c = found-silent m (unwritten refl) q c
+
+  HasPart-found : (p : ℕ) (h : Expression) (start : ℕ) → HasPart old.states (part_of r p h) start → (q : Passed) (i : ℕ) → IsClear q → IsAhead q i
+      → found m q (at start i) ≡ option_map (told r.which_captures) (first r text end p h i)
   unfolding first IsAhead
   HasPart-found p h start has q i clear ahead =
-      let part = graph.build_pattern (slot_of r p) p h in
+      let part = part_of r p h in
       let n = length new.states in
       let f = image has.images (length new.states) in
       let mirrors = has.mirrors (image has.images (length new.states)) (image-sends has.images (length new.states)) in
-      let kept = Mirrors-kept (image has.images (length new.states)) 0 0 old.states new.states (graph.build_pattern (slot_of r p) p h) has.images start (omega arith) (Keeps-extends 0 old new e) mirrors in
-      ap (λ s. found m q (at s i)) (sym kept.start_is)
-      ∙ image-found r.terminator text end inside (graph.build_pattern (slot_of r p) p h).states new.states 0 (length old.states) has.images e.longer has.rises kept.each q (graph.build_pattern (slot_of r p) p h).start i
-      (λ j k. clear (image has.images (length new.states) j) k (image-either has.images 0 (length old.states) (length new.states) j has.rises)) ahead
+      let kept = Mirrors-kept (image has.images (length new.states)) 0 0 old.states new.states (part_of r p h) has.images start (omega arith) (Keeps-extends 0 old new e) mirrors in
+      sym (told-found r.which_captures silent q (at start i))
+      ∙ ap (option_map (told r.which_captures))
+      (ap (λ s. found m q (at s i)) (sym kept.start_is)
+      ∙ image-found r.terminator text end inside (part_of r p h).states new.states 0 (length old.states) has.images e.longer has.rises kept.each q (part_of r p h).start i
+      (λ j k. clear (image has.images (length new.states) j) k (image-either has.images 0 (length old.states) (length new.states) j has.rises)) ahead)
+      ∙ told-part r.terminator text end r.which_captures (slot_of r p) p h i
 
   -- what is found from each start in turn
   starts-found : (p : ℕ) (hs : List Expression) (starts : List ℕ) → length starts ≡ length hs
-      → ((k : ℕ) (h : Expression) → slice_get hs k ≡ Some h → HasPart old.states (graph.build_pattern (slot_of r (p + k)) (p + k) h) (slice_index starts k))
-      → (q : Passed) (i : ℕ) → IsClear q → IsAhead q i → first_some (found m q) (map (λ s. at s i) starts) ≡ first_of_patterns r text end p hs i
+      → ((k : ℕ) (h : Expression) → slice_get hs k ≡ Some h → HasPart old.states (part_of r (p + k) h) (slice_index starts k))
+      → (q : Passed) (i : ℕ) → IsClear q → IsAhead q i → first_some (found m q) (map (λ s. at s i) starts) ≡ option_map (told r.which_captures) (first_of_patterns r text end p hs i)
   unfolding first_of_patterns
   starts-found p [] [] long has q i clear ahead = refl
   starts-found p [] (s ∷ starts) long has q i clear ahead = absurd (omega arith)
   starts-found p (h ∷ hs) [] long has q i clear ahead = absurd (omega arith)
   starts-found p (h ∷ hs) (s ∷ starts) long has q i clear ahead =
       let none : p + 0 ≡ p = omega arith in
-      let here : HasPart old.states (graph.build_pattern (slot_of r p) p h) s = subst (λ n. HasPart old.states (graph.build_pattern (slot_of r n) n h) s) none (has 0 h refl) in
+      let here : HasPart old.states (part_of r p h) s = subst (λ n. HasPart old.states (part_of r n h) s) none (has 0 h refl) in
       (λ j. option_or (HasPart-found p h s here q i clear ahead j)
       (starts-found (suc p) hs starts (omega arith)
-      (λ k x is. (let more : p + suc k ≡ suc p + k = omega arith in subst (λ n. HasPart old.states (graph.build_pattern (slot_of r n) n x) (slice_index starts k)) more (has (suc k) x is)))
+      (λ k x is. (let more : p + suc k ≡ suc p + k = omega arith in subst (λ n. HasPart old.states (part_of r n x) (slice_index starts k)) more (has (suc k) x is)))
       q i clear ahead j))
+      ∙ sym (told-or r.which_captures (first r text end p h i) (first_of_patterns r text end (suc p) hs i))
 
   module _ (starts : List ℕ) (long : length starts ≡ length r.expressions) (has : HasPatterns old.states r (length r.expressions) starts) where
-    has-all : (k : ℕ) (h : Expression) → slice_get r.expressions k ≡ Some h → HasPart old.states (graph.build_pattern (slot_of r (0 + k)) (0 + k) h) (slice_index starts k)
+    has-all : (k : ℕ) (h : Expression) → slice_get r.expressions k ≡ Some h → HasPart old.states (part_of r (0 + k) h) (slice_index starts k)
     has-all k h is =
         let none : k ≡ 0 + k = omega arith in
-        subst (λ n. HasPart old.states (graph.build_pattern (slot_of r n) n h) (slice_index starts k)) none (has k h (slice_get-below r.expressions k h is) is)
+        subst (λ n. HasPart old.states (part_of r n h) (slice_index starts k)) none (has k h (slice_get-below r.expressions k h is) is)
       where
         slice_get-below : (hs : List Expression) (k : ℕ) (h : Expression) → slice_get hs k ≡ Some h → k < length hs
         slice_get-below [] k h is = absurd (none-some h is)
         slice_get-below (x ∷ hs) zero h is = omega arith
         slice_get-below (x ∷ hs) (suc k) h is = let later = slice_get-below hs k h is in omega arith
 
-    all-found : (q : Passed) (i : ℕ) → IsClear q → IsAhead q i → first_some (found m q) (map (λ s. at s i) starts) ≡ first_of_patterns r text end 0 r.expressions i
+    all-found : (q : Passed) (i : ℕ) → IsClear q → IsAhead q i → first_some (found m q) (map (λ s. at s i) starts) ≡ option_map (told r.which_captures) (first_of_patterns r text end 0 r.expressions i)
     all-found q i clear ahead = starts-found 0 r.expressions starts long has-all q i clear ahead
 
-    pub each-found : (p i : ℕ) (h : Expression) → slice_get r.expressions p ≡ Some h → first_trace m (at (slice_index starts p) i) ≡ first r text end p h i
+    pub each-found : (p i : ℕ) (h : Expression) → slice_get r.expressions p ≡ Some h → first_trace m (at (slice_index starts p) i) ≡ option_map (told r.which_captures) (first r text end p h i)
     unfolding IsAhead
     each-found p i h is =
         let none : 0 + p ≡ p = omega arith in
-        HasPart-found p h (slice_index starts p) (subst (λ n. HasPart old.states (graph.build_pattern (slot_of r n) n h) (slice_index starts p)) none (has-all p h is)) nowhere i (λ u j out. refl) (λ d lt. refl)
+        HasPart-found p h (slice_index starts p) (subst (λ n. HasPart old.states (part_of r n h) (slice_index starts p)) none (has-all p h is)) nowhere i (λ u j out. refl) (λ d lt. refl)
 
     -- from the only start
-    pub only-found : (s i : ℕ) → starts ≡ s ∷ [] → first_trace m (at s i) ≡ first_of_patterns r text end 0 r.expressions i
+    pub only-found : (s i : ℕ) → starts ≡ s ∷ [] → first_trace m (at s i) ≡ option_map (told r.which_captures) (first_of_patterns r text end 0 r.expressions i)
     unfolding IsAhead
     only-found s i only =
         single (first_trace m (at s i)) ∙ ap (λ qs. first_some (found m nowhere) (map (λ x. at x i) qs)) (sym only) ∙ all-found nowhere i (λ u j out. refl) (λ d lt. refl)
@@ -132,7 +145,7 @@ module _ (r : Patterns) (text : List ℕ) (end : ℕ) (inside : end ≤ length t
         single (Some t) = refl
 
     -- from the choice between them
-    pub choice-found : (i : ℕ) → new ≡ pushed old (Union starts) → first_trace m (at (length old.states) i) ≡ first_of_patterns r text end 0 r.expressions i
+    pub choice-found : (i : ℕ) → new ≡ pushed old (Union starts) → first_trace m (at (length old.states) i) ≡ option_map (told r.which_captures) (first_of_patterns r text end 0 r.expressions i)
     unfolding IsAhead
     choice-found i is =
         ⊎_elim
@@ -175,45 +188,46 @@ module _ (r : Patterns) (text : List ℕ) (end : ℕ) (inside : end ≤ length t
 
 -- one pattern more
 pub HasPatterns-more : (r : Patterns) (n : ℕ) (old new : Draft) (starts starts' : List ℕ) (q : ℕ) (h : Expression) → Extends old new → length starts ≡ n → starts' ≡ starts ++ q ∷ []
-    → n < length r.expressions → h ≡ get_or r.expressions n h → HasPatterns old.states r n starts → HasPart new.states (graph.build_pattern (slot_of r n) n h) q → HasPatterns new.states r (n + 1) starts'
+    → n < length r.expressions → h ≡ get_or r.expressions n h → HasPatterns old.states r n starts → HasPart new.states (part_of r n h) q → HasPatterns new.states r (n + 1) starts'
 HasPatterns-more r n old new starts starts' q h e long grown inside is has last p x lt here =
     ⊎_elim
     (λ below.
-    subst (HasPart new.states (graph.build_pattern (slot_of r p) p x)) (sym (get_or_append_left starts (q ∷ []) 0 p (omega arith)) ∙ ap (λ qs. get_or qs p 0) (sym grown))
-    (HasPart-extends old new (graph.build_pattern (slot_of r p) p x) (slice_index starts p) e (has p x below here)))
+    subst (HasPart new.states (part_of r p x)) (sym (get_or_append_left starts (q ∷ []) 0 p (omega arith)) ∙ ap (λ qs. get_or qs p 0) (sym grown))
+    (HasPart-extends old new (part_of r p x) (slice_index starts p) e (has p x below here)))
     (λ above.
     let same : p ≡ n = omega arith in
     let none : n - n ≡ 0 = omega arith in
     let this : x ≡ h = same_Some _ _ (sym here ∙ ap (slice_get r.expressions) same ∙ slice_get-get_or r.expressions n h inside ∙ ap Some (sym is)) in
     let place : q ≡ get_or starts' p 0 = sym (ap (λ k. get_or starts' k 0) same ∙ ap (λ qs. get_or qs n 0) grown ∙ get_or-append_right starts (q ∷ []) n n 0 long (omega arith) ∙ ap (λ k. get_or (q ∷ []) k 0) none) in
-    subst (HasPart new.states (graph.build_pattern (slot_of r p) p x)) place (moved-part same this last))
+    subst (HasPart new.states (part_of r p x)) place (moved-part same this last))
     (cases_lt p n)
   where
-    moved-part : {p : ℕ} {x : Expression} → p ≡ n → x ≡ h → HasPart new.states (graph.build_pattern (slot_of r n) n h) q → HasPart new.states (graph.build_pattern (slot_of r p) p x) q
-    moved-part {p} {x} same this has = subst (λ k. HasPart new.states (graph.build_pattern (slot_of r k) k x) q) (sym same) (subst (λ y. HasPart new.states (graph.build_pattern (slot_of r n) n y) q) (sym this) has)
+    moved-part : {p : ℕ} {x : Expression} → p ≡ n → x ≡ h → HasPart new.states (part_of r n h) q → HasPart new.states (part_of r p x) q
+    moved-part {p} {x} same this has = subst (λ k. HasPart new.states (part_of r k x) q) (sym same) (subst (λ y. HasPart new.states (part_of r n y) q) (sym this) has)
 
 -- the first runs of an NFA that has the patterns
 pub HasFirstRuns-from : (r : Patterns) (nfa : Nfa) (old new : Draft) → HasPatterns old.states r (length r.expressions) nfa.starts → length nfa.starts ≡ length r.expressions → nfa.states ≡ new.states
-    → StartsAll old new nfa.starts nfa.start_anchored → HasFirstRuns nfa r
-HasFirstRuns-from r nfa old new has long kept all = ⊎_elim only choice all
+    → StartsAll old new nfa.starts nfa.start_anchored
+    → (r.which_captures ≡ no_group → (text : List ℕ) (end : ℕ) (c : Configuration) → (automaton new.states text end).written c ≡ None) → HasFirstRuns nfa r
+HasFirstRuns-from r nfa old new has long kept starting silent = ⊎_elim only choice starting
   where
-    made : (e : Extends old new) → ((text : List ℕ) (end i : ℕ) → end ≤ length text → first_trace (automaton new.states text end) (at nfa.start_anchored i) ≡ first_of_patterns r text end 0 r.expressions i) → HasFirstRuns nfa r
+    made : (e : Extends old new) → ((text : List ℕ) (end i : ℕ) → end ≤ length text → first_trace (automaton new.states text end) (at nfa.start_anchored i) ≡ option_map (told r.which_captures) (first_of_patterns r text end 0 r.expressions i)) → HasFirstRuns nfa r
     made e from_all = record {
       patterns = long;
       each = λ text end p i h le is.
-          ap (λ states. first_trace (automaton states text end) (at (slice_index nfa.starts p) i)) kept ∙ each-found r text end le old new e nfa.starts long has p i h is;
+          ap (λ states. first_trace (automaton states text end) (at (slice_index nfa.starts p) i)) kept ∙ each-found r text end le old new e (λ w c. silent w text end c) nfa.starts long has p i h is;
       all = λ text end i le. ap (λ states. first_trace (automaton states text end) (at nfa.start_anchored i)) kept ∙ from_all text end i le;
     }
 
     only : (nfa.starts ≡ nfa.start_anchored ∷ []) × (new ≡ old) → HasFirstRuns nfa r
     only h =
         let e : Extends old new = subst (Extends old) (sym h.1) (Extends-same old) in
-        made e (λ text end i le. only-found r text end le old new e nfa.starts long has nfa.start_anchored i h.0)
+        made e (λ text end i le. only-found r text end le old new e (λ w c. silent w text end c) nfa.starts long has nfa.start_anchored i h.0)
 
     choice : (nfa.start_anchored ≡ length old.states) × (new ≡ pushed old (Union nfa.starts)) → HasFirstRuns nfa r
     choice h =
         let e : Extends old new = subst (Extends old) (sym h.1) (Extends-pushed old (Union nfa.starts)) in
-        made e (λ text end i le. ap (λ q. first_trace (automaton new.states text end) (at q i)) h.0 ∙ choice-found r text end le old new e nfa.starts long has i h.1)
+        made e (λ text end i le. ap (λ q. first_trace (automaton new.states text end) (at q i)) h.0 ∙ choice-found r text end le old new e (λ w c. silent w text end c) nfa.starts long has i h.1)
 
 pub StartsAll-slots : (old new : Draft) (starts : List ℕ) (q : ℕ) → StartsAll old new starts q → new.slots ≡ old.slots
 StartsAll-slots old new starts q all = ⊎_elim (λ h. ap (λ (d : Draft). d.slots) h.1) (λ h. ap (λ (d : Draft). d.slots) h.1) all

@@ -4,8 +4,8 @@ use Rattle.rx_model.specs.Graph as graph
 use Rattle.rx_thompson.specs.Draft.{Draft, Extends, pushed}
 use Rattle.rx_thompson.specs.States.{Stands}
 use Rattle.rx_thompson.specs.Built.{IsChain, Built}
-use Rattle.rx_thompson.proofs.BuiltLemmas.{IsChain-map, Stands-kept, Stands-from, Stands-pushed, Keeps-extends, Extends-pushed, Built-state, pushed-length}
-use Rattle.rx_thompson.specs.declared.state.State.TheVariants.{ByteRange, Union}
+use Rattle.rx_thompson.proofs.BuiltLemmas.{IsChain-map, Stands-kept, Stands-from, Stands-pushed, Keeps-extends, Extends-pushed, Built-state}
+use Rattle.rx_thompson.specs.declared.state.State.TheVariants.{ByteRange}
 
 -- one byte more, in front
 pub IsChain-more : (old d new : Draft) (bytes : List ℕ) (k b start next : ℕ) → Extends old d → 0 < k → k ≤ length bytes → b ≡ get_or bytes (k - 1) 0
@@ -30,15 +30,3 @@ Built-text old new [] start next some extends c = absurd (omega arith)
 Built-text old new (b ∷ bytes) start next some extends c =
     Built-state (graph.text (b ∷ bytes)) next old new start extends c.1.above c.1.inside
     (λ f next' is. subst (λ n. IsChain (Stands (length old.states) new.states) start (b ∷ bytes) n) (sym is) c)
-
--- the text of no bytes
-pub Built-none : (old new : Draft) (next : ℕ) → new ≡ pushed old (Union (next ∷ [])) → Built (graph.build_state (graph.text [])) next old new (length old.states)
-Built-none old new next is =
-    subst (λ d. Built (graph.build_state (graph.text [])) next old d (length old.states)) (sym is)
-    (Built-state (graph.text []) next old (pushed old (Union (next ∷ []))) (length old.states) (Extends-pushed old (Union (next ∷ []))) (omega arith) (let l = pushed-length old (Union (next ∷ [])) in omega arith)
-    (λ f next' same. subst (λ n. Stands (length old.states) (pushed old (Union (next ∷ []))).states (length old.states) (Union (n ∷ []))) (sym same) (Stands-pushed old (Union (next ∷ [])))))
-
-pub Built-empty : (old new : Draft) (bytes : List ℕ) (start next : ℕ) → length bytes ≡ 0 → start ≡ length old.states → new ≡ pushed old (Union (next ∷ []))
-    → Built (graph.build_state (graph.text bytes)) next old new start
-Built-empty old new [] start next none id is = subst (Built (graph.build_state (graph.text [])) next old new) (sym id) (Built-none old new next is)
-Built-empty old new (b ∷ bytes) start next none id is = absurd (omega arith)

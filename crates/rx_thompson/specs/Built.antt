@@ -1,10 +1,10 @@
 -- What a compile function says of the states that it added for a part of the graph.
-use Rattle.std.specs.Prelude.{◌≡◌, ℕ, suc, ◌+◌, ◌-◌, ◌*◌, ◌<◌, ◌≤◌, Bool, List, [], ◌∷◌, length, map, ⊤, Option, Some, if◌then◌else◌, slice_get, slice_index, ◌⊎◌}
+use Rattle.std.specs.Prelude.{◌≡◌, ℕ, suc, ◌+◌, ◌-◌, ◌*◌, ◌<◌, ◌≤◌, Bool, List, [], ◌∷◌, length, map, ⊤, Option, Some, None, option_map, if◌then◌else◌, slice_get, slice_index, ◌⊎◌}
 use Rattle.std.specs.List.{AllZip}
 use Rattle.rx_model.specs.Expression.{Expression}
 use Rattle.rx_model.specs.Text.{scalar_ranges, byte_ranges}
 use Rattle.rx_model.specs.Graph as graph
-use Rattle.rx_model.specs.Search.{Patterns, slot_of}
+use Rattle.rx_model.specs.Search.{Patterns, WhichCaptures, all, implicit, none, slot_of}
 use Rattle.rx_thompson.specs.Ranges.{StaysBelow}
 use Rattle.rx_thompson.specs.Row.{HasReader}
 use Rattle.rx_thompson.specs.States.{Stands}
@@ -57,9 +57,33 @@ pub record Built (part : graph.Builder) (next : ℕ) (old new : Draft) (start : 
 abbrev pub ways : (greedy : Bool) → (body exit : ℕ) → List ℕ
 ways greedy body exit = if greedy then body ∷ exit ∷ [] else exit ∷ body ∷ []
 
--- the first slot of each group, where that of group 1 is known
-abbrev pub slot_from : (first : ℕ) → ℕ → Option ℕ
-slot_from first group = Some (first + 2 * (group - 1))
+-- the first slot of each group; `first` is that of group 1, if groups have slots
+abbrev pub slot_from : (first : Option ℕ) → ℕ → Option ℕ
+slot_from None group = None
+slot_from (Some first) group = Some (first + 2 * (group - 1))
+
+-- the state that writes a slot, or one that just goes on where there is none
+abbrev pub bound : Option ℕ → (next : ℕ) → graph.State
+bound None next = graph.choice (next ∷ [])
+bound (Some number) next = graph.slot number next
+
+-- the part between its two slots, the first of which is this one; where there is none, between states that just go on
+abbrev pub build_bounds : Option ℕ → graph.Builder → graph.Builder
+build_bounds slot body = graph.build_then (graph.build_state (bound slot)) (graph.build_then body (graph.build_state (bound (option_map suc slot))))
+
+-- As the graph of pattern p, with the slots of its whole match from `whole` on, if there are any.
+unfoldable pub compiled_pattern : (whole : Option ℕ) → (slot_of : ℕ → Option ℕ) → ℕ → Expression → graph.Part
+compiled_pattern whole slot_of p h = graph.build_then (build_bounds whole (graph.build slot_of h)) (graph.build_state (λ next. graph.accept p)) 0 0
+
+-- the first slot of the whole match of pattern p
+abbrev pub whole_slot : WhichCaptures → ℕ → Option ℕ
+whole_slot all p = Some (2 * p)
+whole_slot implicit p = Some (2 * p)
+whole_slot none p = None
+
+-- the part that stands for pattern p
+abbrev pub part_of : Patterns → ℕ → Expression → graph.Part
+part_of r p h = compiled_pattern (whole_slot r.which_captures p) (slot_of r p) p h
 
 -- The part stands among the states, and starts at `start`.
 pub record HasPart (states : List State) (part : graph.Part) (start : ℕ) : Type 0 where
@@ -70,7 +94,7 @@ pub record HasPart (states : List State) (part : graph.Part) (start : ℕ) : Typ
 -- The first n patterns stand among the states, each from its start on.
 abbrev pub HasPatterns : List State → Patterns → (n : ℕ) → (starts : List ℕ) → Type 0
 HasPatterns states r n starts =
-    (p : ℕ) (h : Expression) → p < n → slice_get r.expressions p ≡ Some h → HasPart states (graph.build_pattern (slot_of r p) p h) (slice_index starts p)
+    (p : ℕ) (h : Expression) → p < n → slice_get r.expressions p ≡ Some h → HasPart states (part_of r p h) (slice_index starts p)
 
 -- State q starts the runs from all of these starts, the first preferred: it is the only one of them, or a choice between
 -- them, which was added.

@@ -1,19 +1,31 @@
 -- What the compiler answers.
-use Rattle.std.specs.Prelude.{◌≡◌, ℕ, ◌+◌, ◌*◌, ◌<◌, ◌≤◌, Bool, List, [], ◌∷◌, length, Option, Some, IfSome}
+use Rattle.std.specs.Prelude.{◌≡◌, ℕ, ◌+◌, ◌*◌, ◌<◌, ◌≤◌, Bool, List, [], ◌∷◌, length, Option, Some, None, IfSome}
 use Rattle.rx_model.specs.Expression.{Expression}
-use Rattle.rx_model.specs.Search.{Patterns, all, groups_before}
+use Rattle.rx_model.specs.Search.{Patterns, WhichCaptures, all, implicit, none, groups_before}
+use Rattle.rx_model.specs.Empty.{one_can_be_empty}
+use Rattle.rx_syntax.specs.Normal.{expressions}
 use Rattle.rx_syntax.specs.Cost.{accounted_states, capped}
+use Rattle.rx_thompson.specs.Config.{utf8_of, size_limit_of, captures_of}
+use Rattle.rx_thompson.specs.declared.compiler.config.Config.{Config}
 use Rattle.rx_thompson.specs.Nfa.{Nfa, IsInRange, HasFirstRuns}
 use Rattle.rx_thompson.specs.declared.error.BuildError.{BuildError}
 use Rattle.rx_thompson.specs.declared.error.BuildError.TheVariants.{TooManyPatterns, TooManyGroups, TooManyStates, ExceededSizeLimit, Memory}
 
--- the patterns of these expressions, with slots for every group
-abbrev pub patterns_of : List Expression → (utf8_empty : Bool) → (terminator : ℕ) → Patterns
-patterns_of hs utf8_empty terminator = record { expressions = hs; utf8_empty = utf8_empty; terminator = terminator; which_captures = all }
+-- the patterns of these expressions
+abbrev pub patterns_of : List Expression → (utf8_empty : Bool) → (terminator : ℕ) → WhichCaptures → Patterns
+patterns_of hs utf8_empty terminator which = record { expressions = hs; utf8_empty = utf8_empty; terminator = terminator; which_captures = which }
 
--- two slots for each pattern, and two for each group that one names
-abbrev pub slots_of : List Expression → ℕ
-slots_of hs = 2 * length hs + 2 * groups_before (length hs) hs
+-- how many slots there are: two for each pattern, and under `all` two for each group that one names
+abbrev pub slots_of : WhichCaptures → List Expression → ℕ
+slots_of all hs = 2 * length hs + 2 * groups_before (length hs) hs
+slots_of implicit hs = 2 * length hs
+slots_of none hs = 0
+
+-- the first slot of the groups that pattern p names, if they have slots
+abbrev pub first_slot_of : WhichCaptures → List Expression → ℕ → Option ℕ
+first_slot_of all hs p = Some (2 * length hs + 2 * groups_before p hs)
+first_slot_of implicit hs p = None
+first_slot_of none hs p = None
 
 -- the states that are accounted for an NFA: 4, and for each pattern 3 beside those of its expression
 abbrev pub nfa_states : List Expression → ℕ
@@ -21,28 +33,34 @@ nfa_states [] = 4
 nfa_states (h ∷ hs) = accounted_states h + 3 + nfa_states hs
 
 -- there are few enough patterns and slots
-pub record AreFew (hs : List Expression) : Type 0 where
+pub record AreFew (which : WhichCaptures) (hs : List Expression) : Type 0 where
   pub patterns : length hs ≤ 2147483647
-  pub slots : slots_of hs ≤ 2147483646
+  pub slots : slots_of which hs ≤ 2147483646
 
 -- there are few enough states too, and at 32 for each they are within the limit, where there is one
-pub record AreAllowed (size_limit : Option ℕ) (hs : List Expression) : Type 0 where
-  pub few : AreFew hs
+pub record AreAllowed (config : Config) (hs : List Expression) : Type 0 where
+  pub few : AreFew (captures_of config) hs
   pub states : nfa_states hs ≤ 2147483647
-  pub size : IfSome size_limit (λ limit. 32 * nfa_states hs ≤ limit)
+  pub size : IfSome (size_limit_of config) (λ limit. 32 * nfa_states hs ≤ limit)
 
--- the NFA is in range, and does what the patterns ask for
-pub record IsCompiled (hs : List Expression) (nfa : Nfa) : Type 0 where
+-- the NFA is in range, has no more states than are accounted, and does what the patterns ask for
+pub record IsCompiled (config : Config) (hs : List Expression) (nfa : Nfa) : Type 0 where
   pub in_range : IsInRange nfa
-  pub slots : nfa.slots ≡ slots_of hs
+  pub few : length nfa.states ≤ nfa_states hs
+  pub accounted : nfa.accounted ≡ nfa_states hs
+  pub slots : nfa.slots ≡ slots_of (captures_of config) hs
+  pub utf8 : nfa.utf8 ≡ utf8_of config
+  pub has_empty : nfa.has_empty ≡ one_can_be_empty (expressions hs)
   -- a first run looks neither at where a match may start nor at a terminator
-  pub first_runs : (utf8_empty : Bool) (terminator : ℕ) → HasFirstRuns nfa (patterns_of hs utf8_empty terminator)
+  pub first_runs : (utf8_empty : Bool) (terminator : ℕ) → HasFirstRuns nfa (patterns_of hs utf8_empty terminator (captures_of config))
 
 -- Why there is no NFA. Numbers are told up to the greatest of 64 bits.
-abbrev pub IsRefusal : (size_limit : Option ℕ) → List Expression → BuildError → Type 0
-IsRefusal size_limit hs (TooManyPatterns given limit) = (given ≡ length hs) × (limit ≡ 2147483647) × (limit < given)
-IsRefusal size_limit hs (TooManyGroups given limit) = (length hs ≤ 2147483647) × (given ≡ capped (slots_of hs)) × (limit ≡ 2147483646) × (limit < given)
-IsRefusal size_limit hs (TooManyStates given limit) = AreFew hs × (given ≡ capped (nfa_states hs)) × (limit ≡ 2147483647) × (limit < given)
-IsRefusal size_limit hs (ExceededSizeLimit limit size) =
-    AreFew hs × (nfa_states hs ≤ 2147483647) × (size_limit ≡ Some limit) × (size ≡ 32 * nfa_states hs) × (limit < size)
-IsRefusal size_limit hs Memory = AreAllowed size_limit hs
+abbrev pub IsRefusal : (config : Config) → List Expression → BuildError → Type 0
+IsRefusal config hs (TooManyPatterns given limit) = (given ≡ length hs) × (limit ≡ 2147483647) × (limit < given)
+IsRefusal config hs (TooManyGroups given limit) =
+    (length hs ≤ 2147483647) × (given ≡ capped (slots_of (captures_of config) hs)) × (limit ≡ 2147483646) × (limit < given)
+IsRefusal config hs (TooManyStates given limit) =
+    AreFew (captures_of config) hs × (given ≡ capped (nfa_states hs)) × (limit ≡ 2147483647) × (limit < given)
+IsRefusal config hs (ExceededSizeLimit limit size) =
+    AreFew (captures_of config) hs × (nfa_states hs ≤ 2147483647) × (size_limit_of config ≡ Some limit) × (size ≡ 32 * nfa_states hs) × (limit < size)
+IsRefusal config hs Memory = AreAllowed config hs

@@ -1,5 +1,7 @@
 pub mod Automaton
 pub mod Nfa
+pub mod Inner
+pub mod Config
 pub mod NextMatch
 pub mod Draft
 pub mod States

@@ -1,8 +1,8 @@
 -- What an NFA is to a contract, and what it has to do with the patterns that it was built from.
-use Rattle.std.specs.Prelude.{◌≡◌, ℕ, ◌<◌, ◌≤◌, List, length, All, Some, slice_get, slice_index}
+use Rattle.std.specs.Prelude.{◌≡◌, ℕ, ◌<◌, ◌≤◌, Bool, List, length, All, Some, option_map, slice_get, slice_index}
 use Rattle.rx_model.specs.Expression.{Expression}
 use Rattle.rx_model.specs.Runs.{first_trace}
-use Rattle.rx_model.specs.Search.{Patterns, first, first_of_patterns}
+use Rattle.rx_model.specs.Search.{Patterns, told, first, first_of_patterns}
 use Rattle.rx_thompson.specs.Automaton.{at, automaton, NamesBelow, IsWithin}
 use Rattle.rx_thompson.specs.declared.state.State.{State}
 
@@ -14,6 +14,12 @@ pub record Nfa : Type 0 where
   pub starts : List ℕ
   -- how many slots there are
   pub slots : ℕ
+  -- no match is to start inside a character
+  pub utf8 : Bool
+  -- one of the patterns can match the empty string
+  pub has_empty : Bool
+  -- how many states were accounted for the patterns
+  pub accounted : ℕ
 
 -- every state, pattern and slot that is named is there
 pub record IsInRange (nfa : Nfa) : Type 0 where
@@ -23,11 +29,13 @@ pub record IsInRange (nfa : Nfa) : Type 0 where
   pub within : All (IsWithin (length nfa.starts) nfa.slots) nfa.states
   pub few_states : length nfa.states ≤ 2147483647
   pub few_patterns : length nfa.starts ≤ 2147483647
+  pub few_accounted : nfa.accounted ≤ 2147483647
 
--- The first runs of the states are those of the patterns' graphs, with pattern, end and slots.
+-- The first runs of the states are those of the patterns' graphs, with pattern and end, and with slots where captures are
+-- asked for.
 pub record HasFirstRuns (nfa : Nfa) (r : Patterns) : Type 0 where
   pub patterns : length nfa.starts ≡ length r.expressions
   pub each : (text : List ℕ) (end p i : ℕ) (h : Expression) → end ≤ length text → slice_get r.expressions p ≡ Some h
-      → first_trace (automaton nfa.states text end) (at (slice_index nfa.starts p) i) ≡ first r text end p h i
+      → first_trace (automaton nfa.states text end) (at (slice_index nfa.starts p) i) ≡ option_map (told r.which_captures) (first r text end p h i)
   pub all : (text : List ℕ) (end i : ℕ) → end ≤ length text
-      → first_trace (automaton nfa.states text end) (at nfa.start_anchored i) ≡ first_of_patterns r text end 0 r.expressions i
+      → first_trace (automaton nfa.states text end) (at nfa.start_anchored i) ≡ option_map (told r.which_captures) (first_of_patterns r text end 0 r.expressions i)

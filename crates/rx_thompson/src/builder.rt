@@ -1,9 +1,10 @@
 //! An NFA in the making.
-ghost use Rattle.std.specs.Prelude.{◌≡◌, ◌<◌, ◌≤◌, [], length, All, IfOk};
+ghost use Rattle.std.specs.Prelude.{◌≡◌, ◌+◌, ◌<◌, ◌≤◌, [], length, All, IfOk, OnOk};
 ghost use Rattle.rx_thompson.specs.Automaton.{NamesBelow, IsWithin};
 ghost use Rattle.rx_model.specs.Graph.{build_state, set};
 ghost use Rattle.rx_model.specs.Text.{scalar_ranges, byte_ranges};
 ghost use Rattle.rx_syntax.specs.ClassViews.{class_view};
+ghost use Rattle.rx_syntax.specs.Cost.{states_of_class};
 ghost use Rattle.rx_thompson.specs.Built.{Built};
 ghost use Rattle.rx_thompson.specs.Draft.{pushed, patched};
 ghost use Rattle.rx_thompson.specs.Nfa.{IsInRange};
@@ -11,17 +12,20 @@ ghost use Rattle.rx_thompson.specs.Nfa.{IsInRange};
 use crate::State;
 use crate::class::{compile_bytes, compile_class};
 use crate::nfa::NFA;
+use crate::nfa::inner::Inner;
 use rx_search::{Memory, StateID};
 use rx_syntax::{Class, ClassBytes, ClassUnicode};
 use std::alloc::Global;
 use std::marker::Model;
 use std::mem;
 
-/// The most states that an NFA may have.
-const STATE_LIMIT: usize = 2147483647;
-
-/// The most states that a range of scalars may have.
-const RANGE_LIMIT: usize = 65;
+/// What an NFA tells beside its states.
+#[derive(Clone, Copy)]
+pub struct Facts {
+    pub utf8: bool,
+    pub has_empty: bool,
+    pub accounted_states: usize,
+}
 
 /// The states so far. Every state, pattern and slot that they name is there.
 #[derive(Drop)]
@@ -63,14 +67,13 @@ impl Builder {
 
     /// Appends a state, and answers its number.
     pub fn push(&mut self, state: State) -> Result<StateID, Memory>
+        requires room { length self.old.states < 2147483647 }
         requires names { NamesBelow (length self.old.states) state }
         requires within { IsWithin self.old.patterns self.old.slots state }
         ensures id { IfOk result (λ id. id ≡ length self.old.states) }
         ensures states { IfOk result (λ id. self.new ≡ pushed self.old state) }
     {
-        let Some(id) = StateID::new(self.states.len()) else {
-            return Err(Memory);
-        };
+        let id = StateID::new(self.states.len()).unwrap();
         self.states.push(state)?;
         Ok(id)
     }
@@ -83,9 +86,11 @@ impl Builder {
         class: &Class,
         next: StateID,
     ) -> Result<StateID, Memory>
-        requires { next < length self.old.states }
+        requires next { next < length self.old.states }
+        requires room { length self.old.states + states_of_class (class_view class.now) ≤ 2147483647 }
         ensures built { IfOk result (λ start. Built (build_state (set (class_view class.now))) next self.old self.new start) }
         ensures inside { IfOk result (λ start. start < length self.new.states) }
+        ensures count { OnOk result (length self.new.states ≤ length self.old.states + states_of_class (class_view class.now)) }
     {
         match class {
             Class::Unicode(scalars) => self.push_scalars(alloc, scalars, next),
@@ -99,15 +104,13 @@ impl Builder {
         scalars: &ClassUnicode,
         next: StateID,
     ) -> Result<StateID, Memory>
-        requires { next < length self.old.states }
+        requires next { next < length self.old.states }
+        requires room { length self.old.states + states_of_class (scalar_ranges scalars.now) ≤ 2147483647 }
         ensures built { IfOk result (λ start. Built (build_state (set (scalar_ranges scalars.now))) next self.old self.new start) }
         ensures inside { IfOk result (λ start. start < length self.new.states) }
+        ensures count { OnOk result (length self.new.states ≤ length self.old.states + states_of_class (scalar_ranges scalars.now)) }
     {
         let ranges = scalars.ranges();
-        let most = RANGE_LIMIT.saturating_mul(ranges.len());
-        if most.saturating_add(self.states.len() + 1) > STATE_LIMIT {
-            return Err(Memory);
-        }
         let mut states = mem::replace(&mut self.states, Vec::new(alloc));
         let start = compile_class(alloc, &mut states, ranges, next)?;
         self.states = states;
@@ -120,13 +123,12 @@ impl Builder {
         bytes: &ClassBytes,
         next: StateID,
     ) -> Result<StateID, Memory>
-        requires { next < length self.old.states }
+        requires next { next < length self.old.states }
+        requires room { length self.old.states < 2147483647 }
         ensures built { IfOk result (λ start. Built (build_state (set (byte_ranges bytes.now))) next self.old self.new start) }
         ensures inside { IfOk result (λ start. start < length self.new.states) }
+        ensures count { OnOk result (length self.new.states ≡ length self.old.states + 1) }
     {
-        if self.states.len() >= STATE_LIMIT {
-            return Err(Memory);
-        }
         let mut states = mem::replace(&mut self.states, Vec::new(alloc));
         let start = compile_bytes(alloc, &mut states, bytes.ranges(), next)?;
         self.states = states;
@@ -144,15 +146,35 @@ impl Builder {
     }
 
     /// The NFA of these states.
-    pub fn finish(self, start_anchored: StateID, starts: Vec<StateID>) -> NFA
+    pub fn finish(
+        self,
+        alloc: Global,
+        start_anchored: StateID,
+        starts: Vec<StateID>,
+        facts: Facts,
+    ) -> Result<NFA, Memory>
         requires start { start_anchored < length self.states }
         requires starts { All (λ q. q < length self.states) starts.items }
         requires patterns { length starts.items ≡ self.patterns }
         requires few { self.patterns ≤ 2147483647 }
-        ensures value { result ≡ record { states = self.states; start_anchored = start_anchored; starts = starts.items; slots = self.slots } }
-        ensures in_range { IsInRange result }
+        requires accounted { facts.accounted_states ≤ 2147483647 }
+        ensures value { IfOk result (λ nfa. nfa ≡ record { states = self.states; start_anchored = start_anchored; starts = starts.items; slots = self.slots;
+            utf8 = facts.utf8; has_empty = facts.has_empty; accounted = facts.accounted_states }) }
+        ensures in_range { IfOk result IsInRange }
     {
         let slot_len = self.slot_len;
-        NFA::new(self.states, start_anchored, starts, slot_len)
+        let nfa = NFA::new(
+            alloc,
+            Inner {
+                states: self.states,
+                start_anchored,
+                starts,
+                slot_len,
+                utf8: facts.utf8,
+                has_empty: facts.has_empty,
+                accounted_states: facts.accounted_states,
+            },
+        )?;
+        Ok(nfa)
     }
 }

@@ -1,9 +1,11 @@
 //! From expressions to an NFA.
-ghost use Rattle.std.specs.Prelude.{◌≡◌, ◌+◌, ◌*◌, ◌<◌, ◌≤◌, length, All, IfOk, IfErr, IfSome, OnOk, MatchOption, None, Some, true};
-ghost use Rattle.rx_model.specs.Graph.{build_pattern};
+ghost use Rattle.std.specs.Prelude.{◌≡◌, ◌+◌, ◌*◌, ◌<◌, ◌≤◌, length, All, IfOk, IfErr, IfSome, OnOk, MatchOption, None, Some, true, ◌∷◌, []};
+ghost use Rattle.rx_model.specs.Graph.{build_state};
 ghost use Rattle.rx_model.specs.Search.{greatest_group};
-ghost use Rattle.rx_thompson.specs.Built.{slot_from, HasPart, HasPatterns, StartsAll};
-ghost use Rattle.rx_thompson.specs.Compiled.{patterns_of, slots_of, AreFew, AreAllowed, IsCompiled, IsRefusal};
+ghost use Rattle.rx_syntax.specs.Cost.{accounted_states};
+ghost use Rattle.rx_thompson.specs.Built.{Built, slot_from, bound, compiled_pattern, HasPart, HasPatterns, StartsAll};
+ghost use Rattle.rx_thompson.specs.Config.{captures_kind, captures_of, overwritten, nothing_set};
+ghost use Rattle.rx_thompson.specs.Compiled.{patterns_of, slots_of, nfa_states, AreFew, AreAllowed, IsCompiled, IsRefusal};
 ghost use Rattle.rx_thompson.specs.Draft.{Extends};
 ghost use Rattle.rx_thompson.specs.Room.{HasRoom};
 
@@ -11,19 +13,21 @@ mod accounting;
 mod config;
 mod expression;
 mod groups;
+mod slots;
 #[cfg(test)]
 mod tests;
 
-use crate::builder::Builder;
+use crate::builder::{Builder, Facts};
 use crate::error::BuildError;
 use crate::nfa::NFA;
 use crate::state::{Alternates, State};
 use accounting::{nfa_states, slot_len};
-pub use config::Config;
+pub use config::{Config, WhichCaptures};
 use expression::compile;
 use groups::Groups;
 use rx_search::{Memory, PatternID, StateID};
-use rx_syntax::{Hir, greatest_group};
+use rx_syntax::{Hir, one_can_be_empty};
+use slots::{first_slot, second_slot, slot_after, whole_slot};
 use std::alloc::Global;
 
 /// The most patterns that an NFA may have.
@@ -47,29 +51,31 @@ pub struct Compiler {
 impl Compiler {
     /// With the configuration that `Config::new` makes.
     pub fn new() -> Compiler
-        ensures { result.config.nfa_size_limit ≡ None }
+        ensures { result.config ≡ nothing_set }
     {
         Compiler {
             config: Config::new(),
         }
     }
 
-    /// Puts this configuration in place of the last.
+    /// Takes what this configuration sets, and keeps what it leaves open.
     pub fn configure(&mut self, config: Config)
-        ensures { self.new.config ≡ config }
+        ensures { self.new.config ≡ overwritten self.old.config config }
     {
-        self.config = config;
+        self.config = self.config.overwrite(config);
     }
 
     /// The NFA of these expressions, one pattern each. A match's slots come in the order of the patterns: two for each
-    /// whole match, and after these two for each group that a pattern names.
+    /// whole match, and after these two for each group that a pattern names. Groups that the configuration leaves out
+    /// have no slots. The NFA has no more states than are accounted for the expressions.
     ///
-    /// Refused before anything is built, in this order: more than 2147483647 patterns, more than 2147483646 slots, more
-    /// than 2147483647 states accounted, more bytes accounted than the configured limit. Want of memory comes last.
+    /// Refused before anything is built, in this order: more than 2147483647 patterns, more than 2147483646 slots under
+    /// the configuration, more than 2147483647 states accounted, more bytes accounted than the configured limit. Want of
+    /// memory comes last, and is then the only reason left.
     pub fn build_many_from_hir(&self, alloc: Global, exprs: &[Hir]) -> Result<NFA, BuildError>
-        ensures compiled { IfOk result (IsCompiled exprs.now) }
-        ensures allowed { OnOk result (AreAllowed self.now.config.nfa_size_limit exprs.now) }
-        ensures refused { IfErr result (IsRefusal self.now.config.nfa_size_limit exprs.now) }
+        ensures compiled { IfOk result (IsCompiled self.now.config exprs.now) }
+        ensures allowed { OnOk result (AreAllowed self.now.config exprs.now) }
+        ensures refused { IfErr result (IsRefusal self.now.config exprs.now) }
     {
         if exprs.len() > PATTERN_LIMIT {
             return Err(BuildError::TooManyPatterns {
@@ -77,7 +83,7 @@ impl Compiler {
                 limit: PATTERN_LIMIT,
             });
         }
-        let slots = slot_len(exprs);
+        let slots = slot_len(self.config.get_which_captures(), exprs);
         if slots > SLOT_LIMIT {
             return Err(BuildError::TooManyGroups {
                 given: slots,
@@ -95,7 +101,7 @@ impl Compiler {
         if let Some(limit) = exceeded(self.config.get_nfa_size_limit(), size) {
             return Err(BuildError::ExceededSizeLimit { limit, size });
         }
-        let nfa = build(alloc, exprs, slots)?;
+        let nfa = build(alloc, self.config, exprs, slots, states)?;
         Ok(nfa)
     }
 }
@@ -110,45 +116,61 @@ fn exceeded(limit: Option<usize>, size: usize) -> Option<usize>
     }
 }
 
-/// The NFA of few enough patterns and slots.
-fn build(alloc: Global, exprs: &[Hir], slots: usize) -> Result<NFA, Memory>
-    requires few { AreFew exprs.now }
-    requires slots { slots ≡ slots_of exprs.now }
-    ensures { IfOk result (IsCompiled exprs.now) }
+/// The NFA of few enough patterns, slots and accounted states.
+fn build(
+    alloc: Global,
+    config: Config,
+    exprs: &[Hir],
+    slots: usize,
+    states: usize,
+) -> Result<NFA, Memory>
+    requires few { AreFew (captures_of config) exprs.now }
+    requires slots { slots ≡ slots_of (captures_of config) exprs.now }
+    requires states { states ≡ nfa_states exprs.now }
+    requires few_states { states ≤ 2147483647 }
+    ensures { IfOk result (IsCompiled config exprs.now) }
 {
     let mut builder = Builder::new(alloc, exprs.len(), slots);
-    let starts = compile_patterns(alloc, &mut builder, exprs)?;
+    let starts = compile_patterns(alloc, &mut builder, config.get_which_captures(), exprs)?;
     let start = start_of_all(alloc, &mut builder, &starts)?;
-    Ok(builder.finish(start, starts))
+    let facts = Facts {
+        utf8: config.get_utf8(),
+        has_empty: one_can_be_empty(exprs),
+        accounted_states: states,
+    };
+    let nfa = builder.finish(alloc, start, starts, facts)?;
+    Ok(nfa)
 }
 
 /// The states of the patterns, one after another, and where each starts.
 fn compile_patterns(
     alloc: Global,
     builder: &mut Builder,
+    which: WhichCaptures,
     exprs: &[Hir],
 ) -> Result<Vec<StateID>, Memory>
-    requires few { AreFew exprs.now }
+    requires few { AreFew (captures_kind which) exprs.now }
     requires patterns { builder.old.patterns ≡ length exprs.now }
-    requires slots { builder.old.slots ≡ slots_of exprs.now }
+    requires slots { builder.old.slots ≡ slots_of (captures_kind which) exprs.now }
+    requires fits { length builder.old.states + nfa_states exprs.now ≤ 2147483647 }
     ensures extends { OnOk result (Extends builder.old builder.new) }
     ensures len { IfOk result (λ starts. length starts.items ≡ length exprs.now) }
-    ensures has { IfOk result (λ starts. HasPatterns builder.new.states (patterns_of exprs.now true 0) (length exprs.now) starts.items) }
+    ensures has { IfOk result (λ starts. HasPatterns builder.new.states (patterns_of exprs.now true 0 (captures_kind which)) (length exprs.now) starts.items) }
     ensures inside { IfOk result (λ starts. All (λ q. q < length builder.new.states) starts.items) }
+    ensures count { OnOk result (length builder.new.states + 4 ≤ length builder.old.states + nfa_states exprs.now) }
 {
     let mut starts = Vec::new(alloc);
-    let mut first_slot = 2 * exprs.len();
+    let mut first_slot = first_slot(which, exprs);
     for hir in exprs {
-        let Some(pattern) = PatternID::new(starts.len()) else {
-            return Err(Memory);
-        };
+        let pattern = PatternID::new(starts.len()).unwrap();
         let groups = Groups {
             pattern,
+            whole_slot: whole_slot(which, pattern),
             first_slot,
         };
         let start = compile_pattern(alloc, builder, &groups, hir)?;
         starts.push(start)?;
-        first_slot += 2 * greatest_group(hir);
+        first_slot = slot_after(first_slot, hir);
     }
     Ok(starts)
 }
@@ -161,32 +183,67 @@ fn compile_pattern(
     hir: &Hir,
 ) -> Result<StateID, Memory>
     requires room { HasRoom builder.old groups.now (greatest_group hir.now) }
-    requires whole { 2 * builder.old.patterns ≤ builder.old.slots }
+    requires whole { IfSome groups.now.whole_slot (λ slot. slot + 1 < builder.old.slots) }
+    requires fits { length builder.old.states + (accounted_states hir.now + 3) ≤ 2147483647 }
     ensures extends { OnOk result (Extends builder.old builder.new) }
-    ensures has { IfOk result (λ start. HasPart builder.new.states (build_pattern (slot_from groups.now.first_slot) groups.now.pattern hir.now) start) }
+    ensures has { IfOk result (λ start. HasPart builder.new.states
+        (compiled_pattern groups.now.whole_slot (slot_from groups.now.first_slot) groups.now.pattern hir.now) start) }
     ensures inside { IfOk result (λ start. start < length builder.new.states) }
+    ensures count { OnOk result (length builder.new.states ≤ length builder.old.states + (accounted_states hir.now + 3)) }
 {
     let pattern = groups.pattern;
-    let slot = 2 * pattern.as_usize();
+    let last_slot = second_slot(groups.whole_slot);
     let accept = builder.push(State::Match { pattern })?;
-    let close = builder.push(State::Capture {
-        next: accept,
-        pattern,
-        slot: slot + 1,
-    })?;
+    let close = push_bound(alloc, builder, pattern, last_slot, accept)?;
     let body = compile(alloc, builder, groups, hir, close)?;
-    let open = builder.push(State::Capture {
-        next: body,
-        pattern,
-        slot,
-    })?;
+    let open = push_bound(alloc, builder, pattern, groups.whole_slot, body)?;
     Ok(open)
+}
+
+/// A state that writes the slot, or one that just goes on where there is none.
+fn push_bound(
+    alloc: Global,
+    builder: &mut Builder,
+    pattern: PatternID,
+    slot: Option<usize>,
+    next: StateID,
+) -> Result<StateID, Memory>
+    requires next { next < length builder.old.states }
+    requires pattern { pattern < builder.old.patterns }
+    requires slot { IfSome slot (λ number. number < builder.old.slots) }
+    requires fits { length builder.old.states < 2147483647 }
+    ensures built { IfOk result (λ start. Built (build_state (bound slot)) next builder.old builder.new start) }
+    ensures inside { IfOk result (λ start. start < length builder.new.states) }
+    ensures count { OnOk result (length builder.new.states ≤ length builder.old.states + 1) }
+{
+    match slot {
+        Some(slot) => builder.push(State::Capture {
+            next,
+            pattern,
+            slot,
+        }),
+        None => {
+            let alternates = one_way(alloc, next)?;
+            builder.push(State::Union { alternates })
+        }
+    }
+}
+
+/// On to this state alone.
+fn one_way(alloc: Global, next: StateID) -> Result<Alternates, Memory>
+    ensures { IfOk result (λ alternates. alternates ≡ next ∷ []) }
+{
+    let mut ids = Vec::new(alloc);
+    ids.push(next)?;
+    Ok(Alternates::new(ids))
 }
 
 /// Where the runs of all the patterns start: at the only start, or at a choice between them.
 fn start_of_all(alloc: Global, builder: &mut Builder, starts: &[StateID]) -> Result<StateID, Memory>
-    requires { All (λ q. q < length builder.old.states) starts.now }
+    requires inside { All (λ q. q < length builder.old.states) starts.now }
+    requires fits { length builder.old.states < 2147483647 }
     ensures starts { IfOk result (StartsAll builder.old builder.new starts.now) }
+    ensures count { OnOk result (length builder.new.states ≤ length builder.old.states + 1) }
     ensures inside { IfOk result (λ start. start < length builder.new.states) }
 {
     if let [only] = starts {

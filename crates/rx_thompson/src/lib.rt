@@ -14,7 +14,7 @@ mod sparse;
 mod state;
 
 pub use class::the_states_read_the_class;
-pub use compiler::{Compiler, Config};
+pub use compiler::{Compiler, Config, WhichCaptures};
 pub use error::BuildError;
 pub use nfa::NFA;
 pub use sparse::matches_byte;

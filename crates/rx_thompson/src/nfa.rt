@@ -1,58 +1,57 @@
-ghost use Rattle.std.specs.Prelude.{◌≡◌, ◌<◌, length, slice_get};
+ghost use Rattle.std.specs.Prelude.{◌≡◌, ◌*◌, ◌<◌, length, slice_get, IfOk, false};
 ghost use Rattle.rx_thompson.specs.Automaton.{state_at};
+ghost use Rattle.rx_thompson.specs.Inner.{nfa_of};
 ghost use Rattle.rx_thompson.specs.Nfa.{IsInRange};
 
+pub(crate) mod inner;
+
 use crate::State;
-use rx_search::{PatternID, StateID};
+use inner::Inner;
+use rx_search::{Memory, PatternID, StateID};
+use std::alloc::Global;
 use std::marker::Model;
+use std::sync::Arc;
+
+/// The bytes that are accounted for a state.
+const STATE_SIZE: usize = 32;
 
 /// An automaton that reads bytes: its states, where the runs of its patterns start, and how many
-/// slots a match has. Every state, pattern and slot that is named is there.
+/// slots a match has. Every state, pattern and slot that is named is there. Clones share their states.
 #[derive(Drop)]
 pub struct NFA {
-    states: Vec<State>,
-    start_anchored: StateID,
-    starts: Vec<StateID>,
-    slot_len: usize,
+    inner: Arc<Inner, Global>,
 }
 
 impl Model for NFA {
+    ghost use Rattle.std.specs.Arc.{arc_value};
+    ghost use Rattle.rx_thompson.specs.Inner.{nfa_of};
     ghost use Rattle.rx_thompson.specs.Nfa.{Nfa, IsInRange};
 
     ghost Value = { Nfa };
 
-    ghost view = { λ n. record {
-      states = n.states.items;
-      start_anchored = n.start_anchored;
-      starts = n.starts.items;
-      slots = n.slot_len;
-    } };
+    ghost view = { λ n. nfa_of (arc_value n.inner) };
 
-    ghost invariant = { λ n. IsInRange (record {
-      states = n.states.items;
-      start_anchored = n.start_anchored;
-      starts = n.starts.items;
-      slots = n.slot_len;
-    }) };
+    ghost invariant = { λ n. IsInRange (nfa_of (arc_value n.inner)) };
 }
 
 impl NFA {
     /// The NFA of these parts, which must fit together.
-    pub(crate) fn new(
-        states: Vec<State>,
-        start_anchored: StateID,
-        starts: Vec<StateID>,
-        slot_len: usize,
-    ) -> NFA
-        requires { IsInRange (record { states = states.items; start_anchored = start_anchored; starts = starts.items; slots = slot_len }) }
-        ensures { result ≡ record { states = states.items; start_anchored = start_anchored; starts = starts.items; slots = slot_len } }
+    pub(crate) fn new(alloc: Global, inner: Inner) -> Result<NFA, Memory>
+        requires { IsInRange (nfa_of inner) }
+        ensures { IfOk result (λ nfa. nfa ≡ nfa_of inner) }
     {
-        NFA {
-            states,
-            start_anchored,
-            starts,
-            slot_len,
-        }
+        Ok(NFA {
+            inner: Arc::new(alloc, inner)?,
+        })
+    }
+
+    /// The same NFA. It shares the states.
+    pub fn clone(&self) -> Result<NFA, Memory>
+        ensures { IfOk result (λ nfa. nfa ≡ self.now) }
+    {
+        Ok(NFA {
+            inner: Arc::try_clone(&self.inner)?,
+        })
     }
 
     /// Where the runs of all the patterns start. The first pattern is preferred.
@@ -60,7 +59,7 @@ impl NFA {
         ensures value { result ≡ self.now.start_anchored }
         ensures in_range { IsInRange self.now }
     {
-        self.start_anchored
+        self.inner.start_anchored
     }
 
     /// Where the runs of this pattern start; None exactly where there is no such pattern.
@@ -68,7 +67,7 @@ impl NFA {
         ensures value { result ≡ slice_get self.now.starts pattern }
         ensures in_range { IsInRange self.now }
     {
-        self.starts.get(pattern.as_usize()).copied()
+        self.inner.starts.get(pattern.as_usize()).copied()
     }
 
     /// Where the runs of each pattern start.
@@ -76,7 +75,7 @@ impl NFA {
         ensures value { result.now ≡ self.now.starts }
         ensures in_range { IsInRange self.now }
     {
-        &self.starts
+        &self.inner.starts
     }
 
     /// The state of this number, which is below `states_len`.
@@ -85,7 +84,7 @@ impl NFA {
         ensures value { result.now ≡ state_at self.now.states id }
         ensures in_range { IsInRange self.now }
     {
-        &self.states[id.as_usize()]
+        &self.inner.states[id.as_usize()]
     }
 
     /// All the states, by their numbers.
@@ -93,7 +92,7 @@ impl NFA {
         ensures value { result.now ≡ self.now.states }
         ensures in_range { IsInRange self.now }
     {
-        &self.states
+        &self.inner.states
     }
 
     /// How many states there are.
@@ -101,7 +100,7 @@ impl NFA {
         ensures value { result ≡ length self.now.states }
         ensures in_range { IsInRange self.now }
     {
-        self.states.len()
+        self.inner.states.len()
     }
 
     /// How many patterns there are.
@@ -109,7 +108,7 @@ impl NFA {
         ensures value { result ≡ length self.now.starts }
         ensures in_range { IsInRange self.now }
     {
-        self.starts.len()
+        self.inner.starts.len()
     }
 
     /// How many slots a match has: two for each pattern, and two for each group that a pattern names.
@@ -117,6 +116,43 @@ impl NFA {
         ensures value { result ≡ self.now.slots }
         ensures in_range { IsInRange self.now }
     {
-        self.slot_len
+        self.inner.slot_len
+    }
+
+    /// Whether no match is to start inside an encoded character, as it was configured.
+    pub fn is_utf8(&self) -> bool
+        ensures value { result ≡ self.now.utf8 }
+    {
+        self.inner.utf8
+    }
+
+    /// Whether one of the patterns can match the empty string.
+    pub fn has_empty(&self) -> bool
+        ensures value { result ≡ self.now.has_empty }
+    {
+        self.inner.has_empty
+    }
+
+    /// Whether each match starts where the text starts: never, since no expression can ask for that yet.
+    pub fn is_always_start_anchored(&self) -> bool
+        ensures { result ≡ false }
+    {
+        false
+    }
+
+    /// How many states were accounted for the patterns before the NFA was built. The longest haystack of the
+    /// backtracker and the sizes of caches are computed from it, so that they are the same on every machine.
+    pub fn accounted_states(&self) -> usize
+        ensures value { result ≡ self.now.accounted }
+        ensures in_range { IsInRange self.now }
+    {
+        self.inner.accounted_states
+    }
+
+    /// The bytes that are accounted for the NFA: 32 for each accounted state.
+    pub fn memory_usage(&self) -> usize
+        ensures { result ≡ 32 * self.now.accounted }
+    {
+        STATE_SIZE * self.inner.accounted_states
     }
 }

@@ -1,9 +1,9 @@
 ghost use Rattle.std.specs.Prelude.{◌≡◌, vec_len, ℕ, ◌+◌, ◌^◌, ◌<◌, ◌≤◌, [], length, All, is_some, Some, None, IfOk, OnOk, OnErr, IfSome, IfNone, option_map, replicate, nat_lt, slice_index_or, if◌then◌else◌};
 ghost use Rattle.rx_model.specs.Search.{slot_value};
-ghost use Rattle.rx_engines.specs.Search.{IsInside, next_of, triple};
+ghost use Rattle.rx_engines.specs.Search.{IsInside, next_of, answer_of, triple};
 ghost use Rattle.rx_engines.specs.Simulation.{cost, cost_below};
 ghost use Rattle.rx_engines.specs.Room.{Room, room_code};
-ghost use Rattle.rx_engines.specs.Engine.{Fits};
+ghost use Rattle.rx_engines.specs.Engine.{Fits, accounted_memory};
 
 use crate::pikevm::search::Search;
 use crate::pikevm::set::SparseSet;
@@ -14,9 +14,12 @@ use crate::pikevm::threads::Threads;
 use crate::pikevm::vm::PikeVM;
 use crate::slots::Slot;
 use rx_search::{Memory, NonMaxUsize, PatternID};
-use rx_thompson::State;
+use rx_thompson::{NFA, State};
 use std::alloc::Global;
 use std::marker::Model;
+
+/// The bytes that are accounted for a slot.
+const SLOT_SIZE: usize = 16;
 
 /// What a search writes to. It is made once for an automaton, and a search takes no memory.
 #[derive(Drop)]
@@ -26,9 +29,10 @@ pub struct Cache {
     stack: Stack,
     scratch: Vec<Slot>,
     best: Vec<Slot>,
+    memory: usize,
 }
 
-/// For how many states, frames and slots it has room.
+/// For how many states, frames and slots it has room, and what is accounted for it.
 impl Model for Cache {
     ghost Value = { Room };
 
@@ -38,6 +42,7 @@ impl Model for Cache {
       states = c.curr.set.room;
       stack = c.stack.room;
       widest = vec_len c.best;
+      memory = c.memory;
     } };
 
     ghost invariant = { λ c. (c.next.set.room ≡ c.curr.set.room)
@@ -52,27 +57,43 @@ impl Model for Cache {
 impl Cache {
     /// A cache that serves this engine.
     pub fn new(alloc: Global, vm: &PikeVM) -> Result<Cache, Memory>
-        ensures { IfOk result (Fits vm.now) }
+        ensures fits { IfOk result (Fits vm.now) }
+        ensures memory { IfOk result (λ c. c.memory ≡ accounted_memory vm.now.nfa) }
     {
         let nfa = vm.get_nfa();
-        Cache::with_room(alloc, nfa.states(), nfa.slot_len())
+        Cache::with_room(alloc, nfa.states(), nfa.slot_len(), memory_of(nfa))
     }
 
     /// Makes the cache one that serves this engine. Where there is no memory, it stays as it was.
     pub fn reset(&mut self, alloc: Global, vm: &PikeVM) -> Result<(), Memory>
-        ensures ok { OnOk result (Fits vm.now self.new) }
+        ensures fits { OnOk result (Fits vm.now self.new) }
+        ensures memory { OnOk result (self.new.memory ≡ accounted_memory vm.now.nfa) }
         ensures err { OnErr result (self.new ≡ self.old) }
     {
         *self = Cache::new(alloc, vm)?;
         Ok(())
     }
 
-    /// Room for searches of the states with up to `widest` slots.
-    pub(crate) fn with_room(alloc: Global, states: &[State], widest: usize) -> Result<Cache, Memory>
+    /// The bytes that are accounted for the cache: 16 for each slot of each accounted state, or the greatest
+    /// `usize` where they are more. The number is fixed when the cache is made or reset.
+    pub fn memory_usage(&self) -> usize
+        ensures { result ≡ self.now.memory }
+    {
+        self.memory
+    }
+
+    /// Room for searches of the states with up to `widest` slots, for which so much is accounted.
+    pub(crate) fn with_room(
+        alloc: Global,
+        states: &[State],
+        widest: usize,
+        memory: usize,
+    ) -> Result<Cache, Memory>
         requires { length states.now < 2 ^ 32 }
         ensures states { IfOk result (λ c. c.states ≡ length states.now) }
         ensures stack { IfOk result (λ c. cost_below states.now (length states.now) < c.stack) }
         ensures widest { IfOk result (λ c. c.widest ≡ widest) }
+        ensures memory { IfOk result (λ c. c.memory ≡ memory) }
     {
         let n = states.len();
         let room = stack_room(states)?;
@@ -94,23 +115,26 @@ impl Cache {
             stack,
             scratch,
             best,
+            memory,
         })
     }
 
     /// The pattern, the start and the end of the next match that starts at `from` or after it. The slots get what
-    /// it leaves in them.
+    /// it leaves in them. With `earliest` the search stops at the first place by which a match ends.
     pub(crate) fn find(
         &mut self,
         search: &Search<'_>,
         from: usize,
+        earliest: bool,
         slots: &mut [Option<NonMaxUsize>],
     ) -> Option<(PatternID, usize, usize)>
         requires search { IsInside search.now }
         requires from { from ≤ search.now.last }
         requires room { (self.old.states ≡ length search.now.states.now)
             × (cost_below search.now.states.now (length search.now.states.now) < self.old.stack) }
-        ensures value { result ≡ option_map triple (next_of search.now from) }
-        ensures slots { IfSome (next_of search.now from) (λ m. (k : ℕ) → k < length slots.new
+        ensures value { result ≡ option_map triple (answer_of search.now earliest from) }
+        ensures any { is_some result ≡ is_some (next_of search.now from) }
+        ensures slots { IfSome (answer_of search.now earliest from) (λ m. (k : ℕ) → k < length slots.new
             → slice_index_or slots.new k None
             ≡ (if nat_lt k self.old.widest then slot_value m k else None)) }
         ensures cleared { IfNone result (slots.new ≡ replicate (length slots.old) None) }
@@ -123,7 +147,7 @@ impl Cache {
         simulate_slots(
             search,
             from,
-            false,
+            earliest,
             width,
             &mut self.curr,
             &mut self.next,
@@ -160,6 +184,13 @@ impl Cache {
         )
         .is_some()
     }
+}
+
+/// What is accounted for a cache of this NFA.
+fn memory_of(nfa: &NFA) -> usize
+    ensures { result ≡ accounted_memory nfa.now }
+{
+    (SLOT_SIZE * nfa.accounted_states()).saturating_mul(nfa.slot_len())
 }
 
 /// A room for the frames of one closure of the states.

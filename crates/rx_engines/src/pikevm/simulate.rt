@@ -1,6 +1,6 @@
-ghost use Rattle.std.specs.Prelude.{◌≡◌, ℕ, ◌+◌, ◌<◌, ◌≤◌, List, [], length, take, All, Bool, false, is_some, Option, Some, None, IfSome, IfNone, option_map, replicate, slice_index_or};
+ghost use Rattle.std.specs.Prelude.{◌≡◌, ℕ, ◌+◌, ◌<◌, ◌≤◌, List, [], length, take, All, Bool, ◌&&◌, is_some, Option, Some, None, IfSome, IfNone, option_map, replicate, slice_index_or};
 ghost use Rattle.rx_engines.specs.Simulation.{cost_below, best_hit, hit_of};
-ghost use Rattle.rx_engines.specs.Search.{IsInside, next_of};
+ghost use Rattle.rx_engines.specs.Search.{IsInside, next_of, answer_of};
 
 use crate::pikevm::search::Search;
 use crate::pikevm::seed::seed;
@@ -12,7 +12,8 @@ use rx_search::{NonMaxUsize, PatternID};
 use std::mem;
 
 /// The search for a match that starts at `from` or after it, with so many slots to a thread. `slots`
-/// gets those of the match, as far as they go. With `earliest` it stops at any match.
+/// gets those of the match, as far as they go. With `earliest` it stops at the first
+/// place by which a match ends.
 pub fn simulate_slots(
     search: &Search<'_>,
     from: usize,
@@ -37,10 +38,9 @@ pub fn simulate_slots(
         × (next.old.table.widest ≡ curr.old.table.widest) }
     requires empty { stack.old.items ≡ [] }
     requires stack { cost_below search.now.states.now (length search.now.states.now) < stack.old.room }
-    ensures found { earliest ≡ false → best_hit result (take width best.new)
-        ≡ option_map (hit_of width) (next_of search.now from) }
-    ensures any { is_some result ≡ is_some
-        (next_of search.now from) }
+    ensures found { best_hit result (take width best.new)
+        ≡ option_map (hit_of width) (answer_of search.now earliest from) }
+    ensures any { is_some result ≡ is_some (next_of search.now from) }
     ensures cleared { IfNone result (take width best.new ≡ replicate width None) }
     ensures reported { (k : ℕ) → k < length slots.new
         → slice_index_or slots.new k None ≡ slice_index_or (take width best.new) k None }
@@ -67,8 +67,8 @@ pub fn simulate_slots(
     found
 }
 
-/// The search for a match that starts at `from` or after it. `slots` gets its slots. With `earliest` it
-/// stops at any match.
+/// The search for a match that starts at `from` or after it. `slots` gets its slots. With `earliest`
+/// it stops at the first place by which a match ends.
 fn simulate(
     search: &Search<'_>,
     from: usize,
@@ -91,10 +91,9 @@ fn simulate(
         × (next.old.table.widest ≡ curr.old.table.widest) }
     requires empty { stack.old.items ≡ [] }
     requires stack { cost_below search.now.states.now (length search.now.states.now) < stack.old.room }
-    ensures found { earliest ≡ false → best_hit result slots.new
-        ≡ option_map (hit_of (length slots.old)) (next_of search.now from) }
-    ensures any { is_some result ≡ is_some
-        (next_of search.now from) }
+    ensures found { best_hit result slots.new
+        ≡ option_map (hit_of (length slots.old)) (answer_of search.now earliest from) }
+    ensures any { is_some result ≡ is_some (next_of search.now from) }
     ensures cleared { IfNone result (slots.new ≡ replicate (length slots.old) None) }
     ensures set { (curr.new.set.room ≡ length search.now.states.now)
         × (next.new.set.room ≡ length search.now.states.now) }
@@ -120,12 +119,19 @@ fn simulate(
         next.set.clear();
         let found = step(search, place, curr, next, stack, row, slots);
         best = better(best, found, place);
-        if earliest && best.is_some() {
+        if is_enough(earliest, &best) {
             return best;
         }
         mem::swap(curr, next);
     }
     best
+}
+
+/// Whether the search may stop at the first match that was found, and there is one.
+fn is_enough(earliest: bool, best: &Option<(PatternID, usize, usize)>) -> bool
+    ensures { result ≡ (earliest && is_some best.now) }
+{
+    earliest && best.is_some()
 }
 
 /// A match that ends at the place comes before the best one so far.

@@ -1,8 +1,9 @@
 ghost use Rattle.std.specs.Prelude.{◌≡◌, ℕ, ◌+◌, ◌<◌, ◌≤◌, List, [], length, All, Option, IfNone};
 ghost use Rattle.rx_model.specs.Runs.{Passed, nowhere};
 ghost use Rattle.std.specs.Option.{option_or};
-ghost use Rattle.rx_engines.specs.Simulation.{cost_below, Hit, among, IsStable, Stepped, byte_at, act_of, read_of};
-ghost use Rattle.rx_engines.specs.Search.{IsInside, graph_for};
+ghost use Rattle.rx_thompson.specs.Automaton.{automaton};
+ghost use Rattle.rx_engines.specs.Simulation.{cost_below, Hit, among, accepted_hit, IsStable, Stepped, byte_at, act_of, read_of};
+ghost use Rattle.rx_engines.specs.Search.{IsInside};
 
 use crate::pikevm::close::close;
 use crate::pikevm::search::Search;
@@ -59,7 +60,7 @@ fn byte_before(text: &[u8], end: usize, place: usize) -> Option<u8>
 }
 
 /// Moves the threads over the byte at the place, up to the first one that accepts: its pattern and start,
-/// and `best` gets its slots.
+/// and `best` gets its slots. What it leaves is right for each end of the search before which that byte stands.
 pub fn step(
     search: &Search<'_>,
     place: usize,
@@ -79,12 +80,16 @@ pub fn step(
     requires empty { stack.old.items ≡ [] }
     requires stack { cost_below search.now.states.now (length search.now.states.now) < stack.old.room }
     requires none { next.old.set.items ≡ [] }
-    ensures stepped { (later : Passed → Option Hit) (goal : Option Hit)
-        → IsStable (graph_for search.now) later
-        → option_or (among search.now.states.now (graph_for search.now) nowhere place
+    ensures stepped { (end : ℕ) (later : Passed → Option Hit) (goal : Option Hit)
+        → place ≤ end
+        → byte_at search.now.text.now end place ≡ byte_at search.now.text.now search.now.end place
+        → IsStable (automaton search.now.states.now search.now.text.now end) later
+        → option_or (among search.now.states.now (automaton search.now.states.now search.now.text.now end) nowhere place
         curr.now.table.items curr.now.set.items) (later nowhere) ≡ goal
-        → Stepped result search.now.states.now (graph_for search.now) place later
+        → Stepped result search.now.states.now (automaton search.now.states.now search.now.text.now end) place later
         next.new.set.items next.new.table.items best.new goal }
+    ensures accepted { among search.now.states.now (automaton search.now.states.now search.now.text.now place) nowhere place
+        curr.now.table.items curr.now.set.items ≡ accepted_hit result place best.new }
     ensures kept { IfNone result (best.new ≡ best.old) }
     ensures set { next.new.set.room ≡ next.old.set.room }
     ensures table { length next.new.table.items ≡ length next.old.table.items }

@@ -3,8 +3,10 @@ ghost use Rattle.rx_thompson.specs.Automaton.{NamesBelow};
 
 use crate::pikevm::cache::Cache;
 use crate::pikevm::search::Search;
-use rx_search::{Memory, NonMaxUsize, PatternID, StateID};
-use rx_thompson::{Alternates, State, Transition, Transitions};
+use crate::pikevm::vm::PikeVM;
+use rx_search::{Anchored, Input, MatchKind, Memory, NonMaxUsize, PatternID, StateID};
+use rx_syntax::parse;
+use rx_thompson::{Alternates, Compiler, State, Transition, Transitions};
 use std::alloc::Global;
 use std::process::Abort;
 use std::test::Fail;
@@ -102,13 +104,14 @@ fn find(
     text: &[u8],
     anchored: bool,
     from: usize,
+    earliest: bool,
     slots: &mut [Option<NonMaxUsize>],
 ) -> Result<Option<(PatternID, usize, usize)>, Memory> {
     assert!(rt; states.len() < 100);
     assert!(rt; all_below(states));
     assert!(rt; starts_below(starts, states.len()));
     assert!(rt; from <= text.len());
-    let mut cache = Cache::with_room(alloc, states, 4)?;
+    let mut cache = Cache::with_room(alloc, states, 4, 0)?;
     let search = Search {
         states,
         starts,
@@ -117,7 +120,7 @@ fn find(
         last: if anchored { from } else { text.len() },
         end: text.len(),
     };
-    Ok(cache.find(&search, from, slots))
+    Ok(cache.find(&search, from, earliest, slots))
 }
 
 #[test]
@@ -135,12 +138,12 @@ fn the_first_alternative_is_preferred(rt: HostRuntime) -> Result<(), Fail> {
     ]?;
     let starts = [id(&rt, 0)];
     let mut slots = [None; 3];
-    let found = find(&rt, alloc, &states, &starts, b"ab", false, 0, &mut slots)?;
+    let found = find(&rt, alloc, &states, &starts, b"ab", false, 0, false, &mut slots)?;
     assert!(rt; found == Some((pattern(&rt, 0), 0, 1)));
     assert_eq!(rt; place(slots[0]), Some(0));
     assert_eq!(rt; place(slots[1]), Some(1));
     assert_eq!(rt; place(slots[2]), None);
-    let found = find(&rt, alloc, &states, &starts, b"ab", false, 1, &mut slots)?;
+    let found = find(&rt, alloc, &states, &starts, b"ab", false, 1, false, &mut slots)?;
     assert!(rt; found == None);
     assert_eq!(rt; place(slots[0]), None);
     Ok(())
@@ -171,14 +174,14 @@ fn the_first_pattern_is_preferred(rt: HostRuntime) -> Result<(), Fail> {
     ]?;
     let starts = [id(&rt, 8), id(&rt, 0), id(&rt, 4)];
     let mut slots = [None; 4];
-    let found = find(&rt, alloc, &states, &starts, b"xab", false, 0, &mut slots)?;
+    let found = find(&rt, alloc, &states, &starts, b"xab", false, 0, false, &mut slots)?;
     assert!(rt; found == Some((pattern(&rt, 1), 1, 2)));
     assert_eq!(rt; place(slots[0]), None);
     assert_eq!(rt; place(slots[2]), Some(1));
     assert_eq!(rt; place(slots[3]), Some(2));
-    let found = find(&rt, alloc, &states, &starts, b"xab", true, 0, &mut slots)?;
+    let found = find(&rt, alloc, &states, &starts, b"xab", true, 0, false, &mut slots)?;
     assert!(rt; found == None);
-    let found = find(&rt, alloc, &states, &starts, b"xab", true, 2, &mut slots)?;
+    let found = find(&rt, alloc, &states, &starts, b"xab", true, 2, false, &mut slots)?;
     assert!(rt; found == Some((pattern(&rt, 0), 2, 3)));
     assert_eq!(rt; place(slots[0]), Some(2));
     assert_eq!(rt; place(slots[2]), None);
@@ -199,8 +202,128 @@ fn no_match_starts_inside_a_character(rt: HostRuntime) -> Result<(), Fail> {
         "é".as_bytes(),
         false,
         1,
+        false,
         &mut [],
     )?;
     assert!(rt; found == Some((pattern(&rt, 0), 2, 2)));
+    Ok(())
+}
+
+#[test]
+fn earliest_stops_at_the_first_end_of_the_threads(rt: HostRuntime) -> Result<(), Fail> {
+    // `a+`
+    let alloc = rt.alloc();
+    let states = vec![in alloc;
+        slot(&rt, 0, 0, 1),
+        byte(&rt, b'a', 2),
+        union(&rt, alloc, 1, 3)?,
+        slot(&rt, 1, 0, 4),
+        accept(&rt, 0),
+    ]?;
+    let starts = [id(&rt, 0)];
+    let mut slots = [None; 2];
+    let found = find(&rt, alloc, &states, &starts, b"aaa", false, 0, true, &mut slots)?;
+    assert!(rt; found == Some((pattern(&rt, 0), 0, 1)));
+    assert_eq!(rt; place(slots[1]), Some(1));
+    let found = find(&rt, alloc, &states, &starts, b"aaa", false, 0, false, &mut slots)?;
+    assert!(rt; found == Some((pattern(&rt, 0), 0, 3)));
+    assert_eq!(rt; place(slots[1]), Some(3));
+    let found = find(&rt, alloc, &states, &starts, b"xyz", false, 0, true, &mut slots)?;
+    assert!(rt; found == None);
+    assert_eq!(rt; place(slots[1]), None);
+    Ok(())
+}
+
+/// The engine of the patterns.
+fn engine(
+    rt: &impl Abort,
+    alloc: Global,
+    patterns: &[&str],
+    kind: MatchKind,
+) -> Result<PikeVM, Fail> {
+    let mut expressions = Vec::new(alloc);
+    for pattern in patterns {
+        expressions.push(parse(alloc, pattern).ok().expect(rt, "a pattern"))?;
+    }
+    let nfa = Compiler::new().build_many_from_hir(alloc, &expressions);
+    Ok(PikeVM::build_from_nfa(nfa.ok().expect(rt, "an NFA"), kind))
+}
+
+#[test]
+fn earliest_ends_where_a_match_ends_first(rt: HostRuntime) -> Result<(), Fail> {
+    let alloc = rt.alloc();
+    // the second pattern starts later and ends first
+    let cases = [("a+", "xaaa", (0, 1, 4), (0, 1, 2)), ("abcd|c", "abcd", (0, 0, 4), (0, 2, 3))];
+    for (text, haystack, late, early) in cases {
+        let vm = engine(&rt, alloc, &[text], MatchKind::LeftmostFirst)?;
+        let mut cache = vm.create_cache(alloc)?;
+        for (earliest, want) in [(false, late), (true, early)] {
+            let input = Input::new(haystack.as_bytes()).earliest(earliest);
+            let found = vm.find(&mut cache, &input).expect(&rt, "a match");
+            assert_eq!(rt; (found.pattern().as_usize(), found.start(), found.end()), want);
+        }
+    }
+    Ok(())
+}
+
+#[test]
+fn is_match_under_each_kind_and_anchor(rt: HostRuntime) -> Result<(), Fail> {
+    let alloc = rt.alloc();
+    let cases = [
+        (Anchored::No, true),
+        (Anchored::Yes, true),
+        (Anchored::Pattern(pattern(&rt, 0)), true),
+        (Anchored::Pattern(pattern(&rt, 1)), false),
+        (Anchored::Pattern(pattern(&rt, 2)), false),
+    ];
+    for kind in [MatchKind::All, MatchKind::LeftmostFirst] {
+        let vm = engine(&rt, alloc, &["a", "b"], kind)?;
+        let mut cache = vm.create_cache(alloc)?;
+        for (anchored, want) in cases {
+            for earliest in [false, true] {
+                let input = Input::new(b"ab").anchored(anchored).earliest(earliest);
+                assert_eq!(rt; vm.is_match(&mut cache, &input), want);
+                assert_eq!(rt; vm.find(&mut cache, &input).is_some(), want);
+            }
+        }
+        assert_eq!(rt; vm.is_match(&mut cache, &Input::new(b"xyz")), false);
+    }
+    Ok(())
+}
+
+#[test]
+fn each_number_of_slots(rt: HostRuntime) -> Result<(), Fail> {
+    let alloc = rt.alloc();
+    let vm = engine(&rt, alloc, &["(a)b"], MatchKind::LeftmostFirst)?;
+    let mut cache = vm.create_cache(alloc)?;
+    let want = [Some(1), Some(3), Some(1), Some(2), None, None];
+    for n in [0usize, 1, 2, 3, 6] {
+        let none = None;
+        let mut slots = vec![in alloc; none; n]?;
+        let found = vm.search_slots(&mut cache, &Input::new(b"xab"), &mut slots);
+        assert!(rt; found == Some(pattern(&rt, 0)));
+        for (slot, place_wanted) in slots.iter().zip(want) {
+            assert_eq!(rt; place(*slot), place_wanted);
+        }
+        let found = vm.search_slots(&mut cache, &Input::new(b"xyz"), &mut slots);
+        assert!(rt; found == None);
+        assert!(rt; slots.iter().all(|slot| slot.is_none()));
+    }
+    Ok(())
+}
+
+#[test]
+fn memory_is_fixed_when_a_cache_is_made(rt: HostRuntime) -> Result<(), Fail> {
+    let alloc = rt.alloc();
+    // 4 states, 2 and 3 of the pattern, with 2 slots; and 4, 4 and 3, with 4 slots.
+    let small = engine(&rt, alloc, &["ab"], MatchKind::LeftmostFirst)?;
+    let great = engine(&rt, alloc, &["(a)b"], MatchKind::All)?;
+    let mut cache = small.create_cache(alloc)?;
+    assert_eq!(rt; cache.memory_usage(), 16 * 9 * 2);
+    assert!(rt; small.is_match(&mut cache, &Input::new(b"ab")));
+    assert_eq!(rt; cache.memory_usage(), 16 * 9 * 2);
+    cache.reset(alloc, &great)?;
+    assert_eq!(rt; cache.memory_usage(), 16 * 11 * 4);
+    assert!(rt; great.is_match(&mut cache, &Input::new(b"ab")));
     Ok(())
 }

@@ -1,15 +1,16 @@
-ghost use Rattle.std.specs.Prelude.{◌≡◌, ◌≤◌, true, length, None, replicate, is_some, IfOk, IfNone, IfSome, option_map};
-ghost use Rattle.rx_model.specs.Search.{Patterns};
+ghost use Rattle.std.specs.Prelude.{◌≡◌, ◌≤◌, length, None, replicate, is_some, IfOk, IfNone, IfSome, option_map};
+ghost use Rattle.rx_model.specs.Search.{Patterns, told_of};
 ghost use Rattle.rx_search.specs.Anchored.{anchor_of};
 ghost use Rattle.rx_search.specs.Matches.{match_value};
 ghost use Rattle.rx_thompson.specs.Nfa.{IsInRange};
 ghost use Rattle.rx_thompson.specs.NextMatch.{start_of};
-ghost use Rattle.rx_engines.specs.Engine.{PikeVMValue, next_match_in, next_match_for, last_start, IsOf, HasSlots, Fits};
+ghost use Rattle.rx_engines.specs.Engine.{PikeVMValue, next_match_in, next_match_for, answer_in, last_start, IsOf, IsMatchWith, IsSearchOf, HasSlots, Fits, accounted_memory};
+ghost use Rattle.rx_search.specs.declared.anchored.MatchKind.TheVariants.{LeftmostFirst};
 
 use crate::pikevm::cache::Cache;
 use crate::pikevm::search::Search;
 use crate::slots::empty;
-use rx_search::{Anchored, Input, Match, Memory, NonMaxUsize, PatternID, Span, StateID};
+use rx_search::{Anchored, Input, Match, MatchKind, Memory, NonMaxUsize, PatternID, Span, StateID};
 use rx_thompson::NFA;
 use std::alloc::Global;
 use std::marker::Model;
@@ -21,7 +22,7 @@ use std::marker::Model;
 #[derive(Drop)]
 pub struct PikeVM {
     nfa: NFA,
-    utf8_empty: bool,
+    kind: MatchKind,
 }
 
 impl Model for PikeVM {
@@ -29,26 +30,16 @@ impl Model for PikeVM {
 
     ghost Value = { PikeVMValue };
 
-    ghost view = { λ v. record { nfa = v.nfa; utf8_empty = v.utf8_empty } };
+    ghost view = { λ v. record { nfa = v.nfa; kind = v.kind } };
 }
 
 impl PikeVM {
-    /// The engine of this NFA. Its matches start at no place inside an encoded character.
-    pub fn build_from_nfa(nfa: NFA) -> PikeVM
-        ensures { result ≡ record { nfa = nfa; utf8_empty = true } }
+    /// The engine of this NFA, which reports matches of this kind. Whether they may start inside an encoded
+    /// character is the NFA's to say.
+    pub fn build_from_nfa(nfa: NFA, kind: MatchKind) -> PikeVM
+        ensures { result ≡ record { nfa = nfa; kind = kind } }
     {
-        PikeVM {
-            nfa,
-            utf8_empty: true,
-        }
-    }
-
-    /// The same engine. Unless `yes`, its matches may also start inside an encoded character.
-    pub fn utf8_empty(mut self, yes: bool) -> PikeVM
-        ensures { result ≡ record self { utf8_empty = yes } }
-    {
-        self.utf8_empty = yes;
-        self
+        PikeVM { nfa, kind }
     }
 
     /// The NFA.
@@ -60,52 +51,51 @@ impl PikeVM {
 
     /// A cache that serves this engine.
     pub fn create_cache(&self, alloc: Global) -> Result<Cache, Memory>
-        ensures { IfOk result (Fits self.now) }
+        ensures fits { IfOk result (Fits self.now) }
+        ensures memory { IfOk result (λ c. c.memory ≡ accounted_memory self.now.nfa) }
     {
         Cache::new(alloc, self)
     }
 
-    /// Whether there is a match in the input's span. It stops as soon as it knows.
+    /// Whether there is a match in the input's span, under each kind of match. It stops as soon as it knows.
     pub fn is_match(&self, cache: &mut Cache, input: &Input<'_>) -> bool
         requires { Fits self.now cache.old }
         ensures value { result ≡ is_some (next_match_in self.now input.now) }
         ensures patterns { (r : Patterns) → IsOf self.now r
-            → next_match_in self.now input.now ≡ next_match_for r input.now }
+            → next_match_in self.now input.now ≡ option_map (told_of r.which_captures) (next_match_for r input.now) }
         ensures cache { cache.new ≡ cache.old }
     {
-        let haystack = input.haystack();
-        let anchored = input.get_anchored();
-        let Some(start) = self.start(anchored) else {
+        let from = input.start();
+        let Some(start) = self.start(input.get_anchored()) else {
             return false;
         };
         if input.is_done() {
             return false;
         }
-        let search = Search {
-            states: self.nfa.states(),
-            starts: &[start],
-            text: haystack,
-            utf8_empty: self.utf8_empty,
-            last: latest_start(input),
-            end: input.end(),
-        };
-        cache.is_match(&search, input.start())
+        let starts = [start];
+        let search = self.search_for(input, &starts);
+        cache.is_match(&search, from)
     }
 
-    /// The next match in the input's span.
+    /// The next match in the input's span. With `earliest` the search stops at the first place by which a match
+    /// ends, and answers the next match up to there. Under `All` it answers some match, and which one is not promised.
     pub fn find(&self, cache: &mut Cache, input: &Input<'_>) -> Option<Match>
         requires { Fits self.now cache.old }
-        ensures value { result ≡ option_map match_value (next_match_in self.now input.now) }
+        ensures value { self.now.kind ≡ LeftmostFirst
+            → result ≡ option_map match_value (answer_in self.now input.now) }
+        ensures any { is_some result ≡ is_some (next_match_in self.now input.now) }
         ensures patterns { (r : Patterns) → IsOf self.now r
-            → next_match_in self.now input.now ≡ next_match_for r input.now }
+            → next_match_in self.now input.now ≡ option_map (told_of r.which_captures) (next_match_for r input.now) }
+        ensures is_match { (r : Patterns) → IsOf self.now r
+            → IfSome result (λ found. IsMatchWith r input.now (λ m. found ≡ match_value m)) }
         ensures within { IfSome result (λ m. (input.now.start ≤ m.start) × (m.end ≤ input.now.end)) }
         ensures cache { cache.new ≡ cache.old }
     {
         self.find_slots(cache, input, &mut [])
     }
 
-    /// The pattern of the next match in the input's span. Each slot gets the place that the match leaves in it,
-    /// and None where there is no match.
+    /// The pattern of the match that `find` answers. Each slot gets the place that the match leaves in it, and None
+    /// where there is no match or no such slot.
     pub fn search_slots(
         &self,
         cache: &mut Cache,
@@ -113,10 +103,15 @@ impl PikeVM {
         slots: &mut [Option<NonMaxUsize>],
     ) -> Option<PatternID>
         requires { Fits self.now cache.old }
-        ensures value { result ≡ option_map (λ m. m.trace.pattern) (next_match_in self.now input.now) }
+        ensures value { self.now.kind ≡ LeftmostFirst
+            → result ≡ option_map (λ m. m.trace.pattern) (answer_in self.now input.now) }
+        ensures any { is_some result ≡ is_some (next_match_in self.now input.now) }
         ensures patterns { (r : Patterns) → IsOf self.now r
-            → next_match_in self.now input.now ≡ next_match_for r input.now }
-        ensures slots { IfSome (next_match_in self.now input.now) (HasSlots slots.new) }
+            → next_match_in self.now input.now ≡ option_map (told_of r.which_captures) (next_match_for r input.now) }
+        ensures is_match { (r : Patterns) → IsOf self.now r
+            → IfSome result (λ p. IsMatchWith r input.now (λ m. (p ≡ m.trace.pattern) × HasSlots slots.new m)) }
+        ensures slots { self.now.kind ≡ LeftmostFirst
+            → IfSome (answer_in self.now input.now) (HasSlots slots.new) }
         ensures none { IfNone result (slots.new ≡ replicate (length slots.old) None) }
         ensures cache { cache.new ≡ cache.old }
     {
@@ -126,8 +121,7 @@ impl PikeVM {
         }
     }
 
-    /// As `search_slots`, with the whole match. Each slot gets the place that the match leaves in it, and None where
-    /// there is no match.
+    /// As `search_slots`, with the whole match.
     pub fn find_slots(
         &self,
         cache: &mut Cache,
@@ -135,17 +129,21 @@ impl PikeVM {
         slots: &mut [Option<NonMaxUsize>],
     ) -> Option<Match>
         requires { Fits self.now cache.old }
-        ensures value { result ≡ option_map match_value (next_match_in self.now input.now) }
+        ensures value { self.now.kind ≡ LeftmostFirst
+            → result ≡ option_map match_value (answer_in self.now input.now) }
+        ensures any { is_some result ≡ is_some (next_match_in self.now input.now) }
         ensures patterns { (r : Patterns) → IsOf self.now r
-            → next_match_in self.now input.now ≡ next_match_for r input.now }
-        ensures slots { IfSome (next_match_in self.now input.now) (HasSlots slots.new) }
+            → next_match_in self.now input.now ≡ option_map (told_of r.which_captures) (next_match_for r input.now) }
+        ensures is_match { (r : Patterns) → IsOf self.now r
+            → IfSome result (λ found. IsMatchWith r input.now (λ m. (found ≡ match_value m) × HasSlots slots.new m)) }
+        ensures slots { self.now.kind ≡ LeftmostFirst
+            → IfSome (answer_in self.now input.now) (HasSlots slots.new) }
         ensures none { IfNone result (slots.new ≡ replicate (length slots.old) None) }
         ensures within { IfSome result (λ m. (input.now.start ≤ m.start) × (m.end ≤ input.now.end)) }
         ensures cache { cache.new ≡ cache.old }
     {
-        let haystack = input.haystack();
-        let anchored = input.get_anchored();
-        let Some(start) = self.start(anchored) else {
+        let from = input.start();
+        let Some(start) = self.start(input.get_anchored()) else {
             empty(slots);
             return None;
         };
@@ -153,16 +151,25 @@ impl PikeVM {
             empty(slots);
             return None;
         }
-        let search = Search {
+        let starts = [start];
+        let search = self.search_for(input, &starts);
+        let found = cache.find(&search, from, input.get_earliest(), slots);
+        reported(found)
+    }
+
+    /// The search of the input's span for the runs from these starts.
+    fn search_for<'a>(&'a self, input: &'a Input<'a>, starts: &'a [StateID]) -> Search<'a>
+        requires { input.now.start ≤ input.now.end }
+        ensures { IsSearchOf self.now input.now starts.now result }
+    {
+        Search {
             states: self.nfa.states(),
-            starts: &[start],
-            text: haystack,
-            utf8_empty: self.utf8_empty,
+            starts,
+            text: input.haystack(),
+            utf8_empty: self.nfa.is_utf8(),
             last: latest_start(input),
             end: input.end(),
-        };
-        let found = cache.find(&search, input.start(), slots);
-        reported(found)
+        }
     }
 
     /// Where the runs start, if the pattern that is asked for is there.

@@ -3,6 +3,7 @@ ghost use Rattle.std.specs.Prelude.{◌≡◌, ◌<◌, ◌++◌, length, IfOk, 
 ghost use Rattle.rx_model.specs.Expression.{alternation};
 ghost use Rattle.rx_syntax.specs.Normal.{expressions, alternatives_of, choice_of, alternation_of};
 ghost use Rattle.rx_syntax.specs.Properties.{properties_of};
+ghost use Rattle.rx_syntax.specs.Sound.{AreSound};
 
 use super::class::{Class, ClassBytes};
 use super::properties::Properties;
@@ -69,7 +70,8 @@ fn one_of(alternatives: Vec<Hir>) -> Hir
 
 fn properties_of_one(alternatives: &[Hir]) -> Properties
     requires { 0 < length alternatives.now }
-    ensures { result ≡ properties_of (alternation (expressions alternatives.now)) }
+    ensures value { result ≡ properties_of (alternation (expressions alternatives.now)) }
+    ensures sound { AreSound (expressions alternatives.now) }
 {
     let mut i = alternatives.len() - 1;
     let last = &alternatives[i];

@@ -1,9 +1,10 @@
 //! Concatenations.
-ghost use Rattle.std.specs.Prelude.{◌≡◌, [], ◌∷◌, ◌++◌, IfOk, OnOk};
+ghost use Rattle.std.specs.Prelude.{◌≡◌, ◌<◌, [], ◌∷◌, ◌++◌, length, IfOk, OnOk};
 ghost use Rattle.rx_model.specs.Expression.{literal, concat};
 ghost use Rattle.rx_syntax.specs.Joined.{and_then, and_then_all};
 ghost use Rattle.rx_syntax.specs.Normal.{expressions, join_literals, parts_of, sequence_of, concat_of};
 ghost use Rattle.rx_syntax.specs.Properties.{properties_of};
+ghost use Rattle.rx_syntax.specs.Sound.{AreSound};
 
 use super::properties::Properties;
 use super::{Hir, HirKind};
@@ -59,6 +60,7 @@ fn push_part(parts: &mut Vec<Hir>, part: Hir) -> Result<(), AllocError>
 }
 
 fn push_literal(parts: &mut Vec<Hir>, bytes: Vec<u8>) -> Result<(), AllocError>
+    requires { 0 < length bytes.items }
     ensures { OnOk result (parts.new.items ≡ and_then parts.old.items (literal bytes.items)) }
 {
     if let Some(last) = parts.pop() {
@@ -71,6 +73,7 @@ fn push_literal(parts: &mut Vec<Hir>, bytes: Vec<u8>) -> Result<(), AllocError>
 
 /// Adds the part that was the last, and then the literal.
 fn push_after(parts: &mut Vec<Hir>, last: Hir, bytes: Vec<u8>) -> Result<(), AllocError>
+    requires { 0 < length bytes.items }
     ensures { OnOk result (parts.new.items ≡ parts.old.items ++ join_literals last (literal bytes.items ∷ [])) }
 {
     let properties = last.properties;
@@ -87,7 +90,9 @@ fn push_after(parts: &mut Vec<Hir>, last: Hir, bytes: Vec<u8>) -> Result<(), All
     Ok(())
 }
 
+/// The literal of these bytes, of which there is one at least.
 pub(super) fn bytes_in_row(bytes: Vec<u8>) -> Hir
+    requires { 0 < length bytes.items }
     ensures { result ≡ literal bytes.items }
 {
     let properties = Properties::of_len(bytes.len());
@@ -121,7 +126,8 @@ fn in_row(parts: Vec<Hir>) -> Hir
 }
 
 fn properties_in_row(parts: &[Hir]) -> Properties
-    ensures { result ≡ properties_of (concat (expressions parts.now)) }
+    ensures value { result ≡ properties_of (concat (expressions parts.now)) }
+    ensures sound { AreSound (expressions parts.now) }
 {
     let mut properties = Properties::of_len(0);
     let mut i = parts.len();

@@ -1,11 +1,12 @@
 //! Laws of classes and of lengths.
 ghost use Rattle.std.specs.Prelude.{◌≡◌, ℕ, ◌+◌, ◌≤◌, List, Some};
 ghost use Rattle.std.specs.Char.{IsScalar};
-ghost use Rattle.rx_model.specs.Expression.{Expression};
+ghost use Rattle.rx_model.specs.Expression.{Expression, AreOrdered};
 ghost use Rattle.rx_model.specs.Length.{minimum_len};
 ghost use Rattle.rx_model.specs.Meaning.{Means};
 ghost use Rattle.rx_model.specs.Text.{is_member};
 ghost use Rattle.rx_syntax.specs.Length.{maximum_len, saturated, in_64_bits};
+ghost use Rattle.rx_syntax.specs.Sound.{IsSound};
 ghost use Rattle.rx_syntax.specs.Ranges.{next_scalar, next_byte, fewest, HaveScalarEnds, AreScalarRanges, AreByteRanges};
 
 /// A class holds exactly the members of the ranges that it was made of, in fewest ranges, and no other list of
@@ -29,4 +30,10 @@ pub fn lengths_bound_the_meaning()
         → (i j : ℕ) → Means t text h i j → i + n ≤ j }
     ensures greatest { (t : ℕ) (text : List ℕ) (h : Expression) (n : ℕ) → in_64_bits (maximum_len h) ≡ Some n
         → (i j : ℕ) → Means t text h i j → j ≤ i + n }
+{}
+
+/// The counts in a `Hir` are in order, so that the laws of rx_model that ask for it hold of each: `Hir::kind`
+/// says that it is sound.
+pub fn sound_expressions_are_ordered()
+    ensures { (h : Expression) → IsSound h → AreOrdered h }
 {}

@@ -1,13 +1,14 @@
 //! The states of an expression. Each function appends them, for a part that goes on to the state `next`, and answers
-//! where the part starts.
-ghost use Rattle.std.specs.Prelude.{◌≡◌, ◌+◌, ◌*◌, ◌-◌, ◌<◌, ◌≤◌, length, IfOk, None, ◌∷◌, []};
+//! where the part starts. There are no more of them than are accounted for it.
+ghost use Rattle.std.specs.Prelude.{◌≡◌, ◌+◌, ◌*◌, ◌-◌, ◌<◌, ◌≤◌, length, IfOk, IfSome, OnOk, None};
 ghost use Rattle.std.specs.Int.NonZero.{non_zero_usize_get};
 ghost use Rattle.rx_model.specs.Graph.{text, build_state, build_group, build, build_in_turn, build_each, build_choice, build_repetition, loop, loop_once, options};
 ghost use Rattle.rx_model.specs.Length.{minimum_len, is_positive};
 ghost use Rattle.rx_model.specs.Search.{greatest_group, greatest_in};
+ghost use Rattle.rx_syntax.specs.Cost.{states_of_copies, accounted_states, accounted_in};
 ghost use Rattle.rx_syntax.specs.Normal.{expressions};
 ghost use Rattle.rx_thompson.specs.Built.{Built, slot_from, ways};
-ghost use Rattle.rx_thompson.specs.Repeated.{star, tail, leading};
+ghost use Rattle.rx_thompson.specs.Repeated.{star, tail, leading, states_of_tail};
 ghost use Rattle.rx_thompson.specs.Room.{HasRoom};
 ghost use Rattle.rx_thompson.specs.declared.state.State.TheVariants.{Union};
 
@@ -28,12 +29,14 @@ pub fn compile(
 ) -> Result<StateID, Memory>
     requires next { next < length builder.old.states }
     requires room { HasRoom builder.old groups.now (greatest_group hir.now) }
+    requires fits { length builder.old.states + accounted_states hir.now ≤ 2147483647 }
     ensures built { IfOk result (λ start. Built (build (slot_from groups.now.first_slot) hir.now) next builder.old builder.new start) }
     ensures inside { IfOk result (λ start. start < length builder.new.states) }
+    ensures count { OnOk result (length builder.new.states ≤ length builder.old.states + accounted_states hir.now) }
 {
     match hir.kind() {
         HirKind::Empty => Ok(next),
-        HirKind::Literal(bytes) => compile_literal(alloc, builder, bytes, next),
+        HirKind::Literal(bytes) => compile_literal(builder, bytes, next),
         HirKind::Class(class) => builder.push_class(alloc, class, next),
         HirKind::Repetition(repetition) => {
             compile_repetition(alloc, builder, groups, repetition, next)
@@ -44,29 +47,14 @@ pub fn compile(
     }
 }
 
-/// A state for each byte, the last one first. No bytes have one state that goes on.
-fn compile_literal(
-    alloc: Global,
-    builder: &mut Builder,
-    bytes: &[u8],
-    next: StateID,
-) -> Result<StateID, Memory>
-    requires next { next < length builder.old.states }
-    ensures built { IfOk result (λ start. Built (build_state (text bytes.now)) next builder.old builder.new start) }
-    ensures inside { IfOk result (λ start. start < length builder.new.states) }
-{
-    if bytes.is_empty() {
-        let alternates = one_way(alloc, next)?;
-        return builder.push(State::Union { alternates });
-    }
-    compile_bytes(builder, bytes, next)
-}
-
-fn compile_bytes(builder: &mut Builder, bytes: &[u8], next: StateID) -> Result<StateID, Memory>
+/// A state for each byte, the last one first.
+fn compile_literal(builder: &mut Builder, bytes: &[u8], next: StateID) -> Result<StateID, Memory>
     requires next { next < length builder.old.states }
     requires some { 0 < length bytes.now }
+    requires fits { length builder.old.states + length bytes.now ≤ 2147483647 }
     ensures built { IfOk result (λ start. Built (build_state (text bytes.now)) next builder.old builder.new start) }
     ensures inside { IfOk result (λ start. start < length builder.new.states) }
+    ensures count { OnOk result (length builder.new.states ≤ length builder.old.states + length bytes.now) }
 {
     let mut start = next;
     let mut left = bytes.len();
@@ -81,7 +69,7 @@ fn compile_bytes(builder: &mut Builder, bytes: &[u8], next: StateID) -> Result<S
     Ok(start)
 }
 
-/// A slot before the group, and one after it.
+/// A slot before the group, and one after it. The group alone, where groups have no slots.
 #[cycle(compile)]
 fn compile_capture(
     alloc: Global,
@@ -93,11 +81,16 @@ fn compile_capture(
     requires next { next < length builder.old.states }
     requires group { HasRoom builder.old groups.now (non_zero_usize_get capture.now.index) }
     requires room { HasRoom builder.old groups.now (greatest_group capture.now.sub.value) }
+    requires fits { length builder.old.states + (accounted_states capture.now.sub.value + 2) ≤ 2147483647 }
     ensures built { IfOk result (λ start. Built (build_group (slot_from groups.now.first_slot (non_zero_usize_get capture.now.index)) (build (slot_from groups.now.first_slot) capture.now.sub.value))
         next builder.old builder.new start) }
     ensures inside { IfOk result (λ start. start < length builder.new.states) }
+    ensures count { OnOk result (length builder.new.states ≤ length builder.old.states + (accounted_states capture.now.sub.value + 2)) }
 {
-    let slot = groups.first_slot + 2 * (capture.index.get() - 1);
+    let Some(first) = groups.first_slot else {
+        return compile(alloc, builder, groups, &capture.sub, next);
+    };
+    let slot = first + 2 * (capture.index.get() - 1);
     let close = builder.push(State::Capture {
         next,
         pattern: groups.pattern,
@@ -122,8 +115,10 @@ fn compile_concat(
 ) -> Result<StateID, Memory>
     requires next { next < length builder.old.states }
     requires room { HasRoom builder.old groups.now (greatest_in (expressions subs.now)) }
+    requires fits { length builder.old.states + accounted_in (expressions subs.now) ≤ 2147483647 }
     ensures built { IfOk result (λ start. Built (build_in_turn (slot_from groups.now.first_slot) (expressions subs.now)) next builder.old builder.new start) }
     ensures inside { IfOk result (λ start. start < length builder.new.states) }
+    ensures count { OnOk result (length builder.new.states ≤ length builder.old.states + accounted_in (expressions subs.now)) }
 {
     let mut start = next;
     let mut left = subs.len();
@@ -145,8 +140,10 @@ fn compile_alternation(
 ) -> Result<StateID, Memory>
     requires next { next < length builder.old.states }
     requires room { HasRoom builder.old groups.now (greatest_in (expressions subs.now)) }
+    requires fits { length builder.old.states + (accounted_in (expressions subs.now) + 1) ≤ 2147483647 }
     ensures built { IfOk result (λ start. Built (build_choice (build_each (slot_from groups.now.first_slot) (expressions subs.now))) next builder.old builder.new start) }
     ensures inside { IfOk result (λ start. start < length builder.new.states) }
+    ensures count { OnOk result (length builder.new.states ≤ length builder.old.states + (accounted_in (expressions subs.now) + 1)) }
 {
     let mut starts = Vec::new(alloc);
     for sub in subs {
@@ -169,9 +166,12 @@ fn compile_repetition(
 ) -> Result<StateID, Memory>
     requires next { next < length builder.old.states }
     requires room { HasRoom builder.old groups.now (greatest_group repetition.now.sub.value) }
+    requires ordered { IfSome repetition.now.max (λ m. repetition.now.min ≤ m) }
+    requires fits { length builder.old.states + states_of_copies repetition.now.min repetition.now.max (accounted_states repetition.now.sub.value) ≤ 2147483647 }
     ensures built { IfOk result (λ start. Built (build_repetition (is_positive (minimum_len repetition.now.sub.value)) repetition.now.min repetition.now.max
         repetition.now.greedy (build (slot_from groups.now.first_slot) repetition.now.sub.value)) next builder.old builder.new start) }
     ensures inside { IfOk result (λ start. start < length builder.new.states) }
+    ensures count { OnOk result (length builder.new.states ≤ length builder.old.states + states_of_copies repetition.now.min repetition.now.max (accounted_states repetition.now.sub.value)) }
 {
     let copies = leading(repetition);
     let mut start = compile_tail(alloc, builder, groups, repetition, next)?;
@@ -202,9 +202,11 @@ fn compile_tail(
 ) -> Result<StateID, Memory>
     requires next { next < length builder.old.states }
     requires room { HasRoom builder.old groups.now (greatest_group repetition.now.sub.value) }
+    requires fits { length builder.old.states + states_of_tail repetition.now.min repetition.now.max (accounted_states repetition.now.sub.value) ≤ 2147483647 }
     ensures built { IfOk result (λ start. Built (tail (is_positive (minimum_len repetition.now.sub.value)) repetition.now.min repetition.now.max
         repetition.now.greedy (build (slot_from groups.now.first_slot) repetition.now.sub.value)) next builder.old builder.new start) }
     ensures inside { IfOk result (λ start. start < length builder.new.states) }
+    ensures count { OnOk result (length builder.new.states ≤ length builder.old.states + states_of_tail repetition.now.min repetition.now.max (accounted_states repetition.now.sub.value)) }
 {
     match repetition.max {
         Some(max) => compile_options(
@@ -230,9 +232,11 @@ fn compile_unbounded(
 ) -> Result<StateID, Memory>
     requires next { next < length builder.old.states }
     requires room { HasRoom builder.old groups.now (greatest_group repetition.now.sub.value) }
+    requires fits { length builder.old.states + states_of_tail repetition.now.min None (accounted_states repetition.now.sub.value) ≤ 2147483647 }
     ensures built { IfOk result (λ start. Built (tail (is_positive (minimum_len repetition.now.sub.value)) repetition.now.min None
         repetition.now.greedy (build (slot_from groups.now.first_slot) repetition.now.sub.value)) next builder.old builder.new start) }
     ensures inside { IfOk result (λ start. start < length builder.new.states) }
+    ensures count { OnOk result (length builder.new.states ≤ length builder.old.states + states_of_tail repetition.now.min None (accounted_states repetition.now.sub.value)) }
 {
     if repetition.min > 0 {
         let turn = compile_loop(alloc, builder, groups, repetition, next)?;
@@ -277,9 +281,11 @@ fn compile_loop(
 ) -> Result<Turn, Memory>
     requires next { next < length builder.old.states }
     requires room { HasRoom builder.old groups.now (greatest_group repetition.now.sub.value) }
+    requires fits { length builder.old.states + (accounted_states repetition.now.sub.value + 1) ≤ 2147483647 }
     ensures from_choice { IfOk result (λ turn. Built (loop repetition.now.greedy (build (slot_from groups.now.first_slot) repetition.now.sub.value)) next builder.old builder.new turn.choice) }
     ensures from_body { IfOk result (λ turn. Built (loop_once repetition.now.greedy (build (slot_from groups.now.first_slot) repetition.now.sub.value)) next builder.old builder.new turn.body) }
     ensures inside { IfOk result (λ turn. (turn.choice < length builder.new.states) × (turn.body < length builder.new.states)) }
+    ensures count { OnOk result (length builder.new.states ≤ length builder.old.states + (accounted_states repetition.now.sub.value + 1)) }
 {
     let choice = builder.push(State::Fail)?;
     let body = compile(alloc, builder, groups, &repetition.sub, choice)?;
@@ -300,8 +306,10 @@ fn compile_options(
 ) -> Result<StateID, Memory>
     requires next { next < length builder.old.states }
     requires room { HasRoom builder.old groups.now (greatest_group repetition.now.sub.value) }
+    requires fits { length builder.old.states + count * (accounted_states repetition.now.sub.value + 1) ≤ 2147483647 }
     ensures built { IfOk result (λ start. Built (options repetition.now.greedy count (build (slot_from groups.now.first_slot) repetition.now.sub.value)) next builder.old builder.new start) }
     ensures inside { IfOk result (λ start. start < length builder.new.states) }
+    ensures count { OnOk result (length builder.new.states ≤ length builder.old.states + count * (accounted_states repetition.now.sub.value + 1)) }
 {
     let mut start = next;
     for _option in 0..count {
@@ -312,15 +320,6 @@ fn compile_options(
         start = choice;
     }
     Ok(start)
-}
-
-/// On to this state alone.
-fn one_way(alloc: Global, next: StateID) -> Result<Alternates, Memory>
-    ensures { IfOk result (λ alternates. alternates ≡ next ∷ []) }
-{
-    let mut ids = Vec::new(alloc);
-    ids.push(next)?;
-    Ok(Alternates::new(ids))
 }
 
 /// The choice between the body and the exit. The body is preferred where it is greedy.

@@ -1,8 +1,9 @@
 use rx_search::PatternID;
 
-/// A pattern, and the first slot of the first group that it names.
+/// A pattern and its slots, if it has any: the first of its whole match, and the first of the groups that it names.
 #[derive(Clone, Copy)]
 pub struct Groups {
     pub pattern: PatternID,
-    pub first_slot: usize,
+    pub whole_slot: Option<usize>,
+    pub first_slot: Option<usize>,
 }

@@ -6,7 +6,7 @@ use Rattle.rx_scan.proofs.answer.answer_patterns.Goals as goal
 
 pub returns-in-Ok : goal.returns-in-Ok
 returns-in-Ok g c =
-    let small : are_small c.args.expressions.items ≡ true = ap are_small (sym c.deref.ensures.value) ∙ c.in-Ok.ensures.1 in
+    let small : are_small c.args.expressions.items ≡ true = ap are_small (sym c.deref.ensures.value) ∙ c.in-Ok.ensures.2 in
     IfOk-weaker c.all_rows.result _ _ (λ a e. e ∙ sym (answer_patterns-small c.args.expressions.items _ small)) c.all_rows.ensures
 
 pub returns-in-Err-TooBig : goal.returns-in-Err-TooBig

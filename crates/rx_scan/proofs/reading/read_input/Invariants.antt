@@ -1,5 +1,6 @@
 use Rattle.std.proofs.Common.{◌-◌, ◌<◌, ◌≤◌, vec_len}
 use Rattle.std.specs.Io.KnownBytes.{Consumes}
+use Rattle.rx_scan.specs.Ends.{CountsAtMost}
 use Rattle.rx_scan.proofs.reading.read_input.Given as goal
 
 abbrev pub invariant-loop-source : goal.invariant-loop-source
@@ -8,6 +9,7 @@ invariant-loop-source g l = record {
   limit : vec_len l.input ≤ 16777217;
   room : 0 < vec_len l.piece;
   counts : g.S.Source.faults l.initial.source ≤ g.S.Source.faults l.source;
+  reads : CountsAtMost (g.S.Source.reads l.initial.source) (g.S.Source.reads l.source) (vec_len l.input);
 }
 
 abbrev pub decreases-loop-source : goal.decreases-loop-source

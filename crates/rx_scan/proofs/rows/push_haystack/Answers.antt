@@ -4,7 +4,7 @@ use Rattle.std.specs.List.{concat}
 use Rattle.rx_model.specs.Search.{Match}
 use Rattle.rx_search.specs.Matches.{MatchValue}
 use Rattle.rx_search.specs.Input.{next_in, whole}
-use Rattle.rx_search.specs.Searcher.{fresh, upcoming}
+use Rattle.rx_search.specs.Searcher.{SearcherValue, fresh, upcoming}
 use Rattle.rx_search.proofs.SearcherLemmas.{Progress-begun, Progress-more, Progress-over, answered}
 use Rattle.rx_engines.specs.Engine.{HasSlots}
 use Rattle.rx_scan.specs.Patterns.{patterns_of}
@@ -18,6 +18,7 @@ loop-found-init c =
     let begun : c.new-searcher.result ≡ fresh (whole c.args.haystack.now) = c.new-searcher.ensures ∙ ap fresh c.new.ensures in
     record {
       same = refl;
+      late = ap (λ (s : SearcherValue). s.input.earliest) begun;
       told = ([], sym (append-nil c.args.text.now.items), Progress-begun (next_in r) begun refl);
     }
 
@@ -40,6 +41,7 @@ loop-found-preserved c =
     let y = row_text c.args.line c.in-Some.found c.groups.result.now in
     record {
       same = stays ∙ c.loop-found.invariant.same;
+      late = c.in_ok-found.ensures.can_go_on 0;
       told = (
         told.0 ++ y ∷ [],
         c.in_ok-push_row.ensures ∙ ap (λ l. l ++ y) told.1 ∙ append_assoc c.args.text.now.items (concat told.0) y ∙ ap (λ l. c.args.text.now.items ++ l) (sym (concat-push told.0 y)),

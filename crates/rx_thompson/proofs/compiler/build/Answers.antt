@@ -1,27 +1,52 @@
-use Rattle.std.proofs.Common.{◌∙◌, sym, ap, subst, refl}
-use Rattle.rx_thompson.specs.Built.{StartsAll}
-use Rattle.rx_thompson.specs.Compiled.{patterns_of}
+use Rattle.std.proofs.Common.{◌≡◌, ◌∙◌, sym, ap, subst, refl, arith, length}
+use Rattle.std.specs.Prelude.{true}
+use Rattle.rx_thompson.specs.Automaton.{automaton}
+use Rattle.rx_thompson.specs.Built.{StartsAll, HasPatterns}
+use Rattle.rx_thompson.specs.Compiled.{patterns_of, slots_of}
+use Rattle.rx_thompson.specs.Config.{captures_of, captures_kind}
 use Rattle.rx_thompson.specs.Draft.{Draft}
 use Rattle.rx_thompson.specs.Nfa.{Nfa, HasFirstRuns}
+use Rattle.rx_thompson.proofs.NextMatchLemmas.{written-none}
 use Rattle.rx_thompson.proofs.PatternLemmas.{HasFirstRuns-from, StartsAll-slots}
 use Rattle.rx_thompson.proofs.compiler.build.Goals as goal
 
 pub returns : goal.returns
 returns c =
     let exprs = c.args.exprs.now in
+    let which = captures_of c.args.config in
     let starts = c.in_ok-starts.starts.items in
     let old = c.compile_patterns.new.builder in
     let new = c.start_of_all.new.builder in
-    let nfa = c.finish.result in
-    let is = c.finish.ensures.value in
+    let nfa = c.in_ok-nfa.nfa in
+    let is = c.in_ok-nfa.ensures.value in
     let long = c.in_ok-starts.ensures.len in
     let all : StartsAll old new starts c.in_ok-start.start = subst (λ qs. StartsAll old new qs c.in_ok-start.start) c.deref.ensures.value c.in_ok-start.ensures.starts in
-    let slots = c.in_ok-starts.ensures.extends.slots in
+    let extended = c.in_ok-starts.ensures.extends.slots in
+    let slots : nfa.slots ≡ slots_of which exprs =
+    ap (λ (n : Nfa). n.slots) is ∙ StartsAll-slots old new starts c.in_ok-start.start all ∙ extended ∙ ap (λ (d : Draft). d.slots) c.new-builder.ensures ∙ c.requires.slots in
+    let states : nfa.states ≡ new.states = ap (λ (n : Nfa). n.states) is in
+    let has = subst (λ w. HasPatterns c.compile_patterns.new.builder.states (patterns_of c.args.exprs.now true 0 w) (length c.args.exprs.now) c.in_ok-starts.starts.items)
+    (ap captures_kind c.get_which_captures.ensures) c.in_ok-starts.ensures.has in
     record {
-      in_range = c.finish.ensures.in_range;
-      slots = ap (λ (n : Nfa). n.slots) is ∙ StartsAll-slots old new starts c.in_ok-start.start all ∙ slots ∙ ap (λ (d : Draft). d.slots) c.new-builder.ensures ∙ c.requires.slots;
+      in_range = c.in_ok-nfa.ensures.in_range;
+      few =
+          (let grown = ap (λ (n : Nfa). length n.states) is in
+          let none = ap (λ (d : Draft). length d.states) c.new-builder.ensures in
+          let patterns = c.in_ok-starts.ensures.count in
+          let last = c.in_ok-start.ensures.count in
+          omega arith);
+      slots = slots;
+      utf8 = ap (λ (n : Nfa). n.utf8) is ∙ c.get_utf8.ensures;
+      has_empty = ap (λ (n : Nfa). n.has_empty) is ∙ c.one_can_be_empty.ensures;
+      accounted = ap (λ (n : Nfa). n.accounted) is ∙ c.requires.states;
       first_runs = λ utf8_empty terminator.
-          subst (λ n. HasFirstRuns n (patterns_of exprs utf8_empty terminator)) (sym is)
-          (HasFirstRuns-from (patterns_of exprs utf8_empty terminator) (record { states = new.states; start_anchored = c.in_ok-start.start; starts = starts; slots = new.slots }) old new
-          c.in_ok-starts.ensures.has long refl all);
+          subst (λ n. HasFirstRuns n (patterns_of exprs utf8_empty terminator which)) (sym is)
+          (HasFirstRuns-from (patterns_of exprs utf8_empty terminator which)
+          (record {
+            states = new.states; start_anchored = c.in_ok-start.start; starts = starts; slots = new.slots;
+            utf8 = c.get_utf8.result; has_empty = c.one_can_be_empty.result; accounted = c.args.states;
+          })
+          old new has long refl all
+          (λ none text end x. ap (λ qs. (automaton qs text end).written x) (sym states)
+          ∙ written-none nfa c.in_ok-nfa.ensures.in_range (slots ∙ ap (λ w. slots_of w exprs) none) text end x));
     }

@@ -1,8 +1,8 @@
-use Rattle.std.proofs.Common.{◌≡◌, ◌<◌, ◌+◌, ◌*◌, length, vec_len}
+use Rattle.std.proofs.Common.{◌≡◌, ◌<◌, ◌≤◌, ◌+◌, length, drop, vec_len}
 use Rattle.std.specs.Prelude.{All, true}
-use Rattle.rx_model.specs.Search.{groups_before}
 use Rattle.rx_thompson.specs.Built.{HasPatterns}
-use Rattle.rx_thompson.specs.Compiled.{patterns_of}
+use Rattle.rx_thompson.specs.Compiled.{patterns_of, first_slot_of, nfa_states}
+use Rattle.rx_thompson.specs.Config.{captures_kind}
 use Rattle.rx_thompson.specs.Draft.{Extends}
 use Rattle.rx_thompson.proofs.compiler.compile_patterns.Given as goal
 
@@ -10,8 +10,9 @@ abbrev pub invariant-loop-hir : goal.invariant-loop-hir
 invariant-loop-hir l = record {
   extends : Extends l.initial.builder l.builder;
   len : vec_len l.starts ≡ l.hir-index;
+  count : length l.builder.states + nfa_states (drop l.hir-index l.exprs) ≤ length l.initial.builder.states + nfa_states l.exprs;
   items : length l.starts.items ≡ l.hir-index;
-  first_slot : l.first_slot ≡ 2 * length l.exprs + 2 * groups_before l.hir-index l.exprs;
-  has : HasPatterns l.builder.states (patterns_of l.exprs true 0) l.hir-index l.starts.items;
+  first_slot : l.first_slot ≡ first_slot_of (captures_kind l.which) l.exprs l.hir-index;
+  has : HasPatterns l.builder.states (patterns_of l.exprs true 0 (captures_kind l.which)) l.hir-index l.starts.items;
   inside : All (λ q. q < length l.builder.states) l.starts.items;
 }

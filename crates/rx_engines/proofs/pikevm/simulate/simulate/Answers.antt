@@ -1,17 +1,23 @@
-use Rattle.std.proofs.Common.{◌≡◌, ◌+◌, length, refl, sym, ◌∙◌, ap, arith}
-use Rattle.std.specs.Prelude.{None, replicate, option_map, is_some}
-use Rattle.std.specs.Option.{option_or}
+use Rattle.std.proofs.Common.{◌≡◌, ◌+◌, ◌≤◌, ◌<◌, ℕ, length, refl, sym, ◌∙◌, ap, arith, true≢false}
+use Rattle.std.specs.Prelude.{true, false, None, replicate, option_map, is_some, nat_lt}
+use Rattle.std.proofs.lemmas.Bool.Decides.{nat_tests}
 use Rattle.rx_model.specs.Runs.{nowhere}
+use Rattle.rx_model.proofs.RunLemmas.{by_test}
 use Rattle.rx_thompson.specs.Automaton.{automaton}
 use Rattle.rx_engines.specs.Threads.{StateSet}
-use Rattle.rx_engines.specs.Simulation.{among, later_starts, from_starts, best_hit, hit_of, passed_at}
-use Rattle.rx_engines.proofs.StartLemmas.{later-stable, after-step, over-matched, over-past, over-end, best-some, cleared-after, none-left, reported-some, known-some}
+use Rattle.rx_engines.specs.Search.{next_until, answer_of}
+use Rattle.rx_engines.specs.Simulation.{among, later_starts, best_hit, hit_of, passed_at}
+use Rattle.rx_engines.proofs.StartLemmas.{later-stable, after-step, best-some, cleared-after, none-left, reported-some, known-some}
+use Rattle.rx_engines.proofs.StageLemmas.{Stage, byte-same, not-some, and-false, and-true, found-none, seed-fits, stage-matched, stage-past, stage-over, stage-accepted, stage-silent, answer-stopped, answer-none, answer-late}
 use Rattle.rx_engines.proofs.pikevm.simulate.simulate.Goals as goal
 
 pub loop-place-init : goal.loop-place-init
 unfolding among
 loop-place-init c = record {
   value = rw c.requires.none refl;
+  values = λ on e low high. rw c.requires.none refl;
+  unmatched = λ on. refl;
+  none_before = λ on e low less. absurd (omega arith);
   cleared = c.clear.ensures;
   slots_len = c.clear.auto.slots;
   row_len = c.requires.width.2;
@@ -28,83 +34,119 @@ loop-place-init c = record {
 }
 
 pub returns-then-is_some-clause-found : goal.returns-then-is_some-clause-found
-returns-then-is_some-clause-found c late =
-    let bh = best_hit c.loop-place.best c.loop-place.slots in
+returns-then-is_some-clause-found c =
+    let s = c.args.search.now in
     let w = length c.args.slots.now in
-    let target = option_map (hit_of w) (from_starts c.args.search.now.states.now c.args.search.now.text.now c.args.search.now.starts.now c.args.search.now.utf8_empty c.args.search.now.end nowhere c.args.search.now.last c.args.from) in
-    let matched : c.is_some.result ≡ is_some c.loop-place.best = c.is_some.ensures in
-    let first = c.seed.ensures.seeded c.args.search.now.end bh target (omega arith) (matched ∙ sym (best-some c.loop-place.best c.loop-place.slots)) (rw c.loop-place.invariant.row_len c.loop-place.invariant.value) in
-    let seeded : option_or (among c.args.search.now.states.now (automaton c.args.search.now.states.now c.args.search.now.text.now c.args.search.now.end) nowhere c.loop-place.place c.seed.new.threads.table.items c.seed.new.threads.set.items)
-    (later_starts c.args.search.now.states.now c.args.search.now.text.now c.args.search.now.starts.now c.args.search.now.utf8_empty c.args.search.now.end w bh c.args.search.now.last (c.loop-place.place + 1) nowhere) ≡ target = rw c.loop-place.invariant.row_len at first in
-    over-matched c.args.search.now.states.now c.args.search.now.text.now c.args.search.now.starts.now c.args.search.now.utf8_empty c.args.search.now.end w c.args.search.now.last c.loop-place.best c.loop-place.slots c.seed.new.threads.set.items c.seed.new.threads.table.items c.loop-place.place target (none-left _ (omega arith)) (sym c.is_some-then-len-eq0.ensures ∙ c.if-is_some.true) seeded
+    let bh = best_hit c.loop-place.best c.loop-place.slots in
+    let matched : c.is_some.result ≡ is_some bh = c.is_some.ensures ∙ sym (best-some c.loop-place.best c.loop-place.slots) in
+    let seeded = seed-fits s w c.args.from s.end bh c.loop-place.place (passed_at c.loop-place.curr.set.items c.loop-place.place) c.loop-place.curr.table.items c.seed.new.threads.table.items c.loop-place.curr.set.items c.seed.new.threads.set.items c.loop-place.invariant.row_len (c.seed.ensures.seeded s.end bh (option_map (hit_of w) (next_until s c.args.from s.end)) (omega arith) matched) c.loop-place.invariant.value in
+    let some : is_some c.loop-place.best ≡ true = sym c.is_some-then-len-eq0.ensures ∙ c.if-is_some.true in
+    by_test c.args.earliest
+    (λ on. absurd (true≢false (sym some ∙ ap is_some (c.loop-place.invariant.unmatched on))))
+    (λ off.
+    stage-matched s w c.args.from s.end c.loop-place.best c.loop-place.slots c.seed.new.threads.set.items c.seed.new.threads.table.items c.loop-place.place (none-left _ (omega arith)) some seeded
+    ∙ ap (option_map (hit_of w)) (answer-late s c.args.from c.args.earliest off))
 
 pub returns-then-is_some-clause-any : goal.returns-then-is_some-clause-any
 returns-then-is_some-clause-any c =
-    let bh = best_hit c.loop-place.best c.loop-place.slots in
+    let s = c.args.search.now in
     let w = length c.args.slots.now in
-    let target = option_map (hit_of w) (from_starts c.args.search.now.states.now c.args.search.now.text.now c.args.search.now.starts.now c.args.search.now.utf8_empty c.args.search.now.end nowhere c.args.search.now.last c.args.from) in
-    let matched : c.is_some.result ≡ is_some c.loop-place.best = c.is_some.ensures in
-    let first = c.seed.ensures.seeded c.args.search.now.end bh target (omega arith) (matched ∙ sym (best-some c.loop-place.best c.loop-place.slots)) (rw c.loop-place.invariant.row_len c.loop-place.invariant.value) in
-    let seeded : option_or (among c.args.search.now.states.now (automaton c.args.search.now.states.now c.args.search.now.text.now c.args.search.now.end) nowhere c.loop-place.place c.seed.new.threads.table.items c.seed.new.threads.set.items)
-    (later_starts c.args.search.now.states.now c.args.search.now.text.now c.args.search.now.starts.now c.args.search.now.utf8_empty c.args.search.now.end w bh c.args.search.now.last (c.loop-place.place + 1) nowhere) ≡ target = rw c.loop-place.invariant.row_len at first in
-    reported-some _ _ w (from_starts c.args.search.now.states.now c.args.search.now.text.now c.args.search.now.starts.now c.args.search.now.utf8_empty c.args.search.now.end nowhere c.args.search.now.last c.args.from)
-    (over-matched c.args.search.now.states.now c.args.search.now.text.now c.args.search.now.starts.now c.args.search.now.utf8_empty c.args.search.now.end w c.args.search.now.last c.loop-place.best c.loop-place.slots c.seed.new.threads.set.items c.seed.new.threads.table.items c.loop-place.place target (none-left _ (omega arith)) (sym c.is_some-then-len-eq0.ensures ∙ c.if-is_some.true) seeded)
+    let bh = best_hit c.loop-place.best c.loop-place.slots in
+    let matched : c.is_some.result ≡ is_some bh = c.is_some.ensures ∙ sym (best-some c.loop-place.best c.loop-place.slots) in
+    let seeded = seed-fits s w c.args.from s.end bh c.loop-place.place (passed_at c.loop-place.curr.set.items c.loop-place.place) c.loop-place.curr.table.items c.seed.new.threads.table.items c.loop-place.curr.set.items c.seed.new.threads.set.items c.loop-place.invariant.row_len (c.seed.ensures.seeded s.end bh (option_map (hit_of w) (next_until s c.args.from s.end)) (omega arith) matched) c.loop-place.invariant.value in
+    reported-some _ _ w (next_until s c.args.from s.end)
+    (stage-matched s w c.args.from s.end c.loop-place.best c.loop-place.slots c.seed.new.threads.set.items c.seed.new.threads.table.items c.loop-place.place (none-left _ (omega arith)) (sym c.is_some-then-len-eq0.ensures ∙ c.if-is_some.true) seeded)
 
 pub returns-then-search-place-clause-found : goal.returns-then-search-place-clause-found
-returns-then-search-place-clause-found c late =
-    let bh = best_hit c.loop-place.best c.loop-place.slots in
+returns-then-search-place-clause-found c =
+    let s = c.args.search.now in
     let w = length c.args.slots.now in
-    let target = option_map (hit_of w) (from_starts c.args.search.now.states.now c.args.search.now.text.now c.args.search.now.starts.now c.args.search.now.utf8_empty c.args.search.now.end nowhere c.args.search.now.last c.args.from) in
-    let matched : c.is_some.result ≡ is_some c.loop-place.best = c.is_some.ensures in
-    let first = c.seed.ensures.seeded c.args.search.now.end bh target (omega arith) (matched ∙ sym (best-some c.loop-place.best c.loop-place.slots)) (rw c.loop-place.invariant.row_len c.loop-place.invariant.value) in
-    let seeded : option_or (among c.args.search.now.states.now (automaton c.args.search.now.states.now c.args.search.now.text.now c.args.search.now.end) nowhere c.loop-place.place c.seed.new.threads.table.items c.seed.new.threads.set.items)
-    (later_starts c.args.search.now.states.now c.args.search.now.text.now c.args.search.now.starts.now c.args.search.now.utf8_empty c.args.search.now.end w bh c.args.search.now.last (c.loop-place.place + 1) nowhere) ≡ target = rw c.loop-place.invariant.row_len at first in
-    over-past c.args.search.now.states.now c.args.search.now.text.now c.args.search.now.starts.now c.args.search.now.utf8_empty c.args.search.now.end w c.args.search.now.last c.loop-place.best c.loop-place.slots c.seed.new.threads.set.items c.seed.new.threads.table.items c.loop-place.place target (none-left _ (omega arith)) (sym c.is_some-then-len-eq0.ensures ∙ c.if-is_some.false) (omega arith) seeded
+    let bh = best_hit c.loop-place.best c.loop-place.slots in
+    let matched : c.is_some.result ≡ is_some bh = c.is_some.ensures ∙ sym (best-some c.loop-place.best c.loop-place.slots) in
+    let seeded = seed-fits s w c.args.from s.end bh c.loop-place.place (passed_at c.loop-place.curr.set.items c.loop-place.place) c.loop-place.curr.table.items c.seed.new.threads.table.items c.loop-place.curr.set.items c.seed.new.threads.set.items c.loop-place.invariant.row_len (c.seed.ensures.seeded s.end bh (option_map (hit_of w) (next_until s c.args.from s.end)) (omega arith) matched) c.loop-place.invariant.value in
+    let past : (e : ℕ) → Stage s w c.args.from e bh c.loop-place.place (c.loop-place.place + 1) nowhere c.seed.new.threads.table.items c.seed.new.threads.set.items → next_until s c.args.from e ≡ None =
+    λ e value. stage-past s w c.args.from e c.loop-place.best c.loop-place.slots c.seed.new.threads.set.items c.seed.new.threads.table.items c.loop-place.place (none-left _ (omega arith)) (sym c.is_some-then-len-eq0.ensures ∙ c.if-is_some.false) (omega arith) value in
+    ap (option_map (hit_of w))
+    (by_test c.args.earliest
+    (λ on.
+    sym (answer-none s c.args.from c.args.earliest on (let h = c.requires.search.last in omega arith)
+    (λ e low high.
+    by_test (nat_lt e c.loop-place.place)
+    (λ t. c.loop-place.invariant.none_before on e low (grind (arith, nat_tests)))
+    (λ t. let le : c.loop-place.place ≤ e = grind (arith, nat_tests) in past e (seed-fits s w c.args.from e bh c.loop-place.place (passed_at c.loop-place.curr.set.items c.loop-place.place) c.loop-place.curr.table.items c.seed.new.threads.table.items c.loop-place.curr.set.items c.seed.new.threads.set.items c.loop-place.invariant.row_len (c.seed.ensures.seeded e bh (option_map (hit_of w) (next_until s c.args.from e)) le matched) (c.loop-place.invariant.values on e le high))))))
+    (λ off. sym (past s.end seeded) ∙ answer-late s c.args.from c.args.earliest off))
 
 pub returns-then-search-place-clause-any : goal.returns-then-search-place-clause-any
 returns-then-search-place-clause-any c =
-    let bh = best_hit c.loop-place.best c.loop-place.slots in
+    let s = c.args.search.now in
     let w = length c.args.slots.now in
-    let target = option_map (hit_of w) (from_starts c.args.search.now.states.now c.args.search.now.text.now c.args.search.now.starts.now c.args.search.now.utf8_empty c.args.search.now.end nowhere c.args.search.now.last c.args.from) in
-    let matched : c.is_some.result ≡ is_some c.loop-place.best = c.is_some.ensures in
-    let first = c.seed.ensures.seeded c.args.search.now.end bh target (omega arith) (matched ∙ sym (best-some c.loop-place.best c.loop-place.slots)) (rw c.loop-place.invariant.row_len c.loop-place.invariant.value) in
-    let seeded : option_or (among c.args.search.now.states.now (automaton c.args.search.now.states.now c.args.search.now.text.now c.args.search.now.end) nowhere c.loop-place.place c.seed.new.threads.table.items c.seed.new.threads.set.items)
-    (later_starts c.args.search.now.states.now c.args.search.now.text.now c.args.search.now.starts.now c.args.search.now.utf8_empty c.args.search.now.end w bh c.args.search.now.last (c.loop-place.place + 1) nowhere) ≡ target = rw c.loop-place.invariant.row_len at first in
-    reported-some None c.loop-place.slots w (from_starts c.args.search.now.states.now c.args.search.now.text.now c.args.search.now.starts.now c.args.search.now.utf8_empty c.args.search.now.end nowhere c.args.search.now.last c.args.from)
-    (over-past c.args.search.now.states.now c.args.search.now.text.now c.args.search.now.starts.now c.args.search.now.utf8_empty c.args.search.now.end w c.args.search.now.last c.loop-place.best c.loop-place.slots c.seed.new.threads.set.items c.seed.new.threads.table.items c.loop-place.place target (none-left _ (omega arith)) (sym c.is_some-then-len-eq0.ensures ∙ c.if-is_some.false) (omega arith) seeded)
+    let bh = best_hit c.loop-place.best c.loop-place.slots in
+    let matched : c.is_some.result ≡ is_some bh = c.is_some.ensures ∙ sym (best-some c.loop-place.best c.loop-place.slots) in
+    let seeded = seed-fits s w c.args.from s.end bh c.loop-place.place (passed_at c.loop-place.curr.set.items c.loop-place.place) c.loop-place.curr.table.items c.seed.new.threads.table.items c.loop-place.curr.set.items c.seed.new.threads.set.items c.loop-place.invariant.row_len (c.seed.ensures.seeded s.end bh (option_map (hit_of w) (next_until s c.args.from s.end)) (omega arith) matched) c.loop-place.invariant.value in
+    ap is_some
+    (sym (stage-past s w c.args.from s.end c.loop-place.best c.loop-place.slots c.seed.new.threads.set.items c.seed.new.threads.table.items c.loop-place.place (none-left _ (omega arith)) (sym c.is_some-then-len-eq0.ensures ∙ c.if-is_some.false) (omega arith) seeded))
 
-pub returns-then-is_some-2-clause-any : goal.returns-then-is_some-2-clause-any
-returns-then-is_some-2-clause-any c =
-    let bh = best_hit c.loop-place.best c.loop-place.slots in
+pub returns-then-is_enough-clause-found : goal.returns-then-is_enough-clause-found
+returns-then-is_enough-clause-found c =
+    let s = c.args.search.now in
     let w = length c.args.slots.now in
-    let target = option_map (hit_of w) (from_starts c.args.search.now.states.now c.args.search.now.text.now c.args.search.now.starts.now c.args.search.now.utf8_empty c.args.search.now.end nowhere c.args.search.now.last c.args.from) in
-    let matched : c.is_some.result ≡ is_some c.loop-place.best = c.is_some.ensures in
-    let first = c.seed.ensures.seeded c.args.search.now.end bh target (omega arith) (matched ∙ sym (best-some c.loop-place.best c.loop-place.slots)) (rw c.loop-place.invariant.row_len c.loop-place.invariant.value) in
-    let seeded : option_or (among c.args.search.now.states.now (automaton c.args.search.now.states.now c.args.search.now.text.now c.args.search.now.end) nowhere c.loop-place.place c.seed.new.threads.table.items c.seed.new.threads.set.items)
-    (later_starts c.args.search.now.states.now c.args.search.now.text.now c.args.search.now.starts.now c.args.search.now.utf8_empty c.args.search.now.end w bh c.args.search.now.last (c.loop-place.place + 1) nowhere) ≡ target = rw c.loop-place.invariant.row_len at first in
-    let stepped = c.step-found.ensures.stepped (later_starts c.args.search.now.states.now c.args.search.now.text.now c.args.search.now.starts.now c.args.search.now.utf8_empty c.args.search.now.end w bh c.args.search.now.last (c.loop-place.place + 1)) target
-    (later-stable c.args.search.now.states.now c.args.search.now.text.now c.args.search.now.starts.now c.args.search.now.utf8_empty c.args.search.now.end w c.args.search.now.last bh (c.loop-place.place + 1)) seeded in
-    known-some (among c.args.search.now.states.now (automaton c.args.search.now.states.now c.args.search.now.text.now c.args.search.now.end) nowhere (c.loop-place.place + 1) c.step-found.new.next.table.items c.step-found.new.next.set.items) c.better-best.result c.step-found.new.best
-    (option_map (hit_of w) (from_starts c.args.search.now.states.now c.args.search.now.text.now c.args.search.now.starts.now c.args.search.now.utf8_empty c.args.search.now.end (passed_at c.step-found.new.next.set.items (c.loop-place.place + 1)) c.args.search.now.last (c.loop-place.place + 1))) w (from_starts c.args.search.now.states.now c.args.search.now.text.now c.args.search.now.starts.now c.args.search.now.utf8_empty c.args.search.now.end nowhere c.args.search.now.last c.args.from)
-    (sym c.is_some-then-earliest.ensures ∙ c.if-is_some-2.true)
-    (after-step c.args.search.now.states.now c.args.search.now.text.now c.args.search.now.starts.now c.args.search.now.utf8_empty c.args.search.now.end w c.args.search.now.last c.step-found.result c.loop-place.best c.better-best.result c.loop-place.slots c.step-found.new.best c.step-found.new.next.set.items c.step-found.new.next.table.items c.loop-place.place target stepped c.better-best.ensures.some c.better-best.ensures.none c.step-found.ensures.kept)
+    let bh = best_hit c.loop-place.best c.loop-place.slots in
+    let matched : c.is_some.result ≡ is_some bh = c.is_some.ensures ∙ sym (best-some c.loop-place.best c.loop-place.slots) in
+    let both = and-true c.args.earliest (is_some c.better-best.result) (sym c.if-is_enough.true ∙ c.is_enough.ensures) in
+    let on = both.0 in
+    let here = stage-accepted s w c.args.from c.step-found.result c.loop-place.best c.better-best.result c.step-found.new.best bh c.seed.new.threads.set.items c.seed.new.threads.table.items c.loop-place.place c.step-found.ensures.accepted c.better-best.ensures.some c.better-best.ensures.none (c.loop-place.invariant.unmatched on) both.1
+    (seed-fits s w c.args.from c.loop-place.place bh c.loop-place.place (passed_at c.loop-place.curr.set.items c.loop-place.place) c.loop-place.curr.table.items c.seed.new.threads.table.items c.loop-place.curr.set.items c.seed.new.threads.set.items c.loop-place.invariant.row_len (c.seed.ensures.seeded c.loop-place.place bh (option_map (hit_of w) (next_until s c.args.from c.loop-place.place)) (omega arith) matched) (c.loop-place.invariant.values on c.loop-place.place (omega arith) (omega arith))) in
+    here ∙ ap (option_map (hit_of w))
+    (answer-stopped s c.args.from c.loop-place.place c.args.earliest on (omega arith) (omega arith) (c.loop-place.invariant.none_before on)
+    (sym (reported-some c.better-best.result c.step-found.new.best w (next_until s c.args.from c.loop-place.place) here) ∙ both.1))
+
+pub returns-then-is_enough-clause-any : goal.returns-then-is_enough-clause-any
+returns-then-is_enough-clause-any c =
+    let s = c.args.search.now in
+    let w = length c.args.slots.now in
+    let bh = best_hit c.loop-place.best c.loop-place.slots in
+    let matched : c.is_some.result ≡ is_some bh = c.is_some.ensures ∙ sym (best-some c.loop-place.best c.loop-place.slots) in
+    let seeded = seed-fits s w c.args.from s.end bh c.loop-place.place (passed_at c.loop-place.curr.set.items c.loop-place.place) c.loop-place.curr.table.items c.seed.new.threads.table.items c.loop-place.curr.set.items c.seed.new.threads.set.items c.loop-place.invariant.row_len (c.seed.ensures.seeded s.end bh (option_map (hit_of w) (next_until s c.args.from s.end)) (omega arith) matched) c.loop-place.invariant.value in
+    let both = and-true c.args.earliest (is_some c.better-best.result) (sym c.if-is_enough.true ∙ c.is_enough.ensures) in
+    known-some (among s.states.now (automaton s.states.now s.text.now s.end) nowhere (c.loop-place.place + 1) c.step-found.new.next.table.items c.step-found.new.next.set.items) c.better-best.result c.step-found.new.best _ w (next_until s c.args.from s.end) both.1
+    (after-step s.states.now s.text.now s.starts.now s.utf8_empty s.end w s.last c.step-found.result c.loop-place.best c.better-best.result c.loop-place.slots c.step-found.new.best c.step-found.new.next.set.items c.step-found.new.next.table.items c.loop-place.place (option_map (hit_of w) (next_until s c.args.from s.end))
+    (c.step-found.ensures.stepped s.end (later_starts s.states.now s.text.now s.starts.now s.utf8_empty s.end w bh s.last (c.loop-place.place + 1)) (option_map (hit_of w) (next_until s c.args.from s.end)) (omega arith) refl
+    (later-stable s.states.now s.text.now s.starts.now s.utf8_empty s.end w s.last bh (c.loop-place.place + 1)) seeded)
+    c.better-best.ensures.some c.better-best.ensures.none c.step-found.ensures.kept)
 
 pub loop-place-preserved : goal.loop-place-preserved
 loop-place-preserved c =
-    let bh = best_hit c.loop-place.best c.loop-place.slots in
+    let s = c.args.search.now in
     let w = length c.args.slots.now in
-    let target = option_map (hit_of w) (from_starts c.args.search.now.states.now c.args.search.now.text.now c.args.search.now.starts.now c.args.search.now.utf8_empty c.args.search.now.end nowhere c.args.search.now.last c.args.from) in
-    let matched : c.is_some.result ≡ is_some c.loop-place.best = c.is_some.ensures in
-    let first = c.seed.ensures.seeded c.args.search.now.end bh target (omega arith) (matched ∙ sym (best-some c.loop-place.best c.loop-place.slots)) (rw c.loop-place.invariant.row_len c.loop-place.invariant.value) in
-    let seeded : option_or (among c.args.search.now.states.now (automaton c.args.search.now.states.now c.args.search.now.text.now c.args.search.now.end) nowhere c.loop-place.place c.seed.new.threads.table.items c.seed.new.threads.set.items)
-    (later_starts c.args.search.now.states.now c.args.search.now.text.now c.args.search.now.starts.now c.args.search.now.utf8_empty c.args.search.now.end w bh c.args.search.now.last (c.loop-place.place + 1) nowhere) ≡ target = rw c.loop-place.invariant.row_len at first in
-    let stepped = c.step-found.ensures.stepped (later_starts c.args.search.now.states.now c.args.search.now.text.now c.args.search.now.starts.now c.args.search.now.utf8_empty c.args.search.now.end w bh c.args.search.now.last (c.loop-place.place + 1)) target
-    (later-stable c.args.search.now.states.now c.args.search.now.text.now c.args.search.now.starts.now c.args.search.now.utf8_empty c.args.search.now.end w c.args.search.now.last bh (c.loop-place.place + 1)) seeded in
+    let bh = best_hit c.loop-place.best c.loop-place.slots in
+    let matched : c.is_some.result ≡ is_some bh = c.is_some.ensures ∙ sym (best-some c.loop-place.best c.loop-place.slots) in
+    let seeded = seed-fits s w c.args.from s.end bh c.loop-place.place (passed_at c.loop-place.curr.set.items c.loop-place.place) c.loop-place.curr.table.items c.seed.new.threads.table.items c.loop-place.curr.set.items c.seed.new.threads.set.items c.loop-place.invariant.row_len (c.seed.ensures.seeded s.end bh (option_map (hit_of w) (next_until s c.args.from s.end)) (omega arith) matched) c.loop-place.invariant.value in
     let cleared = c.clear-in-loop-place.ensures in
     let cleared_room = ap (λ (s : StateSet). s.room) cleared in
+    let unmatched : c.args.earliest ≡ true → c.better-best.result ≡ None =
+    λ on. not-some c.better-best.result (and-false c.args.earliest (is_some c.better-best.result) (sym c.if-is_enough.false ∙ c.is_enough.ensures) on) in
     rw (c.swap.ensures.x_after, c.swap.ensures.y_after)
     (record {
-      value = after-step c.args.search.now.states.now c.args.search.now.text.now c.args.search.now.starts.now c.args.search.now.utf8_empty c.args.search.now.end w c.args.search.now.last c.step-found.result c.loop-place.best c.better-best.result c.loop-place.slots c.step-found.new.best c.step-found.new.next.set.items c.step-found.new.next.table.items c.loop-place.place target stepped c.better-best.ensures.some c.better-best.ensures.none c.step-found.ensures.kept;
+      value = after-step s.states.now s.text.now s.starts.now s.utf8_empty s.end w s.last c.step-found.result c.loop-place.best c.better-best.result c.loop-place.slots c.step-found.new.best c.step-found.new.next.set.items c.step-found.new.next.table.items c.loop-place.place (option_map (hit_of w) (next_until s c.args.from s.end))
+    (c.step-found.ensures.stepped s.end (later_starts s.states.now s.text.now s.starts.now s.utf8_empty s.end w bh s.last (c.loop-place.place + 1)) (option_map (hit_of w) (next_until s c.args.from s.end)) (omega arith) refl
+    (later-stable s.states.now s.text.now s.starts.now s.utf8_empty s.end w s.last bh (c.loop-place.place + 1)) seeded)
+    c.better-best.ensures.some c.better-best.ensures.none c.step-found.ensures.kept;
+      values = λ on e low high.
+          (after-step s.states.now s.text.now s.starts.now s.utf8_empty e w s.last c.step-found.result c.loop-place.best c.better-best.result c.loop-place.slots c.step-found.new.best c.step-found.new.next.set.items c.step-found.new.next.table.items c.loop-place.place (option_map (hit_of w) (next_until s c.args.from e))
+    (c.step-found.ensures.stepped e (later_starts s.states.now s.text.now s.starts.now s.utf8_empty e w bh s.last (c.loop-place.place + 1)) (option_map (hit_of w) (next_until s c.args.from e)) (omega arith) (byte-same s.text.now e s.end c.loop-place.place (omega arith) (omega arith))
+    (later-stable s.states.now s.text.now s.starts.now s.utf8_empty e w s.last bh (c.loop-place.place + 1)) (seed-fits s w c.args.from e bh c.loop-place.place (passed_at c.loop-place.curr.set.items c.loop-place.place) c.loop-place.curr.table.items c.seed.new.threads.table.items c.loop-place.curr.set.items c.seed.new.threads.set.items c.loop-place.invariant.row_len (c.seed.ensures.seeded e bh (option_map (hit_of w) (next_until s c.args.from e)) (omega arith) matched) (c.loop-place.invariant.values on e (omega arith) high)))
+    c.better-best.ensures.some c.better-best.ensures.none c.step-found.ensures.kept);
+      unmatched = unmatched;
+      none_before = λ on e low less.
+          by_test (nat_lt e c.loop-place.place)
+          (λ t. c.loop-place.invariant.none_before on e low (grind (arith, nat_tests)))
+          (λ t.
+          let same : c.loop-place.place ≡ e = grind (arith, nat_tests) in
+          ap (next_until s c.args.from) (sym same)
+          ∙ stage-silent s w c.args.from c.step-found.result c.step-found.new.best bh c.seed.new.threads.set.items c.seed.new.threads.table.items c.loop-place.place c.step-found.ensures.accepted
+          (found-none c.step-found.result c.better-best.result c.loop-place.place c.better-best.ensures.some (unmatched on))
+          (ap (λ b. best_hit b c.loop-place.slots) (c.loop-place.invariant.unmatched on))
+          (seed-fits s w c.args.from c.loop-place.place bh c.loop-place.place (passed_at c.loop-place.curr.set.items c.loop-place.place) c.loop-place.curr.table.items c.seed.new.threads.table.items c.loop-place.curr.set.items c.seed.new.threads.set.items c.loop-place.invariant.row_len (c.seed.ensures.seeded c.loop-place.place bh (option_map (hit_of w) (next_until s c.args.from c.loop-place.place)) (omega arith) matched) (c.loop-place.invariant.values on c.loop-place.place (omega arith) (omega arith))));
       cleared = cleared-after c.step-found.result c.loop-place.best c.better-best.result c.loop-place.place c.loop-place.slots c.step-found.new.best (replicate w None) c.better-best.ensures.some c.better-best.ensures.none c.step-found.ensures.kept c.loop-place.invariant.cleared;
       slots_len = c.step-found.ensures.best ∙ c.loop-place.invariant.slots_len;
       row_len = c.step-found.ensures.slots ∙ c.seed.ensures.slots ∙ c.loop-place.invariant.row_len;
@@ -121,14 +163,21 @@ loop-place-preserved c =
     })
 
 pub returns-clause-found : goal.returns-clause-found
-returns-clause-found c late =
+returns-clause-found c =
+    let s = c.args.search.now in
     let w = length c.args.slots.now in
-    let target = option_map (hit_of w) (from_starts c.args.search.now.states.now c.args.search.now.text.now c.args.search.now.starts.now c.args.search.now.utf8_empty c.args.search.now.end nowhere c.args.search.now.last c.args.from) in
-    over-end c.args.search.now.states.now c.args.search.now.text.now c.args.search.now.starts.now c.args.search.now.utf8_empty c.args.search.now.end w c.args.search.now.last c.loop-place.best c.loop-place.slots c.loop-place.curr.set.items c.loop-place.curr.table.items (passed_at c.loop-place.curr.set.items c.loop-place.place) c.loop-place.place target (omega arith) (omega arith) c.loop-place.invariant.value
+    by_test c.args.earliest
+    (λ on.
+    let none = c.loop-place.invariant.unmatched on in
+    ap (λ b. best_hit b c.loop-place.slots) none
+    ∙ ap (option_map (hit_of w)) (sym (answer-none s c.args.from c.args.earliest on (let h = c.requires.search.last in omega arith) (λ e low high. c.loop-place.invariant.none_before on e low (omega arith)))))
+    (λ off.
+    stage-over s w c.args.from s.end c.loop-place.best c.loop-place.slots c.loop-place.curr.set.items c.loop-place.curr.table.items (passed_at c.loop-place.curr.set.items c.loop-place.place) c.loop-place.place (omega arith) (let h = c.requires.search.last in omega arith) c.loop-place.invariant.value
+    ∙ ap (option_map (hit_of w)) (answer-late s c.args.from c.args.earliest off))
 
 pub returns-clause-any : goal.returns-clause-any
 returns-clause-any c =
+    let s = c.args.search.now in
     let w = length c.args.slots.now in
-    let target = option_map (hit_of w) (from_starts c.args.search.now.states.now c.args.search.now.text.now c.args.search.now.starts.now c.args.search.now.utf8_empty c.args.search.now.end nowhere c.args.search.now.last c.args.from) in
-    reported-some _ _ w (from_starts c.args.search.now.states.now c.args.search.now.text.now c.args.search.now.starts.now c.args.search.now.utf8_empty c.args.search.now.end nowhere c.args.search.now.last c.args.from)
-    (over-end c.args.search.now.states.now c.args.search.now.text.now c.args.search.now.starts.now c.args.search.now.utf8_empty c.args.search.now.end w c.args.search.now.last c.loop-place.best c.loop-place.slots c.loop-place.curr.set.items c.loop-place.curr.table.items (passed_at c.loop-place.curr.set.items c.loop-place.place) c.loop-place.place target (omega arith) (omega arith) c.loop-place.invariant.value)
+    reported-some _ _ w (next_until s c.args.from s.end)
+    (stage-over s w c.args.from s.end c.loop-place.best c.loop-place.slots c.loop-place.curr.set.items c.loop-place.curr.table.items (passed_at c.loop-place.curr.set.items c.loop-place.place) c.loop-place.place (omega arith) (let h = c.requires.search.last in omega arith) c.loop-place.invariant.value)

@@ -1,16 +1,17 @@
-use Rattle.std.proofs.Common.{◌≡◌, [], length}
-use Rattle.std.specs.Prelude.{None, replicate, option_map, IfNone}
-use Rattle.std.specs.Option.{option_or}
-use Rattle.rx_model.specs.Runs.{nowhere}
-use Rattle.rx_thompson.specs.Automaton.{automaton}
-use Rattle.rx_engines.specs.Simulation.{among, later_starts, from_starts, best_hit, hit_of, passed_at}
+use Rattle.std.proofs.Common.{◌≡◌, ◌≤◌, ◌<◌, ℕ, [], length}
+use Rattle.std.specs.Prelude.{true, None, replicate, IfNone}
+use Rattle.rx_engines.specs.Search.{next_until}
+use Rattle.rx_engines.specs.Simulation.{best_hit, passed_at}
+use Rattle.rx_engines.proofs.StageLemmas.{Stage}
 use Rattle.rx_engines.proofs.pikevm.simulate.simulate.Given as goal
 
 abbrev pub invariant-loop-place : goal.invariant-loop-place
 invariant-loop-place l = record {
-  value : option_or (among l.search.states.now (automaton l.search.states.now l.search.text.now l.search.end) nowhere l.place l.curr.table.items l.curr.set.items)
-      (later_starts l.search.states.now l.search.text.now l.search.starts.now l.search.utf8_empty l.search.end (length l.fn.slots) (best_hit l.best l.slots) l.search.last l.place (passed_at l.curr.set.items l.place))
-      ≡ option_map (hit_of (length l.fn.slots)) (from_starts l.search.states.now l.search.text.now l.search.starts.now l.search.utf8_empty l.search.end nowhere l.search.last l.from);
+  value : Stage l.search (length l.fn.slots) l.from l.search.end (best_hit l.best l.slots) l.place l.place (passed_at l.curr.set.items l.place) l.curr.table.items l.curr.set.items;
+  values : l.earliest ≡ true → (e : ℕ) → l.place ≤ e → e ≤ l.search.end
+      → Stage l.search (length l.fn.slots) l.from e (best_hit l.best l.slots) l.place l.place (passed_at l.curr.set.items l.place) l.curr.table.items l.curr.set.items;
+  unmatched : l.earliest ≡ true → l.best ≡ None;
+  none_before : l.earliest ≡ true → (e : ℕ) → l.from ≤ e → e < l.place → next_until l.search l.from e ≡ None;
   cleared : IfNone l.best (l.slots ≡ replicate (length l.fn.slots) None);
   slots_len : length l.slots ≡ length l.fn.slots;
   row_len : length l.row ≡ length l.fn.slots;

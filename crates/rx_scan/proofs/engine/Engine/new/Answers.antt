@@ -13,8 +13,9 @@ invariant_of-result c =
     c.index.ensures ∙ ap (λ k. get_or c.in_ok-bounds.bounds.items k c.index.result.now) n in
     let P : PikeVMValue → Type 0 = λ vm. IsOf vm (patterns_of hs) in
     record {
-      of_patterns = subst P (sym c.build_from_nfa-vm.ensures) (record { runs = c.requires.runs; utf8_empty = refl });
-      fits = c.in_ok-cache.ensures;
+      of_patterns = subst P (sym c.build_from_nfa-vm.ensures) (record { runs = c.requires.runs; utf8 = sym c.requires.utf8 });
+      leftmost = ap (λ (vm : PikeVMValue). vm.kind) c.build_from_nfa-vm.ensures;
+      fits = c.in_ok-cache.ensures.fits;
       bounded = bounds;
       wide = c.in_ok-slots.ensures ∙ bound-read _ hs (length hs) _ bounds (omega arith) last;
     }

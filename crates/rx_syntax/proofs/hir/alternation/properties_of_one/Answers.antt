@@ -1,5 +1,7 @@
-use Rattle.std.proofs.Common.{◌≡◌, ◌<◌, ◌+◌, ◌-◌, length, arith, ◌∙◌, ap}
+use Rattle.std.proofs.Common.{◌≡◌, ◌<◌, ◌+◌, ◌-◌, length, arith, ◌∙◌, ap, subst}
 use Rattle.rx_syntax.specs.Properties.{properties_of}
+use Rattle.rx_syntax.specs.Sound.{IsSound}
+use Rattle.rx_syntax.proofs.SoundLemmas.{AreSound-drop}
 use Rattle.rx_syntax.proofs.PropertiesLemmas.{properties_of-alternation-drop}
 use Rattle.rx_syntax.proofs.hir.alternation.properties_of_one.Goals as goal
 
@@ -11,7 +13,8 @@ loop-i-preserved c =
     record {
       later = properties_of-alternation-drop c.or-properties.result c.alternative.inside.properties c.loop-i.properties c.args.alternatives.now i c.index-alternatives-i-in-loop-i.result
           (rw (← e) c.loop-i.invariant.within) c.index-alternatives-i-in-loop-i.is
-          (c.alternative.invariant ∙ ap properties_of c.alternative.view_is)
+          (c.alternative.invariant.0 ∙ ap properties_of c.alternative.view_is)
           (rw (← e) c.loop-i.invariant.later) c.or-properties.ensures.least c.or-properties.ensures.greatest;
+      sound = AreSound-drop c.args.alternatives.now i c.index-alternatives-i-in-loop-i.result within c.index-alternatives-i-in-loop-i.is (subst IsSound c.alternative.view_is c.alternative.invariant.1) (rw (← e) c.loop-i.invariant.sound);
       within = within;
     }

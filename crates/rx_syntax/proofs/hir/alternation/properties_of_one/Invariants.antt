@@ -2,11 +2,13 @@ use Rattle.std.proofs.Common.{◌≡◌, ◌<◌, length, drop}
 use Rattle.rx_model.specs.Expression.{alternation}
 use Rattle.rx_syntax.specs.Normal.{expressions}
 use Rattle.rx_syntax.specs.Properties.{properties_of}
+use Rattle.rx_syntax.specs.Sound.{AreSound}
 use Rattle.rx_syntax.proofs.hir.alternation.properties_of_one.Given as goal
 
 abbrev pub invariant-loop-i : goal.invariant-loop-i
 invariant-loop-i l = record {
   later : l.properties ≡ properties_of (alternation (expressions (drop l.i l.alternatives)));
+  sound : AreSound (expressions (drop l.i l.alternatives));
   within : l.i < length l.alternatives;
 }
 

@@ -1,5 +1,7 @@
-use Rattle.std.proofs.Common.{◌≡◌, ◌<◌, ◌+◌, ◌-◌, length, arith, ◌∙◌, ap}
+use Rattle.std.proofs.Common.{◌≡◌, ◌<◌, ◌+◌, ◌-◌, length, arith, ◌∙◌, ap, subst}
 use Rattle.rx_syntax.specs.Properties.{properties_of}
+use Rattle.rx_syntax.specs.Sound.{IsSound}
+use Rattle.rx_syntax.proofs.SoundLemmas.{AreSound-drop}
 use Rattle.rx_syntax.proofs.PropertiesLemmas.{properties_of-concat-drop}
 use Rattle.rx_syntax.proofs.hir.concat.properties_in_row.Goals as goal
 
@@ -11,7 +13,8 @@ loop-i-preserved c =
     record {
       later = properties_of-concat-drop c.then-properties.result c.part.inside.properties c.loop-i.properties c.args.parts.now i c.index-parts-i.result
           within c.index-parts-i.is
-          (c.part.invariant ∙ ap properties_of c.part.view_is)
+          (c.part.invariant.0 ∙ ap properties_of c.part.view_is)
           (rw (← e) c.loop-i.invariant.later) c.then-properties.ensures.least c.then-properties.ensures.greatest;
+      sound = AreSound-drop c.args.parts.now i c.index-parts-i.result within c.index-parts-i.is (subst IsSound c.part.view_is c.part.invariant.1) (rw (← e) c.loop-i.invariant.sound);
       within = omega arith;
     }

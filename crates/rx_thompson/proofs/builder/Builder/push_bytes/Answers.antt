@@ -22,3 +22,9 @@ returns-clause-built c =
     let new : Draft = record { states = c.compile_bytes.new.states.items; patterns = c.self.inside.pattern_len; slots = c.self.inside.slot_len } in
     subst (λ d. Built (build_state (set (byte_ranges c.args.bytes.now))) c.args.next d new c.in_ok-start.start) c.self.view_is
     (Built-bytes c.args.bytes.now c.args.next (record { states = c.self.inside.states.items; patterns = c.self.inside.pattern_len; slots = c.self.inside.slot_len }) new c.in_ok-start.start refl refl adds below class)
+
+pub returns-clause-count : goal.returns-clause-count
+returns-clause-count c =
+    let count = rw c.replace-states.ensures.value at c.in_ok-start.ensures.count in
+    let long : length c.self.inside.states.items ≡ length c.args.self.now.states = ap (λ (d : Draft). length d.states) c.self.view_is in
+    omega arith

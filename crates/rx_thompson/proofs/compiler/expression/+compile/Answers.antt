@@ -6,17 +6,21 @@ use Rattle.rx_model.specs.Length.{minimum_len, is_positive}
 use Rattle.rx_model.specs.Expression.{empty, literal, class, repetition, capture, concat, alternation}
 use Rattle.rx_model.specs.Graph.{text, build_state, build_group, build_in_turn, build_each, build_choice, build, loop_once}
 use Rattle.rx_model.specs.Search.{greatest_group, greatest_in}
+use Rattle.rx_syntax.specs.Cost.{accounted_states}
+use Rattle.rx_syntax.specs.Sound.{IsSound}
+use Rattle.rx_syntax.proofs.CostLemmas.{accounted_in-drop}
 use Rattle.rx_syntax.specs.Normal.{expressions}
 use Rattle.rx_syntax.specs.Depth.{depth}
 use Rattle.rx_syntax.specs.ClassViews.{class_view}
 use Rattle.rx_syntax.specs.HirViews.{kind_view}
 use Rattle.rx_thompson.specs.Built.{Built, slot_from}
+use Rattle.rx_thompson.proofs.AccountedLemmas.{accounted_in-more, accounted_in-least, copies-accounted, times-more}
 use Rattle.rx_thompson.specs.Room.{HasRoom}
 use Rattle.rx_thompson.proofs.ExpressionLemmas.{depth_at, expressions-more, expressions-none}
 use Rattle.rx_thompson.proofs.BuiltLemmas.{Built-nothing}
 use Rattle.rx_thompson.proofs.CompileLemmas.{Built-same, HasRoom-kept, HasRoom-less, greatest-at, BuiltEach-next, below-more}
 use Rattle.rx_thompson.specs.Draft.{Draft, pushed}
-use Rattle.rx_thompson.specs.Repeated.{tail}
+use Rattle.rx_thompson.specs.Repeated.{tail, leading}
 use Rattle.rx_thompson.specs.declared.state.State.TheVariants.{Union, Capture as Slot, Fail}
 use Rattle.rx_thompson.proofs.ResultLemmas.{IfOk-both}
 use Rattle.rx_thompson.proofs.BuiltLemmas.{Built-then, pushed-length}
@@ -29,24 +33,40 @@ pub compile-compile_repetition-requires : goal.compile-compile_repetition-requir
 unfolding greatest_group
 compile-compile_repetition-requires t c =
     let r = c.in-Repetition.repetition in
-    let is : repetition r.min r.max r.greedy r.sub.value ≡ c.args.hir.now = sym (ap kind_view c.in-Repetition.is) ∙ c.kind.ensures in
+    let is : repetition r.min r.max r.greedy r.sub.value ≡ c.args.hir.now = sym (ap kind_view c.in-Repetition.is) ∙ c.kind.ensures.value in
     let deep = ap depth is in
     let groups : greatest_group r.sub.value ≡ greatest_group c.args.hir.now = ap greatest_group is in
-    (omega arith, (c.requires.next, HasRoom-less c.args.builder.now c.args.groups.now (greatest_group c.args.hir.now) (greatest_group r.sub.value) (omega arith) c.requires.room))
+    let states = ap accounted_states is in
+    let fits = c.requires.fits in
+    let sound : IsSound (repetition r.min r.max r.greedy r.sub.value) = subst IsSound (sym is) c.kind.ensures.sound in (
+      omega arith,
+      (
+        c.requires.next,
+        (
+          HasRoom-less c.args.builder.now c.args.groups.now (greatest_group c.args.hir.now) (greatest_group r.sub.value) (omega arith) c.requires.room,
+          (sound.0, omega arith),
+        ),
+      ),
+    )
 
 pub compile-compile_capture-requires : goal.compile-compile_capture-requires
 unfolding greatest_group
 compile-compile_capture-requires t c =
     let g = c.in-Capture.capture in
-    let is : capture (non_zero_usize_get g.index) g.sub.value ≡ c.args.hir.now = sym (ap kind_view c.in-Capture.is) ∙ c.kind.ensures in
+    let is : capture (non_zero_usize_get g.index) g.sub.value ≡ c.args.hir.now = sym (ap kind_view c.in-Capture.is) ∙ c.kind.ensures.value in
     let deep = ap depth is in
-    let groups : max (non_zero_usize_get g.index) (greatest_group g.sub.value) ≡ greatest_group c.args.hir.now = ap greatest_group is in (
+    let groups : max (non_zero_usize_get g.index) (greatest_group g.sub.value) ≡ greatest_group c.args.hir.now = ap greatest_group is in
+    let states = ap accounted_states is in
+    let fits = c.requires.fits in (
       omega arith,
       (
         c.requires.next,
         (
           HasRoom-less c.args.builder.now c.args.groups.now (greatest_group c.args.hir.now) (non_zero_usize_get g.index) (omega arith) c.requires.room,
-          HasRoom-less c.args.builder.now c.args.groups.now (greatest_group c.args.hir.now) (greatest_group g.sub.value) (omega arith) c.requires.room,
+          (
+            HasRoom-less c.args.builder.now c.args.groups.now (greatest_group c.args.hir.now) (greatest_group g.sub.value) (omega arith) c.requires.room,
+            omega arith,
+          ),
         ),
       ),
     )
@@ -54,29 +74,33 @@ compile-compile_capture-requires t c =
 pub compile-compile_concat-requires : goal.compile-compile_concat-requires
 unfolding greatest_group
 compile-compile_concat-requires t c =
-    let is : concat (expressions c.deref-in-Concat.result.now) ≡ c.args.hir.now = ap (λ hs. concat (expressions hs)) c.deref-in-Concat.ensures.value ∙ sym (ap kind_view c.in-Concat.is) ∙ c.kind.ensures in
+    let is : concat (expressions c.deref-in-Concat.result.now) ≡ c.args.hir.now = ap (λ hs. concat (expressions hs)) c.deref-in-Concat.ensures.value ∙ sym (ap kind_view c.in-Concat.is) ∙ c.kind.ensures.value in
     let deep = ap depth is in
     let groups : greatest_in (expressions c.deref-in-Concat.result.now) ≡ greatest_group c.args.hir.now = ap greatest_group is in
-    (omega arith, (c.requires.next, subst (HasRoom c.args.builder.now c.args.groups.now) (sym groups) c.requires.room))
+    let states = ap accounted_states is in
+    let fits = c.requires.fits in
+    (omega arith, (c.requires.next, (subst (HasRoom c.args.builder.now c.args.groups.now) (sym groups) c.requires.room, omega arith)))
 
 pub compile-compile_alternation-requires : goal.compile-compile_alternation-requires
 unfolding greatest_group
 compile-compile_alternation-requires t c =
-    let is : alternation (expressions c.deref-in-Alternation.result.now) ≡ c.args.hir.now = ap (λ hs. alternation (expressions hs)) c.deref-in-Alternation.ensures.value ∙ sym (ap kind_view c.in-Alternation.is) ∙ c.kind.ensures in
+    let is : alternation (expressions c.deref-in-Alternation.result.now) ≡ c.args.hir.now = ap (λ hs. alternation (expressions hs)) c.deref-in-Alternation.ensures.value ∙ sym (ap kind_view c.in-Alternation.is) ∙ c.kind.ensures.value in
     let deep = ap depth is in
     let groups : greatest_in (expressions c.deref-in-Alternation.result.now) ≡ greatest_group c.args.hir.now = ap greatest_group is in
-    (omega arith, (c.requires.next, subst (HasRoom c.args.builder.now c.args.groups.now) (sym groups) c.requires.room))
+    let states = ap accounted_states is in
+    let fits = c.requires.fits in
+    (omega arith, (c.requires.next, (subst (HasRoom c.args.builder.now c.args.groups.now) (sym groups) c.requires.room, omega arith)))
 
 pub compile-returns-in-Empty-clause-built : goal.compile-returns-in-Empty-clause-built
 unfolding build
 compile-returns-in-Empty-clause-built t c =
-    let is : empty ≡ c.args.hir.now = sym (ap kind_view c.in-Empty.is) ∙ c.kind.ensures in
+    let is : empty ≡ c.args.hir.now = sym (ap kind_view c.in-Empty.is) ∙ c.kind.ensures.value in
     subst (λ h. Built (build (slot_from c.args.groups.now.first_slot) h) c.args.next c.args.builder.now c.args.builder.now c.args.next) is (Built-nothing c.args.next c.args.builder.now)
 
 pub compile-returns-in-Literal-clause-built : goal.compile-returns-in-Literal-clause-built
 unfolding build
 compile-returns-in-Literal-clause-built t c =
-    let is : literal c.in-Literal.bytes.items ≡ c.args.hir.now = sym (ap kind_view c.in-Literal.is) ∙ c.kind.ensures in
+    let is : literal c.in-Literal.bytes.items ≡ c.args.hir.now = sym (ap kind_view c.in-Literal.is) ∙ c.kind.ensures.value in
     Built-same _ _ c.args.next c.args.builder.now c.compile_literal.new.builder c.compile_literal.result
     (ap (λ bytes. build_state (text bytes)) c.deref.ensures.value ∙ ap (build (slot_from c.args.groups.now.first_slot)) is) c.compile_literal.ensures.built
 
@@ -84,7 +108,7 @@ pub compile-returns-in-Repetition-clause-built : goal.compile-returns-in-Repetit
 unfolding build
 compile-returns-in-Repetition-clause-built t c =
     let r = c.in-Repetition.repetition in
-    let is : repetition r.min r.max r.greedy r.sub.value ≡ c.args.hir.now = sym (ap kind_view c.in-Repetition.is) ∙ c.kind.ensures in
+    let is : repetition r.min r.max r.greedy r.sub.value ≡ c.args.hir.now = sym (ap kind_view c.in-Repetition.is) ∙ c.kind.ensures.value in
     Built-same _ _ c.args.next c.args.builder.now c.compile_repetition.new.builder c.compile_repetition.result
     (ap (build (slot_from c.args.groups.now.first_slot)) is) c.compile_repetition.ensures.built
 
@@ -92,21 +116,21 @@ pub compile-returns-in-Capture-clause-built : goal.compile-returns-in-Capture-cl
 unfolding build
 compile-returns-in-Capture-clause-built t c =
     let g = c.in-Capture.capture in
-    let is : capture (non_zero_usize_get g.index) g.sub.value ≡ c.args.hir.now = sym (ap kind_view c.in-Capture.is) ∙ c.kind.ensures in
+    let is : capture (non_zero_usize_get g.index) g.sub.value ≡ c.args.hir.now = sym (ap kind_view c.in-Capture.is) ∙ c.kind.ensures.value in
     Built-same _ _ c.args.next c.args.builder.now c.compile_capture.new.builder c.compile_capture.result
     (ap (build (slot_from c.args.groups.now.first_slot)) is) c.compile_capture.ensures.built
 
 pub compile-returns-in-Concat-clause-built : goal.compile-returns-in-Concat-clause-built
 unfolding build
 compile-returns-in-Concat-clause-built t c =
-    let is : concat (expressions c.in-Concat.subs.items) ≡ c.args.hir.now = sym (ap kind_view c.in-Concat.is) ∙ c.kind.ensures in
+    let is : concat (expressions c.in-Concat.subs.items) ≡ c.args.hir.now = sym (ap kind_view c.in-Concat.is) ∙ c.kind.ensures.value in
     Built-same _ _ c.args.next c.args.builder.now c.compile_concat.new.builder c.compile_concat.result
     (ap (λ hs. build_in_turn (slot_from c.args.groups.now.first_slot) (expressions hs)) c.deref-in-Concat.ensures.value ∙ ap (build (slot_from c.args.groups.now.first_slot)) is) c.compile_concat.ensures.built
 
 pub compile-returns-in-Alternation-clause-built : goal.compile-returns-in-Alternation-clause-built
 unfolding build
 compile-returns-in-Alternation-clause-built t c =
-    let is : alternation (expressions c.in-Alternation.subs.items) ≡ c.args.hir.now = sym (ap kind_view c.in-Alternation.is) ∙ c.kind.ensures in
+    let is : alternation (expressions c.in-Alternation.subs.items) ≡ c.args.hir.now = sym (ap kind_view c.in-Alternation.is) ∙ c.kind.ensures.value in
     Built-same _ _ c.args.next c.args.builder.now c.compile_alternation.new.builder c.compile_alternation.result
     (ap (λ hs. build_choice (build_each (slot_from c.args.groups.now.first_slot) (expressions hs))) c.deref-in-Alternation.ensures.value ∙ ap (build (slot_from c.args.groups.now.first_slot)) is) c.compile_alternation.ensures.built
 
@@ -115,12 +139,18 @@ compile_alternation-compile-requires t c =
     let item = c.sub-item.result in
     let k = c.loop-sub.sub-index in
     let lt : k < length c.args.subs.now = omega arith in
-    let deep = depth_at c.args.subs.now k item item lt c.sub-item.is in (
+    let deep = depth_at c.args.subs.now k item item lt c.sub-item.is in
+    let states = accounted_in-drop c.args.subs.now k item lt c.sub-item.is in
+    let count = c.loop-sub.invariant.count in
+    let fits = c.requires.fits in (
       omega arith,
       (
         omega arith,
-        HasRoom-kept c.args.builder.now c.loop-sub.builder c.args.groups.now (greatest_in (expressions c.args.subs.now)) (greatest_group item) c.loop-sub.invariant.patterns c.loop-sub.invariant.slots
-            (greatest-at c.args.subs.now k item item lt c.sub-item.is) c.requires.room,
+        (
+          HasRoom-kept c.args.builder.now c.loop-sub.builder c.args.groups.now (greatest_in (expressions c.args.subs.now)) (greatest_group item) c.loop-sub.invariant.patterns c.loop-sub.invariant.slots
+              (greatest-at c.args.subs.now k item item lt c.sub-item.is) c.requires.room,
+          omega arith,
+        ),
       ),
     )
 
@@ -134,6 +164,11 @@ compile_alternation-loop-sub-preserved t c =
           c.loop-sub.starts.items c.push.new.self.items c.in_ok-start.start (omega arith) c.sub-item.is c.in_ok-push.ensures.items before.built b;
       inside = below-more (length c.loop-sub.builder.states) (length c.compile.new.builder.states) c.loop-sub.starts.items c.push.new.self.items c.in_ok-start.start longer c.in_ok-start.ensures.inside c.in_ok-push.ensures.items before.inside;
       longer = omega arith;
+      count =
+          (let states = accounted_in-drop c.args.subs.now c.loop-sub.sub-index c.sub-item.result (omega arith) c.sub-item.is in
+          let more = c.in_ok-start.ensures.count in
+          let count = before.count in
+          omega arith);
       patterns = b.extends.patterns ∙ before.patterns;
       slots = b.extends.slots ∙ before.slots;
     }
@@ -150,13 +185,18 @@ compile_alternation-returns-clause-built t c =
 
 pub compile_capture-returns-clause-built : goal.compile_capture-returns-clause-built
 compile_capture-returns-clause-built t c =
-    let body = subst (λ h. Built (build (slot_from c.args.groups.now.first_slot) h) c.in_ok-close.close c.push.new.self c.compile.new.builder c.in_ok-body.body) c.deref.ensures c.in_ok-body.ensures.built in
+    let first = c.in-Some.first in
+    let slot = slot_from c.args.groups.now.first_slot in
+    let sub = c.args.capture.now.sub.value in
+    let body = subst (λ h. Built (build (slot_from c.args.groups.now.first_slot) h) c.in_ok-close.close c.push.new.self c.compile-2.new.builder c.in_ok-body.body) c.deref-2.ensures c.in_ok-body.ensures.built in
     subst (λ number. IfOk c.push-2.result (λ start. Built (build_group (slot_from c.args.groups.now.first_slot number) (build (slot_from c.args.groups.now.first_slot) c.args.capture.now.sub.value)) c.args.next c.args.builder.now c.push-2.new.self start))
     c.get.ensures.value
-    (IfOk-both (λ id. id ≡ length c.compile.new.builder.states) (λ id. c.push-2.new.self ≡ pushed c.compile.new.builder (Slot c.in_ok-body.body c.args.groups.now.pattern (c.args.groups.now.first_slot + 2 * (c.get.result - 1)))) _
+    (subst (λ o. IfOk c.push-2.result (λ start. Built (build_group (slot_from o c.get.result) (build (slot_from c.args.groups.now.first_slot) c.args.capture.now.sub.value)) c.args.next c.args.builder.now c.push-2.new.self start))
+    (sym c.in-Some.is)
+    (IfOk-both (λ id. id ≡ length c.compile-2.new.builder.states) (λ id. c.push-2.new.self ≡ pushed c.compile-2.new.builder (Slot c.in_ok-body.body c.args.groups.now.pattern (c.in-Some.first + 2 * (c.get.result - 1)))) _
     c.push-2.result c.push-2.ensures.id c.push-2.ensures.states
-    (λ start id is. Built-group (build (slot_from c.args.groups.now.first_slot) c.args.capture.now.sub.value) (c.args.groups.now.first_slot + 2 * (c.get.result - 1)) c.args.groups.now.pattern c.args.next c.in_ok-close.close c.in_ok-body.body start
-    c.args.builder.now c.push.new.self c.compile.new.builder c.push-2.new.self c.in_ok-close.ensures.id c.in_ok-close.ensures.states body id is))
+    (λ start id is. Built-group (build slot sub) (first + 2 * (c.get.result - 1)) c.args.groups.now.pattern c.args.next c.in_ok-close.close c.in_ok-body.body start
+    c.args.builder.now c.push.new.self c.compile-2.new.builder c.push-2.new.self c.in_ok-close.ensures.id c.in_ok-close.ensures.states body id is)))
 
 pub compile_concat-loop-left-init : goal.compile_concat-loop-left-init
 unfolding build
@@ -164,6 +204,7 @@ compile_concat-loop-left-init t c = record {
   built =
       subst (λ hs. Built (build_in_turn (slot_from c.args.groups.now.first_slot) hs) c.args.next c.args.builder.now c.args.builder.now c.args.next) (sym (expressions-none c.args.subs.now))
       (Built-nothing c.args.next c.args.builder.now);
+  count = omega arith;
   within = omega arith;
   inside = c.requires.next;
 }
@@ -174,12 +215,19 @@ compile_concat-compile-requires t c =
     let k = c.loop-left.left - 1 in
     let lt : c.loop-left.left - 1 < length c.args.subs.now = omega arith in
     let deep = depth_at c.args.subs.now (c.loop-left.left - 1) item item lt c.index-subs-left.is in
-    let b = c.loop-left.invariant.built.extends in (
+    let b = c.loop-left.invariant.built.extends in
+    let states = accounted_in-more c.args.subs.now c.loop-left.left item item (omega arith) c.loop-left.invariant.within c.index-subs-left.is in
+    let least = accounted_in-least c.args.subs.now (c.loop-left.left - 1) in
+    let count = c.loop-left.invariant.count in
+    let fits = c.requires.fits in (
       omega arith,
       (
         c.loop-left.invariant.inside,
-        HasRoom-kept c.args.builder.now c.loop-left.builder c.args.groups.now (greatest_in (expressions c.args.subs.now)) (greatest_group item) b.patterns b.slots
-            (greatest-at c.args.subs.now (c.loop-left.left - 1) item item lt c.index-subs-left.is) c.requires.room,
+        (
+          HasRoom-kept c.args.builder.now c.loop-left.builder c.args.groups.now (greatest_in (expressions c.args.subs.now)) (greatest_group item) b.patterns b.slots
+              (greatest-at c.args.subs.now (c.loop-left.left - 1) item item lt c.index-subs-left.is) c.requires.room,
+          omega arith,
+        ),
       ),
     )
 
@@ -194,6 +242,11 @@ compile_concat-loop-left-preserved t c =
       built =
           subst (λ hs. Built (build_in_turn (slot_from c.args.groups.now.first_slot) hs) c.args.next c.args.builder.now c.compile.new.builder c.in_ok-start.start) (sym more)
           (Built-then (build slot item) (build_in_turn slot rest) c.args.next c.loop-left.start c.in_ok-start.start c.args.builder.now c.loop-left.builder c.compile.new.builder c.loop-left.invariant.built c.in_ok-start.ensures.built);
+      count =
+          (let states = accounted_in-more c.args.subs.now c.loop-left.left item item (omega arith) c.loop-left.invariant.within c.index-subs-left.is in
+          let one = c.in_ok-start.ensures.count in
+          let count = c.loop-left.invariant.count in
+          omega arith);
       within = omega arith;
       inside = c.in_ok-start.ensures.inside;
     }
@@ -225,8 +278,41 @@ compile_options-loop-option-preserved t c =
     record {
       built = option-closed r.greedy c.loop-option._option (build (slot_from c.args.groups.now.first_slot) r.sub.value) c.args.next c.loop-option.start c.in_ok-choice.choice c.in_ok-body.body c.args.builder.now c.loop-option.builder c.push.new.self
           c.compile.new.builder c.patch.new.self Fail c.in_ok-option.option c.in_ok-choice.ensures.id c.in_ok-choice.ensures.states c.in_ok-option.ensures c.patch.ensures c.loop-option.invariant.built body;
+      count =
+          (let states = ap accounted_states c.deref.ensures in
+          let more = c.in_ok-body.ensures.count in
+          let count = c.loop-option.invariant.count in
+          omega arith);
       inside = omega arith;
     }
+
+pub compile_repetition-compile-requires : goal.compile_repetition-compile-requires
+compile_repetition-compile-requires t c =
+    let r = c.args.repetition.now in
+    let deep = ap depth c.deref.ensures in
+    let states = ap accounted_states c.deref.ensures in
+    let groups : greatest_group c.deref.result.now ≡ greatest_group r.sub.value = ap greatest_group c.deref.ensures in
+    let b = c.loop-copy.invariant.built.extends in
+    let all = copies-accounted r.min r.max (accounted_states r.sub.value) c.requires.ordered in
+    let leads = ap (λ n. n * accounted_states r.sub.value) c.leading-copies.ensures in
+    let more = times-more c.loop-copy._copy c.leading-copies.result (accounted_states r.sub.value) (omega arith) in
+    let count = c.loop-copy.invariant.count in
+    let fits = c.requires.fits in (
+      omega arith,
+      (
+        c.loop-copy.invariant.inside,
+        (HasRoom-kept c.args.builder.now c.loop-copy.builder c.args.groups.now (greatest_group r.sub.value) (greatest_group c.deref.result.now) b.patterns b.slots (omega arith) c.requires.room, omega arith),
+      ),
+    )
+
+pub compile_repetition-returns-clause-count : goal.compile_repetition-returns-clause-count
+compile_repetition-returns-clause-count t c =
+    let r = c.args.repetition.now in
+    let all = copies-accounted r.min r.max (accounted_states r.sub.value) c.requires.ordered in
+    let copies : c.loop-copy._copy ≡ leading r.min r.max = omega (arith, c.leading-copies.ensures) in
+    let leads = ap (λ n. n * accounted_states r.sub.value) copies in
+    let count = c.loop-copy.invariant.count in
+    omega arith
 
 pub compile_repetition-loop-copy-preserved : goal.compile_repetition-loop-copy-preserved
 compile_repetition-loop-copy-preserved t c =
@@ -236,6 +322,11 @@ compile_repetition-loop-copy-preserved t c =
     record {
       built = copy-more c.loop-copy._copy (build slot r.sub.value) (tail (is_positive (minimum_len r.sub.value)) r.min r.max r.greedy (build slot r.sub.value)) c.args.next c.loop-copy.start c.in_ok-start-2.start
           c.args.builder.now c.loop-copy.builder c.compile.new.builder c.loop-copy.invariant.built body;
+      count =
+          (let states = ap accounted_states c.deref.ensures in
+          let more = c.in_ok-start-2.ensures.count in
+          let count = c.loop-copy.invariant.count in
+          omega arith);
       inside = c.in_ok-start-2.ensures.inside;
     }
 
@@ -252,6 +343,6 @@ compile_unbounded-returns-clause-built t c =
 pub compile-returns-in-Class-clause-built : goal.compile-returns-in-Class-clause-built
 unfolding build
 compile-returns-in-Class-clause-built t c =
-    let is : class (class_view c.in-Class.class) ≡ c.args.hir.now = sym (ap kind_view c.in-Class.is) ∙ c.kind.ensures in
+    let is : class (class_view c.in-Class.class) ≡ c.args.hir.now = sym (ap kind_view c.in-Class.is) ∙ c.kind.ensures.value in
     Built-same _ _ c.args.next c.args.builder.now c.push_class.new.self c.push_class.result
     (ap (build (slot_from c.args.groups.now.first_slot)) is) c.push_class.ensures.built

@@ -2,16 +2,18 @@ use Rattle.std.proofs.Common.{◌≡◌, ◌<◌, ◌≤◌, ◌+◌, ◌*◌, l
 use Rattle.std.specs.Prelude.{All}
 use Rattle.rx_model.specs.Graph.{build, build_in_turn, copies, options}
 use Rattle.rx_model.specs.Length.{minimum_len, is_positive}
+use Rattle.rx_syntax.specs.Cost.{accounted_states, accounted_in}
 use Rattle.rx_syntax.specs.Normal.{expressions}
 use Rattle.rx_syntax.specs.Depth.{depth, greatest_depth}
 use Rattle.rx_thompson.specs.Built.{Built, slot_from}
-use Rattle.rx_thompson.specs.Repeated.{tail}
+use Rattle.rx_thompson.specs.Repeated.{tail, states_of_tail}
 use Rattle.rx_thompson.proofs.ChoiceLemmas.{BuiltEach}
 use Rattle.rx_thompson.proofs.compiler.expression.+compile.Given as goal
 
 abbrev pub invariant-compile_concat-loop-left : goal.invariant-compile_concat-loop-left
 invariant-compile_concat-loop-left l = record {
   built : Built (build_in_turn (slot_from l.groups.first_slot) (expressions (drop l.left l.subs))) l.fn.next l.initial.builder l.builder l.start;
+  count : length l.builder.states ≤ length l.initial.builder.states + accounted_in (expressions (drop l.left l.subs));
   within : l.left ≤ length l.subs;
   inside : l.start < length l.builder.states;
 }
@@ -24,6 +26,7 @@ invariant-compile_alternation-loop-sub l = record {
   built : BuiltEach (slot_from l.groups.first_slot) (take l.sub-index l.subs) l.fn.next l.initial.builder l.builder l.starts.items;
   inside : All (λ q. q < length l.builder.states) l.starts.items;
   longer : length l.initial.builder.states ≤ length l.builder.states;
+  count : length l.builder.states + accounted_in (expressions (drop l.sub-index l.subs)) ≤ length l.initial.builder.states + accounted_in (expressions l.subs);
   patterns : l.builder.patterns ≡ l.initial.builder.patterns;
   slots : l.builder.slots ≡ l.initial.builder.slots;
 }
@@ -33,12 +36,14 @@ invariant-compile_repetition-loop-copy l = record {
   built : Built (copies l._copy (build (slot_from l.groups.first_slot) l.repetition.sub.value)
       (tail (is_positive (minimum_len l.repetition.sub.value)) l.repetition.min l.repetition.max l.repetition.greedy (build (slot_from l.groups.first_slot) l.repetition.sub.value)))
       l.fn.next l.fn.builder l.builder l.start;
+  count : length l.builder.states ≤ length l.fn.builder.states + (states_of_tail l.repetition.min l.repetition.max (accounted_states l.repetition.sub.value) + l._copy * accounted_states l.repetition.sub.value);
   inside : l.start < length l.builder.states;
 }
 
 abbrev pub invariant-compile_options-loop-option : goal.invariant-compile_options-loop-option
 invariant-compile_options-loop-option l = record {
   built : Built (options l.repetition.greedy l._option (build (slot_from l.groups.first_slot) l.repetition.sub.value)) l.fn.next l.initial.builder l.builder l.start;
+  count : length l.builder.states ≤ length l.initial.builder.states + l._option * (accounted_states l.repetition.sub.value + 1);
   inside : l.start < length l.builder.states;
 }
 

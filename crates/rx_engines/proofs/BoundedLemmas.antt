@@ -1,0 +1,135 @@
+-- The starts of a bounded search, and what it reports.
+use Rattle.std.proofs.Common.{◌≡◌, ℕ, zero, suc, ◌+◌, ◌-◌, ◌*◌, ◌/◌, ◌≤◌, ◌<◌, List, ◌∷◌, [], length, get_or, refl, sym, ◌∙◌, ap, subst, arith}
+use Rattle.std.proofs.Math.Nat.{div-le_self}
+use Rattle.std.proofs.lemmas.Nat.{mul-le}
+use Rattle.std.proofs.lemmas.List.{length-replicate}
+use Rattle.std.proofs.lemmas.Bool.Decides.{nat_tests}
+use Rattle.std.specs.Prelude.{Bool, true, false, Option, Some, None, option_map, IfSome, replicate, nat_lt, if◌then◌else◌, ◌^◌}
+use Rattle.rx_model.specs.Runs.{Trace, first_trace}
+use Rattle.rx_model.specs.Search.{Patterns, Anchor, free, anchored, anchored_to, Match, is_permitted, first_start, slot_value}
+use Rattle.rx_model.proofs.RunLemmas.{by_test}
+use Rattle.rx_model.proofs.FirstLemmas.{none-is-some, some-is}
+use Rattle.rx_search.specs.Input.{InputValue}
+use Rattle.rx_search.specs.Matches.{match_value, MatchValue}
+use Rattle.rx_thompson.specs.Automaton.{at, automaton}
+use Rattle.rx_thompson.specs.Nfa.{Nfa, IsInRange}
+use Rattle.rx_thompson.specs.NextMatch.{start_of, first_from, next_match_of}
+use Rattle.rx_thompson.proofs.NextMatchLemmas.{first_start-alike, next_match_of-patterns, next_match_of-slot, next_match_of-within}
+use Rattle.rx_thompson.specs.declared.state.State.{State}
+use Rattle.rx_engines.specs.Engine.{next_match_for, last_start, HasSlots}
+use Rattle.rx_engines.specs.Walk.{Slots, Answer, answer, write_all}
+use Rattle.rx_engines.specs.Backtrack.{graph_for, next_of, returned, triple, next_match_within, IsNfaOf, max_len, span_len}
+use Rattle.rx_engines.specs.declared.backtrack.search.Search.{Search}
+use Rattle.rx_engines.specs.Simulation.{first_of}
+use Rattle.rx_engines.proofs.EngineLemmas.{next_match_of-start}
+use Rattle.rx_engines.proofs.OptionLemmas.{or-none_right}
+use Rattle.rx_engines.proofs.SlotLemmas.{slot-of_match, length-write_all}
+
+-- the next match that starts at place i or after it
+abbrev pub next_from : Search → ℕ → Option Match
+next_from s i = first_start (is_permitted s.utf8 s.text.now) (λ j. first_trace (graph_for s) (at s.start j)) (s.last + 1 - i) i
+
+module _ (s : Search) (i : ℕ) where
+  abbrev here : Option Trace
+  here = first_trace (graph_for s) (at s.start i)
+
+  one_more : i ≤ s.last → s.last + 1 - i ≡ suc (s.last + 1 - (i + 1))
+  one_more le = omega arith
+
+  next-here : (t : Trace) → i ≤ s.last → is_permitted s.utf8 s.text.now i ≡ true → here ≡ Some t → next_from s i ≡ Some (record { start = i; trace = t })
+  unfolding first_start
+  next-here t le allowed found = rw (one_more le, allowed, found) refl
+
+  pub next-none_here : i ≤ s.last → here ≡ None → next_from s (i + 1) ≡ next_from s i
+  unfolding first_start
+  next-none_here le none = rw (one_more le, none) (by_test (is_permitted s.utf8 s.text.now i) (λ e. rw e refl) (λ e. rw e refl))
+
+  pub next-not_allowed : i ≤ s.last → is_permitted s.utf8 s.text.now i ≡ false → next_from s (i + 1) ≡ next_from s i
+  unfolding first_start
+  next-not_allowed le e = rw (one_more le, e) refl
+
+  pub next-over : s.last < i → next_from s i ≡ None
+  unfolding first_start
+  next-over lt = let e : s.last + 1 - i ≡ 0 = omega arith in rw e refl
+
+-- what an attempt returned
+pub returned-none : (slots slots' : Slots) (o : Option Trace) → returned None slots' ≡ answer slots o → o ≡ None
+returned-none slots slots' None h = refl
+returned-none slots slots' (Some t) h = none-is-some h
+
+returned-some : (r : ℕ × ℕ) (slots slots' : Slots) (o : Option Trace) → returned (Some r) slots' ≡ answer slots o
+    → (t : Trace) × (o ≡ Some t) × (r.0 ≡ t.pattern) × (r.1 ≡ t.end) × (slots' ≡ write_all t.writes slots)
+returned-some r slots slots' None h = none-is-some (sym h)
+returned-some r slots slots' (Some t) h =
+    let e : record { pattern = r.0; end = r.1; slots = slots' } ≡ record { pattern = t.pattern; end = t.end; slots = write_all t.writes slots } = some-is h in
+    (t, refl, ap (λ (a : Answer). a.pattern) e, ap (λ (a : Answer). a.end) e, ap (λ (a : Answer). a.slots) e)
+
+-- what the search answers of a match
+pub record Answered (goal : Option Match) (pattern start end : ℕ) (slots : Slots) : Type 0 where
+  pub value : ◌≡◌ {A = Option (ℕ × ℕ × ℕ)} (Some (pattern, start, end)) (option_map triple goal)
+  pub slots_are : IfSome goal (λ m. (k : ℕ) → k < length slots → get_or slots k None ≡ slot_value m k)
+
+pub match-answered : (s : Search) (i n : ℕ) (r : ℕ × ℕ) (slots slots' : Slots) (goal : Option Match)
+    → returned (Some r) slots' ≡ answer slots (first_trace (graph_for s) (at s.start i)) → i ≤ s.last → is_permitted s.utf8 s.text.now i ≡ true → slots ≡ replicate n None
+    → next_from s i ≡ goal → Answered goal r.0 i r.1 slots'
+match-answered s i n r slots slots' goal is le allowed empty next =
+    let x = returned-some r slots slots' (first_trace (graph_for s) (at s.start i)) is in
+    let found : Some (record { start = i; trace = x.0 }) ≡ goal = sym (next-here s i x.0 le allowed x.1) ∙ next in
+    subst (λ g. Answered g r.0 i r.1 slots') found (record {
+      value = (λ j. Some (x.2 j, i, x.3 j));
+      slots_are = λ k lt.
+          (let same : slots' ≡ write_all x.0.writes (replicate n None) = x.4 ∙ ap (write_all x.0.writes) empty in
+          let long : length slots' ≡ n = ap length same ∙ length-write_all x.0.writes (replicate n None) ∙ length-replicate n None in
+          ap (λ (s : Slots). get_or s k None) same ∙ slot-of_match n k x.0.writes (omega arith));
+    })
+
+-- What the search of an NFA finds.
+
+module _ (nfa : Nfa) (v : InputValue) where
+  pub patterns-met : v.end ≤ length v.haystack → (r : Patterns) → IsNfaOf nfa r → next_match_within nfa v ≡ next_match_for r v
+  patterns-met within r of = next_match_of-patterns nfa r v.haystack v.end within of.runs nfa.utf8 v.anchor v.start of.utf8_empty
+
+  start-is : (q last : ℕ) → v.start ≤ v.end → start_of nfa v.anchor ≡ Some q → last ≡ last_start v
+      → first_start (is_permitted nfa.utf8 v.haystack) (λ i. first_trace (automaton nfa.states v.haystack v.end) (at q i)) (last + 1 - v.start) v.start ≡ next_match_within nfa v
+  start-is q last le is at_last =
+      first_start-alike (is_permitted nfa.utf8 v.haystack) (λ i. first_trace (automaton nfa.states v.haystack v.end) (at q i)) (first_of (first_trace (automaton nfa.states v.haystack v.end)) (q ∷ [])) (last + 1 - v.start) v.start
+      (λ j _. sym (or-none_right (first_trace (automaton nfa.states v.haystack v.end) (at q j))))
+      ∙ next_match_of-start nfa nfa.utf8 v.haystack v.anchor v.end v.start q last le is at_last
+
+  -- what the search of the states was given
+  pub found-within : {states : List State} {text : List ℕ} {q last first end : ℕ} {utf8 : Bool} → states ≡ nfa.states → text ≡ v.haystack → utf8 ≡ nfa.utf8 → last ≡ last_start v → first ≡ v.start → end ≡ v.end
+      → v.start ≤ v.end → start_of nfa v.anchor ≡ Some q
+      → first_start (is_permitted utf8 text) (λ i. first_trace (automaton states text end) (at q i)) (last + 1 - first) first ≡ next_match_within nfa v
+  found-within {q = q} {last = last} a b c at_last d e le is =
+      (λ j. first_start (is_permitted (c j) (b j)) (λ i. first_trace (automaton (a j) (b j) (e j)) (at q i)) (last + 1 - d j) (d j))
+      ∙ start-is q last le is at_last
+
+  pub found-in_order : (o : Option Match) → o ≡ next_match_within nfa v → (found : Option (ℕ × ℕ × ℕ)) → found ≡ option_map triple o → IfSome found (λ f. f.1 ≤ f.2)
+  found-in_order None e found is = rw is tt
+  found-in_order (Some m) e found is = rw is (next_match_of-within nfa nfa.utf8 v.haystack v.anchor v.end v.start m (sym e)).1
+
+  pub found-in_span : (o : Option Match) → o ≡ next_match_within nfa v → (result : Option MatchValue) → result ≡ option_map match_value o → IfSome result (λ m. (v.start ≤ m.start) × (m.end ≤ v.end))
+  found-in_span None e result is = rw is tt
+  found-in_span (Some m) e result is = let within = next_match_of-within nfa nfa.utf8 v.haystack v.anchor v.end v.start m (sym e) in rw is (within.0, within.2)
+
+  -- a slot that the engine has no room for stays empty
+  pub slots-met : IsInRange nfa → {room : ℕ} → room ≡ nfa.slots → (o : Option Match) → o ≡ next_match_within nfa v → (slots : Slots)
+      → IfSome o (λ m. (k : ℕ) → k < length slots → get_or slots k None ≡ (if nat_lt k room then slot_value m k else None)) → IfSome (next_match_within nfa v) (HasSlots slots)
+  slots-met range {room} wide None e slots told = subst (λ x. IfSome x (HasSlots slots)) e tt
+  slots-met range {room} wide (Some m) e slots told =
+      subst (λ x. IfSome x (HasSlots slots)) e
+      (λ k lt. by_test (nat_lt k room)
+      (λ t. rw t at (told k lt))
+      (λ t. (rw t at (told k lt)) ∙ sym (next_match_of-slot nfa range v.haystack v.end k (grind (arith, nat_tests)) nfa.utf8 v.anchor v.start m (sym e))))
+
+-- a match as the search reports it
+pub reported-triple : (o : Option Match) → option_map (λ (f : ℕ × ℕ × ℕ). let m : MatchValue = record { pattern = f.0; start = f.1; end = f.2 } in m) (option_map triple o) ≡ option_map match_value o
+reported-triple None = refl
+reported-triple (Some m) = refl
+
+-- there are few enough states at places
+pub small-extent : (accounted most rows n : ℕ) → most ≡ 2097152 / accounted - 1 → rows ≤ most + 1 → n ≤ 2147483647 → rows * n < 2 ^ 63
+small-extent accounted most rows n is few states =
+    let quotient = div-le_self 2097152 accounted in
+    let product = mul-le rows n 2097152 2147483647 (omega arith) states in
+    omega arith

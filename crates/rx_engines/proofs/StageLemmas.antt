@@ -1,0 +1,147 @@
+-- The stages of a search, for each end that it might have: what the threads at a place and the starts to come
+-- lead to is the next match that ends by there.
+use Rattle.std.proofs.Common.{◌≡◌, ◌⊎◌, ℕ, zero, suc, ◌+◌, ◌-◌, ◌≤◌, ◌<◌, List, [], refl, sym, ◌∙◌, ap, inl, inr, arith, true≢false}
+use Rattle.std.specs.Prelude.{Bool, true, false, ◌&&◌, Option, Some, None, option_map, is_some, nat_lt, if◌then◌else◌, IfSome, IfNone}
+use Rattle.std.specs.Option.{option_or}
+use Rattle.std.proofs.lemmas.Bool.Decides.{nat_tests}
+use Rattle.rx_model.specs.Runs.{Passed, Trace, nowhere, found}
+use Rattle.rx_model.specs.Search.{Match, is_permitted, first_start}
+use Rattle.rx_model.proofs.RunLemmas.{by_test}
+use Rattle.rx_model.proofs.FirstLemmas.{none-is-some}
+use Rattle.rx_thompson.specs.Automaton.{automaton}
+use Rattle.rx_engines.specs.Walk.{Slots}
+use Rattle.rx_engines.specs.Threads.{Row}
+use Rattle.rx_engines.specs.Simulation.{Hit, hit_of, best_hit, accepted_hit, among, later_starts, byte_at}
+use Rattle.rx_engines.specs.Search.{next_until, next_of, first_place, stop_of, answer_of}
+use Rattle.rx_engines.specs.declared.pikevm.search.Search.{Search}
+use Rattle.rx_engines.proofs.StartLemmas.{over-matched, over-past, over-end, starts-beyond}
+
+-- The first place at which a test holds.
+
+pub first_place-is : (test : ℕ → Bool) (other n i k : ℕ) → i ≤ k → k ≤ i + n → i + n ≡ other → ((e : ℕ) → i ≤ e → e < k → test e ≡ false) → test k ≡ true → first_place test other n i ≡ k
+unfolding first_place
+first_place-is test other zero i k low high last none here = omega arith
+first_place-is test other (suc n) i k low high last none here =
+    by_test (nat_lt i k)
+    (λ e.
+    let lt : i < k = grind (arith, nat_tests) in
+    rw (none i (omega arith) lt) (first_place-is test other n (i + 1) k (omega arith) (omega arith) (omega arith) (λ j le less. none j (omega arith) less) here))
+    (λ e.
+    let same : i ≡ k = grind (arith, nat_tests) in
+    let now : test i ≡ true = ap test same ∙ here in
+    rw now same)
+
+pub first_place-within : (test : ℕ → Bool) (other n i : ℕ) → i + n ≤ other → (i ≤ first_place test other n i) × (first_place test other n i ≤ other)
+unfolding first_place
+first_place-within test other zero i le = (omega arith, omega arith)
+first_place-within test other (suc n) i le =
+    by_test (test i)
+    (λ e. rw e (omega arith, omega arith))
+    (λ e. let h = first_place-within test other n (i + 1) (omega arith) in let low = h.0 in let high = h.1 in rw e (omega arith, omega arith))
+
+pub first_place-alike : (test test' : ℕ → Bool) (other n i : ℕ) → ((e : ℕ) → i ≤ e → e < i + n → test e ≡ test' e) → first_place test other n i ≡ first_place test' other n i
+unfolding first_place
+first_place-alike test test' other zero i alike = refl
+first_place-alike test test' other (suc n) i alike =
+    rw (alike i (omega arith) (omega arith), first_place-alike test test' other n (i + 1) (λ e low high. alike e (omega arith) (omega arith))) refl
+
+-- the same byte stands before both ends
+pub byte-same : (text : List ℕ) (end other place : ℕ) → place < end → place < other → byte_at text end place ≡ byte_at text other place
+byte-same text end other place lt less =
+    let a : nat_lt place end ≡ true = grind (arith, nat_tests) in
+    let b : nat_lt place other ≡ true = grind (arith, nat_tests) in
+    rw (a, b) refl
+
+unmapped : {A B : Type 0} (f : A → B) (o : Option A) → option_map f o ≡ None → o ≡ None
+unmapped f None h = refl
+unmapped f (Some x) h = none-is-some (sym h)
+
+pub not-some : {A : Type 0} (o : Option A) → is_some o ≡ false → o ≡ None
+not-some None h = refl
+not-some (Some x) h = absurd (true≢false h)
+
+pub and-false : (a b : Bool) → false ≡ (a && b) → a ≡ true → b ≡ false
+and-false true b h on = sym h
+and-false false b h on = absurd (true≢false (sym on))
+
+pub and-true : (a b : Bool) → true ≡ (a && b) → (a ≡ true) × (b ≡ true)
+and-true true b h = (refl, sym h)
+and-true false b h = absurd (true≢false h)
+
+-- what was found last is not better where nothing is known yet
+pub found-none : (f : Option (ℕ × ℕ)) (best : Option (ℕ × ℕ × ℕ)) (i : ℕ) → IfSome f (λ f. best ≡ Some (f.0, f.1, i)) → best ≡ None → f ≡ None
+found-none None best i some none = refl
+found-none (Some f) best i some none = none-is-some (sym none ∙ some)
+
+module _ (s : Search) (width from : ℕ) where
+  abbrev pub Stage : (end : ℕ) → Option Hit → (place next : ℕ) → Passed → List Row → List ℕ → Type 0
+  Stage end best place next p rows items =
+      option_or (among s.states.now (automaton s.states.now s.text.now end) nowhere place rows items)
+      (later_starts s.states.now s.text.now s.starts.now s.utf8_empty end width best s.last next p)
+      ≡ option_map (hit_of width) (next_until s from end)
+
+  -- threads were started, with rows of some width
+  pub seed-fits : (end : ℕ) (best : Option Hit) (i : ℕ) (p : Passed) (rows rows' : List Row) (items items' : List ℕ) {n : ℕ} → n ≡ width
+      → (option_or (among s.states.now (automaton s.states.now s.text.now end) nowhere i rows items) (later_starts s.states.now s.text.now s.starts.now s.utf8_empty end n best s.last i p) ≡ option_map (hit_of width) (next_until s from end)
+      → option_or (among s.states.now (automaton s.states.now s.text.now end) nowhere i rows' items') (later_starts s.states.now s.text.now s.starts.now s.utf8_empty end n best s.last (i + 1) nowhere) ≡ option_map (hit_of width) (next_until s from end))
+      → Stage end best i i p rows items → Stage end best i (i + 1) nowhere rows' items'
+  seed-fits end best i p rows rows' items items' same seeds value =
+      (λ j. option_or (among s.states.now (automaton s.states.now s.text.now end) nowhere i rows' items') (later_starts s.states.now s.text.now s.starts.now s.utf8_empty end (sym same j) best s.last (i + 1) nowhere))
+      ∙ seeds ((λ j. option_or (among s.states.now (automaton s.states.now s.text.now end) nowhere i rows items) (later_starts s.states.now s.text.now s.starts.now s.utf8_empty end (same j) best s.last i p)) ∙ value)
+
+  -- no thread is left, and there is a match
+  pub stage-matched : (end : ℕ) (best : Option (ℕ × ℕ × ℕ)) (slots : Slots) (items : List ℕ) (rows : List Row) (i : ℕ) → items ≡ [] → is_some best ≡ true
+      → Stage end (best_hit best slots) i (i + 1) nowhere rows items → best_hit best slots ≡ option_map (hit_of width) (next_until s from end)
+  stage-matched end best slots items rows i none h value =
+      over-matched s.states.now s.text.now s.starts.now s.utf8_empty end width s.last best slots items rows i (option_map (hit_of width) (next_until s from end)) none h value
+
+  -- no thread is left, nor a start
+  pub stage-past : (end : ℕ) (best : Option (ℕ × ℕ × ℕ)) (slots : Slots) (items : List ℕ) (rows : List Row) (i : ℕ) → items ≡ [] → is_some best ≡ false → s.last ≤ i
+      → Stage end (best_hit best slots) i (i + 1) nowhere rows items → next_until s from end ≡ None
+  stage-past end best slots items rows i none h le value =
+      unmapped (hit_of width) (next_until s from end)
+      (sym (over-past s.states.now s.text.now s.starts.now s.utf8_empty end width s.last best slots items rows i (option_map (hit_of width) (next_until s from end)) none h le value))
+
+  -- the end was passed
+  pub stage-over : (end : ℕ) (best : Option (ℕ × ℕ × ℕ)) (slots : Slots) (items : List ℕ) (rows : List Row) (p : Passed) (i : ℕ) → end < i → s.last < i
+      → Stage end (best_hit best slots) i i p rows items → best_hit best slots ≡ option_map (hit_of width) (next_until s from end)
+  stage-over end best slots items rows p i lt past value =
+      over-end s.states.now s.text.now s.starts.now s.utf8_empty end width s.last best slots items rows p i (option_map (hit_of width) (next_until s from end)) lt past value
+
+  -- at its end, the first thread that accepts has the match
+  pub stage-accepted : (f : Option (ℕ × ℕ)) (best best' : Option (ℕ × ℕ × ℕ)) (slots : Slots) (old : Option Hit) (items : List ℕ) (rows : List Row) (i : ℕ)
+      → among s.states.now (automaton s.states.now s.text.now i) nowhere i rows items ≡ accepted_hit f i slots
+      → IfSome f (λ f. best' ≡ Some (f.0, f.1, i)) → IfNone f (best' ≡ best) → best ≡ None → is_some best' ≡ true
+      → Stage i old i (i + 1) nowhere rows items → best_hit best' slots ≡ option_map (hit_of width) (next_until s from i)
+  stage-accepted None best best' slots old items rows i accepts some same none h value = absurd (true≢false (sym h ∙ ap is_some (same ∙ none)))
+  stage-accepted (Some f) best best' slots old items rows i accepts some same none h value =
+      ap (λ b. best_hit b slots) some ∙ (rw accepts at value)
+
+  -- and where none accepts there is none
+  pub stage-silent : (f : Option (ℕ × ℕ)) (slots : Slots) (old : Option Hit) (items : List ℕ) (rows : List Row) (i : ℕ)
+      → among s.states.now (automaton s.states.now s.text.now i) nowhere i rows items ≡ accepted_hit f i slots
+      → f ≡ None → old ≡ None → Stage i old i (i + 1) nowhere rows items → next_until s from i ≡ None
+  stage-silent f slots old items rows i accepts none unmatched value =
+      unmapped (hit_of width) (next_until s from i)
+      (sym (sym (ap (λ o. option_or o (later_starts s.states.now s.text.now s.starts.now s.utf8_empty i width None s.last (i + 1) nowhere)) (accepts ∙ ap (λ o. accepted_hit o i slots) none)
+      ∙ ap (option_map (hit_of width)) (starts-beyond s.states.now s.text.now s.starts.now s.utf8_empty i width s.last (i + 1) (omega arith)))
+      ∙ (rw unmatched at value)))
+
+-- the search stops at the first place by which a match ends
+pub answer-stopped : (s : Search) (from place : ℕ) (earliest : Bool) → earliest ≡ true → from ≤ place → place ≤ s.end → ((e : ℕ) → from ≤ e → e < place → next_until s from e ≡ None)
+    → is_some (next_until s from place) ≡ true → next_until s from place ≡ answer_of s earliest from
+answer-stopped s from place earliest on low high none here =
+    ap (next_until s from) (sym (first_place-is (λ e. is_some (next_until s from e)) s.end (s.end - from) from place low (omega arith) (omega arith) (λ e le lt. ap is_some (none e le lt)) here))
+    ∙ ap (λ b. answer_of s b from) (sym on)
+
+-- where no match ends at all, it finds none
+pub answer-none : (s : Search) (from : ℕ) (earliest : Bool) → earliest ≡ true → from ≤ s.end → ((e : ℕ) → from ≤ e → e ≤ s.end → next_until s from e ≡ None) → answer_of s earliest from ≡ None
+answer-none s from earliest on le none =
+    let w = first_place-within (λ e. is_some (next_until s from e)) s.end (s.end - from) from (omega arith) in
+    let low = w.0 in
+    let high = w.1 in
+    ap (λ b. answer_of s b from) on ∙ none (first_place (λ e. is_some (next_until s from e)) s.end (s.end - from) from) low (omega arith)
+
+-- without `earliest` it answers the next match
+pub answer-late : (s : Search) (from : ℕ) (earliest : Bool) → earliest ≡ false → next_of s from ≡ answer_of s earliest from
+answer-late s from earliest off = ap (λ b. answer_of s b from) (sym off)

@@ -1,0 +1,119 @@
+-- What a depth-first search does at a state.
+use Rattle.std.proofs.Common.{◌≡◌, ◌⊎◌, ℕ, ◌+◌, ◌<◌, ◌≤◌, List, [], ◌∷◌, ◌++◌, refl, sym, ◌∙◌, ap, inl, inr, arith, get_or, set, length}
+use Rattle.std.proofs.lemmas.Bool.Decides.{nat_tests}
+use Rattle.std.proofs.lemmas.List.Elements.{All-nil, All-cons, All-head, All-tail}
+use Rattle.std.specs.Prelude.{true, false, Option, Some, None, All, map, nat_lt, nat_le, ◌&&◌, slice_index}
+use Rattle.rx_model.specs.Runs.{PriorityGraph, Configuration}
+use Rattle.rx_model.proofs.RunLemmas.{by_test}
+use Rattle.rx_model.proofs.FirstLemmas.{none-is-some, some-is}
+use Rattle.rx_thompson.specs.Automaton.{at, automaton, state_at, state_step, state_accepts, state_writes, route, go_on, read_byte, NamesBelow}
+use Rattle.rx_thompson.specs.declared.state.Transition.{Transition}
+use Rattle.rx_thompson.specs.declared.state.State.{State}
+use Rattle.rx_thompson.proofs.StateLemmas.{accepted-is, successors-is, written-is}
+use Rattle.rx_engines.specs.Walk.{Slots, explore_all}
+use Rattle.rx_engines.specs.Simulation.{byte_at}
+use Rattle.rx_engines.specs.Backtrack.{frames_of, target_of, onto, Saves, Yields, Stepped, AllWithin}
+use Rattle.rx_engines.specs.declared.frame.Frame.{Frame}
+use Rattle.rx_engines.specs.declared.frame.Frame.TheVariants.{Explore, Restore}
+
+-- where a byte leads to
+pub reads-onto : (text : List ℕ) (end : ℕ) (ts : List Transition) (i : ℕ) (rest : List Frame)
+    → frames_of (onto (target_of ts (byte_at text end i)) (i + 1)) rest ≡ explore_all (read_byte text end ts i) ++ rest
+reads-onto text end ts i rest =
+    by_test (nat_lt i end)
+    (λ e. rw e (goes (route ts (slice_index text i))))
+    (λ e. rw e refl)
+  where
+    goes : (o : Option ℕ) → frames_of (onto o (i + 1)) rest ≡ explore_all (go_on o (i + 1)) ++ rest
+    goes None = refl
+    goes (Some q) = refl
+
+-- on to a state, or back
+pub Stepped-onto : (g : PriorityGraph) (c : Configuration) (o : Option ℕ) (i : ℕ) (frames frames' : List Frame) (slots slots' : Slots)
+    → Yields g c frames (frames_of (onto o i) frames') slots slots' → Stepped g c (onto o i) frames frames' slots slots'
+Stepped-onto g c None i frames frames' slots slots' y = y
+Stepped-onto g c (Some q) i frames frames' slots slots' y = y
+
+module _ (states : List State) (text : List ℕ) (end q i : ℕ) (state : q < length states) (place : i ≤ end) where
+  -- the state writes nothing
+  pub Yields-unwritten : (s : State) → state_at states q ≡ s → state_accepts s ≡ None → state_writes s ≡ None → (frames frames' : List Frame) (slots : Slots)
+      → frames' ≡ explore_all (state_step text end s i) ++ frames → Yields (automaton states text end) (at q i) frames frames' slots slots
+  Yields-unwritten s e none unwritten frames frames' slots is = record {
+    accepts = accepted-is states text end q i state place s e ∙ none;
+    goes_on = inl (
+      λ k writes. none-is-some (sym (written-is states text end q i state place s e ∙ unwritten) ∙ writes),
+      is ∙ ap (λ ds. explore_all ds ++ frames) (sym (successors-is states text end q i state place s e)),
+      refl,
+    );
+  }
+
+  -- the state writes a slot, if it is there
+  pub Yields-saved : (s : State) (slot next : ℕ) → state_at states q ≡ s → state_accepts s ≡ None → state_writes s ≡ Some slot → state_step text end s i ≡ at next i ∷ []
+      → (frames frames' : List Frame) (slots slots' : Slots) → Saves slot i frames frames' slots slots'
+      → Yields (automaton states text end) (at q i) frames (Explore next i ∷ frames') slots slots'
+  Yields-saved s slot next e none writes goes frames frames' slots slots' saved =
+      let successors : (automaton states text end).successors (at q i) ≡ at next i ∷ [] = successors-is states text end q i state place s e ∙ goes in
+      let written : (automaton states text end).written (at q i) ≡ Some slot = written-is states text end q i state place s e ∙ writes in
+      record {
+        accepts = accepted-is states text end q i state place s e ∙ none;
+        goes_on = elim saved [
+          | inl h ↦ inl (
+              λ k other. (let same : slot ≡ k = some-is (sym written ∙ other) in let past = h.0 in omega arith),
+              ap (λ fs. Explore next i ∷ fs) h.1 ∙ ap (λ ds. explore_all ds ++ frames) (sym successors),
+              h.2,
+            )
+          | inr h ↦ inr (
+              slot,
+              written,
+              ap (λ fs. Explore next i ∷ fs) h.0 ∙ ap (λ ds. explore_all ds ++ (Restore slot (get_or slots slot None) ∷ frames)) (sym successors),
+              h.1,
+            )
+        ];
+      }
+
+-- Where the frames lie.
+
+-- a byte leads to a state that is there
+target-names : (n : ℕ) (ts : List Transition) (o : Option ℕ) (next : ℕ) → All (λ (t : Transition). t.next < n) ts → target_of ts o ≡ Some next → next < n
+target-names n ts None next all h = none-is-some h
+target-names n ts (Some b) next all h = routed ts all h
+  where
+    routed : (ts : List Transition) → All (λ (t : Transition). t.next < n) ts → route ts b ≡ Some next → next < n
+    routed [] all h = none-is-some h
+    routed (t ∷ ts) all h =
+        by_test (nat_le t.start b && nat_le b t.end)
+        (λ e. let same : t.next ≡ next = some-is (rw e at h) in let lt = All-head (λ (t : Transition). t.next < n) t ts all in omega arith)
+        (λ e. routed ts (All-tail (λ (t : Transition). t.next < n) t ts all) (rw e at h))
+
+-- and to a place within the end
+target-within : (text : List ℕ) (end : ℕ) (ts : List Transition) (i next : ℕ) → target_of ts (byte_at text end i) ≡ Some next → i < end
+target-within text end ts i next h =
+    by_test (nat_lt i end)
+    (λ e. grind (arith, nat_tests))
+    (λ e. none-is-some (rw e at h))
+
+pub AllWithin-read : (n first end : ℕ) (text : List ℕ) (ts : List Transition) (i : ℕ) (rest : List Frame) → first ≤ i → All (λ (t : Transition). t.next < n) ts → AllWithin n first end rest
+    → AllWithin n first end (frames_of (onto (target_of ts (byte_at text end i)) (i + 1)) rest)
+AllWithin-read n first end text ts i rest le all inside = at_target (target_of ts (byte_at text end i)) refl
+  where
+    at_target : (o : Option ℕ) → target_of ts (byte_at text end i) ≡ o → AllWithin n first end (frames_of (onto o (i + 1)) rest)
+    at_target None e = inside
+    at_target (Some next) e =
+        let lt = target-within text end ts i next e in
+        (target-names n ts (byte_at text end i) next all e, omega arith, omega arith, inside)
+
+pub AllWithin-union : (n first end i : ℕ) (qs : List ℕ) (frames : List Frame) → first ≤ i → i ≤ end → All (λ q. q < n) qs → AllWithin n first end frames → AllWithin n first end (explore_all (map (λ q. at q i) qs) ++ frames)
+AllWithin-union n first end i [] frames ge le all inside = inside
+AllWithin-union n first end i (q ∷ qs) frames ge le all inside =
+    (All-head (λ x. x < n) q qs all, ge, le, AllWithin-union n first end i qs frames ge le (All-tail (λ x. x < n) q qs all) inside)
+
+pub AllWithin-saved : (n first end slot i : ℕ) (frames frames' : List Frame) (slots slots' : Slots) → Saves slot i frames frames' slots slots' → AllWithin n first end frames → AllWithin n first end frames'
+AllWithin-saved n first end slot i frames frames' slots slots' saved inside =
+    elim saved [
+      | inl h ↦ rw h.1 inside
+      | inr h ↦ rw h.0 inside
+    ]
+
+-- the transition of a range
+pub All-single : (n low high next : ℕ) → next < n → All (λ (t : Transition). t.next < n) (record { start = low; end = high; next = next } ∷ [])
+All-single n low high next lt = All-cons (λ (t : Transition). t.next < n) (record { start = low; end = high; next = next }) [] lt (All-nil (λ (t : Transition). t.next < n))

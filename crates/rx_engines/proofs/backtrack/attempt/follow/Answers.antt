@@ -1,0 +1,76 @@
+use Rattle.std.proofs.Common.{◌≡◌, ◌+◌, ◌<◌, ◌≤◌, ◌∷◌, length, refl, ◌∙◌, arith}
+use Rattle.rx_engines.proofs.AttemptLemmas.{inserts-at, inserted-passed, passed-work, inserted-accepts, inserted-yields, yields-work}
+use Rattle.rx_engines.proofs.backtrack.attempt.follow.Goals as goal
+
+pub loop-state-init : goal.loop-state-init
+loop-state-init c = record {
+  followed = λ before goal base x. x;
+  state = c.requires.start;
+  above = c.requires.from.0;
+  below = c.requires.from.1;
+  inside = c.requires.inside;
+  less = omega arith;
+  room = refl;
+  width = refl;
+}
+
+pub returns-in-Accept-clause-followed : goal.returns-in-Accept-clause-followed
+returns-in-Accept-clause-followed c before goal base x =
+    let v = c.loop-state.invariant in
+    let t = inserts-at c.args.search.now c.loop-state.visited c.insert.new.self c.insert.result c.loop-state.state c.loop-state.place c.index.result v.state v.above v.below c.index.ensures.value c.insert.ensures.new c.insert.ensures.after in
+    let stepped = rw c.in-Accept.is at c.in_ok-pattern.ensures.stepped in
+    rw stepped.1 (inserted-accepts t c.loop-state-test.true c.in-Accept.pattern stepped.0 (v.followed before goal base x))
+
+pub loop-state-smaller : goal.loop-state-smaller
+loop-state-smaller c =
+    let v = c.loop-state.invariant in
+    let t = inserts-at c.args.search.now c.loop-state.visited c.insert.new.self c.insert.result c.loop-state.state c.loop-state.place c.index.result v.state v.above v.below c.index.ensures.value c.insert.ensures.new c.insert.ensures.after in
+    let less = yields-work t c.loop-state-test.true (rw c.in-To.is at c.in_ok-pattern.ensures.stepped) in
+    omega arith
+
+pub loop-state-preserved : goal.loop-state-preserved
+loop-state-preserved c =
+    let v = c.loop-state.invariant in
+    let t = inserts-at c.args.search.now c.loop-state.visited c.insert.new.self c.insert.result c.loop-state.state c.loop-state.place c.index.result v.state v.above v.below c.index.ensures.value c.insert.ensures.new c.insert.ensures.after in
+    let stepped = rw c.in-To.is at c.in_ok-pattern.ensures.stepped in
+    let inside = rw c.in-To.is at c.in_ok-pattern.ensures.inside in
+    let less = yields-work t c.loop-state-test.true stepped in
+    let before = v.less in
+    record {
+      followed = λ before goal base x. inserted-yields t c.loop-state-test.true stepped (v.followed before goal base x);
+      state = inside.0;
+      above = inside.1;
+      below = inside.2;
+      inside = inside.3;
+      less = omega arith;
+      room = c.insert.ensures.room ∙ v.room;
+      width = c.in_ok-pattern.ensures.width ∙ v.width;
+    }
+
+pub returns-in-Back-clause-followed : goal.returns-in-Back-clause-followed
+returns-in-Back-clause-followed c before goal base x =
+    let v = c.loop-state.invariant in
+    let t = inserts-at c.args.search.now c.loop-state.visited c.insert.new.self c.insert.result c.loop-state.state c.loop-state.place c.index.result v.state v.above v.below c.index.ensures.value c.insert.ensures.new c.insert.ensures.after in
+    inserted-yields t c.loop-state-test.true (rw c.in-Back.is at c.in_ok-pattern.ensures.stepped) (v.followed before goal base x)
+
+pub returns-in-Back-clause-less : goal.returns-in-Back-clause-less
+returns-in-Back-clause-less c =
+    let v = c.loop-state.invariant in
+    let t = inserts-at c.args.search.now c.loop-state.visited c.insert.new.self c.insert.result c.loop-state.state c.loop-state.place c.index.result v.state v.above v.below c.index.ensures.value c.insert.ensures.new c.insert.ensures.after in
+    let less = yields-work t c.loop-state-test.true (rw c.in-Back.is at c.in_ok-pattern.ensures.stepped) in
+    let before = v.less in
+    omega arith
+
+pub returns-clause-followed : goal.returns-clause-followed
+returns-clause-followed c before goal base x =
+    let v = c.loop-state.invariant in
+    let t = inserts-at c.args.search.now c.loop-state.visited c.insert.new.self c.insert.result c.loop-state.state c.loop-state.place c.index.result v.state v.above v.below c.index.ensures.value c.insert.ensures.new c.insert.ensures.after in
+    inserted-passed t c.loop-state-test.false (v.followed before goal base x)
+
+pub returns-clause-less : goal.returns-clause-less
+returns-clause-less c =
+    let v = c.loop-state.invariant in
+    let t = inserts-at c.args.search.now c.loop-state.visited c.insert.new.self c.insert.result c.loop-state.state c.loop-state.place c.index.result v.state v.above v.below c.index.ensures.value c.insert.ensures.new c.insert.ensures.after in
+    let same = passed-work t c.loop-state-test.false in
+    let before = v.less in
+    omega arith

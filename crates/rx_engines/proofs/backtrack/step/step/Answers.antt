@@ -1,0 +1,77 @@
+use Rattle.std.proofs.Common.{◌≡◌, ◌+◌, ◌∷◌, [], length, refl, ◌∙◌, ap}
+use Rattle.rx_thompson.specs.Automaton.{at}
+use Rattle.rx_thompson.specs.declared.state.Transition.{Transition}
+use Rattle.rx_thompson.proofs.StateLemmas.{accepted-is, state-known, names-known}
+use Rattle.rx_engines.specs.Simulation.{byte_at}
+use Rattle.rx_engines.specs.Backtrack.{graph_for, target_of, onto}
+use Rattle.rx_engines.proofs.YieldLemmas.{reads-onto, Stepped-onto, Yields-unwritten, Yields-saved, AllWithin-read, AllWithin-union}
+use Rattle.rx_engines.proofs.backtrack.step.step.Goals as goal
+
+pub returns-in-ByteRange-clause-stepped : goal.returns-in-ByteRange-clause-stepped
+returns-in-ByteRange-clause-stepped c =
+    let s = c.args.search.now in
+    let is = state-known s.states.now _ c.args.state _ _ c.as_usize.ensures.value c.requires.state c.index-states-as_usize.is c.in-ByteRange.is in
+    let read : Transition = record { start = c.in-ByteRange.start; end = c.in-ByteRange.end; next = c.in-ByteRange.next } in
+    let goes : c.toward.result ≡ onto (target_of (read ∷ []) (byte_at s.text.now s.end c.args.place)) (c.args.place + 1) =
+    c.toward.ensures ∙ ap (λ o. onto o (c.args.place + 1)) (c.in_range.ensures ∙ ap (target_of (read ∷ [])) c.byte_before-byte.ensures) in
+    rw goes
+    (Stepped-onto (graph_for s) (at c.args.state c.args.place) (target_of (read ∷ []) (byte_at s.text.now s.end c.args.place)) (c.args.place + 1) _ _ _ _
+    (Yields-unwritten s.states.now s.text.now s.end c.args.state c.args.place c.requires.state c.requires.place.1 _ is refl refl _ _ _
+    (reads-onto s.text.now s.end (read ∷ []) c.args.place c.args.stack.now)))
+
+pub returns-in-Sparse-clause-stepped : goal.returns-in-Sparse-clause-stepped
+returns-in-Sparse-clause-stepped c =
+    let s = c.args.search.now in
+    let is = state-known s.states.now _ c.args.state _ _ c.as_usize.ensures.value c.requires.state c.index-states-as_usize.is c.in-Sparse.is in
+    let goes : c.toward-in-Sparse.result ≡ onto (target_of c.in-Sparse.transitions (byte_at s.text.now s.end c.args.place)) (c.args.place + 1) =
+    c.toward-in-Sparse.ensures ∙ ap (λ o. onto o (c.args.place + 1)) (c.in_any.ensures ∙ (λ j. target_of (c.as_slice.ensures j) (c.byte_before-byte-in-Sparse.ensures j))) in
+    rw goes
+    (Stepped-onto (graph_for s) (at c.args.state c.args.place) (target_of c.in-Sparse.transitions (byte_at s.text.now s.end c.args.place)) (c.args.place + 1) _ _ _ _
+    (Yields-unwritten s.states.now s.text.now s.end c.args.state c.args.place c.requires.state c.requires.place.1 _ is refl refl _ _ _
+    (reads-onto s.text.now s.end c.in-Sparse.transitions c.args.place c.args.stack.now)))
+
+pub returns-in-Sparse-clause-inside : goal.returns-in-Sparse-clause-inside
+returns-in-Sparse-clause-inside c =
+    let s = c.args.search.now in
+    let is = state-known s.states.now _ c.args.state _ _ c.as_usize.ensures.value c.requires.state c.index-states-as_usize.is c.in-Sparse.is in
+    let goes : c.toward-in-Sparse.result ≡ onto (target_of c.in-Sparse.transitions (byte_at s.text.now s.end c.args.place)) (c.args.place + 1) =
+    c.toward-in-Sparse.ensures ∙ ap (λ o. onto o (c.args.place + 1)) (c.in_any.ensures ∙ (λ j. target_of (c.as_slice.ensures j) (c.byte_before-byte-in-Sparse.ensures j))) in
+    rw goes
+    (AllWithin-read (length s.states.now) s.first s.end s.text.now c.in-Sparse.transitions c.args.place c.args.stack.now c.requires.place.0
+    (names-known s.states.now c.args.state _ c.requires.search.names c.requires.state is) c.requires.inside)
+
+pub returns-in_ok-first-in-Union-clause-stepped : goal.returns-in_ok-first-in-Union-clause-stepped
+returns-in_ok-first-in-Union-clause-stepped c =
+    let s = c.args.search.now in
+    let is = state-known s.states.now _ c.args.state _ _ c.as_usize.ensures.value c.requires.state c.index-states-as_usize.is c.in-Union.is in
+    rw c.toward-in-Union.ensures
+    (Stepped-onto (graph_for s) (at c.args.state c.args.place) c.in_ok-first-in-Union.first c.args.place _ _ _ _
+    (Yields-unwritten s.states.now s.text.now s.end c.args.state c.args.place c.requires.state c.requires.place.1 _ is refl refl _ _ _
+    (rw c.as_slice-in-Union.ensures at c.in_ok-first-in-Union.ensures)))
+
+pub returns-in_ok-first-in-Union-clause-inside : goal.returns-in_ok-first-in-Union-clause-inside
+returns-in_ok-first-in-Union-clause-inside c =
+    let s = c.args.search.now in
+    let is = state-known s.states.now _ c.args.state _ _ c.as_usize.ensures.value c.requires.state c.index-states-as_usize.is c.in-Union.is in
+    rw (c.toward-in-Union.ensures, c.in_ok-first-in-Union.ensures, c.as_slice-in-Union.ensures)
+    (AllWithin-union (length s.states.now) s.first s.end c.args.place c.in-Union.alternates c.args.stack.now c.requires.place.0 c.requires.place.1
+    (names-known s.states.now c.args.state _ c.requires.search.names c.requires.state is) c.requires.inside)
+
+pub returns-in_ok-save-in-Capture-clause-stepped : goal.returns-in_ok-save-in-Capture-clause-stepped
+returns-in_ok-save-in-Capture-clause-stepped c =
+    let s = c.args.search.now in
+    let is = state-known s.states.now _ c.args.state _ _ c.as_usize.ensures.value c.requires.state c.index-states-as_usize.is c.in-Capture.is in
+    Yields-saved s.states.now s.text.now s.end c.args.state c.args.place c.requires.state c.requires.place.1 _ c.in-Capture.slot c.in-Capture.next is refl refl refl _ _ _ _
+    c.in_ok-save-in-Capture.ensures.saved
+
+pub returns-in-Fail-clause-stepped : goal.returns-in-Fail-clause-stepped
+returns-in-Fail-clause-stepped c =
+    let s = c.args.search.now in
+    let is = state-known s.states.now _ c.args.state _ _ c.as_usize.ensures.value c.requires.state c.index-states-as_usize.is c.in-Fail.is in
+    Yields-unwritten s.states.now s.text.now s.end c.args.state c.args.place c.requires.state c.requires.place.1 _ is refl refl _ _ _ refl
+
+pub returns-in-Match-clause-stepped : goal.returns-in-Match-clause-stepped
+returns-in-Match-clause-stepped c =
+    let s = c.args.search.now in
+    let is = state-known s.states.now _ c.args.state _ _ c.as_usize.ensures.value c.requires.state c.index-states-as_usize.is c.in-Match.is in
+    (accepted-is s.states.now s.text.now s.end c.args.state c.args.place c.requires.state c.requires.place.1 _ is, refl)

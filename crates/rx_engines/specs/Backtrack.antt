@@ -1,0 +1,171 @@
+-- A depth-first search that tries each state at each place of a span once.
+use Rattle.std.specs.Prelude.{◌≡◌, ◌⊎◌, ℕ, ◌+◌, ◌-◌, ◌*◌, ◌/◌, ◌%◌, ◌<◌, ◌≤◌, Bool, true, false, ◌&&◌, ◌==◌, List, [], ◌∷◌, ◌++◌, length, All, Option, Some, None, nat_lt, nat_le, slice_index, slice_index_or, slice_set, min, max, refl, ◌^◌}
+use Rattle.std.specs.Coded.{Coded, code_by, coded×, coded_ℕ}
+use Rattle.std.specs.Int.{bit_at}
+use Rattle.rx_model.specs.Runs.{Configuration, PriorityGraph, Passed, found, first_trace}
+use Rattle.rx_model.specs.Search.{Patterns, Match, is_permitted, first_start}
+use Rattle.rx_model.specs.Machine.{grid}
+use Rattle.rx_model.proofs.RunLemmas.{weight}
+use Rattle.rx_search.specs.Input.{InputValue}
+use Rattle.rx_thompson.specs.Automaton.{at, automaton, route, NamesBelow}
+use Rattle.rx_thompson.specs.declared.state.Transition.{Transition}
+use Rattle.rx_thompson.specs.Nfa.{Nfa, HasFirstRuns}
+use Rattle.rx_thompson.specs.NextMatch.{next_match_of}
+use Rattle.rx_engines.specs.Walk.{Slots, Answer, pending, explore_all}
+use Rattle.rx_engines.specs.declared.frame.Frame.{Frame}
+use Rattle.rx_engines.specs.declared.frame.Frame.TheVariants.{Explore, Restore}
+use Rattle.rx_engines.specs.declared.backtrack.search.Search.{Search}
+use Rattle.rx_engines.specs.declared.backtrack.step.Onward.{Onward}
+use Rattle.rx_engines.specs.declared.backtrack.step.Onward.TheVariants.{Accept, To, Back}
+
+-- the bit of the number is set, 64 bits to a word
+abbrev pub is_set : List ℕ → ℕ → Bool
+is_set words n = bit_at (slice_index words (n / 64)) (n % 64) == 1
+
+-- how many states at places the span has
+abbrev pub extent : Search → ℕ
+extent s = (s.end + 1 - s.first) * length s.states.now
+
+-- the states that are named are there, the places are in order, and there are few enough of both
+pub record IsInside (s : Search) : Type 0 where
+  pub names : All (NamesBelow (length s.states.now)) s.states.now
+  pub start : s.start < length s.states.now
+  pub first : s.first ≤ s.last
+  pub last : s.last ≤ s.end
+  pub end : s.end ≤ length s.text.now
+  pub small : extent s < 2 ^ 63
+
+-- the graph whose runs are searched
+abbrev pub graph_for : Search → PriorityGraph
+graph_for s = automaton s.states.now s.text.now s.end
+
+-- the next match in the span
+abbrev pub next_of : Search → Option Match
+next_of s = first_start (is_permitted s.utf8 s.text.now) (λ i. first_trace (graph_for s) (at s.start i)) (s.last + 1 - s.first) s.first
+
+-- the configurations of the span whose bit is set: a row of n states for each place
+unfoldable pub passed_in : (n first end : ℕ) → List ℕ → Passed
+passed_in n first end words c =
+    (nat_lt c.state n && (nat_le first c.place && nat_le c.place end)) && is_set words ((c.place - first) * n + c.state)
+
+-- what the search has passed
+abbrev pub passed_by : Search → List ℕ → Passed
+passed_by s words = passed_in (length s.states.now) s.first s.end words
+
+-- What is left to do: for each configuration that was not passed, more than the frames that it leaves.
+unfoldable pub work : Search → List ℕ → ℕ
+work s words = weight (λ c. length ((graph_for s).successors c) + 2) (grid (length s.states.now) (s.end + 1)) (passed_by s words)
+
+-- what was passed leads to nothing
+abbrev pub IsDead : PriorityGraph → Passed → Type 0
+IsDead g passed = (c : Configuration) → found g passed c ≡ first_trace g c
+
+-- each frame to explore is a state below n at a place of the span
+abbrev pub AllWithin : (n first end : ℕ) → List Frame → Type 0
+AllWithin n first end [] = Unit {0}
+AllWithin n first end (Explore q i ∷ rest) = (q < n) × (first ≤ i) × (i ≤ end) × AllWithin n first end rest
+AllWithin n first end (Restore slot old ∷ rest) = AllWithin n first end rest
+
+abbrev pub AllInside : Search → List Frame → Type 0
+AllInside s frames = AllWithin (length s.states.now) s.first s.end frames
+
+-- the frames of a search that does this next, above those of its stack
+abbrev pub frames_of : Onward → List Frame → List Frame
+frames_of (Accept pattern) rest = rest
+frames_of (To q i) rest = Explore q i ∷ rest
+frames_of Back rest = rest
+
+-- on to the state at the place, if there is one
+abbrev pub onto : Option ℕ → ℕ → Onward
+onto None i = Back
+onto (Some q) i = To q i
+
+-- where the byte leads to, if there is one
+abbrev pub target_of : List Transition → Option ℕ → Option ℕ
+target_of ts None = None
+target_of ts (Some byte) = route ts byte
+
+-- the place is in the slot, and its old value on the stack, where there is room for the slot
+abbrev pub Saves : (slot place : ℕ) → (frames frames' : List Frame) → (slots slots' : Slots) → Type 0
+Saves slot place frames frames' slots slots' =
+    ((length slots ≤ slot) × (frames' ≡ frames) × (slots' ≡ slots))
+    ⊎ ((frames' ≡ Restore slot (slice_index_or slots slot None) ∷ frames) × (slots' ≡ slice_set slots slot (Some place)))
+
+-- c, which doesn't accept, gives way to its successors. Where it writes a slot that is there, the old value is kept.
+pub record Yields (g : PriorityGraph) (c : Configuration) (frames frames' : List Frame) (slots slots' : Slots) : Type 0 where
+  pub accepts : g.accepted c ≡ None
+  pub goes_on : (((k : ℕ) → g.written c ≡ Some k → length slots ≤ k) × (frames' ≡ explore_all (g.successors c) ++ frames) × (slots' ≡ slots))
+      ⊎ ((k : ℕ) × (g.written c ≡ Some k) × (frames' ≡ explore_all (g.successors c) ++ (Restore k (slice_index_or slots k None) ∷ frames)) × (slots' ≡ slice_set slots k (Some c.place)))
+
+-- what the search did at c: the frames and the slots before and after
+abbrev pub Stepped : PriorityGraph → Configuration → Onward → (frames frames' : List Frame) → (slots slots' : Slots) → Type 0
+Stepped g c (Accept pattern) frames frames' slots slots' = (g.accepted c ≡ Some pattern) × (slots' ≡ slots)
+Stepped g c (To q i) frames frames' slots slots' = Yields g c frames (Explore q i ∷ frames') slots slots'
+Stepped g c Back frames frames' slots slots' = Yields g c frames frames' slots slots'
+
+-- the slots once every write is undone
+unfoldable pub undone : List Frame → Slots → Slots
+undone [] slots = slots
+undone (Explore q i ∷ rest) slots = undone rest slots
+undone (Restore slot old ∷ rest) slots = undone rest (slice_set slots slot old)
+
+-- The state of a search for `goal`, that began when `before` was passed.
+pub record Searching (g : PriorityGraph) (before passed : Passed) (goal : Option Answer) (base : Slots) (frames : List Frame) (slots : Slots) : Type 0 where
+  pub value : pending (found g passed) frames slots ≡ goal
+  -- what was passed since leads to nothing, or the goal is still ahead
+  pub dead : goal ≡ None → (c : Configuration) → found g passed c ≡ found g before c
+  pub unwinds : undone frames slots ≡ base
+
+-- what a run led to, with the slots
+abbrev pub returned : Option (ℕ × ℕ) → Slots → Option Answer
+returned None slots = None
+returned (Some r) slots = Some (record { pattern = r.0; end = r.1; slots = slots })
+
+-- the run that was followed reached the goal, or the search goes on with the stack
+abbrev pub Followed : Option (ℕ × ℕ) → PriorityGraph → (before passed : Passed) → Option Answer → (base : Slots) → List Frame → Slots → Type 0
+Followed None g before passed goal base frames slots = Searching g before passed goal base frames slots
+Followed (Some r) g before passed goal base frames slots = goal ≡ returned (Some r) slots
+
+-- a match as pattern, start and end
+abbrev pub triple : Match → ℕ × ℕ × ℕ
+triple m = (m.trace.pattern, m.start, m.trace.end)
+
+-- What an engine is to a contract.
+
+-- the next match of the NFA in the input's span
+abbrev pub next_match_within : Nfa → InputValue → Option Match
+next_match_within nfa v = next_match_of nfa nfa.utf8 v.haystack v.anchor v.end v.start
+
+-- the NFA has the first runs of these patterns
+pub record IsNfaOf (nfa : Nfa) (r : Patterns) : Type 0 where
+  pub runs : HasFirstRuns nfa r
+  pub utf8_empty : r.utf8_empty ≡ nfa.utf8
+
+-- the length of the longest span that is searched, with a bit for each accounted state at each place
+abbrev pub max_len : Nfa → ℕ
+max_len nfa = 2097152 / max 1 nfa.accounted - 1
+
+-- how long the input's span is; nothing is left of a done one
+abbrev pub span_len : InputValue → ℕ
+span_len v = v.end - v.start
+
+-- what is accounted for a cache of the NFA, in bytes, up to the greatest number of 64 bits
+abbrev pub accounted_memory : Nfa → ℕ
+accounted_memory nfa = min (2 ^ 64 - 1) (16 * nfa.accounted * nfa.slots)
+
+-- The room that a cache has.
+pub record Room : Type 0 where
+  pub bits : ℕ
+  pub slots : ℕ
+  -- what is accounted for it
+  pub memory : ℕ
+
+abbrev pub room_code : Coded Room
+room_code =
+    code_by (ℕ × (ℕ × ℕ)) (coded× coded_ℕ (coded× coded_ℕ coded_ℕ)) (λ r. (r.bits, (r.slots, r.memory)))
+    (λ p. record { bits = p.0; slots = p.1.0; memory = p.1.1 }) (λ _. refl)
+
+-- a cache with this room serves the engine
+pub record Fits (nfa : Nfa) (room : Room) : Type 0 where
+  pub bits : (max_len nfa + 1) * length nfa.states ≤ room.bits
+  pub slots : room.slots ≡ nfa.slots

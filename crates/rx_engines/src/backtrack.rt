@@ -1,0 +1,17 @@
+//! A depth-first search of an NFA that tries each state at each place once, so that its work is bounded by the
+//! places of the span times the states. It keeps a bit for each of them, and so takes only spans up to a length.
+
+mod attempt;
+mod backtracker;
+mod cache;
+mod error;
+mod find;
+mod search;
+mod stack;
+mod step;
+mod visited;
+
+pub use backtracker::BoundedBacktracker;
+pub use cache::Cache;
+pub use error::MatchError;
+

@@ -1,0 +1,103 @@
+ghost use Rattle.std.specs.Prelude.{◌≡◌, ◌+◌, ◌-◌, ◌*◌, ◌<◌, ◌≤◌, ◌∷◌, length, Option, IfOk, IfNone};
+ghost use Rattle.rx_model.specs.Runs.{Passed, first_trace};
+ghost use Rattle.rx_thompson.specs.Automaton.{at};
+ghost use Rattle.rx_engines.specs.Walk.{Slots, Answer, answer};
+ghost use Rattle.rx_engines.specs.declared.frame.Frame.TheVariants.{Explore};
+ghost use Rattle.rx_engines.specs.Backtrack.{IsInside, AllInside, graph_for, extent, passed_by, work, IsDead, Searching, Followed, returned};
+
+use crate::backtrack::search::Search;
+use crate::backtrack::stack::Stack;
+use crate::backtrack::step::{Onward, step};
+use crate::backtrack::visited::Visited;
+use crate::frame::Frame;
+use crate::slots::{Slot, write};
+use rx_search::{Memory, PatternID, StateID};
+
+/// The pattern and the end of the first run that starts at the place `from`. The slots get what it wrote.
+pub fn attempt(
+    search: &Search<'_>,
+    from: usize,
+    visited: &mut Visited,
+    stack: &mut Stack,
+    slots: &mut [Slot],
+) -> Result<Option<(PatternID, usize)>, Memory>
+    requires search { IsInside search.now }
+    requires from { (search.now.first ≤ from) × (from ≤ search.now.end) }
+    requires room { extent search.now ≤ 64 * length visited.old }
+    requires dead { IsDead (graph_for search.now) (passed_by search.now visited.old) }
+    ensures value { IfOk result (λ r. returned r slots.new
+        ≡ answer slots.old (first_trace (graph_for search.now) (at search.now.start from))) }
+    ensures undone { IfOk result (λ r. IfNone r (slots.new ≡ slots.old)) }
+    ensures dead { IfOk result (λ r. IfNone r (IsDead (graph_for search.now) (passed_by search.now visited.new))) }
+    ensures room { length visited.new ≡ length visited.old }
+    ensures width { length slots.new ≡ length slots.old }
+{
+    stack.clear();
+    stack.push(Frame::Explore {
+        state: search.start,
+        place: from,
+    })?;
+    while let Some(frame) = stack.pop() {
+        match frame {
+            Frame::Restore { slot, old } => write(slots, slot, old),
+            Frame::Explore { state, place } => {
+                if let Some(found) = follow(search, state, place, visited, stack, slots)? {
+                    return Ok(Some(found));
+                }
+            }
+        }
+    }
+    Ok(None)
+}
+
+/// Follows the preferred way from the state at the place, as far as it is new: the pattern and the place, where it
+/// accepts. Else the search comes back to the stack.
+fn follow(
+    search: &Search<'_>,
+    start: StateID,
+    from: usize,
+    visited: &mut Visited,
+    stack: &mut Stack,
+    slots: &mut [Slot],
+) -> Result<Option<(PatternID, usize)>, Memory>
+    requires search { IsInside search.now }
+    requires start { start < length search.now.states.now }
+    requires from { (search.now.first ≤ from) × (from ≤ search.now.end) }
+    requires room { extent search.now ≤ 64 * length visited.old }
+    requires inside { AllInside search.now stack.old }
+    ensures followed { IfOk result (λ r. (before : Passed) (goal : Option Answer) (base : Slots)
+        → Searching (graph_for search.now) before (passed_by search.now visited.old) goal base
+        (Explore start from ∷ stack.old) slots.old
+        → Followed r (graph_for search.now) before (passed_by search.now visited.new) goal base
+        stack.new slots.new) }
+    ensures inside { IfOk result (λ _. AllInside search.now stack.new) }
+    ensures less { IfOk result (λ r. IfNone r (work search.now visited.new + length stack.new
+        ≤ work search.now visited.old + length stack.old)) }
+    ensures room { length visited.new ≡ length visited.old }
+    ensures width { length slots.new ≡ length slots.old }
+{
+    let mut state = start;
+    let mut place = from;
+    while visited.insert(index(search, state, place)) {
+        match step(search, state, place, stack, slots)? {
+            Onward::Accept(pattern) => return Ok(Some((pattern, place))),
+            Onward::To { state: next, place: at } => {
+                state = next;
+                place = at;
+            }
+            Onward::Back => return Ok(None),
+        }
+    }
+    Ok(None)
+}
+
+/// The number of the state at the place, among those of the span.
+fn index(search: &Search<'_>, state: StateID, place: usize) -> usize
+    requires state { state < length search.now.states.now }
+    requires place { (search.now.first ≤ place) × (place ≤ search.now.end) }
+    requires search { IsInside search.now }
+    ensures value { result ≡ (place - search.now.first) * length search.now.states.now + state }
+    ensures within { result < extent search.now }
+{
+    (place - search.first) * search.states.len() + state.as_usize()
+}

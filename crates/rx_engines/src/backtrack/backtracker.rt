@@ -1,0 +1,187 @@
+ghost use Rattle.std.specs.Prelude.{◌≡◌, ◌≤◌, length, None, replicate, IfOk, IfNone, IfSome, option_map};
+ghost use Rattle.std.specs.Result.{IfErr};
+ghost use Rattle.rx_model.specs.Search.{Patterns};
+ghost use Rattle.rx_search.specs.Anchored.{anchor_of};
+ghost use Rattle.rx_search.specs.Matches.{match_value};
+ghost use Rattle.rx_thompson.specs.Nfa.{IsInRange};
+ghost use Rattle.rx_thompson.specs.NextMatch.{start_of};
+ghost use Rattle.rx_engines.specs.Engine.{next_match_for, last_start, HasSlots};
+ghost use Rattle.rx_engines.specs.Backtrack.{next_match_within, IsNfaOf, max_len, span_len, accounted_memory, Fits};
+ghost use Rattle.rx_engines.specs.Refusal.{IsRefusal};
+
+use crate::backtrack::cache::Cache;
+use crate::backtrack::error::MatchError;
+use crate::backtrack::search::Search;
+use crate::slots::empty;
+use rx_search::{Anchored, Input, Match, Memory, NonMaxUsize, PatternID, Span, StateID};
+use rx_thompson::NFA;
+use std::alloc::Global;
+use std::marker::Model;
+
+/// The bits of a cache for the states at the places of a span.
+const BITS: usize = 2097152;
+
+/// An engine that searches an NFA depth first, and tries each state at each place of the span once: its work is
+/// bounded by the places times the states. It keeps a bit for each of them, and so takes only spans of at most
+/// `max_haystack_len` bytes. A contract sees it as its NFA.
+///
+/// A search writes to a `Cache`, which serves the engine whatever it held before. It answers the next match
+/// whether or not the input asks for `earliest`.
+#[derive(Drop)]
+pub struct BoundedBacktracker {
+    nfa: NFA,
+}
+
+impl Model for BoundedBacktracker {
+    ghost use Rattle.rx_thompson.specs.Nfa.{Nfa};
+
+    ghost Value = { Nfa };
+
+    ghost view = { λ b. b.nfa };
+}
+
+impl BoundedBacktracker {
+    /// The engine of this NFA.
+    pub fn build_from_nfa(nfa: NFA) -> BoundedBacktracker
+        ensures { result ≡ nfa }
+    {
+        BoundedBacktracker { nfa }
+    }
+
+    /// The NFA.
+    pub fn get_nfa(&self) -> &NFA
+        ensures { result.now ≡ self.now }
+    {
+        &self.nfa
+    }
+
+    /// A cache that serves this engine.
+    pub fn create_cache(&self, alloc: Global) -> Result<Cache, Memory>
+        ensures fits { IfOk result (Fits self.now) }
+        ensures memory { IfOk result (λ c. c.memory ≡ accounted_memory self.now) }
+    {
+        Cache::new(alloc, self)
+    }
+
+    /// The bytes of the longest span that is searched.
+    pub fn max_haystack_len(&self) -> usize
+        ensures { result ≡ max_len self.now }
+    {
+        (BITS / self.nfa.accounted_states().max(1)).saturating_sub(1)
+    }
+
+    /// The pattern of the next match in the input's span. Each slot gets the place that the match leaves in it,
+    /// and None where there is no match or an error.
+    ///
+    /// # Errors
+    ///
+    /// `HaystackTooLong` exactly where the span is longer than `max_haystack_len`; else only `Memory`.
+    pub fn try_search_slots(
+        &self,
+        cache: &mut Cache,
+        input: &Input<'_>,
+        slots: &mut [Option<NonMaxUsize>],
+    ) -> Result<Option<PatternID>, MatchError>
+        requires { Fits self.now cache.old }
+        ensures value { IfOk result (λ r. r
+            ≡ option_map (λ m. m.trace.pattern) (next_match_within self.now input.now)) }
+        ensures short { IfOk result (λ _. span_len input.now ≤ max_len self.now) }
+        ensures err { IfErr result (IsRefusal self.now input.now) }
+        ensures patterns { (r : Patterns) → IsNfaOf self.now r
+            → next_match_within self.now input.now ≡ next_match_for r input.now }
+        ensures slots { IfOk result (λ _. IfSome (next_match_within self.now input.now) (HasSlots slots.new)) }
+        ensures none { IfOk result (λ r. IfNone r (slots.new ≡ replicate (length slots.old) None)) }
+        ensures refused { IfErr result (λ _. slots.new ≡ replicate (length slots.old) None) }
+        ensures cache { cache.new ≡ cache.old }
+    {
+        match self.try_find_slots(cache, input, slots)? {
+            Some(found) => Ok(Some(found.pattern())),
+            None => Ok(None),
+        }
+    }
+
+    /// As `try_search_slots`, with the whole match.
+    ///
+    /// # Errors
+    ///
+    /// `HaystackTooLong` exactly where the span is longer than `max_haystack_len`; else only `Memory`.
+    pub fn try_find_slots(
+        &self,
+        cache: &mut Cache,
+        input: &Input<'_>,
+        slots: &mut [Option<NonMaxUsize>],
+    ) -> Result<Option<Match>, MatchError>
+        requires { Fits self.now cache.old }
+        ensures value { IfOk result (λ r. r ≡ option_map match_value (next_match_within self.now input.now)) }
+        ensures short { IfOk result (λ _. span_len input.now ≤ max_len self.now) }
+        ensures err { IfErr result (IsRefusal self.now input.now) }
+        ensures patterns { (r : Patterns) → IsNfaOf self.now r
+            → next_match_within self.now input.now ≡ next_match_for r input.now }
+        ensures slots { IfOk result (λ _. IfSome (next_match_within self.now input.now) (HasSlots slots.new)) }
+        ensures none { IfOk result (λ r. IfNone r (slots.new ≡ replicate (length slots.old) None)) }
+        ensures refused { IfErr result (λ _. slots.new ≡ replicate (length slots.old) None) }
+        ensures within { IfOk result (λ r. IfSome r (λ m. (input.now.start ≤ m.start) × (m.end ≤ input.now.end))) }
+        ensures cache { cache.new ≡ cache.old }
+    {
+        let len = input.end().saturating_sub(input.start());
+        if len > self.max_haystack_len() {
+            empty(slots);
+            return Err(MatchError::HaystackTooLong { len });
+        }
+        let anchored = input.get_anchored();
+        let Some(start) = self.start_state(anchored) else {
+            empty(slots);
+            return Ok(None);
+        };
+        if input.is_done() {
+            empty(slots);
+            return Ok(None);
+        }
+        let search = Search {
+            states: self.nfa.states(),
+            start,
+            text: input.haystack(),
+            utf8: self.nfa.is_utf8(),
+            first: input.start(),
+            last: latest_start(input),
+            end: input.end(),
+        };
+        match cache.find(&search, slots) {
+            Ok(found) => Ok(reported(found)),
+            Err(Memory) => Err(MatchError::Memory),
+        }
+    }
+
+    /// Where the runs start, if the pattern that is asked for is there.
+    fn start_state(&self, anchored: Anchored) -> Option<StateID>
+        ensures value { result ≡ start_of self.now (anchor_of anchored) }
+        ensures in_range { IsInRange self.now }
+    {
+        match anchored {
+            Anchored::No | Anchored::Yes => Some(self.nfa.start_anchored()),
+            Anchored::Pattern(pattern) => self.nfa.start_pattern(pattern),
+        }
+    }
+}
+
+/// The place at which a match may start at the latest.
+fn latest_start(input: &Input<'_>) -> usize
+    requires { input.now.start ≤ input.now.end }
+    ensures value { result ≡ last_start input.now }
+    ensures within { (input.now.start ≤ result) × (result ≤ input.now.end) }
+{
+    if input.get_anchored().is_anchored() {
+        input.start()
+    } else {
+        input.end()
+    }
+}
+
+/// What was found, as a match.
+fn reported(found: Option<(PatternID, usize, usize)>) -> Option<Match>
+    requires { IfSome found (λ f. f.1 ≤ f.2) }
+    ensures { result ≡ option_map (λ f. record { pattern = f.0; start = f.1; end = f.2 }) found }
+{
+    let (pattern, start, end) = found?;
+    Some(Match::new(pattern, Span { start, end }))
+}

@@ -1,0 +1,142 @@
+ghost use Rattle.std.specs.Prelude.{◌≡◌, vec_len, ℕ, ◌*◌, ◌+◌, ◌<◌, ◌≤◌, length, min, None, IfOk, OnOk, OnErr, IfSome, IfNone, option_map, replicate, nat_lt, slice_index_or, if◌then◌else◌};
+ghost use Rattle.std.specs.Result.{IfErr};
+ghost use Rattle.rx_model.specs.Search.{slot_value};
+ghost use Rattle.rx_engines.specs.Backtrack.{IsInside, extent, next_of, triple, accounted_memory, Room, room_code, Fits};
+
+use crate::backtrack::backtracker::BoundedBacktracker;
+use crate::backtrack::find::find;
+use crate::backtrack::search::Search;
+use crate::backtrack::stack::Stack;
+use crate::backtrack::visited::Visited;
+use crate::slots::{Slot, empty, report};
+use rx_search::{Memory, NonMaxUsize, PatternID};
+use std::alloc::Global;
+use std::marker::Model;
+
+/// What a search writes to. It is made once for an engine, with room for the longest span. A search takes memory
+/// only where it comes deeper than each search before it.
+#[derive(Drop)]
+pub struct Cache {
+    visited: Visited,
+    stack: Stack,
+    slots: Vec<Slot>,
+    memory: usize,
+}
+
+/// For how many bits and slots it has room, and what is accounted for it.
+impl Model for Cache {
+    ghost Value = { Room };
+
+    ghost coded = { room_code };
+
+    ghost view = { λ c. record {
+      bits = 64 * length c.visited;
+      slots = vec_len c.slots;
+      memory = c.memory;
+    } };
+}
+
+impl Cache {
+    /// A cache that serves this engine.
+    pub fn new(alloc: Global, backtracker: &BoundedBacktracker) -> Result<Cache, Memory>
+        ensures fits { IfOk result (Fits backtracker.now) }
+        ensures memory { IfOk result (λ c. c.memory ≡ accounted_memory backtracker.now) }
+    {
+        let nfa = backtracker.get_nfa();
+        let places = backtracker.max_haystack_len() + 1;
+        let visited = Visited::new(alloc, places * nfa.states_len())?;
+        let stack = Stack::new(alloc)?;
+        let none = Slot::none();
+        let slots = vec![in alloc; none; nfa.slot_len()]?;
+        let memory = 16usize
+            .saturating_mul(nfa.accounted_states())
+            .saturating_mul(nfa.slot_len());
+        Ok(Cache {
+            visited,
+            stack,
+            slots,
+            memory,
+        })
+    }
+
+    /// Makes the cache one that serves this engine. Where there is no memory, it stays as it was.
+    pub fn reset(&mut self, alloc: Global, backtracker: &BoundedBacktracker) -> Result<(), Memory>
+        ensures fits { OnOk result (Fits backtracker.now self.new) }
+        ensures memory { OnOk result (self.new.memory ≡ accounted_memory backtracker.now) }
+        ensures err { OnErr result (self.new ≡ self.old) }
+    {
+        *self = Cache::new(alloc, backtracker)?;
+        Ok(())
+    }
+
+    /// The bytes that are accounted for the cache.
+    pub fn memory_usage(&self) -> usize
+        ensures { result ≡ self.now.memory }
+    {
+        self.memory
+    }
+
+    /// The pattern, the start and the end of the next match in the span. The slots get what it leaves in them.
+    pub(crate) fn find(
+        &mut self,
+        search: &Search<'_>,
+        slots: &mut [Option<NonMaxUsize>],
+    ) -> Result<Option<(PatternID, usize, usize)>, Memory>
+        requires search { IsInside search.now }
+        requires room { extent search.now ≤ self.old.bits }
+        ensures value { IfOk result (λ r. r ≡ option_map triple (next_of search.now)) }
+        ensures slots { IfOk result (λ _. IfSome (next_of search.now)
+            (λ m. (k : ℕ) → k < length slots.new → slice_index_or slots.new k None
+            ≡ (if nat_lt k self.old.slots then slot_value m k else None))) }
+        ensures none { IfOk result (λ r. IfNone r (slots.new ≡ replicate (length slots.old) None)) }
+        ensures err { IfErr result (λ _. slots.new ≡ replicate (length slots.old) None) }
+        ensures room { self.new ≡ self.old }
+    {
+        let width = slots.len().min(self.slots.len());
+        find_slots(
+            search,
+            width,
+            &mut self.visited,
+            &mut self.stack,
+            &mut self.slots,
+            slots,
+        )
+    }
+}
+
+/// As `find`, in the first `width` of the scratch slots. `slots` gets those of the match, as far as they go.
+fn find_slots(
+    search: &Search<'_>,
+    width: usize,
+    visited: &mut Visited,
+    stack: &mut Stack,
+    scratch: &mut [Slot],
+    slots: &mut [Option<NonMaxUsize>],
+) -> Result<Option<(PatternID, usize, usize)>, Memory>
+    requires search { IsInside search.now }
+    requires room { extent search.now ≤ 64 * length visited.old }
+    requires width { width ≡ min (length slots.old) (length scratch.old) }
+    ensures value { IfOk result (λ r. r ≡ option_map triple (next_of search.now)) }
+    ensures slots { IfOk result (λ _. IfSome (next_of search.now)
+        (λ m. (k : ℕ) → k < length slots.new → slice_index_or slots.new k None
+        ≡ (if nat_lt k (length scratch.old) then slot_value m k else None))) }
+    ensures none { IfOk result (λ r. IfNone r (slots.new ≡ replicate (length slots.old) None)) }
+    ensures err { IfErr result (λ _. slots.new ≡ replicate (length slots.old) None) }
+    ensures room { length visited.new ≡ length visited.old }
+    ensures scratch { length scratch.new ≡ length scratch.old }
+{
+    match find(search, visited, stack, &mut scratch[..width]) {
+        Ok(Some(found)) => {
+            report(&scratch[..width], slots);
+            Ok(Some(found))
+        }
+        Ok(None) => {
+            empty(slots);
+            Ok(None)
+        }
+        Err(error) => {
+            empty(slots);
+            Err(error)
+        }
+    }
+}

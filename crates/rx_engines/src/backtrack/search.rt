@@ -1,0 +1,19 @@
+use rx_search::StateID;
+use rx_thompson::State;
+
+/// What is searched for a match, and where.
+#[derive(Drop)]
+pub struct Search<'a> {
+    pub states: &'a [State],
+    /// Where the runs start.
+    pub start: StateID,
+    pub text: &'a [u8],
+    /// No match starts inside an encoded character.
+    pub utf8: bool,
+    /// The first place of the span, which is the first at which a match may start.
+    pub first: usize,
+    /// The place at which a match may start at the latest.
+    pub last: usize,
+    /// The last place of the span, at which a match must end at the latest.
+    pub end: usize,
+}

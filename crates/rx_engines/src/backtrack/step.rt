@@ -1,0 +1,144 @@
+ghost use Rattle.std.specs.Prelude.{◌≡◌, ◌<◌, ◌≤◌, ◌∷◌, [], ◌++◌, length, map, IfOk};
+ghost use Rattle.rx_thompson.specs.Automaton.{at};
+ghost use Rattle.rx_engines.specs.Walk.{explore_all};
+ghost use Rattle.rx_engines.specs.Simulation.{byte_at};
+ghost use Rattle.rx_engines.specs.Backtrack.{IsInside, AllInside, graph_for, frames_of, target_of, onto, Saves, Stepped};
+
+use crate::backtrack::search::Search;
+use crate::backtrack::stack::Stack;
+use crate::frame::Frame;
+use crate::slots::Slot;
+use rx_search::{Memory, PatternID, StateID};
+use rx_thompson::{State, Transition, matches_byte};
+
+/// What a search does next.
+#[derive(Clone, Copy)]
+pub enum Onward {
+    /// It accepts this pattern.
+    Accept(PatternID),
+    /// It tries this state at this place.
+    To { state: StateID, place: usize },
+    /// It comes back to the stack.
+    Back,
+}
+
+/// Tries the state at the place: what the search does next. The stack gets what it comes back to.
+pub fn step(
+    search: &Search<'_>,
+    state: StateID,
+    place: usize,
+    stack: &mut Stack,
+    slots: &mut [Slot],
+) -> Result<Onward, Memory>
+    requires search { IsInside search.now }
+    requires state { state < length search.now.states.now }
+    requires place { (search.now.first ≤ place) × (place ≤ search.now.end) }
+    requires inside { AllInside search.now stack.old }
+    ensures stepped { IfOk result (λ r. Stepped (graph_for search.now) (at state place) r
+        stack.old stack.new slots.old slots.new) }
+    ensures inside { IfOk result (λ r. AllInside search.now (frames_of r stack.new)) }
+    ensures width { length slots.new ≡ length slots.old }
+{
+    let states = search.states;
+    match &states[state.as_usize()] {
+        State::ByteRange { start, end, next } => {
+            let byte = byte_before(search.text, search.end, place);
+            Ok(toward(in_range(*start, *end, *next, byte), place + 1))
+        }
+        State::Sparse { transitions } => {
+            let byte = byte_before(search.text, search.end, place);
+            Ok(toward(in_any(transitions.as_slice(), byte), place + 1))
+        }
+        State::Union { alternates } => {
+            let first = choose(alternates.as_slice(), place, stack)?;
+            Ok(toward(first, place))
+        }
+        State::Capture { next, slot, .. } => {
+            save(stack, slots, *slot, place)?;
+            Ok(Onward::To {
+                state: *next,
+                place,
+            })
+        }
+        State::Fail => Ok(Onward::Back),
+        State::Match { pattern } => Ok(Onward::Accept(*pattern)),
+    }
+}
+
+/// The byte at the place, if it lies before the end.
+fn byte_before(text: &[u8], end: usize, place: usize) -> Option<u8>
+    requires { end ≤ length text.now }
+    ensures { result ≡ byte_at text.now end place }
+{
+    if place < end { Some(text[place]) } else { None }
+}
+
+/// Where the byte leads to, if it is in the range.
+fn in_range(start: u8, end: u8, next: StateID, byte: Option<u8>) -> Option<StateID>
+    ensures { result ≡ target_of (record { start = start; end = end; next = next } ∷ []) byte }
+{
+    match byte {
+        Some(byte) if start <= byte && byte <= end => Some(next),
+        _ => None,
+    }
+}
+
+/// Where the byte leads to, if a transition has it.
+fn in_any(transitions: &[Transition], byte: Option<u8>) -> Option<StateID>
+    ensures { result ≡ target_of transitions.now byte }
+{
+    match byte {
+        Some(byte) => matches_byte(transitions, byte),
+        None => None,
+    }
+}
+
+/// On to the state at the place, if there is one.
+fn toward(next: Option<StateID>, place: usize) -> Onward
+    ensures { result ≡ onto next place }
+{
+    match next {
+        Some(state) => Onward::To { state, place },
+        None => Onward::Back,
+    }
+}
+
+/// The first of the states. The others are on the stack, the preferred one on top.
+fn choose(
+    alternates: &[StateID],
+    place: usize,
+    stack: &mut Stack,
+) -> Result<Option<StateID>, Memory>
+    ensures { IfOk result (λ r. frames_of (onto r place) stack.new
+        ≡ explore_all (map (λ q. at q place) alternates.now) ++ stack.old) }
+{
+    let Some(first) = alternates.first() else {
+        return Ok(None);
+    };
+    let mut left = alternates.len();
+    while left > 1 {
+        left -= 1;
+        stack.push(Frame::Explore {
+            state: alternates[left],
+            place,
+        })?;
+    }
+    Ok(Some(*first))
+}
+
+/// Writes the place into the slot, where there is room for it. The old value is on the stack.
+fn save(stack: &mut Stack, slots: &mut [Slot], slot: usize, place: usize) -> Result<(), Memory>
+    requires { place < usize.MAX }
+    ensures saved { IfOk result (λ _. Saves slot place stack.old stack.new slots.old slots.new) }
+    ensures width { length slots.new ≡ length slots.old }
+{
+    if slot >= slots.len() {
+        return Ok(());
+    }
+    stack.push(Frame::Restore {
+        slot,
+        old: slots[slot],
+    })?;
+    slots[slot] = Slot::at(place);
+    Ok(())
+}

@@ -1,0 +1,14 @@
+-- What the clones of an NFA share, as an NFA.
+use Rattle.rx_thompson.specs.Nfa.{Nfa}
+use Rattle.rx_thompson.specs.declared.nfa.inner.Inner.{Inner}
+
+abbrev pub nfa_of : Inner → Nfa
+nfa_of i = record {
+  states = i.states.items;
+  start_anchored = i.start_anchored;
+  starts = i.starts.items;
+  slots = i.slot_len;
+  utf8 = i.utf8;
+  has_empty = i.has_empty;
+  accounted = i.accounted_states;
+}
