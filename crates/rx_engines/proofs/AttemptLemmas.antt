@@ -1,14 +1,14 @@
 -- The steps of a depth-first search, over the bits that it keeps.
-use Rattle.std.proofs.Common.{◌≡◌, ℕ, ◌+◌, ◌-◌, ◌*◌, ◌<◌, ◌≤◌, List, ◌∷◌, length, refl, sym, ◌∙◌, ap, subst, arith, true≢false}
+use Rattle.std.proofs.Common.{◌≡◌, ℕ, ◌+◌, ◌-◌, ◌*◌, ◌<◌, ◌≤◌, List, ◌∷◌, length, sym, ◌∙◌, ap, subst, arith}
 use Rattle.std.specs.Prelude.{Bool, true, false, not, ◌||◌, ◌==◌, Option, Some}
-use Rattle.rx_model.specs.Runs.{Configuration, same, Passed, and_at, found, first_trace}
+use Rattle.rx_model.specs.Runs.{Configuration, same, Passed, and_at}
 use Rattle.rx_model.specs.Machine.{grid}
 use Rattle.rx_model.proofs.MachineLemmas.{grid-has}
 use Rattle.rx_model.proofs.RunLemmas.{by_test, same-true, weight, weight-less}
-use Rattle.rx_thompson.specs.Automaton.{at, automaton}
+use Rattle.rx_thompson.specs.Automaton.{at}
 use Rattle.rx_thompson.proofs.AutomatonLemmas.{automaton-bounded}
 use Rattle.rx_engines.specs.Walk.{Slots, Answer}
-use Rattle.rx_engines.specs.Backtrack.{is_set, passed_by, work, graph_for, AllInside, Searching, Yields}
+use Rattle.rx_engines.specs.Backtrack.{is_set, passed_by, work, graph_for, Searching, Yields}
 use Rattle.rx_engines.specs.declared.backtrack.search.Search.{Search}
 use Rattle.rx_engines.specs.declared.frame.Frame.{Frame}
 use Rattle.rx_engines.specs.declared.frame.Frame.TheVariants.{Explore}
@@ -95,6 +95,3 @@ module _ {s : Search} {words words' : List ℕ} {new : Bool} {q i : ℕ} (t : In
       let less = less_work unseen in
       let longer = Yields-length y in
       omega arith
-
-  pub accepts-work : new ≡ true → work s words' ≤ work s words
-  accepts-work unseen = let less = less_work unseen in omega arith

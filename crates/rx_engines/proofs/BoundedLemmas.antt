@@ -1,12 +1,12 @@
 -- The starts of a bounded search, and what it reports.
-use Rattle.std.proofs.Common.{◌≡◌, ℕ, zero, suc, ◌+◌, ◌-◌, ◌*◌, ◌/◌, ◌≤◌, ◌<◌, List, ◌∷◌, [], length, get_or, refl, sym, ◌∙◌, ap, subst, arith}
+use Rattle.std.proofs.Common.{◌≡◌, ℕ, suc, ◌+◌, ◌-◌, ◌*◌, ◌/◌, ◌≤◌, ◌<◌, List, length, get_or, refl, sym, ◌∙◌, ap, subst, arith}
 use Rattle.std.proofs.Math.Nat.{div-le_self}
 use Rattle.std.proofs.lemmas.Nat.{mul-le}
 use Rattle.std.proofs.lemmas.List.{length-replicate}
 use Rattle.std.proofs.lemmas.Bool.Decides.{nat_tests}
 use Rattle.std.specs.Prelude.{Bool, true, false, Option, Some, None, option_map, IfSome, replicate, nat_lt, if◌then◌else◌, ◌^◌}
 use Rattle.rx_model.specs.Runs.{Trace, first_trace}
-use Rattle.rx_model.specs.Search.{Patterns, Anchor, free, anchored, anchored_to, Match, is_permitted, first_start, slot_value}
+use Rattle.rx_model.specs.Search.{Patterns, told_of, Match, is_anchored, is_permitted, first_start, starts, slot_value}
 use Rattle.rx_model.proofs.RunLemmas.{by_test}
 use Rattle.rx_model.proofs.FirstLemmas.{none-is-some, some-is}
 use Rattle.rx_search.specs.Input.{InputValue}
@@ -18,11 +18,9 @@ use Rattle.rx_thompson.proofs.NextMatchLemmas.{first_start-alike, next_match_of-
 use Rattle.rx_thompson.specs.declared.state.State.{State}
 use Rattle.rx_engines.specs.Engine.{next_match_for, last_start, HasSlots}
 use Rattle.rx_engines.specs.Walk.{Slots, Answer, answer, write_all}
-use Rattle.rx_engines.specs.Backtrack.{graph_for, next_of, returned, triple, next_match_within, IsNfaOf, max_len, span_len}
+use Rattle.rx_engines.specs.Backtrack.{graph_for, returned, triple}
+use Rattle.rx_engines.specs.Bounded.{next_match_within, IsNfaOf}
 use Rattle.rx_engines.specs.declared.backtrack.search.Search.{Search}
-use Rattle.rx_engines.specs.Simulation.{first_of}
-use Rattle.rx_engines.proofs.EngineLemmas.{next_match_of-start}
-use Rattle.rx_engines.proofs.OptionLemmas.{or-none_right}
 use Rattle.rx_engines.proofs.SlotLemmas.{slot-of_match, length-write_all}
 
 -- the next match that starts at place i or after it
@@ -86,15 +84,23 @@ match-answered s i n r slots slots' goal is le allowed empty next =
 -- What the search of an NFA finds.
 
 module _ (nfa : Nfa) (v : InputValue) where
-  pub patterns-met : v.end ≤ length v.haystack → (r : Patterns) → IsNfaOf nfa r → next_match_within nfa v ≡ next_match_for r v
-  patterns-met within r of = next_match_of-patterns nfa r v.haystack v.end within of.runs nfa.utf8 v.anchor v.start of.utf8_empty
+  pub patterns-met : v.end ≤ length v.haystack → (r : Patterns) → IsNfaOf nfa r → next_match_within nfa v ≡ option_map (told_of r.which_captures) (next_match_for r v)
+  patterns-met within r of = next_match_of-patterns nfa r v.haystack v.end within of.runs nfa.utf8 v.anchor v.start of.utf8
+
+  -- how many starts there are
+  starts-is : v.start ≤ v.end → starts v.anchor v.start v.end ≡ last_start v + 1 - v.start
+  starts-is le =
+      let e : nat_lt v.end v.start ≡ false = grind (arith, nat_tests) in
+      by_test (is_anchored v.anchor) (λ a. rw (e, a) (omega arith)) (λ a. rw (e, a) refl)
 
   start-is : (q last : ℕ) → v.start ≤ v.end → start_of nfa v.anchor ≡ Some q → last ≡ last_start v
       → first_start (is_permitted nfa.utf8 v.haystack) (λ i. first_trace (automaton nfa.states v.haystack v.end) (at q i)) (last + 1 - v.start) v.start ≡ next_match_within nfa v
+  unfolding next_match_of
   start-is q last le is at_last =
-      first_start-alike (is_permitted nfa.utf8 v.haystack) (λ i. first_trace (automaton nfa.states v.haystack v.end) (at q i)) (first_of (first_trace (automaton nfa.states v.haystack v.end)) (q ∷ [])) (last + 1 - v.start) v.start
-      (λ j _. sym (or-none_right (first_trace (automaton nfa.states v.haystack v.end) (at q j))))
-      ∙ next_match_of-start nfa nfa.utf8 v.haystack v.anchor v.end v.start q last le is at_last
+      first_start-alike (is_permitted nfa.utf8 v.haystack) (λ i. first_trace (automaton nfa.states v.haystack v.end) (at q i)) (first_from nfa.states v.haystack v.end (start_of nfa v.anchor)) (last + 1 - v.start) v.start
+      (λ j _. ap (λ o. first_from nfa.states v.haystack v.end o j) (sym is))
+      ∙ ap (λ n. first_start (is_permitted nfa.utf8 v.haystack) (first_from nfa.states v.haystack v.end (start_of nfa v.anchor)) n v.start)
+      (ap (λ l. l + 1 - v.start) at_last ∙ sym (starts-is le))
 
   -- what the search of the states was given
   pub found-within : {states : List State} {text : List ℕ} {q last first end : ℕ} {utf8 : Bool} → states ≡ nfa.states → text ≡ v.haystack → utf8 ≡ nfa.utf8 → last ≡ last_start v → first ≡ v.start → end ≡ v.end

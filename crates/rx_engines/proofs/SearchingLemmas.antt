@@ -3,7 +3,7 @@ use Rattle.std.proofs.Common.{◌≡◌, ℕ, ◌+◌, ◌⊎◌, List, [], ◌�
 use Rattle.std.proofs.lemmas.List.{set-get_or, set_past}
 use Rattle.std.specs.Prelude.{true, false, Option, Some, None, option_map}
 use Rattle.std.specs.Option.{option_or}
-use Rattle.rx_model.specs.Runs.{Configuration, PriorityGraph, Passed, and_at, Trace, with_write, found, first_some, IsBounded}
+use Rattle.rx_model.specs.Runs.{Configuration, PriorityGraph, Passed, and_at, Trace, with_write, found, first_trace, first_some, IsBounded}
 use Rattle.rx_model.proofs.RunLemmas.{or-none}
 use Rattle.rx_model.proofs.FirstLemmas.{none-is-some}
 use Rattle.rx_model.proofs.FoundLemmas.{found-passed, found-prune, found-accepted, found-step}
@@ -109,10 +109,10 @@ pub Searching-over : {g : PriorityGraph} {before p : Passed} {goal : Option Answ
 unfolding pending undone
 Searching-over s = (sym s.value, s.dead (sym s.value), s.unwinds)
 
--- the search begins
-pub Searching-begun : (g : PriorityGraph) (p : Passed) (q i : ℕ) (slots : Slots) → Searching g p p (answer slots (found g p (at q i))) slots (Explore q i ∷ []) slots
+-- the search begins, where what was passed leads to nothing
+pub Searching-begun : (g : PriorityGraph) (p : Passed) (q i : ℕ) (slots : Slots) → found g p (at q i) ≡ first_trace g (at q i) → Searching g p p (answer slots (first_trace g (at q i))) slots (Explore q i ∷ []) slots
 unfolding pending undone
-Searching-begun g p q i slots = record { value = or-none_right _; dead = λ none c. refl; unwinds = refl }
+Searching-begun g p q i slots same = record { value = or-none_right _ ∙ ap (answer slots) same; dead = λ none c. refl; unwinds = refl }
 
 frames-length : (ds : List Configuration) (rest : List Frame) → length (explore_all ds ++ rest) ≡ length ds + length rest
 frames-length [] rest = omega arith

@@ -1,12 +1,12 @@
 -- What a depth-first search does at a state.
-use Rattle.std.proofs.Common.{◌≡◌, ◌⊎◌, ℕ, ◌+◌, ◌<◌, ◌≤◌, List, [], ◌∷◌, ◌++◌, refl, sym, ◌∙◌, ap, inl, inr, arith, get_or, set, length}
+use Rattle.std.proofs.Common.{◌≡◌, ℕ, ◌+◌, ◌<◌, ◌≤◌, List, [], ◌∷◌, ◌++◌, refl, sym, ◌∙◌, ap, inl, inr, arith, get_or, length}
 use Rattle.std.proofs.lemmas.Bool.Decides.{nat_tests}
-use Rattle.std.proofs.lemmas.List.Elements.{All-nil, All-cons, All-head, All-tail}
-use Rattle.std.specs.Prelude.{true, false, Option, Some, None, All, map, nat_lt, nat_le, ◌&&◌, slice_index}
+use Rattle.std.proofs.lemmas.List.Elements.{All-head, All-tail}
+use Rattle.std.specs.Prelude.{Option, Some, None, All, map, nat_lt, nat_le, ◌&&◌, slice_index}
 use Rattle.rx_model.specs.Runs.{PriorityGraph, Configuration}
 use Rattle.rx_model.proofs.RunLemmas.{by_test}
 use Rattle.rx_model.proofs.FirstLemmas.{none-is-some, some-is}
-use Rattle.rx_thompson.specs.Automaton.{at, automaton, state_at, state_step, state_accepts, state_writes, route, go_on, read_byte, NamesBelow}
+use Rattle.rx_thompson.specs.Automaton.{at, automaton, state_at, state_step, state_accepts, state_writes, route, go_on, read_byte}
 use Rattle.rx_thompson.specs.declared.state.Transition.{Transition}
 use Rattle.rx_thompson.specs.declared.state.State.{State}
 use Rattle.rx_thompson.proofs.StateLemmas.{accepted-is, successors-is, written-is}
@@ -58,16 +58,16 @@ module _ (states : List State) (text : List ℕ) (end q i : ℕ) (state : q < le
         accepts = accepted-is states text end q i state place s e ∙ none;
         goes_on = elim saved [
           | inl h ↦ inl (
-              λ k other. (let same : slot ≡ k = some-is (sym written ∙ other) in let past = h.0 in omega arith),
-              ap (λ fs. Explore next i ∷ fs) h.1 ∙ ap (λ ds. explore_all ds ++ frames) (sym successors),
-              h.2,
-            )
+            λ k other. (let same : slot ≡ k = some-is (sym written ∙ other) in let past = h.0 in omega arith),
+            ap (λ fs. Explore next i ∷ fs) h.1 ∙ ap (λ ds. explore_all ds ++ frames) (sym successors),
+            h.2,
+          )
           | inr h ↦ inr (
-              slot,
-              written,
-              ap (λ fs. Explore next i ∷ fs) h.0 ∙ ap (λ ds. explore_all ds ++ (Restore slot (get_or slots slot None) ∷ frames)) (sym successors),
-              h.1,
-            )
+            slot,
+            written,
+            ap (λ fs. Explore next i ∷ fs) h.0 ∙ ap (λ ds. explore_all ds ++ (Restore slot (get_or slots slot None) ∷ frames)) (sym successors),
+            h.1,
+          )
         ];
       }
 
@@ -106,14 +106,3 @@ pub AllWithin-union : (n first end i : ℕ) (qs : List ℕ) (frames : List Frame
 AllWithin-union n first end i [] frames ge le all inside = inside
 AllWithin-union n first end i (q ∷ qs) frames ge le all inside =
     (All-head (λ x. x < n) q qs all, ge, le, AllWithin-union n first end i qs frames ge le (All-tail (λ x. x < n) q qs all) inside)
-
-pub AllWithin-saved : (n first end slot i : ℕ) (frames frames' : List Frame) (slots slots' : Slots) → Saves slot i frames frames' slots slots' → AllWithin n first end frames → AllWithin n first end frames'
-AllWithin-saved n first end slot i frames frames' slots slots' saved inside =
-    elim saved [
-      | inl h ↦ rw h.1 inside
-      | inr h ↦ rw h.0 inside
-    ]
-
--- the transition of a range
-pub All-single : (n low high next : ℕ) → next < n → All (λ (t : Transition). t.next < n) (record { start = low; end = high; next = next } ∷ [])
-All-single n low high next lt = All-cons (λ (t : Transition). t.next < n) (record { start = low; end = high; next = next }) [] lt (All-nil (λ (t : Transition). t.next < n))

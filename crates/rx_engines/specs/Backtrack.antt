@@ -1,16 +1,12 @@
 -- A depth-first search that tries each state at each place of a span once.
-use Rattle.std.specs.Prelude.{◌≡◌, ◌⊎◌, ℕ, ◌+◌, ◌-◌, ◌*◌, ◌/◌, ◌%◌, ◌<◌, ◌≤◌, Bool, true, false, ◌&&◌, ◌==◌, List, [], ◌∷◌, ◌++◌, length, All, Option, Some, None, nat_lt, nat_le, slice_index, slice_index_or, slice_set, min, max, refl, ◌^◌}
-use Rattle.std.specs.Coded.{Coded, code_by, coded×, coded_ℕ}
+use Rattle.std.specs.Prelude.{◌≡◌, ◌⊎◌, ℕ, ◌+◌, ◌-◌, ◌*◌, ◌/◌, ◌%◌, ◌<◌, ◌≤◌, Bool, ◌&&◌, ◌==◌, List, [], ◌∷◌, ◌++◌, length, All, Option, Some, None, nat_lt, nat_le, slice_index, slice_index_or, slice_set, ◌^◌}
 use Rattle.std.specs.Int.{bit_at}
 use Rattle.rx_model.specs.Runs.{Configuration, PriorityGraph, Passed, found, first_trace}
-use Rattle.rx_model.specs.Search.{Patterns, Match, is_permitted, first_start}
+use Rattle.rx_model.specs.Search.{Match, is_permitted, first_start}
 use Rattle.rx_model.specs.Machine.{grid}
 use Rattle.rx_model.proofs.RunLemmas.{weight}
-use Rattle.rx_search.specs.Input.{InputValue}
 use Rattle.rx_thompson.specs.Automaton.{at, automaton, route, NamesBelow}
 use Rattle.rx_thompson.specs.declared.state.Transition.{Transition}
-use Rattle.rx_thompson.specs.Nfa.{Nfa, HasFirstRuns}
-use Rattle.rx_thompson.specs.NextMatch.{next_match_of}
 use Rattle.rx_engines.specs.Walk.{Slots, Answer, pending, explore_all}
 use Rattle.rx_engines.specs.declared.frame.Frame.{Frame}
 use Rattle.rx_engines.specs.declared.frame.Frame.TheVariants.{Explore, Restore}
@@ -129,43 +125,3 @@ Followed (Some r) g before passed goal base frames slots = goal ≡ returned (So
 -- a match as pattern, start and end
 abbrev pub triple : Match → ℕ × ℕ × ℕ
 triple m = (m.trace.pattern, m.start, m.trace.end)
-
--- What an engine is to a contract.
-
--- the next match of the NFA in the input's span
-abbrev pub next_match_within : Nfa → InputValue → Option Match
-next_match_within nfa v = next_match_of nfa nfa.utf8 v.haystack v.anchor v.end v.start
-
--- the NFA has the first runs of these patterns
-pub record IsNfaOf (nfa : Nfa) (r : Patterns) : Type 0 where
-  pub runs : HasFirstRuns nfa r
-  pub utf8_empty : r.utf8_empty ≡ nfa.utf8
-
--- the length of the longest span that is searched, with a bit for each accounted state at each place
-abbrev pub max_len : Nfa → ℕ
-max_len nfa = 2097152 / max 1 nfa.accounted - 1
-
--- how long the input's span is; nothing is left of a done one
-abbrev pub span_len : InputValue → ℕ
-span_len v = v.end - v.start
-
--- what is accounted for a cache of the NFA, in bytes, up to the greatest number of 64 bits
-abbrev pub accounted_memory : Nfa → ℕ
-accounted_memory nfa = min (2 ^ 64 - 1) (16 * nfa.accounted * nfa.slots)
-
--- The room that a cache has.
-pub record Room : Type 0 where
-  pub bits : ℕ
-  pub slots : ℕ
-  -- what is accounted for it
-  pub memory : ℕ
-
-abbrev pub room_code : Coded Room
-room_code =
-    code_by (ℕ × (ℕ × ℕ)) (coded× coded_ℕ (coded× coded_ℕ coded_ℕ)) (λ r. (r.bits, (r.slots, r.memory)))
-    (λ p. record { bits = p.0; slots = p.1.0; memory = p.1.1 }) (λ _. refl)
-
--- a cache with this room serves the engine
-pub record Fits (nfa : Nfa) (room : Room) : Type 0 where
-  pub bits : (max_len nfa + 1) * length nfa.states ≤ room.bits
-  pub slots : room.slots ≡ nfa.slots

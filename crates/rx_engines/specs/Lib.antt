@@ -6,4 +6,4 @@ pub mod Search
 pub mod Room
 pub mod Engine
 pub mod Backtrack
-pub mod Refusal
+pub mod Bounded

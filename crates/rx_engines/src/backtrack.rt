@@ -4,7 +4,6 @@
 mod attempt;
 mod backtracker;
 mod cache;
-mod error;
 mod find;
 mod search;
 mod stack;
@@ -13,5 +12,6 @@ mod visited;
 
 pub use backtracker::BoundedBacktracker;
 pub use cache::Cache;
-pub use error::MatchError;
 
+#[cfg(test)]
+mod tests;

@@ -1,9 +1,13 @@
 //! Engines that run an NFA over a text. It stands on rx_thompson.
 //!
-//! `pikevm` simulates all its threads at once, place by place. Its contract is the next match, with slots.
+//! `pikevm` simulates all its threads at once, place by place. `backtrack` searches depth first, in a bounded span.
+//! The contract of both is the next match, with slots.
 #![tactic(auto)]
 
+mod accounting;
 pub mod backtrack;
 mod frame;
 pub mod pikevm;
+mod report;
 mod slots;
+mod starts;

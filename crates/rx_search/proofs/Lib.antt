@@ -1,3 +1,4 @@
 pub mod SearcherLemmas
 pub mod GroupLemmas
 pub mod FaultLemmas
+pub mod GroupSlotLemmas

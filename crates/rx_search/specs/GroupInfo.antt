@@ -1,8 +1,10 @@
 -- The groups of patterns, with their names and their slots. A pattern's groups are a list of their names, of
 -- which the first, the implicit group, has none.
-use Rattle.std.specs.Prelude.{ℕ, zero, suc, ◌+◌, ◌-◌, ◌*◌, ◌≡◌, Bool, false, ◌||◌, List, [], ◌∷◌, length, map, take, replicate, Option, Some, None, option_map, unwrap_or, slice_get, position, if◌then◌else◌, nat_lt, ◌⊎◌, Vec, String, string_bytes, bytes_eq}
+use Rattle.std.specs.Prelude.{ℕ, zero, suc, ◌+◌, ◌-◌, ◌*◌, ◌≡◌, ◌<◌, Bool, true, false, ◌||◌, List, [], ◌∷◌, length, map, take, replicate, Option, Some, None, option_map, unwrap_or, slice_get, position, if◌then◌else◌, nat_lt, ◌⊎◌, Vec, String, string_bytes, bytes_eq}
 use Rattle.std.specs.List.{list_any}
 use Rattle.std.specs.Option.{option_or, option_flatten}
+use Rattle.rx_model.specs.Expression.{Expression}
+use Rattle.rx_model.specs.Search.{Patterns, greatest_group, has_explicit_groups, slot_of}
 use Rattle.rx_search.specs.declared.group_error.GroupInfoError.{GroupInfoError}
 use Rattle.rx_search.specs.declared.group_error.GroupInfoError.TheVariants.{MissingGroups, FirstMustBeUnnamed, Duplicate, TooMany, Memory}
 
@@ -93,3 +95,16 @@ refusal info = option_or (first_fault 0 (take id_limit info)) (if nat_lt 2147483
 -- the refusal, or there was no memory
 abbrev pub IsRefusal : List (List (Option (List ℕ))) → GroupInfoError → Type 0
 IsRefusal info e = (refusal info ≡ Some e) ⊎ (e ≡ Memory)
+
+-- the implicit group, and explicit ones up to the greatest number that stands in the expression
+abbrev pub groups_in_expression : Expression → ℕ
+groups_in_expression h = 1 + greatest_group h
+
+-- Where each pattern has the groups of its expression, and all have slots, the explicit groups have the slots that
+-- the graphs of the patterns write.
+abbrev pub SlotsAreWritten : Type 0
+SlotsAreWritten = (r : Patterns) (info : List (List (Option (List ℕ)))) (p g : ℕ)
+    → has_explicit_groups r.which_captures ≡ true
+    → map length info ≡ map groups_in_expression r.expressions
+    → 0 < g
+    → slot_of r p g ≡ Some (slot_of_group info p g)

@@ -7,7 +7,7 @@ use crate::primitives::PatternID;
 /// Which of the matches that begin at one place is reported.
 #[derive(Clone, Copy, Debug, PartialEq, Eq)]
 pub enum MatchKind {
-    /// Every one, so that a search reports the longest.
+    /// Some match: which one is reported is not promised yet.
     All,
     /// The first in order of preference.
     LeftmostFirst,

@@ -1,5 +1,5 @@
 ghost use Rattle.std.specs.Prelude.{◌≡◌, ◌+◌, ◌-◌, ◌*◌, ◌≤◌, ◌<◌, IfOk, IfSome, MatchResult, All, map, length, sum, option_map, option_copied, string_bytes, position, slice_range, MatchOption, Some, None, ◌∷◌, ◌++◌, drop};
-ghost use Rattle.rx_search.specs.GroupInfo.{names_of, groups_of, unnamed_groups, is_named, first_fault, refusal, IsRefusal};
+ghost use Rattle.rx_search.specs.GroupInfo.{names_of, groups_of, unnamed_groups, is_named, first_fault, refusal, IsRefusal, SlotsAreWritten};
 ghost use Rattle.rx_search.specs.GroupTables.{AreOf, IsRowOf};
 ghost use Rattle.std.specs.Arc.{arc_value};
 
@@ -55,10 +55,12 @@ impl Model for GroupInfo {
 impl GroupInfo {
     ghost use Rattle.rx_search.specs.GroupInfo.{groups_at, group_count, slot_count, slot_at, index_of, name_at};
 
-    /// The groups of these patterns, by their names. Refused are, in this order within a pattern: one without groups,
-    /// one whose first group has a name, and one in which a name stands twice. The first pattern at fault is told,
-    /// of the first 2147483647. Then more than 2147483646 slots in all are refused, and so are more patterns than
-    /// that. `Memory` may come at any time.
+    /// The groups of these patterns, by their names.
+    ///
+    /// Refused is the first pattern at fault, of the first 2147483647: one without groups, or else one whose first
+    /// group has a name, or else one in which a name stands twice. No pattern at all is no fault. Where there is none,
+    /// more than 2147483646 slots in all are refused, which more than 2147483647 patterns have. Each call may want
+    /// memory.
     pub fn new(alloc: Global, groups: &[Vec<Option<String>>]) -> Result<GroupInfo, GroupInfoError>
         ensures { MatchResult result (λ info. (info ≡ groups_of groups.now) × (refusal (groups_of groups.now) ≡ None)) (IsRefusal (groups_of groups.now)) }
     {
@@ -88,7 +90,8 @@ impl GroupInfo {
 
     /// The number of groups of a pattern, which is 0 where there is no such pattern.
     pub fn group_len(&self, pid: PatternID) -> usize
-        ensures { result ≡ length (groups_at self.now pid) }
+        ensures value { result ≡ length (groups_at self.now pid) }
+        ensures implicit { pid < length self.now → 0 < result }
     {
         match self.explicit(pid) {
             None => 0,
@@ -287,3 +290,8 @@ fn is_named(group: &Option<String>, name: &str) -> bool
         Some(other) => name == other.as_str(),
     }
 }
+
+/// The explicit groups of expressions have the slots that the graphs of the expressions write.
+pub fn slots_are_written()
+    ensures { SlotsAreWritten }
+{}

@@ -1,9 +1,12 @@
-//! The words of a search: identifiers, spans, inputs and matches. It stands on rx_model alone.
+//! The words of a search: identifiers, spans, inputs, matches and groups. It stands on rx_model, and on thiserror
+//! for the texts of one error.
 //!
 //! `PatternID`, `StateID` and `NonMaxUsize` are numbers with a limit; `Memory` is the error of a call that only
 //! want of memory can refuse. An `Input` is what a search is given, and contracts see it as a record. A
 //! `Match` is what a search answers. A `Searcher` asks a `Finder` for one match after another, and what it
-//! gives is the list of successive matches.
+//! gives is the list of successive matches. A `GroupInfo` has the capturing groups of patterns, with their names
+//! and slots, and contracts see it as the list of names of each pattern's groups. A `MatchError` says why a search
+//! gives no answer.
 #![tactic(auto)]
 
 mod anchored;
@@ -12,6 +15,7 @@ mod group_check;
 mod group_error;
 mod group_info;
 mod input;
+mod match_error;
 mod matches;
 mod memory;
 mod primitives;
@@ -21,8 +25,9 @@ mod span;
 pub use anchored::{Anchored, MatchKind};
 pub use gate::{Gate, Open};
 pub use group_error::GroupInfoError;
-pub use group_info::GroupInfo;
+pub use group_info::{GroupInfo, slots_are_written};
 pub use input::Input;
+pub use match_error::MatchError;
 pub use matches::{HalfMatch, Match};
 pub use memory::Memory;
 pub use primitives::{NonMaxUsize, PatternID, StateID};

@@ -5,7 +5,7 @@ ghost use Rattle.rx_search.specs.Matches.{match_value};
 ghost use Rattle.rx_search.specs.Searcher.{successive};
 
 use super::*;
-use std::alloc::Global;
+use std::alloc::{AllocError, Global};
 use std::test::Fail;
 
 /// Finds what `a?` matches, where `a` is its byte: that byte, if it lies where the span begins, and else
@@ -219,4 +219,131 @@ fn identifiers(rt: HostRuntime) {
     assert_eq!(rt; NonMaxUsize::new(usize::MAX), None);
     assert_eq!(rt; NonMaxUsize::new(7).map_or(0, |place| place.get()), 7);
     Open.reached(0);
+}
+
+/// The groups of one pattern, in which an empty text stands for a group without a name.
+fn pattern_of(alloc: Global, names: &[&str]) -> Result<Vec<Option<String>>, AllocError> {
+    let mut groups = Vec::new(alloc);
+    for name in names {
+        let group = if name.is_empty() {
+            None
+        } else {
+            Some(String::from_str(alloc, name)?)
+        };
+        groups.push(group)?;
+    }
+    Ok(groups)
+}
+
+/// The groups of these patterns.
+fn groups_of(alloc: Global, patterns: &[&[&str]]) -> Result<Vec<Vec<Option<String>>>, AllocError> {
+    let mut all = Vec::new(alloc);
+    for names in patterns {
+        all.push(pattern_of(alloc, names)?)?;
+    }
+    Ok(all)
+}
+
+#[test]
+fn groups_of_one_pattern(rt: HostRuntime) -> Result<(), Fail> {
+    let groups = groups_of(rt.alloc(), &[&["", "k"]])?;
+    let info = GroupInfo::new(rt.alloc(), groups.as_slice())?;
+    let copy = info.clone()?;
+    let pid = PatternID::ZERO;
+    assert_eq!(rt;
+        (info.slot_len(), info.all_group_len(), info.pattern_len()),
+        (4, 2, 1)
+    );
+    assert_eq!(rt;
+        (info.to_index(pid, "k"), info.to_index(pid, "j")),
+        (Some(1), None)
+    );
+    assert_eq!(rt;
+        (info.to_name(pid, 0), info.to_name(pid, 1)),
+        (None, Some("k"))
+    );
+    assert_eq!(rt; info.to_name(pid, 2), None);
+    assert_eq!(rt; info.to_index(PatternID::MAX, "k"), None);
+    assert_eq!(rt;
+        (copy.slot_len(), copy.to_name(pid, 1)),
+        (info.slot_len(), info.to_name(pid, 1))
+    );
+    Ok(())
+}
+
+#[test]
+fn slots_of_two_patterns(rt: HostRuntime) -> Result<(), Fail> {
+    let groups = groups_of(rt.alloc(), &[&["", "a", ""], &["", "a"]])?;
+    let info = GroupInfo::new(rt.alloc(), groups.as_slice())?;
+    let second = PatternID::new(1).unwrap_or(PatternID::ZERO);
+    assert_eq!(rt;
+        (
+            info.slot_len(),
+            info.implicit_slot_len(),
+            info.explicit_slot_len()
+        ),
+        (10, 4, 6)
+    );
+    assert_eq!(rt;
+        (info.group_len(PatternID::ZERO), info.group_len(second)),
+        (3, 2)
+    );
+    assert_eq!(rt; info.group_len(PatternID::MAX), 0);
+    assert_eq!(rt; info.slots(PatternID::ZERO, 0), Some((0, 1)));
+    assert_eq!(rt; info.slots(second, 0), Some((2, 3)));
+    assert_eq!(rt; info.slots(PatternID::ZERO, 2), Some((6, 7)));
+    assert_eq!(rt;
+        (info.slot(second, 1), info.slot(second, 2)),
+        (Some(8), None)
+    );
+    assert_eq!(rt; info.to_index(second, "a"), Some(1));
+    let unnamed = GroupInfo::unnamed(rt.alloc(), &[3, 2])?;
+    assert_eq!(rt;
+        (unnamed.slot_len(), unnamed.slot(second, 1)),
+        (10, Some(8))
+    );
+    assert_eq!(rt; unnamed.to_name(PatternID::ZERO, 1), None);
+    Ok(())
+}
+
+#[test]
+fn groups_that_are_refused(rt: HostRuntime) -> Result<(), Fail> {
+    let second = PatternID::new(1).unwrap_or(PatternID::ZERO);
+    let missing = groups_of(rt.alloc(), &[&[""], &[]])?;
+    assert_eq!(rt;
+        GroupInfo::new(rt.alloc(), missing.as_slice()).err(),
+        Some(GroupInfoError::MissingGroups { pattern: second })
+    );
+    let named = groups_of(rt.alloc(), &[&[""], &["a", "b", "b"], &[]])?;
+    assert_eq!(rt;
+        GroupInfo::new(rt.alloc(), named.as_slice()).err(),
+        Some(GroupInfoError::FirstMustBeUnnamed { pattern: second })
+    );
+    let twice = groups_of(rt.alloc(), &[&["", "a"], &["", "a", "", "a"], &[]])?;
+    assert_eq!(rt;
+        GroupInfo::new(rt.alloc(), twice.as_slice()).err(),
+        Some(GroupInfoError::Duplicate { pattern: second })
+    );
+    assert_eq!(rt; GroupInfo::new(rt.alloc(), &[])?.slot_len(), 0);
+    Ok(())
+}
+
+#[test]
+fn errors_are_shown_by_name(rt: HostRuntime) -> Result<(), Fail> {
+    let quit = MatchError::Quit {
+        byte: b'x',
+        offset: 3,
+    };
+    let gave_up = MatchError::GaveUp { offset: 3 };
+    let too_long = MatchError::HaystackTooLong { len: 3 };
+    let unsupported = MatchError::UnsupportedAnchored {
+        mode: Anchored::Yes,
+    };
+    let memory: MatchError = Memory.into();
+    let shown = format!(in rt.alloc(); "{quit} {gave_up} {too_long} {unsupported} {memory}")?;
+    assert_eq!(rt;
+        shown.as_str(),
+        "Quit GaveUp HaystackTooLong UnsupportedAnchored Memory"
+    );
+    Ok(())
 }

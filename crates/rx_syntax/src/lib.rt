@@ -18,8 +18,8 @@ mod translate;
 pub use accounting::{cost, states as accounted_states};
 pub use error::{ParseError, SyntaxError, SyntaxErrorKind};
 pub use hir::{
-    Capture, Class, ClassBytes, ClassUnicode, Hir, HirKind, Repetition,
-    can_be_empty, fewest_ranges_hold_the_members, greatest_group, lengths_bound_the_meaning,
-    one_can_be_empty, sound_expressions_are_ordered,
+    Capture, Class, ClassBytes, ClassUnicode, Hir, HirKind, Repetition, can_be_empty,
+    fewest_ranges_hold_the_members, greatest_group, lengths_bound_the_meaning, one_can_be_empty,
+    sound_expressions_are_ordered,
 };
 pub use parser::parse;

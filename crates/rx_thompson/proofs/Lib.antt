@@ -7,6 +7,7 @@ pub mod ImageLemmas
 pub mod ExpressionLemmas
 pub mod TextLemmas
 pub mod ResultLemmas
+pub mod GroupLemmas
 pub mod SilentLemmas
 pub mod SlotLemmas
 pub mod ChoiceLemmas

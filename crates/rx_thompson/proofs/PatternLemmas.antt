@@ -1,5 +1,5 @@
 -- The patterns of an NFA, and their first runs.
-use Rattle.std.proofs.Common.{◌≡◌, ◌≢◌, ℕ, zero, suc, ◌+◌, ◌*◌, ◌≤◌, ◌<◌, ◌⊎◌, List, [], ◌∷◌, refl, sym, ◌∙◌, ap, subst, inl, inr, ⊎_elim, arith, length, ◌++◌, get_or, ◌-◌}
+use Rattle.std.proofs.Common.{◌≡◌, ◌≢◌, ℕ, zero, suc, ◌+◌, ◌≤◌, ◌<◌, ◌⊎◌, List, [], ◌∷◌, refl, sym, ◌∙◌, ap, subst, inl, inr, ⊎_elim, arith, length, ◌++◌, get_or, ◌-◌}
 use Rattle.std.specs.Prelude.{false, Option, Some, None, map, option_map, slice_get, slice_index}
 use Rattle.std.specs.Option.{option_or}
 use Rattle.std.proofs.lemmas.Bool.{cases_lt}
@@ -64,7 +64,7 @@ found-far states text end q s i far =
 
 -- In a later draft, whatever was passed of states that were added since.
 module _ (r : Patterns) (text : List ℕ) (end : ℕ) (inside : end ≤ length text) (old new : Draft) (e : Extends old new)
-  (silent : r.which_captures ≡ no_group → (c : Configuration) → (automaton new.states text end).written c ≡ None) where
+    (silent : r.which_captures ≡ no_group → (c : Configuration) → (automaton new.states text end).written c ≡ None) where
   abbrev m : PriorityGraph
   m = automaton new.states text end
 

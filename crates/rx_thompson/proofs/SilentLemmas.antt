@@ -1,6 +1,6 @@
 -- Where no slots are written, a pattern's part has the first runs of its graph, but for the writes.
 use Rattle.std.proofs.Common.{◌≡◌, ℕ, zero, suc, ◌*◌, List, [], ◌∷◌, ◌++◌, length, refl, sym, ◌∙◌, ap}
-use Rattle.std.specs.Prelude.{◌&&◌, Option, Some, None, map, option_map, nat_lt, nat_le, if◌then◌else◌}
+use Rattle.std.specs.Prelude.{◌&&◌, Option, None, map, option_map, nat_lt, nat_le, if◌then◌else◌}
 use Rattle.rx_model.specs.Expression.{Expression}
 use Rattle.rx_model.specs.Graph as graph
 use Rattle.rx_model.specs.Machine.{graph_of, grid}

@@ -1,7 +1,8 @@
 -- What the compiler answers.
-use Rattle.std.specs.Prelude.{◌≡◌, ℕ, ◌+◌, ◌*◌, ◌<◌, ◌≤◌, Bool, List, [], ◌∷◌, length, Option, Some, None, IfSome}
+use Rattle.std.specs.Prelude.{◌≡◌, ℕ, ◌+◌, ◌*◌, ◌<◌, ◌≤◌, Bool, List, [], ◌∷◌, length, map, replicate, Option, Some, None, IfSome}
 use Rattle.rx_model.specs.Expression.{Expression}
-use Rattle.rx_model.specs.Search.{Patterns, WhichCaptures, all, implicit, none, groups_before}
+use Rattle.rx_model.specs.Search.{Patterns, WhichCaptures, all, implicit, none, greatest_group, groups_before}
+use Rattle.rx_search.specs.GroupInfo.{unnamed_groups}
 use Rattle.rx_model.specs.Empty.{one_can_be_empty}
 use Rattle.rx_syntax.specs.Normal.{expressions}
 use Rattle.rx_syntax.specs.Cost.{accounted_states, capped}
@@ -20,6 +21,16 @@ abbrev pub slots_of : WhichCaptures → List Expression → ℕ
 slots_of all hs = 2 * length hs + 2 * groups_before (length hs) hs
 slots_of implicit hs = 2 * length hs
 slots_of none hs = 0
+
+-- how many groups of each pattern have slots: under `all` those from 0 to the greatest that its expression has
+abbrev pub group_lens_of : WhichCaptures → List Expression → List ℕ
+group_lens_of all hs = map (λ h. greatest_group h + 1) hs
+group_lens_of implicit hs = replicate (length hs) 1
+group_lens_of none hs = []
+
+-- these groups, none of which has a name
+abbrev pub groups_of : WhichCaptures → List Expression → List (List (Option (List ℕ)))
+groups_of which hs = map unnamed_groups (group_lens_of which hs)
 
 -- the first slot of the groups that pattern p names, if they have slots
 abbrev pub first_slot_of : WhichCaptures → List Expression → ℕ → Option ℕ
@@ -49,6 +60,7 @@ pub record IsCompiled (config : Config) (hs : List Expression) (nfa : Nfa) : Typ
   pub few : length nfa.states ≤ nfa_states hs
   pub accounted : nfa.accounted ≡ nfa_states hs
   pub slots : nfa.slots ≡ slots_of (captures_of config) hs
+  pub groups : nfa.groups ≡ groups_of (captures_of config) hs
   pub utf8 : nfa.utf8 ≡ utf8_of config
   pub has_empty : nfa.has_empty ≡ one_can_be_empty (expressions hs)
   -- a first run looks neither at where a match may start nor at a terminator

@@ -1,8 +1,9 @@
 -- What an NFA is to a contract, and what it has to do with the patterns that it was built from.
-use Rattle.std.specs.Prelude.{◌≡◌, ℕ, ◌<◌, ◌≤◌, Bool, List, length, All, Some, option_map, slice_get, slice_index}
+use Rattle.std.specs.Prelude.{◌≡◌, ℕ, ◌<◌, ◌≤◌, Bool, List, length, All, Option, Some, option_map, slice_get, slice_index}
 use Rattle.rx_model.specs.Expression.{Expression}
 use Rattle.rx_model.specs.Runs.{first_trace}
 use Rattle.rx_model.specs.Search.{Patterns, told, first, first_of_patterns}
+use Rattle.rx_search.specs.GroupInfo.{slot_count}
 use Rattle.rx_thompson.specs.Automaton.{at, automaton, NamesBelow, IsWithin}
 use Rattle.rx_thompson.specs.declared.state.State.{State}
 
@@ -14,6 +15,8 @@ pub record Nfa : Type 0 where
   pub starts : List ℕ
   -- how many slots there are
   pub slots : ℕ
+  -- the groups of each pattern that have slots, by their names
+  pub groups : List (List (Option (List ℕ)))
   -- no match is to start inside a character
   pub utf8 : Bool
   -- one of the patterns can match the empty string
@@ -21,12 +24,13 @@ pub record Nfa : Type 0 where
   -- how many states were accounted for the patterns
   pub accounted : ℕ
 
--- every state, pattern and slot that is named is there
+-- every state, pattern and slot that is named is there, and the slots are those of the groups
 pub record IsInRange (nfa : Nfa) : Type 0 where
   pub start_anchored : nfa.start_anchored < length nfa.states
   pub starts : All (λ q. q < length nfa.states) nfa.starts
   pub names : All (NamesBelow (length nfa.states)) nfa.states
   pub within : All (IsWithin (length nfa.starts) nfa.slots) nfa.states
+  pub slots : nfa.slots ≡ slot_count nfa.groups
   pub few_states : length nfa.states ≤ 2147483647
   pub few_patterns : length nfa.starts ≤ 2147483647
   pub few_accounted : nfa.accounted ≤ 2147483647

@@ -3,6 +3,7 @@ ghost use Rattle.std.specs.Prelude.{◌≡◌, ◌+◌, ◌<◌, ◌≤◌, [], 
 ghost use Rattle.rx_thompson.specs.Automaton.{NamesBelow, IsWithin};
 ghost use Rattle.rx_model.specs.Graph.{build_state, set};
 ghost use Rattle.rx_model.specs.Text.{scalar_ranges, byte_ranges};
+ghost use Rattle.rx_search.specs.GroupInfo.{slot_count};
 ghost use Rattle.rx_syntax.specs.ClassViews.{class_view};
 ghost use Rattle.rx_syntax.specs.Cost.{states_of_class};
 ghost use Rattle.rx_thompson.specs.Built.{Built};
@@ -13,15 +14,16 @@ use crate::State;
 use crate::class::{compile_bytes, compile_class};
 use crate::nfa::NFA;
 use crate::nfa::inner::Inner;
-use rx_search::{Memory, StateID};
+use rx_search::{GroupInfo, Memory, StateID};
 use rx_syntax::{Class, ClassBytes, ClassUnicode};
 use std::alloc::Global;
 use std::marker::Model;
 use std::mem;
 
 /// What an NFA tells beside its states.
-#[derive(Clone, Copy)]
+#[derive(Drop)]
 pub struct Facts {
+    pub group_info: GroupInfo,
     pub utf8: bool,
     pub has_empty: bool,
     pub accounted_states: usize,
@@ -157,9 +159,18 @@ impl Builder {
         requires starts { All (λ q. q < length self.states) starts.items }
         requires patterns { length starts.items ≡ self.patterns }
         requires few { self.patterns ≤ 2147483647 }
+        requires slots { self.slots ≡ slot_count facts.group_info }
         requires accounted { facts.accounted_states ≤ 2147483647 }
-        ensures value { IfOk result (λ nfa. nfa ≡ record { states = self.states; start_anchored = start_anchored; starts = starts.items; slots = self.slots;
-            utf8 = facts.utf8; has_empty = facts.has_empty; accounted = facts.accounted_states }) }
+        ensures value { IfOk result (λ nfa. nfa ≡ record {
+          states = self.states;
+          start_anchored = start_anchored;
+          starts = starts.items;
+          slots = self.slots;
+          groups = facts.group_info;
+          utf8 = facts.utf8;
+          has_empty = facts.has_empty;
+          accounted = facts.accounted_states;
+        }) }
         ensures in_range { IfOk result IsInRange }
     {
         let slot_len = self.slot_len;
@@ -170,6 +181,7 @@ impl Builder {
                 start_anchored,
                 starts,
                 slot_len,
+                group_info: facts.group_info,
                 utf8: facts.utf8,
                 has_empty: facts.has_empty,
                 accounted_states: facts.accounted_states,

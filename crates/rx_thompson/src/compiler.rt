@@ -11,7 +11,9 @@ ghost use Rattle.rx_thompson.specs.Room.{HasRoom};
 
 mod accounting;
 mod config;
+mod constant;
 mod expression;
+mod grouping;
 mod groups;
 mod slots;
 #[cfg(test)]
@@ -24,6 +26,7 @@ use crate::state::{Alternates, State};
 use accounting::{nfa_states, slot_len};
 pub use config::{Config, WhichCaptures};
 use expression::compile;
+use grouping::group_info;
 use groups::Groups;
 use rx_search::{Memory, PatternID, StateID};
 use rx_syntax::{Hir, one_can_be_empty};
@@ -130,10 +133,13 @@ fn build(
     requires few_states { states ≤ 2147483647 }
     ensures { IfOk result (IsCompiled config exprs.now) }
 {
+    let which = config.get_which_captures();
+    let group_info = group_info(alloc, which, exprs)?;
     let mut builder = Builder::new(alloc, exprs.len(), slots);
-    let starts = compile_patterns(alloc, &mut builder, config.get_which_captures(), exprs)?;
+    let starts = compile_patterns(alloc, &mut builder, which, exprs)?;
     let start = start_of_all(alloc, &mut builder, &starts)?;
     let facts = Facts {
+        group_info,
         utf8: config.get_utf8(),
         has_empty: one_can_be_empty(exprs),
         accounted_states: states,

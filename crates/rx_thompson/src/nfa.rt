@@ -7,7 +7,7 @@ pub(crate) mod inner;
 
 use crate::State;
 use inner::Inner;
-use rx_search::{Memory, PatternID, StateID};
+use rx_search::{GroupInfo, Memory, PatternID, StateID};
 use std::alloc::Global;
 use std::marker::Model;
 use std::sync::Arc;
@@ -111,12 +111,20 @@ impl NFA {
         self.inner.starts.len()
     }
 
-    /// How many slots a match has: two for each pattern, and two for each group that a pattern names.
+    /// How many slots a match has: two for each group of `group_info`.
     pub fn slot_len(&self) -> usize
         ensures value { result ≡ self.now.slots }
         ensures in_range { IsInRange self.now }
     {
         self.inner.slot_len
+    }
+
+    /// The groups of the patterns that have slots. Under `WhichCaptures::None` it is that of no patterns.
+    pub fn group_info(&self) -> &GroupInfo
+        ensures value { result.now ≡ self.now.groups }
+        ensures in_range { IsInRange self.now }
+    {
+        &self.inner.group_info
     }
 
     /// Whether no match is to start inside an encoded character, as it was configured.

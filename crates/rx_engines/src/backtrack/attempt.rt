@@ -33,10 +33,9 @@ pub fn attempt(
     ensures width { length slots.new ≡ length slots.old }
 {
     stack.clear();
-    stack.push(Frame::Explore {
-        state: search.start,
-        place: from,
-    })?;
+    if let Some(found) = follow(search, search.start, from, visited, stack, slots)? {
+        return Ok(Some(found));
+    }
     while let Some(frame) = stack.pop() {
         match frame {
             Frame::Restore { slot, old } => write(slots, slot, old),
@@ -81,7 +80,10 @@ fn follow(
     while visited.insert(index(search, state, place)) {
         match step(search, state, place, stack, slots)? {
             Onward::Accept(pattern) => return Ok(Some((pattern, place))),
-            Onward::To { state: next, place: at } => {
+            Onward::To {
+                state: next,
+                place: at,
+            } => {
                 state = next;
                 place = at;
             }

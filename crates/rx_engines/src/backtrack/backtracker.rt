@@ -1,19 +1,19 @@
 ghost use Rattle.std.specs.Prelude.{◌≡◌, ◌≤◌, length, None, replicate, IfOk, IfNone, IfSome, option_map};
 ghost use Rattle.std.specs.Result.{IfErr};
-ghost use Rattle.rx_model.specs.Search.{Patterns};
+ghost use Rattle.rx_model.specs.Search.{Patterns, told_of};
 ghost use Rattle.rx_search.specs.Anchored.{anchor_of};
 ghost use Rattle.rx_search.specs.Matches.{match_value};
 ghost use Rattle.rx_thompson.specs.Nfa.{IsInRange};
 ghost use Rattle.rx_thompson.specs.NextMatch.{start_of};
-ghost use Rattle.rx_engines.specs.Engine.{next_match_for, last_start, HasSlots};
-ghost use Rattle.rx_engines.specs.Backtrack.{next_match_within, IsNfaOf, max_len, span_len, accounted_memory, Fits};
-ghost use Rattle.rx_engines.specs.Refusal.{IsRefusal};
+ghost use Rattle.rx_engines.specs.Engine.{next_match_for, HasSlots, accounted_memory};
+ghost use Rattle.rx_engines.specs.Bounded.{next_match_within, IsNfaOf, max_len, span_len, IsRefusal, Fits};
 
 use crate::backtrack::cache::Cache;
-use crate::backtrack::error::MatchError;
 use crate::backtrack::search::Search;
+use crate::report::reported;
 use crate::slots::empty;
-use rx_search::{Anchored, Input, Match, Memory, NonMaxUsize, PatternID, Span, StateID};
+use crate::starts::latest_start;
+use rx_search::{Anchored, Input, Match, MatchError, Memory, NonMaxUsize, PatternID, StateID};
 use rx_thompson::NFA;
 use std::alloc::Global;
 use std::marker::Model;
@@ -88,15 +88,16 @@ impl BoundedBacktracker {
         ensures short { IfOk result (λ _. span_len input.now ≤ max_len self.now) }
         ensures err { IfErr result (IsRefusal self.now input.now) }
         ensures patterns { (r : Patterns) → IsNfaOf self.now r
-            → next_match_within self.now input.now ≡ next_match_for r input.now }
+            → next_match_within self.now input.now ≡ option_map (told_of r.which_captures) (next_match_for r input.now) }
         ensures slots { IfOk result (λ _. IfSome (next_match_within self.now input.now) (HasSlots slots.new)) }
         ensures none { IfOk result (λ r. IfNone r (slots.new ≡ replicate (length slots.old) None)) }
         ensures refused { IfErr result (λ _. slots.new ≡ replicate (length slots.old) None) }
         ensures cache { cache.new ≡ cache.old }
     {
-        match self.try_find_slots(cache, input, slots)? {
-            Some(found) => Ok(Some(found.pattern())),
-            None => Ok(None),
+        match self.try_find_slots(cache, input, slots) {
+            Ok(Some(found)) => Ok(Some(found.pattern())),
+            Ok(None) => Ok(None),
+            Err(error) => Err(error),
         }
     }
 
@@ -116,7 +117,7 @@ impl BoundedBacktracker {
         ensures short { IfOk result (λ _. span_len input.now ≤ max_len self.now) }
         ensures err { IfErr result (IsRefusal self.now input.now) }
         ensures patterns { (r : Patterns) → IsNfaOf self.now r
-            → next_match_within self.now input.now ≡ next_match_for r input.now }
+            → next_match_within self.now input.now ≡ option_map (told_of r.which_captures) (next_match_for r input.now) }
         ensures slots { IfOk result (λ _. IfSome (next_match_within self.now input.now) (HasSlots slots.new)) }
         ensures none { IfOk result (λ r. IfNone r (slots.new ≡ replicate (length slots.old) None)) }
         ensures refused { IfErr result (λ _. slots.new ≡ replicate (length slots.old) None) }
@@ -162,26 +163,4 @@ impl BoundedBacktracker {
             Anchored::Pattern(pattern) => self.nfa.start_pattern(pattern),
         }
     }
-}
-
-/// The place at which a match may start at the latest.
-fn latest_start(input: &Input<'_>) -> usize
-    requires { input.now.start ≤ input.now.end }
-    ensures value { result ≡ last_start input.now }
-    ensures within { (input.now.start ≤ result) × (result ≤ input.now.end) }
-{
-    if input.get_anchored().is_anchored() {
-        input.start()
-    } else {
-        input.end()
-    }
-}
-
-/// What was found, as a match.
-fn reported(found: Option<(PatternID, usize, usize)>) -> Option<Match>
-    requires { IfSome found (λ f. f.1 ≤ f.2) }
-    ensures { result ≡ option_map (λ f. record { pattern = f.0; start = f.1; end = f.2 }) found }
-{
-    let (pattern, start, end) = found?;
-    Some(Match::new(pattern, Span { start, end }))
 }

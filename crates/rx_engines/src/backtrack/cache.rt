@@ -1,8 +1,11 @@
 ghost use Rattle.std.specs.Prelude.{◌≡◌, vec_len, ℕ, ◌*◌, ◌+◌, ◌<◌, ◌≤◌, length, min, None, IfOk, OnOk, OnErr, IfSome, IfNone, option_map, replicate, nat_lt, slice_index_or, if◌then◌else◌};
 ghost use Rattle.std.specs.Result.{IfErr};
 ghost use Rattle.rx_model.specs.Search.{slot_value};
-ghost use Rattle.rx_engines.specs.Backtrack.{IsInside, extent, next_of, triple, accounted_memory, Room, room_code, Fits};
+ghost use Rattle.rx_engines.specs.Backtrack.{IsInside, extent, next_of, triple};
+ghost use Rattle.rx_engines.specs.Bounded.{Room, room_code, Fits};
+ghost use Rattle.rx_engines.specs.Engine.{accounted_memory};
 
+use crate::accounting::memory_of;
 use crate::backtrack::backtracker::BoundedBacktracker;
 use crate::backtrack::find::find;
 use crate::backtrack::search::Search;
@@ -48,14 +51,11 @@ impl Cache {
         let stack = Stack::new(alloc)?;
         let none = Slot::none();
         let slots = vec![in alloc; none; nfa.slot_len()]?;
-        let memory = 16usize
-            .saturating_mul(nfa.accounted_states())
-            .saturating_mul(nfa.slot_len());
         Ok(Cache {
             visited,
             stack,
             slots,
-            memory,
+            memory: memory_of(nfa),
         })
     }
 
@@ -69,7 +69,8 @@ impl Cache {
         Ok(())
     }
 
-    /// The bytes that are accounted for the cache.
+    /// The bytes that are accounted for the cache: 16 for each slot of each accounted state, or the greatest
+    /// `usize` where they are more. The number is fixed when the cache is made or reset.
     pub fn memory_usage(&self) -> usize
         ensures { result ≡ self.now.memory }
     {

@@ -1,5 +1,5 @@
 ghost use Rattle.std.specs.Prelude.{◌≡◌, ℕ, ◌*◌, ◌<◌, ◌≤◌, length, None, IfOk, IfSome, IfNone, option_map, replicate, slice_index_or};
-ghost use Rattle.rx_model.specs.Search.{is_permitted, slot_value};
+ghost use Rattle.rx_model.specs.Search.{slot_value};
 ghost use Rattle.rx_engines.specs.Backtrack.{IsInside, extent, next_of, triple};
 
 use crate::backtrack::attempt::attempt;
@@ -7,6 +7,7 @@ use crate::backtrack::search::Search;
 use crate::backtrack::stack::Stack;
 use crate::backtrack::visited::Visited;
 use crate::slots::{Slot, clear};
+use crate::starts::is_allowed;
 use rx_search::{Memory, PatternID};
 
 /// The pattern, the start and the end of the next match in the span. The slots get what it leaves in them.
@@ -34,16 +35,4 @@ pub fn find(
         }
     }
     Ok(None)
-}
-
-/// A match may begin here.
-fn is_allowed(text: &[u8], utf8: bool, place: usize) -> bool
-    requires { place ≤ length text.now }
-    ensures { result ≡ is_permitted utf8 text.now place }
-{
-    if utf8 && place < text.len() {
-        !(0x80 <= text[place] && text[place] <= 0xBF)
-    } else {
-        true
-    }
 }

@@ -5,6 +5,7 @@ ghost use Rattle.rx_engines.specs.Simulation.{cost, cost_below};
 ghost use Rattle.rx_engines.specs.Room.{Room, room_code};
 ghost use Rattle.rx_engines.specs.Engine.{Fits, accounted_memory};
 
+use crate::accounting::memory_of;
 use crate::pikevm::search::Search;
 use crate::pikevm::set::SparseSet;
 use crate::pikevm::simulate::simulate_slots;
@@ -14,12 +15,9 @@ use crate::pikevm::threads::Threads;
 use crate::pikevm::vm::PikeVM;
 use crate::slots::Slot;
 use rx_search::{Memory, NonMaxUsize, PatternID};
-use rx_thompson::{NFA, State};
+use rx_thompson::State;
 use std::alloc::Global;
 use std::marker::Model;
-
-/// The bytes that are accounted for a slot.
-const SLOT_SIZE: usize = 16;
 
 /// What a search writes to. It is made once for an automaton, and a search takes no memory.
 #[derive(Drop)]
@@ -184,13 +182,6 @@ impl Cache {
         )
         .is_some()
     }
-}
-
-/// What is accounted for a cache of this NFA.
-fn memory_of(nfa: &NFA) -> usize
-    ensures { result ≡ accounted_memory nfa.now }
-{
-    (SLOT_SIZE * nfa.accounted_states()).saturating_mul(nfa.slot_len())
 }
 
 /// A room for the frames of one closure of the states.

@@ -1,6 +1,5 @@
 ghost use Rattle.std.specs.Prelude.{◌≡◌, ℕ, ◌+◌, ◌<◌, ◌≤◌, List, [], length, All, Bool, true, Option, is_some};
 ghost use Rattle.rx_model.specs.Runs.{Passed, nowhere};
-ghost use Rattle.rx_model.specs.Search.{is_permitted};
 ghost use Rattle.std.specs.Option.{option_or};
 ghost use Rattle.rx_thompson.specs.Automaton.{automaton};
 ghost use Rattle.rx_engines.specs.Simulation.{cost_below, Hit, among, later_starts, passed_at};
@@ -11,18 +10,7 @@ use crate::pikevm::search::Search;
 use crate::pikevm::stack::Stack;
 use crate::pikevm::threads::Threads;
 use crate::slots::{Slot, clear};
-
-/// A match may begin here.
-fn is_allowed(text: &[u8], utf8_empty: bool, i: usize) -> bool
-    requires { i ≤ length text.now }
-    ensures { result ≡ is_permitted utf8_empty text.now i }
-{
-    if utf8_empty && i < text.len() {
-        !(0x80 <= text[i] && text[i] <= 0xBF)
-    } else {
-        true
-    }
-}
+use crate::starts::is_allowed;
 
 /// Starts a thread at each start, after the others, unless there is a match already or none may start here.
 pub fn seed(

@@ -138,12 +138,16 @@ fn the_first_alternative_is_preferred(rt: HostRuntime) -> Result<(), Fail> {
     ]?;
     let starts = [id(&rt, 0)];
     let mut slots = [None; 3];
-    let found = find(&rt, alloc, &states, &starts, b"ab", false, 0, false, &mut slots)?;
+    let found = find(
+        &rt, alloc, &states, &starts, b"ab", false, 0, false, &mut slots,
+    )?;
     assert!(rt; found == Some((pattern(&rt, 0), 0, 1)));
     assert_eq!(rt; place(slots[0]), Some(0));
     assert_eq!(rt; place(slots[1]), Some(1));
     assert_eq!(rt; place(slots[2]), None);
-    let found = find(&rt, alloc, &states, &starts, b"ab", false, 1, false, &mut slots)?;
+    let found = find(
+        &rt, alloc, &states, &starts, b"ab", false, 1, false, &mut slots,
+    )?;
     assert!(rt; found == None);
     assert_eq!(rt; place(slots[0]), None);
     Ok(())
@@ -174,14 +178,20 @@ fn the_first_pattern_is_preferred(rt: HostRuntime) -> Result<(), Fail> {
     ]?;
     let starts = [id(&rt, 8), id(&rt, 0), id(&rt, 4)];
     let mut slots = [None; 4];
-    let found = find(&rt, alloc, &states, &starts, b"xab", false, 0, false, &mut slots)?;
+    let found = find(
+        &rt, alloc, &states, &starts, b"xab", false, 0, false, &mut slots,
+    )?;
     assert!(rt; found == Some((pattern(&rt, 1), 1, 2)));
     assert_eq!(rt; place(slots[0]), None);
     assert_eq!(rt; place(slots[2]), Some(1));
     assert_eq!(rt; place(slots[3]), Some(2));
-    let found = find(&rt, alloc, &states, &starts, b"xab", true, 0, false, &mut slots)?;
+    let found = find(
+        &rt, alloc, &states, &starts, b"xab", true, 0, false, &mut slots,
+    )?;
     assert!(rt; found == None);
-    let found = find(&rt, alloc, &states, &starts, b"xab", true, 2, false, &mut slots)?;
+    let found = find(
+        &rt, alloc, &states, &starts, b"xab", true, 2, false, &mut slots,
+    )?;
     assert!(rt; found == Some((pattern(&rt, 0), 2, 3)));
     assert_eq!(rt; place(slots[0]), Some(2));
     assert_eq!(rt; place(slots[2]), None);
@@ -222,13 +232,19 @@ fn earliest_stops_at_the_first_end_of_the_threads(rt: HostRuntime) -> Result<(),
     ]?;
     let starts = [id(&rt, 0)];
     let mut slots = [None; 2];
-    let found = find(&rt, alloc, &states, &starts, b"aaa", false, 0, true, &mut slots)?;
+    let found = find(
+        &rt, alloc, &states, &starts, b"aaa", false, 0, true, &mut slots,
+    )?;
     assert!(rt; found == Some((pattern(&rt, 0), 0, 1)));
     assert_eq!(rt; place(slots[1]), Some(1));
-    let found = find(&rt, alloc, &states, &starts, b"aaa", false, 0, false, &mut slots)?;
+    let found = find(
+        &rt, alloc, &states, &starts, b"aaa", false, 0, false, &mut slots,
+    )?;
     assert!(rt; found == Some((pattern(&rt, 0), 0, 3)));
     assert_eq!(rt; place(slots[1]), Some(3));
-    let found = find(&rt, alloc, &states, &starts, b"xyz", false, 0, true, &mut slots)?;
+    let found = find(
+        &rt, alloc, &states, &starts, b"xyz", false, 0, true, &mut slots,
+    )?;
     assert!(rt; found == None);
     assert_eq!(rt; place(slots[1]), None);
     Ok(())
@@ -253,14 +269,20 @@ fn engine(
 fn earliest_ends_where_a_match_ends_first(rt: HostRuntime) -> Result<(), Fail> {
     let alloc = rt.alloc();
     // the second pattern starts later and ends first
-    let cases = [("a+", "xaaa", (0, 1, 4), (0, 1, 2)), ("abcd|c", "abcd", (0, 0, 4), (0, 2, 3))];
+    let cases = [
+        ("a+", "xaaa", (0, 1, 4), (0, 1, 2)),
+        ("abcd|c", "abcd", (0, 0, 4), (0, 2, 3)),
+    ];
     for (text, haystack, late, early) in cases {
         let vm = engine(&rt, alloc, &[text], MatchKind::LeftmostFirst)?;
         let mut cache = vm.create_cache(alloc)?;
         for (earliest, want) in [(false, late), (true, early)] {
             let input = Input::new(haystack.as_bytes()).earliest(earliest);
             let found = vm.find(&mut cache, &input).expect(&rt, "a match");
-            assert_eq!(rt; (found.pattern().as_usize(), found.start(), found.end()), want);
+            assert_eq!(rt;
+                (found.pattern().as_usize(), found.start(), found.end()),
+                want
+            );
         }
     }
     Ok(())

@@ -4,13 +4,14 @@ ghost use Rattle.rx_search.specs.Anchored.{anchor_of};
 ghost use Rattle.rx_search.specs.Matches.{match_value};
 ghost use Rattle.rx_thompson.specs.Nfa.{IsInRange};
 ghost use Rattle.rx_thompson.specs.NextMatch.{start_of};
-ghost use Rattle.rx_engines.specs.Engine.{PikeVMValue, next_match_in, next_match_for, answer_in, last_start, IsOf, IsMatchWith, IsSearchOf, HasSlots, Fits, accounted_memory};
-ghost use Rattle.rx_search.specs.declared.anchored.MatchKind.TheVariants.{LeftmostFirst};
+ghost use Rattle.rx_engines.specs.Engine.{PikeVMValue, next_match_in, next_match_for, answer_in, IsOf, IsMatchWith, IsSearchOf, HasSlots, Fits, accounted_memory};
 
 use crate::pikevm::cache::Cache;
 use crate::pikevm::search::Search;
+use crate::report::reported;
 use crate::slots::empty;
-use rx_search::{Anchored, Input, Match, MatchKind, Memory, NonMaxUsize, PatternID, Span, StateID};
+use crate::starts::latest_start;
+use rx_search::{Anchored, Input, Match, MatchKind, Memory, NonMaxUsize, PatternID, StateID};
 use rx_thompson::NFA;
 use std::alloc::Global;
 use std::marker::Model;
@@ -78,11 +79,11 @@ impl PikeVM {
     }
 
     /// The next match in the input's span. With `earliest` the search stops at the first place by which a match
-    /// ends, and answers the next match up to there. Under `All` it answers some match, and which one is not promised.
+    /// ends, and answers the next match up to there. Under `All` it is the same
+    /// match for now: a later version may tell the kinds apart.
     pub fn find(&self, cache: &mut Cache, input: &Input<'_>) -> Option<Match>
         requires { Fits self.now cache.old }
-        ensures value { self.now.kind ≡ LeftmostFirst
-            → result ≡ option_map match_value (answer_in self.now input.now) }
+        ensures value { result ≡ option_map match_value (answer_in self.now input.now) }
         ensures any { is_some result ≡ is_some (next_match_in self.now input.now) }
         ensures patterns { (r : Patterns) → IsOf self.now r
             → next_match_in self.now input.now ≡ option_map (told_of r.which_captures) (next_match_for r input.now) }
@@ -103,15 +104,13 @@ impl PikeVM {
         slots: &mut [Option<NonMaxUsize>],
     ) -> Option<PatternID>
         requires { Fits self.now cache.old }
-        ensures value { self.now.kind ≡ LeftmostFirst
-            → result ≡ option_map (λ m. m.trace.pattern) (answer_in self.now input.now) }
+        ensures value { result ≡ option_map (λ m. m.trace.pattern) (answer_in self.now input.now) }
         ensures any { is_some result ≡ is_some (next_match_in self.now input.now) }
         ensures patterns { (r : Patterns) → IsOf self.now r
             → next_match_in self.now input.now ≡ option_map (told_of r.which_captures) (next_match_for r input.now) }
         ensures is_match { (r : Patterns) → IsOf self.now r
             → IfSome result (λ p. IsMatchWith r input.now (λ m. (p ≡ m.trace.pattern) × HasSlots slots.new m)) }
-        ensures slots { self.now.kind ≡ LeftmostFirst
-            → IfSome (answer_in self.now input.now) (HasSlots slots.new) }
+        ensures slots { IfSome (answer_in self.now input.now) (HasSlots slots.new) }
         ensures none { IfNone result (slots.new ≡ replicate (length slots.old) None) }
         ensures cache { cache.new ≡ cache.old }
     {
@@ -129,15 +128,13 @@ impl PikeVM {
         slots: &mut [Option<NonMaxUsize>],
     ) -> Option<Match>
         requires { Fits self.now cache.old }
-        ensures value { self.now.kind ≡ LeftmostFirst
-            → result ≡ option_map match_value (answer_in self.now input.now) }
+        ensures value { result ≡ option_map match_value (answer_in self.now input.now) }
         ensures any { is_some result ≡ is_some (next_match_in self.now input.now) }
         ensures patterns { (r : Patterns) → IsOf self.now r
             → next_match_in self.now input.now ≡ option_map (told_of r.which_captures) (next_match_for r input.now) }
         ensures is_match { (r : Patterns) → IsOf self.now r
             → IfSome result (λ found. IsMatchWith r input.now (λ m. (found ≡ match_value m) × HasSlots slots.new m)) }
-        ensures slots { self.now.kind ≡ LeftmostFirst
-            → IfSome (answer_in self.now input.now) (HasSlots slots.new) }
+        ensures slots { IfSome (answer_in self.now input.now) (HasSlots slots.new) }
         ensures none { IfNone result (slots.new ≡ replicate (length slots.old) None) }
         ensures within { IfSome result (λ m. (input.now.start ≤ m.start) × (m.end ≤ input.now.end)) }
         ensures cache { cache.new ≡ cache.old }
@@ -182,26 +179,4 @@ impl PikeVM {
             Anchored::Pattern(pattern) => self.nfa.start_pattern(pattern),
         }
     }
-}
-
-/// The place at which a match may start at the latest.
-fn latest_start(input: &Input<'_>) -> usize
-    requires { input.now.start ≤ input.now.end }
-    ensures value { result ≡ last_start input.now }
-    ensures within { (input.now.start ≤ result) × (result ≤ input.now.end) }
-{
-    if input.get_anchored().is_anchored() {
-        input.start()
-    } else {
-        input.end()
-    }
-}
-
-/// What was found, as a match.
-fn reported(found: Option<(PatternID, usize, usize)>) -> Option<Match>
-    requires { IfSome found (λ f. f.1 ≤ f.2) }
-    ensures { result ≡ option_map (λ f. record { pattern = f.0; start = f.1; end = f.2 }) found }
-{
-    let (pattern, start, end) = found?;
-    Some(Match::new(pattern, Span { start, end }))
 }

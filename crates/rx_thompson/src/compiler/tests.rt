@@ -1,5 +1,6 @@
-use crate::{BuildError, Compiler, Config};
-use rx_syntax::Hir;
+use crate::{BuildError, Compiler, Config, NFA, WhichCaptures};
+use rx_search::PatternID;
+use rx_syntax::{Hir, parse};
 use std::alloc::{AllocError, Global};
 use std::test::Fail;
 
@@ -39,5 +40,83 @@ fn refuses_a_size_above_the_limit(rt: HostRuntime) -> Result<(), Fail> {
         size: 416,
     };
     assert!(rt; compiler.build_many_from_hir(rt.alloc(), &exprs).err() == Some(refusal));
+    Ok(())
+}
+
+#[test]
+fn tells_what_was_set(rt: HostRuntime) -> Result<(), Fail> {
+    let config = Config::new();
+    assert!(rt; config.get_utf8());
+    assert_eq!(rt; config.get_nfa_size_limit(), None);
+    assert_eq!(rt; config.get_which_captures(), WhichCaptures::All);
+    let config = config
+        .utf8(false)
+        .nfa_size_limit(Some(7))
+        .which_captures(WhichCaptures::Implicit);
+    assert!(rt; !config.get_utf8());
+    assert_eq!(rt; config.get_nfa_size_limit(), Some(7));
+    assert_eq!(rt; config.get_which_captures(), WhichCaptures::Implicit);
+    Ok(())
+}
+
+#[test]
+fn keeps_what_is_left_open(rt: HostRuntime) -> Result<(), Fail> {
+    let exprs = two_patterns(rt.alloc())?;
+    let mut compiler = Compiler::new();
+    compiler.configure(Config::new().utf8(false));
+    compiler.configure(Config::new().which_captures(WhichCaptures::None));
+    let nfa = compiler.build_many_from_hir(rt.alloc(), &exprs)?;
+    assert!(rt; !nfa.is_utf8());
+    assert_eq!(rt; nfa.slot_len(), 0);
+    Ok(())
+}
+
+/// How many groups `(a)|b(c)` and `(d)` have, in order.
+fn group_lens(alloc: Global, which: WhichCaptures) -> Result<[usize; 4], Fail> {
+    let mut exprs = Vec::new(alloc);
+    exprs.push(parse(alloc, "(a)|b(c)")?)?;
+    exprs.push(parse(alloc, "(d)")?)?;
+    let mut compiler = Compiler::new();
+    compiler.configure(Config::new().which_captures(which));
+    let nfa = compiler.build_many_from_hir(alloc, &exprs)?;
+    let info = nfa.group_info();
+    let first = PatternID::new(0).ok_or("0")?;
+    let second = PatternID::new(1).ok_or("1")?;
+    Ok([
+        info.pattern_len(),
+        info.group_len(first),
+        info.group_len(second),
+        nfa.slot_len(),
+    ])
+}
+
+#[test]
+fn tells_the_groups_of_each_kind(rt: HostRuntime) -> Result<(), Fail> {
+    assert_eq!(rt; group_lens(rt.alloc(), WhichCaptures::All)?, [2, 3, 2, 10]);
+    assert_eq!(rt; group_lens(rt.alloc(), WhichCaptures::Implicit)?, [2, 1, 1, 4]);
+    assert_eq!(rt; group_lens(rt.alloc(), WhichCaptures::None)?, [0, 0, 0, 0]);
+    Ok(())
+}
+
+#[test]
+fn tells_of_the_fixed_automata(rt: HostRuntime) -> Result<(), Fail> {
+    let always = NFA::always_match(rt.alloc())?;
+    assert!(rt; always.has_empty() && always.is_utf8() && !always.is_always_start_anchored());
+    // 4, and 1 and 3 of the empty pattern, at 32 each.
+    assert_eq!(rt; always.memory_usage(), 256);
+    let never = NFA::never_match(rt.alloc())?;
+    assert!(rt; !never.has_empty());
+    assert_eq!(rt; never.accounted_states(), 4);
+    let copy = never.clone()?;
+    assert_eq!(rt; copy.pattern_len(), 0);
+    Ok(())
+}
+
+/// Values of this type may go to other threads, and be shared with them.
+fn crosses_threads<T: Send + Sync>(_value: &T) {}
+
+#[test]
+fn an_nfa_crosses_threads(rt: HostRuntime) -> Result<(), Fail> {
+    crosses_threads(&NFA::never_match(rt.alloc())?);
     Ok(())
 }

@@ -1,5 +1,5 @@
 use crate::State;
-use rx_search::StateID;
+use rx_search::{GroupInfo, StateID};
 
 /// What the clones of an NFA share.
 #[derive(Drop)]
@@ -8,6 +8,7 @@ pub struct Inner {
     pub start_anchored: StateID,
     pub starts: Vec<StateID>,
     pub slot_len: usize,
+    pub group_info: GroupInfo,
     pub utf8: bool,
     pub has_empty: bool,
     pub accounted_states: usize,

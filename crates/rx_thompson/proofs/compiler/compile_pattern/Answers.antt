@@ -1,5 +1,4 @@
-use Rattle.std.proofs.Common.{◌≡◌, ◌∙◌, sym, ap, subst, arith, length, suc}
-use Rattle.std.specs.Prelude.{option_map}
+use Rattle.std.proofs.Common.{subst}
 use Rattle.rx_model.specs.Graph.{build, build_state}
 use Rattle.rx_thompson.specs.Built.{Built, bound, build_bounds, slot_from}
 use Rattle.rx_thompson.proofs.PatternLemmas.{HasPart-pattern}

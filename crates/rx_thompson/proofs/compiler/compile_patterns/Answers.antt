@@ -1,9 +1,9 @@
 use Rattle.std.proofs.Common.{◌≡◌, ◌+◌, ◌*◌, ◌<◌, ◌≤◌, ◌∙◌, sym, ap, subst, arith, length, [], ◌∷◌}
 use Rattle.std.proofs.lemmas.List.{length-append}
 use Rattle.std.specs.Prelude.{true, IfSome, option_map}
-use Rattle.rx_model.specs.Search.{Patterns, greatest_group}
+use Rattle.rx_model.specs.Search.{greatest_group}
 use Rattle.rx_thompson.specs.Built.{HasPart, part_of}
-use Rattle.rx_thompson.specs.Compiled.{patterns_of, slots_of, first_slot_of}
+use Rattle.rx_thompson.specs.Compiled.{patterns_of, slots_of}
 use Rattle.rx_thompson.specs.Config.{captures_kind}
 use Rattle.rx_thompson.proofs.ExpressionLemmas.{nfa_states-drop, nfa_states-none}
 use Rattle.rx_thompson.proofs.BuiltLemmas.{Extends-trans}

@@ -1,4 +1,4 @@
-use Rattle.std.proofs.Common.{◌≡◌, ◌∙◌, sym, ap, subst, length, ◌∷◌, []}
+use Rattle.std.proofs.Common.{◌≡◌, ◌∙◌, sym, ap, subst, length}
 use Rattle.std.specs.Prelude.{IfOk}
 use Rattle.rx_model.specs.Graph.{build_state}
 use Rattle.rx_thompson.specs.Built.{Built, bound}

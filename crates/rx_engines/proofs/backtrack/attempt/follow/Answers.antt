@@ -1,4 +1,4 @@
-use Rattle.std.proofs.Common.{◌≡◌, ◌+◌, ◌<◌, ◌≤◌, ◌∷◌, length, refl, ◌∙◌, arith}
+use Rattle.std.proofs.Common.{refl, ◌∙◌, arith}
 use Rattle.rx_engines.proofs.AttemptLemmas.{inserts-at, inserted-passed, passed-work, inserted-accepts, inserted-yields, yields-work}
 use Rattle.rx_engines.proofs.backtrack.attempt.follow.Goals as goal
 

@@ -1,4 +1,4 @@
-use Rattle.std.proofs.Common.{◌≡◌, ◌+◌, ◌-◌, ◌*◌, ◌≤◌, length, refl, sym, ◌∙◌, ap, arith}
+use Rattle.std.proofs.Common.{◌≤◌, length, refl, sym, ◌∙◌, ap, arith}
 use Rattle.rx_model.specs.Runs.{found}
 use Rattle.rx_engines.specs.Backtrack.{graph_for}
 use Rattle.rx_engines.proofs.BitLemmas.{passed_in-none}

@@ -128,14 +128,14 @@ loop-place-preserved c =
     rw (c.swap.ensures.x_after, c.swap.ensures.y_after)
     (record {
       value = after-step s.states.now s.text.now s.starts.now s.utf8_empty s.end w s.last c.step-found.result c.loop-place.best c.better-best.result c.loop-place.slots c.step-found.new.best c.step-found.new.next.set.items c.step-found.new.next.table.items c.loop-place.place (option_map (hit_of w) (next_until s c.args.from s.end))
-    (c.step-found.ensures.stepped s.end (later_starts s.states.now s.text.now s.starts.now s.utf8_empty s.end w bh s.last (c.loop-place.place + 1)) (option_map (hit_of w) (next_until s c.args.from s.end)) (omega arith) refl
-    (later-stable s.states.now s.text.now s.starts.now s.utf8_empty s.end w s.last bh (c.loop-place.place + 1)) seeded)
-    c.better-best.ensures.some c.better-best.ensures.none c.step-found.ensures.kept;
+          (c.step-found.ensures.stepped s.end (later_starts s.states.now s.text.now s.starts.now s.utf8_empty s.end w bh s.last (c.loop-place.place + 1)) (option_map (hit_of w) (next_until s c.args.from s.end)) (omega arith) refl
+          (later-stable s.states.now s.text.now s.starts.now s.utf8_empty s.end w s.last bh (c.loop-place.place + 1)) seeded)
+          c.better-best.ensures.some c.better-best.ensures.none c.step-found.ensures.kept;
       values = λ on e low high.
           (after-step s.states.now s.text.now s.starts.now s.utf8_empty e w s.last c.step-found.result c.loop-place.best c.better-best.result c.loop-place.slots c.step-found.new.best c.step-found.new.next.set.items c.step-found.new.next.table.items c.loop-place.place (option_map (hit_of w) (next_until s c.args.from e))
-    (c.step-found.ensures.stepped e (later_starts s.states.now s.text.now s.starts.now s.utf8_empty e w bh s.last (c.loop-place.place + 1)) (option_map (hit_of w) (next_until s c.args.from e)) (omega arith) (byte-same s.text.now e s.end c.loop-place.place (omega arith) (omega arith))
-    (later-stable s.states.now s.text.now s.starts.now s.utf8_empty e w s.last bh (c.loop-place.place + 1)) (seed-fits s w c.args.from e bh c.loop-place.place (passed_at c.loop-place.curr.set.items c.loop-place.place) c.loop-place.curr.table.items c.seed.new.threads.table.items c.loop-place.curr.set.items c.seed.new.threads.set.items c.loop-place.invariant.row_len (c.seed.ensures.seeded e bh (option_map (hit_of w) (next_until s c.args.from e)) (omega arith) matched) (c.loop-place.invariant.values on e (omega arith) high)))
-    c.better-best.ensures.some c.better-best.ensures.none c.step-found.ensures.kept);
+          (c.step-found.ensures.stepped e (later_starts s.states.now s.text.now s.starts.now s.utf8_empty e w bh s.last (c.loop-place.place + 1)) (option_map (hit_of w) (next_until s c.args.from e)) (omega arith) (byte-same s.text.now e s.end c.loop-place.place (omega arith) (omega arith))
+          (later-stable s.states.now s.text.now s.starts.now s.utf8_empty e w s.last bh (c.loop-place.place + 1)) (seed-fits s w c.args.from e bh c.loop-place.place (passed_at c.loop-place.curr.set.items c.loop-place.place) c.loop-place.curr.table.items c.seed.new.threads.table.items c.loop-place.curr.set.items c.seed.new.threads.set.items c.loop-place.invariant.row_len (c.seed.ensures.seeded e bh (option_map (hit_of w) (next_until s c.args.from e)) (omega arith) matched) (c.loop-place.invariant.values on e (omega arith) high)))
+          c.better-best.ensures.some c.better-best.ensures.none c.step-found.ensures.kept);
       unmatched = unmatched;
       none_before = λ on e low less.
           by_test (nat_lt e c.loop-place.place)

@@ -1,4 +1,4 @@
-use Rattle.std.proofs.Common.{◌≡◌, ◌+◌, ◌-◌, ◌∷◌, [], length, sym, ◌∙◌, ap, subst, arith}
+use Rattle.std.proofs.Common.{◌+◌, ◌-◌, [], length, sym, ◌∙◌, ap, subst, arith}
 use Rattle.std.proofs.lemmas.List.Elements.{All-head}
 use Rattle.std.specs.Prelude.{◌<◌, ◌≤◌, max, option_map, IfSome}
 use Rattle.rx_search.specs.Matches.{match_value}
@@ -12,18 +12,14 @@ use Rattle.rx_engines.proofs.backtrack.backtracker.BoundedBacktracker.try_find_s
 pub returns-then-len-max_haystack_len-clause-patterns : goal.returns-then-len-max_haystack_len-clause-patterns
 returns-then-len-max_haystack_len-clause-patterns c = patterns-met c.args.self.now c.args.input.now c.end.ensures.spanned.end
 
-
 pub returns-in_default-clause-patterns : goal.returns-in_default-clause-patterns
 returns-in_default-clause-patterns c = patterns-met c.args.self.now c.args.input.now c.end.ensures.spanned.end
-
 
 pub returns-then-is_done-clause-patterns : goal.returns-then-is_done-clause-patterns
 returns-then-is_done-clause-patterns c = patterns-met c.args.self.now c.args.input.now c.end.ensures.spanned.end
 
-
 pub returns-in-Ok-clause-patterns : goal.returns-in-Ok-clause-patterns
 returns-in-Ok-clause-patterns c = patterns-met c.args.self.now c.args.input.now c.end.ensures.spanned.end
-
 
 pub returns-in-Err-clause-patterns : goal.returns-in-Err-clause-patterns
 returns-in-Err-clause-patterns c = patterns-met c.args.self.now c.args.input.now c.end.ensures.spanned.end

@@ -9,7 +9,7 @@ use Rattle.rx_engines.proofs.pikevm.vm.PikeVM.find_slots.Goals as goal
 -- the pattern is not there
 
 pub returns-in_default-clause-value : goal.returns-in_default-clause-value
-returns-in_default-clause-value c leftmost =
+returns-in_default-clause-value c =
     let none = sym (c.start.ensures.value ∙ ap (start_of c.args.self.now.nfa) c.get_anchored.ensures) ∙ c.in_default.is in
     sym (ap (option_map match_value) (answer_in-missing c.args.self.now c.args.input.now none))
 
@@ -22,14 +22,14 @@ pub returns-in_default-clause-patterns : goal.returns-in_default-clause-patterns
 returns-in_default-clause-patterns c = patterns-agree c.args.self.now c.args.input.now c.start-from.ensures.spanned.end
 
 pub returns-in_default-clause-slots : goal.returns-in_default-clause-slots
-returns-in_default-clause-slots c leftmost =
+returns-in_default-clause-slots c =
     let none = sym (c.start.ensures.value ∙ ap (start_of c.args.self.now.nfa) c.get_anchored.ensures) ∙ c.in_default.is in
     subst (λ o. IfSome o (HasSlots c.empty.new.slots)) (sym (answer_in-missing c.args.self.now c.args.input.now none)) tt
 
 -- the start is past the end
 
 pub returns-then-is_done-clause-value : goal.returns-then-is_done-clause-value
-returns-then-is_done-clause-value c leftmost =
+returns-then-is_done-clause-value c =
     let past = c.is_done.ensures.0 c.if-is_done.true in
     sym (ap (option_map match_value) (answer_in-done c.args.self.now c.args.input.now past))
 
@@ -39,7 +39,7 @@ returns-then-is_done-clause-any c =
     sym (ap is_some (next_match_of-done c.args.self.now.nfa c.args.self.now.nfa.utf8 c.args.input.now.haystack c.args.input.now.anchor c.args.input.now.end c.args.input.now.start past))
 
 pub returns-then-is_done-clause-slots : goal.returns-then-is_done-clause-slots
-returns-then-is_done-clause-slots c leftmost =
+returns-then-is_done-clause-slots c =
     let past = c.is_done.ensures.0 c.if-is_done.true in
     subst (λ o. IfSome o (HasSlots c.empty-then-is_done.new.slots)) (sym (answer_in-done c.args.self.now c.args.input.now past)) tt
 
@@ -61,7 +61,7 @@ reported-requires c =
     triple-in_order c.args.self.now c.args.input.now _ (answer-is c.args.self.now c.args.input.now c.in-Some.start c.search_for-search.result c.search_for-search.ensures le is c.start-from.ensures.value c.get_earliest.ensures) c.find-found.result c.find-found.ensures.value
 
 pub returns-clause-value : goal.returns-clause-value
-returns-clause-value c leftmost =
+returns-clause-value c =
     let is = sym (c.start.ensures.value ∙ ap (start_of c.args.self.now.nfa) c.get_anchored.ensures) ∙ c.in-Some.is in
     let le : c.args.input.now.start ≤ c.args.input.now.end = grind (arith, c.is_done.ensures, c.if-is_done.false) in
     c.reported.ensures ∙ ap (option_map _) c.find-found.ensures.value ∙ triple-value _ ∙ ap (option_map match_value) (answer-is c.args.self.now c.args.input.now c.in-Some.start c.search_for-search.result c.search_for-search.ensures le is c.start-from.ensures.value c.get_earliest.ensures)
@@ -79,7 +79,7 @@ returns-clause-is_match c r of =
     reported-is_match c.args.self.now c.args.input.now c.start-from.ensures.spanned.end le r of c.find-found.new.slots _ (answer-is c.args.self.now c.args.input.now c.in-Some.start c.search_for-search.result c.search_for-search.ensures le is c.start-from.ensures.value c.get_earliest.ensures) c.reported.result (c.reported.ensures ∙ ap (option_map _) c.find-found.ensures.value ∙ triple-value _) (slots-told c.args.self.now c.args.input.now c.start.ensures.in_range c.requires.widest _ (answer-is c.args.self.now c.args.input.now c.in-Some.start c.search_for-search.result c.search_for-search.ensures le is c.start-from.ensures.value c.get_earliest.ensures) c.find-found.new.slots c.find-found.ensures.slots)
 
 pub returns-clause-slots : goal.returns-clause-slots
-returns-clause-slots c leftmost =
+returns-clause-slots c =
     let is = sym (c.start.ensures.value ∙ ap (start_of c.args.self.now.nfa) c.get_anchored.ensures) ∙ c.in-Some.is in
     let le : c.args.input.now.start ≤ c.args.input.now.end = grind (arith, c.is_done.ensures, c.if-is_done.false) in
     slots-told c.args.self.now c.args.input.now c.start.ensures.in_range c.requires.widest _ (answer-is c.args.self.now c.args.input.now c.in-Some.start c.search_for-search.result c.search_for-search.ensures le is c.start-from.ensures.value c.get_earliest.ensures) c.find-found.new.slots c.find-found.ensures.slots

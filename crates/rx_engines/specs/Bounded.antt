@@ -1,0 +1,52 @@
+-- What a bounded backtracker is to a contract, and what its searches answer.
+use Rattle.std.specs.Prelude.{◌≡◌, ℕ, ◌+◌, ◌-◌, ◌*◌, ◌/◌, ◌<◌, ◌≤◌, length, max, Option, refl}
+use Rattle.std.specs.Coded.{Coded, code_by, coded×, coded_ℕ}
+use Rattle.rx_model.specs.Search.{Patterns, Match}
+use Rattle.rx_search.specs.Input.{InputValue}
+use Rattle.rx_search.specs.declared.match_error.MatchError.{MatchError}
+use Rattle.rx_search.specs.declared.match_error.MatchError.TheVariants.{Quit, GaveUp, HaystackTooLong, UnsupportedAnchored, Memory}
+use Rattle.rx_thompson.specs.Nfa.{Nfa, HasFirstRuns}
+use Rattle.rx_thompson.specs.NextMatch.{next_match_of}
+
+-- the next match of the NFA in the input's span
+abbrev pub next_match_within : Nfa → InputValue → Option Match
+next_match_within nfa v = next_match_of nfa nfa.utf8 v.haystack v.anchor v.end v.start
+
+-- the NFA has the first runs of these patterns
+pub record IsNfaOf (nfa : Nfa) (r : Patterns) : Type 0 where
+  pub runs : HasFirstRuns nfa r
+  pub utf8 : r.utf8_empty ≡ nfa.utf8
+
+-- The length of the longest span that is searched: 2097152 bits have one for each accounted state at each place, of
+-- which there is one more than bytes.
+abbrev pub max_len : Nfa → ℕ
+max_len nfa = 2097152 / max 1 nfa.accounted - 1
+
+-- how long the input's span is; nothing is left of a done one
+abbrev pub span_len : InputValue → ℕ
+span_len v = v.end - v.start
+
+-- The room that a cache has.
+pub record Room : Type 0 where
+  pub bits : ℕ
+  pub slots : ℕ
+  -- what is accounted for it
+  pub memory : ℕ
+
+abbrev pub room_code : Coded Room
+room_code =
+    code_by (ℕ × (ℕ × ℕ)) (coded× coded_ℕ (coded× coded_ℕ coded_ℕ)) (λ r. (r.bits, (r.slots, r.memory)))
+    (λ p. record { bits = p.0; slots = p.1.0; memory = p.1.1 }) (λ _. refl)
+
+-- a cache with this room serves the engine
+pub record Fits (nfa : Nfa) (room : Room) : Type 0 where
+  pub bits : (max_len nfa + 1) * length nfa.states ≤ room.bits
+  pub slots : room.slots ≡ nfa.slots
+
+-- Why a search has no answer: the span is too long; or it isn't, and there was no memory.
+abbrev pub IsRefusal : Nfa → InputValue → MatchError → Type 0
+IsRefusal nfa v (Quit byte offset) = ⊥
+IsRefusal nfa v (GaveUp offset) = ⊥
+IsRefusal nfa v (HaystackTooLong len) = (len ≡ span_len v) × (max_len nfa < len)
+IsRefusal nfa v (UnsupportedAnchored mode) = ⊥
+IsRefusal nfa v Memory = span_len v ≤ max_len nfa

@@ -1,0 +1,30 @@
+ghost use Rattle.std.specs.Prelude.{◌≡◌, ◌≤◌, length};
+ghost use Rattle.rx_model.specs.Search.{is_permitted};
+ghost use Rattle.rx_engines.specs.Engine.{last_start};
+
+use rx_search::Input;
+
+/// The place at which a match may start at the latest.
+pub fn latest_start(input: &Input<'_>) -> usize
+    requires { input.now.start ≤ input.now.end }
+    ensures value { result ≡ last_start input.now }
+    ensures within { (input.now.start ≤ result) × (result ≤ input.now.end) }
+{
+    if input.get_anchored().is_anchored() {
+        input.start()
+    } else {
+        input.end()
+    }
+}
+
+/// A match may begin here.
+pub fn is_allowed(text: &[u8], utf8: bool, place: usize) -> bool
+    requires { place ≤ length text.now }
+    ensures { result ≡ is_permitted utf8 text.now place }
+{
+    if utf8 && place < text.len() {
+        !(0x80 <= text[place] && text[place] <= 0xBF)
+    } else {
+        true
+    }
+}
