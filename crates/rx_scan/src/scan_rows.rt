@@ -9,11 +9,7 @@ use rx_search::{Input, Memory, Searcher};
 use std::alloc::Global;
 
 /// The rows of the successive matches in a haystack.
-pub fn find_rows(
-    alloc: Global,
-    haystack: &[u8],
-    engine: &mut Engine,
-) -> Result<Vec<Row>, Memory>
+pub fn find_rows(alloc: Global, haystack: &[u8], engine: &mut Engine) -> Result<Vec<Row>, Memory>
     ensures rows { IfOk result (λ rows. rows.items ≡ scan_rows (patterns_of engine.old.expressions.items) haystack.now) }
     ensures same { OnOk result (engine.new.expressions.items ≡ engine.old.expressions.items) }
 {

@@ -7,8 +7,8 @@ use Rattle.rx_scan.specs.Patterns.{patterns_of}
 use Rattle.rx_scan.specs.ScanRow.{row_of}
 use Rattle.rx_scan.proofs.scan_rows.find_rows.Given as goal
 
-abbrev pub invariant-loop-found : goal.invariant-loop-found
-invariant-loop-found l = record {
+abbrev pub invariant-loop-rows : goal.invariant-loop-rows
+invariant-loop-rows l = record {
   same : l.engine.expressions.items ≡ l.initial.engine.expressions.items;
   late : l.searcher.input.earliest ≡ false;
   told : Progress (next_in (patterns_of l.engine.expressions.items)) (row_of (patterns_of l.initial.engine.expressions.items))
@@ -16,5 +16,5 @@ invariant-loop-found l = record {
       l.rows.items l.searcher;
 }
 
-abbrev pub decreases-loop-found : goal.decreases-loop-found
-decreases-loop-found l = places_left l.searcher
+abbrev pub decreases-loop-rows : goal.decreases-loop-rows
+decreases-loop-rows l = places_left l.searcher
