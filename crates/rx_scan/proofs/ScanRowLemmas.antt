@@ -1,13 +1,17 @@
 -- Rows as data: what they are made of, and that they print as their matches.
-use Rattle.std.proofs.Common.{◌≡◌, ℕ, zero, suc, ◌+◌, ◌-◌, ◌*◌, ◌<◌, ◌≤◌, Bool, true, false, List, [], ◌∷◌, ◌++◌, length, take, drop, get_or, Option, Some, None, refl, sym, ap, ◌∙◌, append_assoc, append-nil, arith, add-zero, add-one, drop-cons, length-drop}
+use Rattle.std.proofs.Common.{◌≡◌, ℕ, zero, suc, ◌+◌, ◌-◌, ◌*◌, ◌<◌, ◌≤◌, Bool, true, false, List, [], ◌∷◌, ◌++◌, length, take, drop, get_or, Option, Some, None, refl, sym, ap, subst, ◌∙◌, append_assoc, append-nil, arith, add-zero, add-one, drop-cons, length-drop}
 use Rattle.std.specs.Prelude.{codes, decimal, map}
 use Rattle.std.specs.List.{flat_map}
 use Rattle.std.proofs.lemmas.List.{get_or-take, get_or-drop, get_or-map, drop_all, length-map, length-take-le}
+use Rattle.rx_model.specs.Expression.{Expression}
 use Rattle.rx_model.specs.Search.{Patterns, Match, groups_before, slot_of, slot_value, next_match, matches, matches_from, free, is_empty_at, next_after}
 use Rattle.rx_model.proofs.WithinLemmas.{next-run, match-slots}
+use Rattle.rx_engines.specs.Engine.{HasSlots}
+use Rattle.rx_scan.specs.Patterns.{patterns_of, first_slot, slot_count, AreBounds}
 use Rattle.rx_scan.specs.Row.{span_text, place_text, slot_text, groups_text, group_count, row, rows, haystack_rows}
 use Rattle.rx_scan.specs.Slots.{pairs_text}
 use Rattle.rx_scan.specs.ScanRow.{RowValue, group_slot, group_places, places_from, row_of, scan_rows, places_text, printed, printed_rows, AreSlotsOf}
+use Rattle.rx_scan.proofs.PatternLemmas.{bound-read, first_slot-next, first_slot-le}
 
 -- the first slot of an explicit group
 explicit-slot : (r : Patterns) (p g : ℕ) → 0 < g → group_slot r p g ≡ slot_of r p g
@@ -146,3 +150,23 @@ unfolding printed_rows
 haystacks-over items vs line i text whole over told =
     let none : drop i (map items vs) ≡ [] = drop_all i (map items vs) (omega (arith, over, length-map vs items)) in
     sym (append-nil text) ∙ ap (λ l. text ++ printed_rows line l) (sym none) ∙ told
+
+-- the bounds of a pattern's groups, as they were read
+pub row-bounds : (bounds : List ℕ) (hs : List Expression) (p number from to : ℕ) → AreBounds bounds hs → p < length hs → number ≡ p
+    → from ≡ get_or bounds number from → to ≡ get_or bounds (number + 1) to
+    → (from ≡ first_slot hs p) × (to ≡ from + 2 * group_count hs p) × (to ≤ slot_count hs)
+row-bounds bounds hs p number from to are below same begin end =
+    let begins : from ≡ first_slot hs p = bound-read bounds hs p from are (omega arith) (begin ∙ ap (λ k. get_or bounds k from) same) in
+    let ends : to ≡ first_slot hs (p + 1) = bound-read bounds hs (p + 1) to are (omega arith) (end ∙ ap (λ k. get_or bounds (k + 1) to) same) in
+    (begins, omega (arith, begins, ends, first_slot-next hs p below), omega (arith, ends, first_slot-le hs (p + 1)))
+
+-- slots that hold a match are those that its row is made of
+pub are-slots-of : (hs : List Expression) (m : Match) (slots now : List (Option ℕ)) (p from to : ℕ) → now ≡ slots → HasSlots slots m → p ≡ m.trace.pattern
+    → from ≡ first_slot hs p → to ≡ from + 2 * group_count hs p → AreSlotsOf (patterns_of hs) m now p from to
+are-slots-of hs m slots now p from to same has own begin end = record {
+  left = subst (λ (xs : List (Option ℕ)). HasSlots xs m) (sym same) has;
+  captures = refl;
+  own = own;
+  begins = λ some. begin ∙ ap (first_slot hs) own;
+  ends = end ∙ ap (λ q. from + 2 * group_count hs q) own;
+}

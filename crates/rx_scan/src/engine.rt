@@ -1,14 +1,17 @@
 //! The engine of a scan: it finds matches, and holds the slots of the last one.
 ghost use Rattle.std.specs.Prelude.{◌≡◌, ◌+◌, ◌-◌, ◌*◌, ◌<◌, ◌≤◌, true, false, length, take, drop, IfOk, IfSome};
+ghost use Rattle.rx_model.specs.Search.{Match as ModelMatch};
 ghost use Rattle.rx_search.specs.Input.{next_in};
 ghost use Rattle.rx_search.specs.declared.anchored.MatchKind.TheVariants.{LeftmostFirst};
 ghost use Rattle.rx_thompson.specs.Nfa.{HasFirstRuns};
 ghost use Rattle.rx_engines.specs.Engine.{IsOf, Fits, HasSlots};
 ghost use Rattle.rx_scan.specs.Patterns.{patterns_of, first_slot, slot_count, are_small, AreBounds};
 ghost use Rattle.rx_scan.specs.Row.{group_count};
+ghost use Rattle.rx_scan.specs.ScanRow.{row_of};
 
+use crate::scan_row::Row;
 use rx_engines::pikevm::{Cache, PikeVM};
-use rx_search::{Finder, Input, Match, MatchKind, Memory, NonMaxUsize};
+use rx_search::{Finder, Input, Match, MatchKind, Memory, NonMaxUsize, PatternID};
 use rx_syntax::{Hir, greatest_group};
 use rx_thompson::NFA;
 use std::alloc::Global;
@@ -56,6 +59,18 @@ impl Engine {
             (drop (first_slot self.now.expressions.items pattern) self.now.slots.items) }
     {
         between(&self.slots, self.bounds[pattern], self.bounds[pattern + 1])
+    }
+
+    /// The row of the last match, which is one of this pattern. It takes memory once.
+    pub fn row(&self, alloc: Global, pattern: PatternID) -> Result<Row, Memory>
+        requires { pattern < length self.now.expressions.items }
+        ensures { (m : ModelMatch) → HasSlots self.now.slots.items m → pattern ≡ m.trace.pattern
+            → IfOk result (λ row. row ≡ row_of (patterns_of self.now.expressions.items) m) }
+    {
+        let number = pattern.as_usize();
+        let from = self.bounds[number];
+        let to = self.bounds[number + 1];
+        Row::from_slots(alloc, pattern, &self.slots, from, to)
     }
 }
 
