@@ -66,9 +66,13 @@ pub enum HirKind {
 #[cycle(hir)]
 #[derive(Drop)]
 pub struct Repetition {
+    /// The least number of copies.
     pub min: u32,
+    /// The greatest number of copies. None: there is no bound.
     pub max: Option<u32>,
+    /// Whether more copies are preferred.
     pub greedy: bool,
+    /// The body.
     pub sub: Box<Hir>,
 }
 
@@ -76,7 +80,9 @@ pub struct Repetition {
 #[cycle(hir)]
 #[derive(Drop)]
 pub struct Capture {
+    /// The group's number.
     pub index: NonZeroUsize,
+    /// The body.
     pub sub: Box<Hir>,
 }
 

@@ -245,9 +245,10 @@ fn group_number(captures: bool, groups: usize) -> Option<usize>
 /// The expression of a pattern, or the first refusal, with its kind and its piece in bytes. An empty pattern
 /// is the empty expression. `Memory` comes only where memory runs out.
 ///
-/// A pattern holds characters, escapes of ASCII punctuation, `.`, classes of ASCII characters, groups,
-/// alternations, and `*`, `+`, `?`, each greedy or lazy. All else is `Unsupported`. Groups and repetitions nest
-/// up to 250 deep.
+/// A pattern holds characters, escapes (`\` and an ASCII character other than a letter, a digit, `<`, `>`), `.`,
+/// classes of ASCII characters and ranges, groups, alternations, and `*`, `+`, `?`, each greedy or lazy. Other
+/// syntax is `Unsupported`. Groups and repetitions nest up to 250 deep; what passes that, or is ill-formed, has
+/// the other kinds of `SyntaxErrorKind`.
 pub fn parse(alloc: Global, pattern: &str) -> Result<Hir, ParseError>
     ensures { MatchResult result
         (λ h. reads NEST_LIMIT (chars pattern.now) ≡ Ok h)

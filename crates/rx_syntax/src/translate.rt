@@ -7,11 +7,12 @@ ghost use Rattle.rx_syntax.specs.ItemViews.{item_expression};
 
 use crate::ast::{Ast, AstKind, Item};
 use crate::hir::{Capture, Class, ClassUnicode, Hir, Repetition};
-use std::alloc::{AllocError, Global};
+use rx_search::Memory;
+use std::alloc::Global;
 use std::num::NonZeroUsize;
 
 /// The literal of these characters' encodings.
-fn literal(alloc: Global, chars: &[char]) -> Result<Hir, AllocError>
+fn literal(alloc: Global, chars: &[char]) -> Result<Hir, Memory>
     ensures { IfOk result (λ h. h ≡ literal_of (encodes chars.now)) }
 {
     let mut text = String::new(alloc);
@@ -27,7 +28,7 @@ fn repetition(
     max: Option<u32>,
     greedy: bool,
     sub: Hir,
-) -> Result<Hir, AllocError>
+) -> Result<Hir, Memory>
     requires { IfSome max (λ m. min ≤ m) }
     ensures { IfOk result (λ h. h ≡ repetition_of min max greedy sub) }
 {
@@ -41,7 +42,7 @@ fn repetition(
 }
 
 /// The group of this number, or its body alone where it does not capture.
-fn group(alloc: Global, number: Option<usize>, sub: Hir) -> Result<Hir, AllocError>
+fn group(alloc: Global, number: Option<usize>, sub: Hir) -> Result<Hir, Memory>
     requires { IfSome number (λ n. 0 < n) }
     ensures { IfOk result (λ h. h ≡ group_of number sub) }
 {
@@ -56,7 +57,7 @@ fn group(alloc: Global, number: Option<usize>, sub: Hir) -> Result<Hir, AllocErr
 
 /// The expression that a syntax stands for.
 #[cycle(translate)]
-pub(crate) fn translate(alloc: Global, ast: &Ast) -> Result<Hir, AllocError>
+pub(crate) fn translate(alloc: Global, ast: &Ast) -> Result<Hir, Memory>
     ensures { IfOk result (λ h. h ≡ expression_of ast.now) }
 {
     match &ast.kind {
@@ -78,7 +79,7 @@ pub(crate) fn translate(alloc: Global, ast: &Ast) -> Result<Hir, AllocError>
 }
 
 #[cycle(translate)]
-fn translate_branches(alloc: Global, branches: &[Ast]) -> Result<Vec<Hir>, AllocError>
+fn translate_branches(alloc: Global, branches: &[Ast]) -> Result<Vec<Hir>, Memory>
     ensures { IfOk result (λ v. v.items ≡ map expression_of branches.now) }
 {
     let mut subs = Vec::with_capacity(alloc, branches.len())?;
@@ -89,7 +90,7 @@ fn translate_branches(alloc: Global, branches: &[Ast]) -> Result<Vec<Hir>, Alloc
 }
 
 #[cycle(translate)]
-fn translate_items(alloc: Global, items: &[Item]) -> Result<Vec<Hir>, AllocError>
+fn translate_items(alloc: Global, items: &[Item]) -> Result<Vec<Hir>, Memory>
     ensures { IfOk result (λ v. v.items ≡ map item_expression items.now) }
 {
     let mut subs = Vec::with_capacity(alloc, items.len())?;
@@ -100,7 +101,7 @@ fn translate_items(alloc: Global, items: &[Item]) -> Result<Vec<Hir>, AllocError
 }
 
 #[cycle(translate)]
-fn translate_item(alloc: Global, item: &Item) -> Result<Hir, AllocError>
+fn translate_item(alloc: Global, item: &Item) -> Result<Hir, Memory>
     ensures { IfOk result (λ h. h ≡ item_expression item.now) }
 {
     match item {
@@ -110,14 +111,14 @@ fn translate_item(alloc: Global, item: &Item) -> Result<Hir, AllocError>
 }
 
 /// Every scalar but the line feed.
-fn dot(alloc: Global) -> Result<Hir, AllocError>
+fn dot(alloc: Global) -> Result<Hir, Memory>
     ensures { IfOk result (λ h. h ≡ dot_of) }
 {
     bracketed(alloc, true, &[('\n', '\n')])
 }
 
 /// The scalars in the ranges, or outside them.
-fn bracketed(alloc: Global, negated: bool, ranges: &[(char, char)]) -> Result<Hir, AllocError>
+fn bracketed(alloc: Global, negated: bool, ranges: &[(char, char)]) -> Result<Hir, Memory>
     ensures { IfOk result (λ h. h ≡ bracketed negated ranges.now) }
 {
     let members = ClassUnicode::new(alloc, ranges)?;

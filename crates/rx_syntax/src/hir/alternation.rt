@@ -8,12 +8,13 @@ ghost use Rattle.rx_syntax.specs.Sound.{AreSound};
 use super::class::{Class, ClassBytes};
 use super::properties::Properties;
 use super::{Hir, HirKind};
-use std::alloc::{AllocError, Global};
+use rx_search::Memory;
+use std::alloc::Global;
 
 impl Hir {
     /// One of these, the first preferred. An alternation among them stands for its alternatives. Of none
     /// this is `fail`, of one it is that alternative.
-    pub fn alternation(alloc: Global, subs: Vec<Hir>) -> Result<Hir, AllocError>
+    pub fn alternation(alloc: Global, subs: Vec<Hir>) -> Result<Hir, Memory>
         ensures { IfOk result (λ h. h ≡ alternation_of subs.items) }
     {
         let mut alternatives = Vec::new(alloc);
@@ -25,7 +26,7 @@ impl Hir {
 }
 
 /// Adds what an expression gives to the alternation around it.
-fn push_alternatives(alternatives: &mut Vec<Hir>, sub: Hir) -> Result<(), AllocError>
+fn push_alternatives(alternatives: &mut Vec<Hir>, sub: Hir) -> Result<(), Memory>
     ensures { OnOk result (alternatives.new.items ≡ alternatives.old.items ++ alternatives_of sub) }
 {
     let properties = sub.properties;
@@ -36,7 +37,7 @@ fn push_alternatives(alternatives: &mut Vec<Hir>, sub: Hir) -> Result<(), AllocE
     Ok(())
 }
 
-fn append_all(alternatives: &mut Vec<Hir>, subs: Vec<Hir>) -> Result<(), AllocError>
+fn append_all(alternatives: &mut Vec<Hir>, subs: Vec<Hir>) -> Result<(), Memory>
     ensures { OnOk result (alternatives.new.items ≡ alternatives.old.items ++ subs.items) }
 {
     let mut subs = subs;

@@ -4,11 +4,12 @@ ghost use Rattle.rx_syntax.specs.Merged.{extend, add, add_all};
 ghost use Rattle.rx_syntax.specs.Ranges.{next_byte, fewest};
 
 use super::class::ClassBytes;
-use std::alloc::{AllocError, Global};
+use rx_search::Memory;
+use std::alloc::Global;
 
 impl ClassBytes {
     /// The bytes in the ranges, each from its first to its last. A range whose ends are out of order has none.
-    pub fn new(alloc: Global, ranges: &[(u8, u8)]) -> Result<ClassBytes, AllocError>
+    pub fn new(alloc: Global, ranges: &[(u8, u8)]) -> Result<ClassBytes, Memory>
         ensures { IfOk result (λ c. c ≡ fewest next_byte ranges.now) }
     {
         let mut sorted = Vec::from_slice(alloc, ranges)?;
@@ -19,7 +20,7 @@ impl ClassBytes {
 }
 
 /// The fewest ranges of ranges in order of their first members.
-fn fewest(alloc: Global, sorted: &[(u8, u8)]) -> Result<Vec<(u8, u8)>, AllocError>
+fn fewest(alloc: Global, sorted: &[(u8, u8)]) -> Result<Vec<(u8, u8)>, Memory>
     ensures { IfOk result (λ v. v.items ≡ add_all next_byte [] sorted.now) }
 {
     let mut found = Vec::new(alloc);
@@ -30,7 +31,7 @@ fn fewest(alloc: Global, sorted: &[(u8, u8)]) -> Result<Vec<(u8, u8)>, AllocErro
 }
 
 /// Adds a range that begins no earlier than the last one.
-fn add(found: &mut Vec<(u8, u8)>, low: u8, high: u8) -> Result<(), AllocError>
+fn add(found: &mut Vec<(u8, u8)>, low: u8, high: u8) -> Result<(), Memory>
     ensures { OnOk result (found.new.items ≡ add next_byte found.old.items low high) }
 {
     if high < low {
@@ -44,7 +45,7 @@ fn add(found: &mut Vec<(u8, u8)>, low: u8, high: u8) -> Result<(), AllocError>
 }
 
 /// Adds the range that was the last one, and then another, which may be joined with it.
-fn add_after(found: &mut Vec<(u8, u8)>, last: (u8, u8), low: u8, high: u8) -> Result<(), AllocError>
+fn add_after(found: &mut Vec<(u8, u8)>, last: (u8, u8), low: u8, high: u8) -> Result<(), Memory>
     ensures { OnOk result (found.new.items ≡ found.old.items ++ extend next_byte (last ∷ []) low high) }
 {
     if is_apart(last.1, low) {

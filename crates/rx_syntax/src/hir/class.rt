@@ -8,7 +8,9 @@ use std::marker::Model;
 /// A class.
 #[derive(Drop)]
 pub enum Class {
+    /// Of scalars, each of which matches its encoding in UTF-8.
     Unicode(ClassUnicode),
+    /// Of single bytes.
     Bytes(ClassBytes),
 }
 

@@ -8,12 +8,13 @@ ghost use Rattle.rx_syntax.specs.Sound.{AreSound};
 
 use super::properties::Properties;
 use super::{Hir, HirKind};
-use std::alloc::{AllocError, Global};
+use rx_search::Memory;
+use std::alloc::Global;
 
 impl Hir {
     /// These, one after another. A concatenation among them stands for its parts, the empty expression for
     /// none, and adjacent literals are one. Of no parts this is the empty expression, of one it is that part.
-    pub fn concat(alloc: Global, subs: Vec<Hir>) -> Result<Hir, AllocError>
+    pub fn concat(alloc: Global, subs: Vec<Hir>) -> Result<Hir, Memory>
         ensures { IfOk result (λ h. h ≡ concat_of subs.items) }
     {
         let mut parts = Vec::new(alloc);
@@ -25,7 +26,7 @@ impl Hir {
 }
 
 /// Adds what an expression gives to the concatenation around it.
-fn push_parts(parts: &mut Vec<Hir>, sub: Hir) -> Result<(), AllocError>
+fn push_parts(parts: &mut Vec<Hir>, sub: Hir) -> Result<(), Memory>
     ensures { OnOk result (parts.new.items ≡ and_then_all parts.old.items (parts_of sub)) }
 {
     let properties = sub.properties;
@@ -36,7 +37,7 @@ fn push_parts(parts: &mut Vec<Hir>, sub: Hir) -> Result<(), AllocError>
     }
 }
 
-fn push_all(parts: &mut Vec<Hir>, subs: Vec<Hir>) -> Result<(), AllocError>
+fn push_all(parts: &mut Vec<Hir>, subs: Vec<Hir>) -> Result<(), Memory>
     ensures { OnOk result (parts.new.items ≡ and_then_all parts.old.items subs.items) }
 {
     for sub in subs {
@@ -46,7 +47,7 @@ fn push_all(parts: &mut Vec<Hir>, subs: Vec<Hir>) -> Result<(), AllocError>
 }
 
 /// Adds a part, joined with the last where both are literals.
-fn push_part(parts: &mut Vec<Hir>, part: Hir) -> Result<(), AllocError>
+fn push_part(parts: &mut Vec<Hir>, part: Hir) -> Result<(), Memory>
     ensures { OnOk result (parts.new.items ≡ and_then parts.old.items part) }
 {
     let properties = part.properties;
@@ -59,7 +60,7 @@ fn push_part(parts: &mut Vec<Hir>, part: Hir) -> Result<(), AllocError>
     }
 }
 
-fn push_literal(parts: &mut Vec<Hir>, bytes: Vec<u8>) -> Result<(), AllocError>
+fn push_literal(parts: &mut Vec<Hir>, bytes: Vec<u8>) -> Result<(), Memory>
     requires { 0 < length bytes.items }
     ensures { OnOk result (parts.new.items ≡ and_then parts.old.items (literal bytes.items)) }
 {
@@ -72,7 +73,7 @@ fn push_literal(parts: &mut Vec<Hir>, bytes: Vec<u8>) -> Result<(), AllocError>
 }
 
 /// Adds the part that was the last, and then the literal.
-fn push_after(parts: &mut Vec<Hir>, last: Hir, bytes: Vec<u8>) -> Result<(), AllocError>
+fn push_after(parts: &mut Vec<Hir>, last: Hir, bytes: Vec<u8>) -> Result<(), Memory>
     requires { 0 < length bytes.items }
     ensures { OnOk result (parts.new.items ≡ parts.old.items ++ join_literals last (literal bytes.items ∷ [])) }
 {

@@ -5,11 +5,12 @@ ghost use Rattle.rx_syntax.specs.Ranges.{next_scalar, fewest, HaveScalarEnds, Ar
 ghost use Rattle.rx_syntax.specs.Scalars.{previous_scalar, up_to, from, complement, or_past};
 
 use super::class::ClassUnicode;
-use std::alloc::{AllocError, Global};
+use rx_search::Memory;
+use std::alloc::Global;
 
 impl ClassUnicode {
     /// The scalars in the ranges, each from its first to its last. A range whose ends are out of order has none.
-    pub fn new(alloc: Global, ranges: &[(char, char)]) -> Result<ClassUnicode, AllocError>
+    pub fn new(alloc: Global, ranges: &[(char, char)]) -> Result<ClassUnicode, Memory>
         ensures { IfOk result (λ c. c ≡ fewest next_scalar ranges.now) }
     {
         let mut sorted = Vec::from_slice(alloc, ranges)?;
@@ -19,7 +20,7 @@ impl ClassUnicode {
     }
 
     /// The scalars that are not in the class.
-    pub fn complement(&self, alloc: Global) -> Result<ClassUnicode, AllocError>
+    pub fn complement(&self, alloc: Global) -> Result<ClassUnicode, Memory>
         ensures { IfOk result (λ c. c ≡ complement self.now) }
     {
         let ranges = ranges_outside(alloc, &self.ranges)?;
@@ -62,7 +63,7 @@ fn is_apart(end: char, c: char) -> bool
 }
 
 /// The fewest ranges of ranges in order of their first members.
-fn fewest(alloc: Global, sorted: &[(char, char)]) -> Result<Vec<(char, char)>, AllocError>
+fn fewest(alloc: Global, sorted: &[(char, char)]) -> Result<Vec<(char, char)>, Memory>
     ensures value { IfOk result (λ v. v.items ≡ add_all next_scalar [] sorted.now) }
     ensures ends { OnOk result (HaveScalarEnds sorted.now) }
 {
@@ -74,7 +75,7 @@ fn fewest(alloc: Global, sorted: &[(char, char)]) -> Result<Vec<(char, char)>, A
 }
 
 /// Adds a range that begins no earlier than the last one.
-fn add(found: &mut Vec<(char, char)>, low: char, high: char) -> Result<(), AllocError>
+fn add(found: &mut Vec<(char, char)>, low: char, high: char) -> Result<(), Memory>
     ensures { OnOk result (found.new.items ≡ add next_scalar found.old.items low high) }
 {
     if high < low {
@@ -93,7 +94,7 @@ fn add_after(
     last: (char, char),
     low: char,
     high: char,
-) -> Result<(), AllocError>
+) -> Result<(), Memory>
     ensures { OnOk result (found.new.items ≡ found.old.items ++ extend next_scalar (last ∷ []) low high) }
 {
     if is_apart(last.1, low) {
@@ -106,7 +107,7 @@ fn add_after(
 }
 
 /// The scalars that fewest ranges don't hold, in fewest ranges.
-fn ranges_outside(alloc: Global, ranges: &[(char, char)]) -> Result<Vec<(char, char)>, AllocError>
+fn ranges_outside(alloc: Global, ranges: &[(char, char)]) -> Result<Vec<(char, char)>, Memory>
     requires { AreScalarRanges ranges.now }
     ensures value { IfOk result (λ v. v.items ≡ complement ranges.now) }
     ensures fewest { IfOk result (λ v. AreScalarRanges v.items) }
@@ -122,11 +123,7 @@ fn ranges_outside(alloc: Global, ranges: &[(char, char)]) -> Result<Vec<(char, c
 }
 
 /// Adds the scalars from `low` to the one before `end`, if there are any.
-fn push_before(
-    found: &mut Vec<(char, char)>,
-    low: Option<char>,
-    end: char,
-) -> Result<(), AllocError>
+fn push_before(found: &mut Vec<(char, char)>, low: Option<char>, end: char) -> Result<(), Memory>
     ensures { OnOk result (found.new.items ≡ found.old.items ++ up_to (or_past low) end) }
 {
     if let Some(low) = low {
@@ -138,7 +135,7 @@ fn push_before(
 }
 
 /// Adds the scalars from `low` on, if there are any.
-fn push_from(found: &mut Vec<(char, char)>, low: Option<char>) -> Result<(), AllocError>
+fn push_from(found: &mut Vec<(char, char)>, low: Option<char>) -> Result<(), Memory>
     ensures { OnOk result (found.new.items ≡ found.old.items ++ from (or_past low)) }
 {
     if let Some(low) = low {

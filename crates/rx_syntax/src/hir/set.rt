@@ -11,12 +11,13 @@ use super::class::{Class, ClassBytes, ClassUnicode};
 use super::concat::bytes_in_row;
 use super::properties::Properties;
 use super::{Hir, HirKind};
-use std::alloc::{AllocError, Global};
+use rx_search::Memory;
+use std::alloc::Global;
 
 impl Hir {
     /// A member of the class. Where it has one member this is the literal of that member's encoding, and
     /// where it has none `fail`.
-    pub fn class(alloc: Global, members: Class) -> Result<Hir, AllocError>
+    pub fn class(alloc: Global, members: Class) -> Result<Hir, Memory>
         ensures { IfOk result (λ h. h ≡ class_of (class_view members)) }
     {
         match members {
@@ -26,7 +27,7 @@ impl Hir {
     }
 }
 
-fn scalar_of(alloc: Global, scalars: ClassUnicode) -> Result<Hir, AllocError>
+fn scalar_of(alloc: Global, scalars: ClassUnicode) -> Result<Hir, Memory>
     ensures { IfOk result (λ h. h ≡ class_of (scalar_ranges scalars)) }
 {
     if let Some(c) = scalars.only_member() {
@@ -42,7 +43,7 @@ fn scalar_of(alloc: Global, scalars: ClassUnicode) -> Result<Hir, AllocError>
     })
 }
 
-fn character(alloc: Global, c: char) -> Result<Hir, AllocError>
+fn character(alloc: Global, c: char) -> Result<Hir, Memory>
     ensures { IfOk result (λ h. h ≡ literal (encode_utf8 c)) }
 {
     let mut text = String::new(alloc);
@@ -50,7 +51,7 @@ fn character(alloc: Global, c: char) -> Result<Hir, AllocError>
     Ok(bytes_in_row(text.into_bytes()))
 }
 
-fn byte_of(alloc: Global, bytes: ClassBytes) -> Result<Hir, AllocError>
+fn byte_of(alloc: Global, bytes: ClassBytes) -> Result<Hir, Memory>
     ensures { IfOk result (λ h. h ≡ class_of (byte_ranges bytes)) }
 {
     if let Some(b) = bytes.only_member() {
@@ -63,7 +64,7 @@ fn byte_of(alloc: Global, bytes: ClassBytes) -> Result<Hir, AllocError>
     })
 }
 
-fn byte(alloc: Global, b: u8) -> Result<Hir, AllocError>
+fn byte(alloc: Global, b: u8) -> Result<Hir, Memory>
     ensures { IfOk result (λ h. h ≡ literal (b ∷ [])) }
 {
     let mut bytes = Vec::new(alloc);
