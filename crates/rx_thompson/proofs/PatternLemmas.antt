@@ -12,6 +12,7 @@ use Rattle.rx_model.specs.Search.{Patterns, WhichCaptures, all as every_group, i
 use Rattle.rx_model.proofs.WriteLemmas.{told-or, told-all, told-implicit, found-silent}
 use Rattle.rx_model.proofs.RunLemmas.{by_test, same-true}
 use Rattle.rx_model.proofs.FoundLemmas.{found-step, found-passed}
+use Rattle.rx_syntax.specs.Sound.{IsSound}
 use Rattle.rx_thompson.specs.Automaton.{at, automaton, state_accepts, state_writes, state_step}
 use Rattle.rx_thompson.specs.Nfa.{Nfa, HasFirstRuns}
 use Rattle.rx_thompson.specs.Draft.{Draft, Extends, pushed}
@@ -204,6 +205,19 @@ HasPatterns-more r n old new starts starts' q h e long grown inside is has last 
   where
     moved-part : {p : ℕ} {x : Expression} → p ≡ n → x ≡ h → HasPart new.states (part_of r n h) q → HasPart new.states (part_of r p x) q
     moved-part {p} {x} same this has = subst (λ k. HasPart new.states (part_of r k x) q) (sym same) (subst (λ y. HasPart new.states (part_of r n y) q) (sym this) has)
+
+-- one sound expression more
+pub sound-more : (hs : List Expression) (n : ℕ) (h : Expression) → n < length hs → h ≡ get_or hs n h → IsSound h
+    → ((p : ℕ) (x : Expression) → p < n → slice_get hs p ≡ Some x → IsSound x)
+    → (p : ℕ) (x : Expression) → p < n + 1 → slice_get hs p ≡ Some x → IsSound x
+sound-more hs n h inside is sound before p x lt here =
+    ⊎_elim
+    (λ below. before p x below here)
+    (λ above.
+    let same : p ≡ n = omega arith in
+    let this : x ≡ h = same_Some _ _ (sym here ∙ ap (slice_get hs) same ∙ slice_get-get_or hs n h inside ∙ ap Some (sym is)) in
+    subst IsSound (sym this) sound)
+    (cases_lt p n)
 
 -- the first runs of an NFA that has the patterns
 pub HasFirstRuns-from : (r : Patterns) (nfa : Nfa) (old new : Draft) → HasPatterns old.states r (length r.expressions) nfa.starts → length nfa.starts ≡ length r.expressions → nfa.states ≡ new.states

@@ -1,6 +1,6 @@
 -- What the compiler answers.
-use Rattle.std.specs.Prelude.{◌≡◌, ℕ, ◌+◌, ◌*◌, ◌<◌, ◌≤◌, Bool, List, [], ◌∷◌, length, map, replicate, Option, Some, None, IfSome}
-use Rattle.rx_model.specs.Expression.{Expression}
+use Rattle.std.specs.Prelude.{◌≡◌, ℕ, ◌+◌, ◌*◌, ◌<◌, ◌≤◌, Bool, List, [], ◌∷◌, length, map, replicate, Option, Some, None, IfSome, slice_get}
+use Rattle.rx_model.specs.Expression.{Expression, AreOrdered}
 use Rattle.rx_model.specs.Search.{Patterns, WhichCaptures, all, implicit, none, greatest_group, groups_before}
 use Rattle.rx_search.specs.GroupInfo.{unnamed_groups}
 use Rattle.rx_model.specs.Empty.{one_can_be_empty}
@@ -63,6 +63,8 @@ pub record IsCompiled (config : Config) (hs : List Expression) (nfa : Nfa) : Typ
   pub groups : nfa.groups ≡ groups_of (captures_of config) hs
   pub utf8 : nfa.utf8 ≡ utf8_of config
   pub has_empty : nfa.has_empty ≡ one_can_be_empty (expressions hs)
+  -- the counts of each expression are in order, as the laws on its meaning ask
+  pub ordered : (p : ℕ) (h : Expression) → slice_get hs p ≡ Some h → AreOrdered h
   -- a first run looks neither at where a match may start nor at a terminator
   pub first_runs : (utf8_empty : Bool) (terminator : ℕ) → HasFirstRuns nfa (patterns_of hs utf8_empty terminator (captures_of config))
 

@@ -1,8 +1,10 @@
 //! From expressions to an NFA.
-ghost use Rattle.std.specs.Prelude.{◌≡◌, ◌+◌, ◌*◌, ◌<◌, ◌≤◌, length, All, IfOk, IfErr, IfSome, OnOk, MatchOption, None, Some, true, ◌∷◌, []};
+ghost use Rattle.std.specs.Prelude.{◌≡◌, ℕ, ◌+◌, ◌*◌, ◌<◌, ◌≤◌, length, All, IfOk, IfErr, IfSome, OnOk, MatchOption, None, Some, true, ◌∷◌, [], slice_get};
+ghost use Rattle.rx_model.specs.Expression.{Expression};
 ghost use Rattle.rx_model.specs.Graph.{build_state};
 ghost use Rattle.rx_model.specs.Search.{greatest_group};
 ghost use Rattle.rx_syntax.specs.Cost.{accounted_states};
+ghost use Rattle.rx_syntax.specs.Sound.{IsSound};
 ghost use Rattle.rx_thompson.specs.Built.{Built, slot_from, bound, compiled_pattern, HasPart, HasPatterns, StartsAll};
 ghost use Rattle.rx_thompson.specs.Config.{captures_kind, captures_of, overwritten, nothing_set};
 ghost use Rattle.rx_thompson.specs.Compiled.{patterns_of, slots_of, nfa_states, AreFew, AreAllowed, IsCompiled, IsRefusal};
@@ -71,6 +73,10 @@ impl Compiler {
     /// The NFA of these expressions, one pattern each. A match's slots come in the order of the patterns: two for each
     /// whole match, and after these two for each group that a pattern names. Groups that the configuration leaves out
     /// have no slots. The NFA has no more states than are accounted for the expressions.
+    ///
+    /// The NFA's first runs are those of the patterns' graphs, and the runs of each pattern's graph cover exactly the
+    /// spans that its expression means: the laws `runs_cover_the_meaning` and `the_first_run_is_meant` of rx_model say
+    /// so, and the clause `compiled` gives their premise, that the counts of the expression are in order.
     ///
     /// Refused before anything is built, in this order: more than 2147483647 patterns, more than 2147483646 slots under
     /// the configuration, more than 2147483647 states accounted, more bytes accounted than the configured limit. Want of
@@ -164,6 +170,7 @@ fn compile_patterns(
     ensures has { IfOk result (λ starts. HasPatterns builder.new.states (patterns_of exprs.now true 0 (captures_kind which)) (length exprs.now) starts.items) }
     ensures inside { IfOk result (λ starts. All (λ q. q < length builder.new.states) starts.items) }
     ensures count { OnOk result (length builder.new.states + 4 ≤ length builder.old.states + nfa_states exprs.now) }
+    ensures sound { OnOk result ((p : ℕ) (h : Expression) → slice_get exprs.now p ≡ Some h → IsSound h) }
 {
     let mut starts = Vec::new(alloc);
     let mut first_slot = first_slot(which, exprs);
@@ -196,6 +203,7 @@ fn compile_pattern(
         (compiled_pattern groups.now.whole_slot (slot_from groups.now.first_slot) groups.now.pattern hir.now) start) }
     ensures inside { IfOk result (λ start. start < length builder.new.states) }
     ensures count { OnOk result (length builder.new.states ≤ length builder.old.states + (accounted_states hir.now + 3)) }
+    ensures sound { OnOk result (IsSound hir.now) }
 {
     let pattern = groups.pattern;
     let last_slot = second_slot(groups.whole_slot);

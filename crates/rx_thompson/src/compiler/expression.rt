@@ -7,6 +7,7 @@ ghost use Rattle.rx_model.specs.Length.{minimum_len, is_positive};
 ghost use Rattle.rx_model.specs.Search.{greatest_group, greatest_in};
 ghost use Rattle.rx_syntax.specs.Cost.{states_of_copies, accounted_states, accounted_in};
 ghost use Rattle.rx_syntax.specs.Normal.{expressions};
+ghost use Rattle.rx_syntax.specs.Sound.{IsSound};
 ghost use Rattle.rx_thompson.specs.Built.{Built, slot_from, ways};
 ghost use Rattle.rx_thompson.specs.Repeated.{star, tail, leading, states_of_tail};
 ghost use Rattle.rx_thompson.specs.Room.{HasRoom};
@@ -33,6 +34,7 @@ pub fn compile(
     ensures built { IfOk result (λ start. Built (build (slot_from groups.now.first_slot) hir.now) next builder.old builder.new start) }
     ensures inside { IfOk result (λ start. start < length builder.new.states) }
     ensures count { OnOk result (length builder.new.states ≤ length builder.old.states + accounted_states hir.now) }
+    ensures sound { IsSound hir.now }
 {
     match hir.kind() {
         HirKind::Empty => Ok(next),

@@ -7,6 +7,7 @@ use Rattle.rx_thompson.specs.Config.{captures_of, captures_kind}
 use Rattle.rx_thompson.specs.Draft.{Draft}
 use Rattle.rx_thompson.specs.Nfa.{Nfa, HasFirstRuns}
 use Rattle.rx_search.specs.GroupInfo.{slot_count}
+use Rattle.rx_syntax.proofs.SoundLemmas.{IsSound-ordered}
 use Rattle.rx_thompson.proofs.GroupLemmas.{slots-counted}
 use Rattle.rx_thompson.proofs.NextMatchLemmas.{written-none}
 use Rattle.rx_thompson.proofs.PatternLemmas.{HasFirstRuns-from, StartsAll-slots}
@@ -55,6 +56,7 @@ returns c =
       utf8 = ap (λ (n : Nfa). n.utf8) is ∙ c.get_utf8.ensures;
       has_empty = ap (λ (n : Nfa). n.has_empty) is ∙ c.one_can_be_empty.ensures;
       accounted = ap (λ (n : Nfa). n.accounted) is ∙ c.requires.states;
+      ordered = λ p h at. IsSound-ordered h (c.in_ok-starts.ensures.sound p h at);
       first_runs = λ utf8_empty terminator.
           subst (λ n. HasFirstRuns n (patterns_of exprs utf8_empty terminator which)) (sym is)
           (HasFirstRuns-from (patterns_of exprs utf8_empty terminator which)

@@ -1,5 +1,6 @@
 use Rattle.std.proofs.Common.{◌≡◌, ◌+◌, ◌*◌, ◌<◌, ◌≤◌, ◌∙◌, sym, ap, subst, arith, length, [], ◌∷◌}
 use Rattle.std.proofs.lemmas.List.{length-append}
+use Rattle.std.proofs.lemmas.Option.{slice_get_within}
 use Rattle.std.specs.Prelude.{true, IfSome, option_map}
 use Rattle.rx_model.specs.Search.{greatest_group}
 use Rattle.rx_thompson.specs.Built.{HasPart, part_of}
@@ -8,7 +9,7 @@ use Rattle.rx_thompson.specs.Config.{captures_kind}
 use Rattle.rx_thompson.proofs.ExpressionLemmas.{nfa_states-drop, nfa_states-none}
 use Rattle.rx_thompson.proofs.BuiltLemmas.{Extends-trans}
 use Rattle.rx_thompson.proofs.CompileLemmas.{below-more}
-use Rattle.rx_thompson.proofs.PatternLemmas.{HasPatterns-more}
+use Rattle.rx_thompson.proofs.PatternLemmas.{HasPatterns-more, sound-more}
 use Rattle.rx_thompson.proofs.SlotLemmas.{groups-inside, whole-inside, first_slot-more, part-is, room-more}
 use Rattle.rx_thompson.proofs.compiler.compile_patterns.Goals as goal
 
@@ -78,6 +79,7 @@ loop-hir-preserved c =
           ∙ first_slot-more which exprs k item (omega arith) c.hir-item.is;
       has = HasPatterns-more r k old new c.loop-hir.starts.items c.push.new.self.items start item e before.items grown (omega arith) c.hir-item.is before.has has;
       inside = below-more (length old.states) (length new.states) c.loop-hir.starts.items c.push.new.self.items start e.longer c.in_ok-start.ensures.inside grown before.inside;
+      sound = sound-more exprs k item (omega arith) c.hir-item.is c.in_ok-start.ensures.sound before.sound;
     }
 
 pub compile_pattern-requires-clause-fits : goal.compile_pattern-requires-clause-fits
@@ -92,3 +94,8 @@ returns-clause-count c =
     let none = nfa_states-none c.args.exprs.now c.loop-hir.hir-index (omega arith) in
     let count = c.loop-hir.invariant.count in
     omega arith
+
+pub returns-clause-sound : goal.returns-clause-sound
+returns-clause-sound c p h at =
+    let inside = slice_get_within c.args.exprs.now p h at in
+    c.loop-hir.invariant.sound p h (omega arith) at

@@ -1,5 +1,7 @@
-use Rattle.std.proofs.Common.{◌≡◌, ◌<◌, ◌≤◌, ◌+◌, length, drop, vec_len}
-use Rattle.std.specs.Prelude.{All, true}
+use Rattle.std.proofs.Common.{◌≡◌, ℕ, ◌<◌, ◌≤◌, ◌+◌, length, drop, vec_len}
+use Rattle.std.specs.Prelude.{All, true, Some, slice_get}
+use Rattle.rx_model.specs.Expression.{Expression}
+use Rattle.rx_syntax.specs.Sound.{IsSound}
 use Rattle.rx_thompson.specs.Built.{HasPatterns}
 use Rattle.rx_thompson.specs.Compiled.{patterns_of, first_slot_of, nfa_states}
 use Rattle.rx_thompson.specs.Config.{captures_kind}
@@ -15,4 +17,5 @@ invariant-loop-hir l = record {
   first_slot : l.first_slot ≡ first_slot_of (captures_kind l.which) l.exprs l.hir-index;
   has : HasPatterns l.builder.states (patterns_of l.exprs true 0 (captures_kind l.which)) l.hir-index l.starts.items;
   inside : All (λ q. q < length l.builder.states) l.starts.items;
+  sound : (p : ℕ) (h : Expression) → p < l.hir-index → slice_get l.exprs p ≡ Some h → IsSound h;
 }
