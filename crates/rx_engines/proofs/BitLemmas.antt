@@ -1,7 +1,7 @@
 -- Bits in words, and the configurations that they stand for.
 use Rattle.std.proofs.Common.{◌≡◌, ◌≢◌, ℕ, zero, suc, ◌+◌, ◌-◌, ◌*◌, ◌/◌, ◌%◌, ◌<◌, ◌≤◌, List, refl, sym, ◌∙◌, ap, subst, arith, get_or, set, length, true≢false}
 use Rattle.std.proofs.lemmas.List.{get_or-set_same, get_or-set_other}
-use Rattle.std.proofs.lemmas.Nat.{one_shl, pow_pos, mul-add-lt, same_from_place}
+use Rattle.std.proofs.lemmas.Nat.{one_shl, pow_pos, same_from_place}
 use Rattle.std.proofs.lemmas.Nat.Bits.{bit_at_set_same, bit_at_set_other, and_pow, bit_at-zero, bit_at-lt}
 use Rattle.std.proofs.lemmas.Bool.Decides.{nat_tests, Decides-eqb}
 use Rattle.std.specs.Int.{bit_at, w64}
@@ -61,10 +61,6 @@ tests-bit word n =
 pub is_set-zero : (words : List ℕ) (n : ℕ) → get_or words (n / 64) 0 ≡ 0 → is_set words n ≡ false
 is_set-zero words n none = ap (λ w. bit_at w (n % 64) == 1) none ∙ ap (λ b. b == 1) (bit_at-zero (n % 64))
 
--- the place of a state in the rows
-pub place-within : (n rows a q : ℕ) → a < rows → q < n → a * n + q < rows * n
-place-within n rows a q row state = let lt = mul-add-lt a n q rows row state in omega arith
-
 -- to set the bit of a configuration passes it
 pub passed_in-set : (n first end q i : ℕ) (words words' : List ℕ) → q < n → first ≤ i → i ≤ end → ((k : ℕ) → is_set words' k ≡ (((i - first) * n + q == k) || is_set words k))
     → passed_in n first end words' ≡ and_at (at q i) (passed_in n first end words)
@@ -106,15 +102,12 @@ passed_in-bit n first end q i words state above below =
     let le : nat_le i end ≡ true = grind (arith, nat_tests) in
     rw (lt, ge, le) refl
 
--- no bit of the span is set
-pub passed_in-none : (n first end : ℕ) (words : List ℕ) → ((k : ℕ) → k < (end + 1 - first) * n → is_set words k ≡ false) → passed_in n first end words ≡ nowhere
+-- no bit is set
+pub passed_in-none : (n first end : ℕ) (words : List ℕ) → ((k : ℕ) → is_set words k ≡ false) → passed_in n first end words ≡ nowhere
 unfolding passed_in
-passed_in-none n first end words empty j c = none (nat_lt c.state n && (nat_le first c.place && nat_le c.place end)) refl j
+passed_in-none n first end words empty j c =
+    none (nat_lt c.state n && (nat_le first c.place && nat_le c.place end)) j
   where
-    none : (b : Bool) → (nat_lt c.state n && (nat_le first c.place && nat_le c.place end)) ≡ b → (b && is_set words ((c.place - first) * n + c.state)) ≡ false
-    none false h = refl
-    none true h =
-        let lt : c.state < n = grind (arith, nat_tests) in
-        let ge : first ≤ c.place = grind (arith, nat_tests) in
-        let le : c.place ≤ end = grind (arith, nat_tests) in
-        empty ((c.place - first) * n + c.state) (place-within n (end + 1 - first) (c.place - first) c.state (omega arith) lt)
+    none : (b : Bool) → (b && is_set words ((c.place - first) * n + c.state)) ≡ false
+    none false = refl
+    none true = empty ((c.place - first) * n + c.state)

@@ -1,5 +1,6 @@
-//! A depth-first search of an NFA that tries each state at each place once, so that its work is bounded by the
-//! places of the span times the states. It keeps a bit for each of them, and so takes only spans up to a length.
+//! A depth-first search of an NFA that tries each state at each place once: by its form, its work is bounded by the
+//! places of the span times the transitions. It keeps a bit for each state at each place, and so takes only spans up
+//! to a length.
 
 mod attempt;
 mod backtracker;

@@ -1,9 +1,8 @@
-//! A simulation of an NFA by an ordered list of threads, each with its slots. It looks at each place once, so
-//! that its work is bounded by the places times the states.
+//! A simulation of an NFA by an ordered list of threads, each with its slots. It looks at each place once, and
+//! there at each state at most once: by its form, its work is bounded by the places times the transitions.
 
 mod cache;
 mod close;
-mod finder;
 mod search;
 mod seed;
 mod set;
@@ -15,7 +14,6 @@ mod threads;
 mod vm;
 
 pub use cache::Cache;
-pub use finder::SlotFinder;
 pub use vm::PikeVM;
 
 #[cfg(test)]

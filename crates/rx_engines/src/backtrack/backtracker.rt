@@ -21,9 +21,9 @@ use std::marker::Model;
 /// The bits of a cache for the states at the places of a span.
 const BITS: usize = 2097152;
 
-/// An engine that searches an NFA depth first, and tries each state at each place of the span once: its work is
-/// bounded by the places times the states. It keeps a bit for each of them, and so takes only spans of at most
-/// `max_haystack_len` bytes. A contract sees it as its NFA.
+/// An engine that searches an NFA depth first, and tries each state at each place of the span once: by its form, its
+/// work is bounded by the places times the transitions, and no clause says it. It keeps a bit for each state at each
+/// place, and so takes only spans of at most `max_haystack_len` bytes. A contract sees it as its NFA.
 ///
 /// A search writes to a `Cache`, which serves the engine whatever it held before. It answers the next match
 /// whether or not the input asks for `earliest`.

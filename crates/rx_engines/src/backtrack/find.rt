@@ -25,7 +25,7 @@ pub fn find(
     ensures room { length visited.new ≡ length visited.old }
     ensures width { length slots.new ≡ length slots.old }
 {
-    visited.clear((search.end + 1 - search.first) * search.states.len());
+    visited.clear();
     clear(slots);
     for place in search.first..search.last + 1 {
         if is_allowed(search.text, search.utf8, place) {

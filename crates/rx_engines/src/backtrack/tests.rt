@@ -169,3 +169,18 @@ fn a_cache_is_reset(rt: HostRuntime) -> Result<(), Fail> {
     }
     Ok(())
 }
+
+/// Values of this type may go to other threads.
+fn goes_to_threads<T: Send>(_value: &T) {}
+
+/// Values of this type may go to other threads, and be shared with them.
+fn crosses_threads<T: Send + Sync>(_value: &T) {}
+
+#[test]
+fn an_engine_crosses_threads(rt: HostRuntime) -> Result<(), Fail> {
+    let alloc = rt.alloc();
+    let backtracker = engine(&rt, alloc, &["a"], true)?;
+    crosses_threads(&backtracker);
+    goes_to_threads(&backtracker.create_cache(alloc)?);
+    Ok(())
+}

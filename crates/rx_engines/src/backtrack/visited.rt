@@ -5,18 +5,24 @@ use rx_search::Memory;
 use std::alloc::Global;
 use std::marker::Model;
 
-/// A set of numbers, a bit for each. A contract sees it as its words.
+/// A set of numbers, a bit for each. It knows how many of its words were used, so that to empty it costs no more
+/// than what went in. A contract sees it as its words.
 #[derive(Drop)]
 pub struct Visited {
     words: Vec<u64>,
+    /// No bit is set in a word from here on.
+    used: usize,
 }
 
 impl Model for Visited {
-    ghost use Rattle.std.specs.Prelude.{List, ℕ};
+    ghost use Rattle.std.specs.Prelude.{◌≡◌, ◌≤◌, List, ℕ, length, slice_index};
 
     ghost Value = { List ℕ };
 
     ghost view = { λ v. v.words.items };
+
+    ghost invariant = { λ v. (v.used ≤ length v.words.items)
+        × ((k : ℕ) → v.used ≤ k → slice_index v.words.items k ≡ 0) };
 }
 
 impl Visited {
@@ -27,6 +33,7 @@ impl Visited {
     {
         Ok(Visited {
             words: vec![in alloc; 0u64; (len + 63) / 64]?,
+            used: 0,
         })
     }
 
@@ -36,19 +43,19 @@ impl Visited {
     {
         Ok(Visited {
             words: vec![in alloc; 0u64; self.words.len()]?,
+            used: 0,
         })
     }
 
-    /// Empties the set, of which only the numbers below `len` matter from now on.
-    pub fn clear(&mut self, len: usize)
-        requires { len ≤ 64 * length self.old }
-        ensures empty { (n : ℕ) → n < len → is_set self.new n ≡ false }
+    /// Empties the set.
+    pub fn clear(&mut self)
+        ensures empty { (n : ℕ) → is_set self.new n ≡ false }
         ensures room { length self.new ≡ length self.old }
     {
-        let words = len.div_ceil(64);
-        for k in 0..words {
+        for k in 0..self.used {
             self.words[k] = 0;
         }
+        self.used = 0;
     }
 
     /// Returns whether the number was new.
@@ -61,6 +68,7 @@ impl Visited {
         let word = self.words[n / 64];
         let bit = 1u64 << (n % 64);
         self.words[n / 64] = word | bit;
+        self.used = self.used.max(n / 64 + 1);
         word & bit == 0
     }
 }

@@ -288,28 +288,43 @@ fn earliest_ends_where_a_match_ends_first(rt: HostRuntime) -> Result<(), Fail> {
     Ok(())
 }
 
+/// Whether the engine of `a` and `b` finds a match in `ab`.
+fn expect_match(
+    rt: &impl Abort,
+    alloc: Global,
+    kind: MatchKind,
+    anchored: Anchored,
+    want: bool,
+) -> Result<(), Fail> {
+    let vm = engine(rt, alloc, &["a", "b"], kind)?;
+    let mut cache = vm.create_cache(alloc)?;
+    let input = Input::new(b"ab").anchored(anchored);
+    assert_eq!(rt; vm.is_match(&mut cache, &input), want);
+    assert_eq!(rt; vm.find(&mut cache, &input).is_some(), want);
+    let input = input.earliest(true);
+    assert_eq!(rt; vm.is_match(&mut cache, &input), want);
+    assert_eq!(rt; vm.find(&mut cache, &input).is_some(), want);
+    Ok(())
+}
+
+/// Searches under this kind of match, with each anchor.
+fn expect_matches(rt: &impl Abort, alloc: Global, kind: MatchKind) -> Result<(), Fail> {
+    expect_match(rt, alloc, kind, Anchored::No, true)?;
+    expect_match(rt, alloc, kind, Anchored::Yes, true)?;
+    expect_match(rt, alloc, kind, Anchored::Pattern(pattern(rt, 0)), true)?;
+    expect_match(rt, alloc, kind, Anchored::Pattern(pattern(rt, 1)), false)?;
+    expect_match(rt, alloc, kind, Anchored::Pattern(pattern(rt, 2)), false)?;
+    let vm = engine(rt, alloc, &["a", "b"], kind)?;
+    let mut cache = vm.create_cache(alloc)?;
+    assert_eq!(rt; vm.is_match(&mut cache, &Input::new(b"xyz")), false);
+    Ok(())
+}
+
 #[test]
 fn is_match_under_each_kind_and_anchor(rt: HostRuntime) -> Result<(), Fail> {
     let alloc = rt.alloc();
-    let cases = [
-        (Anchored::No, true),
-        (Anchored::Yes, true),
-        (Anchored::Pattern(pattern(&rt, 0)), true),
-        (Anchored::Pattern(pattern(&rt, 1)), false),
-        (Anchored::Pattern(pattern(&rt, 2)), false),
-    ];
-    for kind in [MatchKind::All, MatchKind::LeftmostFirst] {
-        let vm = engine(&rt, alloc, &["a", "b"], kind)?;
-        let mut cache = vm.create_cache(alloc)?;
-        for (anchored, want) in cases {
-            for earliest in [false, true] {
-                let input = Input::new(b"ab").anchored(anchored).earliest(earliest);
-                assert_eq!(rt; vm.is_match(&mut cache, &input), want);
-                assert_eq!(rt; vm.find(&mut cache, &input).is_some(), want);
-            }
-        }
-        assert_eq!(rt; vm.is_match(&mut cache, &Input::new(b"xyz")), false);
-    }
+    expect_matches(&rt, alloc, MatchKind::All)?;
+    expect_matches(&rt, alloc, MatchKind::LeftmostFirst)?;
     Ok(())
 }
 
@@ -331,6 +346,34 @@ fn each_number_of_slots(rt: HostRuntime) -> Result<(), Fail> {
         assert!(rt; found == None);
         assert!(rt; slots.iter().all(|slot| slot.is_none()));
     }
+    Ok(())
+}
+
+#[test]
+fn the_first_alternative_is_preferred(rt: HostRuntime) -> Result<(), Fail> {
+    let alloc = rt.alloc();
+    let vm = engine(&rt, alloc, &["a|ab"], MatchKind::LeftmostFirst)?;
+    let mut cache = vm.create_cache(alloc)?;
+    let mut slots = [None; 2];
+    let found = vm.search_slots(&mut cache, &Input::new(b"ab"), &mut slots);
+    assert!(rt; found == Some(PatternID::ZERO));
+    assert_eq!(rt; place(slots[0]), Some(0));
+    assert_eq!(rt; place(slots[1]), Some(1));
+    Ok(())
+}
+
+/// Values of this type may go to other threads.
+fn goes_to_threads<T: Send>(_value: &T) {}
+
+/// Values of this type may go to other threads, and be shared with them.
+fn crosses_threads<T: Send + Sync>(_value: &T) {}
+
+#[test]
+fn an_engine_crosses_threads(rt: HostRuntime) -> Result<(), Fail> {
+    let alloc = rt.alloc();
+    let vm = engine(&rt, alloc, &["a"], MatchKind::LeftmostFirst)?;
+    crosses_threads(&vm);
+    goes_to_threads(&vm.create_cache(alloc)?);
     Ok(())
 }
 

@@ -17,7 +17,7 @@ use std::alloc::Global;
 use std::marker::Model;
 
 /// An engine that follows all the threads of an NFA at once, place by place, each with its slots. It works for
-/// every NFA, and its work is bounded by the places of the span times the states.
+/// every NFA. By its form, its work is bounded by the places of the span times the transitions; no clause says it.
 ///
 /// A search takes no memory: it writes to a `Cache`, which serves the engine whatever it held before.
 #[derive(Drop)]
