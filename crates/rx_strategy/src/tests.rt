@@ -86,25 +86,40 @@ fn what_is_set_overwrites(rt: HostRuntime) -> Result<(), Fail> {
     Ok(())
 }
 
+/// The span of the match of `a|ab` in the haystack, by the backtracker or without it, and what it leaves in two slots.
+fn found_in(
+    rt: &impl Abort,
+    alloc: Global,
+    backtrack: bool,
+    haystack: &[u8],
+) -> Result<(Option<(usize, usize)>, [Option<usize>; 2]), Fail> {
+    let config = Config::new().backtrack(backtrack);
+    let core = strategy(rt, alloc, &config, "a|ab")?;
+    let mut cache = cache_of(rt, alloc, &core);
+    let mut slots = [None; 2];
+    let found = core.search(&mut cache, &Input::new(haystack), &mut slots);
+    Ok((told(found), [place(slots[0]), place(slots[1])]))
+}
+
 #[test]
 fn both_engines_prefer_the_first_alternative(rt: HostRuntime) -> Result<(), Fail> {
     let alloc = rt.alloc();
-    for backtrack in [true, false] {
-        let config = Config::new().backtrack(backtrack);
-        let core = strategy(&rt, alloc, &config, "a|ab")?;
-        let mut cache = cache_of(&rt, alloc, &core);
-        let mut slots = [None; 3];
-        let found = core.search(&mut cache, &Input::new(b"xab"), &mut slots);
-        assert_eq!(rt; told(found), Some((1, 2)));
-        assert_eq!(rt; place(slots[0]), Some(1));
-        assert_eq!(rt; place(slots[1]), Some(2));
-        assert_eq!(rt; place(slots[2]), None);
-        let none = core.search(&mut cache, &Input::new(b"b"), &mut slots);
-        assert_eq!(rt; told(none), None);
-        assert_eq!(rt; place(slots[0]), None);
-        let again = cache.clone(alloc).ok().expect(&rt, "a cache");
-        assert_eq!(rt; again.memory_usage(), cache.memory_usage());
-    }
+    let first = (Some((1, 2)), [Some(1), Some(2)]);
+    assert!(rt; found_in(&rt, alloc, true, b"xab")? == first);
+    assert!(rt; found_in(&rt, alloc, false, b"xab")? == first);
+    let none = (None, [None, None]);
+    assert!(rt; found_in(&rt, alloc, true, b"b")? == none);
+    assert!(rt; found_in(&rt, alloc, false, b"b")? == none);
+    Ok(())
+}
+
+#[test]
+fn a_cache_is_cloned(rt: HostRuntime) -> Result<(), Fail> {
+    let alloc = rt.alloc();
+    let core = strategy(&rt, alloc, &Config::new(), "a|ab")?;
+    let cache = cache_of(&rt, alloc, &core);
+    let again = cache.clone(alloc).ok().expect(&rt, "a cache");
+    assert_eq!(rt; again.memory_usage(), cache.memory_usage());
     Ok(())
 }
 
