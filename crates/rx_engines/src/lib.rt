@@ -11,3 +11,5 @@ pub mod pikevm;
 mod report;
 mod slots;
 mod starts;
+
+pub use slots::empty;

@@ -87,7 +87,7 @@ pub fn report(slots: &[Slot], to: &mut [Option<NonMaxUsize>])
     }
 }
 
-/// Leaves None in each slot.
+/// Leaves None in each slot, as a search does that finds nothing.
 pub fn empty(slots: &mut [Option<NonMaxUsize>])
     ensures { slots.new ≡ replicate (length slots.old) None }
 {

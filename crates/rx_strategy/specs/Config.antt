@@ -1,37 +1,64 @@
 -- What a configuration asks for.
-use Rattle.std.specs.Prelude.{◌&&◌, ◌==◌, ℕ, Bool, true, false, Option, Some, None, unwrap_or}
+use Rattle.std.specs.Prelude.{◌&&◌, ℕ, Bool, true, false, Option, Some, None, unwrap_or}
+use Rattle.std.specs.Option.{option_or}
 use Rattle.rx_model.specs.Search as model
 use Rattle.rx_search.specs.declared.anchored.MatchKind.{MatchKind}
 use Rattle.rx_search.specs.declared.anchored.MatchKind.TheVariants.{All, LeftmostFirst}
 use Rattle.rx_thompson.specs.Config.{captures_kind}
 use Rattle.rx_thompson.specs.declared.compiler.config.Config.{Config as CompilerConfig}
+use Rattle.rx_thompson.specs.declared.compiler.config.WhichCaptures.{WhichCaptures}
 use Rattle.rx_thompson.specs.declared.compiler.config.WhichCaptures.TheVariants.{All as EveryGroup}
 use Rattle.rx_strategy.specs.declared.config.Config.{Config}
 
+-- which of the matches that begin at one place is reported
 abbrev pub kind_of : Config → MatchKind
 kind_of c = unwrap_or c.match_kind LeftmostFirst
 
+-- no match may start inside a character
 abbrev pub utf8_of : Config → Bool
 utf8_of c = unwrap_or c.utf8_empty true
 
-abbrev pub captures_of : Config → model.WhichCaptures
-captures_of c = captures_kind (unwrap_or c.which_captures EveryGroup)
+-- which groups are told
+abbrev pub which_of : Config → WhichCaptures
+which_of c = unwrap_or c.which_captures EveryGroup
 
+abbrev pub captures_of : Config → model.WhichCaptures
+captures_of c = captures_kind (which_of c)
+
+-- the most bytes that may be accounted for the NFA, if there is a limit
 abbrev pub size_limit_of : Config → Option ℕ
 size_limit_of c = unwrap_or c.nfa_size_limit (Some 10485760)
+
+-- the backtracker is asked for
+abbrev pub backtrack_of : Config → Bool
+backtrack_of c = unwrap_or c.backtrack true
 
 -- the compiler's configuration under this one
 abbrev pub compiler_of : Config → CompilerConfig
 compiler_of c = record {
   utf8 = Some (utf8_of c);
   nfa_size_limit = Some (size_limit_of c);
-  which_captures = Some (unwrap_or c.which_captures EveryGroup);
+  which_captures = Some (which_of c);
 }
 
-abbrev is_leftmost : MatchKind → Bool
+abbrev pub is_leftmost : MatchKind → Bool
 is_leftmost All = false
 is_leftmost LeftmostFirst = true
 
 -- the bounded backtracker may serve
 abbrev pub has_backtracker : Config → Bool
-has_backtracker c = unwrap_or c.backtrack true && is_leftmost (kind_of c)
+has_backtracker c = backtrack_of c && is_leftmost (kind_of c)
+
+-- nothing is set
+abbrev pub nothing_set : Config
+nothing_set = record { match_kind = None; utf8_empty = None; which_captures = None; nfa_size_limit = None; backtrack = None }
+
+-- the new configuration, with what it leaves open as in the old one
+abbrev pub overwritten : (old new : Config) → Config
+overwritten old new = record {
+  match_kind = option_or new.match_kind old.match_kind;
+  utf8_empty = option_or new.utf8_empty old.utf8_empty;
+  which_captures = option_or new.which_captures old.which_captures;
+  nfa_size_limit = option_or new.nfa_size_limit old.nfa_size_limit;
+  backtrack = option_or new.backtrack old.backtrack;
+}

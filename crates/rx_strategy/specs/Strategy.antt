@@ -1,18 +1,25 @@
 -- What a strategy is to a contract, and what its searches answer.
-use Rattle.std.specs.Prelude.{◌≡◌, ℕ, Bool, true, false, List, Option, None, if◌then◌else◌}
+use Rattle.std.specs.Prelude.{◌≡◌, Bool, true, false, Option, None, if◌then◌else◌}
 use Rattle.rx_model.specs.Search.{Patterns, WhichCaptures, all, implicit, none, Match}
 use Rattle.rx_model.specs.Matches.{IsMatch}
 use Rattle.rx_search.specs.Input.{InputValue, next_in}
 use Rattle.rx_search.specs.declared.anchored.MatchKind.{MatchKind}
 use Rattle.rx_thompson.specs.Nfa.{Nfa, HasFirstRuns}
 use Rattle.rx_thompson.specs.NextMatch.{next_match_of}
+use Rattle.rx_engines.specs.Engine.{PikeVMValue}
 
 pub record StrategyValue : Type 0 where
   pub nfa : Nfa
+  -- which of the matches that begin at one place is reported
   pub kind : MatchKind
+  -- which groups are told
   pub which_captures : WhichCaptures
   -- there is a backtracker
   pub backtracks : Bool
+
+-- the strategy's PikeVM
+abbrev pub pikevm_of : StrategyValue → PikeVMValue
+pikevm_of s = record { nfa = s.nfa; kind = s.kind }
 
 -- the strategy is for these patterns
 pub record IsOf (s : StrategyValue) (r : Patterns) : Type 0 where

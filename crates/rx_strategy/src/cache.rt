@@ -1,7 +1,7 @@
 ghost use Rattle.std.specs.Prelude.{◌≡◌, IfOk, OnOk, OnErr};
-ghost use Rattle.rx_strategy.specs.Cache.{Fits, cache_code};
+ghost use Rattle.rx_strategy.specs.Cache.{Fits, backtrack_memory, memory_of};
 
-use crate::core::Core;
+use crate::strategy::Core;
 use rx_engines::{backtrack, pikevm};
 use rx_search::Memory;
 use std::alloc::Global;
@@ -41,12 +41,40 @@ impl Cache {
         Ok(())
     }
 
-    /// The bytes that are accounted for the caches of the engines, at most `usize::MAX`.
-    pub fn memory_usage(&self) -> usize {
-        let backtrack = match &self.backtrack {
+    /// The bytes that are accounted for the caches of the engines, or the greatest `usize` where they are more.
+    pub fn memory_usage(&self) -> usize
+        ensures { result ≡ memory_of self.now }
+    {
+        let backtrack = self.backtrack_memory();
+        self.pikevm.memory_usage().saturating_add(backtrack)
+    }
+
+    /// What is accounted for the backtracker's cache.
+    fn backtrack_memory(&self) -> usize
+        ensures { result ≡ backtrack_memory self.now.backtrack }
+    {
+        match &self.backtrack {
             Some(cache) => cache.memory_usage(),
             None => 0,
-        };
-        self.pikevm.memory_usage().saturating_add(backtrack)
+        }
+    }
+
+    /// A cache of its own with the same room.
+    pub fn clone(&self, alloc: Global) -> Result<Cache, Memory>
+        ensures { IfOk result (λ c. c ≡ self.now) }
+    {
+        let pikevm = self.pikevm.clone(alloc)?;
+        let backtrack = self.clone_backtrack(alloc)?;
+        Ok(Cache { pikevm, backtrack })
+    }
+
+    /// The backtracker's cache once more.
+    fn clone_backtrack(&self, alloc: Global) -> Result<Option<backtrack::Cache>, Memory>
+        ensures { IfOk result (λ c. c ≡ self.now.backtrack) }
+    {
+        match &self.backtrack {
+            Some(cache) => Ok(Some(cache.clone(alloc)?)),
+            None => Ok(None),
+        }
     }
 }

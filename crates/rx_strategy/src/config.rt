@@ -1,8 +1,6 @@
 //! The configuration of a regex.
-ghost use Rattle.std.specs.Prelude.{◌≡◌, Some, None, true, unwrap_or};
-ghost use Rattle.std.specs.Option.{option_or};
-ghost use Rattle.rx_search.specs.declared.anchored.MatchKind.TheVariants.{LeftmostFirst};
-ghost use Rattle.rx_thompson.specs.declared.compiler.config.WhichCaptures.TheVariants.{All};
+ghost use Rattle.std.specs.Prelude.{◌≡◌, Some};
+ghost use Rattle.rx_strategy.specs.Config.{kind_of, utf8_of, which_of, size_limit_of, backtrack_of, compiler_of, has_backtracker, nothing_set, overwritten};
 
 use rx_search::MatchKind;
 use rx_thompson::WhichCaptures;
@@ -24,7 +22,7 @@ pub struct Config {
 impl Config {
     /// Nothing is set.
     pub fn new() -> Config
-        ensures { result ≡ record { match_kind = None; utf8_empty = None; which_captures = None; nfa_size_limit = None; backtrack = None } }
+        ensures { result ≡ nothing_set }
     {
         Config {
             match_kind: None,
@@ -77,37 +75,57 @@ impl Config {
 
     /// Which of the matches that begin at one place is reported; by default the first in order of preference.
     pub fn get_match_kind(&self) -> MatchKind
-        ensures { result ≡ unwrap_or self.now.match_kind LeftmostFirst }
+        ensures { result ≡ kind_of self.now }
     {
         self.match_kind.unwrap_or(MatchKind::LeftmostFirst)
     }
 
     /// Whether no match may start inside an encoded character; by default so.
     pub fn get_utf8_empty(&self) -> bool
-        ensures { result ≡ unwrap_or self.now.utf8_empty true }
+        ensures { result ≡ utf8_of self.now }
     {
         self.utf8_empty.unwrap_or(true)
     }
 
     /// Which groups are told; by default all of them.
     pub fn get_which_captures(&self) -> WhichCaptures
-        ensures { result ≡ unwrap_or self.now.which_captures All }
+        ensures { result ≡ which_of self.now }
     {
         self.which_captures.unwrap_or(WhichCaptures::All)
     }
 
     /// The most bytes that the NFA may have; by default 10485760.
     pub fn get_nfa_size_limit(&self) -> Option<usize>
-        ensures { result ≡ unwrap_or self.now.nfa_size_limit (Some 10485760) }
+        ensures { result ≡ size_limit_of self.now }
     {
         self.nfa_size_limit.unwrap_or(Some(NFA_SIZE_LIMIT))
     }
 
     /// Whether the bounded backtracker may be used; by default so.
     pub fn get_backtrack(&self) -> bool
-        ensures { result ≡ unwrap_or self.now.backtrack true }
+        ensures { result ≡ backtrack_of self.now }
     {
         self.backtrack.unwrap_or(true)
+    }
+
+    /// How the NFA is compiled under this configuration.
+    pub fn compiler(&self) -> rx_thompson::Config
+        ensures { result ≡ compiler_of self.now }
+    {
+        rx_thompson::Config::new()
+            .utf8(self.get_utf8_empty())
+            .nfa_size_limit(self.get_nfa_size_limit())
+            .which_captures(self.get_which_captures())
+    }
+
+    /// Whether a strategy under this configuration has the bounded backtracker.
+    pub(crate) fn has_backtracker(&self) -> bool
+        ensures { result ≡ has_backtracker self.now }
+    {
+        match self.get_match_kind() {
+            MatchKind::All => false,
+            MatchKind::LeftmostFirst => self.get_backtrack(),
+        }
     }
 
     /// The same configuration once more.
@@ -123,15 +141,9 @@ impl Config {
         }
     }
 
-    /// What the other configuration sets, and what this one sets beside it.
+    /// This configuration, with what the other one sets in place of its own.
     pub fn overwrite(&self, other: &Config) -> Config
-        ensures { result ≡ record {
-            match_kind = option_or other.now.match_kind self.now.match_kind;
-            utf8_empty = option_or other.now.utf8_empty self.now.utf8_empty;
-            which_captures = option_or other.now.which_captures self.now.which_captures;
-            nfa_size_limit = option_or other.now.nfa_size_limit self.now.nfa_size_limit;
-            backtrack = option_or other.now.backtrack self.now.backtrack;
-        } }
+        ensures { result ≡ overwritten self.now other.now }
     {
         Config {
             match_kind: other.match_kind.or(self.match_kind),
@@ -144,7 +156,7 @@ impl Config {
 }
 
 impl Default for Config {
-    ghost is_default = { λ c. c ≡ record { match_kind = None; utf8_empty = None; which_captures = None; nfa_size_limit = None; backtrack = None } };
+    ghost is_default = { λ c. c ≡ nothing_set };
 
     fn default() -> Config {
         Config::new()

@@ -6,11 +6,11 @@
 
 mod cache;
 mod config;
-mod core;
+mod strategy;
 
 pub use cache::Cache;
 pub use config::Config;
-pub use self::core::Core;
+pub use strategy::Core;
 
 #[cfg(test)]
 mod tests;

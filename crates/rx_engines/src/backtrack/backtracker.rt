@@ -94,9 +94,10 @@ impl BoundedBacktracker {
         ensures refused { IfErr result (λ _. slots.new ≡ replicate (length slots.old) None) }
         ensures cache { cache.new ≡ cache.old }
     {
-        match self.try_find_slots(cache, input, slots)? {
-            Some(found) => Ok(Some(found.pattern())),
-            None => Ok(None),
+        match self.try_find_slots(cache, input, slots) {
+            Ok(Some(found)) => Ok(Some(found.pattern())),
+            Ok(None) => Ok(None),
+            Err(error) => Err(error),
         }
     }
 

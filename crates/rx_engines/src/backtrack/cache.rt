@@ -77,6 +77,22 @@ impl Cache {
         self.memory
     }
 
+    /// A cache of its own with the same room.
+    pub fn clone(&self, alloc: Global) -> Result<Cache, Memory>
+        ensures { IfOk result (λ c. c ≡ self.now) }
+    {
+        let visited = self.visited.same_room(alloc)?;
+        let stack = Stack::new(alloc)?;
+        let none = Slot::none();
+        let slots = vec![in alloc; none; self.slots.len()]?;
+        Ok(Cache {
+            visited,
+            stack,
+            slots,
+            memory: self.memory,
+        })
+    }
+
     /// The pattern, the start and the end of the next match in the span. The slots get what it leaves in them.
     pub(crate) fn find(
         &mut self,

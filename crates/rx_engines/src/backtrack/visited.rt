@@ -30,6 +30,15 @@ impl Visited {
         })
     }
 
+    /// An empty set with the same room.
+    pub fn same_room(&self, alloc: Global) -> Result<Visited, Memory>
+        ensures { IfOk result (λ v. length v ≡ length self.now) }
+    {
+        Ok(Visited {
+            words: vec![in alloc; 0u64; self.words.len()]?,
+        })
+    }
+
     /// Empties the set, of which only the numbers below `len` matter from now on.
     pub fn clear(&mut self, len: usize)
         requires { len ≤ 64 * length self.old }

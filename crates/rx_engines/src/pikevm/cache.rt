@@ -93,17 +93,30 @@ impl Cache {
         ensures widest { IfOk result (λ c. c.widest ≡ widest) }
         ensures memory { IfOk result (λ c. c.memory ≡ memory) }
     {
-        let n = states.len();
-        let room = stack_room(states)?;
+        let stack = stack_room(states)?;
+        Cache::of_room(alloc, states.len(), stack, widest, memory)
+    }
+
+    /// Room for so many states, frames and slots, for which so much is accounted.
+    fn of_room(
+        alloc: Global,
+        states: usize,
+        stack: usize,
+        widest: usize,
+        memory: usize,
+    ) -> Result<Cache, Memory>
+        requires { states < 2 ^ 32 }
+        ensures { IfOk result (λ c. c ≡ record { states = states; stack = stack; widest = widest; memory = memory }) }
+    {
         let curr = Threads {
-            set: SparseSet::new(alloc, n)?,
-            table: Table::new(alloc, n, widest)?,
+            set: SparseSet::new(alloc, states)?,
+            table: Table::new(alloc, states, widest)?,
         };
         let next = Threads {
-            set: SparseSet::new(alloc, n)?,
-            table: Table::new(alloc, n, widest)?,
+            set: SparseSet::new(alloc, states)?,
+            table: Table::new(alloc, states, widest)?,
         };
-        let stack = Stack::new(alloc, room)?;
+        let stack = Stack::new(alloc, stack)?;
         let none = Slot::none();
         let scratch = vec![in alloc; none; widest]?;
         let best = vec![in alloc; none; widest]?;
@@ -115,6 +128,15 @@ impl Cache {
             best,
             memory,
         })
+    }
+
+    /// A cache of its own with the same room.
+    pub fn clone(&self, alloc: Global) -> Result<Cache, Memory>
+        ensures { IfOk result (λ c. c ≡ self.now) }
+    {
+        let states = self.curr.set.room();
+        let stack = self.stack.room();
+        Cache::of_room(alloc, states, stack, self.best.len(), self.memory)
     }
 
     /// The pattern, the start and the end of the next match that starts at `from` or after it. The slots get what

@@ -36,6 +36,14 @@ impl SparseSet {
         Ok(SparseSet { dense, sparse })
     }
 
+    /// The states are below this number.
+    pub fn room(&self) -> usize
+        ensures value { result ≡ self.now.room }
+        ensures small { self.now.room < 2 ^ 32 }
+    {
+        self.sparse.len()
+    }
+
     pub fn clear(&mut self)
         ensures { self.new ≡ record self.old { items = [] } }
     {

@@ -33,6 +33,13 @@ impl Stack {
         Ok(Stack { frames, room })
     }
 
+    /// How many frames there may be.
+    pub fn room(&self) -> usize
+        ensures { result ≡ self.now.room }
+    {
+        self.room
+    }
+
     pub fn push(&mut self, frame: Frame)
         requires { length self.old.items < self.old.room }
         ensures { self.new ≡ record self.old { items = frame ∷ self.old.items } }

@@ -1,25 +1,26 @@
 //! The strategy that runs the engines.
-ghost use Rattle.std.specs.Prelude.{◌≡◌, ◌≤◌, false, length, None, replicate, is_some, IfOk, IfNone, IfSome, MatchOption, option_map};
+ghost use Rattle.std.specs.Prelude.{◌≡◌, ◌≤◌, true, false, length, None, replicate, is_some, IfOk, IfNone, IfSome, MatchOption, option_map};
 ghost use Rattle.rx_model.specs.Search.{Patterns, told_of};
 ghost use Rattle.rx_search.specs.Input.{next_in};
-ghost use Rattle.rx_search.specs.Matches.{match_value, half_match_value};
-ghost use Rattle.rx_engines.specs.Engine.{HasSlots};
-ghost use Rattle.rx_thompson.specs.Config.{captures_kind};
+ghost use Rattle.rx_search.specs.Matches.{match_value};
+ghost use Rattle.rx_engines.specs.Engine.{HasSlots, IsMatchWith as IsToldMatchWith};
+ghost use Rattle.rx_engines.specs.Bounded.{Fits as FitsBounded, IsNfaOf, next_match_within};
 ghost use Rattle.rx_strategy.specs.Config.{kind_of, captures_of, has_backtracker};
-ghost use Rattle.rx_strategy.specs.Strategy.{StrategyValue, IsOf, told_in, told_for, next_match_in, IsMatchWith};
-ghost use Rattle.rx_strategy.specs.Cache.{Fits};
+ghost use Rattle.rx_strategy.specs.Strategy.{IsOf, tells, told_in, told_for, next_match_in, IsMatchWith};
+ghost use Rattle.rx_strategy.specs.Cache.{Fits, FitsBacktracker};
 
 use crate::cache::Cache;
 use crate::config::Config;
 use rx_engines::backtrack::{self, BoundedBacktracker};
+use rx_engines::empty;
 use rx_engines::pikevm::PikeVM;
-use rx_search::{HalfMatch, Input, Match, MatchKind, Memory, NonMaxUsize, PatternID};
+use rx_search::{Input, Match, Memory, NonMaxUsize};
 use rx_thompson::{NFA, WhichCaptures};
 use std::alloc::Global;
 use std::marker::Model;
 
 /// The engines over one NFA: the bounded backtracker where it serves, and else the PikeVM. Which of them serves a
-/// search changes no answer.
+/// search changes no answer that is promised.
 #[derive(Drop)]
 pub struct Core {
     pikevm: PikeVM,
@@ -49,10 +50,10 @@ impl Core {
     /// The strategy of this NFA, which was built under the configuration.
     pub fn new(config: &Config, nfa: NFA) -> Result<Core, Memory>
         ensures { IfOk result (λ core. core ≡ record {
-            nfa = nfa;
-            kind = kind_of config.now;
-            which_captures = captures_of config.now;
-            backtracks = has_backtracker config.now;
+          nfa = nfa;
+          kind = kind_of config.now;
+          which_captures = captures_of config.now;
+          backtracks = has_backtracker config.now;
         }) }
     {
         let backtrack = backtracker(config, &nfa)?;
@@ -75,18 +76,26 @@ impl Core {
         ensures { IfOk result (Fits self.now) }
     {
         let pikevm = self.pikevm.create_cache(alloc)?;
-        let backtrack = match &self.backtrack {
-            Some(engine) => Some(engine.create_cache(alloc)?),
-            None => None,
-        };
+        let backtrack = self.backtrack_cache(alloc)?;
         Ok(Cache { pikevm, backtrack })
+    }
+
+    /// A cache for the backtracker, where there is one.
+    fn backtrack_cache(&self, alloc: Global) -> Result<Option<backtrack::Cache>, Memory>
+        ensures { IfOk result (FitsBacktracker self.now) }
+    {
+        match &self.backtrack {
+            Some(engine) => Ok(Some(engine.create_cache(alloc)?)),
+            None => Ok(None),
+        }
     }
 
     /// Whether there is a match in the input's span, under each kind of match and of captures.
     pub fn is_match(&self, cache: &mut Cache, input: &Input<'_>) -> bool
         requires { Fits self.now cache.old }
         ensures value { result ≡ is_some (next_match_in self.now input.now) }
-        ensures patterns { (r : Patterns) → IsOf self.now r → next_match_in self.now input.now ≡ option_map (told_of r.which_captures) (next_in r input.now) }
+        ensures patterns { (r : Patterns) → IsOf self.now r
+            → next_match_in self.now input.now ≡ option_map (told_of r.which_captures) (next_in r input.now) }
         ensures cache { cache.new ≡ cache.old }
     {
         self.pikevm.is_match(&mut cache.pikevm, input)
@@ -112,12 +121,21 @@ impl Core {
         ensures within { IfSome result (λ m. (input.now.start ≤ m.start) × (m.end ≤ input.now.end)) }
         ensures cache { cache.new ≡ cache.old }
     {
+        if self.tells() {
+            return self.find(cache, input, slots);
+        }
+        empty(slots);
+        None
+    }
+
+    /// Whether matches are told.
+    fn tells(&self) -> bool
+        ensures { result ≡ tells self.now.which_captures }
+    {
         match self.which_captures {
-            WhichCaptures::All | WhichCaptures::Implicit => self.find(cache, input, slots),
-            WhichCaptures::None => {
-                empty(slots);
-                None
-            }
+            WhichCaptures::All => true,
+            WhichCaptures::Implicit => true,
+            WhichCaptures::None => false,
         }
     }
 
@@ -131,18 +149,19 @@ impl Core {
         requires { Fits self.now cache.old }
         ensures value { input.now.earliest ≡ false → result ≡ option_map match_value (next_match_in self.now input.now) }
         ensures exists { is_some result ≡ is_some (next_match_in self.now input.now) }
-        ensures patterns { (r : Patterns) → IsOf self.now r → next_match_in self.now input.now ≡ option_map (told_of r.which_captures) (next_in r input.now) }
+        ensures patterns { (r : Patterns) → IsOf self.now r
+            → next_match_in self.now input.now ≡ option_map (told_of r.which_captures) (next_in r input.now) }
         ensures is_match { (r : Patterns) → IsOf self.now r
-            → IfSome result (λ found. IsMatchWith r input.now (λ m. (found ≡ match_value m) × HasSlots slots.new m)) }
+            → IfSome result (λ found. IsToldMatchWith r input.now (λ m. (found ≡ match_value m) × HasSlots slots.new m)) }
         ensures slots { input.now.earliest ≡ false → IfSome (next_match_in self.now input.now) (HasSlots slots.new) }
         ensures none { IfNone result (slots.new ≡ replicate (length slots.old) None) }
         ensures within { IfSome result (λ m. (input.now.start ≤ m.start) × (m.end ≤ input.now.end)) }
         ensures cache { cache.new ≡ cache.old }
     {
-        if let Some(found) = self.try_backtrack(&mut cache.backtrack, input, slots) {
-            return found;
+        match self.try_backtrack(&mut cache.backtrack, input, slots) {
+            Some(found) => found,
+            None => self.pikevm.find_slots(&mut cache.pikevm, input, slots),
         }
-        self.pikevm.find_slots(&mut cache.pikevm, input, slots)
     }
 
     /// What the backtracker answers. None where it does not serve this search: there is none, the span is too long for
@@ -153,10 +172,18 @@ impl Core {
         input: &Input<'_>,
         slots: &mut [Option<NonMaxUsize>],
     ) -> Option<Option<Match>>
+        requires { FitsBacktracker self.now cache.old }
+        ensures value { IfSome result (λ found. found ≡ option_map match_value (next_match_in self.now input.now)) }
+        ensures patterns { IfSome result (λ _. (r : Patterns) → IsOf self.now r
+            → next_match_in self.now input.now ≡ option_map (told_of r.which_captures) (next_in r input.now)) }
+        ensures slots { IfSome result (λ _. IfSome (next_match_in self.now input.now) (HasSlots slots.new)) }
+        ensures none { IfSome result (λ found. IfNone found (slots.new ≡ replicate (length slots.old) None)) }
+        ensures within { IfSome result (λ found. IfSome found (λ m. (input.now.start ≤ m.start) × (m.end ≤ input.now.end))) }
+        ensures cache { cache.new ≡ cache.old }
     {
-        match (&self.backtrack, cache) {
-            (Some(engine), Some(cache)) => answered(engine.try_find_slots(cache, input, slots)),
-            _ => None,
+        match &self.backtrack {
+            Some(engine) => try_search(engine, cache, input, slots),
+            None => None,
         }
     }
 }
@@ -165,8 +192,52 @@ impl Core {
 fn backtracker(config: &Config, nfa: &NFA) -> Result<Option<BoundedBacktracker>, Memory>
     ensures { IfOk result (λ o. MatchOption o (has_backtracker config.now ≡ false) (λ b. (has_backtracker config.now ≡ true) × (b ≡ nfa.now))) }
 {
-    if config.get_backtrack() && config.get_match_kind() == MatchKind::LeftmostFirst {
-        return Ok(Some(BoundedBacktracker::build_from_nfa(nfa.clone()?)));
+    if !config.has_backtracker() {
+        return Ok(None);
     }
-    Ok(None)
+    Ok(Some(BoundedBacktracker::build_from_nfa(nfa.clone()?)))
+}
+
+/// What the engine answers, where there is a cache for it and it has an answer.
+fn try_search(
+    engine: &BoundedBacktracker,
+    cache: &mut Option<backtrack::Cache>,
+    input: &Input<'_>,
+    slots: &mut [Option<NonMaxUsize>],
+) -> Option<Option<Match>>
+    requires { IfSome cache.old (FitsBounded engine.now) }
+    ensures value { IfSome result (λ found. found ≡ option_map match_value (next_match_within engine.now input.now)) }
+    ensures patterns { IfSome result (λ _. (r : Patterns) → IsNfaOf engine.now r
+        → next_match_within engine.now input.now ≡ option_map (told_of r.which_captures) (next_in r input.now)) }
+    ensures slots { IfSome result (λ _. IfSome (next_match_within engine.now input.now) (HasSlots slots.new)) }
+    ensures none { IfSome result (λ found. IfNone found (slots.new ≡ replicate (length slots.old) None)) }
+    ensures within { IfSome result (λ found. IfSome found (λ m. (input.now.start ≤ m.start) × (m.end ≤ input.now.end))) }
+    ensures cache { cache.new ≡ cache.old }
+{
+    match cache {
+        Some(cache) => answered(engine, cache, input, slots),
+        None => None,
+    }
+}
+
+/// What the engine answers. None where it has no answer.
+fn answered(
+    engine: &BoundedBacktracker,
+    cache: &mut backtrack::Cache,
+    input: &Input<'_>,
+    slots: &mut [Option<NonMaxUsize>],
+) -> Option<Option<Match>>
+    requires { FitsBounded engine.now cache.old }
+    ensures value { IfSome result (λ found. found ≡ option_map match_value (next_match_within engine.now input.now)) }
+    ensures patterns { IfSome result (λ _. (r : Patterns) → IsNfaOf engine.now r
+        → next_match_within engine.now input.now ≡ option_map (told_of r.which_captures) (next_in r input.now)) }
+    ensures slots { IfSome result (λ _. IfSome (next_match_within engine.now input.now) (HasSlots slots.new)) }
+    ensures none { IfSome result (λ found. IfNone found (slots.new ≡ replicate (length slots.old) None)) }
+    ensures within { IfSome result (λ found. IfSome found (λ m. (input.now.start ≤ m.start) × (m.end ≤ input.now.end))) }
+    ensures cache { cache.new ≡ cache.old }
+{
+    match engine.try_find_slots(cache, input, slots) {
+        Ok(found) => Some(found),
+        Err(_) => None,
+    }
 }
