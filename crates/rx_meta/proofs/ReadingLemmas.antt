@@ -61,8 +61,8 @@ Reads-more n texts k hs hs' text h r few within is read longer =
       count = omega (arith, length-append hs (h ∷ []), r.count);
       within = omega arith;
       expressions =
-      sym (after-one hs k h (readings_from n (k + 1) texts)) ∙ ap (λ s. after hs (read_before k s (readings_from n (k + 1) texts))) (sym read)
-      ∙ ap (after hs) (sym (from-more n k texts text few within is)) ∙ r.expressions;
+          sym (after-one hs k h (readings_from n (k + 1) texts)) ∙ ap (λ s. after hs (read_before k s (readings_from n (k + 1) texts))) (sym read)
+          ∙ ap (after hs) (sym (from-more n k texts text few within is)) ∙ r.expressions;
     })
 
 -- all texts that are read
