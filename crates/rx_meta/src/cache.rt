@@ -1,5 +1,5 @@
 ghost use Rattle.std.specs.Prelude.{◌≡◌, IfOk, OnOk, OnErr};
-ghost use Rattle.rx_strategy.specs.Cache.{Fits};
+ghost use Rattle.rx_strategy.specs.Cache.{Fits, memory_of};
 
 use crate::regex::Regex;
 use rx_search::Memory;
@@ -13,9 +13,11 @@ pub struct Cache {
 }
 
 impl Model for Cache {
-    ghost use Rattle.rx_strategy.specs.Cache.{CacheValue};
+    ghost use Rattle.rx_strategy.specs.Cache.{CacheValue, cache_code};
 
     ghost Value = { CacheValue };
+
+    ghost coded = { cache_code };
 
     ghost view = { λ c. c.engines };
 }
@@ -37,8 +39,19 @@ impl Cache {
         Ok(())
     }
 
-    /// The bytes that are accounted for the caches of its engines.
-    pub fn memory_usage(&self) -> usize {
+    /// The bytes that are accounted for the caches of its engines, or the greatest `usize` where they are more.
+    pub fn memory_usage(&self) -> usize
+        ensures { result ≡ memory_of self.now }
+    {
         self.engines.memory_usage()
+    }
+
+    /// A cache of its own with the same room.
+    pub fn clone(&self, alloc: Global) -> Result<Cache, Memory>
+        ensures { IfOk result (λ c. c ≡ self.now) }
+    {
+        Ok(Cache {
+            engines: self.engines.clone(alloc)?,
+        })
     }
 }

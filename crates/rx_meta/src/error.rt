@@ -1,5 +1,5 @@
 //! Why there is no regex.
-ghost use Rattle.std.specs.Prelude.{◌≡◌, Some, None};
+ghost use Rattle.std.specs.Prelude.{◌≡◌, option_map};
 ghost use Rattle.rx_meta.specs.declared.error.BuildError.TheVariants.{Memory as OutOfMemory};
 ghost use Rattle.rx_meta.specs.Error.{error_of, pattern_of, size_limit_of, syntax_error_of};
 
@@ -36,7 +36,9 @@ impl BuildError {
         ensures { result ≡ size_limit_of self.now }
     {
         match self {
-            BuildError::NFA(rx_thompson::BuildError::ExceededSizeLimit { limit, .. }) => Some(*limit),
+            BuildError::NFA(rx_thompson::BuildError::ExceededSizeLimit { limit, .. }) => Some(
+                *limit,
+            ),
             _ => None,
         }
     }

@@ -7,6 +7,7 @@
 mod builder;
 mod cache;
 mod error;
+mod found;
 mod reading;
 mod regex;
 
