@@ -1,4 +1,5 @@
-//! Whole runs as tables: words and input in, status and text out.
+//! Tests that cross crates, as tables: whole runs, with words and input in, status and text out; and searches by
+//! both engines, with slots.
 #![tactic(auto)]
 
 #[cfg(test)]
@@ -7,6 +8,8 @@ mod ends;
 mod limits;
 #[cfg(test)]
 mod rows;
+#[cfg(test)]
+mod slots;
 #[cfg(test)]
 mod standard;
 #[cfg(test)]

@@ -350,7 +350,7 @@ fn each_number_of_slots(rt: HostRuntime) -> Result<(), Fail> {
 }
 
 #[test]
-fn the_first_alternative_is_preferred(rt: HostRuntime) -> Result<(), Fail> {
+fn the_slots_of_the_first_alternative(rt: HostRuntime) -> Result<(), Fail> {
     let alloc = rt.alloc();
     let vm = engine(&rt, alloc, &["a|ab"], MatchKind::LeftmostFirst)?;
     let mut cache = vm.create_cache(alloc)?;
