@@ -1,12 +1,11 @@
 -- What a strategy tells of the next match, under each kind of captures.
-use Rattle.std.proofs.Common.{◌≡◌, ℕ, ◌≤◌, List, refl, sym, ◌∙◌, ap, subst, arith}
-use Rattle.std.specs.Prelude.{Bool, true, false, Option, Some, None, option_map, is_some, IfSome, if◌then◌else◌}
+use Rattle.std.proofs.Common.{◌≡◌, ℕ, List, refl, sym, ◌∙◌, ap, subst, arith}
+use Rattle.std.specs.Prelude.{true, false, Option, Some, None, option_map, IfSome}
 use Rattle.rx_model.specs.Search.{Patterns, WhichCaptures, all, implicit, none, Match, told_of}
 use Rattle.rx_model.proofs.RunLemmas.{by_test}
 use Rattle.rx_model.proofs.WithinLemmas.{next-later}
 use Rattle.rx_search.specs.Input.{InputValue, next_in}
 use Rattle.rx_search.specs.Matches.{match_value, MatchValue}
-use Rattle.rx_thompson.proofs.NextMatchLemmas.{told_of-all}
 use Rattle.rx_engines.specs.Engine.{HasSlots, IsMatchWith as IsToldMatchWith}
 use Rattle.rx_strategy.specs.Strategy.{StrategyValue, IsOf, IsMatchWith, tells, next_match_in, told_in, told_for}
 
@@ -19,16 +18,6 @@ told_of-whole none e m = cc
 told-whole : (w : WhichCaptures) → tells w ≡ true → (o : Option Match) → option_map (told_of w) o ≡ o
 told-whole w e None = refl
 told-whole w e (Some m) = ap Some (told_of-whole w e m)
-
--- an answer is there exactly where a match is
-pub is_some-value : (o : Option Match) → is_some (option_map match_value o) ≡ is_some o
-is_some-value None = refl
-is_some-value (Some m) = refl
-
--- what holds of what is there
-pub each-found : {A : Type 0} (P Q : A → Type 0) (o : Option A) → ((x : A) → P x → Q x) → IfSome o P → IfSome o Q
-each-found P Q None f p = tt
-each-found P Q (Some x) f p = f x p
 
 module _ (s : StrategyValue) (v : InputValue) where
   pub told_in-yes : tells s.which_captures ≡ true → told_in s v ≡ next_match_in s v

@@ -1,9 +1,9 @@
 -- What the searches of a strategy write to.
-use Rattle.std.specs.Prelude.{◌≡◌, ℕ, ◌+◌, ◌-◌, ◌^◌, min, true, false, Option, Some, None, MatchOption, refl}
+use Rattle.std.specs.Prelude.{◌≡◌, ℕ, ◌+◌, ◌-◌, ◌^◌, min, true, false, Option, Some, None, MatchOption, if◌then◌else◌, refl}
 use Rattle.std.specs.Coded.{Coded, code_by, coded×, coded_option}
 use Rattle.rx_engines.specs.Room as pike
 use Rattle.rx_engines.specs.Bounded as bounded
-use Rattle.rx_engines.specs.Engine.{Fits as FitsPikeVM}
+use Rattle.rx_engines.specs.Engine.{accounted_memory, Fits as FitsPikeVM}
 use Rattle.rx_strategy.specs.Strategy.{StrategyValue, pikevm_of}
 
 -- the room for each engine
@@ -33,3 +33,11 @@ backtrack_memory (Some room) = room.memory
 -- what is accounted for the caches of the engines, up to the greatest number of 64 bits
 abbrev pub memory_of : CacheValue → ℕ
 memory_of c = min (2 ^ 64 - 1) (c.pikevm.memory + backtrack_memory c.backtrack)
+
+-- what is accounted for the backtracker's cache of a strategy
+abbrev pub accounted_backtrack : StrategyValue → ℕ
+accounted_backtrack s = if s.backtracks then accounted_memory s.nfa else 0
+
+-- what is accounted for a cache that is made for the strategy, which has as much for each engine
+abbrev pub accounted_for : StrategyValue → ℕ
+accounted_for s = min (2 ^ 64 - 1) (accounted_memory s.nfa + accounted_backtrack s)

@@ -1,5 +1,5 @@
 ghost use Rattle.std.specs.Prelude.{◌≡◌, IfOk, OnOk, OnErr};
-ghost use Rattle.rx_strategy.specs.Cache.{Fits, backtrack_memory, memory_of};
+ghost use Rattle.rx_strategy.specs.Cache.{Fits, backtrack_memory, memory_of, accounted_for};
 
 use crate::strategy::Core;
 use rx_engines::{backtrack, pikevm};
@@ -27,14 +27,16 @@ impl Model for Cache {
 impl Cache {
     /// A cache that serves this strategy.
     pub fn new(alloc: Global, core: &Core) -> Result<Cache, Memory>
-        ensures { IfOk result (Fits core.now) }
+        ensures fits { IfOk result (Fits core.now) }
+        ensures memory { IfOk result (λ c. memory_of c ≡ accounted_for core.now) }
     {
         core.create_cache(alloc)
     }
 
     /// Makes the cache one that serves this strategy. Where there is no memory, it stays as it was.
     pub fn reset(&mut self, alloc: Global, core: &Core) -> Result<(), Memory>
-        ensures ok { OnOk result (Fits core.now self.new) }
+        ensures fits { OnOk result (Fits core.now self.new) }
+        ensures memory { OnOk result (memory_of self.new ≡ accounted_for core.now) }
         ensures err { OnErr result (self.new ≡ self.old) }
     {
         *self = Cache::new(alloc, core)?;

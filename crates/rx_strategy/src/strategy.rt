@@ -7,7 +7,7 @@ ghost use Rattle.rx_engines.specs.Engine.{HasSlots, IsMatchWith as IsToldMatchWi
 ghost use Rattle.rx_engines.specs.Bounded.{Fits as FitsBounded, IsNfaOf, next_match_within};
 ghost use Rattle.rx_strategy.specs.Config.{kind_of, captures_of, has_backtracker};
 ghost use Rattle.rx_strategy.specs.Strategy.{IsOf, tells, told_in, told_for, next_match_in, IsMatchWith};
-ghost use Rattle.rx_strategy.specs.Cache.{Fits, FitsBacktracker};
+ghost use Rattle.rx_strategy.specs.Cache.{Fits, FitsBacktracker, backtrack_memory, memory_of, accounted_backtrack, accounted_for};
 
 use crate::cache::Cache;
 use crate::config::Config;
@@ -73,7 +73,8 @@ impl Core {
 
     /// A cache that serves this strategy.
     pub fn create_cache(&self, alloc: Global) -> Result<Cache, Memory>
-        ensures { IfOk result (Fits self.now) }
+        ensures fits { IfOk result (Fits self.now) }
+        ensures memory { IfOk result (λ c. memory_of c ≡ accounted_for self.now) }
     {
         let pikevm = self.pikevm.create_cache(alloc)?;
         let backtrack = self.backtrack_cache(alloc)?;
@@ -82,7 +83,8 @@ impl Core {
 
     /// A cache for the backtracker, where there is one.
     fn backtrack_cache(&self, alloc: Global) -> Result<Option<backtrack::Cache>, Memory>
-        ensures { IfOk result (FitsBacktracker self.now) }
+        ensures fits { IfOk result (FitsBacktracker self.now) }
+        ensures memory { IfOk result (λ c. backtrack_memory c ≡ accounted_backtrack self.now) }
     {
         match &self.backtrack {
             Some(engine) => Ok(Some(engine.create_cache(alloc)?)),
@@ -215,29 +217,10 @@ fn try_search(
     ensures cache { cache.new ≡ cache.old }
 {
     match cache {
-        Some(cache) => answered(engine, cache, input, slots),
+        Some(cache) => match engine.try_find_slots(cache, input, slots) {
+            Ok(found) => Some(found),
+            Err(_) => None,
+        },
         None => None,
-    }
-}
-
-/// What the engine answers. None where it has no answer.
-fn answered(
-    engine: &BoundedBacktracker,
-    cache: &mut backtrack::Cache,
-    input: &Input<'_>,
-    slots: &mut [Option<NonMaxUsize>],
-) -> Option<Option<Match>>
-    requires { FitsBounded engine.now cache.old }
-    ensures value { IfSome result (λ found. found ≡ option_map match_value (next_match_within engine.now input.now)) }
-    ensures patterns { IfSome result (λ _. (r : Patterns) → IsNfaOf engine.now r
-        → next_match_within engine.now input.now ≡ option_map (told_of r.which_captures) (next_in r input.now)) }
-    ensures slots { IfSome result (λ _. IfSome (next_match_within engine.now input.now) (HasSlots slots.new)) }
-    ensures none { IfSome result (λ found. IfNone found (slots.new ≡ replicate (length slots.old) None)) }
-    ensures within { IfSome result (λ found. IfSome found (λ m. (input.now.start ≤ m.start) × (m.end ≤ input.now.end))) }
-    ensures cache { cache.new ≡ cache.old }
-{
-    match engine.try_find_slots(cache, input, slots) {
-        Ok(found) => Some(found),
-        Err(_) => None,
     }
 }
