@@ -4,7 +4,6 @@ use Rattle.std.proofs.Common.{Bor, map, subst}
 use Rattle.std.specs.Prelude.{MatchResult}
 use Rattle.std.proofs.lemmas.List.{drop_more, drop_all, get_or-map, length-map}
 use Rattle.rx_model.specs.Expression.{Expression}
-use Rattle.rx_syntax.specs.declared.error.SyntaxError.{SyntaxError}
 use Rattle.rx_meta.specs.Reading.{Refused, reading, read_before, readings, reading_of, Refuses, RefusesAt}
 use Rattle.rx_meta.specs.declared.error.BuildError.{BuildError}
 use Rattle.rx_meta.specs.declared.error.BuildError.TheVariants.{Syntax, NFA, Memory}

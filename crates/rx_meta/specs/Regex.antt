@@ -1,5 +1,4 @@
 -- What a regex is to a contract.
-use Rattle.std.specs.Prelude.{ℕ}
 use Rattle.rx_model.specs.Search.{Patterns}
 use Rattle.rx_search.specs.Matches.{MatchValue, HalfMatchValue}
 use Rattle.rx_strategy.specs.Strategy as strategy

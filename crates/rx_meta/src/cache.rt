@@ -1,5 +1,5 @@
 ghost use Rattle.std.specs.Prelude.{◌≡◌, IfOk, OnOk, OnErr};
-ghost use Rattle.rx_strategy.specs.Cache.{Fits, memory_of};
+ghost use Rattle.rx_strategy.specs.Cache.{Fits, memory_of, accounted_for};
 
 use crate::regex::Regex;
 use rx_search::Memory;
@@ -25,14 +25,16 @@ impl Model for Cache {
 impl Cache {
     /// A cache that serves this regex.
     pub fn new(alloc: Global, regex: &Regex) -> Result<Cache, Memory>
-        ensures { IfOk result (Fits regex.now.strategy) }
+        ensures fits { IfOk result (Fits regex.now.strategy) }
+        ensures memory { IfOk result (λ c. memory_of c ≡ accounted_for regex.now.strategy) }
     {
         regex.create_cache(alloc)
     }
 
     /// Makes any cache one that serves this regex. Where there is no memory, it stays as it was.
     pub fn reset(&mut self, alloc: Global, regex: &Regex) -> Result<(), Memory>
-        ensures ok { OnOk result (Fits regex.now.strategy self.new) }
+        ensures fits { OnOk result (Fits regex.now.strategy self.new) }
+        ensures memory { OnOk result (memory_of self.new ≡ accounted_for regex.now.strategy) }
         ensures err { OnErr result (self.new ≡ self.old) }
     {
         *self = regex.create_cache(alloc)?;

@@ -5,7 +5,7 @@ ghost use Rattle.rx_search.specs.Input.{next_in};
 ghost use Rattle.rx_search.specs.Matches.{match_value, half_match_value};
 ghost use Rattle.rx_engines.specs.Engine.{HasSlots};
 ghost use Rattle.rx_strategy.specs.Config.{nothing_set};
-ghost use Rattle.rx_strategy.specs.Cache.{Fits};
+ghost use Rattle.rx_strategy.specs.Cache.{Fits, memory_of, accounted_for};
 ghost use Rattle.rx_strategy.specs.Strategy.{told_in, told_for, next_match_in, IsMatchWith};
 ghost use Rattle.rx_meta.specs.Build.{IsBuiltOf, IsRefusedFor};
 ghost use Rattle.rx_meta.specs.Regex.{IsOf};
@@ -255,7 +255,8 @@ impl Regex {
 
     /// A cache that serves this regex.
     pub fn create_cache(&self, alloc: Global) -> Result<Cache, Memory>
-        ensures { IfOk result (Fits self.now.strategy) }
+        ensures fits { IfOk result (Fits self.now.strategy) }
+        ensures memory { IfOk result (λ c. memory_of c ≡ accounted_for self.now.strategy) }
     {
         Ok(Cache {
             engines: self.core.create_cache(alloc)?,

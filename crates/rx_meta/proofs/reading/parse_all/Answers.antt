@@ -1,4 +1,4 @@
-use Rattle.std.proofs.Common.{◌≡◌, ◌<◌, ◌≤◌, List, ℕ, min, length, Bor, get_or, [], arith}
+use Rattle.std.proofs.Common.{arith}
 use Rattle.std.proofs.lemmas.List.{length-map}
 use Rattle.std.proofs.lemmas.Result.{err_from_is_err_and}
 use Rattle.rx_meta.proofs.ReadingLemmas.{Reads-begun, Reads-more, Reads-over, Reads-fails, limit, texts_of, text-at, within-texts, at_err}
