@@ -1,4 +1,2 @@
 pub mod Error
 pub mod Reading
-pub mod Regex
-pub mod Build

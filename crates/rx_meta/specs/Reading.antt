@@ -1,8 +1,10 @@
 -- What a list of patterns reads as.
-use Rattle.std.specs.Prelude.{ℕ, ◌+◌, List, [], ◌∷◌, chars, Result, Ok, Err}
+use Rattle.std.specs.Prelude.{◌≡◌, ℕ, ◌+◌, List, [], ◌∷◌, take, chars, Result, Ok, Err}
 use Rattle.rx_model.specs.Expression.{Expression}
 use Rattle.rx_syntax.specs.Pattern.{reads}
 use Rattle.rx_syntax.specs.declared.error.SyntaxError.{SyntaxError}
+use Rattle.rx_meta.specs.declared.error.BuildError.{BuildError}
+use Rattle.rx_meta.specs.declared.error.BuildError.TheVariants.{Syntax, NFA, Memory}
 
 -- what a pattern reads as, or its refusal; groups and repetitions may nest 250 deep
 abbrev pub reading : List ℕ → Result Expression SyntaxError
@@ -23,3 +25,23 @@ read_before p (Ok h) (Ok hs) = Ok (h ∷ hs)
 unfoldable pub readings : (p : ℕ) → List (List ℕ) → Result (List Expression) Refused
 readings p [] = Ok []
 readings p (text ∷ texts) = read_before p (reading text) (readings (p + 1) texts)
+
+-- how many patterns are read
+abbrev pub pattern_limit : ℕ
+pattern_limit = 2147483647
+
+-- what the patterns that are read read as, or the first refusal
+unfoldable pub reading_of : List (List ℕ) → Result (List Expression) Refused
+reading_of texts = readings 0 (take pattern_limit texts)
+
+-- the error is the refusal that was read, unless memory ran out
+abbrev pub Refuses : BuildError → Result (List Expression) Refused → Type 0
+Refuses (Syntax pid err) r = r ≡ Err (record { pattern = pid; error = err })
+Refuses (NFA cause) r = ⊥
+Refuses Memory r = Unit {0}
+
+-- the same of the pattern of this number
+abbrev pub RefusesAt : BuildError → ℕ → Result Expression SyntaxError → Type 0
+RefusesAt (Syntax pid err) p r = (pid ≡ p) × (r ≡ Err err)
+RefusesAt (NFA cause) p r = ⊥
+RefusesAt Memory p r = Unit {0}

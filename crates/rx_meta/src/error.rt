@@ -1,5 +1,5 @@
 //! Why there is no regex.
-ghost use Rattle.std.specs.Prelude.{◌≡◌, Some, None};
+ghost use Rattle.std.specs.Prelude.{◌≡◌, option_map};
 ghost use Rattle.rx_meta.specs.declared.error.BuildError.TheVariants.{Memory as OutOfMemory};
 ghost use Rattle.rx_meta.specs.Error.{error_of, pattern_of, size_limit_of, syntax_error_of};
 

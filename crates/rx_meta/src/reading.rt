@@ -1,7 +1,6 @@
 //! Reading patterns.
-ghost use Rattle.std.specs.Prelude.{◌≡◌, ◌<◌, ◌≤◌, length, map, take, Ok, Err, MatchResult};
-ghost use Rattle.rx_meta.specs.Reading.{reading, readings};
-ghost use Rattle.rx_meta.specs.Build.{pattern_limit};
+ghost use Rattle.std.specs.Prelude.{◌≡◌, map, Ok, MatchResult};
+ghost use Rattle.rx_meta.specs.Reading.{reading, reading_of, Refuses, RefusesAt};
 
 use crate::error::BuildError;
 use rx_search::PatternID;
@@ -9,7 +8,11 @@ use rx_syntax::{Hir, ParseError, parse};
 use std::alloc::Global;
 
 /// The expressions of the patterns, of at most the first 2147483647.
-pub fn parse_all(alloc: Global, patterns: &[&str]) -> Result<Vec<Hir>, BuildError> {
+pub(crate) fn parse_all(alloc: Global, patterns: &[&str]) -> Result<Vec<Hir>, BuildError>
+    ensures { MatchResult result
+        (λ exprs. reading_of (map (λ p. p.now) patterns.now) ≡ Ok exprs.items)
+        (λ e. Refuses e (reading_of (map (λ p. p.now) patterns.now))) }
+{
     let mut exprs = Vec::new(alloc);
     for pattern in patterns {
         let Some(pid) = PatternID::new(exprs.len()) else {
@@ -22,7 +25,9 @@ pub fn parse_all(alloc: Global, patterns: &[&str]) -> Result<Vec<Hir>, BuildErro
 }
 
 /// The expression of the pattern of this number.
-fn parse_one(alloc: Global, pid: PatternID, pattern: &str) -> Result<Hir, BuildError> {
+fn parse_one(alloc: Global, pid: PatternID, pattern: &str) -> Result<Hir, BuildError>
+    ensures { MatchResult result (λ h. reading pattern.now ≡ Ok h) (λ e. RefusesAt e pid (reading pattern.now)) }
+{
     match parse(alloc, pattern) {
         Ok(expr) => Ok(expr),
         Err(ParseError::Syntax(err)) => Err(BuildError::Syntax { pid, err }),
