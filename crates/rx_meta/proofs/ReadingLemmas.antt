@@ -4,7 +4,6 @@ use Rattle.std.proofs.Common.{Bor, map, subst}
 use Rattle.std.specs.Prelude.{MatchResult}
 use Rattle.std.proofs.lemmas.List.{drop_more, drop_all, get_or-map, length-map}
 use Rattle.rx_model.specs.Expression.{Expression}
-use Rattle.rx_syntax.specs.declared.error.SyntaxError.{SyntaxError}
 use Rattle.rx_meta.specs.Reading.{Refused, reading, read_before, readings, reading_of, Refuses, RefusesAt}
 use Rattle.rx_meta.specs.declared.error.BuildError.{BuildError}
 use Rattle.rx_meta.specs.declared.error.BuildError.TheVariants.{Syntax, NFA, Memory}
@@ -61,8 +60,8 @@ Reads-more n texts k hs hs' text h r few within is read longer =
       count = omega (arith, length-append hs (h ∷ []), r.count);
       within = omega arith;
       expressions =
-      sym (after-one hs k h (readings_from n (k + 1) texts)) ∙ ap (λ s. after hs (read_before k s (readings_from n (k + 1) texts))) (sym read)
-      ∙ ap (after hs) (sym (from-more n k texts text few within is)) ∙ r.expressions;
+          sym (after-one hs k h (readings_from n (k + 1) texts)) ∙ ap (λ s. after hs (read_before k s (readings_from n (k + 1) texts))) (sym read)
+          ∙ ap (after hs) (sym (from-more n k texts text few within is)) ∙ r.expressions;
     })
 
 -- all texts that are read

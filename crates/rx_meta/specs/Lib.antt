@@ -1,2 +1,4 @@
 pub mod Error
 pub mod Reading
+pub mod Regex
+pub mod Build

@@ -30,7 +30,7 @@ readings p (text ∷ texts) = read_before p (reading text) (readings (p + 1) tex
 abbrev pub pattern_limit : ℕ
 pattern_limit = 2147483647
 
--- what the patterns that are read read as, or the first refusal
+-- what the patterns up to that many read as, or the first refusal
 unfoldable pub reading_of : List (List ℕ) → Result (List Expression) Refused
 reading_of texts = readings 0 (take pattern_limit texts)
 

@@ -36,7 +36,9 @@ impl BuildError {
         ensures { result ≡ size_limit_of self.now }
     {
         match self {
-            BuildError::NFA(rx_thompson::BuildError::ExceededSizeLimit { limit, .. }) => Some(*limit),
+            BuildError::NFA(rx_thompson::BuildError::ExceededSizeLimit { limit, .. }) => Some(
+                *limit,
+            ),
             _ => None,
         }
     }

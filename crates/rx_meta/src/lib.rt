@@ -4,7 +4,18 @@
 //! next match, with its slots, whichever strategy and engine served. It stands on rx_strategy.
 #![tactic(auto)]
 
+mod builder;
+mod cache;
 mod error;
+mod found;
 mod reading;
+mod regex;
 
+pub use builder::Builder;
+pub use cache::Cache;
 pub use error::BuildError;
+pub use regex::Regex;
+pub use rx_strategy::Config;
+
+#[cfg(test)]
+mod tests;

@@ -1,6 +1,6 @@
 //! Reading patterns.
-ghost use Rattle.std.specs.Prelude.{◌≡◌, map, Ok, MatchResult};
-ghost use Rattle.rx_meta.specs.Reading.{reading, reading_of, Refuses, RefusesAt};
+ghost use Rattle.std.specs.Prelude.{◌≡◌, ◌≤◌, length, map, Ok, MatchResult};
+ghost use Rattle.rx_meta.specs.Reading.{reading, reading_of, pattern_limit, Refuses, RefusesAt};
 
 use crate::error::BuildError;
 use rx_search::PatternID;
@@ -10,7 +10,8 @@ use std::alloc::Global;
 /// The expressions of the patterns, of at most the first 2147483647.
 pub(crate) fn parse_all(alloc: Global, patterns: &[&str]) -> Result<Vec<Hir>, BuildError>
     ensures { MatchResult result
-        (λ exprs. reading_of (map (λ p. p.now) patterns.now) ≡ Ok exprs.items)
+        (λ exprs. (reading_of (map (λ p. p.now) patterns.now) ≡ Ok exprs.items)
+        × (length patterns.now ≤ pattern_limit → length exprs.items ≡ length patterns.now))
         (λ e. Refuses e (reading_of (map (λ p. p.now) patterns.now))) }
 {
     let mut exprs = Vec::new(alloc);

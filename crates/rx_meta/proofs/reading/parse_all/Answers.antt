@@ -1,4 +1,4 @@
-use Rattle.std.proofs.Common.{◌≡◌, ◌<◌, ◌≤◌, List, ℕ, min, length, Bor, get_or, [], arith}
+use Rattle.std.proofs.Common.{arith}
 use Rattle.std.proofs.lemmas.List.{length-map}
 use Rattle.std.proofs.lemmas.Result.{err_from_is_err_and}
 use Rattle.rx_meta.proofs.ReadingLemmas.{Reads-begun, Reads-more, Reads-over, Reads-fails, limit, texts_of, text-at, within-texts, at_err}
@@ -10,7 +10,10 @@ loop-pattern-init c = Reads-begun _ _ _ c.new-exprs.ensures.items
 pub returns-in_default : goal.returns-in_default
 returns-in_default c =
     let ps = c.args.patterns.now in
-    Reads-over _ _ _ c.loop-pattern.invariant (omega (arith, c.in_default.ensures, c.len.ensures, c.loop-pattern.exprs.ok.0, c.loop-pattern.invariant.count))
+    let many = c.in_default.ensures in (
+      Reads-over (texts_of ps) _ _ c.loop-pattern.invariant (omega (arith, many, c.len.ensures, c.loop-pattern.exprs.ok.0, c.loop-pattern.invariant.count)),
+      λ few. absurd (omega (arith, few, many, c.len.ensures, c.loop-pattern.exprs.ok.0, c.loop-pattern.invariant.count, c.loop-pattern-test.true)),
+    )
 
 pub returns-in_err-expr : goal.returns-in_err-expr
 returns-in_err-expr c =
@@ -34,5 +37,7 @@ loop-pattern-preserved c =
 
 pub returns : goal.returns
 returns c =
-    let ps = c.args.patterns.now in
-    Reads-over (texts_of ps) _ _ c.loop-pattern.invariant (omega (arith, length-map ps (λ p. p.now), c.loop-pattern-test.false))
+    let ps = c.args.patterns.now in (
+      Reads-over (texts_of ps) _ _ c.loop-pattern.invariant (omega (arith, length-map ps (λ p. p.now), c.loop-pattern-test.false)),
+      λ few. omega (arith, length-map ps (λ p. p.now), c.loop-pattern-test.false, c.loop-pattern.invariant.count, c.loop-pattern.invariant.within),
+    )

@@ -1,0 +1,39 @@
+-- From what the compiler and the strategy give to a regex.
+use Rattle.std.proofs.Common.{◌≡◌, ℕ, ◌≤◌, List, length, Ok, refl, sym, ap, ◌∙◌, subst, arith}
+use Rattle.std.proofs.lemmas.List.{take_all}
+use Rattle.rx_model.specs.Expression.{Expression}
+use Rattle.rx_thompson.specs.Nfa.{Nfa}
+use Rattle.rx_thompson.specs.Compiled.{AreAllowed, IsCompiled}
+use Rattle.rx_strategy.specs.Config.{kind_of, utf8_of, captures_of, compiler_of, has_backtracker}
+use Rattle.rx_strategy.specs.Strategy.{StrategyValue}
+use Rattle.rx_strategy.specs.declared.config.Config.{Config}
+use Rattle.rx_meta.specs.Reading.{pattern_limit, readings, reading_of}
+use Rattle.rx_meta.specs.Regex.{RegexValue}
+use Rattle.rx_meta.specs.Build.{IsBuilt, IsBuiltOf}
+
+-- the strategy of an NFA under a configuration
+abbrev strategy_of : Config → Nfa → StrategyValue
+strategy_of c nfa = record { nfa = nfa; kind = kind_of c; which_captures = captures_of c; backtracks = has_backtracker c }
+
+pub built : (c : Config) (hs : List Expression) (nfa : Nfa) (core : StrategyValue) (regex : RegexValue) → IsCompiled (compiler_of c) hs nfa → AreAllowed (compiler_of c) hs → core ≡ strategy_of c nfa
+    → regex ≡ record { config = c; strategy = core } → IsBuilt c hs regex
+built c hs nfa core regex compiled allowed is made =
+    let whole : regex ≡ record { config = c; strategy = strategy_of c nfa } = made ∙ ap (λ s. record { config = c; strategy = s }) is in
+    let P : RegexValue → Type 0 = IsBuilt c hs in
+    subst P (sym whole) (record {
+      config = refl;
+      kind = refl;
+      compiled = compiled;
+      allowed = allowed;
+      is_of = λ terminator. record { runs = compiled.first_runs (utf8_of c) terminator; utf8 = sym compiled.utf8; which_captures = refl };
+    })
+
+-- all of the patterns are read, where there are few enough
+all-of : (texts : List (List ℕ)) → length texts ≤ pattern_limit → reading_of texts ≡ readings 0 texts
+unfolding reading_of
+all-of texts few = ap (readings 0) (take_all pattern_limit texts few)
+
+pub built-of : (c : Config) (texts : List (List ℕ)) (count : ℕ) (hs given : List Expression) → count ≡ length texts → reading_of texts ≡ Ok hs → given ≡ hs
+    → (regex : RegexValue) → (count ≤ pattern_limit) × IsBuilt c given regex → IsBuiltOf c texts regex
+built-of c texts count hs given counted read same regex (few, is) =
+    (hs, sym (all-of texts (omega arith)) ∙ read, subst (λ es. IsBuilt c es regex) same is)

@@ -1,0 +1,299 @@
+//! The public face: build once, search from anywhere.
+ghost use Rattle.std.specs.Prelude.{◌≡◌, ◌≤◌, ◌∷◌, [], false, length, None, replicate, is_some, map, option_map, IfOk, IfErr, IfNone, IfSome, OnErr, IsOk};
+ghost use Rattle.rx_model.specs.Search.{Patterns};
+ghost use Rattle.rx_search.specs.Input.{next_in};
+ghost use Rattle.rx_search.specs.Matches.{match_value, half_match_value};
+ghost use Rattle.rx_engines.specs.Engine.{HasSlots};
+ghost use Rattle.rx_strategy.specs.Config.{nothing_set};
+ghost use Rattle.rx_strategy.specs.Cache.{Fits, memory_of, accounted_for};
+ghost use Rattle.rx_strategy.specs.Strategy.{told_in, told_for, next_match_in, IsMatchWith};
+ghost use Rattle.rx_meta.specs.Build.{IsBuiltOf, IsRefusedFor};
+ghost use Rattle.rx_meta.specs.Regex.{IsOf};
+
+use crate::builder::Builder;
+use crate::cache::Cache;
+use crate::error::BuildError;
+use crate::found::{half_match, pattern};
+use rx_engines::empty;
+use rx_search::{GroupInfo, HalfMatch, Input, Match, Memory, NonMaxUsize, PatternID};
+use rx_strategy::{Config, Core};
+use std::alloc::Global;
+use std::marker::Model;
+use std::sync::Wait;
+
+/// Patterns that are searched for together. It is built once, and may be searched from many threads at once.
+///
+/// Under `MatchKind::LeftmostFirst`, and where the input doesn't ask for `earliest`, a search answers the next match: at
+/// the least permitted start from which a pattern matches, the first match in order of preference of the least such
+/// pattern. A search that finds nothing leaves every slot None.
+///
+/// A call that takes `rt` makes a cache for itself. A call that ends in `_with` is given one that serves this regex, takes
+/// no memory, and never fails.
+#[derive(Drop)]
+pub struct Regex {
+    config: Config,
+    core: Core,
+}
+
+impl Model for Regex {
+    ghost use Rattle.rx_meta.specs.Regex.{RegexValue};
+
+    ghost Value = { RegexValue };
+
+    ghost view = { λ r. record { config = r.config; strategy = r.core } };
+}
+
+impl Regex {
+    /// The regex of one pattern, under the default configuration. It is refused as by `new_many`.
+    pub fn new(alloc: Global, pattern: &str) -> Result<Regex, BuildError>
+        ensures built { IfOk result (IsBuiltOf nothing_set (pattern.now ∷ [])) }
+        ensures refused { IfErr result (IsRefusedFor nothing_set (pattern.now ∷ [])) }
+    {
+        Regex::builder().build(alloc, pattern)
+    }
+
+    /// The regex of these patterns, numbered from 0 on, under the default configuration. It is refused as by
+    /// `Builder::build_many`.
+    pub fn new_many(alloc: Global, patterns: &[&str]) -> Result<Regex, BuildError>
+        ensures built { IfOk result (IsBuiltOf nothing_set (map (λ p. p.now) patterns.now)) }
+        ensures refused { IfErr result (IsRefusedFor nothing_set (map (λ p. p.now) patterns.now)) }
+    {
+        Regex::builder().build_many(alloc, patterns)
+    }
+
+    /// A configuration in which nothing is set.
+    pub fn config() -> Config
+        ensures { result ≡ nothing_set }
+    {
+        Config::new()
+    }
+
+    /// A builder with the default configuration.
+    pub fn builder() -> Builder
+        ensures { result.config ≡ nothing_set }
+    {
+        Builder::new()
+    }
+
+    /// A regex that searches by this strategy, which was made under the configuration.
+    pub(crate) fn from_parts(config: Config, core: Core) -> Regex
+        ensures { result ≡ record { config = config; strategy = core } }
+    {
+        Regex { config, core }
+    }
+
+    /// Whether there is a match in the input's span, under every configuration. It stops as soon as it knows.
+    pub fn is_match<R: Wait>(
+        &self,
+        _rt: &R,
+        alloc: Global,
+        input: &Input<'_>,
+    ) -> Result<bool, Memory>
+        ensures value { IfOk result (λ yes. yes ≡ is_some (next_match_in self.now.strategy input.now)) }
+        ensures patterns { (r : Patterns) → IsOf self.now r
+            → is_some (next_match_in self.now.strategy input.now) ≡ is_some (next_in r input.now) }
+    {
+        let mut cache = self.cache_for(alloc, input)?;
+        Ok(self.core.is_match(&mut cache.engines, input))
+    }
+
+    /// As `search`.
+    pub fn find<R: Wait>(
+        &self,
+        rt: &R,
+        alloc: Global,
+        input: &Input<'_>,
+    ) -> Result<Option<Match>, Memory>
+        ensures value { input.now.earliest ≡ false → IfOk result (λ found. found ≡ option_map match_value (told_in self.now.strategy input.now)) }
+        ensures exists { IfOk result (λ found. is_some found ≡ is_some (told_in self.now.strategy input.now)) }
+        ensures patterns { (r : Patterns) → IsOf self.now r → told_in self.now.strategy input.now ≡ told_for r input.now }
+        ensures is_match { (r : Patterns) → IsOf self.now r
+            → IfOk result (λ o. IfSome o (λ found. IsMatchWith r input.now (λ m. found ≡ match_value m))) }
+        ensures within { IfOk result (λ o. IfSome o (λ m. (input.now.start ≤ m.start) × (m.end ≤ input.now.end))) }
+    {
+        self.search(rt, alloc, input)
+    }
+
+    /// The next match in the input's span. With `earliest` it is some match, and there is one exactly where there is a next
+    /// match. No match is told where the configuration asks for no captures.
+    pub fn search<R: Wait>(
+        &self,
+        _rt: &R,
+        alloc: Global,
+        input: &Input<'_>,
+    ) -> Result<Option<Match>, Memory>
+        ensures value { input.now.earliest ≡ false → IfOk result (λ found. found ≡ option_map match_value (told_in self.now.strategy input.now)) }
+        ensures exists { IfOk result (λ found. is_some found ≡ is_some (told_in self.now.strategy input.now)) }
+        ensures patterns { (r : Patterns) → IsOf self.now r → told_in self.now.strategy input.now ≡ told_for r input.now }
+        ensures is_match { (r : Patterns) → IsOf self.now r
+            → IfOk result (λ o. IfSome o (λ found. IsMatchWith r input.now (λ m. found ≡ match_value m))) }
+        ensures within { IfOk result (λ o. IfSome o (λ m. (input.now.start ≤ m.start) × (m.end ≤ input.now.end))) }
+    {
+        let mut cache = self.cache_for(alloc, input)?;
+        self.search_with(&mut cache, input)
+    }
+
+    /// The pattern and the end of the match that `search` answers.
+    pub fn search_half<R: Wait>(
+        &self,
+        _rt: &R,
+        alloc: Global,
+        input: &Input<'_>,
+    ) -> Result<Option<HalfMatch>, Memory>
+        ensures value { input.now.earliest ≡ false → IfOk result (λ found. found ≡ option_map half_match_value (told_in self.now.strategy input.now)) }
+        ensures exists { IfOk result (λ found. is_some found ≡ is_some (told_in self.now.strategy input.now)) }
+        ensures patterns { (r : Patterns) → IsOf self.now r → told_in self.now.strategy input.now ≡ told_for r input.now }
+        ensures is_match { (r : Patterns) → IsOf self.now r
+            → IfOk result (λ o. IfSome o (λ found. IsMatchWith r input.now (λ m. found ≡ half_match_value m))) }
+    {
+        let mut cache = self.cache_for(alloc, input)?;
+        self.search_half_with(&mut cache, input)
+    }
+
+    /// The pattern of the match that `search` answers. Each slot gets the place that the match leaves in it, and None where
+    /// there is no match, no such slot, or no memory.
+    pub fn search_slots<R: Wait>(
+        &self,
+        _rt: &R,
+        alloc: Global,
+        input: &Input<'_>,
+        slots: &mut [Option<NonMaxUsize>],
+    ) -> Result<Option<PatternID>, Memory>
+        ensures value { input.now.earliest ≡ false → IfOk result (λ found. found ≡ option_map (λ m. m.trace.pattern) (told_in self.now.strategy input.now)) }
+        ensures exists { IfOk result (λ found. is_some found ≡ is_some (told_in self.now.strategy input.now)) }
+        ensures patterns { (r : Patterns) → IsOf self.now r → told_in self.now.strategy input.now ≡ told_for r input.now }
+        ensures is_match { (r : Patterns) → IsOf self.now r
+            → IfOk result (λ o. IfSome o (λ found. IsMatchWith r input.now (λ m. (found ≡ m.trace.pattern) × HasSlots slots.new m))) }
+        ensures slots { input.now.earliest ≡ false → IfOk result (λ _. IfSome (told_in self.now.strategy input.now) (HasSlots slots.new)) }
+        ensures none { IfOk result (λ o. IfNone o (slots.new ≡ replicate (length slots.old) None)) }
+        ensures err { OnErr result (slots.new ≡ replicate (length slots.old) None) }
+    {
+        let Ok(mut cache) = self.cache_for(alloc, input) else {
+            empty(slots);
+            return Err(Memory);
+        };
+        self.search_slots_with(&mut cache, input, slots)
+    }
+
+    /// As `search`, with a cache that serves this regex.
+    pub fn search_with(&self, cache: &mut Cache, input: &Input<'_>) -> Result<Option<Match>, Memory>
+        requires { Fits self.now.strategy cache.old }
+        ensures value { input.now.earliest ≡ false → IfOk result (λ found. found ≡ option_map match_value (told_in self.now.strategy input.now)) }
+        ensures exists { IfOk result (λ found. is_some found ≡ is_some (told_in self.now.strategy input.now)) }
+        ensures patterns { (r : Patterns) → IsOf self.now r → told_in self.now.strategy input.now ≡ told_for r input.now }
+        ensures is_match { (r : Patterns) → IsOf self.now r
+            → IfOk result (λ o. IfSome o (λ found. IsMatchWith r input.now (λ m. found ≡ match_value m))) }
+        ensures within { IfOk result (λ o. IfSome o (λ m. (input.now.start ≤ m.start) × (m.end ≤ input.now.end))) }
+        ensures cache { cache.new ≡ cache.old }
+        ensures sure { IsOk result }
+    {
+        Ok(self.core.search(&mut cache.engines, input, &mut []))
+    }
+
+    /// As `search_half`, with a cache that serves this regex.
+    pub fn search_half_with(
+        &self,
+        cache: &mut Cache,
+        input: &Input<'_>,
+    ) -> Result<Option<HalfMatch>, Memory>
+        requires { Fits self.now.strategy cache.old }
+        ensures value { input.now.earliest ≡ false → IfOk result (λ found. found ≡ option_map half_match_value (told_in self.now.strategy input.now)) }
+        ensures exists { IfOk result (λ found. is_some found ≡ is_some (told_in self.now.strategy input.now)) }
+        ensures patterns { (r : Patterns) → IsOf self.now r → told_in self.now.strategy input.now ≡ told_for r input.now }
+        ensures is_match { (r : Patterns) → IsOf self.now r
+            → IfOk result (λ o. IfSome o (λ found. IsMatchWith r input.now (λ m. found ≡ half_match_value m))) }
+        ensures cache { cache.new ≡ cache.old }
+        ensures sure { IsOk result }
+    {
+        let found = self.core.search(&mut cache.engines, input, &mut []);
+        Ok(half_match(found))
+    }
+
+    /// As `search_slots`, with a cache that serves this regex.
+    pub fn search_slots_with(
+        &self,
+        cache: &mut Cache,
+        input: &Input<'_>,
+        slots: &mut [Option<NonMaxUsize>],
+    ) -> Result<Option<PatternID>, Memory>
+        requires { Fits self.now.strategy cache.old }
+        ensures value { input.now.earliest ≡ false → IfOk result (λ found. found ≡ option_map (λ m. m.trace.pattern) (told_in self.now.strategy input.now)) }
+        ensures exists { IfOk result (λ found. is_some found ≡ is_some (told_in self.now.strategy input.now)) }
+        ensures patterns { (r : Patterns) → IsOf self.now r → told_in self.now.strategy input.now ≡ told_for r input.now }
+        ensures is_match { (r : Patterns) → IsOf self.now r
+            → IfOk result (λ o. IfSome o (λ found. IsMatchWith r input.now (λ m. (found ≡ m.trace.pattern) × HasSlots slots.new m))) }
+        ensures slots { input.now.earliest ≡ false → IfOk result (λ _. IfSome (told_in self.now.strategy input.now) (HasSlots slots.new)) }
+        ensures none { IfOk result (λ o. IfNone o (slots.new ≡ replicate (length slots.old) None)) }
+        ensures cache { cache.new ≡ cache.old }
+        ensures sure { IsOk result }
+    {
+        let found = self.core.search(&mut cache.engines, input, slots);
+        Ok(pattern(found))
+    }
+
+    /// As `search_slots_with`, with the whole match.
+    pub fn search_match_with(
+        &self,
+        cache: &mut Cache,
+        input: &Input<'_>,
+        slots: &mut [Option<NonMaxUsize>],
+    ) -> Result<Option<Match>, Memory>
+        requires { Fits self.now.strategy cache.old }
+        ensures value { input.now.earliest ≡ false → IfOk result (λ found. found ≡ option_map match_value (told_in self.now.strategy input.now)) }
+        ensures exists { IfOk result (λ found. is_some found ≡ is_some (told_in self.now.strategy input.now)) }
+        ensures patterns { (r : Patterns) → IsOf self.now r → told_in self.now.strategy input.now ≡ told_for r input.now }
+        ensures is_match { (r : Patterns) → IsOf self.now r
+            → IfOk result (λ o. IfSome o (λ found. IsMatchWith r input.now (λ m. (found ≡ match_value m) × HasSlots slots.new m))) }
+        ensures within { IfOk result (λ o. IfSome o (λ m. (input.now.start ≤ m.start) × (m.end ≤ input.now.end))) }
+        ensures slots { input.now.earliest ≡ false → IfOk result (λ _. IfSome (told_in self.now.strategy input.now) (HasSlots slots.new)) }
+        ensures none { IfOk result (λ o. IfNone o (slots.new ≡ replicate (length slots.old) None)) }
+        ensures cache { cache.new ≡ cache.old }
+        ensures sure { IsOk result }
+    {
+        Ok(self.core.search(&mut cache.engines, input, slots))
+    }
+
+    /// A cache that serves this regex.
+    pub fn create_cache(&self, alloc: Global) -> Result<Cache, Memory>
+        ensures fits { IfOk result (Fits self.now.strategy) }
+        ensures memory { IfOk result (λ c. memory_of c ≡ accounted_for self.now.strategy) }
+    {
+        Ok(Cache {
+            engines: self.core.create_cache(alloc)?,
+        })
+    }
+
+    /// The same, for a search of this input.
+    fn cache_for(&self, alloc: Global, input: &Input<'_>) -> Result<Cache, Memory>
+        ensures fits { IfOk result (Fits self.now.strategy) }
+        ensures patterns { (r : Patterns) → IsOf self.now r → told_in self.now.strategy input.now ≡ told_for r input.now }
+        ensures exists { (r : Patterns) → IsOf self.now r
+            → is_some (next_match_in self.now.strategy input.now) ≡ is_some (next_in r input.now) }
+    {
+        // What is read tells that the span lies in the haystack, also where there is no memory for a search.
+        let _start = input.start();
+        self.create_cache(alloc)
+    }
+
+    /// How many patterns there are.
+    pub fn pattern_len(&self) -> usize
+        ensures value { result ≡ length self.now.strategy.nfa.starts }
+        ensures patterns { (r : Patterns) → IsOf self.now r → result ≡ length r.expressions }
+    {
+        self.core.get_nfa().pattern_len()
+    }
+
+    /// The groups of each pattern that have slots.
+    pub fn group_info(&self) -> &GroupInfo
+        ensures { result.now ≡ self.now.strategy.nfa.groups }
+    {
+        self.core.get_nfa().group_info()
+    }
+
+    /// The configuration that it was built under.
+    pub fn get_config(&self) -> &Config
+        ensures { result.now ≡ self.now.config }
+    {
+        &self.config
+    }
+}
