@@ -1,5 +1,7 @@
 -- Where a text is cut into lines.
-use Rattle.std.proofs.Common.{◌≡◌, ℕ, suc, ◌<◌, ◌≢◌, false, eqb, List, [], ◌∷◌, ◌++◌, length, get_or, refl, ap, ◌∙◌, arith}
+use Rattle.std.proofs.Common.{◌≡◌, ℕ, suc, ◌<◌, ◌≢◌, false, eqb, List, [], ◌∷◌, ◌++◌, length, get_or, refl, sym, ap, ◌∙◌, append_assoc, append-nil, arith}
+use Rattle.std.specs.Prelude.{map}
+use Rattle.std.proofs.lemmas.List.{map-append}
 use Rattle.std.proofs.lemmas.Bool.{ne_eqb}
 use Rattle.rx_scan.specs.Lines.{lines, line_byte}
 
@@ -32,3 +34,19 @@ pub lines-one : (bytes : List ℕ) → 0 < length bytes → HasNoNewline bytes �
 unfolding lines
 lines-one [] some h = absurd (omega arith)
 lines-one (b ∷ bytes) some h = lines-last b bytes h
+
+-- one line more was cut off
+pub lines-more : {V : Type 0} (now : V → List ℕ) (vs vs' : List V) (v : V) (line rest others : List ℕ) (whole : List (List ℕ)) → lines rest ≡ line ∷ lines others
+    → now v ≡ line → vs' ≡ vs ++ v ∷ [] → map now vs ++ lines rest ≡ whole → map now vs' ++ lines others ≡ whole
+lines-more now vs vs' v line rest others whole cut is more told =
+    ap (λ l. map now l ++ lines others) more
+    ∙ ap (λ l. l ++ lines others) (map-append now vs (v ∷ []))
+    ∙ append_assoc (map now vs) (now v ∷ []) (lines others)
+    ∙ ap (λ x. map now vs ++ (x ∷ lines others)) is
+    ∙ ap (λ l. map now vs ++ l) (sym cut) ∙ told
+
+-- no line is left
+pub lines-over : {V : Type 0} (now : V → List ℕ) (vs : List V) (rest : List ℕ) (whole : List (List ℕ)) → length rest ≡ 0 → map now vs ++ lines rest ≡ whole → map now vs ≡ whole
+unfolding lines
+lines-over now vs [] whole none told = sym (append-nil (map now vs)) ∙ told
+lines-over now vs (b ∷ rest) whole none told = absurd (omega arith)

@@ -1,6 +1,6 @@
 pub mod Answer
-pub mod Compile
 pub mod Ends
+pub mod Finder
 pub mod Lines
 pub mod Patterns
 pub mod Refused

@@ -1,5 +1,5 @@
 -- The patterns of an input: what they read as, and their slots.
-use Rattle.std.specs.Prelude.{◌≡◌, ℕ, ◌+◌, ◌*◌, ◌≤◌, Bool, true, ◌&&◌, nat_le, List, [], ◌∷◌, length, slice_index, chars, Result, Ok, Err}
+use Rattle.std.specs.Prelude.{ℕ, ◌+◌, ◌*◌, Bool, true, ◌&&◌, nat_le, List, [], ◌∷◌, length, chars, Result, Ok, Err}
 use Rattle.rx_model.specs.Expression.{Expression}
 use Rattle.rx_model.specs.Search.{Patterns, groups_before, all}
 use Rattle.rx_syntax.specs.Pattern.{reads}
@@ -45,8 +45,3 @@ abbrev pub are_small : List Expression → Bool
 are_small hs =
     (nat_le (length hs) 2147483647 && nat_le (slot_count hs) 2147483646)
     && (nat_le (nfa_states hs) 2147483647 && nat_le (32 * nfa_states hs) 10485760)
-
--- where the slots of each pattern's groups begin, and where the last ones end
-pub record AreBounds (bounds : List ℕ) (hs : List Expression) : Type 0 where
-  pub count : length bounds ≡ length hs + 1
-  pub each : (p : ℕ) → p ≤ length hs → slice_index bounds p ≡ first_slot hs p

@@ -1,8 +1,8 @@
 -- The rows of a haystack's matches, as data, and the text that tells them.
-use Rattle.std.specs.Prelude.{◌≡◌, ℕ, zero, suc, ◌+◌, ◌*◌, ◌<◌, List, [], ◌∷◌, ◌++◌, length, map, Option, Some, None, codes, decimal}
+use Rattle.std.specs.Prelude.{ℕ, zero, suc, ◌+◌, ◌*◌, List, [], ◌∷◌, ◌++◌, length, map, Option, Some, None, codes, decimal, if◌then◌else◌}
 use Rattle.std.specs.List.{flat_map}
-use Rattle.rx_model.specs.Search.{Patterns, all, Match, groups_before, slot_of, slot_value, matches, free}
-use Rattle.rx_engines.specs.Engine.{HasSlots}
+use Rattle.rx_model.specs.Search.{Patterns, WhichCaptures, all, implicit, none, Match, slot_of, slot_value, matches, free}
+use Rattle.rx_strategy.specs.Strategy.{tells}
 use Rattle.rx_scan.specs.Row.{place_text, group_count}
 use Rattle.rx_scan.specs.Slots.{pairs_text}
 
@@ -27,13 +27,22 @@ unfoldable pub places_from : Patterns → Match → (n g : ℕ) → List (Option
 places_from r m zero g = []
 places_from r m (suc n) g = group_places m (group_slot r m.trace.pattern g) ++ places_from r m n (g + 1)
 
--- the row of a match: its pattern, and the places of that pattern's groups
-abbrev pub row_of : Patterns → Match → RowValue
-row_of r m = record { pattern = m.trace.pattern; slots = places_from r m (group_count r.expressions m.trace.pattern + 1) 0 }
+-- how many groups are told of a pattern that names so many, of which the whole match is one
+abbrev pub told_count : WhichCaptures → (named : ℕ) → ℕ
+told_count all named = named + 1
+told_count implicit named = 1
+told_count none named = 0
 
--- the rows of the successive matches in a text
+-- the row of a match: its pattern, and the places of that pattern's groups that are told
+abbrev pub row_of : Patterns → Match → RowValue
+row_of r m = record {
+  pattern = m.trace.pattern;
+  slots = places_from r m (told_count r.which_captures (group_count r.expressions m.trace.pattern)) 0;
+}
+
+-- the rows of the successive matches in a text; there are none where no match is told
 abbrev pub scan_rows : Patterns → List ℕ → List RowValue
-scan_rows r text = map (row_of r) (matches r text free (length text) 0)
+scan_rows r text = if tells r.which_captures then map (row_of r) (matches r text free (length text) 0) else []
 
 -- the span of the whole match, and each group from 1 on
 abbrev pub places_text : List (Option ℕ) → List ℕ
@@ -49,12 +58,3 @@ printed line row = decimal line ++ codes ":" ++ decimal row.pattern ++ codes ":"
 unfoldable pub printed_rows : (line : ℕ) → List (List RowValue) → List ℕ
 printed_rows line [] = []
 printed_rows line (rows ∷ others) = flat_map (printed line) rows ++ printed_rows (line + 1) others
-
--- The slots are those of a match with all captures, the pattern is its own, and the slots of that pattern's groups
--- from 1 on stand from one place to the other.
-pub record AreSlotsOf (r : Patterns) (m : Match) (slots : List (Option ℕ)) (pattern from to : ℕ) : Type 0 where
-  pub left : HasSlots slots m
-  pub captures : r.which_captures ≡ all
-  pub own : pattern ≡ m.trace.pattern
-  pub begins : 0 < group_count r.expressions m.trace.pattern → from ≡ 2 * length r.expressions + 2 * groups_before m.trace.pattern r.expressions
-  pub ends : to ≡ from + 2 * group_count r.expressions m.trace.pattern

@@ -1,7 +1,6 @@
--- The text of a row from the values of slots.
+-- The text of groups from the values of slots.
 use Rattle.std.specs.Prelude.{ℕ, ◌+◌, List, [], ◌∷◌, ◌++◌, Option, codes, decimal}
-use Rattle.rx_search.specs.Matches.{MatchValue}
-use Rattle.rx_scan.specs.Row.{span_text, place_text}
+use Rattle.rx_scan.specs.Row.{place_text}
 
 -- what is told of group g, which lies from start to end
 abbrev pub group_text : (g : ℕ) → (start end : Option ℕ) → List ℕ
@@ -12,8 +11,3 @@ unfoldable pub pairs_text : List (Option ℕ) → (g : ℕ) → List ℕ
 pairs_text [] g = []
 pairs_text (start ∷ []) g = []
 pairs_text (start ∷ end ∷ rest) g = group_text g start end ++ pairs_text rest (g + 1)
-
--- the row of a match whose groups have these starts and ends
-abbrev pub row_text : (line : ℕ) → MatchValue → List (Option ℕ) → List ℕ
-row_text line m slots =
-    decimal line ++ codes ":" ++ decimal m.pattern ++ codes ":" ++ span_text m.start m.end ++ pairs_text slots 1 ++ codes "\n"

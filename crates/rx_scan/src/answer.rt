@@ -1,23 +1,29 @@
 //! The answer to an input.
-ghost use Rattle.std.specs.Prelude.{◌≡◌, true, Ok, IfOk};
-ghost use Rattle.rx_thompson.specs.Nfa.{HasFirstRuns};
+ghost use Rattle.std.specs.Prelude.{◌≡◌, Ok, IfOk, List};
+ghost use Rattle.rx_model.specs.Expression.{Expression};
+ghost use Rattle.rx_strategy.specs.Config.{nothing_set};
+ghost use Rattle.rx_meta.specs.Build.{IsBuilt};
 ghost use Rattle.rx_scan.specs.Answer.{too_long, not_utf8, refused, too_big, all_rows, answer_patterns, answer_text, answer_input};
 ghost use Rattle.rx_scan.specs.Lines.{lines};
-ghost use Rattle.rx_scan.specs.Patterns.{patterns_of, are_small};
 
-use crate::compile::{CompileError, compile};
-use crate::engine::Engine;
+use crate::lines::split_lines;
 use crate::patterns::{PatternError, parse_patterns};
 use crate::reading::INPUT_LIMIT;
 use crate::row::push_number;
-use crate::rows::push_rows;
+use crate::scan_rows::scan;
+use crate::scan_text::print_haystacks;
 use crate::status::Status;
+use rx_meta::{BuildError, Regex};
 use rx_search::{Gate, Memory};
 use rx_syntax::{Hir, SyntaxErrorKind};
-use rx_thompson::NFA;
 use std::alloc::Global;
 use std::marker::Model;
 use std::str;
+use std::sync::Wait;
+use std::thread::Threads;
+
+/// How many workers a scan has.
+const WORKERS: usize = 1;
 
 /// A status and the text that goes with it.
 #[derive(Drop)]
@@ -35,61 +41,70 @@ impl Model for Answer {
 }
 
 /// The answer to an input. `gate` is told of each haystack before it is searched.
-pub fn answer_input<G: Gate>(alloc: Global, input: &[u8], gate: &G) -> Result<Answer, Memory>
+pub fn answer_input<R: Threads + Wait + Sync, G: Gate + Sync>(
+    rt: &R,
+    alloc: Global,
+    input: &[u8],
+    gate: &G,
+) -> Result<Answer, Memory>
     ensures { IfOk result (λ a. a ≡ answer_input input.now) }
 {
     if input.len() > INPUT_LIMIT {
         return too_long(alloc);
     }
     match str::from_utf8(input) {
-        Ok(text) => answer_text(alloc, text, gate),
+        Ok(text) => answer_text(rt, alloc, text, gate),
         Err(error) => not_utf8(alloc, error.valid_up_to()),
     }
 }
 
 /// The answer to a text that is not too long.
-fn answer_text<G: Gate>(alloc: Global, text: &str, gate: &G) -> Result<Answer, Memory>
+fn answer_text<R: Threads + Wait + Sync, G: Gate + Sync>(
+    rt: &R,
+    alloc: Global,
+    text: &str,
+    gate: &G,
+) -> Result<Answer, Memory>
     ensures { IfOk result (λ a. a ≡ answer_text text.now) }
 {
     match parse_patterns(alloc, text) {
-        Ok((expressions, haystacks)) => answer_patterns(alloc, expressions, haystacks, gate),
+        Ok((expressions, haystacks)) => answer_patterns(rt, alloc, &expressions, haystacks, gate),
         Err(PatternError::Refused { pattern, kind }) => refused(alloc, pattern, kind),
         Err(PatternError::Memory) => Err(Memory),
     }
 }
 
 /// The answer to the expressions of the patterns and the text of the haystacks.
-fn answer_patterns<G: Gate>(
+fn answer_patterns<R: Threads + Wait + Sync, G: Gate + Sync>(
+    rt: &R,
     alloc: Global,
-    expressions: Vec<Hir>,
+    expressions: &[Hir],
     haystacks: &str,
     gate: &G,
 ) -> Result<Answer, Memory>
-    ensures { IfOk result (λ a. a ≡ answer_patterns (Ok expressions.items) (lines haystacks.now)) }
+    ensures { IfOk result (λ a. a ≡ answer_patterns (Ok expressions.now) (lines haystacks.now)) }
 {
-    match compile(alloc, &expressions) {
-        Ok(nfa) => all_rows(alloc, expressions, nfa, haystacks, gate),
-        Err(CompileError::TooBig) => too_big(alloc),
-        Err(CompileError::Memory) => Err(Memory),
+    match Regex::builder().build_many_from_hir(alloc, expressions) {
+        Ok(regex) => all_rows(rt, alloc, &regex, haystacks, gate),
+        Err(BuildError::NFA(_)) => too_big(alloc),
+        Err(_) => Err(Memory),
     }
 }
 
-/// The rows of the matches of these expressions, over their NFA.
-fn all_rows<G: Gate>(
+/// The rows of the regex's matches in each line of the haystacks.
+fn all_rows<R: Threads + Wait + Sync, G: Gate + Sync>(
+    rt: &R,
     alloc: Global,
-    expressions: Vec<Hir>,
-    nfa: NFA,
+    regex: &Regex,
     haystacks: &str,
     gate: &G,
 ) -> Result<Answer, Memory>
-    requires runs { HasFirstRuns nfa (patterns_of expressions.items) }
-    requires utf8 { nfa.utf8 ≡ true }
-    requires small { are_small expressions.items ≡ true }
-    ensures { IfOk result (λ a. a ≡ all_rows expressions.items (lines haystacks.now)) }
+    ensures { (hs : List Expression) → IsBuilt nothing_set hs regex.now → IfOk result (λ a. a ≡ all_rows hs (lines haystacks.now)) }
 {
-    let mut engine = Engine::new(alloc, expressions, nfa)?;
+    let haystacks = split_lines(alloc, haystacks)?;
+    let rows = scan(rt, alloc, regex, &haystacks, WORKERS, gate)?;
     let mut text = Vec::new(alloc);
-    push_rows(&mut text, haystacks, &mut engine, gate)?;
+    print_haystacks(&mut text, &rows)?;
     Ok(Answer {
         status: Status::Rows,
         text,

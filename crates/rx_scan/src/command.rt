@@ -35,7 +35,7 @@ const USAGE: &str = "usage: rxscan scan [W] [off:LETTERS]\n";
 ///
 /// The whole text is made before the first write. `gate` is told of each haystack before it is searched.
 pub fn run<R: Threads + Wait + Sync, S: Source, K: Sink, G: Gate + Sync>(
-    _rt: &R,
+    rt: &R,
     alloc: Global,
     words: &[String],
     source: &mut S,
@@ -70,7 +70,7 @@ pub fn run<R: Threads + Wait + Sync, S: Source, K: Sink, G: Gate + Sync>(
     if !is_scan(words) {
         return finish(sink, Status::Usage, USAGE.as_bytes());
     }
-    match answer_source(alloc, source, gate) {
+    match answer_source(rt, alloc, source, gate) {
         Ok(answer) => finish_answer(sink, answer),
         Err(ReadError::Source) => code_of(Status::SourceFailed),
         Err(ReadError::Memory) => code_of(Status::OutOfMemory),
@@ -95,7 +95,8 @@ fn finish_answer<K: Sink>(sink: &mut K, answer: Answer) -> u8
 }
 
 /// Reads the input and answers it.
-fn answer_source<S: Source, G: Gate + Sync>(
+fn answer_source<R: Threads + Wait + Sync, S: Source, G: Gate + Sync>(
+    rt: &R,
     alloc: Global,
     source: &mut S,
     gate: &G,
@@ -106,6 +107,6 @@ fn answer_source<S: Source, G: Gate + Sync>(
     ensures takes { GivesAtMost (S.left source.old) (S.left source.new) 16777217 }
 {
     let input = read_input(alloc, source)?;
-    let answer = answer_input(alloc, &input, gate)?;
+    let answer = answer_input(rt, alloc, &input, gate)?;
     Ok(answer)
 }

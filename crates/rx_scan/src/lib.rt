@@ -6,15 +6,13 @@
 
 mod answer;
 mod command;
-mod compile;
 mod ends;
-mod engine;
+mod finder;
 mod lines;
 mod memory_ends;
 mod patterns;
 mod reading;
 mod row;
-mod rows;
 mod scan_row;
 mod scan_rows;
 mod scan_text;
@@ -27,5 +25,6 @@ pub use command::run;
 pub use ends::{Failed, Sink, Source};
 pub use memory_ends::{Bytes, BytesSure, Kept, KeptSure};
 pub use scan_row::{Row, Slots};
+pub use scan_rows::{ScanError, scan};
 pub use scan_text::rows_print_as_their_matches;
 pub use standard::{StandardInput, StandardOutput};

@@ -1,10 +1,10 @@
 //! The text of a row.
 ghost use Rattle.std.specs.Prelude.{◌≡◌, ◌++◌, ℕ, List, codes, decimal, length, OnOk};
 ghost use Rattle.rx_scan.specs.Row.{span_text, place_text};
-ghost use Rattle.rx_scan.specs.Slots.{group_text, pairs_text, row_text};
+ghost use Rattle.rx_scan.specs.Slots.{group_text, pairs_text};
 
 use itoa::Buffer;
-use rx_search::{Match, Memory, NonMaxUsize};
+use rx_search::{Memory, NonMaxUsize};
 
 /// Appends a number.
 pub fn push_number(text: &mut Vec<u8>, n: usize) -> Result<(), Memory>
@@ -69,24 +69,5 @@ pub fn push_groups(text: &mut Vec<u8>, slots: &[Option<NonMaxUsize>]) -> Result<
         group += 1;
         at += 2;
     }
-    Ok(())
-}
-
-/// Appends the row of a match in this line. `slots` are the starts and ends of its groups from 1 on.
-pub fn push_row(
-    text: &mut Vec<u8>,
-    line: usize,
-    found: &Match,
-    slots: &[Option<NonMaxUsize>],
-) -> Result<(), Memory>
-    ensures { OnOk result (text.new.items ≡ text.old.items ++ row_text line found.now slots.now) }
-{
-    push_number(text, line)?;
-    text.extend_from_slice(b":")?;
-    push_number(text, found.pattern().as_usize())?;
-    text.extend_from_slice(b":")?;
-    push_span(text, found.start(), found.end())?;
-    push_groups(text, slots)?;
-    text.extend_from_slice(b"\n")?;
     Ok(())
 }

@@ -2,10 +2,10 @@ use Rattle.rx_scan.proofs.ScanRowLemmas.{row-printed, haystack-printed, rows-pri
 use Rattle.rx_scan.proofs.scan_text.rows_print_as_their_matches.Goals as goal
 
 pub returns-clause-one : goal.returns-clause-one
-returns-clause-one c = λ r text b a line m e. row-printed r text b a line m e
+returns-clause-one c = λ r text b a line m captures e. row-printed r text b a line m captures e
 
 pub returns-clause-haystack : goal.returns-clause-haystack
-returns-clause-haystack c = λ r line text. haystack-printed r line text
+returns-clause-haystack c = λ r line text captures. haystack-printed r line text captures
 
 pub returns-clause-every : goal.returns-clause-every
-returns-clause-every c = λ r line texts. rows-printed r line texts
+returns-clause-every c = λ r line texts captures. rows-printed r line texts captures

@@ -1,0 +1,19 @@
+use Rattle.std.proofs.Common.{◌≢◌, length, sym, ap, ◌∙◌, arith}
+use Rattle.std.specs.Prelude.{map}
+use Rattle.std.proofs.lemmas.Bool.{eqb-true, eqb-false}
+use Rattle.rx_scan.proofs.LineLemmas.{lines-more, lines-over}
+use Rattle.rx_scan.proofs.lines.split_lines.Goals as goal
+
+pub split_line-requires : goal.split_line-requires
+split_line-requires c =
+    let some : length c.loop-rest.rest.now ≢ 0 = eqb-false _ _ (sym c.loop-rest-test.ensures) in
+    omega arith
+
+pub loop-rest-preserved : goal.loop-rest-preserved
+loop-rest-preserved c = record {
+  told = lines-more (λ line. line.now) _ _ _ _ _ _ _ c.split_line.ensures.lines c.as_bytes.ensures.value c.in_ok-push.ensures.items c.loop-rest.invariant.told;
+  utf8 = c.split_line.ensures.utf8;
+}
+
+pub returns : goal.returns
+returns c = lines-over (λ line. line.now) _ _ _ (eqb-true _ _ (sym c.loop-rest-test.ensures)) c.loop-rest.invariant.told
