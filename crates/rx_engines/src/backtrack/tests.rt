@@ -96,31 +96,65 @@ fn a_span_may_be_too_long(rt: HostRuntime) -> Result<(), Fail> {
     Ok(())
 }
 
+/// What is found in a span of `xabab`.
+fn find_within(
+    rt: &impl Abort,
+    alloc: Global,
+    backtracker: &BoundedBacktracker,
+    mode: Anchored,
+    start: usize,
+    end: usize,
+) -> Result<Option<(usize, usize, usize)>, Fail> {
+    assert!(rt; end <= 5 && start <= end);
+    let mut input = Input::new(b"xabab").anchored(mode);
+    input.set_span(Span { start, end });
+    find(rt, alloc, backtracker, &input, &mut [])
+}
+
 #[test]
 fn searches_within_the_span(rt: HostRuntime) -> Result<(), Fail> {
     let alloc = rt.alloc();
-    let backtracker = engine(&rt, alloc, &["b", "ab?"], true)?;
-    let second = PatternID::new(1).expect(&rt, "a number of a pattern");
-    let cases = [
-        (Anchored::No, 0, 5, Some((1, 1, 3))),
-        (Anchored::No, 2, 5, Some((0, 2, 3))),
-        (Anchored::No, 0, 2, Some((1, 1, 2))),
-        (Anchored::No, 0, 1, None),
-        (Anchored::Yes, 0, 5, None),
-        (Anchored::Yes, 1, 5, Some((1, 1, 3))),
-        (Anchored::Pattern(PatternID::ZERO), 1, 5, None),
-        (Anchored::Pattern(second), 3, 5, Some((1, 3, 5))),
-        (Anchored::Pattern(PatternID::MAX), 1, 5, None),
-    ];
-    for (anchored, start, end, want) in cases {
-        for earliest in [false, true] {
-            let mut input = Input::new(b"xabab").anchored(anchored).earliest(earliest);
-            assert!(rt; end <= 5 && start <= end);
-            input.set_span(Span { start, end });
-            let found = find(&rt, alloc, &backtracker, &input, &mut [])?;
-            assert_eq!(rt; found, want);
-        }
-    }
+    let engine = engine(&rt, alloc, &["b", "ab?"], true)?;
+    let first = Anchored::Pattern(PatternID::ZERO);
+    let second = Anchored::Pattern(PatternID::new(1).expect(&rt, "a number of a pattern"));
+    let none = Anchored::Pattern(PatternID::MAX);
+    assert_eq!(rt;
+        find_within(&rt, alloc, &engine, Anchored::No, 0, 5)?,
+        Some((1, 1, 3))
+    );
+    assert_eq!(rt;
+        find_within(&rt, alloc, &engine, Anchored::No, 2, 5)?,
+        Some((0, 2, 3))
+    );
+    assert_eq!(rt;
+        find_within(&rt, alloc, &engine, Anchored::No, 0, 2)?,
+        Some((1, 1, 2))
+    );
+    assert_eq!(rt; find_within(&rt, alloc, &engine, Anchored::No, 0, 1)?, None);
+    assert_eq!(rt;
+        find_within(&rt, alloc, &engine, Anchored::Yes, 0, 5)?,
+        None
+    );
+    assert_eq!(rt;
+        find_within(&rt, alloc, &engine, Anchored::Yes, 1, 5)?,
+        Some((1, 1, 3))
+    );
+    assert_eq!(rt; find_within(&rt, alloc, &engine, first, 1, 5)?, None);
+    assert_eq!(rt;
+        find_within(&rt, alloc, &engine, second, 3, 5)?,
+        Some((1, 3, 5))
+    );
+    assert_eq!(rt; find_within(&rt, alloc, &engine, none, 1, 5)?, None);
+    Ok(())
+}
+
+#[test]
+fn earliest_changes_nothing(rt: HostRuntime) -> Result<(), Fail> {
+    let alloc = rt.alloc();
+    let engine = engine(&rt, alloc, &["a+"], true)?;
+    let input = Input::new(b"xaa").earliest(true);
+    let found = find(&rt, alloc, &engine, &input, &mut [])?;
+    assert_eq!(rt; found, Some((0, 1, 3)));
     Ok(())
 }
 

@@ -265,26 +265,35 @@ fn engine(
     Ok(PikeVM::build_from_nfa(nfa.ok().expect(rt, "an NFA"), kind))
 }
 
+/// The pattern, the start and the end that the engine of one pattern finds.
+fn find_first(
+    rt: &impl Abort,
+    alloc: Global,
+    pattern: &str,
+    input: &Input<'_>,
+) -> Result<(usize, usize, usize), Fail> {
+    let vm = engine(rt, alloc, &[pattern], MatchKind::LeftmostFirst)?;
+    let mut cache = vm.create_cache(alloc)?;
+    let found = vm.find(&mut cache, input).expect(rt, "a match");
+    Ok((found.pattern().as_usize(), found.start(), found.end()))
+}
+
 #[test]
 fn earliest_ends_where_a_match_ends_first(rt: HostRuntime) -> Result<(), Fail> {
     let alloc = rt.alloc();
-    // the second pattern starts later and ends first
-    let cases = [
-        ("a+", "xaaa", (0, 1, 4), (0, 1, 2)),
-        ("abcd|c", "abcd", (0, 0, 4), (0, 2, 3)),
-    ];
-    for (text, haystack, late, early) in cases {
-        let vm = engine(&rt, alloc, &[text], MatchKind::LeftmostFirst)?;
-        let mut cache = vm.create_cache(alloc)?;
-        for (earliest, want) in [(false, late), (true, early)] {
-            let input = Input::new(haystack.as_bytes()).earliest(earliest);
-            let found = vm.find(&mut cache, &input).expect(&rt, "a match");
-            assert_eq!(rt;
-                (found.pattern().as_usize(), found.start(), found.end()),
-                want
-            );
-        }
-    }
+    let late = Input::new(b"xaaa");
+    assert_eq!(rt; find_first(&rt, alloc, "a+", &late)?, (0, 1, 4));
+    assert_eq!(rt;
+        find_first(&rt, alloc, "a+", &late.earliest(true))?,
+        (0, 1, 2)
+    );
+    // the second alternative starts later and ends first
+    let late = Input::new(b"abcd");
+    assert_eq!(rt; find_first(&rt, alloc, "abcd|c", &late)?, (0, 0, 4));
+    assert_eq!(rt;
+        find_first(&rt, alloc, "abcd|c", &late.earliest(true))?,
+        (0, 2, 3)
+    );
     Ok(())
 }
 
