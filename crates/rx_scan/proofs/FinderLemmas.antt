@@ -1,8 +1,9 @@
 -- What a finder with a regex finds, and the rows that it tells.
-use Rattle.std.proofs.Common.{◌≡◌, ℕ, zero, suc, ◌+◌, ◌-◌, ◌<◌, ◌≤◌, Bool, true, false, cond, List, [], ◌∷◌, ◌++◌, length, get_or, Option, Some, None, refl, sym, ap, ◌∙◌, append_assoc, append-nil, arith}
+use Rattle.std.proofs.Common.{◌≡◌, ℕ, zero, suc, ◌+◌, ◌-◌, ◌<◌, ◌≤◌, Bool, true, false, cond, List, [], ◌∷◌, ◌++◌, length, take, get_or, Option, Some, None, refl, sym, ap, ◌∙◌, append_assoc, append-nil, add-one, arith}
 use Rattle.std.specs.Prelude.{map, replicate, option_map, nat_lt, MatchOption}
 use Rattle.std.proofs.lemmas.Bool.{ltb-true, ltb-false}
-use Rattle.std.proofs.lemmas.List.{get_or_read, length-replicate}
+use Rattle.std.proofs.Math.Seq.{take-suc}
+use Rattle.std.proofs.lemmas.List.{get_or_read, length-replicate, map-append}
 use Rattle.std.proofs.lemmas.Option.{slice_get_within}
 use Rattle.rx_model.specs.Expression.{Expression}
 use Rattle.rx_model.specs.Search.{Patterns, WhichCaptures, all, implicit, none, Match, greatest_group, slot_value, matches, matches_from, free, is_empty_at, next_after}
@@ -14,12 +15,15 @@ use Rattle.rx_search.specs.Input.{InputValue, from_place, next_in, whole}
 use Rattle.rx_search.specs.Matches.{MatchValue}
 use Rattle.rx_search.specs.Searcher.{SearcherValue, moved_past, search_from, match_after, upcoming, places_left, fresh, to_come, successive}
 use Rattle.rx_search.proofs.SearcherLemmas.{successive-matches}
-use Rattle.rx_thompson.specs.Compiled.{groups_of}
+use Rattle.rx_thompson.specs.Compiled.{patterns_of, groups_of}
 use Rattle.rx_thompson.proofs.NextMatchLemmas.{next_match_of-patterns}
 use Rattle.rx_engines.specs.Engine.{HasSlots}
 use Rattle.rx_strategy.specs.Strategy.{StrategyValue, IsOf, tells, told_in, told_for}
 use Rattle.rx_strategy.proofs.StrategyLemmas.{told-agrees}
+use Rattle.rx_strategy.specs.Config.{utf8_of, captures_of}
+use Rattle.rx_strategy.specs.declared.config.Config.{Config}
 use Rattle.rx_meta.specs.Regex.{RegexValue}
+use Rattle.rx_meta.specs.Build.{IsBuilt}
 use Rattle.rx_scan.specs.Finder.{places_in, row_in, IsFor}
 use Rattle.rx_scan.specs.Row.{group_count}
 use Rattle.rx_scan.specs.ScanRow.{RowValue, group_slot, group_places, places_from, told_count, row_of, scan_rows}
@@ -219,3 +223,17 @@ pub moved-place : (found : Option MatchValue) (m : MatchValue) (old new : Search
 moved-place found m old new v some moved place i =
     let moves : new ≡ moved_past m old = rw some at moved in
     ap (λ (s : SearcherValue). from_place i s.input) moves ∙ place i
+
+-- a regex that was built is for the patterns that it was built of
+pub built-for : (config : Config) (hs : List Expression) (terminator : ℕ) (regex : RegexValue) → IsBuilt config hs regex
+    → IsFor regex (patterns_of hs (utf8_of config) terminator (captures_of config))
+built-for config hs terminator regex built = record { is_of = built.is_of terminator; groups = built.compiled.groups }
+
+-- one haystack more was scanned
+pub scanned-more : {V W R : Type 0} (items : V → R) (f : W → R) (vs vs' : List V) (ws : List W) (k : ℕ) (v : V) (d : W) → k < length ws
+    → vs' ≡ vs ++ v ∷ [] → items v ≡ f (get_or ws k d) → map items vs ≡ map f (take k ws) → map items vs' ≡ map f (take (k + 1) ws)
+scanned-more items f vs vs' ws k v d below more same so_far =
+    ap (map items) more ∙ map-append items vs (v ∷ [])
+    ∙ (λ i. so_far i ++ same i ∷ [])
+    ∙ sym (map-append f (take k ws) (get_or ws k d ∷ []))
+    ∙ ap (map f) (sym (take-suc ws k d below) ∙ ap (λ j. take j ws) (sym (add-one k)))

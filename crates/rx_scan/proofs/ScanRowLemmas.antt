@@ -3,6 +3,7 @@ use Rattle.std.proofs.Common.{◌≡◌, ℕ, zero, suc, ◌+◌, ◌-◌, ◌*�
 use Rattle.std.specs.Prelude.{codes, decimal, map}
 use Rattle.std.specs.List.{flat_map}
 use Rattle.std.proofs.lemmas.List.{get_or-map, drop_all, length-map}
+use Rattle.std.proofs.lemmas.Simd.{map-map}
 use Rattle.rx_model.specs.Search.{Patterns, all, Match, slot_of, slot_value, next_match, matches, matches_from, free, is_empty_at, next_after}
 use Rattle.rx_model.proofs.WithinLemmas.{next-run, match-slots}
 use Rattle.rx_strategy.specs.Strategy.{tells}
@@ -92,3 +93,11 @@ unfolding printed_rows
 haystacks-over items vs line i text whole over told =
     let none : drop i (map items vs) ≡ [] = drop_all i (map items vs) (omega (arith, over, length-map vs items)) in
     sym (append-nil text) ∙ ap (λ l. text ++ printed_rows line l) (sym none) ∙ told
+
+-- the rows of all haystacks were printed
+pub all-printed : {V W : Type 0} (items : V → List RowValue) (now : W → List ℕ) (r : Patterns) (vs : List V) (ws : List W) (texts : List (List ℕ)) (old new : List ℕ) → old ≡ []
+    → new ≡ old ++ printed_rows 1 (map items vs) → map items vs ≡ map (λ w. scan_rows r (now w)) ws → map now ws ≡ texts → r.which_captures ≡ all → new ≡ rows r 1 texts
+all-printed items now r vs ws texts old new none more scanned told captures =
+    more ∙ ap (λ l. l ++ printed_rows 1 (map items vs)) none
+    ∙ ap (printed_rows 1) (scanned ∙ sym (map-map (scan_rows r) now ws) ∙ ap (map (scan_rows r)) told)
+    ∙ rows-printed r 1 texts captures

@@ -1,15 +1,21 @@
-use Rattle.std.proofs.Common.{◌≡◌, true, false, sym, ap, ◌∙◌}
+use Rattle.std.proofs.Common.{◌≡◌, sym, subst, ◌∙◌}
 use Rattle.std.proofs.lemmas.Result.{IfOk-weaker}
-use Rattle.rx_scan.specs.Patterns.{are_small}
+use Rattle.rx_strategy.specs.Config.{nothing_set}
+use Rattle.rx_strategy.specs.declared.config.Config.{Config}
+use Rattle.rx_meta.specs.Build.{IsBuilt, IsCause}
 use Rattle.rx_scan.proofs.AnswerLemmas.{answer_patterns-small, answer_patterns-big}
+use Rattle.rx_scan.proofs.PatternLemmas.{small-allowed, refused-big}
 use Rattle.rx_scan.proofs.answer.answer_patterns.Goals as goal
 
 pub returns-in-Ok : goal.returns-in-Ok
 returns-in-Ok g c =
-    let small : are_small c.args.expressions.items ≡ true = ap are_small (sym c.deref.ensures.value) ∙ c.in-Ok.ensures.2 in
-    IfOk-weaker c.all_rows.result _ _ (λ a e. e ∙ sym (answer_patterns-small c.args.expressions.items _ small)) c.all_rows.ensures
+    let hs = c.args.expressions.now in
+    let built : IsBuilt nothing_set hs c.in-Ok.regex = subst (λ (k : Config). IsBuilt k hs c.in-Ok.regex) c.builder.ensures c.in-Ok.ensures.built in
+    IfOk-weaker c.all_rows.result _ _ (λ a e. e ∙ sym (answer_patterns-small hs _ (small-allowed hs built.allowed))) (c.all_rows.ensures hs built)
 
-pub returns-in-Err-TooBig : goal.returns-in-Err-TooBig
-returns-in-Err-TooBig g c =
-    let big : are_small c.args.expressions.items ≡ false = ap are_small (sym c.deref.ensures.value) ∙ rw c.in-Err-TooBig.field-0-is at c.in-Err-TooBig.ensures in
-    IfOk-weaker c.too_big.result _ _ (λ a e. e ∙ sym (answer_patterns-big c.args.expressions.items _ big)) c.too_big.ensures
+pub returns-in-Err-NFA : goal.returns-in-Err-NFA
+returns-in-Err-NFA g c =
+    let hs = c.args.expressions.now in
+    let refused = rw c.in-Err-NFA.field-0-is at c.in-Err-NFA.ensures.refused in
+    let cause = subst (λ (k : Config). IsCause k hs c.in-Err-NFA.field-0-0) c.builder.ensures refused in
+    IfOk-weaker c.too_big.result _ _ (λ a e. e ∙ sym (answer_patterns-big hs _ (refused-big _ hs cause))) c.too_big.ensures

@@ -1,12 +1,15 @@
-use Rattle.std.proofs.Common.{sym, ◌∙◌, refl}
+use Rattle.std.proofs.Common.{Ok, sym, ap, ◌∙◌, refl}
 use Rattle.std.proofs.lemmas.Result.{IfOk-weaker}
+use Rattle.rx_scan.specs.Answer.{answer_patterns}
+use Rattle.rx_scan.specs.Lines.{lines}
 use Rattle.rx_scan.proofs.AnswerLemmas.{answer_text-is, answer_patterns-refused}
 use Rattle.rx_scan.proofs.answer.answer_text.Goals as goal
 
 pub returns-in-Ok : goal.returns-in-Ok
 returns-in-Ok g c =
     let s = c.in-Ok.ensures in
-    IfOk-weaker c.answer_patterns.result _ _ (λ a same. same ∙ sym (answer_text-is c.args.text.now _ _ s.expressions s.haystacks)) c.answer_patterns.ensures
+    IfOk-weaker c.answer_patterns.result _ _ (λ a same. same ∙ ap (λ hs. answer_patterns (Ok hs) (lines c.in-Ok.haystacks.now)) c.deref.ensures.value ∙ sym (answer_text-is c.args.text.now _ _ s.expressions s.haystacks))
+    c.answer_patterns.ensures
 
 pub returns-in-Err-Refused : goal.returns-in-Err-Refused
 returns-in-Err-Refused g c =
