@@ -66,7 +66,7 @@ pub fn scan<R: Threads + Wait + Sync, G: Gate + Sync>(
     requires { 0 < workers }
     ensures { (config : Config) (hs : List Expression) (terminator : ℕ) → IsBuilt config hs regex.now
         → IfOk result (λ rows. map vec_items rows.items
-            ≡ map (λ h. scan_rows (patterns_of hs (utf8_of config) terminator (captures_of config)) h.now) haystacks.now) }
+        ≡ map (λ h. scan_rows (patterns_of hs (utf8_of config) terminator (captures_of config)) h.now) haystacks.now) }
 {
     let mut finder = RegexFinder::new(alloc, regex)?;
     let mut all = Vec::with_capacity(alloc, haystacks.len())?;
