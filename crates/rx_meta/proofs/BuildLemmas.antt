@@ -3,7 +3,7 @@ use Rattle.std.proofs.Common.{◌≡◌, ℕ, ◌≤◌, List, length, Ok, refl,
 use Rattle.std.proofs.lemmas.List.{take_all}
 use Rattle.rx_model.specs.Expression.{Expression}
 use Rattle.rx_thompson.specs.Nfa.{Nfa}
-use Rattle.rx_thompson.specs.Compiled.{IsCompiled}
+use Rattle.rx_thompson.specs.Compiled.{AreAllowed, IsCompiled}
 use Rattle.rx_strategy.specs.Config.{kind_of, utf8_of, captures_of, compiler_of, has_backtracker}
 use Rattle.rx_strategy.specs.Strategy.{StrategyValue}
 use Rattle.rx_strategy.specs.declared.config.Config.{Config}
@@ -15,15 +15,16 @@ use Rattle.rx_meta.specs.Build.{IsBuilt, IsBuiltOf}
 abbrev strategy_of : Config → Nfa → StrategyValue
 strategy_of c nfa = record { nfa = nfa; kind = kind_of c; which_captures = captures_of c; backtracks = has_backtracker c }
 
-pub built : (c : Config) (hs : List Expression) (nfa : Nfa) (core : StrategyValue) (regex : RegexValue) → IsCompiled (compiler_of c) hs nfa → core ≡ strategy_of c nfa
+pub built : (c : Config) (hs : List Expression) (nfa : Nfa) (core : StrategyValue) (regex : RegexValue) → IsCompiled (compiler_of c) hs nfa → AreAllowed (compiler_of c) hs → core ≡ strategy_of c nfa
     → regex ≡ record { config = c; strategy = core } → IsBuilt c hs regex
-built c hs nfa core regex compiled is made =
+built c hs nfa core regex compiled allowed is made =
     let whole : regex ≡ record { config = c; strategy = strategy_of c nfa } = made ∙ ap (λ s. record { config = c; strategy = s }) is in
     let P : RegexValue → Type 0 = IsBuilt c hs in
     subst P (sym whole) (record {
       config = refl;
       kind = refl;
       compiled = compiled;
+      allowed = allowed;
       is_of = λ terminator. record { runs = compiled.first_runs (utf8_of c) terminator; utf8 = sym compiled.utf8; which_captures = refl };
     })
 

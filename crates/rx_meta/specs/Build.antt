@@ -1,7 +1,7 @@
 -- What a build answers.
 use Rattle.std.specs.Prelude.{◌≡◌, ℕ, ◌<◌, ◌≤◌, List, length, Ok, Err}
 use Rattle.rx_model.specs.Expression.{Expression}
-use Rattle.rx_thompson.specs.Compiled.{patterns_of, IsCompiled, IsRefusal}
+use Rattle.rx_thompson.specs.Compiled.{patterns_of, AreAllowed, IsCompiled, IsRefusal}
 use Rattle.rx_thompson.specs.declared.error.BuildError.{BuildError as NfaError}
 use Rattle.rx_thompson.specs.declared.error.BuildError.TheVariants.{TooManyPatterns, TooManyGroups, TooManyStates, ExceededSizeLimit, Memory as NoMemory}
 use Rattle.rx_strategy.specs.Config.{kind_of, utf8_of, captures_of, compiler_of}
@@ -16,6 +16,8 @@ pub record IsBuilt (c : Config) (hs : List Expression) (regex : RegexValue) : Ty
   pub config : regex.config ≡ c
   pub kind : regex.strategy.kind ≡ kind_of c
   pub compiled : IsCompiled (compiler_of c) hs regex.strategy.nfa
+  -- no count and no cost passes its limit
+  pub allowed : AreAllowed (compiler_of c) hs
   -- the line terminator plays no part yet
   pub is_of : (terminator : ℕ) → IsOf regex (patterns_of hs (utf8_of c) terminator (captures_of c))
 
@@ -31,7 +33,7 @@ IsCause c hs NoMemory = ⊥
 abbrev pub IsRefused : Config → List Expression → BuildError → Type 0
 IsRefused c hs (Syntax pid err) = ⊥
 IsRefused c hs (NFA cause) = IsCause c hs cause
-IsRefused c hs Memory = Unit {0}
+IsRefused c hs Memory = AreAllowed (compiler_of c) hs
 
 -- the regex of these patterns
 abbrev pub IsBuiltOf : Config → List (List ℕ) → RegexValue → Type 0

@@ -1,6 +1,6 @@
 //! From patterns to a regex.
 ghost use Rattle.std.specs.Prelude.{◌≡◌, ◌≤◌, ◌∷◌, [], length, map, IfOk, IfErr};
-ghost use Rattle.rx_thompson.specs.Compiled.{IsCompiled};
+ghost use Rattle.rx_thompson.specs.Compiled.{AreAllowed, IsCompiled};
 ghost use Rattle.rx_strategy.specs.Config.{compiler_of, nothing_set, overwritten};
 ghost use Rattle.rx_meta.specs.Reading.{pattern_limit};
 ghost use Rattle.rx_meta.specs.Build.{IsBuilt, IsRefused, IsRefusedOf, IsBuiltOf, IsRefusedFor};
@@ -99,6 +99,7 @@ impl Builder {
     /// The NFA of these expressions.
     fn compile(&self, alloc: Global, exprs: &[Hir]) -> Result<NFA, BuildError>
         ensures compiled { IfOk result (IsCompiled (compiler_of self.now.config) exprs.now) }
+        ensures allowed { IfOk result (λ _. AreAllowed (compiler_of self.now.config) exprs.now) }
         ensures refused { IfErr result (IsRefused self.now.config exprs.now) }
     {
         let mut compiler = Compiler::new();

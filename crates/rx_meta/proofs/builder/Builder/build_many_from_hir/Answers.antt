@@ -7,5 +7,5 @@ use Rattle.rx_meta.proofs.builder.Builder.build_many_from_hir.Goals as goal
 pub returns-clause-built : goal.returns-clause-built
 returns-clause-built c =
     let with_config : Config → RegexValue = λ k. record { config = k; strategy = c.in_ok-core.core } in
-    built c.args.self.now.config c.args.exprs.now c.in_ok-nfa.nfa c.in_ok-core.core c.from_parts.result c.in_ok-nfa.ensures.compiled c.in_ok-core.ensures
+    built c.args.self.now.config c.args.exprs.now c.in_ok-nfa.nfa c.in_ok-core.core c.from_parts.result c.in_ok-nfa.ensures.compiled c.in_ok-nfa.ensures.allowed c.in_ok-core.ensures
     (c.from_parts.ensures ∙ ap with_config c.clone.ensures)
