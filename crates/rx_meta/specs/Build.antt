@@ -33,7 +33,7 @@ IsCause c hs NoMemory = ⊥
 abbrev pub IsRefused : Config → List Expression → BuildError → Type 0
 IsRefused c hs (Syntax pid err) = ⊥
 IsRefused c hs (NFA cause) = IsCause c hs cause
-IsRefused c hs Memory = Unit {0}
+IsRefused c hs Memory = AreAllowed (compiler_of c) hs
 
 -- the regex of these patterns
 abbrev pub IsBuiltOf : Config → List (List ℕ) → RegexValue → Type 0

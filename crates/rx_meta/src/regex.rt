@@ -27,8 +27,8 @@ use std::sync::Wait;
 /// the least permitted start from which a pattern matches, the first match in order of preference of the least such
 /// pattern. A search that finds nothing leaves every slot None.
 ///
-/// A call that takes `rt` makes a cache for itself. A call that ends in `_with` is given one that serves this regex, takes
-/// no memory, and never fails.
+/// A call that takes `rt` makes a cache for itself, and fails where there is no memory for it. A call that ends in `_with`
+/// is given one that serves this regex, and never fails.
 #[derive(Drop)]
 pub struct Regex {
     config: Config,
@@ -82,7 +82,9 @@ impl Regex {
         Regex { config, core }
     }
 
-    /// Whether there is a match in the input's span, under every configuration. It stops as soon as it knows.
+    /// Whether there is a match in the input's span, under every configuration.
+    ///
+    /// `Memory`: there was no memory for a cache.
     pub fn is_match<R: Wait>(
         &self,
         _rt: &R,
@@ -97,7 +99,7 @@ impl Regex {
         Ok(self.core.is_match(&mut cache.engines, input))
     }
 
-    /// As `search`.
+    /// As `search`, errors included.
     pub fn find<R: Wait>(
         &self,
         rt: &R,
@@ -107,6 +109,8 @@ impl Regex {
         ensures value { input.now.earliest ≡ false → IfOk result (λ found. found ≡ option_map match_value (told_in self.now.strategy input.now)) }
         ensures exists { IfOk result (λ found. is_some found ≡ is_some (told_in self.now.strategy input.now)) }
         ensures patterns { (r : Patterns) → IsOf self.now r → told_in self.now.strategy input.now ≡ told_for r input.now }
+        ensures next { (r : Patterns) → IsOf self.now r → input.now.earliest ≡ false
+            → IfOk result (λ found. found ≡ option_map match_value (told_for r input.now)) }
         ensures is_match { (r : Patterns) → IsOf self.now r
             → IfOk result (λ o. IfSome o (λ found. IsMatchWith r input.now (λ m. found ≡ match_value m))) }
         ensures within { IfOk result (λ o. IfSome o (λ m. (input.now.start ≤ m.start) × (m.end ≤ input.now.end))) }
@@ -116,6 +120,8 @@ impl Regex {
 
     /// The next match in the input's span. With `earliest` it is some match, and there is one exactly where there is a next
     /// match. No match is told where the configuration asks for no captures.
+    ///
+    /// `Memory`: there was no memory for a cache.
     pub fn search<R: Wait>(
         &self,
         _rt: &R,
@@ -125,6 +131,8 @@ impl Regex {
         ensures value { input.now.earliest ≡ false → IfOk result (λ found. found ≡ option_map match_value (told_in self.now.strategy input.now)) }
         ensures exists { IfOk result (λ found. is_some found ≡ is_some (told_in self.now.strategy input.now)) }
         ensures patterns { (r : Patterns) → IsOf self.now r → told_in self.now.strategy input.now ≡ told_for r input.now }
+        ensures next { (r : Patterns) → IsOf self.now r → input.now.earliest ≡ false
+            → IfOk result (λ found. found ≡ option_map match_value (told_for r input.now)) }
         ensures is_match { (r : Patterns) → IsOf self.now r
             → IfOk result (λ o. IfSome o (λ found. IsMatchWith r input.now (λ m. found ≡ match_value m))) }
         ensures within { IfOk result (λ o. IfSome o (λ m. (input.now.start ≤ m.start) × (m.end ≤ input.now.end))) }
@@ -134,6 +142,8 @@ impl Regex {
     }
 
     /// The pattern and the end of the match that `search` answers.
+    ///
+    /// `Memory`: there was no memory for a cache.
     pub fn search_half<R: Wait>(
         &self,
         _rt: &R,
@@ -143,8 +153,11 @@ impl Regex {
         ensures value { input.now.earliest ≡ false → IfOk result (λ found. found ≡ option_map half_match_value (told_in self.now.strategy input.now)) }
         ensures exists { IfOk result (λ found. is_some found ≡ is_some (told_in self.now.strategy input.now)) }
         ensures patterns { (r : Patterns) → IsOf self.now r → told_in self.now.strategy input.now ≡ told_for r input.now }
+        ensures next { (r : Patterns) → IsOf self.now r → input.now.earliest ≡ false
+            → IfOk result (λ found. found ≡ option_map half_match_value (told_for r input.now)) }
         ensures is_match { (r : Patterns) → IsOf self.now r
             → IfOk result (λ o. IfSome o (λ found. IsMatchWith r input.now (λ m. found ≡ half_match_value m))) }
+        ensures within { IfOk result (λ o. IfSome o (λ h. (input.now.start ≤ h.offset) × (h.offset ≤ input.now.end))) }
     {
         let mut cache = self.cache_for(alloc, input)?;
         self.search_half_with(&mut cache, input)
@@ -152,6 +165,8 @@ impl Regex {
 
     /// The pattern of the match that `search` answers. Each slot gets the place that the match leaves in it, and None where
     /// there is no match, no such slot, or no memory.
+    ///
+    /// `Memory`: there was no memory for a cache.
     pub fn search_slots<R: Wait>(
         &self,
         _rt: &R,
@@ -162,6 +177,8 @@ impl Regex {
         ensures value { input.now.earliest ≡ false → IfOk result (λ found. found ≡ option_map (λ m. m.trace.pattern) (told_in self.now.strategy input.now)) }
         ensures exists { IfOk result (λ found. is_some found ≡ is_some (told_in self.now.strategy input.now)) }
         ensures patterns { (r : Patterns) → IsOf self.now r → told_in self.now.strategy input.now ≡ told_for r input.now }
+        ensures next { (r : Patterns) → IsOf self.now r → input.now.earliest ≡ false
+            → IfOk result (λ found. found ≡ option_map (λ m. m.trace.pattern) (told_for r input.now)) }
         ensures is_match { (r : Patterns) → IsOf self.now r
             → IfOk result (λ o. IfSome o (λ found. IsMatchWith r input.now (λ m. (found ≡ m.trace.pattern) × HasSlots slots.new m))) }
         ensures slots { input.now.earliest ≡ false → IfOk result (λ _. IfSome (told_in self.now.strategy input.now) (HasSlots slots.new)) }
@@ -181,6 +198,8 @@ impl Regex {
         ensures value { input.now.earliest ≡ false → IfOk result (λ found. found ≡ option_map match_value (told_in self.now.strategy input.now)) }
         ensures exists { IfOk result (λ found. is_some found ≡ is_some (told_in self.now.strategy input.now)) }
         ensures patterns { (r : Patterns) → IsOf self.now r → told_in self.now.strategy input.now ≡ told_for r input.now }
+        ensures next { (r : Patterns) → IsOf self.now r → input.now.earliest ≡ false
+            → IfOk result (λ found. found ≡ option_map match_value (told_for r input.now)) }
         ensures is_match { (r : Patterns) → IsOf self.now r
             → IfOk result (λ o. IfSome o (λ found. IsMatchWith r input.now (λ m. found ≡ match_value m))) }
         ensures within { IfOk result (λ o. IfSome o (λ m. (input.now.start ≤ m.start) × (m.end ≤ input.now.end))) }
@@ -200,8 +219,11 @@ impl Regex {
         ensures value { input.now.earliest ≡ false → IfOk result (λ found. found ≡ option_map half_match_value (told_in self.now.strategy input.now)) }
         ensures exists { IfOk result (λ found. is_some found ≡ is_some (told_in self.now.strategy input.now)) }
         ensures patterns { (r : Patterns) → IsOf self.now r → told_in self.now.strategy input.now ≡ told_for r input.now }
+        ensures next { (r : Patterns) → IsOf self.now r → input.now.earliest ≡ false
+            → IfOk result (λ found. found ≡ option_map half_match_value (told_for r input.now)) }
         ensures is_match { (r : Patterns) → IsOf self.now r
             → IfOk result (λ o. IfSome o (λ found. IsMatchWith r input.now (λ m. found ≡ half_match_value m))) }
+        ensures within { IfOk result (λ o. IfSome o (λ h. (input.now.start ≤ h.offset) × (h.offset ≤ input.now.end))) }
         ensures cache { cache.new ≡ cache.old }
         ensures sure { IsOk result }
     {
@@ -220,6 +242,8 @@ impl Regex {
         ensures value { input.now.earliest ≡ false → IfOk result (λ found. found ≡ option_map (λ m. m.trace.pattern) (told_in self.now.strategy input.now)) }
         ensures exists { IfOk result (λ found. is_some found ≡ is_some (told_in self.now.strategy input.now)) }
         ensures patterns { (r : Patterns) → IsOf self.now r → told_in self.now.strategy input.now ≡ told_for r input.now }
+        ensures next { (r : Patterns) → IsOf self.now r → input.now.earliest ≡ false
+            → IfOk result (λ found. found ≡ option_map (λ m. m.trace.pattern) (told_for r input.now)) }
         ensures is_match { (r : Patterns) → IsOf self.now r
             → IfOk result (λ o. IfSome o (λ found. IsMatchWith r input.now (λ m. (found ≡ m.trace.pattern) × HasSlots slots.new m))) }
         ensures slots { input.now.earliest ≡ false → IfOk result (λ _. IfSome (told_in self.now.strategy input.now) (HasSlots slots.new)) }
@@ -242,6 +266,8 @@ impl Regex {
         ensures value { input.now.earliest ≡ false → IfOk result (λ found. found ≡ option_map match_value (told_in self.now.strategy input.now)) }
         ensures exists { IfOk result (λ found. is_some found ≡ is_some (told_in self.now.strategy input.now)) }
         ensures patterns { (r : Patterns) → IsOf self.now r → told_in self.now.strategy input.now ≡ told_for r input.now }
+        ensures next { (r : Patterns) → IsOf self.now r → input.now.earliest ≡ false
+            → IfOk result (λ found. found ≡ option_map match_value (told_for r input.now)) }
         ensures is_match { (r : Patterns) → IsOf self.now r
             → IfOk result (λ o. IfSome o (λ found. IsMatchWith r input.now (λ m. (found ≡ match_value m) × HasSlots slots.new m))) }
         ensures within { IfOk result (λ o. IfSome o (λ m. (input.now.start ≤ m.start) × (m.end ≤ input.now.end))) }

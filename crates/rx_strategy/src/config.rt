@@ -65,7 +65,7 @@ impl Config {
         self
     }
 
-    /// Sets whether the bounded backtracker may be used. It changes no answer.
+    /// Sets whether the bounded backtracker may be used. It changes no answer that is promised.
     pub fn backtrack(mut self, yes: bool) -> Config
         ensures { result ≡ record self { backtrack = Some yes } }
     {
