@@ -173,6 +173,21 @@ fn nothing_is_told_without_captures(rt: HostRuntime) -> Result<(), Fail> {
     Ok(())
 }
 
+/// Values of this type may go to other threads.
+fn goes_to_threads<T: Send>(_value: &T) {}
+
+/// Values of this type may go to other threads, and be shared with them.
+fn crosses_threads<T: Send + Sync>(_value: &T) {}
+
+#[test]
+fn a_regex_crosses_threads(rt: HostRuntime) -> Result<(), Fail> {
+    let alloc = rt.alloc();
+    let regex = Regex::new(alloc, "a")?;
+    crosses_threads(&regex);
+    goes_to_threads(&cache_of(&rt, alloc, &regex));
+    Ok(())
+}
+
 #[test]
 fn an_anchor_names_a_pattern(rt: HostRuntime) -> Result<(), Fail> {
     let alloc = rt.alloc();

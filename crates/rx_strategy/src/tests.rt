@@ -135,3 +135,18 @@ fn nothing_is_told_without_captures(rt: HostRuntime) -> Result<(), Fail> {
     assert!(rt; core.is_match(&mut cache, &input));
     Ok(())
 }
+
+/// Values of this type may go to other threads.
+fn goes_to_threads<T: Send>(_value: &T) {}
+
+/// Values of this type may go to other threads, and be shared with them.
+fn crosses_threads<T: Send + Sync>(_value: &T) {}
+
+#[test]
+fn a_strategy_crosses_threads(rt: HostRuntime) -> Result<(), Fail> {
+    let alloc = rt.alloc();
+    let core = strategy(&rt, alloc, &Config::new(), "a")?;
+    crosses_threads(&core);
+    goes_to_threads(&cache_of(&rt, alloc, &core));
+    Ok(())
+}
