@@ -1,0 +1,75 @@
+ghost use Rattle.std.specs.Prelude.{◌≡◌, length, IfOk};
+ghost use Rattle.rx_search.specs.Input.{whole};
+ghost use Rattle.rx_search.specs.Searcher.{successive};
+ghost use Rattle.rx_bench.specs.Engine.{answer_of};
+
+use crate::compile::compile;
+use crate::failure::Failure;
+use crate::finders::{Backtrack, PikeVM};
+use rx_search::{Finder, Input, Match, MatchError, Searcher};
+use std::alloc::Global;
+
+/// An engine for one pattern, with what it writes to.
+#[derive(Drop)]
+pub enum Engine {
+    PikeVM(PikeVM),
+    Backtrack(Backtrack),
+}
+
+impl Engine {
+    /// The engine of this name, for this pattern.
+    ///
+    /// # Errors
+    ///
+    /// `Usage` where no engine has the name; `Pattern` where the pattern is refused; else only `Memory`.
+    pub fn new(alloc: Global, name: &str, pattern: &str) -> Result<Engine, Failure> {
+        match name {
+            "pikevm" => {
+                let nfa = compile(alloc, pattern)?;
+                Ok(Engine::PikeVM(PikeVM::new(alloc, nfa)?))
+            }
+            "backtrack" => {
+                let nfa = compile(alloc, pattern)?;
+                Ok(Engine::Backtrack(Backtrack::new(alloc, nfa)?))
+            }
+            _ => Err(Failure::Usage),
+        }
+    }
+
+    /// The number of the successive matches in all lines of the text.
+    ///
+    /// # Errors
+    ///
+    /// `Line` where the engine searches no line of some length; else only `Memory`.
+    pub fn count_in_lines(&mut self, text: &str) -> Result<usize, Failure> {
+        let mut count = 0usize;
+        for line in text.split('\n') {
+            count = count.saturating_add(self.count_in(line.as_bytes())?);
+        }
+        Ok(count)
+    }
+
+    /// The number of the successive matches in a line.
+    fn count_in(&mut self, line: &[u8]) -> Result<usize, Failure>
+        ensures { IfOk result (λ n. n ≡ length (successive (answer_of self.old) (whole line.now))) }
+    {
+        match Searcher::new(Input::new(line)).count(self) {
+            Ok(count) => Ok(count),
+            Err(MatchError::HaystackTooLong { len }) => Err(Failure::Line { len }),
+            Err(_) => Err(Failure::Memory),
+        }
+    }
+}
+
+impl Finder for Engine {
+    type Error = MatchError;
+
+    ghost searches = { answer_of };
+
+    fn find(&mut self, input: &Input<'_>) -> Result<Option<Match>, MatchError> {
+        match self {
+            Engine::PikeVM(finder) => finder.find(input),
+            Engine::Backtrack(finder) => finder.find(input),
+        }
+    }
+}

@@ -1,0 +1,77 @@
+//! The engines as finders. Each search fills all slots, as a caller who wants the groups asks for.
+ghost use Rattle.rx_engines.specs.Engine.{answer_in, Fits as PikeVMFits};
+ghost use Rattle.rx_engines.specs.Bounded.{next_match_within, Fits as BacktrackFits};
+
+use rx_engines::{backtrack, pikevm};
+use rx_search::{Finder, Input, Match, MatchError, MatchKind, Memory, NonMaxUsize};
+use rx_thompson::NFA;
+use std::alloc::Global;
+
+/// The PikeVM, with its cache and the slots of its last match.
+#[derive(Drop)]
+pub struct PikeVM {
+    vm: pikevm::PikeVM,
+    cache: pikevm::Cache,
+    slots: Vec<Option<NonMaxUsize>>,
+    ghost fits: { PikeVMFits vm cache },
+}
+
+/// The bounded backtracker, with its cache and the slots of its last match.
+#[derive(Drop)]
+pub struct Backtrack {
+    backtracker: backtrack::BoundedBacktracker,
+    cache: backtrack::Cache,
+    slots: Vec<Option<NonMaxUsize>>,
+    ghost fits: { BacktrackFits backtracker cache },
+}
+
+impl PikeVM {
+    /// The engine of this NFA.
+    pub fn new(alloc: Global, nfa: NFA) -> Result<PikeVM, Memory> {
+        let slots = empty_slots(alloc, &nfa)?;
+        let vm = pikevm::PikeVM::build_from_nfa(nfa, MatchKind::LeftmostFirst);
+        let cache = vm.create_cache(alloc)?;
+        Ok(PikeVM { vm, cache, slots })
+    }
+}
+
+impl Finder for PikeVM {
+    type Error = MatchError;
+
+    ghost searches = { λ f v. answer_in f.vm v };
+
+    fn find(&mut self, input: &Input<'_>) -> Result<Option<Match>, MatchError> {
+        Ok(self.vm.find_slots(&mut self.cache, input, &mut self.slots))
+    }
+}
+
+impl Backtrack {
+    /// The engine of this NFA.
+    pub fn new(alloc: Global, nfa: NFA) -> Result<Backtrack, Memory> {
+        let slots = empty_slots(alloc, &nfa)?;
+        let backtracker = backtrack::BoundedBacktracker::build_from_nfa(nfa);
+        let cache = backtracker.create_cache(alloc)?;
+        Ok(Backtrack {
+            backtracker,
+            cache,
+            slots,
+        })
+    }
+}
+
+impl Finder for Backtrack {
+    type Error = MatchError;
+
+    ghost searches = { λ f v. next_match_within f.backtracker v };
+
+    fn find(&mut self, input: &Input<'_>) -> Result<Option<Match>, MatchError> {
+        self.backtracker
+            .try_find_slots(&mut self.cache, input, &mut self.slots)
+    }
+}
+
+/// Room for each slot of the NFA.
+fn empty_slots(alloc: Global, nfa: &NFA) -> Result<Vec<Option<NonMaxUsize>>, Memory> {
+    let none = None;
+    Ok(vec![in alloc; none; nfa.slot_len()]?)
+}

@@ -1,0 +1,50 @@
+//! `rx_bench ENGINE PATTERN` searches each line of standard input for the successive matches of the pattern, and prints
+//! their number, the bytes of the lines, and the time that the searches took.
+#![tactic(auto)]
+
+mod compile;
+mod engine;
+mod failure;
+mod finders;
+
+use engine::Engine;
+use failure::Failure;
+use std::process::ExitCode;
+use std::rt::{Env, Runtime};
+use std::time::Instant;
+use std::{env, io};
+
+fn main(rt: HostRuntime) -> ExitCode {
+    match bench(&rt) {
+        Ok(()) => ExitCode::SUCCESS,
+        Err(failure) => {
+            // Where this can't be printed, the status still tells.
+            let _printed = println!(rt; "{failure}");
+            ExitCode::from(failure.status())
+        }
+    }
+}
+
+/// Reads the words and the lines, and prints the figures.
+fn bench<R: Runtime + AllocGlobal>(rt: &R) -> Result<(), Failure> {
+    let words = words(rt)?;
+    let [engine, pattern] = words.as_slice() else {
+        return Err(Failure::Usage);
+    };
+    let mut engine = Engine::new(rt.alloc(), engine.as_str(), pattern.as_str())?;
+    let text = io::read_to_string(rt.alloc(), rt.reader())?;
+    let start = Instant::now(rt)?;
+    let count = engine.count_in_lines(text.as_str())?;
+    let time = start.elapsed(rt)?.as_nanos();
+    println!(rt; "matches {count} bytes {} nanoseconds {time}", text.len())?;
+    Ok(())
+}
+
+/// The words after the program's name.
+fn words(rt: &(impl Env + AllocGlobal)) -> io::Result<Vec<String>> {
+    let mut words = Vec::new(rt.alloc());
+    for word in env::args(rt)?.skip(1) {
+        words.push(word)?;
+    }
+    Ok(words)
+}
