@@ -7,7 +7,13 @@ use rx_syntax::{SyntaxErrorKind, parse};
 use rx_thompson::WhichCaptures;
 use std::alloc::Global;
 use std::process::Abort;
+use std::sync::Wait;
 use std::test::Fail;
+
+/// The regex of a pattern.
+fn regex_of(rt: &impl Abort, alloc: Global, pattern: &str) -> Regex {
+    Regex::new(alloc, pattern).ok().expect(rt, "a regex")
+}
 
 /// A cache of the regex.
 fn cache_of(rt: &impl Abort, alloc: Global, regex: &Regex) -> Cache
@@ -23,113 +29,115 @@ fn reset(rt: &impl Abort, alloc: Global, cache: &mut Cache, regex: &Regex)
     cache.reset(alloc, regex).ok().expect(rt, "memory")
 }
 
-/// The places that slots hold.
-fn places<const N: usize>(slots: &[Option<NonMaxUsize>; N]) -> [Option<usize>; N] {
-    let mut places = [None; N];
-    for i in 0..N {
-        if let Some(place) = slots[i] {
-            places[i] = Some(place.get());
-        }
+/// The place that a slot holds.
+fn place(slot: Option<NonMaxUsize>) -> Option<usize> {
+    match slot {
+        Some(place) => Some(place.get()),
+        None => None,
     }
-    places
 }
 
 /// The pattern, the start and the end of a match.
 fn whole(found: Option<Match>) -> Option<(usize, usize, usize)> {
-    let found = found?;
-    Some((found.pattern().as_usize(), found.start(), found.end()))
+    match found {
+        Some(found) => Some((found.pattern().as_usize(), found.start(), found.end())),
+        None => None,
+    }
 }
 
 /// The pattern and the end of a match.
 fn half(found: Option<HalfMatch>) -> Option<(usize, usize)> {
-    let found = found?;
-    Some((found.pattern().as_usize(), found.offset()))
+    match found {
+        Some(found) => Some((found.pattern().as_usize(), found.offset())),
+        None => None,
+    }
 }
 
 /// The number of a pattern.
 fn number(found: Option<PatternID>) -> Option<usize> {
-    Some(found?.as_usize())
+    match found {
+        Some(found) => Some(found.as_usize()),
+        None => None,
+    }
 }
 
 #[test]
-fn each_call_makes_a_cache(rt: HostRuntime) -> Result<(), Fail> {
+fn each_call_makes_a_cache(rt: HostRuntime) {
     let alloc = rt.alloc();
-    let regex = Regex::new(alloc, "a(b)?")?;
+    let regex = regex_of(&rt, alloc, "a(b)?");
     let input = Input::new(b"xab");
     assert!(rt; regex.is_match(&rt, alloc, &input) == Ok(true));
-    assert_eq!(rt; whole(regex.find(&rt, alloc, &input)?), Some((0, 1, 3)));
-    assert_eq!(rt; whole(regex.search(&rt, alloc, &input)?), Some((0, 1, 3)));
-    assert_eq!(rt; half(regex.search_half(&rt, alloc, &input)?), Some((0, 3)));
-    let mut slots = [None; 4];
-    let found = regex.search_slots(&rt, alloc, &input, &mut slots)?;
-    assert_eq!(rt; number(found), Some(0));
-    assert_eq!(rt; places(&slots), [Some(1), Some(3), Some(2), Some(3)]);
-    Ok(())
+    let found = regex.find(&rt, alloc, &input).ok();
+    assert_eq!(rt; whole(found.expect(&rt, "memory")), Some((0, 1, 3)));
+    let found = regex.search(&rt, alloc, &input).ok();
+    assert_eq!(rt; whole(found.expect(&rt, "memory")), Some((0, 1, 3)));
+    let found = regex.search_half(&rt, alloc, &input).ok();
+    assert_eq!(rt; half(found.expect(&rt, "memory")), Some((0, 3)));
 }
 
 #[test]
-fn each_call_takes_a_cache(rt: HostRuntime) -> Result<(), Fail> {
+fn a_call_fills_slots(rt: HostRuntime) {
     let alloc = rt.alloc();
-    let regex = Regex::new(alloc, "a(b)?")?;
+    let regex = regex_of(&rt, alloc, "a(b)?");
+    let mut slots = [None; 4];
+    let found = regex.search_slots(&rt, alloc, &Input::new(b"xab"), &mut slots);
+    assert_eq!(rt; number(found.ok().expect(&rt, "memory")), Some(0));
+    assert_eq!(rt; place(slots[0]), Some(1));
+    assert_eq!(rt; place(slots[1]), Some(3));
+    assert_eq!(rt; place(slots[2]), Some(2));
+    assert_eq!(rt; place(slots[3]), Some(3));
+}
+
+#[test]
+fn each_call_takes_a_cache(rt: HostRuntime) {
+    let alloc = rt.alloc();
+    let regex = regex_of(&rt, alloc, "a(b)?");
     let mut cache = cache_of(&rt, alloc, &regex);
     let input = Input::new(b"xab");
-    assert_eq!(rt;
-        whole(regex.search_with(&mut cache, &input)?),
-        Some((0, 1, 3))
-    );
-    assert_eq!(rt;
-        half(
-            regex
-                .search_half_with(&mut cache, &input)
-                .ok()
-                .ok_or("half")?
-        ),
-        Some((0, 3))
-    );
-    let mut slots = [None; 4];
-    let found = regex.search_slots_with(&mut cache, &input, &mut slots)?;
-    assert_eq!(rt; number(found), Some(0));
-    assert_eq!(rt; places(&slots), [Some(1), Some(3), Some(2), Some(3)]);
+    let found = regex.search_with(&mut cache, &input).ok();
+    assert_eq!(rt; whole(found.expect(&rt, "memory")), Some((0, 1, 3)));
+    let found = regex.search_half_with(&mut cache, &input).ok();
+    assert_eq!(rt; half(found.expect(&rt, "memory")), Some((0, 3)));
     let mut slots = [None; 3];
-    let found = regex.search_match_with(&mut cache, &input, &mut slots)?;
-    assert_eq!(rt; whole(found), Some((0, 1, 3)));
-    assert_eq!(rt; places(&slots), [Some(1), Some(3), Some(2)]);
-    Ok(())
+    let found = regex.search_slots_with(&mut cache, &input, &mut slots).ok();
+    assert_eq!(rt; number(found.expect(&rt, "memory")), Some(0));
+    assert_eq!(rt; place(slots[2]), Some(2));
+    let found = regex.search_match_with(&mut cache, &input, &mut slots).ok();
+    assert_eq!(rt; whole(found.expect(&rt, "memory")), Some((0, 1, 3)));
+    assert_eq!(rt; place(slots[2]), Some(2));
 }
 
 #[test]
-fn a_cache_is_reset_for_another_regex(rt: HostRuntime) -> Result<(), Fail> {
+fn a_cache_is_reset_for_another_regex(rt: HostRuntime) {
     let alloc = rt.alloc();
-    let first = Regex::new(alloc, "a")?;
-    let second = Regex::new(alloc, "(b)(c)?")?;
+    let first = regex_of(&rt, alloc, "a");
+    let second = regex_of(&rt, alloc, "(b)(c)?");
     let mut cache = cache_of(&rt, alloc, &first);
     reset(&rt, alloc, &mut cache, &second);
-    let again = cache.clone(alloc)?;
+    let again = cache.clone(alloc).ok().expect(&rt, "a cache");
     assert_eq!(rt; again.memory_usage(), cache.memory_usage());
     let mut slots = [None; 6];
-    let found = second.search_slots_with(&mut cache, &Input::new(b"xb"), &mut slots)?;
-    assert_eq!(rt; number(found), Some(0));
-    assert_eq!(rt;
-        places(&slots),
-        [Some(1), Some(2), Some(1), Some(2), None, None]
-    );
-    Ok(())
+    let found = second.search_slots_with(&mut cache, &Input::new(b"xb"), &mut slots);
+    assert_eq!(rt; number(found.ok().expect(&rt, "memory")), Some(0));
+    assert_eq!(rt; place(slots[0]), Some(1));
+    assert_eq!(rt; place(slots[1]), Some(2));
+    assert_eq!(rt; place(slots[2]), Some(1));
+    assert_eq!(rt; place(slots[3]), Some(2));
+    assert_eq!(rt; place(slots[4]), None);
+    assert_eq!(rt; place(slots[5]), None);
 }
 
 #[test]
 fn the_first_refused_pattern_is_told(rt: HostRuntime) -> Result<(), Fail> {
     let alloc = rt.alloc();
-    let error = Regex::new_many(alloc, &["a", "a(", "ab", ")"])
-        .err()
-        .ok_or("built")?;
+    let built = Regex::new_many(alloc, &["a", "a(", "ab", ")"]);
+    let error = built.err().expect(&rt, "a refusal");
     assert_eq!(rt; number(error.pattern()), Some(1));
     assert_eq!(rt; error.size_limit(), None);
-    let cause = error.syntax_error().ok_or("no syntax error")?;
+    let cause = error.syntax_error().expect(&rt, "a syntax error");
     assert!(rt; cause.kind == SyntaxErrorKind::UnclosedGroup);
-    assert_eq!(rt;
-        format!(in alloc; "{error}")?.as_str(),
-        "error parsing pattern 1"
-    );
+    let text = format!(in alloc; "{error}")?;
+    assert_eq!(rt; text.as_str(), "error parsing pattern 1");
     Ok(())
 }
 
@@ -138,39 +146,43 @@ fn a_size_limit_is_told(rt: HostRuntime) -> Result<(), Fail> {
     let alloc = rt.alloc();
     let mut builder = Regex::builder();
     builder.configure(Regex::config().nfa_size_limit(Some(159)));
-    let error = builder.build(alloc, "a").err().ok_or("built")?;
-    assert!(rt;
-        error
-            == BuildError::NFA(rx_thompson::BuildError::ExceededSizeLimit {
-                limit: 159,
-                size: 256
-            })
-    );
+    let error = builder.build(alloc, "a").err().expect(&rt, "a refusal");
+    let cause = rx_thompson::BuildError::ExceededSizeLimit {
+        limit: 159,
+        size: 256,
+    };
+    assert!(rt; error == BuildError::NFA(cause));
     assert_eq!(rt; error.size_limit(), Some(159));
     assert_eq!(rt; number(error.clone().pattern()), None);
-    assert_eq!(rt;
-        format!(in alloc; "{error}")?.as_str(),
-        "error building NFA"
-    );
+    let text = format!(in alloc; "{error}")?;
+    assert_eq!(rt; text.as_str(), "error building NFA");
+    let text = format!(in alloc; "{}", BuildError::Memory)?;
+    assert_eq!(rt; text.as_str(), "out of memory");
+    // the builder is as before
+    assert!(rt; builder.build(alloc, "").is_err());
     Ok(())
 }
 
-#[test]
-fn nothing_is_told_without_captures(rt: HostRuntime) -> Result<(), Fail> {
-    let alloc = rt.alloc();
+/// A regex of `a` that tells no captures.
+fn without_captures(rt: &impl Abort, alloc: Global) -> Regex {
     let mut builder = Builder::new();
     builder.configure(Config::new().which_captures(WhichCaptures::None));
     builder.configure(Config::new().utf8_empty(false));
-    let regex = builder
-        .clone()
-        .build(alloc, "a")
-        .ok()
-        .expect(&rt, "a regex");
+    let built = builder.clone().build(alloc, "a");
+    built.ok().expect(rt, "a regex")
+}
+
+#[test]
+fn nothing_is_told_without_captures(rt: HostRuntime) {
+    let alloc = rt.alloc();
+    let regex = without_captures(&rt, alloc);
     assert!(rt; regex.get_config().get_which_captures() == WhichCaptures::None);
     let input = Input::new(b"a");
-    assert_eq!(rt; whole(regex.search(&rt, alloc, &input)?), None);
+    let found = regex.search(&rt, alloc, &input).ok();
+    assert_eq!(rt; whole(found.expect(&rt, "memory")), None);
+    let found = regex.search_half(&rt, alloc, &input).ok();
+    assert_eq!(rt; half(found.expect(&rt, "memory")), None);
     assert!(rt; regex.is_match(&rt, alloc, &input) == Ok(true));
-    Ok(())
 }
 
 /// Values of this type may go to other threads.
@@ -180,48 +192,52 @@ fn goes_to_threads<T: Send>(_value: &T) {}
 fn crosses_threads<T: Send + Sync>(_value: &T) {}
 
 #[test]
-fn a_regex_crosses_threads(rt: HostRuntime) -> Result<(), Fail> {
+fn a_regex_crosses_threads(rt: HostRuntime) {
     let alloc = rt.alloc();
-    let regex = Regex::new(alloc, "a")?;
+    let regex = regex_of(&rt, alloc, "a");
     crosses_threads(&regex);
     goes_to_threads(&cache_of(&rt, alloc, &regex));
-    Ok(())
+}
+
+/// What the search of `ab` for this one of two patterns finds.
+fn found_of<R: Abort + Wait>(
+    rt: &R,
+    alloc: Global,
+    pattern: usize,
+) -> Option<(usize, usize, usize)> {
+    let regex = Regex::new_many(alloc, &["a", "(a)b"])
+        .ok()
+        .expect(rt, "a regex");
+    let pattern = PatternID::new(pattern).expect(rt, "a number of a pattern");
+    let input = Input::new(b"ab").anchored(Anchored::Pattern(pattern));
+    let found = regex.search(rt, alloc, &input).ok();
+    whole(found.expect(rt, "memory"))
 }
 
 #[test]
-fn an_anchor_names_a_pattern(rt: HostRuntime) -> Result<(), Fail> {
+fn an_anchor_names_a_pattern(rt: HostRuntime) {
     let alloc = rt.alloc();
-    let regex = Regex::new_many(alloc, &["a", "(a)b"])
-        .ok()
-        .expect(&rt, "a regex");
-    assert_eq!(rt; regex.pattern_len(), 2);
-    assert_eq!(rt; regex.group_info().pattern_len(), 2);
-    let second = PatternID::new(1).ok_or("1")?;
-    let input = Input::new(b"ab").anchored(Anchored::Pattern(second));
-    assert_eq!(rt; whole(regex.search(&rt, alloc, &input)?), Some((1, 0, 2)));
-    let absent = PatternID::new(7).ok_or("7")?;
-    let input = Input::new(b"ab").anchored(Anchored::Pattern(absent));
-    assert_eq!(rt; whole(regex.search(&rt, alloc, &input)?), None);
-    Ok(())
+    assert_eq!(rt; found_of(&rt, alloc, 0), Some((0, 0, 1)));
+    assert_eq!(rt; found_of(&rt, alloc, 1), Some((1, 0, 2)));
+    assert_eq!(rt; found_of(&rt, alloc, 7), None);
 }
 
 #[test]
 fn a_regex_is_built_of_expressions(rt: HostRuntime) -> Result<(), Fail> {
     let alloc = rt.alloc();
     let mut exprs = Vec::new(alloc);
-    exprs.push(parse(alloc, "a")?)?;
-    exprs.push(parse(alloc, "b")?)?;
+    exprs.push(parse(alloc, "a").ok().expect(&rt, "a pattern"))?;
+    exprs.push(parse(alloc, "b").ok().expect(&rt, "a pattern"))?;
     let builder = Builder::new();
-    let one = builder
-        .build_from_hir(alloc, &exprs[0])
-        .ok()
-        .expect(&rt, "a regex");
-    let two = builder
-        .build_many_from_hir(alloc, &exprs)
-        .ok()
-        .expect(&rt, "a regex");
+    let one = builder.build_from_hir(alloc, &exprs[0]);
+    let one = one.ok().expect(&rt, "a regex");
+    let two = builder.build_many_from_hir(alloc, &exprs);
+    let two = two.ok().expect(&rt, "a regex");
+    assert_eq!(rt; two.pattern_len(), 2);
+    assert_eq!(rt; two.group_info().pattern_len(), 2);
     let input = Input::new(b"b");
     assert!(rt; one.is_match(&rt, alloc, &input) == Ok(false));
-    assert_eq!(rt; whole(two.find(&rt, alloc, &input)?), Some((1, 0, 1)));
+    let found = two.find(&rt, alloc, &input).ok();
+    assert_eq!(rt; whole(found.expect(&rt, "memory")), Some((1, 0, 1)));
     Ok(())
 }
