@@ -13,6 +13,3 @@ mod visited;
 
 pub use backtracker::BoundedBacktracker;
 pub use cache::Cache;
-
-#[cfg(test)]
-mod tests;
