@@ -1,5 +1,4 @@
-//! Tests that cross crates, as tables: whole runs, with words and input in, status and text out; and searches by
-//! both engines, with slots.
+//! Whole runs as tables: words and input in, status and text out.
 #![tactic(auto)]
 
 #[cfg(test)]
@@ -8,8 +7,6 @@ mod ends;
 mod limits;
 #[cfg(test)]
 mod rows;
-#[cfg(test)]
-mod slots;
 #[cfg(test)]
 mod standard;
 #[cfg(test)]
