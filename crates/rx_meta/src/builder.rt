@@ -9,7 +9,7 @@ use crate::error::BuildError;
 use crate::reading::parse_all;
 use crate::regex::Regex;
 use rx_strategy::{Config, Core};
-use rx_syntax::Hir;
+use rx_hir::Hir;
 use rx_thompson::{Compiler, NFA};
 use std::alloc::Global;
 use std::slice;

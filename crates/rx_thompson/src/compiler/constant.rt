@@ -7,7 +7,7 @@ ghost use Rattle.rx_thompson.specs.Config.{nothing_set};
 use crate::compiler::Compiler;
 use crate::nfa::NFA;
 use rx_search::Memory;
-use rx_syntax::Hir;
+use rx_hir::Hir;
 use std::alloc::Global;
 
 impl NFA {
