@@ -1,4 +1,7 @@
 pub mod RangeLemmas
 pub mod MergeLemmas
-pub mod ScalarLemmas
 pub mod SuccessorLemmas
+pub mod OutsideLemmas
+pub mod ScalarLemmas
+pub mod ByteLemmas
+pub mod FoldLemmas

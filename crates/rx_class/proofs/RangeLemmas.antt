@@ -10,16 +10,16 @@ use Rattle.rx_class.specs.Ranges.{insert, fewest, BeginPast, AreFewest}
 abbrev pub inside : ℕ × ℕ → ℕ → Bool
 inside r n = nat_le r.0 n && nat_le n r.1
 
-inside-true : (r : ℕ × ℕ) (n : ℕ) → r.0 ≤ n → n ≤ r.1 → inside r n ≡ true
+pub inside-true : (r : ℕ × ℕ) (n : ℕ) → r.0 ≤ n → n ≤ r.1 → inside r n ≡ true
 inside-true r n low high = grind (arith, nat_tests)
 
-inside-before : (r : ℕ × ℕ) (n : ℕ) → n < r.0 → inside r n ≡ false
+pub inside-before : (r : ℕ × ℕ) (n : ℕ) → n < r.0 → inside r n ≡ false
 inside-before r n lt = grind (arith, nat_tests)
 
-inside-after : (r : ℕ × ℕ) (n : ℕ) → r.1 < n → inside r n ≡ false
+pub inside-after : (r : ℕ × ℕ) (n : ℕ) → r.1 < n → inside r n ≡ false
 inside-after r n lt = grind (arith, nat_tests)
 
-or-right : (b : Bool) → (b || true) ≡ true
+pub or-right : (b : Bool) → (b || true) ≡ true
 or-right true = refl
 or-right false = refl
 
@@ -87,13 +87,13 @@ module _ (next : ℕ → ℕ) (Counts : ℕ → Type 0) (succ : IsSuccessor next
   past-tail n r rs le h = past-weaker n (next r.1) rs (omega (arith, succ.above r.1)) h.1
 
   -- no member lies up to where the ranges begin
-  none-up-to : (m : ℕ) (rs : List (ℕ × ℕ)) → BeginPast m rs → AreFewest next rs → (n : ℕ) → n ≤ m → is_member rs n ≡ false
+  pub none-up-to : (m : ℕ) (rs : List (ℕ × ℕ)) → BeginPast m rs → AreFewest next rs → (n : ℕ) → n ≤ m → is_member rs n ≡ false
   none-up-to m [] past h n le = refl
   none-up-to m (r ∷ rs) past h n le =
       ap (λ b. b || is_member rs n) (inside-before r n (omega arith))
       ∙ none-up-to r.1 rs (past-tail r.1 r rs (omega arith) h) h.2 n (omega (arith, h.0))
 
-  none-before : (r : ℕ × ℕ) (rs : List (ℕ × ℕ)) → AreFewest next (r ∷ rs) → (n : ℕ) → n < r.0 → is_member (r ∷ rs) n ≡ false
+  pub none-before : (r : ℕ × ℕ) (rs : List (ℕ × ℕ)) → AreFewest next (r ∷ rs) → (n : ℕ) → n < r.0 → is_member (r ∷ rs) n ≡ false
   none-before r rs h n lt =
       ap (λ b. b || is_member rs n) (inside-before r n lt)
       ∙ none-up-to r.1 rs (past-tail r.1 r rs (omega arith) h) h.2 n (omega (arith, h.0))
@@ -102,7 +102,7 @@ module _ (next : ℕ → ℕ) (Counts : ℕ → Type 0) (succ : IsSuccessor next
   rest-none : (r : ℕ × ℕ) (rs : List (ℕ × ℕ)) → AreFewest next (r ∷ rs) → (n : ℕ) → n ≤ next r.1 → is_member rs n ≡ false
   rest-none r rs h n le = none-up-to (next r.1) rs h.1 h.2 n le
 
-  first-member : (r : ℕ × ℕ) (rs : List (ℕ × ℕ)) (n : ℕ) → r.0 ≤ n → n ≤ r.1 → is_member (r ∷ rs) n ≡ true
+  pub first-member : (r : ℕ × ℕ) (rs : List (ℕ × ℕ)) (n : ℕ) → r.0 ≤ n → n ≤ r.1 → is_member (r ∷ rs) n ≡ true
   first-member r rs n low high = ap (λ b. b || is_member rs n) (inside-true r n low high)
 
   SameMembers : List (ℕ × ℕ) → List (ℕ × ℕ) → Type 0
@@ -245,3 +245,9 @@ module _ (next : ℕ → ℕ) (Counts : ℕ → Type 0) (succ : IsSuccessor next
       kept (λ ys. is_member ys n ≡ is_member (r ∷ rs) n) (nat_le r.0 r.1) _ _
       (λ e. insert-members r.0 r.1 (fewest next rs) (leb-true r.0 r.1 e) ends.0 ends.1 (fewest-fewest rs) (fewest-ends rs ends.2) n counts ∙ ap (λ b. inside r n || b) rest)
       (λ e. rest ∙ sym (ap (λ b. b || is_member rs n) (inside-none r n e)))
+
+  -- ranges with the same members have the same fewest ranges
+  pub fewest-same : (xs ys : List (ℕ × ℕ)) → Ends Counts xs → Ends Counts ys → ((n : ℕ) → is_member xs n ≡ is_member ys n) → fewest next xs ≡ fewest next ys
+  fewest-same xs ys ex ey same =
+      fewest-unique (fewest next xs) (fewest next ys) (fewest-fewest xs) (fewest-fewest ys) (fewest-ends xs ex) (fewest-ends ys ey)
+      (λ n counts. fewest-members xs ex n counts ∙ same n ∙ sym (fewest-members ys ey n counts))
