@@ -1,5 +1,5 @@
 -- Bytes in their order, what lies outside fewest ranges of them, and the other case of letters.
-use Rattle.std.proofs.Common.{◌≡◌, ℕ, ◌<◌, ◌≤◌, Bool, true, false, not, List, [], ◌∷◌, ◌++◌, refl, ◌∙◌, ap, sym, arith}
+use Rattle.std.proofs.Common.{◌≡◌, ℕ, ◌<◌, Bool, true, false, not, List, [], ◌∷◌, ◌++◌, refl, ◌∙◌, ap, sym, arith}
 use Rattle.std.specs.Prelude.{◌&&◌, ◌||◌}
 use Rattle.std.specs.List.{flat_map}
 use Rattle.std.proofs.lemmas.Bool.Decides.{nat_tests}
@@ -37,7 +37,7 @@ byte_complement-members rs h b lt = (complement-outside rs h).members b tt (omeg
 
 -- The other case.
 
-is_letter : ℕ → Bool
+abbrev is_letter : ℕ → Bool
 is_letter b = is_upper b || is_lower b
 
 other_cases-members : (r : ℕ × ℕ) (b : ℕ) → is_member (other_cases r) b ≡ (is_letter b && inside r (other_case b))
@@ -68,6 +68,10 @@ letter-cases rs b true is = refl
 letter-cases rs b false is =
     let same : other_case b ≡ b = grind (arith, nat_tests) in
     or-itself (is_member rs b) ∙ ap (λ n. is_member rs b || is_member rs n) (sym same)
+
+pub byte_folded-is : (rs : List (ℕ × ℕ)) → fewest next_byte (rs ++ flat_map other_cases rs) ≡ byte_folded rs
+unfolding byte_folded
+byte_folded-is rs = refl
 
 pub byte_folded-members : (rs : List (ℕ × ℕ)) (b : ℕ) → is_member (byte_folded rs) b ≡ (is_member rs b || is_member rs (other_case b))
 unfolding byte_folded

@@ -5,3 +5,4 @@ pub mod OutsideLemmas
 pub mod ScalarLemmas
 pub mod ByteLemmas
 pub mod FoldLemmas
+pub mod JoinedLemmas

@@ -6,7 +6,7 @@ use Rattle.std.proofs.lemmas.List.{drop_all}
 use Rattle.rx_model.specs.Text.{is_member}
 use Rattle.rx_class.specs.Ranges.{BeginPast, AreFewest}
 use Rattle.rx_class.specs.Outside.{up_to, from, outside}
-use Rattle.rx_class.proofs.RangeLemmas.{inside, inside-true, inside-after, IsSuccessor, Ends, none-up-to, none-before, first-member}
+use Rattle.rx_class.proofs.RangeLemmas.{inside-true, inside-after, IsSuccessor, Ends, none-up-to, none-before, first-member}
 
 -- numbers with the one before and the one after each, up to a greatest one; and those at which a range may begin
 pub record IsOrder (next previous : ℕ → ℕ) (greatest : ℕ) (Counts MayBegin : ℕ → Type 0) : Type 0 where

@@ -1,7 +1,7 @@
 -- Complements of ranges of scalars.
 use Rattle.std.specs.Prelude.{ℕ, ◌-◌, ◌==◌, List, Option, Some, None, if◌then◌else◌}
 use Rattle.rx_class.specs.Ranges.{next_scalar}
-pub use Rattle.rx_class.specs.Outside.{outside}
+unfoldable pub use Rattle.rx_class.specs.Outside.{outside}
 
 -- the scalar before this one
 abbrev pub previous_scalar : ℕ → ℕ

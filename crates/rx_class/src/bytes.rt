@@ -106,10 +106,17 @@ fn ranges_outside(alloc: Global, ranges: &[(u8, u8)]) -> Result<Vec<(u8, u8)>, M
     let mut low = Some(0);
     for (first, last) in ranges {
         push_before(&mut found, low, *first)?;
-        low = last.checked_add(1);
+        low = next_byte(*last);
     }
     push_from(&mut found, low)?;
     Ok(found)
+}
+
+/// The byte after this one, if there is one.
+fn next_byte(b: u8) -> Option<u8>
+    ensures { or_past_byte result ≡ next_byte b }
+{
+    b.checked_add(1)
 }
 
 /// Adds the bytes from `low` to the one before `end`, if there are any.

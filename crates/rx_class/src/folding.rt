@@ -26,11 +26,12 @@ fn push_joined(found: &mut Vec<(char, char)>, low: char, high: char) -> Result<(
     ensures { OnOk result (found.new.items ≡ found.old.items ++ joined_to fold_pairs ((low, high) ∷ [])) }
 {
     let pairs = ucd_case::fold_pairs();
-    let start = pairs.partition_point(|pair| pair.0 < u32::from(low));
+    let first = u32::from(low);
+    let start = pairs.partition_point(|pair| pair.0 < first);
     for i in start..pairs.len() {
         let (member, joined) = pairs[i];
         if u32::from(high) < member {
-            break;
+            return Ok(());
         }
         push_scalar(found, joined)?;
     }
