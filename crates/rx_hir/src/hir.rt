@@ -18,9 +18,7 @@ mod set;
 
 pub use emptiness::{can_be_empty, one_can_be_empty};
 pub use groups::greatest_group;
-pub use laws::{
-    fewest_ranges_hold_the_members, lengths_bound_the_meaning, sound_expressions_are_ordered,
-};
+pub use laws::{lengths_bound_the_meaning, sound_expressions_are_ordered};
 use properties::Properties;
 use rx_class::{Class, ClassBytes};
 use std::alloc::Global;

@@ -2,7 +2,7 @@ use Rattle.std.specs.Char.{IsScalar}
 use Rattle.rx_class.specs.Ranges.{next_scalar, next_byte, fewest}
 use Rattle.rx_class.proofs.RangeLemmas.{fewest-members, fewest-fewest, fewest-ends, fewest-unique}
 use Rattle.rx_class.proofs.SuccessorLemmas.{scalars-succeed, bytes-succeed, IsAny, ends-any, ends-from-scalars, scalars-from-ends}
-use Rattle.rx_hir.proofs.hir.laws.fewest_ranges_hold_the_members.Goals as goal
+use Rattle.rx_class.proofs.laws.fewest_ranges_hold_the_members.Goals as goal
 
 pub returns : goal.returns
 returns c = record {
