@@ -1,8 +1,9 @@
 //! Expressions.
 ghost use Rattle.std.specs.Prelude.{◌≡◌, ◌≢◌, ◌<◌, ◌≤◌, IfSome, Some};
 ghost use Rattle.std.specs.Int.NonZero.{non_zero_usize_get};
-ghost use Rattle.rx_model.specs.Expression.{empty, repetition, capture};
+ghost use Rattle.rx_model.specs.Expression.{empty, look, repetition, capture};
 ghost use Rattle.rx_model.specs.Length.{minimum_len};
+ghost use Rattle.rx_search.specs.Look.{kind_of};
 ghost use Rattle.rx_hir.specs.Length.{maximum_len, saturated, in_64_bits};
 ghost use Rattle.rx_hir.specs.Normal.{fail, literal_of, copies_of, repetition_of};
 
@@ -23,6 +24,7 @@ pub use laws::{
 };
 use properties::Properties;
 use rx_class::{Class, ClassBytes};
+use rx_search::Look;
 use std::alloc::Global;
 use std::marker::Model;
 use std::num::NonZeroUsize;
@@ -46,6 +48,8 @@ pub enum HirKind {
     Literal(Vec<u8>),
     /// A member of the class.
     Class(Class),
+    /// The empty text, where this look-around holds.
+    Look(Look),
     /// Copies of the body, one after another.
     Repetition(Repetition),
     /// A capture group.
@@ -138,6 +142,16 @@ impl Hir {
         Hir {
             kind: HirKind::Literal(bytes),
             properties,
+        }
+    }
+
+    /// The empty text at each place where the look-around holds.
+    pub fn look(kind: Look) -> Hir
+        ensures { result ≡ look (kind_of kind) }
+    {
+        Hir {
+            kind: HirKind::Look(kind),
+            properties: Properties::of_len(0),
         }
     }
 

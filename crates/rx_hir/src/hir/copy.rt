@@ -3,8 +3,8 @@ ghost use Rattle.std.specs.Prelude.{◌≡◌, IfOk};
 ghost use Rattle.rx_class.specs.ClassViews.{class_view};
 ghost use Rattle.rx_hir.specs.HirViews.{kind_view};
 
-use rx_class::{Class, ClassBytes, ClassUnicode};
 use super::{Capture, Hir, HirKind, Repetition};
+use rx_class::{Class, ClassBytes, ClassUnicode};
 use std::alloc::AllocError;
 
 impl Clone for Hir {
@@ -39,6 +39,7 @@ fn copy_of_kind(kind: &HirKind) -> Result<HirKind, AllocError>
             bytes,
         )?)),
         HirKind::Class(class) => Ok(HirKind::Class(copy_of_class(class)?)),
+        HirKind::Look(look) => Ok(HirKind::Look(*look)),
         HirKind::Repetition(repetition) => Ok(HirKind::Repetition(Repetition {
             min: repetition.min,
             max: repetition.max,
