@@ -1,5 +1,5 @@
 //! Expressions.
-ghost use Rattle.std.specs.Prelude.{◌≡◌, ◌≢◌, ◌<◌, ◌≤◌, IfSome, Some};
+ghost use Rattle.std.specs.Prelude.{◌≡◌, ◌≢◌, ◌<◌, ◌≤◌, IfSome, Some, option_map, string_bytes};
 ghost use Rattle.std.specs.Int.NonZero.{non_zero_usize_get};
 ghost use Rattle.rx_model.specs.Expression.{empty, look, repetition, capture};
 ghost use Rattle.rx_model.specs.Length.{minimum_len};
@@ -75,12 +75,14 @@ pub struct Repetition {
     pub sub: Box<Hir>,
 }
 
-/// The group of this number, from 1 on.
+/// The group of this number, from 1 on, and of this name.
 #[cycle(hir)]
 #[derive(Drop)]
 pub struct Capture {
     /// The group's number.
     pub index: NonZeroUsize,
+    /// The group's name, if it has one.
+    pub name: Option<String>,
     /// The body.
     pub sub: Box<Hir>,
 }
@@ -169,9 +171,9 @@ impl Hir {
         copies(repetition)
     }
 
-    /// The capture group of this number.
+    /// The capture group of this number, with its name.
     pub fn capture(group: Capture) -> Hir
-        ensures { result ≡ capture (non_zero_usize_get group.index) group.sub.value }
+        ensures { result ≡ capture (non_zero_usize_get group.index) (option_map string_bytes group.name) group.sub.value }
     {
         let properties = group.sub.properties;
         Hir {

@@ -48,6 +48,7 @@ fn copy_of_kind(kind: &HirKind) -> Result<HirKind, AllocError>
         })),
         HirKind::Capture(capture) => Ok(HirKind::Capture(Capture {
             index: capture.index,
+            name: capture.name.clone()?,
             sub: copy_of_box(&capture.sub)?,
         })),
         HirKind::Concat(subs) => Ok(HirKind::Concat(copy_of_all(subs)?)),
