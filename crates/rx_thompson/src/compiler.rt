@@ -30,8 +30,8 @@ pub use config::{Config, WhichCaptures};
 use expression::compile;
 use grouping::group_info;
 use groups::Groups;
-use rx_search::{Memory, PatternID, StateID};
 use rx_hir::{Hir, one_can_be_empty};
+use rx_search::{Memory, PatternID, StateID};
 use slots::{first_slot, second_slot, slot_after, whole_slot};
 use std::alloc::Global;
 

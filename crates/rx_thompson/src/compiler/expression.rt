@@ -16,8 +16,8 @@ ghost use Rattle.rx_thompson.specs.declared.state.State.TheVariants.{Union};
 use crate::builder::Builder;
 use crate::compiler::groups::Groups;
 use crate::state::{Alternates, State};
-use rx_search::{Memory, StateID};
 use rx_hir::{Capture, Hir, HirKind, Repetition};
+use rx_search::{Memory, StateID};
 use std::alloc::Global;
 
 #[cycle(compile)]
