@@ -5,9 +5,9 @@ ghost use Rattle.rx_hir.specs.Normal.{expressions, alternatives_of, choice_of, a
 ghost use Rattle.rx_hir.specs.Properties.{properties_of};
 ghost use Rattle.rx_hir.specs.Sound.{AreSound};
 
-use rx_class::{Class, ClassBytes};
 use super::properties::Properties;
 use super::{Hir, HirKind};
+use rx_class::{Class, ClassBytes};
 use rx_search::Memory;
 use std::alloc::Global;
 

@@ -3,8 +3,8 @@ ghost use Rattle.std.specs.Prelude.{◌≡◌, IfOk};
 ghost use Rattle.rx_class.specs.ClassViews.{class_view};
 ghost use Rattle.rx_hir.specs.HirViews.{kind_view};
 
-use rx_class::{Class, ClassBytes, ClassUnicode};
 use super::{Capture, Hir, HirKind, Repetition};
+use rx_class::{Class, ClassBytes, ClassUnicode};
 use std::alloc::AllocError;
 
 impl Clone for Hir {

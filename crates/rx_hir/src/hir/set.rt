@@ -7,10 +7,10 @@ ghost use Rattle.rx_hir.specs.Normal.{class_of};
 ghost use Rattle.rx_hir.specs.Properties.{properties_of};
 ghost use Rattle.rx_class.specs.Ranges.{AreScalarRanges, AreByteRanges};
 
-use rx_class::{Class, ClassBytes, ClassUnicode};
 use super::concat::bytes_in_row;
 use super::properties::Properties;
 use super::{Hir, HirKind};
+use rx_class::{Class, ClassBytes, ClassUnicode};
 use rx_search::Memory;
 use std::alloc::Global;
 
