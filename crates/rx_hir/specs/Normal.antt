@@ -74,7 +74,7 @@ parts_of (literal bytes) = literal bytes ∷ []
 parts_of (class members) = class members ∷ []
 parts_of (look kind) = look kind ∷ []
 parts_of (repetition least greatest greedy sub) = repetition least greatest greedy sub ∷ []
-parts_of (capture group sub) = capture group sub ∷ []
+parts_of (capture group name sub) = capture group name sub ∷ []
 parts_of (alternation subs) = alternation subs ∷ []
 
 -- a part before others, joined with the first of them where both are literals
@@ -104,7 +104,7 @@ alternatives_of (literal bytes) = literal bytes ∷ []
 alternatives_of (class members) = class members ∷ []
 alternatives_of (look kind) = look kind ∷ []
 alternatives_of (repetition least greatest greedy sub) = repetition least greatest greedy sub ∷ []
-alternatives_of (capture group sub) = capture group sub ∷ []
+alternatives_of (capture group name sub) = capture group name sub ∷ []
 alternatives_of (concat subs) = concat subs ∷ []
 
 abbrev pub choice_of : List Expression → Expression

@@ -1,8 +1,9 @@
 //! Expressions.
-ghost use Rattle.std.specs.Prelude.{◌≡◌, ◌≢◌, ◌<◌, ◌≤◌, IfSome, Some};
+ghost use Rattle.std.specs.Prelude.{◌≡◌, ◌≢◌, ◌<◌, ◌≤◌, IfSome, Some, option_map, string_bytes};
 ghost use Rattle.std.specs.Int.NonZero.{non_zero_usize_get};
-ghost use Rattle.rx_model.specs.Expression.{empty, repetition, capture};
+ghost use Rattle.rx_model.specs.Expression.{empty, look, repetition, capture};
 ghost use Rattle.rx_model.specs.Length.{minimum_len};
+ghost use Rattle.rx_search.specs.Look.{kind_of};
 ghost use Rattle.rx_hir.specs.Length.{maximum_len, saturated, in_64_bits};
 ghost use Rattle.rx_hir.specs.Normal.{fail, literal_of, copies_of, repetition_of};
 
@@ -23,6 +24,7 @@ pub use laws::{
 };
 use properties::Properties;
 use rx_class::{Class, ClassBytes};
+use rx_search::Look;
 use std::alloc::Global;
 use std::marker::Model;
 use std::num::NonZeroUsize;
@@ -46,6 +48,8 @@ pub enum HirKind {
     Literal(Vec<u8>),
     /// A member of the class.
     Class(Class),
+    /// The empty text, where this look-around holds.
+    Look(Look),
     /// Copies of the body, one after another.
     Repetition(Repetition),
     /// A capture group.
@@ -71,12 +75,14 @@ pub struct Repetition {
     pub sub: Box<Hir>,
 }
 
-/// The group of this number, from 1 on.
+/// The group of this number, from 1 on, and of this name.
 #[cycle(hir)]
 #[derive(Drop)]
 pub struct Capture {
     /// The group's number.
     pub index: NonZeroUsize,
+    /// The group's name, if it has one.
+    pub name: Option<String>,
     /// The body.
     pub sub: Box<Hir>,
 }
@@ -141,6 +147,16 @@ impl Hir {
         }
     }
 
+    /// The empty text at each place where the look-around holds.
+    pub fn look(kind: Look) -> Hir
+        ensures { result ≡ look (kind_of kind) }
+    {
+        Hir {
+            kind: HirKind::Look(kind),
+            properties: Properties::of_len(0),
+        }
+    }
+
     /// Copies of an expression. Where only the empty text can match the body, there is at most one copy. No
     /// copies are the empty expression, and just one copy is the body.
     pub fn repetition(repetition: Repetition) -> Hir
@@ -155,9 +171,9 @@ impl Hir {
         copies(repetition)
     }
 
-    /// The capture group of this number.
+    /// The capture group of this number, with its name.
     pub fn capture(group: Capture) -> Hir
-        ensures { result ≡ capture (non_zero_usize_get group.index) group.sub.value }
+        ensures { result ≡ capture (non_zero_usize_get group.index) (option_map string_bytes group.name) group.sub.value }
     {
         let properties = group.sub.properties;
         Hir {

@@ -13,3 +13,4 @@ pub use hir::{
     greatest_group, lengths_bound_the_meaning, one_can_be_empty, sound_expressions_are_ordered,
 };
 pub use rx_class::{Class, ClassBytes, ClassUnicode};
+pub use rx_search::Look;

@@ -38,19 +38,19 @@ alternations_rows :
     (reads 250 (codes "a|b") ≡ Ok (alternation (cons (literal (97 ∷ [])) (cons (literal (98 ∷ [])) nil)))) ×
     (reads 250 (codes "a|b|") ≡ Ok (alternation (cons (literal (97 ∷ [])) (cons (literal (98 ∷ [])) (cons empty nil))))) ×
     (reads 250 (codes "|") ≡ Ok (alternation (cons empty (cons empty nil)))) ×
-    (reads 250 (codes "()") ≡ Ok (capture 1 empty)) ×
-    (reads 250 (codes "(|)") ≡ Ok (capture 1 (alternation (cons empty (cons empty nil))))) ×
+    (reads 250 (codes "()") ≡ Ok (capture 1 None empty)) ×
+    (reads 250 (codes "(|)") ≡ Ok (capture 1 None (alternation (cons empty (cons empty nil))))) ×
     (reads 250 (codes "(?:a|b)|c") ≡ Ok (alternation (cons (literal (97 ∷ [])) (cons (literal (98 ∷ [])) (cons (literal (99 ∷ [])) nil))))) ×
     (reads 250 (codes "(?:ab)c(?:de)") ≡ Ok (literal (97 ∷ 98 ∷ 99 ∷ 100 ∷ 101 ∷ []))) ×
-    (reads 250 (codes "((a)(b))") ≡ Ok (capture 1 (concat (cons (capture 2 (literal (97 ∷ []))) (cons (capture 3 (literal (98 ∷ []))) nil))))) ×
-    (reads 250 (codes "(?:(a)|b)(c)") ≡ Ok (concat (cons (alternation (cons (capture 1 (literal (97 ∷ []))) (cons (literal (98 ∷ [])) nil))) (cons (capture 2 (literal (99 ∷ []))) nil))))
+    (reads 250 (codes "((a)(b))") ≡ Ok (capture 1 None (concat (cons (capture 2 None (literal (97 ∷ []))) (cons (capture 3 None (literal (98 ∷ []))) nil))))) ×
+    (reads 250 (codes "(?:(a)|b)(c)") ≡ Ok (concat (cons (alternation (cons (capture 1 None (literal (97 ∷ []))) (cons (literal (98 ∷ [])) nil))) (cons (capture 2 None (literal (99 ∷ []))) nil))))
 unfolding reads read branches repetitions token opening reads_class class_items class_item class_range class_character escape fewest insert outside encode
 alternations_rows = (refl, refl, refl, refl, refl, refl, refl, refl, refl)
 
 -- Repetitions.
 
 repetitions_rows :
-    (reads 250 (codes "(a|b)*c") ≡ Ok (concat (cons (repetition 0 None true (capture 1 (alternation (cons (literal (97 ∷ [])) (cons (literal (98 ∷ [])) nil))))) (cons (literal (99 ∷ [])) nil)))) ×
+    (reads 250 (codes "(a|b)*c") ≡ Ok (concat (cons (repetition 0 None true (capture 1 None (alternation (cons (literal (97 ∷ [])) (cons (literal (98 ∷ [])) nil))))) (cons (literal (99 ∷ [])) nil)))) ×
     (reads 250 (codes "a*?") ≡ Ok (repetition 0 None false (literal (97 ∷ [])))) ×
     (reads 250 (codes "a**") ≡ Ok (repetition 0 None true (repetition 0 None true (literal (97 ∷ []))))) ×
     (reads 250 (codes "a+?b?") ≡ Ok (concat (cons (repetition 1 None false (literal (97 ∷ []))) (cons (repetition 0 (Some 1) true (literal (98 ∷ []))) nil)))) ×
@@ -59,7 +59,7 @@ repetitions_rows :
     (reads 250 (codes "ab??") ≡ Ok (concat (cons (literal (97 ∷ [])) (cons (repetition 0 (Some 1) false (literal (98 ∷ []))) nil)))) ×
     (reads 250 (codes "(?:)*") ≡ Ok (repetition 0 (Some 1) true empty)) ×
     (reads 250 (codes "(?:)+") ≡ Ok empty) ×
-    (reads 250 (codes "(a)?") ≡ Ok (repetition 0 (Some 1) true (capture 1 (literal (97 ∷ [])))))
+    (reads 250 (codes "(a)?") ≡ Ok (repetition 0 (Some 1) true (capture 1 None (literal (97 ∷ [])))))
 unfolding reads read branches repetitions token opening reads_class class_items class_item class_range class_character escape fewest insert outside encode
 repetitions_rows = (refl, refl, refl, refl, refl, refl, refl, refl, refl)
 
@@ -168,9 +168,9 @@ more_refused_tokens_rows = (refl, refl, refl, refl, refl, refl, refl)
 -- The nest limit.
 
 nesting_of_two_rows :
-    (reads 2 (codes "((a))") ≡ Ok (capture 1 (capture 2 (literal (97 ∷ []))))) ×
-    (reads 2 (codes "(a*)") ≡ Ok (capture 1 (repetition 0 None true (literal (97 ∷ []))))) ×
-    (reads 2 (codes "(a)b*") ≡ Ok (concat (cons (capture 1 (literal (97 ∷ []))) (cons (repetition 0 None true (literal (98 ∷ []))) nil)))) ×
+    (reads 2 (codes "((a))") ≡ Ok (capture 1 None (capture 2 None (literal (97 ∷ []))))) ×
+    (reads 2 (codes "(a*)") ≡ Ok (capture 1 None (repetition 0 None true (literal (97 ∷ []))))) ×
+    (reads 2 (codes "(a)b*") ≡ Ok (concat (cons (capture 1 None (literal (97 ∷ []))) (cons (repetition 0 None true (literal (98 ∷ []))) nil)))) ×
     (reads 2 (codes "(((a") ≡ refused NestLimit 2 3) ×
     (reads 2 (codes "a***") ≡ refused NestLimit 3 4) ×
     (reads 2 (codes "(a*)*") ≡ refused NestLimit 4 5) ×
@@ -182,7 +182,7 @@ nesting_of_one_rows :
     (reads 1 (codes "(?:(?:") ≡ refused NestLimit 3 6) ×
     (reads 1 (codes "(a)?") ≡ refused NestLimit 3 4) ×
     (reads 1 (codes "(a*)") ≡ refused NestLimit 3 4) ×
-    (reads 1 (codes "a*(b)") ≡ Ok (concat (cons (repetition 0 None true (literal (97 ∷ []))) (cons (capture 1 (literal (98 ∷ []))) nil))))
+    (reads 1 (codes "a*(b)") ≡ Ok (concat (cons (repetition 0 None true (literal (97 ∷ []))) (cons (capture 1 None (literal (98 ∷ []))) nil))))
 unfolding reads read branches repetitions token opening reads_class class_items class_item class_range class_character escape fewest insert outside encode
 nesting_of_one_rows = (refl, refl, refl, refl)
 

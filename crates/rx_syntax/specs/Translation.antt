@@ -24,7 +24,7 @@ dot_of = bracketed true ((10, 10) ∷ [])
 -- the group of this number, or its body alone where it does not capture
 abbrev pub group_of : Option ℕ → Expression → Expression
 group_of None body = body
-group_of (Some number) body = capture number body
+group_of (Some number) body = capture number None body
 
 abbrev mutual
   pub expression_of : Syntax → Expression

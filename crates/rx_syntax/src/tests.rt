@@ -82,7 +82,11 @@ fn groups(rt: HostRuntime) -> Result<(), Fail> {
     let alloc = rt.alloc();
     let sub = Box::new(alloc, literal(alloc, b"a")?)?;
     let index = NonZeroUsize::new(7).ok_or("seven")?;
-    let hir = Hir::capture(Capture { index, sub });
+    let hir = Hir::capture(Capture {
+        index,
+        name: None,
+        sub,
+    });
     assert_eq!(rt; greatest_group(&hir), 7);
     assert_eq!(rt; cost(&hir), 96);
     Ok(())

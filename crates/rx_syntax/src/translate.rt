@@ -50,7 +50,11 @@ fn group(alloc: Global, number: Option<usize>, sub: Hir) -> Result<Hir, Memory>
         None => Ok(sub),
         Some(index) => {
             let sub = Box::new(alloc, sub)?;
-            Ok(Hir::capture(Capture { index, sub }))
+            Ok(Hir::capture(Capture {
+                index,
+                name: None,
+                sub,
+            }))
         }
     }
 }

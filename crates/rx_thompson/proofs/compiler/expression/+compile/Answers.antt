@@ -1,5 +1,5 @@
 use Rattle.std.proofs.Common.{◌≡◌, ◌<◌, ◌+◌, ◌-◌, ◌*◌, ◌∙◌, sym, ap, subst, arith, length, drop, take}
-use Rattle.std.specs.Prelude.{max, false, IfOk}
+use Rattle.std.specs.Prelude.{max, false, IfOk, option_map, string_bytes}
 use Rattle.std.specs.Int.NonZero.{non_zero_usize_get}
 use Rattle.std.proofs.lemmas.List.{take_all}
 use Rattle.rx_model.specs.Length.{minimum_len, is_positive}
@@ -53,7 +53,7 @@ pub compile-compile_capture-requires : goal.compile-compile_capture-requires
 unfolding greatest_group
 compile-compile_capture-requires t c =
     let g = c.in-Capture.capture in
-    let is : capture (non_zero_usize_get g.index) g.sub.value ≡ c.args.hir.now = sym (ap kind_view c.in-Capture.is) ∙ c.kind.ensures.value in
+    let is : capture (non_zero_usize_get g.index) (option_map string_bytes g.name) g.sub.value ≡ c.args.hir.now = sym (ap kind_view c.in-Capture.is) ∙ c.kind.ensures.value in
     let deep = ap depth is in
     let groups : max (non_zero_usize_get g.index) (greatest_group g.sub.value) ≡ greatest_group c.args.hir.now = ap greatest_group is in
     let states = ap accounted_states is in
@@ -116,7 +116,7 @@ pub compile-returns-in-Capture-clause-built : goal.compile-returns-in-Capture-cl
 unfolding build
 compile-returns-in-Capture-clause-built t c =
     let g = c.in-Capture.capture in
-    let is : capture (non_zero_usize_get g.index) g.sub.value ≡ c.args.hir.now = sym (ap kind_view c.in-Capture.is) ∙ c.kind.ensures.value in
+    let is : capture (non_zero_usize_get g.index) (option_map string_bytes g.name) g.sub.value ≡ c.args.hir.now = sym (ap kind_view c.in-Capture.is) ∙ c.kind.ensures.value in
     Built-same _ _ c.args.next c.args.builder.now c.compile_capture.new.builder c.compile_capture.result
     (ap (build (slot_from c.args.groups.now.first_slot)) is) c.compile_capture.ensures.built
 
