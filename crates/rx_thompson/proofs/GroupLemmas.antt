@@ -4,7 +4,7 @@ use Rattle.std.specs.Prelude.{All, map, replicate, sum}
 use Rattle.std.proofs.lemmas.List.Sums.{sum_by-cons}
 use Rattle.std.proofs.lemmas.List.Elements.{All-nil, All-cons}
 use Rattle.rx_model.specs.Expression.{Expression}
-use Rattle.rx_model.specs.Search.{WhichCaptures, all, implicit, none, greatest_group, groups_before}
+use Rattle.rx_model.specs.Search.{WhichCaptures, all, implicit, none, greatest_group}
 use Rattle.rx_search.specs.GroupInfo.{slot_count}
 use Rattle.rx_search.proofs.GroupLemmas.{group_count-unnamed}
 use Rattle.rx_thompson.specs.Compiled.{slots_of, group_lens_of, groups_of}
