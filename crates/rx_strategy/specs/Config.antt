@@ -29,11 +29,11 @@ captures_of c = captures_kind (which_of c)
 abbrev pub size_limit_of : Config → Option ℕ
 size_limit_of c = unwrap_or c.nfa_size_limit (Some 10485760)
 
--- the backtracker is asked for
 -- the byte that ends lines
 abbrev pub terminator_of : Config → ℕ
 terminator_of c = unwrap_or c.line_terminator 10
 
+-- the backtracker is asked for
 abbrev pub backtrack_of : Config → Bool
 backtrack_of c = unwrap_or c.backtrack true
 
