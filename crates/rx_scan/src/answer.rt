@@ -13,7 +13,6 @@ use crate::row::push_number;
 use crate::scan_rows::scan;
 use crate::scan_text::print_haystacks;
 use crate::status::Status;
-use rx_hir::Hir;
 use rx_meta::{BuildError, Regex};
 use rx_search::{Gate, Memory};
 use rx_hir::Hir;
