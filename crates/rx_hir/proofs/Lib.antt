@@ -7,3 +7,4 @@ pub mod JoinedLemmas
 pub mod PropertiesLemmas
 pub mod SoundLemmas
 pub mod SpanLemmas
+pub mod UnionLemmas

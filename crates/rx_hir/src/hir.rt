@@ -14,6 +14,7 @@ mod emptiness;
 mod groups;
 mod kind;
 mod laws;
+mod parts;
 mod properties;
 mod set;
 
@@ -22,7 +23,7 @@ pub use groups::greatest_group;
 pub use laws::{
     fewest_ranges_hold_the_members, lengths_bound_the_meaning, sound_expressions_are_ordered,
 };
-use properties::Properties;
+pub use properties::Properties;
 use rx_class::{Class, ClassBytes};
 use rx_search::Look;
 use std::alloc::Global;
@@ -92,7 +93,7 @@ impl Model for Hir {
     ghost use Rattle.rx_model.specs.Expression.{Expression};
     ghost use Rattle.rx_model.specs.Coded.{coded_expression};
     ghost use Rattle.rx_hir.specs.Depth.{depth};
-    ghost use Rattle.rx_hir.specs.Properties.{properties_of};
+    ghost use Rattle.rx_hir.specs.PropertiesViews.{AreOf};
     ghost use Rattle.rx_hir.specs.Sound.{IsSound};
 
     ghost Value = { Expression };
@@ -103,7 +104,7 @@ impl Model for Hir {
 
     ghost view = { λ h. kind_view h.kind };
 
-    ghost invariant = { λ h. (h.properties ≡ properties_of (kind_view h.kind)) × IsSound (kind_view h.kind) };
+    ghost invariant = { λ h. AreOf (kind_view h.kind) h.properties × IsSound (kind_view h.kind) };
 
     ghost size = { depth };
 
@@ -119,7 +120,7 @@ impl Hir {
     {
         Hir {
             kind: HirKind::Empty,
-            properties: Properties::of_len(0),
+            properties: Properties::of_empty(),
         }
     }
 
@@ -129,7 +130,7 @@ impl Hir {
     {
         Hir {
             kind: HirKind::Class(Class::Bytes(ClassBytes::empty(alloc))),
-            properties: Properties::unknown(),
+            properties: Properties::of_fail(),
         }
     }
 
@@ -140,7 +141,7 @@ impl Hir {
         if bytes.is_empty() {
             return Hir::empty();
         }
-        let properties = Properties::of_len(bytes.len());
+        let properties = Properties::of_literal(&bytes);
         Hir {
             kind: HirKind::Literal(bytes),
             properties,
@@ -153,7 +154,7 @@ impl Hir {
     {
         Hir {
             kind: HirKind::Look(kind),
-            properties: Properties::of_len(0),
+            properties: Properties::of_look(kind),
         }
     }
 
@@ -175,7 +176,7 @@ impl Hir {
     pub fn capture(group: Capture) -> Hir
         ensures { result ≡ capture (non_zero_usize_get group.index) (option_map string_bytes group.name) group.sub.value }
     {
-        let properties = group.sub.properties;
+        let properties = group.sub.properties.captured();
         Hir {
             kind: HirKind::Capture(group),
             properties,
@@ -187,7 +188,7 @@ impl Hir {
     pub fn minimum_len(&self) -> Option<usize>
         ensures { result ≡ saturated (minimum_len self.now) }
     {
-        self.properties.minimum_len
+        self.properties.minimum_len()
     }
 
     /// The greatest length in bytes of what the expression matches. None: no bound is known, or it is above
@@ -195,7 +196,7 @@ impl Hir {
     pub fn maximum_len(&self) -> Option<usize>
         ensures { result ≡ in_64_bits (maximum_len self.now) }
     {
-        self.properties.maximum_len
+        self.properties.maximum_len()
     }
 }
 

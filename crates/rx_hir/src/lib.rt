@@ -9,7 +9,7 @@ mod hir;
 
 pub use accounting::{cost, states as accounted_states};
 pub use hir::{
-    Capture, Hir, HirKind, Repetition, can_be_empty, fewest_ranges_hold_the_members,
+    Capture, Hir, HirKind, Properties, Repetition, can_be_empty, fewest_ranges_hold_the_members,
     greatest_group, lengths_bound_the_meaning, one_can_be_empty, sound_expressions_are_ordered,
 };
 pub use rx_class::{Class, ClassBytes, ClassUnicode};
