@@ -1,5 +1,5 @@
 -- What the search of a list of states finds, for an NFA and an input.
-use Rattle.std.proofs.Common.{◌≡◌, ℕ, zero, suc, ◌+◌, ◌-◌, ◌≤◌, ◌<◌, List, [], ◌∷◌, length, get_or, refl, sym, ◌∙◌, ap, subst, arith}
+use Rattle.std.proofs.Common.{◌≡◌, ℕ, ◌+◌, ◌-◌, ◌≤◌, ◌<◌, List, [], ◌∷◌, length, get_or, refl, sym, ◌∙◌, ap, subst, arith}
 use Rattle.std.proofs.lemmas.Bool.Decides.{nat_tests}
 use Rattle.std.proofs.lemmas.List.Elements.{All-nil, All-cons, All-get_or}
 use Rattle.std.proofs.lemmas.Option.{get_or_from_slice_get, slice_get_within}
@@ -15,7 +15,6 @@ use Rattle.rx_thompson.specs.Automaton.{at, automaton}
 use Rattle.rx_thompson.specs.Nfa.{Nfa, IsInRange}
 use Rattle.rx_thompson.specs.NextMatch.{start_of, first_from, next_match_of}
 use Rattle.rx_thompson.proofs.NextMatchLemmas.{first_start-alike, next_match_of-patterns, next_match_of-slot, next_match_of-within}
-use Rattle.rx_thompson.specs.declared.state.State.{State}
 use Rattle.rx_engines.specs.Simulation.{first_of}
 use Rattle.rx_engines.specs.Search.{IsInside, next_until, next_of, first_place, stop_of, answer_of, triple}
 use Rattle.rx_engines.specs.declared.pikevm.search.Search.{Search}

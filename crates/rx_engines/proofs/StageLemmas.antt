@@ -1,18 +1,17 @@
 -- The stages of a search, for each end that it might have: what the threads at a place and the starts to come
 -- lead to is the next match that ends by there.
-use Rattle.std.proofs.Common.{◌≡◌, ◌⊎◌, ℕ, zero, suc, ◌+◌, ◌-◌, ◌≤◌, ◌<◌, List, [], refl, sym, ◌∙◌, ap, inl, inr, arith, true≢false}
-use Rattle.std.specs.Prelude.{Bool, true, false, ◌&&◌, Option, Some, None, option_map, is_some, nat_lt, if◌then◌else◌, IfSome, IfNone}
+use Rattle.std.proofs.Common.{◌≡◌, ℕ, zero, suc, ◌+◌, ◌-◌, ◌≤◌, ◌<◌, List, [], refl, sym, ◌∙◌, ap, arith, true≢false}
+use Rattle.std.specs.Prelude.{Bool, true, false, ◌&&◌, Option, Some, None, option_map, is_some, nat_lt, IfSome, IfNone}
 use Rattle.std.specs.Option.{option_or}
 use Rattle.std.proofs.lemmas.Bool.Decides.{nat_tests}
-use Rattle.rx_model.specs.Runs.{Passed, Trace, nowhere, found}
-use Rattle.rx_model.specs.Search.{Match, is_permitted, first_start}
+use Rattle.rx_model.specs.Runs.{Passed, nowhere}
 use Rattle.rx_model.proofs.RunLemmas.{by_test}
 use Rattle.rx_model.proofs.FirstLemmas.{none-is-some}
 use Rattle.rx_thompson.specs.Automaton.{automaton}
 use Rattle.rx_engines.specs.Walk.{Slots}
 use Rattle.rx_engines.specs.Threads.{Row}
 use Rattle.rx_engines.specs.Simulation.{Hit, hit_of, best_hit, accepted_hit, among, later_starts, byte_at}
-use Rattle.rx_engines.specs.Search.{next_until, next_of, first_place, stop_of, answer_of}
+use Rattle.rx_engines.specs.Search.{next_until, next_of, first_place, answer_of}
 use Rattle.rx_engines.specs.declared.pikevm.search.Search.{Search}
 use Rattle.rx_engines.proofs.StartLemmas.{over-matched, over-past, over-end, starts-beyond}
 

@@ -1,5 +1,5 @@
 -- What an engine is to a contract, and what its searches answer.
-use Rattle.std.specs.Prelude.{◌≡◌, ℕ, ◌-◌, ◌*◌, ◌^◌, ◌<◌, min, List, length, Option, None, is_some, slice_index_or, if◌then◌else◌}
+use Rattle.std.specs.Prelude.{◌≡◌, ℕ, ◌-◌, ◌*◌, ◌^◌, ◌<◌, ◌≤◌, min, List, length, Option, Some, None, is_some, slice_index_or, if◌then◌else◌}
 use Rattle.rx_model.specs.Search.{Patterns, Match, told_of, is_anchored, next_match, slot_value}
 use Rattle.rx_model.specs.Matches.{IsMatch}
 use Rattle.rx_search.specs.Input.{InputValue, IsSpanned}
@@ -49,6 +49,10 @@ next_match_for r v = next_match r v.haystack v.anchor v.end v.start
 -- the slots are those of the match
 abbrev pub HasSlots : List (Option ℕ) → Match → Type 0
 HasSlots slots m = (k : ℕ) → k < length slots → slice_index_or slots k None ≡ slot_value m k
+
+-- each place that a slot holds lies in the input's span
+abbrev pub AreWithin : InputValue → List (Option ℕ) → Type 0
+AreWithin v slots = (k place : ℕ) → slice_index_or slots k None ≡ Some place → (v.start ≤ place) × (place ≤ v.end)
 
 -- Where something is found it is a match of the patterns in the input's span, and this holds of what is told of it.
 abbrev pub IsMatchWith : Patterns → InputValue → (Match → Type 0) → Type 0

@@ -166,8 +166,8 @@ impl Core {
         }
     }
 
-    /// What the backtracker answers. None where it does not serve this search: there is none, the span is too long for
-    /// it, or it wants memory.
+    /// What the backtracker answers. None where it does not serve this search: there is none, or the span is too long
+    /// for it.
     fn try_backtrack(
         &self,
         cache: &mut Option<backtrack::Cache>,

@@ -5,9 +5,9 @@ ghost use Rattle.rx_engines.specs.declared.frame.Frame.TheVariants.{Explore};
 ghost use Rattle.rx_engines.specs.Simulation.{cost, cost_below, Hit, IsStable, Waits, Closed, Visited, AllHere};
 
 use crate::frame::Frame;
-use crate::pikevm::stack::{Stack, push_all};
 use crate::pikevm::threads::Threads;
 use crate::slots::{Slot, read, write};
+use crate::stack::{Stack, push_all};
 use rx_search::StateID;
 use rx_thompson::State;
 

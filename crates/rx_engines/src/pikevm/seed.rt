@@ -7,9 +7,9 @@ ghost use Rattle.rx_engines.specs.Search.{IsInside};
 
 use crate::pikevm::close::close;
 use crate::pikevm::search::Search;
-use crate::pikevm::stack::Stack;
 use crate::pikevm::threads::Threads;
 use crate::slots::{Slot, clear};
+use crate::stack::Stack;
 use crate::starts::is_allowed;
 
 /// Starts a thread at each start, after the others, unless there is a match already or none may start here.

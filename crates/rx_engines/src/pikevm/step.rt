@@ -7,9 +7,9 @@ ghost use Rattle.rx_engines.specs.Search.{IsInside};
 
 use crate::pikevm::close::close;
 use crate::pikevm::search::Search;
-use crate::pikevm::stack::Stack;
 use crate::pikevm::threads::Threads;
 use crate::slots::Slot;
+use crate::stack::Stack;
 use rx_search::{PatternID, StateID};
 use rx_thompson::{State, Transition, matches_byte};
 

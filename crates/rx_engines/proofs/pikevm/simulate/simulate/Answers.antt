@@ -1,11 +1,11 @@
-use Rattle.std.proofs.Common.{◌≡◌, ◌+◌, ◌≤◌, ◌<◌, ℕ, length, refl, sym, ◌∙◌, ap, arith, true≢false}
-use Rattle.std.specs.Prelude.{true, false, None, replicate, option_map, is_some, nat_lt}
+use Rattle.std.proofs.Common.{◌≡◌, ◌+◌, ◌≤◌, ℕ, length, refl, sym, ◌∙◌, ap, arith, true≢false}
+use Rattle.std.specs.Prelude.{true, None, replicate, option_map, is_some, nat_lt}
 use Rattle.std.proofs.lemmas.Bool.Decides.{nat_tests}
 use Rattle.rx_model.specs.Runs.{nowhere}
 use Rattle.rx_model.proofs.RunLemmas.{by_test}
 use Rattle.rx_thompson.specs.Automaton.{automaton}
 use Rattle.rx_engines.specs.Threads.{StateSet}
-use Rattle.rx_engines.specs.Search.{next_until, answer_of}
+use Rattle.rx_engines.specs.Search.{next_until}
 use Rattle.rx_engines.specs.Simulation.{among, later_starts, best_hit, hit_of, passed_at}
 use Rattle.rx_engines.proofs.StartLemmas.{later-stable, after-step, best-some, cleared-after, none-left, reported-some, known-some}
 use Rattle.rx_engines.proofs.StageLemmas.{Stage, byte-same, not-some, and-false, and-true, found-none, seed-fits, stage-matched, stage-past, stage-over, stage-accepted, stage-silent, answer-stopped, answer-none, answer-late}

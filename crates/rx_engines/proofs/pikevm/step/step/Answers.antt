@@ -1,4 +1,4 @@
-use Rattle.std.proofs.Common.{◌+◌, ◌≤◌, drop, refl, sym, ◌∙◌, arith}
+use Rattle.std.proofs.Common.{◌+◌, drop, refl, sym, ◌∙◌, arith}
 use Rattle.rx_thompson.specs.Automaton.{automaton}
 use Rattle.rx_thompson.proofs.AutomatonLemmas.{automaton-bounded}
 use Rattle.rx_thompson.proofs.AutomatonLemmas.{automaton-rises}
