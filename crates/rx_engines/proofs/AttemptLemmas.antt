@@ -81,7 +81,7 @@ module _ {s : Search} {words words' : List ℕ} {new : Bool} {q i : ℕ} (t : In
   pub inserted-accepts : new ≡ true → {before : Passed} {goal : Option Answer} {base : Slots} {rest : List Frame} {slots : Slots} (pattern : ℕ)
       → (graph_for s).accepted (at q i) ≡ Some pattern
       → Searching (graph_for s) before (passed_by s words) goal base (Explore q i ∷ rest) slots → goal ≡ Some (record { pattern = pattern; end = i; slots = slots })
-  inserted-accepts unseen pattern accepts x = Searching-accepted x (automaton-bounded s.states.now s.text.now s.end) pattern (new_here unseen) accepts
+  inserted-accepts unseen pattern accepts x = Searching-accepted x (automaton-bounded s.matcher s.states.now s.text.now s.end) pattern (new_here unseen) accepts
 
   -- it gives way to its successors
   pub inserted-yields : new ≡ true → {before : Passed} {goal : Option Answer} {base : Slots} {rest frames : List Frame} {slots slots' : Slots}
@@ -89,7 +89,7 @@ module _ {s : Search} {words words' : List ℕ} {new : Bool} {q i : ℕ} (t : In
       → Searching (graph_for s) before (passed_by s words) goal base (Explore q i ∷ rest) slots → Searching (graph_for s) before (passed_by s words') goal base frames slots'
   inserted-yields unseen {before} {goal} {base} {rest} {frames} {slots} {slots'} y x =
       subst (λ p. Searching (graph_for s) before p goal base frames slots') (sym now_passed)
-      (Searching-yields x (automaton-bounded s.states.now s.text.now s.end) (new_here unseen) y)
+      (Searching-yields x (automaton-bounded s.matcher s.states.now s.text.now s.end) (new_here unseen) y)
 
   less_work : new ≡ true → work s words' + (length ((graph_for s).successors (at q i)) + 2) ≤ work s words
   unfolding work

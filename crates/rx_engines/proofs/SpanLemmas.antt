@@ -50,19 +50,19 @@ found-places g bounded rises c t h k place writes =
     let high = y.1 in
     (y.0, omega arith)
 
-first_from-places : (states : List State) (text : List ℕ) (end : ℕ) (start : Option ℕ) (i : ℕ) (t : Trace) → first_from states text end start i ≡ Some t
+first_from-places : (terminator : ℕ) (states : List State) (text : List ℕ) (end : ℕ) (start : Option ℕ) (i : ℕ) (t : Trace) → first_from terminator states text end start i ≡ Some t
     → (k place : ℕ) → last_write t.writes k ≡ Some place → (i ≤ place) × (place ≤ t.end)
-first_from-places states text end None i t h k place writes = none-is-some h
-first_from-places states text end (Some q) i t h k place writes =
-    found-places (automaton states text end) (automaton-bounded states text end) (automaton-rises states text end) (at q i) t h k place writes
+first_from-places terminator states text end None i t h k place writes = none-is-some h
+first_from-places terminator states text end (Some q) i t h k place writes =
+    found-places (automaton terminator states text end) (automaton-bounded terminator states text end) (automaton-rises terminator states text end) (at q i) t h k place writes
 
 -- a slot of the next match
 pub next_match_of-places : (nfa : Nfa) (utf8_empty : Bool) (text : List ℕ) (anchor : Anchor) (end start : ℕ) (m : Match) → next_match_of nfa utf8_empty text anchor end start ≡ Some m
     → (k place : ℕ) → slot_value m k ≡ Some place → (start ≤ place) × (place ≤ end)
 unfolding next_match_of
 next_match_of-places nfa utf8_empty text anchor end start m h k place tells =
-    let x = first_start-from (is_permitted utf8_empty text) (first_from nfa.states text end (start_of nfa anchor)) (starts anchor start end) start m h in
-    let y = first_from-places nfa.states text end (start_of nfa anchor) m.start m.trace x.1 k place tells in
+    let x = first_start-from (is_permitted utf8_empty text) (first_from nfa.terminator nfa.states text end (start_of nfa anchor)) (starts anchor start end) start m h in
+    let y = first_from-places nfa.terminator nfa.states text end (start_of nfa anchor) m.start m.trace x.1 k place tells in
     let within = next_match_of-within nfa utf8_empty text anchor end start m h in
     let low = within.0 in
     let high = within.2 in

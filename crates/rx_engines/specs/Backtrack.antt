@@ -39,7 +39,7 @@ frames_of_span s = (s.end + 1 - s.first) * cost_below s.states.now (length s.sta
 
 -- the graph whose runs are searched
 abbrev pub graph_for : Search → PriorityGraph
-graph_for s = automaton s.states.now s.text.now s.end
+graph_for s = automaton s.matcher s.states.now s.text.now s.end
 
 -- the next match in the span
 abbrev pub next_of : Search → Option Match

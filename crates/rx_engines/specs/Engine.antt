@@ -63,6 +63,7 @@ pub record IsSearchOf (vm : PikeVMValue) (v : InputValue) (qs : List ℕ) (s : S
   pub states : s.states.now ≡ vm.nfa.states
   pub starts : s.starts.now ≡ qs
   pub text : s.text.now ≡ v.haystack
+  pub matcher : s.matcher ≡ vm.nfa.terminator
   pub utf8 : s.utf8_empty ≡ vm.nfa.utf8
   pub last : s.last ≡ last_start v
   pub end : s.end ≡ v.end

@@ -25,6 +25,7 @@ fn frames_of(state: &State) -> usize
 {
     match state {
         State::Capture { .. } => 2,
+        State::Look { .. } => 1,
         State::Union { alternates } => alternates.as_slice().len(),
         State::ByteRange { .. } | State::Sparse { .. } | State::Fail | State::Match { .. } => 0,
     }

@@ -144,6 +144,7 @@ impl BoundedBacktracker {
             states: self.nfa.states(),
             start,
             text: input.haystack(),
+            matcher: *self.nfa.look_matcher(),
             utf8: self.nfa.is_utf8(),
             first: input.start(),
             last: latest_start(input),

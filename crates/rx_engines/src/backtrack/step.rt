@@ -1,4 +1,6 @@
-ghost use Rattle.std.specs.Prelude.{◌≡◌, ◌+◌, ◌<◌, ◌≤◌, ◌∷◌, [], ◌++◌, length, map};
+ghost use Rattle.std.specs.Prelude.{◌≡◌, ◌+◌, ◌<◌, ◌≤◌, ◌∷◌, [], ◌++◌, length, map, Some, None, if◌then◌else◌};
+ghost use Rattle.rx_model.specs.Look.{holds};
+ghost use Rattle.rx_search.specs.Look.{kind_of};
 ghost use Rattle.rx_thompson.specs.Automaton.{at, state_at};
 ghost use Rattle.rx_engines.specs.Walk.{explore_all};
 ghost use Rattle.rx_engines.specs.Simulation.{byte_at, cost};
@@ -8,7 +10,7 @@ use crate::backtrack::search::Search;
 use crate::frame::Frame;
 use crate::slots::Slot;
 use crate::stack::Stack;
-use rx_search::{PatternID, StateID};
+use rx_search::{Look, PatternID, StateID};
 use rx_thompson::{State, Transition, matches_byte};
 
 /// What a search does next.
@@ -53,6 +55,10 @@ pub fn step(
             let byte = byte_before(search.text, search.end, place);
             toward(in_any(transitions.as_slice(), byte), place + 1)
         }
+        State::Look { look, next } => {
+            let next = look_on(search, *look, *next, place);
+            toward(next, place)
+        }
         State::Union { alternates } => {
             let first = choose(alternates.as_slice(), place, stack);
             toward(first, place)
@@ -94,6 +100,18 @@ fn in_any(transitions: &[Transition], byte: Option<u8>) -> Option<StateID>
     match byte {
         Some(byte) => matches_byte(transitions, byte),
         None => None,
+    }
+}
+
+/// The state, where the look-around holds at the place in the whole text.
+fn look_on(search: &Search<'_>, look: Look, next: StateID, place: usize) -> Option<StateID>
+    requires { place ≤ length search.now.text.now }
+    ensures { result ≡ (if holds search.now.matcher search.now.text.now (kind_of look) place then Some next else None) }
+{
+    if search.matcher.matches(look, search.text, place) {
+        Some(next)
+    } else {
+        None
     }
 }
 

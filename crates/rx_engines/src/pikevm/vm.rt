@@ -165,6 +165,7 @@ impl PikeVM {
             states: self.nfa.states(),
             starts,
             text: input.haystack(),
+            matcher: *self.nfa.look_matcher(),
             utf8_empty: self.nfa.is_utf8(),
             last: latest_start(input),
             end: input.end(),

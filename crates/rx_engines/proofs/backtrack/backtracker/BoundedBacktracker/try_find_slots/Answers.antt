@@ -74,28 +74,28 @@ find-requires-clause-search c =
 pub reported-requires : goal.reported-requires
 reported-requires c =
     let is = sym (c.start_state.ensures.value ∙ ap (start_of c.args.self.now) c.get_anchored-anchored.ensures) ∙ c.in-Some.is in
-    let m = found-within c.args.self.now c.args.input.now (c.states.ensures.value ∙ ap (λ (n : Nfa). n.states) c.self.view_is) c.haystack.ensures.value (c.is_utf8.ensures.value ∙ ap (λ (n : Nfa). n.utf8) c.self.view_is)
+    let m = found-within c.args.self.now c.args.input.now (c.look_matcher.ensures.value ∙ ap (λ (n : Nfa). n.terminator) c.self.view_is) (c.states.ensures.value ∙ ap (λ (n : Nfa). n.states) c.self.view_is) c.haystack.ensures.value (c.is_utf8.ensures.value ∙ ap (λ (n : Nfa). n.utf8) c.self.view_is)
     c.latest_start.ensures.value c.start-2.ensures.value c.end-2.ensures.value (grind (arith, c.is_done.ensures, c.if-is_done.false)) is in
     found-in_order c.args.self.now c.args.input.now _ m c.find.result c.find.ensures.value
 
 pub returns-clause-value : goal.returns-clause-value
 returns-clause-value c =
     let is = sym (c.start_state.ensures.value ∙ ap (start_of c.args.self.now) c.get_anchored-anchored.ensures) ∙ c.in-Some.is in
-    let m = found-within c.args.self.now c.args.input.now (c.states.ensures.value ∙ ap (λ (n : Nfa). n.states) c.self.view_is) c.haystack.ensures.value (c.is_utf8.ensures.value ∙ ap (λ (n : Nfa). n.utf8) c.self.view_is)
+    let m = found-within c.args.self.now c.args.input.now (c.look_matcher.ensures.value ∙ ap (λ (n : Nfa). n.terminator) c.self.view_is) (c.states.ensures.value ∙ ap (λ (n : Nfa). n.states) c.self.view_is) c.haystack.ensures.value (c.is_utf8.ensures.value ∙ ap (λ (n : Nfa). n.utf8) c.self.view_is)
     c.latest_start.ensures.value c.start-2.ensures.value c.end-2.ensures.value (grind (arith, c.is_done.ensures, c.if-is_done.false)) is in
     c.reported.ensures ∙ ap (option_map _) c.find.ensures.value ∙ reported-triple _ ∙ ap (option_map match_value) m
 
 pub returns-clause-slots : goal.returns-clause-slots
 returns-clause-slots c =
     let is = sym (c.start_state.ensures.value ∙ ap (start_of c.args.self.now) c.get_anchored-anchored.ensures) ∙ c.in-Some.is in
-    let m = found-within c.args.self.now c.args.input.now (c.states.ensures.value ∙ ap (λ (n : Nfa). n.states) c.self.view_is) c.haystack.ensures.value (c.is_utf8.ensures.value ∙ ap (λ (n : Nfa). n.utf8) c.self.view_is)
+    let m = found-within c.args.self.now c.args.input.now (c.look_matcher.ensures.value ∙ ap (λ (n : Nfa). n.terminator) c.self.view_is) (c.states.ensures.value ∙ ap (λ (n : Nfa). n.states) c.self.view_is) c.haystack.ensures.value (c.is_utf8.ensures.value ∙ ap (λ (n : Nfa). n.utf8) c.self.view_is)
     c.latest_start.ensures.value c.start-2.ensures.value c.end-2.ensures.value (grind (arith, c.is_done.ensures, c.if-is_done.false)) is in
     slots-met c.args.self.now c.args.input.now c.start_state.ensures.in_range c.requires.slots _ m c.find.new.slots c.find.ensures.slots
 
 pub returns-clause-within : goal.returns-clause-within
 returns-clause-within c =
     let is = sym (c.start_state.ensures.value ∙ ap (start_of c.args.self.now) c.get_anchored-anchored.ensures) ∙ c.in-Some.is in
-    let m = found-within c.args.self.now c.args.input.now (c.states.ensures.value ∙ ap (λ (n : Nfa). n.states) c.self.view_is) c.haystack.ensures.value (c.is_utf8.ensures.value ∙ ap (λ (n : Nfa). n.utf8) c.self.view_is)
+    let m = found-within c.args.self.now c.args.input.now (c.look_matcher.ensures.value ∙ ap (λ (n : Nfa). n.terminator) c.self.view_is) (c.states.ensures.value ∙ ap (λ (n : Nfa). n.states) c.self.view_is) c.haystack.ensures.value (c.is_utf8.ensures.value ∙ ap (λ (n : Nfa). n.utf8) c.self.view_is)
     c.latest_start.ensures.value c.start-2.ensures.value c.end-2.ensures.value (grind (arith, c.is_done.ensures, c.if-is_done.false)) is in
     found-in_span c.args.self.now c.args.input.now _ m c.reported.result (c.reported.ensures ∙ ap (option_map _) c.find.ensures.value ∙ reported-triple _)
 
@@ -113,7 +113,7 @@ returns-then-is_done-clause-slots_within c = empty-within c.args.input.now _ c.e
 pub returns-clause-slots_within : goal.returns-clause-slots_within
 returns-clause-slots_within c =
     let is = sym (c.start_state.ensures.value ∙ ap (start_of c.args.self.now) c.get_anchored-anchored.ensures) ∙ c.in-Some.is in
-    let m = found-within c.args.self.now c.args.input.now (c.states.ensures.value ∙ ap (λ (n : Nfa). n.states) c.self.view_is) c.haystack.ensures.value (c.is_utf8.ensures.value ∙ ap (λ (n : Nfa). n.utf8) c.self.view_is)
+    let m = found-within c.args.self.now c.args.input.now (c.look_matcher.ensures.value ∙ ap (λ (n : Nfa). n.terminator) c.self.view_is) (c.states.ensures.value ∙ ap (λ (n : Nfa). n.states) c.self.view_is) c.haystack.ensures.value (c.is_utf8.ensures.value ∙ ap (λ (n : Nfa). n.utf8) c.self.view_is)
     c.latest_start.ensures.value c.start-2.ensures.value c.end-2.ensures.value (grind (arith, c.is_done.ensures, c.if-is_done.false)) is in
     told-within c.args.self.now c.args.self.now.utf8 c.args.input.now c.args.input.now.end (omega arith) _ refl c.find.new.slots
     (slots-met c.args.self.now c.args.input.now c.start_state.ensures.in_range c.requires.slots _ m c.find.new.slots c.find.ensures.slots)
