@@ -8,6 +8,8 @@ mod limits;
 #[cfg(test)]
 mod rows;
 #[cfg(test)]
+mod scans;
+#[cfg(test)]
 mod slots;
 #[cfg(test)]
 mod standard;
