@@ -13,7 +13,7 @@ use Rattle.rx_thompson.specs.Draft.{Draft, Extends, pushed}
 use Rattle.rx_thompson.specs.States.{Stands}
 use Rattle.rx_thompson.specs.Built.{IsChain, IsImage, Rises, Sends, Mirrors, Built}
 use Rattle.rx_thompson.specs.declared.state.State.{State}
-use Rattle.rx_thompson.specs.declared.state.State.TheVariants.{ByteRange, Union, Capture, Fail, Match}
+use Rattle.rx_thompson.specs.declared.state.State.TheVariants.{ByteRange, Look, Union, Capture, Fail, Match}
 
 -- Lists of numbers.
 
@@ -69,7 +69,7 @@ module _ (IsAt IsAt' : ℕ → State → Type 0) (kept : (q : ℕ) (state : Stat
   IsImage-map f (graph.text (b ∷ bytes) next) q h = IsChain-map q (b ∷ bytes) (f next) h
   IsImage-map f (graph.set (scalar_ranges ranges) next) q h = IsClass-map (HasReader IsAt) (HasReader IsAt') (f next) (HasReader-map IsAt IsAt' kept) ranges q h
   IsImage-map f (graph.set (byte_ranges ranges) next) q h = (h.0, IsByteClass-map (HasReader IsAt) (HasReader IsAt') (f next) (HasReader-map IsAt IsAt' kept) ranges q h.1)
-  IsImage-map f (graph.assertion kind next) q h = h
+  IsImage-map f (graph.assertion kind next) q h = (h.0, h.1, kept q (Look h.0 (f next)) h.2)
   IsImage-map f (graph.slot number next) q h = (h.0, kept q (Capture (f next) h.0 number) h.1)
   IsImage-map f (graph.choice states) q h = kept q (Union (map f states)) h
   IsImage-map f (graph.accept pattern) q h = kept q (Match pattern) h

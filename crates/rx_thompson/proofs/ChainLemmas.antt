@@ -22,9 +22,9 @@ pub stands-cons : (text : List ℕ) (i b : ℕ) (bytes : List ℕ) → i < lengt
 unfolding stands_at
 stands-cons text i b bytes lt = rw (drop-cons text i 0) refl
 
-module _ (whole : List State) (text : List ℕ) (end : ℕ) (inside : end ≤ length text) (low : ℕ) where
+module _ (terminator : ℕ) (whole : List State) (text : List ℕ) (end : ℕ) (inside : end ≤ length text) (low : ℕ) where
   abbrev pub m : PriorityGraph
-  m = automaton whole text end
+  m = automaton terminator whole text end
 
   -- what is found from state r, after n bytes from i on
   abbrev pub after : Passed → (r i : ℕ) → Bool → ℕ → Option Trace
@@ -48,21 +48,21 @@ module _ (whole : List State) (text : List ℕ) (end : ℕ) (inside : end ≤ le
   byte-found : (p : Passed) (q i b next : ℕ) → i ≤ end → Stands low whole q (ByteRange b b next) → p (at q i) ≡ false
       → found m p (at q i) ≡ (if nat_lt i end && nat_eq b (slice_index text i) then found m p (at next (i + 1)) else None)
   byte-found p q i b next le s new =
-      found-step m p (automaton-bounded whole text end) (at q i) new (automaton-accepted whole text end q i s.inside le ∙ ap state_accepts s.is)
+      found-step m p (automaton-bounded terminator whole text end) (at q i) new (automaton-accepted terminator whole text end q i s.inside le ∙ ap state_accepts s.is)
       ∙ (λ j. option_map (with_write (written j) i) (first_some (found m (and_at (at q i) p)) (successors j)))
       ∙ by_test (nat_lt i end)
       (λ e. rw e (by_test (nat_eq b (slice_index text i))
       (λ k. let hit : (nat_le b (slice_index text i) && nat_le (slice_index text i) b) ≡ true = grind (arith, nat_tests) in
       rw (hit, k) (single i (found m (and_at (at q i) p) (at next (i + 1)))
-      ∙ found-forget m (automaton-rises whole text end) (and_at (at q i) p) p (at next (i + 1)) (λ d later. not_here q i p d later)))
+      ∙ found-forget m (automaton-rises terminator whole text end) (and_at (at q i) p) p (at next (i + 1)) (λ d later. not_here q i p d later)))
       (λ k. let miss : (nat_le b (slice_index text i) && nat_le (slice_index text i) b) ≡ false = grind (arith, nat_tests) in rw (miss, k) refl)))
       (λ e. rw e refl)
     where
       written : m.written (at q i) ≡ None
-      written = automaton-written whole text end q i ∙ ap state_writes s.is
+      written = automaton-written terminator whole text end q i ∙ ap state_writes s.is
 
-      successors : m.successors (at q i) ≡ state_step text end (ByteRange b b next) i
-      successors = automaton-successors whole text end q i s.inside le ∙ ap (λ t. state_step text end t i) s.is
+      successors : m.successors (at q i) ≡ state_step terminator text end (ByteRange b b next) i
+      successors = automaton-successors terminator whole text end q i s.inside le ∙ ap (λ t. state_step terminator text end t i) s.is
 
   pub chain-found : (p : Passed) (q : ℕ) (bytes : List ℕ) (r i : ℕ) → i ≤ end → IsChain (Stands low whole) q bytes r → p (at q i) ≡ false
       → ((d : Configuration) → i < d.place → p d ≡ false) → found m p (at q i) ≡ after p r i (stands_at text i bytes) (length bytes)

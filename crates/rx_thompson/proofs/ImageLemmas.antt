@@ -1,11 +1,12 @@
 -- Where the states of a graph have their images in an NFA, the first runs are alike.
 use Rattle.std.proofs.Common.{◌≡◌, ℕ, zero, suc, ◌+◌, ◌≤◌, ◌<◌, ◌⊎◌, List, [], ◌∷◌, length, refl, sym, ◌∙◌, ap, subst, inl, inr, ⊎_elim, arith}
-use Rattle.std.specs.Prelude.{true, false, nat_le, None, Contains, map, ⊤}
+use Rattle.std.specs.Prelude.{true, false, if◌then◌else◌, nat_le, None, Contains, map, ⊤}
 use Rattle.std.specs.List.{AllZip}
 use Rattle.std.proofs.lemmas.Bool.{cases_lt}
 use Rattle.std.proofs.lemmas.Bool.Decides.{nat_tests}
 use Rattle.std.proofs.lemmas.List.{get_or_past}
 use Rattle.rx_model.specs.Text.{stands_at, scalar_ranges, byte_ranges}
+use Rattle.rx_model.specs.Look.{holds}
 use Rattle.rx_model.specs.Graph as graph
 use Rattle.rx_model.specs.Runs.{Configuration, PriorityGraph, Passed, IsBounded, found, nowhere}
 use Rattle.rx_model.specs.Machine.{is_inside, graph_of}
@@ -16,7 +17,7 @@ use Rattle.rx_thompson.specs.Automaton.{at, state_at, state_step, state_accepts,
 use Rattle.rx_thompson.specs.States.{Stands}
 use Rattle.rx_thompson.specs.Built.{IsImage, Rises, Sends}
 use Rattle.rx_thompson.specs.declared.state.State.{State}
-use Rattle.rx_thompson.specs.declared.state.State.TheVariants.{Union, Capture, Match, Fail}
+use Rattle.rx_thompson.specs.declared.state.State.TheVariants.{Look, Union, Capture, Match, Fail}
 use Rattle.rx_thompson.proofs.BuiltLemmas.{AllZip-length, Rises-to}
 use Rattle.rx_thompson.proofs.AutomatonLemmas.{stays-in, automaton-bounded, automaton-successors, automaton-accepted, automaton-written, automaton-successors-past, automaton-accepted-past, automaton-successors-beyond, automaton-accepted-beyond}
 use Rattle.rx_thompson.proofs.RefinedLemmas.{reads-accepts, reads-writes, IsReader-reading, set-refined, member_len-scalar, member_len-byte, IsClass-reads, IsByteClass-reads}
@@ -99,7 +100,7 @@ module _ (t : ℕ) (text : List ℕ) (end : ℕ) (inside : end ≤ length text) 
   g = graph.runs_of t text end states
 
   abbrev m : PriorityGraph
-  m = automaton whole text end
+  m = automaton t whole text end
 
   long : length states ≡ length images
   long = AllZip-length (IsImage (Stands low whole) f) states images each
@@ -134,10 +135,10 @@ module _ (t : ℕ) (text : List ℕ) (end : ℕ) (inside : end ≤ length text) 
 
   -- and what the automaton does
   m-outside : (c : Configuration) → (end < c.place) ⊎ (length states ≤ c.state) → (m.successors (moved f c) ≡ []) × (m.accepted (moved f c) ≡ None)
-  m-outside c (inl past) = (automaton-successors-past whole text end (f c.state) c.place past, automaton-accepted-past whole text end (f c.state) c.place past)
+  m-outside c (inl past) = (automaton-successors-past t whole text end (f c.state) c.place past, automaton-accepted-past t whole text end (f c.state) c.place past)
   m-outside c (inr past) =
       let le = beyond c.state past in
-      (automaton-successors-beyond whole text end (f c.state) c.place le, automaton-accepted-beyond whole text end (f c.state) c.place le)
+      (automaton-successors-beyond t whole text end (f c.state) c.place le, automaton-accepted-beyond t whole text end (f c.state) c.place le)
 
   -- its image is there
   image-inside : (s : graph.State) (q : ℕ) → IsImage (Stands low whole) f s q → q < length whole
@@ -145,7 +146,7 @@ module _ (t : ℕ) (text : List ℕ) (end : ℕ) (inside : end ≤ length text) 
   image-inside (graph.text (b ∷ bytes) next) q h = h.1.inside
   image-inside (graph.set (scalar_ranges ranges) next) q h = h.reads.stands.inside
   image-inside (graph.set (byte_ranges ranges) next) q h = h.1.reads.stands.inside
-  image-inside (graph.assertion kind next) q h = absurd h
+  image-inside (graph.assertion kind next) q h = h.2.inside
   image-inside (graph.slot number next) q h = h.1.inside
   image-inside (graph.choice qs) q h = h.inside
   image-inside (graph.accept pattern) q h = h.inside
@@ -155,7 +156,7 @@ module _ (t : ℕ) (text : List ℕ) (end : ℕ) (inside : end ≤ length text) 
   image-accepts (graph.text (b ∷ bytes) next) q h = ap state_accepts h.1.is
   image-accepts (graph.set (scalar_ranges ranges) next) q h = reads-accepts (state_at whole q) h.row (IsReader-reading low whole q h.row h.reads)
   image-accepts (graph.set (byte_ranges ranges) next) q h = reads-accepts (state_at whole q) h.1.row (IsReader-reading low whole q h.1.row h.1.reads)
-  image-accepts (graph.assertion kind next) q h = absurd h
+  image-accepts (graph.assertion kind next) q h = ap state_accepts h.2.is
   image-accepts (graph.slot number next) q h = ap state_accepts h.1.is
   image-accepts (graph.choice qs) q h = ap state_accepts h.is
   image-accepts (graph.accept pattern) q h = ap state_accepts h.is
@@ -165,7 +166,7 @@ module _ (t : ℕ) (text : List ℕ) (end : ℕ) (inside : end ≤ length text) 
   image-writes (graph.text (b ∷ bytes) next) q h = ap state_writes h.1.is
   image-writes (graph.set (scalar_ranges ranges) next) q h = reads-writes (state_at whole q) h.row (IsReader-reading low whole q h.row h.reads)
   image-writes (graph.set (byte_ranges ranges) next) q h = reads-writes (state_at whole q) h.1.row (IsReader-reading low whole q h.1.row h.1.reads)
-  image-writes (graph.assertion kind next) q h = absurd h
+  image-writes (graph.assertion kind next) q h = ap state_writes h.2.is
   image-writes (graph.slot number next) q h = ap state_writes h.1.is
   image-writes (graph.choice qs) q h = ap state_writes h.is
   image-writes (graph.accept pattern) q h = ap state_writes h.is
@@ -183,14 +184,14 @@ module _ (t : ℕ) (text : List ℕ) (end : ℕ) (inside : end ≤ length text) 
       by_place c
       (λ lt le.
       let h = is_image c.state lt in
-      automaton-accepted whole text end (f c.state) c.place (image-inside (graph.state_at states c.state) (f c.state) h) le
+      automaton-accepted t whole text end (f c.state) c.place (image-inside (graph.state_at states c.state) (f c.state) h) le
       ∙ image-accepts (graph.state_at states c.state) (f c.state) h
       ∙ sym (g-accepted c lt le))
       (λ out. (m-outside c out).1 ∙ sym (g-outside c out).1)
 
   written : (c : Configuration) → m.written (moved f c) ≡ g.written c
   written c =
-      automaton-written whole text end (f c.state) c.place
+      automaton-written t whole text end (f c.state) c.place
       ∙ ⊎_elim
       (λ lt. image-writes (graph.state_at states c.state) (f c.state) (is_image c.state lt))
       (λ past. (λ i. state_writes (get_or_past whole (f c.state) Fail (beyond c.state past) i)) ∙ sym (λ i. graph.state_writes (get_or_past states c.state (graph.choice []) past i)))
@@ -212,10 +213,10 @@ module _ (t : ℕ) (text : List ℕ) (end : ℕ) (inside : end ≤ length text) 
   goes_on : (c : Configuration) → c.state < length states → c.place ≤ end → (s : graph.State) → graph.state_at states c.state ≡ s → IsImage (Stands low whole) f s (f c.state)
       → Stays g m f c ⊎ Reads g m f c ⊎ Fails g m f c
   goes_on c lt le s is h = kinds s h (g-written c ∙ ap graph.state_writes is) (g-successors c lt le ∙ ap (λ x. graph.state_step t text end x c.place) is)
-      (λ state at_image. automaton-successors whole text end (f c.state) c.place (image-inside s (f c.state) h) le ∙ ap (λ x. state_step text end x c.place) at_image)
+      (λ state at_image. automaton-successors t whole text end (f c.state) c.place (image-inside s (f c.state) h) le ∙ ap (λ x. state_step t text end x c.place) at_image)
     where
       kinds : (s : graph.State) → IsImage (Stands low whole) f s (f c.state) → g.written c ≡ graph.state_writes s → g.successors c ≡ graph.state_step t text end s c.place
-          → ((state : State) → state_at whole (f c.state) ≡ state → m.successors (moved f c) ≡ state_step text end state c.place)
+          → ((state : State) → state_at whole (f c.state) ≡ state → m.successors (moved f c) ≡ state_step t text end state c.place)
           → Stays g m f c ⊎ Reads g m f c ⊎ Fails g m f c
       kinds (graph.text [] next) h w in_g in_m =
           let none : c.place + 0 ≡ c.place = omega arith in
@@ -223,8 +224,8 @@ module _ (t : ℕ) (text : List ℕ) (end : ℕ) (inside : end ≤ length text) 
           let to : graph.state_step t text end (graph.text [] next) c.place ≡ at next c.place ∷ [] = rw (stands-none text c.place, fits) (ap (λ i. at next i ∷ []) none) in
           inl (stays c (next ∷ []) (in_g ∙ to) (in_m (Union (f next ∷ [])) h.is))
       kinds (graph.text (b ∷ bytes) next) h w in_g in_m =
-          let reads : (p : Passed) → IsFresh p (moved f c) → found m p (moved f c) ≡ after whole text end inside low p (f next) c.place (stands_at text c.place (b ∷ bytes)) (suc (length bytes)) =
-          λ p fresh. chain-found whole text end inside low p (f c.state) (b ∷ bytes) (f next) c.place le h fresh.new fresh.ahead in
+          let reads : (p : Passed) → IsFresh p (moved f c) → found m p (moved f c) ≡ after t whole text end inside low p (f next) c.place (stands_at text c.place (b ∷ bytes)) (suc (length bytes)) =
+          λ p fresh. chain-found t whole text end inside low p (f c.state) (b ∷ bytes) (f next) c.place le h fresh.new fresh.ahead in
           by_test (stands_at text c.place (b ∷ bytes))
           (λ stands. by_test (nat_le (c.place + suc (length bytes)) end)
           (λ fits. inr (inl (record {
@@ -237,10 +238,14 @@ module _ (t : ℕ) (text : List ℕ) (end : ℕ) (inside : end ≤ length text) 
           (λ short. inr (inr (record { successors = in_g ∙ rw (stands, short) refl; fails = λ p fresh. reads p fresh ∙ rw (stands, short) refl }))))
           (λ gone. inr (inr (record { successors = in_g ∙ rw gone refl; fails = λ p fresh. reads p fresh ∙ rw gone refl })))
       kinds (graph.set (scalar_ranges ranges) next) h w in_g in_m =
-          inr (set-refined g m f t text end c.state next c.place (scalar_ranges ranges) (λ n e. member_len-scalar text ranges c.place n e) w in_g (IsClass-reads whole text end low (f next) (f c.state) ranges inside h))
+          inr (set-refined g m f t text end c.state next c.place (scalar_ranges ranges) (λ n e. member_len-scalar text ranges c.place n e) w in_g (IsClass-reads t whole text end low (f next) (f c.state) ranges inside h))
       kinds (graph.set (byte_ranges ranges) next) h w in_g in_m =
-          inr (set-refined g m f t text end c.state next c.place (byte_ranges ranges) (λ n e. member_len-byte text ranges c.place n e) w in_g (IsByteClass-reads whole text end low (f next) (f c.state) ranges inside h.0 h.1))
-      kinds (graph.assertion kind next) h w in_g in_m = absurd h
+          inr (set-refined g m f t text end c.state next c.place (byte_ranges ranges) (λ n e. member_len-byte text ranges c.place n e) w in_g (IsByteClass-reads t whole text end low (f next) (f c.state) ranges inside h.0 h.1))
+      kinds (graph.assertion kind next) h w in_g in_m =
+          let goes = in_m (Look h.0 (f next)) h.2.is ∙ ap (λ k. if holds t text k c.place then at (f next) c.place ∷ [] else []) h.1 in
+          by_test (holds t text kind c.place)
+          (λ here. inl (stays c (next ∷ []) (in_g ∙ rw here refl) (goes ∙ rw here refl)))
+          (λ gone. inl (stays c [] (in_g ∙ rw gone refl) (goes ∙ rw gone refl)))
       kinds (graph.slot number next) h w in_g in_m = inl (stays c (next ∷ []) in_g (in_m (Capture (f next) h.0 number) h.1.is))
       kinds (graph.choice qs) h w in_g in_m = inl (stays c qs in_g (in_m (Union (map f qs)) h.is))
       kinds (graph.accept pattern) h w in_g in_m = inl (stays c [] in_g (in_m (Match pattern) h.is))
@@ -263,4 +268,4 @@ module _ (t : ℕ) (text : List ℕ) (end : ℕ) (inside : end ≤ length text) 
   pub image-found : (q : Passed) (k i : ℕ) → ((j i : ℕ) → q (at (f j) i) ≡ false) → ((d : Configuration) → i < d.place → q d ≡ false)
       → found m q (at (f k) i) ≡ found g nowhere (at k i)
   image-found q k i apart ahead =
-      Refines-found-past g m f (λ k. ⊤) refines g-bounded (automaton-bounded whole text end) q (at k i) tt (λ a j live. apart a j) ahead
+      Refines-found-past g m f (λ k. ⊤) refines g-bounded (automaton-bounded t whole text end) q (at k i) tt (λ a j live. apart a j) ahead

@@ -16,7 +16,7 @@ use Rattle.rx_thompson.specs.Automaton.{at, automaton, state_at, state_writes, I
 use Rattle.rx_thompson.specs.Nfa.{Nfa, IsInRange, HasFirstRuns}
 use Rattle.rx_thompson.specs.NextMatch.{start_of, first_from, next_match_of}
 use Rattle.rx_thompson.specs.declared.state.State.{State}
-use Rattle.rx_thompson.specs.declared.state.State.TheVariants.{ByteRange, Sparse, Union, Capture, Fail, Match as Accepts}
+use Rattle.rx_thompson.specs.declared.state.State.TheVariants.{ByteRange, Sparse, Look, Union, Capture, Fail, Match as Accepts}
 use Rattle.rx_thompson.proofs.AutomatonLemmas.{automaton-bounded, automaton-rises, automaton-accepts-within, automaton-written}
 
 -- where each start tells the same
@@ -64,31 +64,31 @@ first_start-told which permitted from (suc n) i =
 
 module _ (nfa : Nfa) (r : Patterns) (text : List ℕ) (end : ℕ) (within : end ≤ length text) (runs : HasFirstRuns nfa r) where
   -- what a start tells is what is told of the patterns there
-  starting-alike : (anchor : Anchor) (i : ℕ) → first_from nfa.states text end (start_of nfa anchor) i ≡ option_map (told r.which_captures) (starting_at r text end anchor i)
+  starting-alike : (anchor : Anchor) (i : ℕ) → first_from nfa.terminator nfa.states text end (start_of nfa anchor) i ≡ option_map (told r.which_captures) (starting_at r text end anchor i)
   unfolding starting_at
   starting-alike free i = runs.all text end i within
   starting-alike anchored i = runs.all text end i within
   starting-alike (anchored_to p) i = named (slice_get r.expressions p) refl
     where
-      named : (o : Option Expression) → slice_get r.expressions p ≡ o → first_from nfa.states text end (slice_get nfa.starts p) i ≡ option_map (told r.which_captures) (first_of_pattern r text end p o i)
+      named : (o : Option Expression) → slice_get r.expressions p ≡ o → first_from nfa.terminator nfa.states text end (slice_get nfa.starts p) i ≡ option_map (told r.which_captures) (first_of_pattern r text end p o i)
       named None e =
           elim (slice_get_cases r.expressions p).1 [
             | inl there ↦ none-is-some (sym e ∙ there.2)
             | inr past ↦
                 let le = past.0 in
                 let same = runs.patterns in
-                ap (λ s. first_from nfa.states text end s i) (slice_get_past nfa.starts p (omega arith))
+                ap (λ s. first_from nfa.terminator nfa.states text end s i) (slice_get_past nfa.starts p (omega arith))
           ]
       named (Some h) e =
           let lt = slice_get_within r.expressions p h e in
           let same = runs.patterns in
-          ap (λ s. first_from nfa.states text end s i) (slice_get-get_or nfa.starts p 0 (omega arith)) ∙ runs.each text end p i h within e
+          ap (λ s. first_from nfa.terminator nfa.states text end s i) (slice_get-get_or nfa.starts p 0 (omega arith)) ∙ runs.each text end p i h within e
 
   pub next_match_of-patterns : (utf8_empty : Bool) (anchor : Anchor) (start : ℕ) → r.utf8_empty ≡ utf8_empty
       → next_match_of nfa utf8_empty text anchor end start ≡ option_map (told_of r.which_captures) (next_match r text anchor end start)
   unfolding next_match_of next_match
   next_match_of-patterns utf8_empty anchor start same =
-      first_start-alike (is_permitted utf8_empty text) (first_from nfa.states text end (start_of nfa anchor)) (λ j. option_map (told r.which_captures) (starting_at r text end anchor j)) (starts anchor start end) start (λ j le. starting-alike anchor j)
+      first_start-alike (is_permitted utf8_empty text) (first_from nfa.terminator nfa.states text end (start_of nfa anchor)) (λ j. option_map (told r.which_captures) (starting_at r text end anchor j)) (starts anchor start end) start (λ j le. starting-alike anchor j)
       ∙ first_start-told r.which_captures (is_permitted utf8_empty text) (starting_at r text end anchor) (starts anchor start end) start
       ∙ ap (λ u. option_map (told_of r.which_captures) (first_start (is_permitted u text) (starting_at r text end anchor) (starts anchor start end) start)) (sym same)
 
@@ -102,6 +102,7 @@ told_of-all (Some m) = refl
 writes-within : (patterns slots slot : ℕ) (s : State) → IsWithin patterns slots s → state_writes s ≡ Some slot → slot < slots
 writes-within patterns slots slot (ByteRange low high next) within writes = none-is-some writes
 writes-within patterns slots slot (Sparse transitions) within writes = none-is-some writes
+writes-within patterns slots slot (Look look next) within writes = none-is-some writes
 writes-within patterns slots slot (Union alternates) within writes = none-is-some writes
 writes-within patterns slots slot (Capture next pattern number) within writes = let same : number ≡ slot = some-is writes in let lt = within.1 in omega arith
 writes-within patterns slots slot Fail within writes = none-is-some writes
@@ -110,15 +111,16 @@ writes-within patterns slots slot (Accepts pattern) within writes = none-is-some
 writes-none : (patterns slots : ℕ) (s : State) → slots ≡ 0 → IsWithin patterns slots s → state_writes s ≡ None
 writes-none patterns slots (ByteRange low high next) empty within = refl
 writes-none patterns slots (Sparse transitions) empty within = refl
+writes-none patterns slots (Look look next) empty within = refl
 writes-none patterns slots (Union alternates) empty within = refl
 writes-none patterns slots (Capture next pattern number) empty within = let lt = within.1 in absurd (omega arith)
 writes-none patterns slots Fail empty within = refl
 writes-none patterns slots (Accepts pattern) empty within = refl
 
 -- where there are no slots nothing is written
-pub written-none : (nfa : Nfa) → IsInRange nfa → nfa.slots ≡ 0 → (text : List ℕ) (end : ℕ) (c : Configuration) → (automaton nfa.states text end).written c ≡ None
+pub written-none : (nfa : Nfa) → IsInRange nfa → nfa.slots ≡ 0 → (text : List ℕ) (end : ℕ) (c : Configuration) → (automaton nfa.terminator nfa.states text end).written c ≡ None
 written-none nfa range empty text end c =
-    automaton-written nfa.states text end c.state c.place
+    automaton-written nfa.terminator nfa.states text end c.state c.place
     ∙ by_test (nat_lt c.state (length nfa.states))
     (λ e.
     let lt : c.state < length nfa.states = grind (arith, nat_tests) in
@@ -127,11 +129,11 @@ written-none nfa range empty text end c =
 
 module _ (nfa : Nfa) (range : IsInRange nfa) (text : List ℕ) (end slot : ℕ) (past : nfa.slots ≤ slot) where
   abbrev graph : PriorityGraph
-  graph = automaton nfa.states text end
+  graph = automaton nfa.terminator nfa.states text end
 
   written-within : (c : Configuration) (k : ℕ) → graph.written c ≡ Some k → k ≢ slot
   written-within c k h same =
-      let writes : state_writes (state_at nfa.states c.state) ≡ Some k = sym (automaton-written nfa.states text end c.state c.place) ∙ h in
+      let writes : state_writes (state_at nfa.states c.state) ≡ Some k = sym (automaton-written nfa.terminator nfa.states text end c.state c.place) ∙ h in
       by_test (nat_lt c.state (length nfa.states))
       (λ e.
       let lt : c.state < length nfa.states = grind (arith, nat_tests) in
@@ -158,7 +160,7 @@ module _ (nfa : Nfa) (range : IsInRange nfa) (text : List ℕ) (end slot : ℕ) 
       of_run None e = none-is-some e
       of_run (Some run) e = ap (λ (x : Trace). last_write x.writes slot) (sym (some-is e)) ∙ run-writes c run
 
-  first_from-writes : (start : Option ℕ) (i : ℕ) (t : Trace) → first_from nfa.states text end start i ≡ Some t → last_write t.writes slot ≡ None
+  first_from-writes : (start : Option ℕ) (i : ℕ) (t : Trace) → first_from nfa.terminator nfa.states text end start i ≡ Some t → last_write t.writes slot ≡ None
   first_from-writes None i t h = none-is-some h
   first_from-writes (Some q) i t h = found-writes (at q i) t h
 
@@ -166,21 +168,21 @@ module _ (nfa : Nfa) (range : IsInRange nfa) (text : List ℕ) (end slot : ℕ) 
   pub next_match_of-slot : (utf8_empty : Bool) (anchor : Anchor) (start : ℕ) (m : Match) → next_match_of nfa utf8_empty text anchor end start ≡ Some m → slot_value m slot ≡ None
   unfolding next_match_of
   next_match_of-slot utf8_empty anchor start m h =
-      let x = first_start-from (is_permitted utf8_empty text) (first_from nfa.states text end (start_of nfa anchor)) (starts anchor start end) start m h in
+      let x = first_start-from (is_permitted utf8_empty text) (first_from nfa.terminator nfa.states text end (start_of nfa anchor)) (starts anchor start end) start m h in
       first_from-writes (start_of nfa anchor) m.start m.trace x.1
 
 -- Where a match lies.
 
-first_from-within : (states : List State) (text : List ℕ) (end : ℕ) (start : Option ℕ) (i : ℕ) (t : Trace) → first_from states text end start i ≡ Some t → (i ≤ t.end) × (t.end ≤ end)
-first_from-within states text end None i t h = none-is-some h
-first_from-within states text end (Some q) i t h =
-    let ends = found-end (automaton states text end) (automaton-bounded states text end) (automaton-rises states text end) end (automaton-accepts-within states text end) nowhere (at q i) t h in
+first_from-within : (terminator : ℕ) (states : List State) (text : List ℕ) (end : ℕ) (start : Option ℕ) (i : ℕ) (t : Trace) → first_from terminator states text end start i ≡ Some t → (i ≤ t.end) × (t.end ≤ end)
+first_from-within terminator states text end None i t h = none-is-some h
+first_from-within terminator states text end (Some q) i t h =
+    let ends = found-end (automaton terminator states text end) (automaton-bounded terminator states text end) (automaton-rises terminator states text end) end (automaton-accepts-within terminator states text end) nowhere (at q i) t h in
     (ends.0, ends.1)
 
 pub next_match_of-within : (nfa : Nfa) (utf8_empty : Bool) (text : List ℕ) (anchor : Anchor) (end start : ℕ) (m : Match) → next_match_of nfa utf8_empty text anchor end start ≡ Some m
     → (start ≤ m.start) × (m.start ≤ m.trace.end) × (m.trace.end ≤ end)
 unfolding next_match_of
 next_match_of-within nfa utf8_empty text anchor end start m h =
-    let x = first_start-from (is_permitted utf8_empty text) (first_from nfa.states text end (start_of nfa anchor)) (starts anchor start end) start m h in
-    let y = first_from-within nfa.states text end (start_of nfa anchor) m.start m.trace x.1 in
+    let x = first_start-from (is_permitted utf8_empty text) (first_from nfa.terminator nfa.states text end (start_of nfa anchor)) (starts anchor start end) start m h in
+    let y = first_from-within nfa.terminator nfa.states text end (start_of nfa anchor) m.start m.trace x.1 in
     (x.0, y.0, y.1)

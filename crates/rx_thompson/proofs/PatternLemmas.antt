@@ -56,18 +56,18 @@ HasPart-pattern whole slot p h old mid new start is b' = record {
         }
 
 -- what is found past the end is nothing
-found-far : (states : List State) (text : List ℕ) (end : ℕ) (q : Passed) (s i : ℕ) → end < i → found (automaton states text end) q (at s i) ≡ None
-found-far states text end q s i far =
+found-far : (terminator : ℕ) (states : List State) (text : List ℕ) (end : ℕ) (q : Passed) (s i : ℕ) → end < i → found (automaton terminator states text end) q (at s i) ≡ None
+found-far terminator states text end q s i far =
     by_test (q (at s i))
-    (λ seen. found-passed (automaton states text end) q (at s i) seen)
-    (λ new. found-step (automaton states text end) q (automaton-bounded states text end) (at s i) new (automaton-accepted-past states text end s i far)
-    ∙ ap (λ ds. option_map (with_write ((automaton states text end).written (at s i)) i) (first_some (found (automaton states text end) (and_at (at s i) q)) ds)) (automaton-successors-past states text end s i far))
+    (λ seen. found-passed (automaton terminator states text end) q (at s i) seen)
+    (λ new. found-step (automaton terminator states text end) q (automaton-bounded terminator states text end) (at s i) new (automaton-accepted-past terminator states text end s i far)
+    ∙ ap (λ ds. option_map (with_write ((automaton terminator states text end).written (at s i)) i) (first_some (found (automaton terminator states text end) (and_at (at s i) q)) ds)) (automaton-successors-past terminator states text end s i far))
 
 -- In a later draft, whatever was passed of states that were added since.
 module _ (r : Patterns) (text : List ℕ) (end : ℕ) (inside : end ≤ length text) (old new : Draft) (e : Extends old new)
-    (silent : r.which_captures ≡ no_group → (c : Configuration) → (automaton new.states text end).written c ≡ None) where
+    (silent : r.which_captures ≡ no_group → (c : Configuration) → (automaton r.terminator new.states text end).written c ≡ None) where
   abbrev m : PriorityGraph
-  m = automaton new.states text end
+  m = automaton r.terminator new.states text end
 
   -- it has passed none of the states of `old`, and none that are not there
   abbrev IsClear : Passed → Type 0
@@ -150,9 +150,9 @@ module _ (r : Patterns) (text : List ℕ) (end : ℕ) (inside : end ≤ length t
     unfolding IsAhead
     choice-found i is =
         ⊎_elim
-        (λ far. found-far new.states text end nowhere (length old.states) i far ∙ sym (all-far far starts) ∙ all-found nowhere i (λ u j out. refl) (λ d lt. refl))
+        (λ far. found-far r.terminator new.states text end nowhere (length old.states) i far ∙ sym (all-far far starts) ∙ all-found nowhere i (λ u j out. refl) (λ d lt. refl))
         (λ le.
-        found-step m nowhere (automaton-bounded new.states text end) (at (length old.states) i) refl (automaton-accepted new.states text end (length old.states) i stands.inside le ∙ ap state_accepts stands.is)
+        found-step m nowhere (automaton-bounded r.terminator new.states text end) (at (length old.states) i) refl (automaton-accepted r.terminator new.states text end (length old.states) i stands.inside le ∙ ap state_accepts stands.is)
         ∙ (λ j. option_map (with_write (written j) i) (first_some (found m (and_at (at (length old.states) i) nowhere)) (successors le j)))
         ∙ unwritten (first_some (found m (and_at (at (length old.states) i) nowhere)) (map (λ s. at s i) starts))
         ∙ all-found (and_at (at (length old.states) i) nowhere) i
@@ -171,10 +171,10 @@ module _ (r : Patterns) (text : List ℕ) (end : ℕ) (inside : end ≤ length t
         elsewhere u (inr le) same = let l = longer in omega arith
 
         written : m.written (at (length old.states) i) ≡ None
-        written = automaton-written new.states text end (length old.states) i ∙ ap state_writes stands.is
+        written = automaton-written r.terminator new.states text end (length old.states) i ∙ ap state_writes stands.is
 
         successors : i ≤ end → m.successors (at (length old.states) i) ≡ map (λ s. at s i) starts
-        successors le = automaton-successors new.states text end (length old.states) i stands.inside le ∙ ap (λ x. state_step text end x i) stands.is
+        successors le = automaton-successors r.terminator new.states text end (length old.states) i stands.inside le ∙ ap (λ x. state_step r.terminator text end x i) stands.is
 
         unwritten : (o : Option Trace) → option_map (with_write None i) o ≡ o
         unwritten None = refl
@@ -185,7 +185,7 @@ module _ (r : Patterns) (text : List ℕ) (end : ℕ) (inside : end ≤ length t
 
         all-far : end < i → (qs : List ℕ) → first_some (found m nowhere) (map (λ s. at s i) qs) ≡ None
         all-far far [] = refl
-        all-far far (s ∷ qs) = rw (found-far new.states text end nowhere s i far) (all-far far qs)
+        all-far far (s ∷ qs) = rw (found-far r.terminator new.states text end nowhere s i far) (all-far far qs)
 
 -- one pattern more
 pub HasPatterns-more : (r : Patterns) (n : ℕ) (old new : Draft) (starts starts' : List ℕ) (q : ℕ) (h : Expression) → Extends old new → length starts ≡ n → starts' ≡ starts ++ q ∷ []
@@ -220,17 +220,18 @@ sound-more hs n h inside is sound before p x lt here =
     (cases_lt p n)
 
 -- the first runs of an NFA that has the patterns
-pub HasFirstRuns-from : (r : Patterns) (nfa : Nfa) (old new : Draft) → HasPatterns old.states r (length r.expressions) nfa.starts → length nfa.starts ≡ length r.expressions → nfa.states ≡ new.states
+pub HasFirstRuns-from : (r : Patterns) (nfa : Nfa) (old new : Draft) → HasPatterns old.states r (length r.expressions) nfa.starts → length nfa.starts ≡ length r.expressions → nfa.terminator ≡ r.terminator
+    → nfa.states ≡ new.states
     → StartsAll old new nfa.starts nfa.start_anchored
-    → (r.which_captures ≡ no_group → (text : List ℕ) (end : ℕ) (c : Configuration) → (automaton new.states text end).written c ≡ None) → HasFirstRuns nfa r
-HasFirstRuns-from r nfa old new has long kept starting silent = ⊎_elim only choice starting
+    → (r.which_captures ≡ no_group → (text : List ℕ) (end : ℕ) (c : Configuration) → (automaton r.terminator new.states text end).written c ≡ None) → HasFirstRuns nfa r
+HasFirstRuns-from r nfa old new has long ends kept starting silent = ⊎_elim only choice starting
   where
-    made : (e : Extends old new) → ((text : List ℕ) (end i : ℕ) → end ≤ length text → first_trace (automaton new.states text end) (at nfa.start_anchored i) ≡ option_map (told r.which_captures) (first_of_patterns r text end 0 r.expressions i)) → HasFirstRuns nfa r
+    made : (e : Extends old new) → ((text : List ℕ) (end i : ℕ) → end ≤ length text → first_trace (automaton r.terminator new.states text end) (at nfa.start_anchored i) ≡ option_map (told r.which_captures) (first_of_patterns r text end 0 r.expressions i)) → HasFirstRuns nfa r
     made e from_all = record {
       patterns = long;
       each = λ text end p i h le is.
-          ap (λ states. first_trace (automaton states text end) (at (slice_index nfa.starts p) i)) kept ∙ each-found r text end le old new e (λ w c. silent w text end c) nfa.starts long has p i h is;
-      all = λ text end i le. ap (λ states. first_trace (automaton states text end) (at nfa.start_anchored i)) kept ∙ from_all text end i le;
+          (λ k. first_trace (automaton (ends k) (kept k) text end) (at (slice_index nfa.starts p) i)) ∙ each-found r text end le old new e (λ w c. silent w text end c) nfa.starts long has p i h is;
+      all = λ text end i le. (λ k. first_trace (automaton (ends k) (kept k) text end) (at nfa.start_anchored i)) ∙ from_all text end i le;
     }
 
     only : (nfa.starts ≡ nfa.start_anchored ∷ []) × (new ≡ old) → HasFirstRuns nfa r
@@ -241,7 +242,7 @@ HasFirstRuns-from r nfa old new has long kept starting silent = ⊎_elim only ch
     choice : (nfa.start_anchored ≡ length old.states) × (new ≡ pushed old (Union nfa.starts)) → HasFirstRuns nfa r
     choice h =
         let e : Extends old new = subst (Extends old) (sym h.1) (Extends-pushed old (Union nfa.starts)) in
-        made e (λ text end i le. ap (λ q. first_trace (automaton new.states text end) (at q i)) h.0 ∙ choice-found r text end le old new e (λ w c. silent w text end c) nfa.starts long has i h.1)
+        made e (λ text end i le. ap (λ q. first_trace (automaton r.terminator new.states text end) (at q i)) h.0 ∙ choice-found r text end le old new e (λ w c. silent w text end c) nfa.starts long has i h.1)
 
 pub StartsAll-slots : (old new : Draft) (starts : List ℕ) (q : ℕ) → StartsAll old new starts q → new.slots ≡ old.slots
 StartsAll-slots old new starts q all = ⊎_elim (λ h. ap (λ (d : Draft). d.slots) h.1) (λ h. ap (λ (d : Draft). d.slots) h.1) all

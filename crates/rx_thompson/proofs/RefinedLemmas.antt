@@ -20,27 +20,29 @@ use Rattle.rx_thompson.specs.Reading.{ReadsByte, IsClean, found_after, ReadsClas
 use Rattle.rx_thompson.specs.Automaton.{at, read_byte, state_step, state_accepts, state_writes, state_at, machine, automaton}
 use Rattle.rx_thompson.specs.declared.state.Transition.{Transition}
 use Rattle.rx_thompson.specs.declared.state.State.{State}
-use Rattle.rx_thompson.specs.declared.state.State.TheVariants.{ByteRange, Sparse, Union, Capture, Fail, Match}
+use Rattle.rx_thompson.specs.declared.state.State.TheVariants.{ByteRange, Sparse, Look, Union, Capture, Fail, Match}
 use Rattle.rx_thompson.proofs.AutomatonLemmas.{automaton-bounded, automaton-rises}
 use Rattle.rx_thompson.proofs.RowLemmas.{same_transitions, no_transitions}
 use Rattle.rx_thompson.proofs.ClassLemmas.{IsClass-map, IsByteClass-map}
 use Rattle.rx_thompson.proofs.ReadLemmas.{class-found, byte_class-found, some_or_none}
 
-reads-step : (text : List ℕ) (end : ℕ) (s : State) (ts : List Transition) → reading s ≡ Some ts → (i : ℕ) → state_step text end s i ≡ read_byte text end ts i
-reads-step text end (ByteRange low high next) ts e i = ap (λ xs. read_byte text end xs i) (same_transitions (record { start = low; end = high; next = next } ∷ []) ts e)
-reads-step text end (Sparse transitions) ts e i = ap (λ xs. read_byte text end xs i) (same_transitions transitions ts e)
-reads-step text end (Union alternates) ts e i = absurd (no_transitions ts e)
-reads-step text end (Capture next pattern slot) ts e i = absurd (no_transitions ts e)
-reads-step text end Fail ts e i = nowhere (nat_lt i end) ∙ ap (λ xs. read_byte text end xs i) (same_transitions [] ts e)
+reads-step : (terminator : ℕ) (text : List ℕ) (end : ℕ) (s : State) (ts : List Transition) → reading s ≡ Some ts → (i : ℕ) → state_step terminator text end s i ≡ read_byte text end ts i
+reads-step terminator text end (ByteRange low high next) ts e i = ap (λ xs. read_byte text end xs i) (same_transitions (record { start = low; end = high; next = next } ∷ []) ts e)
+reads-step terminator text end (Sparse transitions) ts e i = ap (λ xs. read_byte text end xs i) (same_transitions transitions ts e)
+reads-step terminator text end (Look look next) ts e i = absurd (no_transitions ts e)
+reads-step terminator text end (Union alternates) ts e i = absurd (no_transitions ts e)
+reads-step terminator text end (Capture next pattern slot) ts e i = absurd (no_transitions ts e)
+reads-step terminator text end Fail ts e i = nowhere (nat_lt i end) ∙ ap (λ xs. read_byte text end xs i) (same_transitions [] ts e)
   where
     nowhere : (b : Bool) → ◌≡◌ {A = List Configuration} [] (if b then [] else [])
     nowhere true = refl
     nowhere false = refl
-reads-step text end (Match pattern) ts e i = absurd (no_transitions ts e)
+reads-step terminator text end (Match pattern) ts e i = absurd (no_transitions ts e)
 
 pub reads-accepts : (s : State) (ts : List Transition) → reading s ≡ Some ts → state_accepts s ≡ None
 reads-accepts (ByteRange low high next) ts e = refl
 reads-accepts (Sparse transitions) ts e = refl
+reads-accepts (Look look next) ts e = refl
 reads-accepts (Union alternates) ts e = refl
 reads-accepts (Capture next pattern slot) ts e = refl
 reads-accepts Fail ts e = refl
@@ -49,6 +51,7 @@ reads-accepts (Match pattern) ts e = absurd (no_transitions ts e)
 pub reads-writes : (s : State) (ts : List Transition) → reading s ≡ Some ts → state_writes s ≡ None
 reads-writes (ByteRange low high next) ts e = refl
 reads-writes (Sparse transitions) ts e = refl
+reads-writes (Look look next) ts e = refl
 reads-writes (Union alternates) ts e = refl
 reads-writes (Capture next pattern slot) ts e = absurd (no_transitions ts e)
 reads-writes Fail ts e = refl
@@ -59,25 +62,25 @@ pub IsReader-reading : (base : ℕ) (states : List State) (q : ℕ) (ts : List T
 IsReader-reading base states q ts r = ap reading r.stands.is ∙ r.reads
 
 -- a state that reads a byte does so in the automaton
-pub IsReader-reads : (states : List State) (text : List ℕ) (end base q : ℕ) (ts : List Transition) → IsReader base states q ts → ReadsByte (automaton states text end) text end q ts
+pub IsReader-reads : (terminator : ℕ) (states : List State) (text : List ℕ) (end base q : ℕ) (ts : List Transition) → IsReader base states q ts → ReadsByte (automaton terminator states text end) text end q ts
 unfolding automaton graph_of
-IsReader-reads states text end base q ts r =
+IsReader-reads terminator states text end base q ts r =
     let reads = IsReader-reading base states q ts r in
     record {
-      accepted = λ i. by_test (is_inside (machine states text end) end (at q i)) (λ e. rw e (reads-accepts (state_at states q) ts reads)) (λ e. rw e refl);
+      accepted = λ i. by_test (is_inside (machine terminator states text end) end (at q i)) (λ e. rw e (reads-accepts (state_at states q) ts reads)) (λ e. rw e refl);
       written = λ i. reads-writes (state_at states q) ts reads;
       successors = λ i.
-          by_test (is_inside (machine states text end) end (at q i))
-          (λ e. rw e (reads-step text end (state_at states q) ts reads i))
+          by_test (is_inside (machine terminator states text end) end (at q i))
+          (λ e. rw e (reads-step terminator text end (state_at states q) ts reads i))
           (λ e. let inside = r.stands.inside in let past : nat_lt i end ≡ false = grind (arith, nat_tests) in rw (e, past) refl);
     }
 
 -- the block that `compile_class` appends reads the class in the automaton
-pub IsClass-reads : (states : List State) (text : List ℕ) (end base next q : ℕ) (rs : List (ℕ × ℕ)) → end ≤ length text
-    → IsClass (IsReader base states) next rs q → ReadsClass (automaton states text end) text end next q (scalar_ranges rs)
-IsClass-reads states text end base next q rs inside k =
-    class-found text end inside (automaton states text end) (automaton-bounded states text end) (automaton-rises states text end) next rs q
-    (IsClass-map (IsReader base states) (ReadsByte (automaton states text end) text end) next (IsReader-reads states text end base) rs q k)
+pub IsClass-reads : (terminator : ℕ) (states : List State) (text : List ℕ) (end base next q : ℕ) (rs : List (ℕ × ℕ)) → end ≤ length text
+    → IsClass (IsReader base states) next rs q → ReadsClass (automaton terminator states text end) text end next q (scalar_ranges rs)
+IsClass-reads terminator states text end base next q rs inside k =
+    class-found text end inside (automaton terminator states text end) (automaton-bounded terminator states text end) (automaton-rises terminator states text end) next rs q
+    (IsClass-map (IsReader base states) (ReadsByte (automaton terminator states text end) text end) next (IsReader-reads terminator states text end base) rs q k)
 
 -- a member takes a byte at least
 pub member_len-scalar : (text : List ℕ) (rs : List (ℕ × ℕ)) (i n : ℕ) → member_len text (scalar_ranges rs) i ≡ Some n → 0 < n
@@ -130,8 +133,8 @@ member_len-byte text rs i n e =
     takes true h = let is = same_Some _ _ h in omega arith
     takes false h = absurd (none-some n h)
 
-pub IsByteClass-reads : (states : List State) (text : List ℕ) (end base next q : ℕ) (rs : List (ℕ × ℕ)) → end ≤ length text → StaysBelow 255 rs
-    → IsByteClass (IsReader base states) next rs q → ReadsClass (automaton states text end) text end next q (byte_ranges rs)
-IsByteClass-reads states text end base next q rs inside below k =
-    byte_class-found text end inside (automaton states text end) (automaton-bounded states text end) (automaton-rises states text end) next rs below q
-    (IsByteClass-map (IsReader base states) (ReadsByte (automaton states text end) text end) next (IsReader-reads states text end base) rs q k)
+pub IsByteClass-reads : (terminator : ℕ) (states : List State) (text : List ℕ) (end base next q : ℕ) (rs : List (ℕ × ℕ)) → end ≤ length text → StaysBelow 255 rs
+    → IsByteClass (IsReader base states) next rs q → ReadsClass (automaton terminator states text end) text end next q (byte_ranges rs)
+IsByteClass-reads terminator states text end base next q rs inside below k =
+    byte_class-found text end inside (automaton terminator states text end) (automaton-bounded terminator states text end) (automaton-rises terminator states text end) next rs below q
+    (IsByteClass-map (IsReader base states) (ReadsByte (automaton terminator states text end) text end) next (IsReader-reads terminator states text end base) rs q k)

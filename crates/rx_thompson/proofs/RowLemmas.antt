@@ -11,7 +11,7 @@ use Rattle.rx_thompson.specs.Row.{Ascends, transition_to, reading, HasReader, Is
 use Rattle.rx_thompson.specs.States.{AreClosed}
 use Rattle.rx_thompson.specs.declared.state.Transition.{Transition}
 use Rattle.rx_thompson.specs.declared.state.State.{State}
-use Rattle.rx_thompson.specs.declared.state.State.TheVariants.{ByteRange, Sparse, Union, Capture, Fail, Match}
+use Rattle.rx_thompson.specs.declared.state.State.TheVariants.{ByteRange, Sparse, Look, Union, Capture, Fail, Match}
 
 pub Ascends-more : (low high more : ℕ) (ts : List Transition) → high ≤ more → Ascends low high ts → Ascends low more ts
 Ascends-more low high more [] le a = omega arith
@@ -236,6 +236,7 @@ reading-below n (ByteRange low high next) ts is h =
     let one = same_transitions (transition_to next (low, high) ∷ []) ts is in
     All-head (λ (t : Transition). t.next < n) (record { start = low; end = high; next = next }) [] (subst (All (λ (t : Transition). t.next < n)) (sym one) h)
 reading-below n (Sparse transitions) ts is h = subst (All (λ (t : Transition). t.next < n)) (sym (same_transitions transitions ts is)) h
+reading-below n (Look look next) ts is h = absurd (no_transitions ts is)
 reading-below n (Union alternates) ts is h = absurd (no_transitions ts is)
 reading-below n (Capture next pattern slot) ts is h = absurd (no_transitions ts is)
 reading-below n Fail ts is h = tt
@@ -244,6 +245,7 @@ reading-below n (Match pattern) ts is h = tt
 pub NamesBelow-more : (n more : ℕ) (s : State) → n ≤ more → NamesBelow n s → NamesBelow more s
 NamesBelow-more n more (ByteRange low high next) le h = omega arith
 NamesBelow-more n more (Sparse transitions) le h = λ k d lt. (let below = h k d lt in omega arith)
+NamesBelow-more n more (Look look next) le h = omega arith
 NamesBelow-more n more (Union alternates) le h = λ k d lt. (let below = h k d lt in omega arith)
 NamesBelow-more n more (Capture next pattern slot) le h = omega arith
 NamesBelow-more n more Fail le h = tt
@@ -267,6 +269,7 @@ AreClosed-reader xs s ts is ascends below closed =
 reader-within : (patterns slots : ℕ) (s : State) (ts : List Transition) → reading s ≡ Some ts → IsWithin patterns slots s
 reader-within patterns slots (ByteRange low high next) ts is = tt
 reader-within patterns slots (Sparse transitions) ts is = tt
+reader-within patterns slots (Look look next) ts is = tt
 reader-within patterns slots (Union alternates) ts is = tt
 reader-within patterns slots (Capture next pattern slot) ts is = absurd (no_transitions ts is)
 reader-within patterns slots Fail ts is = tt

@@ -12,19 +12,19 @@ use Rattle.rx_thompson.specs.Automaton.{at, automaton, machine, state_at, state_
 use Rattle.rx_thompson.specs.declared.state.Transition.{Transition}
 use Rattle.rx_thompson.specs.declared.state.State.{State}
 
-module _ (states : List State) (text : List ℕ) (end q i : ℕ) (state : q < length states) (place : i ≤ end) where
-  is_here : is_inside (machine states text end) end (at q i) ≡ true
+module _ (terminator : ℕ) (states : List State) (text : List ℕ) (end q i : ℕ) (state : q < length states) (place : i ≤ end) where
+  is_here : is_inside (machine terminator states text end) end (at q i) ≡ true
   is_here = grind (arith, nat_tests)
 
-  pub accepted-is : (s : State) → state_at states q ≡ s → (automaton states text end).accepted (at q i) ≡ state_accepts s
+  pub accepted-is : (s : State) → state_at states q ≡ s → (automaton terminator states text end).accepted (at q i) ≡ state_accepts s
   unfolding automaton graph_of
   accepted-is s e = rw is_here (ap state_accepts e)
 
-  pub successors-is : (s : State) → state_at states q ≡ s → (automaton states text end).successors (at q i) ≡ state_step text end s i
+  pub successors-is : (s : State) → state_at states q ≡ s → (automaton terminator states text end).successors (at q i) ≡ state_step terminator text end s i
   unfolding automaton graph_of
-  successors-is s e = rw is_here (ap (λ x. state_step text end x i) e)
+  successors-is s e = rw is_here (ap (λ x. state_step terminator text end x i) e)
 
-  pub written-is : (s : State) → state_at states q ≡ s → (automaton states text end).written (at q i) ≡ state_writes s
+  pub written-is : (s : State) → state_at states q ≡ s → (automaton terminator states text end).written (at q i) ≡ state_writes s
   unfolding automaton graph_of
   written-is s e = ap state_writes e
 

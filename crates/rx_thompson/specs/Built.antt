@@ -5,13 +5,15 @@ use Rattle.rx_model.specs.Expression.{Expression}
 use Rattle.rx_model.specs.Text.{scalar_ranges, byte_ranges}
 use Rattle.rx_model.specs.Graph as graph
 use Rattle.rx_model.specs.Search.{Patterns, WhichCaptures, all, implicit, none, slot_of}
+use Rattle.rx_search.specs.Look.{kind_of}
+use Rattle.rx_search.specs.declared.look.Look.{Look}
 use Rattle.rx_thompson.specs.Ranges.{StaysBelow}
 use Rattle.rx_thompson.specs.Row.{HasReader}
 use Rattle.rx_thompson.specs.States.{Stands}
 use Rattle.rx_thompson.specs.Trie.{IsClass, IsByteClass}
 use Rattle.rx_thompson.specs.Draft.{Draft, Extends, pushed}
 use Rattle.rx_thompson.specs.declared.state.State.{State}
-use Rattle.rx_thompson.specs.declared.state.State.TheVariants.{ByteRange, Union, Capture, Match}
+use Rattle.rx_thompson.specs.declared.state.State.TheVariants.{ByteRange, Look as Looks, Union, Capture, Match}
 
 -- byte by byte from state q to state r
 abbrev pub IsChain : (IsAt : ℕ → State → Type 0) → ℕ → List ℕ → ℕ → Type 0
@@ -24,7 +26,7 @@ IsImage IsAt f (graph.text [] next) q = IsAt q (Union (f next ∷ []))
 IsImage IsAt f (graph.text (b ∷ bytes) next) q = IsChain IsAt q (b ∷ bytes) (f next)
 IsImage IsAt f (graph.set (scalar_ranges ranges) next) q = IsClass (HasReader IsAt) (f next) ranges q
 IsImage IsAt f (graph.set (byte_ranges ranges) next) q = StaysBelow 255 ranges × IsByteClass (HasReader IsAt) (f next) ranges q
-IsImage IsAt f (graph.assertion kind next) q = ⊥
+IsImage IsAt f (graph.assertion kind next) q = (look : Look) × (kind_of look ≡ kind) × IsAt q (Looks look (f next))
 IsImage IsAt f (graph.slot number next) q = (pattern : ℕ) × IsAt q (Capture (f next) pattern number)
 IsImage IsAt f (graph.choice states) q = IsAt q (Union (map f states))
 IsImage IsAt f (graph.accept pattern) q = IsAt q (Match pattern)

@@ -6,7 +6,7 @@ use Rattle.rx_search.specs.GroupInfo.{unnamed_groups}
 use Rattle.rx_model.specs.Empty.{one_can_be_empty}
 use Rattle.rx_hir.specs.Normal.{expressions}
 use Rattle.rx_hir.specs.Cost.{accounted_states, capped}
-use Rattle.rx_thompson.specs.Config.{utf8_of, size_limit_of, captures_of}
+use Rattle.rx_thompson.specs.Config.{utf8_of, size_limit_of, terminator_of, captures_of}
 use Rattle.rx_thompson.specs.declared.compiler.config.Config.{Config}
 use Rattle.rx_thompson.specs.Nfa.{Nfa, IsInRange, HasFirstRuns}
 use Rattle.rx_thompson.specs.declared.error.BuildError.{BuildError}
@@ -62,11 +62,12 @@ pub record IsCompiled (config : Config) (hs : List Expression) (nfa : Nfa) : Typ
   pub slots : nfa.slots ≡ slots_of (captures_of config) hs
   pub groups : nfa.groups ≡ groups_of (captures_of config) hs
   pub utf8 : nfa.utf8 ≡ utf8_of config
+  pub terminator : nfa.terminator ≡ terminator_of config
   pub has_empty : nfa.has_empty ≡ one_can_be_empty (expressions hs)
   -- the counts of each expression are in order, as the laws on its meaning ask
   pub ordered : (p : ℕ) (h : Expression) → slice_get hs p ≡ Some h → AreOrdered h
-  -- a first run looks neither at where a match may start nor at a terminator
-  pub first_runs : (utf8_empty : Bool) (terminator : ℕ) → HasFirstRuns nfa (patterns_of hs utf8_empty terminator (captures_of config))
+  -- a first run does not look at where a match may start
+  pub first_runs : (utf8_empty : Bool) → HasFirstRuns nfa (patterns_of hs utf8_empty (terminator_of config) (captures_of config))
 
 -- Why there is no NFA. Numbers are told up to the greatest of 64 bits.
 abbrev pub IsRefusal : (config : Config) → List Expression → BuildError → Type 0

@@ -14,6 +14,10 @@ utf8_of c = unwrap_or c.utf8 true
 abbrev pub size_limit_of : Config → Option ℕ
 size_limit_of c = unwrap_or c.nfa_size_limit Absent
 
+-- the byte that ends lines
+abbrev pub terminator_of : Config → ℕ
+terminator_of c = unwrap_or c.look_matcher 10
+
 -- the kind of captures, as the model names it
 abbrev pub captures_kind : WhichCaptures → kinds.WhichCaptures
 captures_kind All = kinds.all
@@ -33,8 +37,9 @@ overwritten old new = record {
   utf8 = option_or new.utf8 old.utf8;
   nfa_size_limit = option_or new.nfa_size_limit old.nfa_size_limit;
   which_captures = option_or new.which_captures old.which_captures;
+  look_matcher = option_or new.look_matcher old.look_matcher;
 }
 
 -- nothing is set
 abbrev pub nothing_set : Config
-nothing_set = record { utf8 = Absent; nfa_size_limit = Absent; which_captures = Absent }
+nothing_set = record { utf8 = Absent; nfa_size_limit = Absent; which_captures = Absent; look_matcher = Absent }

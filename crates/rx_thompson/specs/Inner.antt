@@ -10,6 +10,8 @@ nfa_of i = record {
   slots = i.slot_len;
   groups = i.group_info;
   utf8 = i.utf8;
+  terminator = i.look_matcher;
+  looks = i.look_set_any;
   has_empty = i.has_empty;
   accounted = i.accounted_states;
 }

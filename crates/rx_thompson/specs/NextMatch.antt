@@ -13,11 +13,11 @@ start_of nfa anchored = Some nfa.start_anchored
 start_of nfa (anchored_to p) = slice_get nfa.starts p
 
 -- what the first run from this state tells, where there is such a state
-abbrev pub first_from : List State → List ℕ → (end : ℕ) → Option ℕ → ℕ → Option Trace
-first_from states text end None i = None
-first_from states text end (Some q) i = first_trace (automaton states text end) (at q i)
+abbrev pub first_from : (terminator : ℕ) → List State → List ℕ → (end : ℕ) → Option ℕ → ℕ → Option Trace
+first_from terminator states text end None i = None
+first_from terminator states text end (Some q) i = first_trace (automaton terminator states text end) (at q i)
 
 -- the next match in a..b
 unfoldable pub next_match_of : Nfa → Bool → List ℕ → Anchor → (b a : ℕ) → Option Match
 next_match_of nfa utf8_empty text anchor b a =
-    first_start (is_permitted utf8_empty text) (first_from nfa.states text b (start_of nfa anchor)) (starts anchor a b) a
+    first_start (is_permitted utf8_empty text) (first_from nfa.terminator nfa.states text b (start_of nfa anchor)) (starts anchor a b) a

@@ -4,7 +4,7 @@ use Rattle.rx_thompson.specs.Automaton.{route, state_at}
 use Rattle.rx_thompson.specs.States.{Stands}
 use Rattle.rx_thompson.specs.declared.state.Transition.{Transition}
 use Rattle.rx_thompson.specs.declared.state.State.{State}
-use Rattle.rx_thompson.specs.declared.state.State.TheVariants.{ByteRange, Sparse, Union, Capture, Fail, Match}
+use Rattle.rx_thompson.specs.declared.state.State.TheVariants.{ByteRange, Sparse, Look, Union, Capture, Fail, Match}
 
 -- the byte ranges ascend and share no byte; they lie from `low` on, and below `high`
 abbrev pub Ascends : (low high : ℕ) → List Transition → Type 0
@@ -19,6 +19,7 @@ transition_to next r = record { start = r.0; end = r.1; next = next }
 abbrev pub reading : State → Option (List Transition)
 reading (ByteRange low high next) = Some (transition_to next (low, high) ∷ [])
 reading (Sparse transitions) = Some transitions
+reading (Look look next) = None
 reading (Union alternates) = None
 reading (Capture next pattern slot) = None
 reading Fail = Some []

@@ -13,9 +13,10 @@ ghost use Rattle.rx_thompson.specs.Nfa.{IsInRange};
 use crate::State;
 use crate::class::{compile_bytes, compile_class};
 use crate::nfa::NFA;
+use crate::looks::looks_of;
 use crate::nfa::inner::Inner;
 use rx_hir::{Class, ClassBytes, ClassUnicode};
-use rx_search::{GroupInfo, Memory, StateID};
+use rx_search::{GroupInfo, LookMatcher, Memory, StateID};
 use std::alloc::Global;
 use std::marker::Model;
 use std::mem;
@@ -25,6 +26,7 @@ use std::mem;
 pub struct Facts {
     pub group_info: GroupInfo,
     pub utf8: bool,
+    pub look_matcher: LookMatcher,
     pub has_empty: bool,
     pub accounted_states: usize,
 }
@@ -168,12 +170,15 @@ impl Builder {
           slots = self.slots;
           groups = facts.group_info;
           utf8 = facts.utf8;
+          terminator = facts.look_matcher;
+          looks = nfa.looks;
           has_empty = facts.has_empty;
           accounted = facts.accounted_states;
         }) }
         ensures in_range { IfOk result IsInRange }
     {
         let slot_len = self.slot_len;
+        let look_set_any = looks_of(&self.states);
         let nfa = NFA::new(
             alloc,
             Inner {
@@ -183,6 +188,8 @@ impl Builder {
                 slot_len,
                 group_info: facts.group_info,
                 utf8: facts.utf8,
+                look_matcher: facts.look_matcher,
+                look_set_any,
                 has_empty: facts.has_empty,
                 accounted_states: facts.accounted_states,
             },

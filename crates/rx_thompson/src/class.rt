@@ -219,12 +219,12 @@ fn add_band(
 /// In each automaton that has the states of a class, they read the class: what is found from their
 /// entry is what is found from `next` after the member that stands there, and nothing where none does.
 pub fn the_states_read_the_class()
-    ensures scalars { (states : List State) (text : List ℕ) (end base next q : ℕ) (ranges : List (ℕ × ℕ)) → end ≤ length text
+    ensures scalars { (terminator : ℕ) (states : List State) (text : List ℕ) (end base next q : ℕ) (ranges : List (ℕ × ℕ)) → end ≤ length text
         → IsClass (IsReader base states) next ranges q
-        → ReadsClass (automaton states text end) text end next q (scalar_ranges ranges) }
-    ensures bytes { (states : List State) (text : List ℕ) (end base next q : ℕ) (ranges : List (ℕ × ℕ)) → end ≤ length text
+        → ReadsClass (automaton terminator states text end) text end next q (scalar_ranges ranges) }
+    ensures bytes { (terminator : ℕ) (states : List State) (text : List ℕ) (end base next q : ℕ) (ranges : List (ℕ × ℕ)) → end ≤ length text
         → StaysBelow 255 ranges → IsByteClass (IsReader base states) next ranges q
-        → ReadsClass (automaton states text end) text end next q (byte_ranges ranges) }
+        → ReadsClass (automaton terminator states text end) text end next q (byte_ranges ranges) }
 {}
 
 #[cfg(test)]

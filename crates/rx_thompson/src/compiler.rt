@@ -147,6 +147,7 @@ fn build(
     let facts = Facts {
         group_info,
         utf8: config.get_utf8(),
+        look_matcher: config.get_look_matcher(),
         has_empty: one_can_be_empty(exprs),
         accounted_states: states,
     };

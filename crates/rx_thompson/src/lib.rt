@@ -9,6 +9,7 @@ mod builder;
 mod class;
 mod compiler;
 mod error;
+mod looks;
 mod nfa;
 mod sparse;
 mod state;

@@ -1,5 +1,8 @@
 ghost use Rattle.std.specs.Prelude.{◌≡◌, ◌*◌, ◌<◌, length, slice_get, IfOk, false};
-ghost use Rattle.rx_thompson.specs.Automaton.{state_at};
+ghost use Rattle.std.specs.List.{list_any};
+ghost use Rattle.rx_model.specs.Look.{Look};
+ghost use Rattle.rx_search.specs.LookSet.{has};
+ghost use Rattle.rx_thompson.specs.Automaton.{state_at, asks_for};
 ghost use Rattle.rx_thompson.specs.Inner.{nfa_of};
 ghost use Rattle.rx_thompson.specs.Nfa.{IsInRange};
 
@@ -7,7 +10,7 @@ pub(crate) mod inner;
 
 use crate::State;
 use inner::Inner;
-use rx_search::{GroupInfo, Memory, PatternID, StateID};
+use rx_search::{GroupInfo, LookMatcher, LookSet, Memory, PatternID, StateID};
 use std::alloc::Global;
 use std::marker::Model;
 use std::sync::Arc;
@@ -132,6 +135,21 @@ impl NFA {
         ensures value { result ≡ self.now.utf8 }
     {
         self.inner.utf8
+    }
+
+    /// Tells where the look-arounds of the states hold, with the line terminator that was configured.
+    pub fn look_matcher(&self) -> &LookMatcher
+        ensures value { result.now ≡ self.now.terminator }
+    {
+        &self.inner.look_matcher
+    }
+
+    /// The kinds of look-around that the states ask for.
+    pub fn look_set_any(&self) -> LookSet
+        ensures value { (kind : Look) → has result kind ≡ list_any (asks_for kind) self.now.states }
+        ensures in_range { IsInRange self.now }
+    {
+        self.inner.look_set_any
     }
 
     /// Whether one of the patterns can match the empty string. Where it is false, no match is empty: the law

@@ -1,6 +1,6 @@
 ghost use Rattle.std.specs.Prelude.{◌≡◌, List};
 
-use rx_search::{PatternID, StateID};
+use rx_search::{Look, PatternID, StateID};
 use std::marker::Model;
 
 /// On a byte from `start` to `end`, both included, to the state `next`.
@@ -87,6 +87,11 @@ pub enum State {
     /// Reads a byte, and goes on by the transition that has it.
     Sparse {
         transitions: Transitions,
+    },
+    /// Goes on to `next` where the look-around holds, at the place in the whole text.
+    Look {
+        look: Look,
+        next: StateID,
     },
     /// Goes on to each of these, the first of them preferred.
     Union {

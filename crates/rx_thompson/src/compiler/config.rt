@@ -1,5 +1,7 @@
 ghost use Rattle.std.specs.Prelude.{◌≡◌, Some};
-ghost use Rattle.rx_thompson.specs.Config.{utf8_of, size_limit_of, which_of, overwritten, nothing_set};
+ghost use Rattle.rx_thompson.specs.Config.{utf8_of, size_limit_of, which_of, terminator_of, overwritten, nothing_set};
+
+use rx_search::LookMatcher;
 
 /// Which groups of a match have slots.
 #[derive(Clone, Copy, Debug, PartialEq, Eq)]
@@ -18,6 +20,7 @@ pub struct Config {
     utf8: Option<bool>,
     nfa_size_limit: Option<Option<usize>>,
     which_captures: Option<WhichCaptures>,
+    look_matcher: Option<LookMatcher>,
 }
 
 impl Config {
@@ -29,6 +32,7 @@ impl Config {
             utf8: None,
             nfa_size_limit: None,
             which_captures: None,
+            look_matcher: None,
         }
     }
 
@@ -57,6 +61,14 @@ impl Config {
         self
     }
 
+    /// Tells where look-arounds hold. By default lines end at `\n`.
+    pub fn look_matcher(mut self, matcher: LookMatcher) -> Config
+        ensures { result ≡ record self { look_matcher = Some matcher } }
+    {
+        self.look_matcher = Some(matcher);
+        self
+    }
+
     /// Whether no match is to start inside an encoded character.
     pub fn get_utf8(&self) -> bool
         ensures { result ≡ utf8_of self.now }
@@ -78,6 +90,16 @@ impl Config {
         self.which_captures.unwrap_or(WhichCaptures::All)
     }
 
+    /// Tells where look-arounds hold.
+    pub fn get_look_matcher(&self) -> LookMatcher
+        ensures { result ≡ terminator_of self.now }
+    {
+        match self.look_matcher {
+            Some(matcher) => matcher,
+            None => LookMatcher::new(),
+        }
+    }
+
     /// This configuration, with what the other one sets in place of its own.
     pub(crate) fn overwrite(&self, other: Config) -> Config
         ensures { result ≡ overwritten self.now other }
@@ -86,6 +108,7 @@ impl Config {
             utf8: other.utf8.or(self.utf8),
             nfa_size_limit: other.nfa_size_limit.or(self.nfa_size_limit),
             which_captures: other.which_captures.or(self.which_captures),
+            look_matcher: other.look_matcher.or(self.look_matcher),
         }
     }
 }

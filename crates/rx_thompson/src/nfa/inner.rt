@@ -1,5 +1,5 @@
 use crate::State;
-use rx_search::{GroupInfo, StateID};
+use rx_search::{GroupInfo, LookMatcher, LookSet, StateID};
 
 /// What the clones of an NFA share.
 #[derive(Drop)]
@@ -10,6 +10,8 @@ pub struct Inner {
     pub slot_len: usize,
     pub group_info: GroupInfo,
     pub utf8: bool,
+    pub look_matcher: LookMatcher,
+    pub look_set_any: LookSet,
     pub has_empty: bool,
     pub accounted_states: usize,
 }

@@ -3,7 +3,7 @@ use Rattle.std.specs.Prelude.{true}
 use Rattle.rx_thompson.specs.Automaton.{automaton}
 use Rattle.rx_thompson.specs.Built.{StartsAll, HasPatterns}
 use Rattle.rx_thompson.specs.Compiled.{patterns_of, slots_of, groups_of}
-use Rattle.rx_thompson.specs.Config.{captures_of, captures_kind}
+use Rattle.rx_thompson.specs.Config.{terminator_of, captures_of, captures_kind}
 use Rattle.rx_thompson.specs.Draft.{Draft}
 use Rattle.rx_thompson.specs.Nfa.{Nfa, HasFirstRuns}
 use Rattle.rx_search.specs.GroupInfo.{slot_count}
@@ -40,6 +40,7 @@ returns c =
     let slots : nfa.slots ≡ slots_of which exprs =
     ap (λ (n : Nfa). n.slots) is ∙ StartsAll-slots old new starts c.in_ok-start.start all ∙ extended ∙ ap (λ (d : Draft). d.slots) c.new-builder.ensures ∙ c.requires.slots in
     let states : nfa.states ≡ new.states = ap (λ (n : Nfa). n.states) is in
+    let terminator : nfa.terminator ≡ terminator_of c.args.config = ap (λ (n : Nfa). n.terminator) is ∙ c.get_look_matcher.ensures in
     let groups : c.in_ok-group_info.group_info ≡ groups_of (captures_of c.args.config) c.args.exprs.now = c.in_ok-group_info.ensures ∙ ap (λ w. groups_of w c.args.exprs.now) (ap captures_kind c.get_which_captures-which.ensures) in
     let has = subst (λ w. HasPatterns c.compile_patterns.new.builder.states (patterns_of c.args.exprs.now true 0 w) (length c.args.exprs.now) c.in_ok-starts.starts.items)
     (ap captures_kind c.get_which_captures-which.ensures) c.in_ok-starts.ensures.has in
@@ -54,12 +55,13 @@ returns c =
       slots = slots;
       groups = ap (λ (n : Nfa). n.groups) is ∙ groups;
       utf8 = ap (λ (n : Nfa). n.utf8) is ∙ c.get_utf8.ensures;
+      terminator = terminator;
       has_empty = ap (λ (n : Nfa). n.has_empty) is ∙ c.one_can_be_empty.ensures;
       accounted = ap (λ (n : Nfa). n.accounted) is ∙ c.requires.states;
       ordered = λ p h at. IsSound-ordered h (c.in_ok-starts.ensures.sound p h at);
-      first_runs = λ utf8_empty terminator.
-          subst (λ n. HasFirstRuns n (patterns_of exprs utf8_empty terminator which)) (sym is)
-          (HasFirstRuns-from (patterns_of exprs utf8_empty terminator which)
+      first_runs = λ utf8_empty.
+          subst (λ n. HasFirstRuns n (patterns_of exprs utf8_empty (terminator_of c.args.config) which)) (sym is)
+          (HasFirstRuns-from (patterns_of exprs utf8_empty (terminator_of c.args.config) which)
           (record {
             states = new.states;
             start_anchored = c.in_ok-start.start;
@@ -67,10 +69,12 @@ returns c =
             slots = new.slots;
             groups = c.in_ok-group_info.group_info;
             utf8 = c.get_utf8.result;
+            terminator = c.get_look_matcher.result;
+            looks = nfa.looks;
             has_empty = c.one_can_be_empty.result;
             accounted = c.args.states;
           })
-          old new has long refl all
-          (λ none text end x. ap (λ qs. (automaton qs text end).written x) (sym states)
+          old new has long c.get_look_matcher.ensures refl all
+          (λ none text end x. (λ k. (automaton (sym terminator k) (sym states k) text end).written x)
           ∙ written-none nfa c.in_ok-nfa.ensures.in_range (slots ∙ ap (λ w. slots_of w exprs) none) text end x));
     }
