@@ -12,8 +12,8 @@ ghost use Rattle.rx_thompson.specs.Nfa.{IsInRange};
 
 use crate::State;
 use crate::class::{compile_bytes, compile_class};
-use crate::nfa::NFA;
 use crate::looks::looks_of;
+use crate::nfa::NFA;
 use crate::nfa::inner::Inner;
 use rx_hir::{Class, ClassBytes, ClassUnicode};
 use rx_search::{GroupInfo, LookMatcher, Memory, StateID};

@@ -1,4 +1,4 @@
-use Rattle.std.proofs.Common.{◌≡◌, ◌∙◌, sym, ap, arith, length}
+use Rattle.std.proofs.Common.{◌∙◌, sym, ap, arith}
 use Rattle.std.proofs.lemmas.List.{take_all}
 use Rattle.std.proofs.lemmas.List.Folds.{list_any_more}
 use Rattle.std.specs.Prelude.{◌||◌, take}
@@ -8,7 +8,7 @@ use Rattle.rx_thompson.proofs.looks.looks_of.Goals as goal
 
 pub loop-state-preserved : goal.loop-state-preserved
 loop-state-preserved c = λ kind.
-    c.with_asked.ensures kind
+    c.with_asked-looks.ensures kind
     ∙ ap (λ b. b || asks_for kind c.state-item.result) (c.loop-state.invariant kind)
     ∙ ap (λ s. list_any (asks_for kind) (take c.loop-state.state-index c.args.states.now) || asks_for kind s) c.state-item.is
     ∙ sym (list_any_more (asks_for kind) c.args.states.now c.loop-state.state-index c.state-item.result (omega arith))
