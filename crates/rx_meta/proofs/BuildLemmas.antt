@@ -25,7 +25,7 @@ built c hs nfa core regex compiled allowed is made =
       kind = refl;
       compiled = compiled;
       allowed = allowed;
-      is_of = λ terminator. record { runs = compiled.first_runs (utf8_of c) terminator; utf8 = sym compiled.utf8; which_captures = refl };
+      is_of = record { runs = compiled.first_runs (utf8_of c); utf8 = sym compiled.utf8; which_captures = refl };
     })
 
 -- all of the patterns are read, where there are few enough

@@ -4,7 +4,7 @@ use Rattle.rx_model.specs.Expression.{Expression}
 use Rattle.rx_thompson.specs.Compiled.{patterns_of, AreAllowed, IsCompiled, IsRefusal}
 use Rattle.rx_thompson.specs.declared.error.BuildError.{BuildError as NfaError}
 use Rattle.rx_thompson.specs.declared.error.BuildError.TheVariants.{TooManyPatterns, TooManyGroups, TooManyStates, ExceededSizeLimit, Memory as NoMemory}
-use Rattle.rx_strategy.specs.Config.{kind_of, utf8_of, captures_of, compiler_of}
+use Rattle.rx_strategy.specs.Config.{kind_of, utf8_of, terminator_of, captures_of, compiler_of}
 use Rattle.rx_strategy.specs.declared.config.Config.{Config}
 use Rattle.rx_meta.specs.Reading.{pattern_limit, readings, reading_of}
 use Rattle.rx_meta.specs.Regex.{RegexValue, IsOf}
@@ -18,8 +18,7 @@ pub record IsBuilt (c : Config) (hs : List Expression) (regex : RegexValue) : Ty
   pub compiled : IsCompiled (compiler_of c) hs regex.strategy.nfa
   -- no count and no cost passes its limit
   pub allowed : AreAllowed (compiler_of c) hs
-  -- the line terminator plays no part yet
-  pub is_of : (terminator : ℕ) → IsOf regex (patterns_of hs (utf8_of c) terminator (captures_of c))
+  pub is_of : IsOf regex (patterns_of hs (utf8_of c) (terminator_of c) (captures_of c))
 
 -- why the compiler gives no NFA, beside want of memory
 abbrev pub IsCause : Config → List Expression → NfaError → Type 0

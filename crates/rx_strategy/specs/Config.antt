@@ -4,6 +4,7 @@ use Rattle.std.specs.Option.{option_or}
 use Rattle.rx_model.specs.Search as model
 use Rattle.rx_search.specs.declared.anchored.MatchKind.{MatchKind}
 use Rattle.rx_search.specs.declared.anchored.MatchKind.TheVariants.{All, LeftmostFirst}
+use Rattle.rx_thompson.specs.Config as compiler
 use Rattle.rx_thompson.specs.Config.{captures_kind}
 use Rattle.rx_thompson.specs.declared.compiler.config.Config.{Config as CompilerConfig}
 use Rattle.rx_thompson.specs.declared.compiler.config.WhichCaptures.{WhichCaptures}
@@ -39,7 +40,12 @@ compiler_of c = record {
   utf8 = Some (utf8_of c);
   nfa_size_limit = Some (size_limit_of c);
   which_captures = Some (which_of c);
+  look_matcher = None;
 }
+
+-- the byte that ends lines
+abbrev pub terminator_of : Config → ℕ
+terminator_of c = compiler.terminator_of (compiler_of c)
 
 abbrev pub is_leftmost : MatchKind → Bool
 is_leftmost All = false
