@@ -25,8 +25,8 @@ pub union-length : (qs : List ℕ) (i : ℕ) (frames : List Frame) → length (e
 union-length [] i frames = omega arith
 union-length (q ∷ qs) i frames = let h = union-length qs i frames in omega arith
 
-pub AllHere-looked : (n i terminator : ℕ) (text : List ℕ) (look : Look) (next : ℕ) {frames : List Frame} → next < n → AllHere n i frames → AllHere n i (explore_all (looked terminator text look next i) ++ frames)
-AllHere-looked n i terminator text look next lt here =
+pub AllHere-looked : (n i terminator : ℕ) (text : List ℕ) (look : Look) (next : ℕ) (frames : List Frame) → next < n → AllHere n i frames → AllHere n i (explore_all (looked terminator text look next i) ++ frames)
+AllHere-looked n i terminator text look next frames lt here =
     by_test (holds terminator text (kind_of look) i) (λ e. rw e (lt, refl, here)) (λ e. rw e here)
 
 pub looked-length : (terminator : ℕ) (text : List ℕ) (look : Look) (next i : ℕ) (frames : List Frame) → length (explore_all (looked terminator text look next i) ++ frames) ≤ 1 + length frames

@@ -70,4 +70,4 @@ pub returns-in-Look-clause-inside : goal.returns-in-Look-clause-inside
 returns-in-Look-clause-inside c =
     let is = state-known c.args.search.now.states.now _ c.args.state _ _ c.as_usize.ensures.value c.requires.state c.index-states-as_usize.is c.in-Look.is in
     rw c.look_on.ensures
-    (AllHere-looked _ _ _ _ _ _ (names-known c.args.search.now.states.now c.args.state _ c.requires.search.names c.requires.state is) c.requires.inside)
+    (AllHere-looked _ _ _ _ _ _ _ (names-known c.args.search.now.states.now c.args.state _ c.requires.search.names c.requires.state is) c.requires.inside)
