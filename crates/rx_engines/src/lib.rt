@@ -9,7 +9,9 @@ pub mod backtrack;
 mod frame;
 pub mod pikevm;
 mod report;
+mod room;
 mod slots;
+mod stack;
 mod starts;
 
 pub use slots::empty;

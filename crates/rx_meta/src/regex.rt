@@ -3,7 +3,7 @@ ghost use Rattle.std.specs.Prelude.{◌≡◌, ◌≤◌, ◌∷◌, [], false, 
 ghost use Rattle.rx_model.specs.Search.{Patterns};
 ghost use Rattle.rx_search.specs.Input.{next_in};
 ghost use Rattle.rx_search.specs.Matches.{match_value, half_match_value};
-ghost use Rattle.rx_engines.specs.Engine.{HasSlots};
+ghost use Rattle.rx_engines.specs.Engine.{HasSlots, AreWithin};
 ghost use Rattle.rx_reader.specs.Config.{default};
 ghost use Rattle.rx_strategy.specs.Config.{nothing_set};
 ghost use Rattle.rx_strategy.specs.Cache.{Fits, memory_of, accounted_for};
@@ -185,6 +185,7 @@ impl Regex {
             → IfOk result (λ o. IfSome o (λ found. IsMatchWith r input.now (λ m. (found ≡ m.trace.pattern) × HasSlots slots.new m))) }
         ensures slots { input.now.earliest ≡ false → IfOk result (λ _. IfSome (told_in self.now.strategy input.now) (HasSlots slots.new)) }
         ensures none { IfOk result (λ o. IfNone o (slots.new ≡ replicate (length slots.old) None)) }
+        ensures slots_within { AreWithin input.now slots.new }
         ensures err { OnErr result (slots.new ≡ replicate (length slots.old) None) }
     {
         let Ok(mut cache) = self.cache_for(alloc, input) else {
@@ -250,6 +251,7 @@ impl Regex {
             → IfOk result (λ o. IfSome o (λ found. IsMatchWith r input.now (λ m. (found ≡ m.trace.pattern) × HasSlots slots.new m))) }
         ensures slots { input.now.earliest ≡ false → IfOk result (λ _. IfSome (told_in self.now.strategy input.now) (HasSlots slots.new)) }
         ensures none { IfOk result (λ o. IfNone o (slots.new ≡ replicate (length slots.old) None)) }
+        ensures slots_within { AreWithin input.now slots.new }
         ensures cache { cache.new ≡ cache.old }
         ensures sure { IsOk result }
     {
@@ -275,6 +277,7 @@ impl Regex {
         ensures within { IfOk result (λ o. IfSome o (λ m. (input.now.start ≤ m.start) × (m.end ≤ input.now.end))) }
         ensures slots { input.now.earliest ≡ false → IfOk result (λ _. IfSome (told_in self.now.strategy input.now) (HasSlots slots.new)) }
         ensures none { IfOk result (λ o. IfNone o (slots.new ≡ replicate (length slots.old) None)) }
+        ensures slots_within { AreWithin input.now slots.new }
         ensures cache { cache.new ≡ cache.old }
         ensures sure { IsOk result }
     {

@@ -1,5 +1,5 @@
 use crate::pikevm::vm::PikeVM;
-use rx_search::{Input, MatchKind};
+use rx_search::{Input, MatchKind, NonMaxUsize, PatternID};
 use rx_syntax::parse;
 use rx_thompson::Compiler;
 use std::alloc::Global;
@@ -19,6 +19,14 @@ fn engine(
     }
     let nfa = Compiler::new().build_many_from_hir(alloc, &expressions);
     Ok(PikeVM::build_from_nfa(nfa.ok().expect(rt, "an NFA"), kind))
+}
+
+/// The place that a slot holds.
+fn place(slot: Option<NonMaxUsize>) -> Option<usize> {
+    match slot {
+        Some(place) => Some(place.get()),
+        None => None,
+    }
 }
 
 /// The pattern, the start and the end that the engine of one pattern finds.
@@ -56,7 +64,73 @@ fn earliest_ends_where_a_match_ends_first(rt: HostRuntime) -> Result<(), Fail> {
 #[test]
 fn the_first_alternative_is_preferred(rt: HostRuntime) -> Result<(), Fail> {
     let alloc = rt.alloc();
-    let input = Input::new(b"ab");
-    assert_eq!(rt; find_first(&rt, alloc, "a|ab", &input)?, (0, 0, 1));
+    let vm = engine(&rt, alloc, &["a|ab"], MatchKind::LeftmostFirst)?;
+    let mut cache = vm.create_cache(alloc)?;
+    let mut slots = [None; 3];
+    let found = vm.search_slots(&mut cache, &Input::new(b"ab"), &mut slots);
+    assert!(rt; found == Some(PatternID::ZERO));
+    assert_eq!(rt; place(slots[0]), Some(0));
+    assert_eq!(rt; place(slots[1]), Some(1));
+    assert_eq!(rt; place(slots[2]), None);
+    Ok(())
+}
+
+#[test]
+fn a_cache_keeps_nothing_of_a_search(rt: HostRuntime) -> Result<(), Fail> {
+    let alloc = rt.alloc();
+    let vm = engine(&rt, alloc, &["(a)b"], MatchKind::LeftmostFirst)?;
+    let mut cache = vm.create_cache(alloc)?;
+    let mut slots = [None; 4];
+    let found = vm.search_slots(&mut cache, &Input::new(b"xab"), &mut slots);
+    assert!(rt; found == Some(PatternID::ZERO));
+    assert_eq!(rt; place(slots[3]), Some(2));
+    let found = vm.search_slots(&mut cache, &Input::new(b"xa"), &mut slots);
+    assert!(rt; found == None);
+    assert_eq!(rt; place(slots[3]), None);
+    Ok(())
+}
+
+#[test]
+fn no_slots_and_some(rt: HostRuntime) -> Result<(), Fail> {
+    let alloc = rt.alloc();
+    let vm = engine(&rt, alloc, &["(a)b"], MatchKind::LeftmostFirst)?;
+    let mut cache = vm.create_cache(alloc)?;
+    let input = Input::new(b"xab");
+    let found = vm.search_slots(&mut cache, &input, &mut []);
+    assert!(rt; found == Some(PatternID::ZERO));
+    let mut slots = [None; 1];
+    let found = vm.search_slots(&mut cache, &input, &mut slots);
+    assert!(rt; found == Some(PatternID::ZERO));
+    assert_eq!(rt; place(slots[0]), Some(1));
+    Ok(())
+}
+
+#[test]
+fn memory_is_fixed_when_a_cache_is_made(rt: HostRuntime) -> Result<(), Fail> {
+    let alloc = rt.alloc();
+    // 4 states, 2 and 3 of the pattern, with 2 slots; and 4, 4 and 3, with 4 slots
+    let small = engine(&rt, alloc, &["ab"], MatchKind::LeftmostFirst)?;
+    let large = engine(&rt, alloc, &["(a)b"], MatchKind::All)?;
+    let mut cache = small.create_cache(alloc)?;
+    assert_eq!(rt; cache.memory_usage(), 16 * 9 * 2);
+    assert!(rt; small.is_match(&mut cache, &Input::new(b"ab")));
+    cache.reset(alloc, &large)?;
+    assert_eq!(rt; cache.memory_usage(), 16 * 11 * 4);
+    assert!(rt; large.is_match(&mut cache, &Input::new(b"ab")));
+    Ok(())
+}
+
+/// Values of this type may go to other threads.
+fn goes_to_threads<T: Send>(_value: &T) {}
+
+/// Values of this type may go to other threads, and be shared with them.
+fn crosses_threads<T: Send + Sync>(_value: &T) {}
+
+#[test]
+fn an_engine_crosses_threads(rt: HostRuntime) -> Result<(), Fail> {
+    let alloc = rt.alloc();
+    let vm = engine(&rt, alloc, &["a"], MatchKind::LeftmostFirst)?;
+    crosses_threads(&vm);
+    goes_to_threads(&vm.create_cache(alloc)?);
     Ok(())
 }

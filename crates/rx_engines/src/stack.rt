@@ -40,6 +40,12 @@ impl Stack {
         self.room
     }
 
+    pub fn clear(&mut self)
+        ensures { self.new ≡ record self.old { items = [] } }
+    {
+        self.frames.clear();
+    }
+
     pub fn push(&mut self, frame: Frame)
         requires { length self.old.items < self.old.room }
         ensures { self.new ≡ record self.old { items = frame ∷ self.old.items } }

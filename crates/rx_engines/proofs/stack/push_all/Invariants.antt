@@ -2,7 +2,7 @@ use Rattle.std.proofs.Common.{◌≡◌, ◌≤◌, ◌+◌, ◌++◌, length, d
 use Rattle.std.specs.Prelude.{map}
 use Rattle.rx_thompson.specs.Automaton.{at}
 use Rattle.rx_engines.specs.Walk.{explore_all}
-use Rattle.rx_engines.proofs.pikevm.stack.push_all.Given as goal
+use Rattle.rx_engines.proofs.stack.push_all.Given as goal
 
 abbrev pub invariant-loop-left : goal.invariant-loop-left
 invariant-loop-left l = record {
