@@ -6,3 +6,4 @@ pub mod ScalarLemmas
 pub mod ByteLemmas
 pub mod FoldLemmas
 pub mod JoinedLemmas
+mod Rows

@@ -1,8 +1,8 @@
 -- Fewest ranges: that they hold the same members, and that there is only one list of them.
-use Rattle.std.proofs.Common.{◌≡◌, ℕ, ◌-◌, ◌<◌, ◌≤◌, Bool, true, false, List, [], ◌∷◌, length, get_or, Some, refl, ap, sym, ◌∙◌, subst, arith, inl, inr}
+use Rattle.std.proofs.Common.{◌≡◌, ◌↔◌, ℕ, ◌-◌, ◌<◌, ◌≤◌, Bool, true, false, List, [], ◌∷◌, length, get_or, Some, refl, ap, sym, ◌∙◌, subst, arith, inl, inr}
 use Rattle.std.specs.Prelude.{min, max, nat_le, nat_lt, ◌&&◌, ◌||◌, if◌then◌else◌}
 use Rattle.std.specs.List.{list_all, slice_get}
-use Rattle.std.proofs.lemmas.Bool.{false≢true, and_parts, cases_lt, ltb-true, ltb-false, leb-true}
+use Rattle.std.proofs.lemmas.Bool.{false≢true, and_parts, or_cases, cases_lt, ltb-true, ltb-false, leb-true}
 use Rattle.std.proofs.lemmas.Bool.Decides.{nat_tests}
 use Rattle.std.proofs.lemmas.Option.{slice_get_within, get_or_from_slice_get}
 use Rattle.rx_model.specs.Text.{is_member}
@@ -288,3 +288,26 @@ module _ (next : ℕ → ℕ) (Counts : ℕ → Type 0) (succ : IsSuccessor next
   all-from-last rs n last h e =
       let within = slice_get_within rs (length rs - 1) last e in
       last-decides rs n last last h (omega (arith, within)) (sym (get_or_from_slice_get rs (length rs - 1) last last e))
+
+  ends-members : (rs : List (ℕ × ℕ)) (greatest : ℕ) → list_all (λ (q : ℕ × ℕ). nat_le q.1 greatest) rs ≡ true → (n : ℕ) → is_member rs n ≡ true → n ≤ greatest
+  ends-members [] greatest h n m = cc
+  ends-members (r ∷ rs) greatest h n m =
+      let parts = and_parts (nat_le r.1 greatest) (list_all (λ (q : ℕ × ℕ). nat_le q.1 greatest) rs) h in
+      elim (or_cases (inside r n) (is_member rs n) m) [
+        | inl here ↦
+            let bounds = and_parts (nat_le r.0 n) (nat_le n r.1) here in
+            omega (arith, leb-true n r.1 bounds.1, leb-true r.1 greatest parts.0)
+        | inr later ↦ ends-members rs greatest parts.1 n later
+      ]
+
+  members-ends : (rs : List (ℕ × ℕ)) (greatest : ℕ) → AreFewest next rs → ((n : ℕ) → is_member rs n ≡ true → n ≤ greatest)
+      → list_all (λ (q : ℕ × ℕ). nat_le q.1 greatest) rs ≡ true
+  members-ends [] greatest h f = refl
+  members-ends (r ∷ rs) greatest h f =
+      ap (λ b. b && list_all (λ (q : ℕ × ℕ). nat_le q.1 greatest) rs) (le-test r.1 greatest (f r.1 (first-member r rs r.1 h.0 (omega arith))))
+      ∙ members-ends rs greatest h.2 (λ n m. f n (ap (λ b. inside r n || b) m ∙ or-right (inside r n)))
+
+  -- all ranges end by a number where all members do
+  pub ends-bound : (rs : List (ℕ × ℕ)) (greatest : ℕ) → AreFewest next rs
+      → (list_all (λ (q : ℕ × ℕ). nat_le q.1 greatest) rs ≡ true) ↔ ((n : ℕ) → is_member rs n ≡ true → n ≤ greatest)
+  ends-bound rs greatest h = (ends-members rs greatest, members-ends rs greatest h)

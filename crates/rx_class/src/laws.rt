@@ -1,10 +1,10 @@
 //! Laws of classes: which members they have.
-ghost use Rattle.std.specs.Prelude.{◌≡◌, ◌↔◌, ◌<◌, ℕ, not, ◌||◌, IsTrue, List};
+ghost use Rattle.std.specs.Prelude.{◌≡◌, ◌↔◌, ◌<◌, ◌≤◌, ℕ, not, ◌||◌, IsTrue, List};
 ghost use Rattle.std.specs.Char.{IsScalar};
 ghost use Rattle.rx_model.specs.Text.{is_member};
 ghost use Rattle.rx_class.specs.Bytes.{byte_complement, byte_folded, other_case};
 ghost use Rattle.rx_class.specs.Folding.{folded, SharesFolding};
-ghost use Rattle.rx_class.specs.Ranges.{next_scalar, next_byte, fewest, union, HaveScalarEnds, AreScalarRanges, AreByteRanges};
+ghost use Rattle.rx_class.specs.Ranges.{next_scalar, next_byte, fewest, union, is_ascii, HaveScalarEnds, AreScalarRanges, AreByteRanges};
 ghost use Rattle.rx_class.specs.Scalars.{complement};
 
 /// A class holds exactly the members of the ranges that it was made of, in fewest ranges, and no other list of
@@ -50,4 +50,12 @@ pub fn folding_holds_the_orbits()
     ensures scalar_ranges { (rs : List (ℕ × ℕ)) → HaveScalarEnds rs → AreScalarRanges (folded rs) }
     ensures bytes { (rs : List (ℕ × ℕ)) (b : ℕ) → is_member (byte_folded rs) b ≡ (is_member rs b || is_member rs (other_case b)) }
     ensures byte_ranges { (rs : List (ℕ × ℕ)) → AreByteRanges (byte_folded rs) }
+{}
+
+/// A class whose ranges all end by 7F is one whose members all lie up to 7F.
+pub fn ascii_classes_have_ascii_members()
+    ensures scalars { (rs : List (ℕ × ℕ)) → AreScalarRanges rs
+        → IsTrue (is_ascii rs) ↔ ((c : ℕ) → IsTrue (is_member rs c) → c ≤ 0x7F) }
+    ensures bytes { (rs : List (ℕ × ℕ)) → AreByteRanges rs
+        → IsTrue (is_ascii rs) ↔ ((b : ℕ) → IsTrue (is_member rs b) → b ≤ 0x7F) }
 {}

@@ -14,6 +14,6 @@ mod tests;
 
 pub use class::{Class, ClassBytes, ClassUnicode};
 pub use laws::{
-    complement_holds_the_rest, fewest_ranges_hold_the_members, folding_holds_the_orbits,
-    union_holds_the_members,
+    ascii_classes_have_ascii_members, complement_holds_the_rest, fewest_ranges_hold_the_members,
+    folding_holds_the_orbits, union_holds_the_members,
 };

@@ -57,6 +57,7 @@ fn folded(alloc: Global, c: char) -> Result<ClassUnicode, Fail> {
 #[test]
 fn foldings(rt: HostRuntime) -> Result<(), Fail> {
     let alloc = rt.alloc();
+    assert_eq!(rt; folded(alloc, '1')?.ranges(), [('1', '1')].as_slice());
     assert_eq!(rt;
         folded(alloc, 'k')?.ranges(),
         [('K', 'K'), ('k', 'k'), ('\u{212A}', '\u{212A}')].as_slice()
@@ -65,7 +66,6 @@ fn foldings(rt: HostRuntime) -> Result<(), Fail> {
         folded(alloc, 'ſ')?.ranges(),
         [('S', 'S'), ('s', 's'), ('ſ', 'ſ')].as_slice()
     );
-    assert_eq!(rt; folded(alloc, '1')?.ranges(), [('1', '1')].as_slice());
     let words = ClassUnicode::new(alloc, &[('a', 'j')])?.case_fold_simple()?;
     assert_eq!(rt; words.ranges(), [('A', 'J'), ('a', 'j')].as_slice());
     let bytes = ClassBytes::new(alloc, &[(b'k', 0xFF), (b'B', b'C')])?.case_fold_simple()?;
