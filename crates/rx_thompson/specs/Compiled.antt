@@ -1,11 +1,14 @@
 -- What the compiler answers.
 use Rattle.std.specs.Prelude.{◌≡◌, ℕ, ◌+◌, ◌*◌, ◌<◌, ◌≤◌, Bool, List, [], ◌∷◌, length, map, replicate, Option, Some, None, IfSome, slice_get}
+use Rattle.std.specs.List.{list_all}
 use Rattle.rx_model.specs.Expression.{Expression, AreOrdered}
+use Rattle.rx_model.specs.Look.{start_text}
 use Rattle.rx_model.specs.Search.{Patterns, WhichCaptures, all, implicit, none, greatest_group, groups_before}
 use Rattle.rx_search.specs.GroupInfo.{unnamed_groups}
 use Rattle.rx_model.specs.Empty.{one_can_be_empty}
 use Rattle.rx_hir.specs.Normal.{expressions}
 use Rattle.rx_hir.specs.Cost.{accounted_states, capped}
+use Rattle.rx_hir.specs.Properties.{looks_first}
 use Rattle.rx_thompson.specs.Config.{utf8_of, size_limit_of, terminator_of, captures_of}
 use Rattle.rx_thompson.specs.declared.compiler.config.Config.{Config}
 use Rattle.rx_thompson.specs.Nfa.{Nfa, IsInRange, HasFirstRuns}
@@ -15,6 +18,10 @@ use Rattle.rx_thompson.specs.declared.error.BuildError.TheVariants.{TooManyPatte
 -- the patterns of these expressions
 abbrev pub patterns_of : List Expression → (utf8_empty : Bool) → (terminator : ℕ) → WhichCaptures → Patterns
 patterns_of hs utf8_empty terminator which = record { expressions = hs; utf8_empty = utf8_empty; terminator = terminator; which_captures = which }
+
+-- each pattern begins with the start of the text
+abbrev pub all_start_anchored : List Expression → Bool
+all_start_anchored hs = list_all (looks_first start_text) hs
 
 -- how many slots there are: two for each pattern, and under `all` two for each group that one names
 abbrev pub slots_of : WhichCaptures → List Expression → ℕ
@@ -63,6 +70,7 @@ pub record IsCompiled (config : Config) (hs : List Expression) (nfa : Nfa) : Typ
   pub groups : nfa.groups ≡ groups_of (captures_of config) hs
   pub utf8 : nfa.utf8 ≡ utf8_of config
   pub terminator : nfa.terminator ≡ terminator_of config
+  pub always_start_anchored : nfa.always_start_anchored ≡ all_start_anchored hs
   pub has_empty : nfa.has_empty ≡ one_can_be_empty (expressions hs)
   -- the counts of each expression are in order, as the laws on its meaning ask
   pub ordered : (p : ℕ) (h : Expression) → slice_get hs p ≡ Some h → AreOrdered h

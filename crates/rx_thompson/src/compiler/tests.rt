@@ -96,32 +96,32 @@ fn keeps_what_is_left_open(rt: HostRuntime) -> Result<(), Fail> {
     Ok(())
 }
 
-/// The group of this number around the byte.
-fn group(alloc: Global, index: usize, byte: u8) -> Result<Hir, Fail> {
+/// The group of this number and name around the byte.
+fn group(alloc: Global, index: usize, name: Option<String>, byte: u8) -> Result<Hir, Fail> {
     let index = NonZeroUsize::new(index).ok_or("0")?;
     let sub = Hir::literal(vec![in alloc; byte; 1]?);
     Ok(Hir::capture(Capture {
         index,
-        name: None,
+        name,
         sub: Box::new(alloc, sub)?,
     }))
 }
 
-/// `(a)|b(c)` and `(d)`.
+/// `(a)|b(?P<c>c)` and `(?P<d>d)`.
 fn with_groups(alloc: Global) -> Result<Vec<Hir>, Fail> {
     let mut second = Vec::new(alloc);
     second.push(Hir::literal(vec![in alloc; b'b'; 1]?))?;
-    second.push(group(alloc, 2, b'c')?)?;
+    second.push(group(alloc, 2, Some(String::from_str(alloc, "c")?), b'c')?)?;
     let mut first = Vec::new(alloc);
-    first.push(group(alloc, 1, b'a')?)?;
+    first.push(group(alloc, 1, None, b'a')?)?;
     first.push(Hir::concat(alloc, second)?)?;
     let mut exprs = Vec::new(alloc);
     exprs.push(Hir::alternation(alloc, first)?)?;
-    exprs.push(group(alloc, 1, b'd')?)?;
+    exprs.push(group(alloc, 1, Some(String::from_str(alloc, "d")?), b'd')?)?;
     Ok(exprs)
 }
 
-/// How many groups `(a)|b(c)` and `(d)` have, in order.
+/// How many groups these have, in order, and how many slots.
 fn group_lens(alloc: Global, which: WhichCaptures) -> Result<[usize; 4], Fail> {
     let exprs = with_groups(alloc)?;
     let mut compiler = Compiler::new();
@@ -178,8 +178,8 @@ fn line_start(alloc: Global, terminator: u8) -> Result<NFA, Fail> {
     matcher.set_line_terminator(terminator);
     let mut compiler = Compiler::new();
     compiler.configure(Config::new().look_matcher(matcher));
-    let exprs = [Hir::look(Look::StartLF)];
-    Ok(compiler.build_many_from_hir(alloc, &exprs)?)
+    let nfa = compiler.build_from_hir(alloc, &Hir::look(Look::StartLF))?;
+    Ok(nfa)
 }
 
 #[test]
@@ -199,5 +199,16 @@ fn a_look_around_is_one_state(rt: HostRuntime) -> Result<(), Fail> {
     assert!(rt; nfa.look_set_any() == LookSet::empty().insert(Look::StartLF));
     assert_eq!(rt; nfa.look_matcher().get_line_terminator(), b'\0');
     assert!(rt; nfa.has_empty());
+    Ok(())
+}
+
+#[test]
+fn tells_whether_each_pattern_is_start_anchored(rt: HostRuntime) -> Result<(), Fail> {
+    let anchored = [Hir::look(Look::Start), Hir::look(Look::Start)];
+    let nfa = Compiler::new().build_many_from_hir(rt.alloc(), &anchored)?;
+    assert!(rt; nfa.is_always_start_anchored());
+    let one = [Hir::look(Look::Start), Hir::look(Look::StartLF)];
+    let nfa = Compiler::new().build_many_from_hir(rt.alloc(), &one)?;
+    assert!(rt; !nfa.is_always_start_anchored());
     Ok(())
 }
