@@ -8,3 +8,7 @@ pub mod PropertiesLemmas
 pub mod SoundLemmas
 pub mod SpanLemmas
 pub mod UnionLemmas
+pub mod NamesLemmas
+pub mod LookLemmas
+pub mod NamedLemmas
+pub mod Utf8Lemmas

@@ -14,6 +14,7 @@ mod emptiness;
 mod groups;
 mod kind;
 mod laws;
+mod names;
 mod parts;
 mod properties;
 mod set;
@@ -21,8 +22,10 @@ mod set;
 pub use emptiness::{can_be_empty, one_can_be_empty};
 pub use groups::greatest_group;
 pub use laws::{
-    fewest_ranges_hold_the_members, lengths_bound_the_meaning, sound_expressions_are_ordered,
+    fewest_ranges_hold_the_members, lengths_bound_the_meaning, look_sets_hold_at_the_ends,
+    sound_expressions_are_ordered, told_names_stand, utf8_expressions_mean_utf8,
 };
+pub use names::group_names;
 pub use properties::Properties;
 use rx_class::{Class, ClassBytes};
 use rx_search::Look;

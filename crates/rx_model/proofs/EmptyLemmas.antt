@@ -45,7 +45,7 @@ module _ (terminator : ℕ) (text : List ℕ) where
     unfolding Means
 
     -- what an expression means doesn't end before it starts
-    means-rises : (h : Expression) (i j : ℕ) → Means terminator text h i j → i ≤ j
+    pub means-rises : (h : Expression) (i j : ℕ) → Means terminator text h i j → i ≤ j
     means-rises empty i j m = omega arith
     means-rises (literal bytes) i j m = let e = m.1 in omega arith
     means-rises (class members) i j m = let e = m.2 in omega arith
@@ -55,7 +55,7 @@ module _ (terminator : ℕ) (text : List ℕ) where
     means-rises (concat subs) i j m = in_turn-rise subs i j m
     means-rises (alternation subs) i j m = one-rises subs i j m
 
-    in_turn-rise : (hs : Expressions) (i j : ℕ) → MeansInTurn terminator text hs i j → i ≤ j
+    pub in_turn-rise : (hs : Expressions) (i j : ℕ) → MeansInTurn terminator text hs i j → i ≤ j
     in_turn-rise nil i j m = omega arith
     in_turn-rise (cons sub subs) i j m =
         let first = means-rises sub i m.0 m.1 in

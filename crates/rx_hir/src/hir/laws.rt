@@ -1,11 +1,15 @@
-//! Laws of classes and of lengths.
-ghost use Rattle.std.specs.Prelude.{◌≡◌, ℕ, ◌+◌, ◌≤◌, List, Some};
+//! Laws of classes, of properties and of names.
+ghost use Rattle.std.specs.Prelude.{◌≡◌, ℕ, ◌+◌, ◌-◌, ◌≤◌, true, false, List, take, drop, Some, IsUtf8};
 ghost use Rattle.std.specs.Char.{IsScalar};
 ghost use Rattle.rx_model.specs.Expression.{Expression, AreOrdered};
 ghost use Rattle.rx_model.specs.Length.{minimum_len};
+ghost use Rattle.rx_model.specs.Look.{Look, holds};
 ghost use Rattle.rx_model.specs.Meaning.{Means};
+ghost use Rattle.rx_search.specs.GroupInfo.{has_duplicate};
 ghost use Rattle.rx_model.specs.Text.{is_member};
 ghost use Rattle.rx_hir.specs.Length.{maximum_len, saturated, in_64_bits};
+ghost use Rattle.rx_hir.specs.Names.{IsNamed, HasOneNameEach, name_in, group_names};
+ghost use Rattle.rx_hir.specs.Properties.{looks_first, looks_last, is_utf8};
 ghost use Rattle.rx_hir.specs.Sound.{IsSound};
 ghost use Rattle.rx_class.specs.Ranges.{next_scalar, next_byte, fewest, HaveScalarEnds, AreScalarRanges, AreByteRanges};
 
@@ -36,4 +40,27 @@ pub fn lengths_bound_the_meaning()
 /// says that it is sound.
 pub fn sound_expressions_are_ordered()
     ensures { (h : Expression) → IsSound h → AreOrdered h }
+{}
+
+/// A kind that is in the prefix set of an expression holds wherever a match of it starts, and one that is in the
+/// suffix set holds wherever it ends.
+pub fn look_sets_hold_at_the_ends()
+    ensures first { (t : ℕ) (text : List ℕ) (h : Expression) (kind : Look) → looks_first kind h ≡ true
+        → (i j : ℕ) → Means t text h i j → holds t text kind i ≡ true }
+    ensures last { (t : ℕ) (text : List ℕ) (h : Expression) (kind : Look) → looks_last kind h ≡ true
+        → (i j : ℕ) → Means t text h i j → holds t text kind j ≡ true }
+{}
+
+/// Whatever an expression that is UTF-8 means is UTF-8.
+pub fn utf8_expressions_mean_utf8()
+    ensures { (t : ℕ) (text : List ℕ) (h : Expression) → is_utf8 h ≡ true
+        → (i j : ℕ) → Means t text h i j → IsUtf8 (take (j - i) (drop i text)) }
+{}
+
+/// A name that is told of a group stands at its number. Where each number has one name or none, and no name has two
+/// numbers, each name that stands is told, and no name is told twice.
+pub fn told_names_stand()
+    ensures stands { (h : Expression) (g : ℕ) (name : List ℕ) → name_in g h ≡ Some name → IsNamed g (Some name) h }
+    ensures told { (h : Expression) → HasOneNameEach h → (g : ℕ) (name : List ℕ) → IsNamed g (Some name) h → name_in g h ≡ Some name }
+    ensures once { (h : Expression) → HasOneNameEach h → has_duplicate (group_names h) ≡ false }
 {}
