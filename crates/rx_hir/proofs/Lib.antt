@@ -12,3 +12,5 @@ pub mod NamesLemmas
 pub mod LookLemmas
 pub mod NamedLemmas
 pub mod Utf8Lemmas
+pub mod RowLemmas
+pub mod CopiesLemmas

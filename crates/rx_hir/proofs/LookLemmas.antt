@@ -19,7 +19,7 @@ same-kind a b e =
     let number : look_number a ≡ look_number b = grind (arith, nat_tests) in
     same_Some a b (sym (look-back a) ∙ ap look_of number ∙ look-back b)
 
-zero-len : (o : Option ℕ) → is_zero o ≡ true → o ≡ Some 0
+pub zero-len : (o : Option ℕ) → is_zero o ≡ true → o ≡ Some 0
 zero-len None e = absurd (true≢false (sym e))
 zero-len (Some n) e = let none : n ≡ 0 = grind (arith, nat_tests) in ap Some none
 
