@@ -2,6 +2,7 @@ pub mod AstFalls
 pub mod AstViews
 pub mod Coded
 pub mod Config
+pub mod Gathered
 pub mod Input
 pub mod Reading
 pub mod Refusal

@@ -14,6 +14,7 @@ mod cursor;
 mod error;
 mod flags;
 mod group_kind;
+mod level;
 mod names;
 mod piece;
 mod text;
