@@ -1,7 +1,7 @@
 -- What a backslash and the characters after it stand for.
 use Rattle.std.specs.Prelude.{ℕ, zero, suc, Bool, true, false, not, ◌&&◌, ◌||◌, ◌==◌, List, [], ◌∷◌, take, length, Option, Some, None, Result, Ok, if◌then◌else◌}
 use Rattle.std.specs.List.{prefix_len}
-use Rattle.std.specs.Char.{is_ascii, is_ascii_alphabetic, is_ascii_digit, is_digit}
+use Rattle.std.specs.Char.{is_ascii, is_ascii_alphabetic, is_ascii_digit, is_ascii_lowercase, is_digit}
 use Rattle.std.specs.Str.Parse.{digits_value}
 use lib.Utf8.{scalar}
 use Rattle.rx_sets.specs.declared.perl.ClassPerlKind.{ClassPerlKind}
@@ -10,6 +10,8 @@ use Rattle.rx_reader.specs.declared.error.SyntaxErrorKind.TheVariants.{Escape, U
 use Rattle.rx_reader.specs.declared.assertion.AssertionKind.{AssertionKind}
 use Rattle.rx_reader.specs.declared.assertion.AssertionKind.TheVariants.{StartText, EndText, WordBoundary, NotWordBoundary, WordBoundaryStart, WordBoundaryEnd, WordBoundaryStartHalf, WordBoundaryEndHalf}
 use Rattle.rx_reader.specs.declared.escape.Escaped.{Escaped}
+use Rattle.rx_reader.specs.declared.escape.NameIn.{NameIn}
+use Rattle.rx_reader.specs.declared.escape.NameIn.TheVariants.{Braces, Brackets}
 use Rattle.rx_reader.specs.declared.escape.Escaped.TheVariants.{Character, Assertion, Perl, Property}
 use Rattle.rx_reader.specs.Reading.{Place, Read, refuse, at_end, first, past, ◌∈◌, is_at, begins}
 
@@ -32,24 +34,23 @@ leading test text = take (prefix_len test text) text
 unfoldable pub digits : (radix most : ℕ) → Place → List ℕ
 digits radix most p = leading (λ c. is_digit c radix) (take most p.text)
 
--- the character whose number the digits write, in an escape from the place `from` to the place q
-unfoldable pub numbered : (from : Place) → (radix : ℕ) → (is_hex_byte : Bool) → List ℕ → (q : Place) → Read Escaped
-numbered from radix is_hex_byte ds q =
-    let code = digits_value radix ds in if scalar code then Ok (character is_hex_byte code, q) else refuse Escape from q
+-- the character of the number, in an escape from the place `from` to the place q
+abbrev pub numbered : (from : Place) → (is_hex_byte : Bool) → ℕ → (q : Place) → Read Escaped
+numbered from is_hex_byte code q = if scalar code then Ok (character is_hex_byte code, q) else refuse Escape from q
 
 -- so many digits of base 16
 unfoldable pub hex_digits : (from : Place) → (count : ℕ) → Place → Read Escaped
 hex_digits from count p =
     let ds = digits 16 count p in
     let q = past_n (length ds) p in
-    if length ds == count then numbered from 16 (count == 2) ds q else refuse Escape from q
+    if length ds == count then numbered from (count == 2) (digits_value 16 ds) q else refuse Escape from q
 
 -- one to eight digits of base 16 and the closing brace
 unfoldable pub hex_in_braces : (from : Place) → Place → Read Escaped
 hex_in_braces from p =
     let ds = digits 16 8 p in
     let q = past_n (length ds) p in
-    if length ds == 0 || not (is_at "}" q) then refuse Escape from q else numbered from 16 false ds (past q)
+    if length ds == 0 || not (is_at "}" q) then refuse Escape from q else numbered from false (digits_value 16 ds) (past q)
 
 -- what stands after `\x`, `\u` or `\U`, with so many digits where there are no braces
 unfoldable pub hex : (from : Place) → (count : ℕ) → Place → Read Escaped
@@ -57,14 +58,19 @@ hex from count p = if is_at "{" p then hex_in_braces from (past p) else hex_digi
 
 -- one to three digits of base 8
 unfoldable pub octal_digits : (from : Place) → Place → Read Escaped
-octal_digits from p = let ds = digits 8 3 p in numbered from 8 false ds (past_n (length ds) p)
+octal_digits from p = let ds = digits 8 3 p in numbered from false (digits_value 8 ds) (past_n (length ds) p)
 
 -- Sets by their names.
+
+-- the characters of a name: all up to the closing brace, or small letters
+abbrev pub in_name : NameIn → ℕ → Bool
+in_name Braces c = not (c ∈ "}")
+in_name Brackets c = is_ascii_lowercase c
 
 -- the name up to the closing brace
 unfoldable pub property_in_braces : (from : Place) → (negated : Bool) → Place → Read Escaped
 property_in_braces from negated p =
-    let name = leading (λ c. not (c ∈ "}")) p.text in
+    let name = leading (in_name Braces) p.text in
     let q = past_n (length name) p in
     if at_end q then refuse Escape from q else Ok (Property name negated, past q)
 
@@ -141,18 +147,23 @@ abbrev pub known : (p q : Place) → Option Escaped → Read Escaped
 known p q (Some e) = Ok (e, past q)
 known p q None = refuse Escape p q
 
--- from the backslash on; digits of base 8 are read where `octal` is set
-unfoldable pub escape : (octal : Bool) → Place → Read Escaped
-escape octal p =
-    let q = past p in
+-- the escape from p on whose letter stands at q
+unfoldable pub lettered : (p q : Place) → Read Escaped
+lettered p q =
     let c = first q in
-    if at_end q then refuse Escape p q
-    else if octal && is_digit c 8 then octal_digits p q
-    else if not octal && is_ascii_digit c then refuse Unsupported p (past q)
-    else if c ∈ "x" then hex p 2 (past q)
+    if c ∈ "x" then hex p 2 (past q)
     else if c ∈ "u" then hex p 4 (past q)
     else if c ∈ "U" then hex p 8 (past q)
     else if c ∈ "p" then property p false (past q)
     else if c ∈ "P" then property p true (past q)
     else if c ∈ "b" then (let (kind, r) = boundary (past q) in Ok (Assertion kind, r))
     else known p q (one_letter c)
+
+-- from the backslash on; digits of base 8 are read where `octal` is set, else no digit is
+unfoldable pub escape : (octal : Bool) → Place → Read Escaped
+escape octal p =
+    let q = past p in
+    if at_end q then refuse Escape p q
+    else if octal && is_digit (first q) 8 then octal_digits p q
+    else if not octal && is_ascii_digit (first q) then refuse Unsupported p (past q)
+    else lettered p q
