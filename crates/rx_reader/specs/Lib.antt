@@ -1,0 +1,10 @@
+pub mod AstFalls
+pub mod AstViews
+pub mod Classes
+pub mod Coded
+pub mod Config
+pub mod Escapes
+pub mod Input
+pub mod Reading
+pub mod Refusal
+pub mod Syntax
