@@ -1,7 +1,9 @@
 pub mod AstFalls
 pub mod AstViews
+pub mod Classes
 pub mod Coded
 pub mod Config
+pub mod Escapes
 pub mod Gathered
 pub mod Input
 pub mod Reading
