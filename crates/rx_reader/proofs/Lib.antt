@@ -1,0 +1,3 @@
+mod CountRows
+mod FlagRows
+mod OpeningRows

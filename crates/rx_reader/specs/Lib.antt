@@ -1,8 +1,13 @@
+pub mod Ahead
 pub mod AstFalls
 pub mod AstViews
 pub mod Coded
 pub mod Config
+pub mod Counts
+pub mod Flags
 pub mod Input
+pub mod Names
+pub mod Openings
 pub mod Reading
 pub mod Refusal
 pub mod Syntax
