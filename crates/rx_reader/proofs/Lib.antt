@@ -1,5 +1,8 @@
+mod CountRows
+mod FlagRows
 pub mod FlagsLemmas
 pub mod ItemLemmas
 pub mod NamesLemmas
+mod OpeningRows
 pub mod PlaceLemmas
 pub mod ReadsLemmas
