@@ -11,10 +11,14 @@ mod class_item;
 mod class_kind;
 mod config;
 mod cursor;
+mod directive;
 mod error;
 mod flags;
 mod group_kind;
+mod name;
 mod names;
+mod opening;
+mod operator;
 mod piece;
 mod text;
 
