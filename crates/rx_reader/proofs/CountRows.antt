@@ -6,9 +6,10 @@ use Rattle.rx_reader.specs.declared.flags.Flags.{Flags}
 use Rattle.rx_reader.specs.declared.error.SyntaxError.{SyntaxError}
 use Rattle.rx_reader.specs.declared.error.SyntaxErrorKind.{SyntaxErrorKind}
 use Rattle.rx_reader.specs.declared.error.SyntaxErrorKind.TheVariants.{RepeatCount, Unsupported}
-use Rattle.rx_reader.specs.Reading.{Place, Read, ◌>>=◌}
+use Rattle.rx_reader.specs.Reading.{Place, Read, ◌>>=◌, past_while}
 use Rattle.rx_reader.specs.Ahead.{past_n, blank_len}
-use Rattle.rx_reader.specs.Counts.{Operator, read_number, read_max, read_counts, operator}
+use Rattle.rx_reader.specs.declared.operator.Operator.{Operator}
+use Rattle.rx_reader.specs.Counts.{read_number, read_max, read_counts, operator}
 use Prim.Native.String.{String}
 
 unfoldable start : List ℕ → Place
@@ -44,7 +45,7 @@ operators_rows :
     (found_with true false "+" ≡ is 1 None false 1) ×
     (found_with true false "+?" ≡ is 1 None true 2) ×
     (found_spaced "* ?" ≡ is 0 None true 1)
-unfolding start flags found_with found found_spaced is refused past_n blank_len read_number read_max read_counts operator
+unfolding start flags found_with found found_spaced is refused past_while past_n blank_len read_number read_max read_counts operator
 operators_rows = (refl, refl, refl, refl, refl, refl, refl, refl, refl)
 
 counts_rows :
@@ -56,7 +57,7 @@ counts_rows :
     (found "{4294967295}" ≡ is 4294967295 (Some 4294967295) true 12) ×
     (found "{2} ?" ≡ is 2 (Some 2) true 3) ×
     (found_with true false "{2,}?" ≡ is 2 None true 5)
-unfolding start flags found_with found found_spaced is refused past_n blank_len read_number read_max read_counts operator
+unfolding start flags found_with found found_spaced is refused past_while past_n blank_len read_number read_max read_counts operator
 counts_rows = (refl, refl, refl, refl, refl, refl, refl, refl)
 
 spaced_counts_rows :
@@ -65,7 +66,7 @@ spaced_counts_rows :
     (found_spaced "{2} ?" ≡ is 2 (Some 2) false 5) ×
     (found_spaced "{2} # c\n?" ≡ is 2 (Some 2) false 9) ×
     (found_spaced "{2} b" ≡ is 2 (Some 2) true 3)
-unfolding start flags found_with found found_spaced is refused past_n blank_len read_number read_max read_counts operator
+unfolding start flags found_with found found_spaced is refused past_while past_n blank_len read_number read_max read_counts operator
 spaced_counts_rows = (refl, refl, refl, refl, refl)
 
 refused_counts_rows :
@@ -79,12 +80,12 @@ refused_counts_rows :
     (found "{ 2}" ≡ refused RepeatCount 0 1) ×
     (found_spaced "{ x" ≡ refused RepeatCount 0 2) ×
     (found_spaced "{2#\n}" ≡ refused RepeatCount 0 2)
-unfolding start flags found_with found found_spaced is refused past_n blank_len read_number read_max read_counts operator
+unfolding start flags found_with found found_spaced is refused past_while past_n blank_len read_number read_max read_counts operator
 refused_counts_rows = (refl, refl, refl, refl, refl, refl, refl, refl, refl, refl)
 
 counts_without_min_rows :
     (found "{,3}" ≡ refused Unsupported 0 2) ×
     (found "{,}" ≡ refused Unsupported 0 2) ×
     (found_spaced "{," ≡ refused Unsupported 0 2)
-unfolding start flags found_with found found_spaced is refused past_n blank_len read_number read_max read_counts operator
+unfolding start flags found_with found found_spaced is refused past_while past_n blank_len read_number read_max read_counts operator
 counts_without_min_rows = (refl, refl, refl)

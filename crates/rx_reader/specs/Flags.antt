@@ -1,6 +1,6 @@
 -- The flags that a group or a directive names.
-use Rattle.std.specs.Prelude.{ℕ, ◌+◌, Bool, true, false, not, ◌&&◌, ◌||◌, ◌==◌, List, [], ◌∷◌, ◌++◌, length, drop, Ok, if◌then◌else◌}
-use Rattle.std.specs.List.{list_any, take_while}
+use Rattle.std.specs.Prelude.{ℕ, Bool, not, ◌&&◌, ◌||◌, ◌==◌, nat_eq, List, [], ◌∷◌, ◌++◌, length, take, drop, codes, Ok, if◌then◌else◌}
+use Rattle.std.specs.List.{list_any, prefix_len, ends_with}
 use Rattle.rx_reader.specs.declared.error.SyntaxErrorKind.TheVariants.{UnclosedGroup, Flag}
 use Rattle.rx_reader.specs.declared.flags.Flags.{Flags}
 use Rattle.rx_reader.specs.Reading.{Place, Read, refuse, at_end, past, ◌∈◌, is_at}
@@ -22,12 +22,15 @@ letters_after before (c ∷ cs) =
 abbrev pub letters : List ℕ → List ℕ
 letters text = letters_after [] text
 
--- those that are switched on, and the hyphen with those that are switched off
+-- how many letters stand before the hyphen; these are switched on, and those after it off
+abbrev pub on_len : List ℕ → ℕ
+on_len named = prefix_len (λ d. not (d ∈ "-")) named
+
 abbrev pub on : List ℕ → List ℕ
-on named = take_while (λ d. not (d ∈ "-")) named
+on named = take (on_len named) named
 
 abbrev pub off : List ℕ → List ℕ
-off named = drop (length (on named)) named
+off named = drop (on_len named) named
 
 abbrev pub switched : (letter : ℕ) → (named : List ℕ) → (was : Bool) → Bool
 switched letter named was = has letter (on named) || (was && not (has letter (off named)))
@@ -48,11 +51,11 @@ changed named flags = record {
 
 -- a hyphen, and no letter after it
 abbrev pub ends_with_hyphen : List ℕ → Bool
-ends_with_hyphen named = length (off named) == 1
+ends_with_hyphen named = ends_with nat_eq named (codes "-")
 
--- the letters end well at the place: at `:`, or at `)` where there is a letter
-abbrev pub is_complete : (named : List ℕ) → Place → Bool
-is_complete named p = not (ends_with_hyphen named) && (is_at ":" p || (is_at ")" p && not (length named == 0)))
+-- so many letters end well at the place: at `:`, or at `)` where there are any
+abbrev pub may_end_at : (count : ℕ) → Place → Bool
+may_end_at count p = is_at ":" p || (is_at ")" p && not (count == 0))
 
 -- The flags that the letters from p on make of these, up to a `:` or `)`; `from` is the place of the group's
 -- parenthesis.
@@ -61,5 +64,5 @@ read_flags from flags p =
     let named = letters p.text in
     let q = past_n (length named) p in
     if at_end q then refuse UnclosedGroup from (past from)
-    else if is_complete named q then Ok (changed named flags, q)
+    else if not (ends_with_hyphen named) && may_end_at (length named) q then Ok (changed named flags, q)
     else refuse Flag q (past q)

@@ -17,5 +17,5 @@ read_name p =
     let name = name_of p.text in
     let q = past_n (length name) p in
     if length name == 0 || not (is_at ">" q) then refuse GroupName p q
-    else if has_name name p then refuse GroupNameTwice p q
+    else if has_name name q then refuse GroupNameTwice p q
     else Ok (name, add_name name (past q))

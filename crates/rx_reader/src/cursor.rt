@@ -10,6 +10,8 @@ use crate::names::Names;
 use crate::piece::Piece;
 use std::alloc::{AllocError, Global};
 
+mod ahead;
+
 /// The characters of a pattern, and how far they are read.
 #[derive(Drop)]
 pub(crate) struct Cursor {

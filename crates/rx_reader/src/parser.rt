@@ -144,7 +144,10 @@ impl Parser {
             }
         };
         let Frame {
-            level, kind, flags, ..
+            level,
+            kind,
+            flags,
+            ..
         } = frame;
         let inside = mem::replace(&mut self.level, level);
         self.flags = flags;

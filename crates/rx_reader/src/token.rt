@@ -161,7 +161,11 @@ fn read_some_token(cursor: &mut Cursor, config: Config, flags: Flags) -> Result<
 }
 
 /// Reads the next token, under these flags.
-pub(crate) fn read_token(cursor: &mut Cursor, config: Config, flags: Flags) -> Result<Token, ParseError>
+pub(crate) fn read_token(
+    cursor: &mut Cursor,
+    config: Config,
+    flags: Flags,
+) -> Result<Token, ParseError>
     ensures value { Reads result (token config flags (place cursor.old)) (place cursor.new) }
     ensures progress { IfOk result (λ t. IsTrue (is_end t) ⊎ (unread cursor.new < unread cursor.old)) }
     ensures moves { OnOk result (unread cursor.new ≤ unread cursor.old) }
