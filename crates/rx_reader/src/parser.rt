@@ -3,7 +3,7 @@ ghost use Rattle.std.specs.Prelude.{◌≡◌, ◌+◌, ◌<◌, ◌≤◌, ◌^
 ghost use Rattle.rx_reader.specs.Reading.{Place, at_end, past};
 ghost use Rattle.rx_reader.specs.Syntax.{Syntax, depth};
 ghost use Rattle.rx_reader.specs.Config.{limit_of, flags_of};
-ghost use Rattle.rx_reader.specs.AstViews.{IsNumbered};
+ghost use Rattle.rx_reader.specs.AstViews.{IsNumbered, IsNumbered-prop};
 ghost use Rattle.rx_reader.specs.Ahead.{skip};
 ghost use Rattle.rx_reader.specs.Grammar.{all_repetitions, item_then, group_then, all_branches, no_items, read};
 ghost use Rattle.rx_reader.specs.Input.{place, unread, Reads, Refuses, IsPieceAt};
@@ -31,7 +31,7 @@ pub(crate) struct Frame {
     opening: Piece,
     kind: GroupKind,
     flags: Flags,
-    ghost numbered: { IsNumbered kind },
+    ghost numbered: { IsNumbered kind } by { IsNumbered-prop kind },
 }
 
 #[derive(Drop)]

@@ -49,10 +49,11 @@ fn escaped_atom(flags: Flags, piece: Piece, escaped: Escaped) -> Ast
 {
     match escaped {
         Escaped::Character(c) => {
+            let character = c.character;
             if c.is_hex_byte {
-                Ast::atom(flags, piece, Atom::HexByte(c.character))
+                Ast::atom(flags, piece, Atom::HexByte(character))
             } else {
-                Ast::literal(flags, c.character)
+                Ast::literal(flags, character)
             }
         }
         Escaped::Assertion(kind) => Ast::atom(flags, piece, Atom::Assertion(kind)),
@@ -171,6 +172,7 @@ pub(crate) fn read_token(
     ensures moves { OnOk result (unread cursor.new ≤ unread cursor.old) }
     ensures numbered { IfOk result IsOpening }
     ensures end { IfOk result (λ t. is_end t ≡ at_end (place cursor.old)) }
+    ensures stays { IfOk result (λ t. IsTrue (is_end t) → place cursor.new ≡ place cursor.old) }
     ensures close { IfOk result (λ t. IsTrue (is_close t) → place cursor.new ≡ past (place cursor.old)) }
 {
     if cursor.is_at_end() {
