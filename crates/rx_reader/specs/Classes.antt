@@ -14,8 +14,9 @@ use Rattle.rx_reader.specs.declared.class_item.ClassItem.TheVariants.{Range, Per
 use Rattle.rx_reader.specs.declared.escape.NameIn.TheVariants.{Brackets}
 use Rattle.rx_reader.specs.declared.escape.Escaped.{Escaped}
 use Rattle.rx_reader.specs.declared.escape.Escaped.TheVariants.{Character, Assertion, Perl as EscapedPerl, Property as EscapedProperty}
-use Rattle.rx_reader.specs.Reading.{Place, Read, ◌>>=◌, refuse, at_end, piece_of, first, past, is_at, begins, past_white}
-use Rattle.rx_reader.specs.Escapes.{past_n, leading, in_name, escape}
+use Rattle.rx_reader.specs.Ahead.{past_n}
+use Rattle.rx_reader.specs.Reading.{Place, Read, ◌>>=◌, refuse, at_end, piece_of, first, past, is_at, begins, past_all, past_white}
+use Rattle.rx_reader.specs.Escapes.{leading, in_name, escape}
 
 -- a character that stands for itself
 abbrev pub plain : ℕ → ClassMember
@@ -42,7 +43,7 @@ posix_named p negated None q = refuse Unsupported p (past p)
 unfoldable pub posix_name : (from : Place) → (negated : Bool) → Place → Read ClassItem
 posix_name from negated p =
     let name = leading (in_name Brackets) p.text in
-    let q = past_n (length name) p in
+    let q = past_all (in_name Brackets) p in
     if begins ":]" q then posix_named from negated (ascii_named name) q else refuse Unsupported from (past from)
 
 -- `[:name:]` or `[:^name:]`; any other bracket is refused
