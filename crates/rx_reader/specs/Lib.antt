@@ -1,10 +1,16 @@
+pub mod Ahead
 pub mod AstFalls
 pub mod AstViews
 pub mod Classes
 pub mod Coded
 pub mod Config
+pub mod Counts
 pub mod Escapes
+pub mod Flags
+pub mod Gathered
 pub mod Input
+pub mod Names
+pub mod Openings
 pub mod Reading
 pub mod Refusal
 pub mod Syntax

@@ -29,7 +29,7 @@ pub(crate) struct Cursor {
 impl Cursor {
     ghost use Rattle.rx_reader.specs.Input.{place, unread, start_of, HasRoom, IsPieceAt};
     ghost use Rattle.rx_reader.specs.Classes.{next_text};
-    ghost use Rattle.rx_reader.specs.Reading.{count_group, has_name, add_name, past_white};
+    ghost use Rattle.rx_reader.specs.Reading.{count_group, has_name, add_name, past_white, past_all};
 
     pub(crate) fn new(alloc: Global, pattern: &str) -> Result<Cursor, AllocError>
         ensures { IfOk result (λ c. place c ≡ start_of (chars pattern.now)) }
@@ -136,7 +136,17 @@ impl Cursor {
         ensures progress { unread self.new ≤ unread self.old }
         ensures kept { HasRoom self.old → HasRoom self.new }
     {
-        while skips && self.is_at_white() {
+        if skips {
+            self.skip_spaces();
+        }
+    }
+
+    fn skip_spaces(&mut self)
+        ensures value { place self.new ≡ past_all is_whitespace (place self.old) }
+        ensures progress { unread self.new ≤ unread self.old }
+        ensures kept { HasRoom self.old → HasRoom self.new }
+    {
+        while self.is_at_white() {
             self.bump();
         }
     }

@@ -16,6 +16,7 @@ mod error;
 mod escape;
 mod flags;
 mod group_kind;
+mod level;
 mod names;
 mod piece;
 mod text;
