@@ -1,5 +1,10 @@
+pub mod ClassItemLemmas
+mod ClassRows
 mod CountRows
+pub mod EndLemmas
+pub mod EscapeEnds
 pub mod EscapeLemmas
+mod EscapeRows
 mod FlagRows
 pub mod FlagsLemmas
 pub mod ItemLemmas

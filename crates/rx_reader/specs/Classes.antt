@@ -79,6 +79,11 @@ next_text false text = text
 abbrev pub begins_range : (skips : Bool) → Place → Bool
 begins_range skips p = is_at "-" p && not (starts_with nat_eq (next_text skips (drop 1 p.text)) (codes "]"))
 
+-- the item before the others, or none at the end
+abbrev pub with_item : (more : Place → Read (List ClassItem)) → Option ClassItem × Place → Read (List ClassItem)
+with_item more (None, q) = Ok ([], q)
+with_item more (Some item, q) = more q >>= λ (items, r). Ok (item ∷ items, r)
+
 -- Digits of base 8 are read in escapes where `octal` is set; where `skips` is set, white space is skipped.
 module _ (octal skips : Bool) where
   -- The item that begins with the member `low` at p; q is the place after that member, and `from` the place of the
@@ -106,11 +111,6 @@ module _ (octal skips : Bool) where
       if at_end q then refuse UnclosedClass from (past from)
       else if is_at "]" q then Ok (if comes_first then Some bracket else None, past q)
       else item_at from q >>= λ (item, r). Ok (Some item, r)
-
-  -- the item before the others, or none at the end
-  abbrev pub with_item : (more : Place → Read (List ClassItem)) → Option ClassItem × Place → Read (List ClassItem)
-  with_item more (None, q) = Ok ([], q)
-  with_item more (Some item, q) = more q >>= λ (items, r). Ok (item ∷ items, r)
 
   -- the items up to the closing bracket; each call reads an item, and the number bounds the calls
   unfoldable pub class_items : ℕ → (from : Place) → (comes_first : Bool) → Place → Read (List ClassItem)

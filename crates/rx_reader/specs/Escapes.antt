@@ -118,7 +118,7 @@ escaped_character c =
 
 -- what the backslash and this one character stand for
 abbrev pub by_letter : Option (ClassPerlKind × Bool) → Option AssertionKind → Option ℕ → Option Escaped
-by_letter (Some (kind, negated)) found char = Some (Perl kind negated)
+by_letter (Some set) found char = Some (Perl set.0 set.1)
 by_letter None (Some kind) char = Some (Assertion kind)
 by_letter None None (Some c) = Some (character false c)
 by_letter None None None = None

@@ -3,7 +3,7 @@ ghost use Rattle.std.specs.Prelude.{◌≡◌, ◌<◌, ◌≤◌, true, false, 
 ghost use Rattle.std.specs.Char.{is_digit, digit_value};
 ghost use Rattle.std.specs.List.{starts_with};
 ghost use Rattle.std.specs.Str.Parse.{digits_value};
-ghost use Rattle.rx_reader.specs.Reading.{Place, at_end, first, passes, past_all};
+ghost use Rattle.rx_reader.specs.Reading.{Place, at_end, first, past, passes, past_all};
 ghost use Rattle.rx_reader.specs.Ahead.{past_n};
 ghost use Rattle.rx_reader.specs.Escapes.{leading, in_name, digits, character, numbered, hex_digits, hex_in_braces, hex, octal_digits, property_in_braces, property, perl_class, assertion, is_escapable, escaped_character, one_letter, boundary, known, lettered, escape};
 ghost use Rattle.rx_reader.specs.Input.{place, unread, Reads};
@@ -230,7 +230,9 @@ fn property_in_braces(
 /// Reads a name of one character.
 fn property_of_letter(cursor: &mut Cursor, negated: bool) -> Result<Escaped, AllocError>
     requires { 0 < unread cursor.old }
-    ensures { IfOk result (λ e. e ≡ Escaped.Property (first (place cursor.old) ∷ []) negated) }
+    ensures value { IfOk result (λ e. e ≡ Escaped.Property (first (place cursor.old) ∷ []) negated) }
+    ensures place { IfOk result (λ _. place cursor.new ≡ past (place cursor.old)) }
+    ensures progress { unread cursor.new ≤ unread cursor.old }
 {
     let mut name = Vec::new(cursor.alloc());
     name.push(cursor.first())?;
@@ -252,8 +254,10 @@ fn property(cursor: &mut Cursor, start: usize, negated: bool) -> Result<Escaped,
     if !cursor.bump_over(&['{']) {
         return Ok(property_of_letter(cursor, negated)?);
     }
-    let complemented = cursor.bump_over(&['^']);
-    property_in_braces(cursor, start, negated != complemented)
+    if cursor.bump_over(&['^']) {
+        return property_in_braces(cursor, start, !negated);
+    }
+    property_in_braces(cursor, start, negated)
 }
 
 fn perl_class(c: char) -> Option<(ClassPerlKind, bool)>
@@ -309,15 +313,18 @@ fn escaped_character(c: char) -> Option<char>
 fn one_letter(c: char) -> Option<Escaped>
     ensures { result ≡ one_letter c }
 {
-    if let Some((kind, negated)) = perl_class(c) {
-        return Some(Escaped::Perl { kind, negated });
-    }
-    if let Some(kind) = assertion(c) {
-        return Some(Escaped::Assertion(kind));
-    }
-    match escaped_character(c) {
-        Some(c) => Some(character(c, false)),
-        None => None,
+    match perl_class(c) {
+        Some(found) => Some(Escaped::Perl {
+            kind: found.0,
+            negated: found.1,
+        }),
+        None => match assertion(c) {
+            Some(kind) => Some(Escaped::Assertion(kind)),
+            None => match escaped_character(c) {
+                Some(c) => Some(character(c, false)),
+                None => None,
+            },
+        },
     }
 }
 

@@ -1,8 +1,13 @@
-use Rattle.std.proofs.Common.{◌∙◌, ap, sym, arith}
+use Rattle.std.proofs.Common.{◌∙◌, ap, sym, arith, refl}
 use Rattle.rx_reader.specs.Input.{place}
 use Rattle.rx_reader.specs.Reading.{past}
+use Rattle.rx_reader.specs.Ahead.{past_n}
 use Rattle.rx_reader.proofs.EscapeLemmas.{past_n-more, past_shortens}
 use Rattle.rx_reader.proofs.escape.bump_by.Goals as goal
+
+pub loop-init : goal.loop-init
+unfolding past_n
+loop-init c = record { here = refl; moves = omega arith }
 
 pub loop-preserved : goal.loop-preserved
 loop-preserved c = record {
