@@ -1,4 +1,5 @@
 pub mod ClassItemLemmas
+pub mod ClassLemmas
 mod ClassRows
 mod CountRows
 pub mod EndLemmas
