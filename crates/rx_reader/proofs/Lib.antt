@@ -1,7 +1,12 @@
 pub mod BranchLemmas
+pub mod ClassItemLemmas
+pub mod ClassLemmas
+mod ClassRows
 mod CountRows
 pub mod EndLemmas
 pub mod EscapeEnds
+pub mod EscapeLemmas
+mod EscapeRows
 mod FlagRows
 pub mod FlagsLemmas
 pub mod ItemLemmas

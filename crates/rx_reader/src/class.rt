@@ -49,11 +49,7 @@ fn item_of(member: ClassMember) -> ClassItem
 }
 
 /// What an escape, from `start` to the position, stands for in a class.
-fn escaped_member(
-    cursor: &Cursor,
-    start: usize,
-    escaped: Escaped,
-) -> Result<ClassMember, ParseError>
+fn escaped_member(cursor: &Cursor, start: usize, escaped: Escaped) -> Result<ClassMember, ParseError>
     ensures { (p : Place) → start ≡ p.at → Reads result (escaped_member p (escaped, place cursor.now)) (place cursor.now) }
 {
     match escaped {
@@ -69,7 +65,11 @@ fn escaped_member(
 }
 
 /// Reads `name:]`.
-fn posix_name(cursor: &mut Cursor, bracket: Piece, negated: bool) -> Result<ClassItem, ParseError>
+fn posix_name(
+    cursor: &mut Cursor,
+    bracket: Piece,
+    negated: bool,
+) -> Result<ClassItem, ParseError>
     ensures value { (from : Place) → IsPieceAt bracket from → Reads result (posix_name from negated (place cursor.old)) (place cursor.new) }
     ensures progress { OnOk result (unread cursor.new ≤ unread cursor.old) }
 {
@@ -225,11 +225,10 @@ fn class_item(
     if cursor.is_at(&[']']) {
         let c = cursor.first();
         cursor.bump();
-        return Ok(if comes_first {
-            Some(item_of(plain(c)))
-        } else {
-            None
-        });
+        if comes_first {
+            return Ok(Some(item_of(plain(c))));
+        }
+        return Ok(None);
     }
     Ok(Some(item_at(cursor, syntax, opening)?))
 }
