@@ -1,5 +1,6 @@
 use crate::failure::Failure;
-use rx_syntax::{Hir, ParseError, parse};
+use rx_hir::Hir;
+use rx_syntax::{ParseError, parse};
 use rx_thompson::{BuildError, Compiler, NFA};
 use std::alloc::Global;
 use std::slice;

@@ -8,8 +8,8 @@ ghost use Rattle.rx_meta.specs.Build.{IsBuilt, IsRefused, IsRefusedOf, IsBuiltOf
 use crate::error::BuildError;
 use crate::reading::parse_all;
 use crate::regex::Regex;
+use rx_hir::Hir;
 use rx_strategy::{Config, Core};
-use rx_syntax::Hir;
 use rx_thompson::{Compiler, NFA};
 use std::alloc::Global;
 use std::slice;

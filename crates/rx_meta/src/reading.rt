@@ -3,8 +3,9 @@ ghost use Rattle.std.specs.Prelude.{◌≡◌, ◌≤◌, length, map, Ok, Match
 ghost use Rattle.rx_meta.specs.Reading.{reading, reading_of, pattern_limit, Refuses, RefusesAt};
 
 use crate::error::BuildError;
+use rx_hir::Hir;
 use rx_search::PatternID;
-use rx_syntax::{Hir, ParseError, parse};
+use rx_syntax::{ParseError, parse};
 use std::alloc::Global;
 
 /// The expressions of the patterns, of at most the first 2147483647.

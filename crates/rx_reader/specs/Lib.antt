@@ -1,10 +1,13 @@
 pub mod Ahead
 pub mod AstFalls
 pub mod AstViews
+pub mod Classes
 pub mod Coded
 pub mod Config
 pub mod Counts
+pub mod Escapes
 pub mod Flags
+pub mod Gathered
 pub mod Input
 pub mod Names
 pub mod Openings

@@ -2,8 +2,8 @@
 
 use crate::assertion::AssertionKind;
 use crate::class_item::ClassItems;
-use crate::class_kind::ClassPerlKind;
 use crate::text::Text;
+use rx_sets::ClassPerlKind;
 
 /// An atom.
 #[derive(Drop)]

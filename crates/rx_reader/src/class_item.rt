@@ -1,9 +1,9 @@
 //! What may stand between the brackets of a class.
 ghost use Rattle.std.specs.Prelude.{◌≡◌};
 
-use crate::class_kind::{ClassAsciiKind, ClassPerlKind};
 use crate::piece::Piece;
 use crate::text::Text;
+use rx_sets::{ClassAsciiKind, ClassPerlKind};
 use std::marker::Model;
 
 /// A character in a class.

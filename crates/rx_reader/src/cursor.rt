@@ -1,5 +1,5 @@
 //! A place in a pattern.
-ghost use Rattle.std.specs.Prelude.{◌≡◌, ◌+◌, ◌*◌, ◌<◌, ◌≤◌, not, ◌&&◌, length, drop, ◌^◌, vec_len, chars, nat_eq, if◌then◌else◌, IfOk, MatchOption, IsTrue, IsFalse};
+ghost use Rattle.std.specs.Prelude.{◌≡◌, ◌+◌, ◌*◌, ◌<◌, ◌≤◌, not, ◌&&◌, length, drop, [], ◌∷◌, ◌^◌, vec_len, chars, nat_eq, if◌then◌else◌, IfOk, MatchOption, IsTrue, IsFalse};
 ghost use lib.Utf8.{encodes};
 ghost use Rattle.std.specs.List.{starts_with};
 ghost use Rattle.rx_reader.specs.Reading.{at_end, first, past, passes, is_among};
@@ -30,7 +30,8 @@ pub(crate) struct Cursor {
 
 impl Cursor {
     ghost use Rattle.rx_reader.specs.Input.{place, unread, start_of, HasRoom, IsPieceAt};
-    ghost use Rattle.rx_reader.specs.Reading.{count_group, has_name, add_name, past_white};
+    ghost use Rattle.rx_reader.specs.Classes.{next_text};
+    ghost use Rattle.rx_reader.specs.Reading.{count_group, has_name, add_name, past_white, past_all};
 
     pub(crate) fn new(alloc: Global, pattern: &str) -> Result<Cursor, AllocError>
         ensures { IfOk result (λ c. place c ≡ start_of (chars pattern.now)) }
@@ -137,7 +138,17 @@ impl Cursor {
         ensures progress { unread self.new ≤ unread self.old }
         ensures kept { HasRoom self.old → HasRoom self.new }
     {
-        while skips && self.is_at_white() {
+        if skips {
+            self.skip_spaces();
+        }
+    }
+
+    fn skip_spaces(&mut self)
+        ensures value { place self.new ≡ past_all is_whitespace (place self.old) }
+        ensures progress { unread self.new ≤ unread self.old }
+        ensures kept { HasRoom self.old → HasRoom self.new }
+    {
+        while self.is_at_white() {
             self.bump();
         }
     }
@@ -213,5 +224,17 @@ impl Cursor {
             start,
             end: self.at,
         }
+    }
+
+    /// Whether this character stands after the one at the position, and after white space where that is skipped.
+    pub(crate) fn is_before(&self, c: char, skips: bool) -> bool
+        requires { 0 < unread self.now }
+        ensures { result ≡ starts_with nat_eq (next_text skips (drop 1 (place self.now).text)) (c ∷ []) }
+    {
+        let mut next = self.pos + 1;
+        while skips && next < self.chars.len() && self.chars[next].is_whitespace() {
+            next += 1;
+        }
+        self.chars[next..].starts_with(&[c])
     }
 }

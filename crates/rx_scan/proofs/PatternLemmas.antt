@@ -5,7 +5,7 @@ use Rattle.std.proofs.Math.Nat.{min-le_left}
 use Rattle.std.proofs.lemmas.Bool.{le-leb}
 use Rattle.std.proofs.lemmas.Bool.Decides.{nat_tests}
 use Rattle.rx_model.specs.Expression.{Expression}
-use Rattle.rx_syntax.specs.Cost.{capped}
+use Rattle.rx_hir.specs.Cost.{capped}
 use Rattle.rx_thompson.specs.Compiled.{AreAllowed, nfa_states}
 use Rattle.rx_thompson.specs.declared.error.BuildError.{BuildError as NfaError}
 use Rattle.rx_thompson.specs.declared.error.BuildError.TheVariants.{TooManyPatterns, TooManyGroups, TooManyStates, ExceededSizeLimit, Memory as NoMemory}

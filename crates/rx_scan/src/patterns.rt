@@ -6,7 +6,8 @@ ghost use Rattle.rx_scan.specs.Refused.{IsRefused, ReadsSections, RefusesAt};
 ghost use Rattle.rx_scan.specs.declared.patterns.PatternError.TheVariants.{Memory};
 
 use crate::lines::split_line;
-use rx_syntax::{Hir, ParseError, SyntaxErrorKind, parse};
+use rx_hir::Hir;
+use rx_syntax::{ParseError, SyntaxErrorKind, parse};
 use std::alloc::{AllocError, AllocFailed, Global};
 
 /// Why there are no expressions.

@@ -1,25 +1,12 @@
 pub mod BranchLemmas
 pub mod ClassItemLemmas
-pub mod ClassLemmas
-pub mod CostLemmas
-pub mod DepthLemmas
 pub mod EndLemmas
-pub mod GroupLemmas
-pub mod EmptyLemmas
 pub mod ItemLemmas
-pub mod JoinedLemmas
-pub mod MergeLemmas
 pub mod PatternLemmas
 pub mod PlaceLemmas
-pub mod PropertiesLemmas
-pub mod RangeLemmas
 pub mod ReadsLemmas
 pub mod RepeatLemmas
 mod Rows
-pub mod ScalarLemmas
 pub mod SizeLemmas
-pub mod SoundLemmas
-pub mod SpanLemmas
 pub mod StackLemmas
-pub mod SuccessorLemmas
 pub mod TranslationLemmas

@@ -7,8 +7,8 @@ use Rattle.rx_syntax.specs.declared.error.SyntaxError.{SyntaxError}
 use Rattle.rx_syntax.specs.declared.error.SyntaxErrorKind.{SyntaxErrorKind}
 use Rattle.rx_syntax.specs.declared.error.SyntaxErrorKind.TheVariants.{UnclosedGroup, UnopenedGroup, UnclosedClass, ClassRange, RepeatNothing, Escape, NestLimit, Unsupported}
 use Rattle.rx_syntax.specs.Grammar.{read, branches, repetitions, token, opening, class as reads_class, class_items, class_item, class_range, class_character, escape}
-use Rattle.rx_syntax.specs.Ranges.{fewest, insert}
-use Rattle.rx_syntax.specs.Scalars.{outside}
+use Rattle.rx_class.specs.Ranges.{fewest, insert}
+use Rattle.rx_class.specs.Scalars.{outside}
 use Rattle.rx_syntax.specs.Pattern.{reads}
 use lib.Utf8.{encode}
 

@@ -4,7 +4,7 @@ use Rattle.std.proofs.lemmas.List.{append-nil}
 use Rattle.std.specs.Prelude.{map, flat_map, encode_utf8}
 use lib.Utf8.{encodes}
 use Rattle.rx_model.specs.Expression.{Expression, literal}
-use Rattle.rx_syntax.specs.Normal.{literal_of, parts_of, join_literals, joined, sequence_of, concat_of}
+use Rattle.rx_hir.specs.Normal.{literal_of, parts_of, join_literals, joined, sequence_of, concat_of}
 use Rattle.rx_syntax.specs.Syntax.{Syntax, character, syntaxes}
 use Rattle.rx_syntax.specs.AstViews.{expanded}
 use Rattle.rx_syntax.specs.Translation.{expression_of, expressions_of}

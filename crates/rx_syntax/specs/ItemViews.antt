@@ -2,7 +2,7 @@
 use Rattle.std.specs.Prelude.{ℕ, suc}
 use lib.Utf8.{encodes}
 use Rattle.rx_model.specs.Expression.{Expression}
-use Rattle.rx_syntax.specs.Normal.{literal_of}
+use Rattle.rx_hir.specs.Normal.{literal_of}
 use Rattle.rx_syntax.specs.Coded.{syntax_size}
 use Rattle.rx_syntax.specs.Translation.{expression_of}
 use Rattle.rx_syntax.specs.declared.ast.Item.{Item}

@@ -2,9 +2,9 @@
 use Rattle.std.specs.Prelude.{ℕ, Bool, true, List, [], ◌∷◌, Option, Some, None, if◌then◌else◌, encode_utf8}
 use Rattle.rx_model.specs.Text.{scalar_ranges}
 use Rattle.rx_model.specs.Expression.{Expression, capture}
-use Rattle.rx_syntax.specs.Normal.{literal_of, class_of, repetition_of, concat_of, alternation_of}
-use Rattle.rx_syntax.specs.Ranges.{next_scalar, fewest}
-use Rattle.rx_syntax.specs.Scalars.{complement}
+use Rattle.rx_hir.specs.Normal.{literal_of, class_of, repetition_of, concat_of, alternation_of}
+use Rattle.rx_class.specs.Ranges.{next_scalar, fewest}
+use Rattle.rx_class.specs.Scalars.{complement}
 use Rattle.rx_syntax.specs.Syntax.{Syntax, Syntaxes, character, dot, set, repeated, group, cat, alt, nil, cons}
 
 -- the class of these scalars, in fewest ranges

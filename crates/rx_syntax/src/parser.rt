@@ -9,9 +9,9 @@ ghost use Rattle.rx_syntax.specs.Input.{place, unread, Reads, Refuses, IsPieceAt
 use crate::ast::{Ast, Item};
 use crate::cursor::{Cursor, Piece};
 use crate::error::{ParseError, SyntaxErrorKind};
-use crate::hir::Hir;
 use crate::token::{Token, read_operator, read_token};
 use crate::translate::translate;
+use rx_hir::Hir;
 use std::alloc::{AllocError, Global};
 use std::mem;
 

@@ -1,12 +1,12 @@
 //! From a pattern as it is written to its expression.
 ghost use Rattle.std.specs.Prelude.{◌≡◌, ◌<◌, ◌≤◌, map, IfOk, IfSome};
 ghost use lib.Utf8.{encodes};
-ghost use Rattle.rx_syntax.specs.Normal.{literal_of, repetition_of};
+ghost use Rattle.rx_hir.specs.Normal.{literal_of, repetition_of};
 ghost use Rattle.rx_syntax.specs.Translation.{expression_of, group_of, dot_of, bracketed};
 ghost use Rattle.rx_syntax.specs.ItemViews.{item_expression};
 
 use crate::ast::{Ast, AstKind, Item};
-use crate::hir::{Capture, Class, ClassUnicode, Hir, Repetition};
+use rx_hir::{Capture, Class, ClassUnicode, Hir, Repetition};
 use rx_search::Memory;
 use std::alloc::Global;
 use std::num::NonZeroUsize;

@@ -6,9 +6,9 @@ use Rattle.std.proofs.lemmas.Bool.Decides.{nat_tests}
 use Rattle.rx_model.specs.Expression.{Expression}
 use Rattle.rx_model.specs.Text.{scalar_ranges}
 use Rattle.rx_model.proofs.RunLemmas.{by_test}
-use Rattle.rx_syntax.specs.Cost.{states_of_part, states_of_class, states_of_copies, accounted_states, accounted_in}
-use Rattle.rx_syntax.specs.Normal.{expressions}
-use Rattle.rx_syntax.specs.Ranges.{AreScalarRanges}
+use Rattle.rx_hir.specs.Cost.{states_of_part, states_of_class, states_of_copies, accounted_states, accounted_in}
+use Rattle.rx_hir.specs.Normal.{expressions}
+use Rattle.rx_class.specs.Ranges.{AreScalarRanges}
 use Rattle.rx_thompson.specs.Ranges.{RisesFrom, clip, cost_of_parts, cost_of_class}
 use Rattle.rx_thompson.specs.Repeated.{states_of_tail, leading}
 use Rattle.rx_thompson.proofs.ExpressionLemmas.{expressions-more}

@@ -4,7 +4,7 @@ use Rattle.std.specs.Prelude.{Option, map}
 use Rattle.std.specs.List.{AllZip}
 use Rattle.rx_model.specs.Expression.{Expression}
 use Rattle.rx_model.specs.Graph as graph
-use Rattle.rx_syntax.specs.Normal.{expressions}
+use Rattle.rx_hir.specs.Normal.{expressions}
 use Rattle.rx_thompson.specs.Draft.{Draft, Extends, pushed}
 use Rattle.rx_thompson.specs.States.{Stands}
 use Rattle.rx_thompson.specs.Built.{IsImage, Rises, Sends, Mirrors, Built}

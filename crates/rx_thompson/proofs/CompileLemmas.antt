@@ -11,8 +11,8 @@ use Rattle.rx_model.specs.Length.{is_positive}
 use Rattle.rx_model.specs.Search.{greatest_group, greatest_in}
 use Rattle.rx_model.proofs.RunLemmas.{by_test}
 use Rattle.rx_search.specs.declared.memory.Memory.{Memory}
-use Rattle.rx_syntax.specs.Length.{saturated}
-use Rattle.rx_syntax.specs.Normal.{expressions}
+use Rattle.rx_hir.specs.Length.{saturated}
+use Rattle.rx_hir.specs.Normal.{expressions}
 use Rattle.rx_thompson.specs.Built.{Built, ways}
 use Rattle.rx_thompson.specs.Draft.{Draft, pushed, patched}
 use Rattle.rx_thompson.specs.Repeated.{tail, leading}

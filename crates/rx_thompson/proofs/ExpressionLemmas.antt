@@ -2,10 +2,10 @@
 use Rattle.std.proofs.Common.{◌≡◌, ℕ, zero, suc, ◌+◌, ◌-◌, ◌≤◌, ◌<◌, List, [], ◌∷◌, refl, sym, ◌∙◌, ap, arith, length, get_or, drop, drop-cons}
 use Rattle.rx_model.specs.Expression.{Expression, cons}
 use Rattle.rx_model.specs.Search.{greatest_group, groups_before}
-use Rattle.rx_syntax.specs.Cost.{accounted_states}
+use Rattle.rx_hir.specs.Cost.{accounted_states}
 use Rattle.rx_thompson.specs.Compiled.{nfa_states}
-use Rattle.rx_syntax.specs.Normal.{expressions}
-use Rattle.rx_syntax.specs.Depth.{depth, greatest_depth}
+use Rattle.rx_hir.specs.Normal.{expressions}
+use Rattle.rx_hir.specs.Depth.{depth, greatest_depth}
 
 -- one expression more
 pub expressions-more : (hs : List Expression) (k : ℕ) (h d : Expression) → 0 < k → k ≤ length hs → h ≡ get_or hs (k - 1) d → expressions (drop (k - 1) hs) ≡ cons h (expressions (drop k hs))

@@ -12,7 +12,7 @@ use Rattle.rx_model.specs.Search.{Patterns, WhichCaptures, all as every_group, i
 use Rattle.rx_model.proofs.WriteLemmas.{told-or, told-all, told-implicit, found-silent}
 use Rattle.rx_model.proofs.RunLemmas.{by_test, same-true}
 use Rattle.rx_model.proofs.FoundLemmas.{found-step, found-passed}
-use Rattle.rx_syntax.specs.Sound.{IsSound}
+use Rattle.rx_hir.specs.Sound.{IsSound}
 use Rattle.rx_thompson.specs.Automaton.{at, automaton, state_accepts, state_writes, state_step}
 use Rattle.rx_thompson.specs.Nfa.{Nfa, HasFirstRuns}
 use Rattle.rx_thompson.specs.Draft.{Draft, Extends, pushed}

@@ -5,7 +5,7 @@ use Rattle.std.proofs.lemmas.Bool.Decides.{nat_tests}
 use Rattle.std.proofs.lemmas.List.{drop_all}
 use Rattle.rx_model.proofs.RunLemmas.{by_test}
 use Rattle.rx_model.specs.Text.{is_member}
-use Rattle.rx_syntax.specs.Ranges.{next_scalar, next_byte, BeginPast, AreFewest, AreScalarRanges, AreByteRanges}
+use Rattle.rx_class.specs.Ranges.{next_scalar, next_byte, BeginPast, AreFewest, AreScalarRanges, AreByteRanges}
 use Rattle.rx_thompson.specs.Ranges.{RisesFrom, StaysBelow, IsRest, EndsFrom, ends_in, one_if, is_narrow, size_of_block, CoversUpTo, has_block, whole_depth, whole_depths, clip}
 
 pub RisesFrom-lower : (low lower : ℕ) (rs : List (ℕ × ℕ)) → lower ≤ low → RisesFrom low rs → RisesFrom lower rs

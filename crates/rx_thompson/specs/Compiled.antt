@@ -4,8 +4,8 @@ use Rattle.rx_model.specs.Expression.{Expression, AreOrdered}
 use Rattle.rx_model.specs.Search.{Patterns, WhichCaptures, all, implicit, none, greatest_group, groups_before}
 use Rattle.rx_search.specs.GroupInfo.{unnamed_groups}
 use Rattle.rx_model.specs.Empty.{one_can_be_empty}
-use Rattle.rx_syntax.specs.Normal.{expressions}
-use Rattle.rx_syntax.specs.Cost.{accounted_states, capped}
+use Rattle.rx_hir.specs.Normal.{expressions}
+use Rattle.rx_hir.specs.Cost.{accounted_states, capped}
 use Rattle.rx_thompson.specs.Config.{utf8_of, size_limit_of, captures_of}
 use Rattle.rx_thompson.specs.declared.compiler.config.Config.{Config}
 use Rattle.rx_thompson.specs.Nfa.{Nfa, IsInRange, HasFirstRuns}

@@ -1,7 +1,7 @@
 //! The states of a class: its members' encodings, which share their first bytes.
 ghost use Rattle.std.specs.Prelude.{List, ◌≡◌, ◌<◌, ◌≤◌, ◌+◌, ◌*◌, ◌%◌, ℕ, length, IfOk, OnOk, []};
 ghost use Rattle.rx_model.specs.Text.{is_member, scalar_ranges, byte_ranges};
-ghost use Rattle.rx_syntax.specs.Ranges.{AreScalarRanges, AreByteRanges};
+ghost use Rattle.rx_class.specs.Ranges.{AreScalarRanges, AreByteRanges};
 ghost use Rattle.rx_thompson.specs.Automaton.{automaton};
 ghost use Rattle.rx_thompson.specs.Ranges.{RisesFrom, StaysBelow, size_of_block, clip, cost_of_parts, cost_of_class};
 ghost use Rattle.rx_thompson.specs.Row.{transition_to, Ascends, IsReader, AddsReaders};

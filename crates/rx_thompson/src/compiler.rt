@@ -3,8 +3,8 @@ ghost use Rattle.std.specs.Prelude.{◌≡◌, ℕ, ◌+◌, ◌*◌, ◌<◌, �
 ghost use Rattle.rx_model.specs.Expression.{Expression};
 ghost use Rattle.rx_model.specs.Graph.{build_state};
 ghost use Rattle.rx_model.specs.Search.{greatest_group};
-ghost use Rattle.rx_syntax.specs.Cost.{accounted_states};
-ghost use Rattle.rx_syntax.specs.Sound.{IsSound};
+ghost use Rattle.rx_hir.specs.Cost.{accounted_states};
+ghost use Rattle.rx_hir.specs.Sound.{IsSound};
 ghost use Rattle.rx_thompson.specs.Built.{Built, slot_from, bound, compiled_pattern, HasPart, HasPatterns, StartsAll};
 ghost use Rattle.rx_thompson.specs.Config.{captures_kind, captures_of, overwritten, nothing_set};
 ghost use Rattle.rx_thompson.specs.Compiled.{patterns_of, slots_of, nfa_states, AreFew, AreAllowed, IsCompiled, IsRefusal};
@@ -30,8 +30,8 @@ pub use config::{Config, WhichCaptures};
 use expression::compile;
 use grouping::group_info;
 use groups::Groups;
+use rx_hir::{Hir, one_can_be_empty};
 use rx_search::{Memory, PatternID, StateID};
-use rx_syntax::{Hir, one_can_be_empty};
 use slots::{first_slot, second_slot, slot_after, whole_slot};
 use std::alloc::Global;
 

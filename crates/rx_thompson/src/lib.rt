@@ -2,7 +2,7 @@
 //!
 //! An `NFA` is a list of states. A priority graph gives it its meaning: the runs of its states over
 //! the places of a text. The compiler's contract says that its first runs are those of the graphs
-//! of the expressions, with pattern, end and slots. It stands on rx_syntax.
+//! of the expressions, with pattern, end and slots. It stands on rx_hir.
 #![tactic(auto)]
 
 mod builder;

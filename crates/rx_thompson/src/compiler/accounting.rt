@@ -1,12 +1,12 @@
 //! What is accounted for an NFA before it is built.
 ghost use Rattle.std.specs.Prelude.{◌≡◌, ◌+◌, ◌*◌, ◌^◌, length, min};
 ghost use Rattle.rx_model.specs.Search.{groups_before, all};
-ghost use Rattle.rx_syntax.specs.Cost.{capped};
+ghost use Rattle.rx_hir.specs.Cost.{capped};
 ghost use Rattle.rx_thompson.specs.Compiled.{slots_of, nfa_states};
 ghost use Rattle.rx_thompson.specs.Config.{captures_kind};
 
 use crate::compiler::config::WhichCaptures;
-use rx_syntax::{Hir, accounted_states, greatest_group};
+use rx_hir::{Hir, accounted_states, greatest_group};
 
 /// How many slots a match has. At most `usize::MAX`.
 pub fn slot_len(which: WhichCaptures, exprs: &[Hir]) -> usize

@@ -6,8 +6,8 @@ ghost use Rattle.rx_thompson.specs.Config.{nothing_set};
 
 use crate::compiler::Compiler;
 use crate::nfa::NFA;
+use rx_hir::Hir;
 use rx_search::Memory;
-use rx_syntax::Hir;
 use std::alloc::Global;
 
 impl NFA {

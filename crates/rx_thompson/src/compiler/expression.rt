@@ -5,9 +5,9 @@ ghost use Rattle.std.specs.Int.NonZero.{non_zero_usize_get};
 ghost use Rattle.rx_model.specs.Graph.{text, build_state, build_group, build, build_in_turn, build_each, build_choice, build_repetition, loop, loop_once, options};
 ghost use Rattle.rx_model.specs.Length.{minimum_len, is_positive};
 ghost use Rattle.rx_model.specs.Search.{greatest_group, greatest_in};
-ghost use Rattle.rx_syntax.specs.Cost.{states_of_copies, accounted_states, accounted_in};
-ghost use Rattle.rx_syntax.specs.Normal.{expressions};
-ghost use Rattle.rx_syntax.specs.Sound.{IsSound};
+ghost use Rattle.rx_hir.specs.Cost.{states_of_copies, accounted_states, accounted_in};
+ghost use Rattle.rx_hir.specs.Normal.{expressions};
+ghost use Rattle.rx_hir.specs.Sound.{IsSound};
 ghost use Rattle.rx_thompson.specs.Built.{Built, slot_from, ways};
 ghost use Rattle.rx_thompson.specs.Repeated.{star, tail, leading, states_of_tail};
 ghost use Rattle.rx_thompson.specs.Room.{HasRoom};
@@ -16,8 +16,8 @@ ghost use Rattle.rx_thompson.specs.declared.state.State.TheVariants.{Union};
 use crate::builder::Builder;
 use crate::compiler::groups::Groups;
 use crate::state::{Alternates, State};
+use rx_hir::{Capture, Hir, HirKind, Repetition};
 use rx_search::{Memory, StateID};
-use rx_syntax::{Capture, Hir, HirKind, Repetition};
 use std::alloc::Global;
 
 #[cycle(compile)]

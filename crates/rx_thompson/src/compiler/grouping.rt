@@ -5,8 +5,8 @@ ghost use Rattle.rx_thompson.specs.Compiled.{AreFew, group_lens_of, groups_of};
 ghost use Rattle.rx_thompson.specs.Config.{captures_kind};
 
 use crate::compiler::config::WhichCaptures;
+use rx_hir::{Hir, greatest_group};
 use rx_search::{GroupInfo, Memory};
-use rx_syntax::{Hir, greatest_group};
 use std::alloc::Global;
 
 /// The groups that have slots, without names.

@@ -6,8 +6,8 @@ ghost use Rattle.rx_thompson.specs.Compiled.{first_slot_of};
 ghost use Rattle.rx_thompson.specs.Config.{captures_kind};
 
 use crate::compiler::config::WhichCaptures;
+use rx_hir::{Hir, greatest_group};
 use rx_search::PatternID;
-use rx_syntax::{Hir, greatest_group};
 
 /// The first slot of the whole match of a pattern.
 pub fn whole_slot(which: WhichCaptures, pattern: PatternID) -> Option<usize>

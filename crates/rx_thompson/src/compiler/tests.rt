@@ -1,6 +1,7 @@
 use crate::{BuildError, Compiler, Config, NFA, WhichCaptures};
+use rx_hir::Hir;
 use rx_search::PatternID;
-use rx_syntax::{Hir, parse};
+use rx_syntax::parse;
 use std::alloc::{AllocError, Global};
 use std::test::Fail;
 

@@ -1,7 +1,7 @@
 use Rattle.std.proofs.Common.{◌≡◌, ◌+◌, ◌*◌, List, map, get_or, ◌∙◌, ap, sym, subst, arith}
 use Rattle.std.specs.Prelude.{IfOk}
 use Rattle.rx_model.specs.Expression.{Expression}
-use Rattle.rx_syntax.specs.Normal.{concat_of, alternation_of}
+use Rattle.rx_hir.specs.Normal.{concat_of, alternation_of}
 use Rattle.rx_syntax.specs.Syntax.{Syntax, cat, alt, syntaxes}
 use Rattle.rx_syntax.specs.Coded.{syntax_size, greatest_size}
 use Rattle.rx_syntax.specs.AstViews.{expanded, kind_view}

@@ -7,7 +7,7 @@ use Rattle.rx_thompson.specs.Config.{captures_of, captures_kind}
 use Rattle.rx_thompson.specs.Draft.{Draft}
 use Rattle.rx_thompson.specs.Nfa.{Nfa, HasFirstRuns}
 use Rattle.rx_search.specs.GroupInfo.{slot_count}
-use Rattle.rx_syntax.proofs.SoundLemmas.{IsSound-ordered}
+use Rattle.rx_hir.proofs.SoundLemmas.{IsSound-ordered}
 use Rattle.rx_thompson.proofs.GroupLemmas.{slots-counted}
 use Rattle.rx_thompson.proofs.NextMatchLemmas.{written-none}
 use Rattle.rx_thompson.proofs.PatternLemmas.{HasFirstRuns-from, StartsAll-slots}

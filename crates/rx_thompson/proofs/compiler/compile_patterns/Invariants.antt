@@ -1,7 +1,7 @@
 use Rattle.std.proofs.Common.{◌≡◌, ℕ, ◌<◌, ◌≤◌, ◌+◌, length, drop, vec_len}
 use Rattle.std.specs.Prelude.{All, true, Some, slice_get}
 use Rattle.rx_model.specs.Expression.{Expression}
-use Rattle.rx_syntax.specs.Sound.{IsSound}
+use Rattle.rx_hir.specs.Sound.{IsSound}
 use Rattle.rx_thompson.specs.Built.{HasPatterns}
 use Rattle.rx_thompson.specs.Compiled.{patterns_of, first_slot_of, nfa_states}
 use Rattle.rx_thompson.specs.Config.{captures_kind}

@@ -1,6 +1,6 @@
 use Rattle.std.proofs.Common.{sym, ap}
 use Rattle.rx_model.specs.Graph.{build_state, set}
-use Rattle.rx_syntax.specs.ClassViews.{class_view}
+use Rattle.rx_class.specs.ClassViews.{class_view}
 use Rattle.rx_thompson.proofs.CompileLemmas.{Built-same}
 use Rattle.rx_thompson.proofs.builder.Builder.push_class.Goals as goal
 

@@ -1,5 +1,5 @@
 use Rattle.std.proofs.Common.{◌≡◌, ◌+◌, ◌≤◌, ◌-◌, ◌^◌, drop}
-use Rattle.rx_syntax.specs.Cost.{capped}
+use Rattle.rx_hir.specs.Cost.{capped}
 use Rattle.rx_thompson.specs.Compiled.{nfa_states}
 use Rattle.rx_thompson.proofs.compiler.accounting.nfa_states.Given as goal
 

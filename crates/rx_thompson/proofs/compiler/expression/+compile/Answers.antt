@@ -6,13 +6,13 @@ use Rattle.rx_model.specs.Length.{minimum_len, is_positive}
 use Rattle.rx_model.specs.Expression.{empty, literal, class, repetition, capture, concat, alternation}
 use Rattle.rx_model.specs.Graph.{text, build_state, build_group, build_in_turn, build_each, build_choice, build, loop_once}
 use Rattle.rx_model.specs.Search.{greatest_group, greatest_in}
-use Rattle.rx_syntax.specs.Cost.{accounted_states}
-use Rattle.rx_syntax.specs.Sound.{IsSound}
-use Rattle.rx_syntax.proofs.CostLemmas.{accounted_in-drop}
-use Rattle.rx_syntax.specs.Normal.{expressions}
-use Rattle.rx_syntax.specs.Depth.{depth}
-use Rattle.rx_syntax.specs.ClassViews.{class_view}
-use Rattle.rx_syntax.specs.HirViews.{kind_view}
+use Rattle.rx_hir.specs.Cost.{accounted_states}
+use Rattle.rx_hir.specs.Sound.{IsSound}
+use Rattle.rx_hir.proofs.CostLemmas.{accounted_in-drop}
+use Rattle.rx_hir.specs.Normal.{expressions}
+use Rattle.rx_hir.specs.Depth.{depth}
+use Rattle.rx_class.specs.ClassViews.{class_view}
+use Rattle.rx_hir.specs.HirViews.{kind_view}
 use Rattle.rx_thompson.specs.Built.{Built, slot_from}
 use Rattle.rx_thompson.proofs.AccountedLemmas.{accounted_in-more, accounted_in-least, copies-accounted, times-more}
 use Rattle.rx_thompson.specs.Room.{HasRoom}

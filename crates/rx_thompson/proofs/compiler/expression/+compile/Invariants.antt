@@ -2,9 +2,9 @@ use Rattle.std.proofs.Common.{◌≡◌, ◌<◌, ◌≤◌, ◌+◌, ◌*◌, l
 use Rattle.std.specs.Prelude.{All}
 use Rattle.rx_model.specs.Graph.{build, build_in_turn, copies, options}
 use Rattle.rx_model.specs.Length.{minimum_len, is_positive}
-use Rattle.rx_syntax.specs.Cost.{accounted_states, accounted_in}
-use Rattle.rx_syntax.specs.Normal.{expressions}
-use Rattle.rx_syntax.specs.Depth.{depth, greatest_depth}
+use Rattle.rx_hir.specs.Cost.{accounted_states, accounted_in}
+use Rattle.rx_hir.specs.Normal.{expressions}
+use Rattle.rx_hir.specs.Depth.{depth, greatest_depth}
 use Rattle.rx_thompson.specs.Built.{Built, slot_from}
 use Rattle.rx_thompson.specs.Repeated.{tail, states_of_tail}
 use Rattle.rx_thompson.proofs.ChoiceLemmas.{BuiltEach}

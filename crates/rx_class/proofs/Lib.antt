@@ -1,0 +1,4 @@
+pub mod RangeLemmas
+pub mod MergeLemmas
+pub mod ScalarLemmas
+pub mod SuccessorLemmas

@@ -1,0 +1,4 @@
+pub mod Ranges
+pub mod Merged
+pub mod Scalars
+pub mod ClassViews

@@ -1,0 +1,9 @@
+pub mod ClassLemmas
+pub mod CostLemmas
+pub mod DepthLemmas
+pub mod EmptyLemmas
+pub mod GroupLemmas
+pub mod JoinedLemmas
+pub mod PropertiesLemmas
+pub mod SoundLemmas
+pub mod SpanLemmas

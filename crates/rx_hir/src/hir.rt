@@ -1,0 +1,207 @@
+//! Expressions.
+ghost use Rattle.std.specs.Prelude.{◌≡◌, ◌≢◌, ◌<◌, ◌≤◌, IfSome, Some};
+ghost use Rattle.std.specs.Int.NonZero.{non_zero_usize_get};
+ghost use Rattle.rx_model.specs.Expression.{empty, repetition, capture};
+ghost use Rattle.rx_model.specs.Length.{minimum_len};
+ghost use Rattle.rx_hir.specs.Length.{maximum_len, saturated, in_64_bits};
+ghost use Rattle.rx_hir.specs.Normal.{fail, literal_of, copies_of, repetition_of};
+
+mod alternation;
+mod concat;
+mod copy;
+mod emptiness;
+mod groups;
+mod kind;
+mod laws;
+mod properties;
+mod set;
+
+pub use emptiness::{can_be_empty, one_can_be_empty};
+pub use groups::greatest_group;
+pub use laws::{
+    fewest_ranges_hold_the_members, lengths_bound_the_meaning, sound_expressions_are_ordered,
+};
+use properties::Properties;
+use rx_class::{Class, ClassBytes};
+use std::alloc::Global;
+use std::marker::Model;
+use std::num::NonZeroUsize;
+
+/// A regular expression, which a contract sees as an `Expression`. Only the constructors make one: no literal
+/// in it is without bytes, and the counts of each repetition are in order.
+#[cycle(hir)]
+#[derive(Drop)]
+pub struct Hir {
+    kind: HirKind,
+    properties: Properties,
+}
+
+/// What an expression is made of.
+#[cycle(hir)]
+#[derive(Drop)]
+pub enum HirKind {
+    /// The empty text.
+    Empty,
+    /// These bytes.
+    Literal(Vec<u8>),
+    /// A member of the class.
+    Class(Class),
+    /// Copies of the body, one after another.
+    Repetition(Repetition),
+    /// A capture group.
+    Capture(Capture),
+    /// One after another.
+    Concat(Vec<Hir>),
+    /// One of these, the first preferred.
+    Alternation(Vec<Hir>),
+}
+
+/// From `min` to `max` copies of the body, or `min` and more. More copies are preferred where it is greedy,
+/// else fewer.
+#[cycle(hir)]
+#[derive(Drop)]
+pub struct Repetition {
+    /// The least number of copies.
+    pub min: u32,
+    /// The greatest number of copies. None: there is no bound.
+    pub max: Option<u32>,
+    /// Whether more copies are preferred.
+    pub greedy: bool,
+    /// The body.
+    pub sub: Box<Hir>,
+}
+
+/// The group of this number, from 1 on.
+#[cycle(hir)]
+#[derive(Drop)]
+pub struct Capture {
+    /// The group's number.
+    pub index: NonZeroUsize,
+    /// The body.
+    pub sub: Box<Hir>,
+}
+
+impl Model for Hir {
+    ghost use Rattle.std.specs.Prelude.{◌≡◌};
+    ghost use Rattle.rx_model.specs.Expression.{Expression};
+    ghost use Rattle.rx_model.specs.Coded.{coded_expression};
+    ghost use Rattle.rx_hir.specs.Depth.{depth};
+    ghost use Rattle.rx_hir.specs.Properties.{properties_of};
+    ghost use Rattle.rx_hir.specs.Sound.{IsSound};
+
+    ghost Value = { Expression };
+
+    ghost coded = { coded_expression };
+
+    ghost use Rattle.rx_hir.specs.HirViews.{kind_view};
+
+    ghost view = { λ h. kind_view h.kind };
+
+    ghost invariant = { λ h. (h.properties ≡ properties_of (kind_view h.kind)) × IsSound (kind_view h.kind) };
+
+    ghost size = { depth };
+
+    ghost use Rattle.rx_hir.specs.HirFalls.{kind_falls};
+
+    ghost size_decreases = { λ h _. kind_falls h.kind };
+}
+
+impl Hir {
+    /// The empty expression.
+    pub fn empty() -> Hir
+        ensures { result ≡ empty }
+    {
+        Hir {
+            kind: HirKind::Empty,
+            properties: Properties::of_len(0),
+        }
+    }
+
+    /// What nothing matches: the class of bytes without members.
+    pub fn fail(alloc: Global) -> Hir
+        ensures { result ≡ fail }
+    {
+        Hir {
+            kind: HirKind::Class(Class::Bytes(ClassBytes::empty(alloc))),
+            properties: Properties::unknown(),
+        }
+    }
+
+    /// The literal of these bytes; of none, the empty expression.
+    pub fn literal(bytes: Vec<u8>) -> Hir
+        ensures { result ≡ literal_of bytes.items }
+    {
+        if bytes.is_empty() {
+            return Hir::empty();
+        }
+        let properties = Properties::of_len(bytes.len());
+        Hir {
+            kind: HirKind::Literal(bytes),
+            properties,
+        }
+    }
+
+    /// Copies of an expression. Where only the empty text can match the body, there is at most one copy. No
+    /// copies are the empty expression, and just one copy is the body.
+    pub fn repetition(repetition: Repetition) -> Hir
+        requires { IfSome repetition.max (λ m. repetition.min ≤ m) }
+        ensures { result ≡ repetition_of repetition.min repetition.max repetition.greedy repetition.sub.value }
+    {
+        let mut repetition = repetition;
+        if repetition.sub.maximum_len() == Some(0) {
+            repetition.min = repetition.min.min(1);
+            repetition.max = Some(repetition.max.map_or(1, |m| m.min(1)));
+        }
+        copies(repetition)
+    }
+
+    /// The capture group of this number.
+    pub fn capture(group: Capture) -> Hir
+        ensures { result ≡ capture (non_zero_usize_get group.index) group.sub.value }
+    {
+        let properties = group.sub.properties;
+        Hir {
+            kind: HirKind::Capture(group),
+            properties,
+        }
+    }
+
+    /// The least length in bytes of what the expression matches, or the greatest `usize` where it is above.
+    /// None: no bound is known.
+    pub fn minimum_len(&self) -> Option<usize>
+        ensures { result ≡ saturated (minimum_len self.now) }
+    {
+        self.properties.minimum_len
+    }
+
+    /// The greatest length in bytes of what the expression matches. None: no bound is known, or it is above
+    /// the greatest `usize`.
+    pub fn maximum_len(&self) -> Option<usize>
+        ensures { result ≡ in_64_bits (maximum_len self.now) }
+    {
+        self.properties.maximum_len
+    }
+}
+
+fn copies(repetition: Repetition) -> Hir
+    requires { IfSome repetition.max (λ m. repetition.min ≤ m) }
+    ensures { result ≡ copies_of repetition.min repetition.max repetition.greedy repetition.sub.value }
+{
+    match repetition.max {
+        Some(0) => Hir::empty(),
+        Some(1) if repetition.min == 1 => Box::into_inner(repetition.sub),
+        _ => some_copies(repetition),
+    }
+}
+
+fn some_copies(copies: Repetition) -> Hir
+    requires some { copies.max ≢ Some 0 }
+    requires ordered { IfSome copies.max (λ m. copies.min ≤ m) }
+    ensures { result ≡ repetition copies.min copies.max copies.greedy copies.sub.value }
+{
+    let properties = copies.sub.properties.repeated(copies.min, copies.max);
+    Hir {
+        kind: HirKind::Repetition(copies),
+        properties,
+    }
+}

@@ -1,6 +1,0 @@
-use Rattle.std.proofs.Common.{◌≡◌, flat_map}
-use Rattle.rx_syntax.specs.Normal.{alternatives_of}
-use Rattle.rx_syntax.proofs.hir.Hir.alternation.Given as goal
-
-abbrev pub invariant-loop-sub : goal.invariant-loop-sub
-invariant-loop-sub l = l.alternatives.items ≡ flat_map alternatives_of l.yielded

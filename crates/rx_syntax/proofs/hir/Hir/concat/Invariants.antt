@@ -1,6 +1,0 @@
-use Rattle.std.proofs.Common.{◌≡◌, flat_map}
-use Rattle.rx_syntax.specs.Normal.{joined, parts_of}
-use Rattle.rx_syntax.proofs.hir.Hir.concat.Given as goal
-
-abbrev pub invariant-loop-sub : goal.invariant-loop-sub
-invariant-loop-sub l = l.parts.items ≡ joined (flat_map parts_of l.yielded)

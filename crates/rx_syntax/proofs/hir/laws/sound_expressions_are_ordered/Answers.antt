@@ -1,5 +1,0 @@
-use Rattle.rx_syntax.proofs.SoundLemmas.{IsSound-ordered}
-use Rattle.rx_syntax.proofs.hir.laws.sound_expressions_are_ordered.Goals as goal
-
-pub returns : goal.returns
-returns c = IsSound-ordered
