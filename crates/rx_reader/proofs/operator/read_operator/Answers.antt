@@ -44,4 +44,4 @@ returns-clause-value c =
     let simple : is_at "*+?" p ≡ false = sym c.is_at.ensures.value ∙ c.if-is_at.false in
     let without : begins "{," p ≡ false = sym c.begins.ensures ∙ c.if-begins.false in
     operator_counted p q c.args.flags counts simple without c.in_ok-counts.ensures.value
-    ∙ operator_is c.args.flags counts counts q (skip c.args.flags q) (place c.bump_over_lazy-lazy.new.self) c.bump_over_lazy-lazy.result c.with_greed.result refl c.bump_over_lazy-lazy.ensures.value c.with_greed.ensures c.bump_over_lazy-lazy.ensures.place
+    ∙ operator_is c.args.flags counts counts q (skip c.args.flags q) (place c.bump_over_lazy-lazy.new.self) c.bump_over_lazy-lazy.result c.with_greed-2.result refl c.bump_over_lazy-lazy.ensures.value c.with_greed-2.ensures c.bump_over_lazy-lazy.ensures.place
