@@ -1,4 +1,12 @@
+pub mod BranchLemmas
+pub mod ClassItemLemmas
+pub mod ClassLemmas
+mod ClassRows
 mod CountRows
+pub mod EndLemmas
+pub mod EscapeEnds
+pub mod EscapeLemmas
+mod EscapeRows
 mod FlagRows
 pub mod AheadLemmas
 pub mod FlagsLemmas
@@ -9,3 +17,7 @@ pub mod PartLemmas
 mod OpeningRows
 pub mod PlaceLemmas
 pub mod ReadsLemmas
+pub mod RepeatLemmas
+pub mod StackLemmas
+pub mod TokenEnds
+pub mod TokenLemmas

@@ -1,5 +1,6 @@
 -- What the program's syntax stands for.
 use Rattle.std.specs.Prelude.{ℕ, ◌<◌, ◌≤◌, List, [], ◌∷◌, ◌++◌, map, IfSome}
+use Rattle.std.specs.Coded.{Unit-prop, le_prop}
 use Rattle.rx_reader.specs.Syntax.{Syntax, literal, atom, repeated, group, cat, alt, syntaxes}
 use Rattle.rx_reader.specs.declared.flags.Flags.{Flags}
 use Rattle.rx_reader.specs.declared.group_kind.GroupKind.{GroupKind}
@@ -32,6 +33,11 @@ abbrev pub IsNumbered : GroupKind → Type 0
 IsNumbered NonCapturing = Unit {0}
 IsNumbered (CaptureIndex index) = 0 < index
 IsNumbered (CaptureName index name) = 0 < index
+
+pub IsNumbered-prop : (kind : GroupKind) → IsProp (IsNumbered kind)
+IsNumbered-prop NonCapturing = Unit-prop
+IsNumbered-prop (CaptureIndex index) = le_prop
+IsNumbered-prop (CaptureName index name) = le_prop
 
 -- the counts of a repetition are in order, and the number of a group is above 0
 abbrev pub IsWellFormed : AstKind → Type 0

@@ -14,8 +14,9 @@ use Rattle.rx_reader.specs.declared.class_item.ClassItem.TheVariants.{Range, Per
 use Rattle.rx_reader.specs.declared.escape.NameIn.TheVariants.{Brackets}
 use Rattle.rx_reader.specs.declared.escape.Escaped.{Escaped}
 use Rattle.rx_reader.specs.declared.escape.Escaped.TheVariants.{Character, Assertion, Perl as EscapedPerl, Property as EscapedProperty}
-use Rattle.rx_reader.specs.Reading.{Place, Read, ◌>>=◌, refuse, at_end, piece_of, first, past, is_at, begins, past_white}
-use Rattle.rx_reader.specs.Escapes.{past_n, leading, in_name, escape}
+use Rattle.rx_reader.specs.Ahead.{past_n}
+use Rattle.rx_reader.specs.Reading.{Place, Read, ◌>>=◌, refuse, at_end, piece_of, first, past, is_at, begins, past_all, past_white}
+use Rattle.rx_reader.specs.Escapes.{leading, in_name, escape}
 
 -- a character that stands for itself
 abbrev pub plain : ℕ → ClassMember
@@ -42,7 +43,7 @@ posix_named p negated None q = refuse Unsupported p (past p)
 unfoldable pub posix_name : (from : Place) → (negated : Bool) → Place → Read ClassItem
 posix_name from negated p =
     let name = leading (in_name Brackets) p.text in
-    let q = past_n (length name) p in
+    let q = past_all (in_name Brackets) p in
     if begins ":]" q then posix_named from negated (ascii_named name) q else refuse Unsupported from (past from)
 
 -- `[:name:]` or `[:^name:]`; any other bracket is refused
@@ -78,6 +79,11 @@ next_text false text = text
 abbrev pub begins_range : (skips : Bool) → Place → Bool
 begins_range skips p = is_at "-" p && not (starts_with nat_eq (next_text skips (drop 1 p.text)) (codes "]"))
 
+-- the item before the others, or none at the end
+abbrev pub with_item : (more : Place → Read (List ClassItem)) → Option ClassItem × Place → Read (List ClassItem)
+with_item more (None, q) = Ok ([], q)
+with_item more (Some item, q) = more q >>= λ (items, r). Ok (item ∷ items, r)
+
 -- Digits of base 8 are read in escapes where `octal` is set; where `skips` is set, white space is skipped.
 module _ (octal skips : Bool) where
   -- The item that begins with the member `low` at p; q is the place after that member, and `from` the place of the
@@ -105,11 +111,6 @@ module _ (octal skips : Bool) where
       if at_end q then refuse UnclosedClass from (past from)
       else if is_at "]" q then Ok (if comes_first then Some bracket else None, past q)
       else item_at from q >>= λ (item, r). Ok (Some item, r)
-
-  -- the item before the others, or none at the end
-  abbrev pub with_item : (more : Place → Read (List ClassItem)) → Option ClassItem × Place → Read (List ClassItem)
-  with_item more (None, q) = Ok ([], q)
-  with_item more (Some item, q) = more q >>= λ (items, r). Ok (item ∷ items, r)
 
   -- the items up to the closing bracket; each call reads an item, and the number bounds the calls
   unfoldable pub class_items : ℕ → (from : Place) → (comes_first : Bool) → Place → Read (List ClassItem)

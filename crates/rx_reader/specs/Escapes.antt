@@ -1,5 +1,5 @@
 -- What a backslash and the characters after it stand for.
-use Rattle.std.specs.Prelude.{ℕ, zero, suc, Bool, true, false, not, ◌&&◌, ◌||◌, ◌==◌, List, [], ◌∷◌, take, length, Option, Some, None, Result, Ok, if◌then◌else◌}
+use Rattle.std.specs.Prelude.{ℕ, Bool, true, false, not, ◌&&◌, ◌||◌, ◌==◌, List, [], ◌∷◌, take, length, Option, Some, None, Result, Ok, if◌then◌else◌}
 use Rattle.std.specs.List.{prefix_len}
 use Rattle.std.specs.Char.{is_ascii, is_ascii_alphabetic, is_ascii_digit, is_ascii_lowercase, is_digit}
 use Rattle.std.specs.Str.Parse.{digits_value}
@@ -13,12 +13,8 @@ use Rattle.rx_reader.specs.declared.escape.Escaped.{Escaped}
 use Rattle.rx_reader.specs.declared.escape.NameIn.{NameIn}
 use Rattle.rx_reader.specs.declared.escape.NameIn.TheVariants.{Braces, Brackets}
 use Rattle.rx_reader.specs.declared.escape.Escaped.TheVariants.{Character, Assertion, Perl, Property}
-use Rattle.rx_reader.specs.Reading.{Place, Read, refuse, at_end, first, past, ◌∈◌, is_at, begins}
-
--- past n characters
-abbrev pub past_n : ℕ → Place → Place
-past_n zero p = p
-past_n (suc n) p = past_n n (past p)
+use Rattle.rx_reader.specs.Ahead.{past_n}
+use Rattle.rx_reader.specs.Reading.{Place, Read, refuse, at_end, first, past, ◌∈◌, is_at, begins, past_all}
 
 -- a character; written as `\x` and two digits it stands for a byte where Unicode is off
 abbrev pub character : (is_hex_byte : Bool) → ℕ → Escaped
@@ -70,9 +66,8 @@ in_name Brackets c = is_ascii_lowercase c
 -- the name up to the closing brace
 unfoldable pub property_in_braces : (from : Place) → (negated : Bool) → Place → Read Escaped
 property_in_braces from negated p =
-    let name = leading (in_name Braces) p.text in
-    let q = past_n (length name) p in
-    if at_end q then refuse Escape from q else Ok (Property name negated, past q)
+    let q = past_all (in_name Braces) p in
+    if at_end q then refuse Escape from q else Ok (Property (leading (in_name Braces) p.text) negated, past q)
 
 -- What stands after `\p` or `\P`: a name of one character, or one in braces. A `^` that begins it complements, once more
 -- after `\P`.
@@ -123,7 +118,7 @@ escaped_character c =
 
 -- what the backslash and this one character stand for
 abbrev pub by_letter : Option (ClassPerlKind × Bool) → Option AssertionKind → Option ℕ → Option Escaped
-by_letter (Some (kind, negated)) found char = Some (Perl kind negated)
+by_letter (Some set) found char = Some (Perl set.0 set.1)
 by_letter None (Some kind) char = Some (Assertion kind)
 by_letter None None (Some c) = Some (character false c)
 by_letter None None None = None

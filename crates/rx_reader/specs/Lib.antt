@@ -8,9 +8,12 @@ pub mod Counts
 pub mod Escapes
 pub mod Flags
 pub mod Gathered
+pub mod Grammar
 pub mod Input
 pub mod Names
 pub mod Openings
 pub mod Reading
 pub mod Refusal
+pub mod Stack
 pub mod Syntax
+pub mod Tokens

@@ -225,7 +225,10 @@ fn class_item(
     if cursor.is_at(&[']']) {
         let c = cursor.first();
         cursor.bump();
-        return Ok(if comes_first { Some(item_of(plain(c))) } else { None });
+        if comes_first {
+            return Ok(Some(item_of(plain(c))));
+        }
+        return Ok(None);
     }
     Ok(Some(item_at(cursor, syntax, opening)?))
 }

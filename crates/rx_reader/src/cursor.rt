@@ -1,7 +1,7 @@
 //! A place in a pattern.
 ghost use Rattle.std.specs.Prelude.{◌≡◌, ◌+◌, ◌*◌, ◌<◌, ◌≤◌, not, ◌&&◌, length, drop, [], ◌∷◌, ◌^◌, vec_len, chars, nat_eq, if◌then◌else◌, IfOk, MatchOption, IsTrue, IsFalse};
 ghost use lib.Utf8.{encodes};
-ghost use Rattle.std.specs.List.{starts_with};
+ghost use Rattle.std.specs.List.{prefix_len, starts_with};
 ghost use Rattle.rx_reader.specs.Reading.{at_end, first, past, passes, is_among};
 ghost use Rattle.std.specs.Char.{is_whitespace};
 
@@ -231,10 +231,26 @@ impl Cursor {
         requires { 0 < unread self.now }
         ensures { result ≡ starts_with nat_eq (next_text skips (drop 1 (place self.now).text)) (c ∷ []) }
     {
-        let mut next = self.pos + 1;
-        while skips && next < self.chars.len() && self.chars[next].is_whitespace() {
-            next += 1;
+        let text = &self.chars[self.pos + 1..];
+        if skips {
+            text[white_len(text)..].starts_with(&[c])
+        } else {
+            text.starts_with(&[c])
         }
-        self.chars[next..].starts_with(&[c])
     }
+}
+
+/// How many characters of white space the text begins with.
+fn white_len(text: &[char]) -> usize
+    ensures value { result ≡ prefix_len is_whitespace text.now }
+    ensures within { result ≤ length text.now }
+{
+    let mut len = 0;
+    for c in text {
+        if !c.is_whitespace() {
+            return len;
+        }
+        len += 1;
+    }
+    len
 }

@@ -83,7 +83,11 @@ fn may_end_at(cursor: &Cursor, count: usize, ends_with_hyphen: bool) -> bool
 
 /// Reads letters up to a `:` or `)`, and gives the flags that they make of these; `opening` is the piece of the
 /// group's parenthesis.
-pub(crate) fn read_flags(cursor: &mut Cursor, opening: Piece, flags: Flags) -> Result<Flags, ParseError>
+pub(crate) fn read_flags(
+    cursor: &mut Cursor,
+    opening: Piece,
+    flags: Flags,
+) -> Result<Flags, ParseError>
     ensures value { (from : Place) → IsPieceAt opening from → Reads result (read_flags from flags (place cursor.old)) (place cursor.new) }
     ensures progress { OnOk result (unread cursor.new ≤ unread cursor.old) }
     ensures more { OnOk result (0 < unread cursor.new) }

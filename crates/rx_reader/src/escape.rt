@@ -1,10 +1,11 @@
 //! What a backslash and the characters after it stand for.
-ghost use Rattle.std.specs.Prelude.{◌≡◌, ◌<◌, ◌≤◌, false, [], ◌∷◌, length, nat_eq, if◌then◌else◌, IfOk, MatchOption, IsTrue, OnOk};
+ghost use Rattle.std.specs.Prelude.{◌≡◌, ◌<◌, ◌≤◌, true, false, [], ◌∷◌, length, nat_eq, if◌then◌else◌, IfOk, MatchOption, IsTrue, OnOk};
 ghost use Rattle.std.specs.Char.{is_digit, digit_value};
 ghost use Rattle.std.specs.List.{starts_with};
 ghost use Rattle.std.specs.Str.Parse.{digits_value};
-ghost use Rattle.rx_reader.specs.Reading.{Place, at_end, first, passes};
-ghost use Rattle.rx_reader.specs.Escapes.{past_n, leading, in_name, digits, character, numbered, hex_digits, hex_in_braces, hex, octal_digits, property_in_braces, property, perl_class, assertion, is_escapable, escaped_character, one_letter, boundary, known, lettered, escape};
+ghost use Rattle.rx_reader.specs.Reading.{Place, at_end, first, past, passes, past_all};
+ghost use Rattle.rx_reader.specs.Ahead.{past_n};
+ghost use Rattle.rx_reader.specs.Escapes.{leading, in_name, digits, character, numbered, hex_digits, hex_in_braces, hex, octal_digits, property_in_braces, property, perl_class, assertion, is_escapable, escaped_character, one_letter, boundary, known, lettered, escape};
 ghost use Rattle.rx_reader.specs.Input.{place, unread, Reads};
 
 use crate::assertion::AssertionKind;
@@ -90,7 +91,7 @@ fn is_in_name(cursor: &Cursor, inside: NameIn) -> bool
 /// Reads the characters of a name, up to what ends it.
 pub(crate) fn read_name(cursor: &mut Cursor, inside: NameIn) -> Result<Vec<char>, AllocError>
     ensures name { IfOk result (λ name. name.items ≡ leading (in_name inside) (place cursor.old).text) }
-    ensures value { IfOk result (λ name. place cursor.new ≡ past_n (length (leading (in_name inside) (place cursor.old).text)) (place cursor.old)) }
+    ensures value { IfOk result (λ name. place cursor.new ≡ past_all (in_name inside) (place cursor.old)) }
     ensures progress { unread cursor.new ≤ unread cursor.old }
 {
     let mut name = Vec::new(cursor.alloc());
@@ -105,7 +106,7 @@ pub(crate) fn read_name(cursor: &mut Cursor, inside: NameIn) -> Result<Vec<char>
 fn digit(cursor: &Cursor, radix: u32) -> Option<u32>
     requires radix { 2 ≤ radix }
     requires small { radix ≤ 16 }
-    ensures { MatchOption result (passes (λ c. is_digit c radix) (place cursor.now) ≡ false) (λ d. (0 < unread cursor.now) × (d ≡ digit_value (first (place cursor.now))) × (d < radix)) }
+    ensures { MatchOption result (passes (λ c. is_digit c radix) (place cursor.now) ≡ false) (λ d. (0 < unread cursor.now) × (passes (λ c. is_digit c radix) (place cursor.now) ≡ true) × (d ≡ digit_value (first (place cursor.now))) × (d < radix)) }
 {
     match cursor.current() {
         Some(c) => c.to_digit(radix),
@@ -229,7 +230,9 @@ fn property_in_braces(
 /// Reads a name of one character.
 fn property_of_letter(cursor: &mut Cursor, negated: bool) -> Result<Escaped, AllocError>
     requires { 0 < unread cursor.old }
-    ensures { IfOk result (λ e. e ≡ Escaped.Property (first (place cursor.old) ∷ []) negated) }
+    ensures value { IfOk result (λ e. e ≡ Escaped.Property (first (place cursor.old) ∷ []) negated) }
+    ensures place { IfOk result (λ _. place cursor.new ≡ past (place cursor.old)) }
+    ensures progress { unread cursor.new ≤ unread cursor.old }
 {
     let mut name = Vec::new(cursor.alloc());
     name.push(cursor.first())?;
@@ -251,8 +254,10 @@ fn property(cursor: &mut Cursor, start: usize, negated: bool) -> Result<Escaped,
     if !cursor.bump_over(&['{']) {
         return Ok(property_of_letter(cursor, negated)?);
     }
-    let complemented = cursor.bump_over(&['^']);
-    property_in_braces(cursor, start, negated != complemented)
+    if cursor.bump_over(&['^']) {
+        return property_in_braces(cursor, start, !negated);
+    }
+    property_in_braces(cursor, start, negated)
 }
 
 fn perl_class(c: char) -> Option<(ClassPerlKind, bool)>
@@ -308,15 +313,18 @@ fn escaped_character(c: char) -> Option<char>
 fn one_letter(c: char) -> Option<Escaped>
     ensures { result ≡ one_letter c }
 {
-    if let Some((kind, negated)) = perl_class(c) {
-        return Some(Escaped::Perl { kind, negated });
-    }
-    if let Some(kind) = assertion(c) {
-        return Some(Escaped::Assertion(kind));
-    }
-    match escaped_character(c) {
-        Some(c) => Some(character(c, false)),
-        None => None,
+    match perl_class(c) {
+        Some(found) => Some(Escaped::Perl {
+            kind: found.0,
+            negated: found.1,
+        }),
+        None => match assertion(c) {
+            Some(kind) => Some(Escaped::Assertion(kind)),
+            None => match escaped_character(c) {
+                Some(c) => Some(character(c, false)),
+                None => None,
+            },
+        },
     }
 }
 

@@ -22,8 +22,10 @@ mod name;
 mod names;
 mod opening;
 mod operator;
+mod parser;
 mod piece;
 mod text;
+mod token;
 
 pub use assertion::AssertionKind;
 pub use ast::{Ast, AstKind, Item};
@@ -33,6 +35,7 @@ pub use config::Config;
 pub use error::{ParseError, SyntaxError, SyntaxErrorKind};
 pub use flags::Flags;
 pub use group_kind::GroupKind;
+pub use parser::read;
 pub use piece::Piece;
 pub use rx_sets::{ClassAsciiKind, ClassPerlKind};
 pub use text::Text;

@@ -37,7 +37,9 @@ fn with_digit(value: Option<u32>, digit: char) -> Option<u32>
     requires { is_ascii_digit digit ≡ true }
     ensures { (n : ℕ) → value ≡ within n → result ≡ within (n * 10 + (digit - 48)) }
 {
-    value?.checked_mul(10)?.checked_add(digit as u32 - '0' as u32)
+    value?
+        .checked_mul(10)?
+        .checked_add(digit as u32 - '0' as u32)
 }
 
 /// The digits in front.
@@ -85,11 +87,7 @@ fn read_number(cursor: &mut Cursor, start: usize, flags: Flags) -> Result<u32, P
 }
 
 /// Reads what follows the comma: the greatest count, if there is one.
-fn read_max(
-    cursor: &mut Cursor,
-    start: usize,
-    flags: Flags,
-) -> Result<Option<u32>, ParseError>
+fn read_max(cursor: &mut Cursor, start: usize, flags: Flags) -> Result<Option<u32>, ParseError>
     ensures value { (from : Place) → start ≡ from.at → Reads result (read_max from flags (place cursor.old)) (place cursor.new) }
     ensures progress { OnOk result (unread cursor.new ≤ unread cursor.old) }
     ensures kept { HasRoom cursor.old → HasRoom cursor.new }
