@@ -1,0 +1,20 @@
+pub mod BranchLemmas
+pub mod ClassItemLemmas
+pub mod ClassLemmas
+mod ClassRows
+mod CountRows
+pub mod EndLemmas
+pub mod EscapeEnds
+pub mod EscapeLemmas
+mod EscapeRows
+mod FlagRows
+pub mod FlagsLemmas
+pub mod ItemLemmas
+pub mod NamesLemmas
+mod OpeningRows
+pub mod PlaceLemmas
+pub mod ReadsLemmas
+pub mod RepeatLemmas
+pub mod StackLemmas
+pub mod TokenEnds
+pub mod TokenLemmas
