@@ -5,6 +5,7 @@ ghost use Rattle.rx_syntax.specs.Patterns.{all_syntaxes, all_translated, all_rea
 use crate::translate::translate;
 use rx_hir::Hir;
 use rx_reader::{Ast, Config, ParseError, SyntaxError, read};
+use rx_search::Memory;
 use std::alloc::{AllocFailed, Global};
 
 /// Why patterns have no expressions.
@@ -14,6 +15,16 @@ pub enum PatternsError {
     Syntax { pattern: usize, error: SyntaxError },
     /// There was no memory.
     Memory,
+}
+
+impl From<Memory> for PatternsError {
+    ghost use Rattle.rx_syntax.specs.declared.patterns.PatternsError.TheVariants.{Memory};
+
+    ghost from_gives = { λ _ e. e ≡ Memory };
+
+    fn from(_error: Memory) -> PatternsError {
+        PatternsError::Memory
+    }
 }
 
 impl<T: Drop> From<AllocFailed<T>> for PatternsError {
