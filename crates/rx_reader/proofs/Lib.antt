@@ -9,6 +9,7 @@ pub mod EscapeLemmas
 mod EscapeRows
 mod FlagRows
 pub mod FlagsLemmas
+mod GrammarRows
 pub mod ItemLemmas
 pub mod NamesLemmas
 mod OpeningRows
