@@ -83,7 +83,6 @@ number_read from p begun q flags n white len here = rw (← white, ← len, ← 
 
 -- The greatest count, where the white space ends at q.
 
-
 pub max_none : (from p q : Place) (flags : Flags) → q ≡ past_white flags.ignore_whitespace p → is_at "}" q ≡ true → read_max from flags p ≡ Ok (None, q)
 unfolding read_max
 max_none from p q flags white ends = rw (← white, ends) refl

@@ -2,8 +2,11 @@
 
 use super::read;
 use crate::ast::{Ast, AstKind, Item};
+use crate::atom::Atom;
+use crate::class_item::ClassItem;
 use crate::config::Config;
 use crate::error::ParseError;
+use crate::group_kind::GroupKind;
 use std::alloc::{AllocError, Global};
 use std::test::Fail;
 
@@ -104,5 +107,42 @@ fn refuses_atoms(rt: HostRuntime) -> Result<(), Fail> {
         outcome(rt.alloc(), "(?x) (?<a.b> a {2} ? ) # )")?.as_str(),
         "depth 2"
     );
+    Ok(())
+}
+
+/// The name of the group that a pattern is.
+fn group_name(tree: &Ast) -> Option<&[char]> {
+    let Item::One(group) = parts(tree)?.first()? else {
+        return None;
+    };
+    match group.kind() {
+        AstKind::Group {
+            kind: GroupKind::CaptureName { name, .. },
+            ..
+        } => Some(name.as_slice()),
+        _ => None,
+    }
+}
+
+/// The items of the class that a pattern is.
+fn class_items(tree: &Ast) -> Option<&[ClassItem]> {
+    let Item::One(class) = parts(tree)?.first()? else {
+        return None;
+    };
+    match class.kind() {
+        AstKind::Atom {
+            atom: Atom::Bracketed { items, .. },
+            ..
+        } => Some(items.as_slice()),
+        _ => None,
+    }
+}
+
+#[test]
+fn tells_names_and_items(rt: HostRuntime) -> Result<(), Fail> {
+    let group = read(rt.alloc(), "(?<ab>c)", &Config::new())?;
+    assert_eq!(rt; group_name(&group).map_or(0, |name| name.len()), 2);
+    let class = read(rt.alloc(), "[d-f\\s]", &Config::new())?;
+    assert_eq!(rt; class_items(&class).map_or(0, |items| items.len()), 2);
     Ok(())
 }

@@ -16,7 +16,7 @@ returns-then-is_at_end-clause-value c from piece =
     let len = letters_len_at p c.rest.result.now n c.rest.ensures c.letters_len-count.ensures.len in
     let cut : at_end q ≡ true = sym c.is_at_end.ensures.value ∙ c.if-is_at_end.true in
     rw c.refuse.ensures (flags_cut from p q c.args.flags n len c.bump_by.ensures.value cut
-        ∙ refuse_at UnclosedGroup from (past from) c.args.opening.start c.args.opening.end piece.0 piece.1)
+    ∙ refuse_at UnclosedGroup from (past from) c.args.opening.start c.args.opening.end piece.0 piece.1)
 
 pub returns-then-not-may_end_at-clause-value : goal.returns-then-not-may_end_at-clause-value
 returns-then-not-may_end_at-clause-value c from piece =
@@ -30,7 +30,7 @@ returns-then-not-may_end_at-clause-value c from piece =
     let fails : c.may_end_at.result ≡ false = grind (arith, common_steps) in
     let cut : at_end q ≡ false = sym c.is_at_end.ensures.value ∙ c.if-is_at_end.false in
     rw c.refuse-then-not-may_end_at.ensures (flags_fail from p q c.args.flags n len c.bump_by.ensures.value cut (sym ends ∙ fails)
-        ∙ refuse_at Flag q (past q) c.here.result.start c.here.result.end c.here.ensures.0 c.here.ensures.1)
+    ∙ refuse_at Flag q (past q) c.here.result.start c.here.result.end c.here.ensures.0 c.here.ensures.1)
 
 pub returns-clause-value : goal.returns-clause-value
 returns-clause-value c from piece =

@@ -31,5 +31,5 @@ returns-in-None-clause-value c from start =
     let written : c.digits_of-digits.result.value ≡ within (numeral digits) = c.digits_of-digits.ensures.value ∙ ap (λ (cs : List ℕ). within (numeral (take_while is_ascii_digit cs))) c.rest.ensures in
     let number : number_of digits ≡ None = sym (c.number_of.ensures digits len written) ∙ c.in-None.is in
     rw c.refuse_from.ensures (
-        number_read from (place c.args.cursor.now) begun q c.args.flags n c.skip_white.ensures.value len c.bump_by.ensures.value
-        ∙ ap (λ (o : Option ℕ). number_at from c.args.flags o q) number ∙ refuse_at RepeatCount from q c.args.start q.at start refl)
+    number_read from (place c.args.cursor.now) begun q c.args.flags n c.skip_white.ensures.value len c.bump_by.ensures.value
+    ∙ ap (λ (o : Option ℕ). number_at from c.args.flags o q) number ∙ refuse_at RepeatCount from q c.args.start q.at start refl)
