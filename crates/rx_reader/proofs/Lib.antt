@@ -1,3 +1,4 @@
+pub mod AheadLemmas
 pub mod BranchLemmas
 pub mod ClassItemLemmas
 pub mod ClassLemmas
@@ -8,13 +9,13 @@ pub mod EscapeEnds
 pub mod EscapeLemmas
 mod EscapeRows
 mod FlagRows
-pub mod AheadLemmas
 pub mod FlagsLemmas
 pub mod FrontLemmas
+mod GrammarRows
 pub mod ItemLemmas
 pub mod NamesLemmas
-pub mod PartLemmas
 mod OpeningRows
+pub mod PartLemmas
 pub mod PlaceLemmas
 pub mod ReadsLemmas
 pub mod RepeatLemmas
