@@ -112,7 +112,7 @@ pub push_leading : (test : ℕ → Bool) (p q : Place) (name more : List ℕ) (c
     → name ++ leading test p.text ≡ more ++ leading test q.text
 push_leading test p q name more c goes next pushed here =
     let rest : leading test p.text ≡ c ∷ leading test q.text =
-        leading-goes test p goes ∙ ap (λ d. d ∷ leading test (past p).text) (sym here) ∙ ap (λ (r : Place). c ∷ leading test r.text) (sym next) in
+    leading-goes test p goes ∙ ap (λ d. d ∷ leading test (past p).text) (sym here) ∙ ap (λ (r : Place). c ∷ leading test r.text) (sym next) in
     ap (λ l. name ++ l) rest ∙ sym (append_assoc name (c ∷ []) (leading test q.text)) ∙ ap (λ l. l ++ leading test q.text) (sym pushed)
 
 pub past_shortens : (p q : Place) → q ≡ past p → length q.text ≤ length p.text

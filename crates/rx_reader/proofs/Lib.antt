@@ -1,3 +1,4 @@
+pub mod AheadLemmas
 pub mod BranchLemmas
 pub mod ClassItemLemmas
 pub mod ClassLemmas
@@ -9,9 +10,12 @@ pub mod EscapeLemmas
 mod EscapeRows
 mod FlagRows
 pub mod FlagsLemmas
+pub mod FrontLemmas
+mod GrammarRows
 pub mod ItemLemmas
 pub mod NamesLemmas
 mod OpeningRows
+pub mod PartLemmas
 pub mod PlaceLemmas
 pub mod ReadsLemmas
 pub mod RepeatLemmas

@@ -57,10 +57,11 @@ pub opening-ends : (flags : Flags) (p : Place) → 0 < length p.text → EndsBel
 unfolding opening
 opening-ends flags p more =
     test (is_look_ahead p) (λ _. refused _ _) (λ _.
-    test (is_look_behind p || is_reference p) (λ _. refused _ _) (λ _.
+    test (is_look_behind p) (λ _. refused _ _) (λ _.
+    test (is_reference p) (λ _. refused _ _) (λ _.
     test (begins "(?P<" p) (λ _. weaker (omega (arith, past_n-lt 3 p more)) (named-ends flags (past_n 4 p))) (λ _.
     test (begins "(?<" p) (λ _. weaker (omega (arith, past_n-lt 2 p more)) (named-ends flags (past_n 3 p))) (λ _.
-    test (begins "(?" p) (λ _. flagged-ends flags p more) (λ _. reads (past_lt p more))))))
+    test (begins "(?" p) (λ _. flagged-ends flags p more) (λ _. reads (past_lt p more)))))))
 
 -- operators
 

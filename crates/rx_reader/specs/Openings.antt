@@ -39,7 +39,8 @@ plain flags p = (Group (CaptureIndex (p.groups + 1)) flags, count_group (past p)
 unfoldable pub opening : Flags → Place → Read Opening
 opening flags p =
     if is_look_ahead p then refuse Unsupported p (past_n 3 p)
-    else if is_look_behind p || is_reference p then refuse Unsupported p (past_n 4 p)
+    else if is_look_behind p then refuse Unsupported p (past_n 4 p)
+    else if is_reference p then refuse Unsupported p (past_n 4 p)
     else if begins "(?P<" p then named flags (past_n 4 p)
     else if begins "(?<" p then named flags (past_n 3 p)
     else if begins "(?" p then flagged flags p

@@ -49,7 +49,11 @@ fn item_of(member: ClassMember) -> ClassItem
 }
 
 /// What an escape, from `start` to the position, stands for in a class.
-fn escaped_member(cursor: &Cursor, start: usize, escaped: Escaped) -> Result<ClassMember, ParseError>
+fn escaped_member(
+    cursor: &Cursor,
+    start: usize,
+    escaped: Escaped,
+) -> Result<ClassMember, ParseError>
     ensures { (p : Place) → start ≡ p.at → Reads result (escaped_member p (escaped, place cursor.now)) (place cursor.now) }
 {
     match escaped {
@@ -65,11 +69,7 @@ fn escaped_member(cursor: &Cursor, start: usize, escaped: Escaped) -> Result<Cla
 }
 
 /// Reads `name:]`.
-fn posix_name(
-    cursor: &mut Cursor,
-    bracket: Piece,
-    negated: bool,
-) -> Result<ClassItem, ParseError>
+fn posix_name(cursor: &mut Cursor, bracket: Piece, negated: bool) -> Result<ClassItem, ParseError>
     ensures value { (from : Place) → IsPieceAt bracket from → Reads result (posix_name from negated (place cursor.old)) (place cursor.new) }
     ensures progress { OnOk result (unread cursor.new ≤ unread cursor.old) }
 {

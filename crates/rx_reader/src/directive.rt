@@ -74,11 +74,11 @@ fn changed(named: &[char], flags: Flags) -> Flags
     }
 }
 
-/// Whether so many letters end well at the position.
-fn may_end_at(cursor: &Cursor, count: usize) -> bool
-    ensures { result ≡ may_end_at count (place cursor.now) }
+/// Whether so many letters end well at the position; the last of them can be the hyphen.
+fn may_end_at(cursor: &Cursor, count: usize, ends_with_hyphen: bool) -> bool
+    ensures { result ≡ (not ends_with_hyphen && may_end_at count (place cursor.now)) }
 {
-    cursor.is_at(&[':']) || (cursor.is_at(&[')']) && count != 0)
+    !ends_with_hyphen && (cursor.is_at(&[':']) || (cursor.is_at(&[')']) && count != 0))
 }
 
 /// Reads letters up to a `:` or `)`, and gives the flags that they make of these; `opening` is the piece of the
@@ -96,13 +96,12 @@ pub(crate) fn read_flags(
     let count = letters_len(cursor.rest());
     let named = &cursor.rest()[..count];
     let flags = changed(named, flags);
-    let has_hyphen_last = named.ends_with(&['-']);
+    let ends_with_hyphen = named.ends_with(&['-']);
     cursor.bump_by(count);
     if cursor.is_at_end() {
         return Err(opening.refuse(SyntaxErrorKind::UnclosedGroup));
     }
-    let ends = !has_hyphen_last && may_end_at(cursor, count);
-    if !ends {
+    if !may_end_at(cursor, count, ends_with_hyphen) {
         return Err(cursor.here().refuse(SyntaxErrorKind::Flag));
     }
     Ok(flags)

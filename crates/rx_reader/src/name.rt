@@ -34,7 +34,10 @@ pub(crate) fn read_name(cursor: &mut Cursor) -> Result<Text, ParseError>
     let count = name_len(cursor.rest());
     let name = cursor.rest()[..count].to_vec(cursor.alloc())?;
     cursor.bump_by(count);
-    if count == 0 || !cursor.is_at(&['>']) {
+    if count == 0 {
+        return Err(cursor.refuse_from(start, SyntaxErrorKind::GroupName));
+    }
+    if !cursor.is_at(&['>']) {
         return Err(cursor.refuse_from(start, SyntaxErrorKind::GroupName));
     }
     let piece = cursor.piece_from(start);

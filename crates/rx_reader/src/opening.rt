@@ -113,7 +113,10 @@ pub(crate) fn read_opening(cursor: &mut Cursor, flags: Flags) -> Result<Opening,
     if is_look_ahead(cursor) {
         return Err(unsupported(cursor, 3));
     }
-    if is_look_behind(cursor) || is_reference(cursor) {
+    if is_look_behind(cursor) {
+        return Err(unsupported(cursor, 4));
+    }
+    if is_reference(cursor) {
         return Err(unsupported(cursor, 4));
     }
     if cursor.begins(&['(', '?', 'P', '<']) {

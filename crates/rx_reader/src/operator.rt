@@ -196,10 +196,7 @@ pub(crate) fn read_operator(cursor: &mut Cursor, flags: Flags) -> Result<Operato
     if cursor.is_at(&['*', '+', '?']) {
         let counts = counts_of(cursor.first());
         cursor.bump();
-        let lazy = cursor.begins(&['?']);
-        if lazy {
-            cursor.bump();
-        }
+        let lazy = cursor.bump_over_question();
         return Ok(with_greed(counts, lazy, flags));
     }
     if cursor.begins(&['{', ',']) {

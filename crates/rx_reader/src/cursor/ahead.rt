@@ -1,5 +1,5 @@
 //! What stands ahead of a place.
-ghost use Rattle.std.specs.Prelude.{◌≡◌, ◌≤◌, ◌<◌, false, if◌then◌else◌};
+ghost use Rattle.std.specs.Prelude.{◌≡◌, ◌≤◌, ◌<◌, length, false, if◌then◌else◌};
 ghost use Rattle.std.specs.Char.{is_whitespace};
 ghost use Rattle.rx_reader.specs.Reading.{begins, past};
 ghost use Rattle.rx_reader.specs.Ahead.{past_n, is_blank, is_commented, blank_len, skipped_len, skip};
@@ -23,7 +23,8 @@ fn is_commented(in_comment: bool, c: char) -> bool
 
 /// How many characters of white space and comments stand in front.
 fn blank_len(text: &[char]) -> usize
-    ensures { result ≡ blank_len false text.now }
+    ensures value { result ≡ blank_len false text.now }
+    ensures bound { result ≤ length text.now }
 {
     let mut in_comment = false;
     let mut n = 0;
@@ -40,7 +41,8 @@ fn blank_len(text: &[char]) -> usize
 
 /// How many characters are skipped in front.
 fn skipped_len(flags: Flags, text: &[char]) -> usize
-    ensures { result ≡ skipped_len flags text.now }
+    ensures value { result ≡ skipped_len flags text.now }
+    ensures bound { result ≤ length text.now }
 {
     if flags.ignore_whitespace {
         blank_len(text)
@@ -79,6 +81,20 @@ impl Cursor {
     {
         let count = skipped_len(flags, self.rest());
         self.bump_by(count);
+    }
+
+    /// Moves past a `?`, if it stands at the position.
+    pub(crate) fn bump_over_question(&mut self) -> bool
+        ensures value { result ≡ begins "?" (place self.old) }
+        ensures place { place self.new ≡ (if result then past (place self.old) else place self.old) }
+        ensures progress { unread self.new ≤ unread self.old }
+        ensures kept { HasRoom self.old → HasRoom self.new }
+    {
+        let lazy = self.begins(&['?']);
+        if lazy {
+            self.bump();
+        }
+        lazy
     }
 
     /// Moves past a `?` and what is skipped before it, if it stands there.

@@ -29,7 +29,7 @@ returns-then-skips c =
     let ahead : List ℕ → Bool = λ t. starts_with nat_eq t (c.args.c ∷ []) in
     let part = part_is n c.deref.result.now items c.deref.ensures.value in
     let same : ahead (next_text c.args.skips (drop 1 (drop c.args.self.now.pos items))) ≡ ahead (next_text true (drop n items)) =
-        ap (λ (b : Bool). ahead (next_text b (drop 1 (drop c.args.self.now.pos items)))) c.if-skips.true ∙ ap (λ (t : List ℕ). ahead (next_text true t)) (drop-drop 1 c.args.self.now.pos items) in
+    ap (λ (b : Bool). ahead (next_text b (drop 1 (drop c.args.self.now.pos items)))) c.if-skips.true ∙ ap (λ (t : List ℕ). ahead (next_text true t)) (drop-drop 1 c.args.self.now.pos items) in
     let rest = drop n items in
     let skipped : c.white_len.result ≡ prefix_len is_whitespace rest = c.white_len.ensures.value ∙ ap (prefix_len is_whitespace) part in
     c.starts_with.ensures.value ∙ ap ahead (part_is c.white_len.result _ rest part) ∙ ap (λ (w : ℕ). ahead (drop w rest)) skipped ∙ sym same
@@ -42,5 +42,5 @@ returns-else-skips c =
     let ahead : List ℕ → Bool = λ t. starts_with nat_eq t (c.args.c ∷ []) in
     let part = part_is n c.deref.result.now items c.deref.ensures.value in
     let same : ahead (next_text c.args.skips (drop 1 (drop c.args.self.now.pos items))) ≡ ahead (drop n items) =
-        ap (λ (b : Bool). ahead (next_text b (drop 1 (drop c.args.self.now.pos items)))) c.if-skips.false ∙ ap ahead (drop-drop 1 c.args.self.now.pos items) in
+    ap (λ (b : Bool). ahead (next_text b (drop 1 (drop c.args.self.now.pos items)))) c.if-skips.false ∙ ap ahead (drop-drop 1 c.args.self.now.pos items) in
     c.starts_with-else-skips.ensures.value ∙ ap ahead part ∙ sym same
