@@ -14,3 +14,4 @@ pub mod NamedLemmas
 pub mod Utf8Lemmas
 pub mod RowLemmas
 pub mod CopiesLemmas
+pub mod SameLemmas

@@ -11,6 +11,7 @@ mod alternation;
 mod concat;
 mod copy;
 mod emptiness;
+mod equality;
 mod groups;
 mod kind;
 mod laws;
