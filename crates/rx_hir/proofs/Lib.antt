@@ -15,3 +15,4 @@ pub mod Utf8Lemmas
 pub mod RowLemmas
 pub mod CopiesLemmas
 pub mod SameLemmas
+pub mod NamedFormsLemmas
