@@ -14,3 +14,5 @@ pub mod NamedLemmas
 pub mod Utf8Lemmas
 pub mod RowLemmas
 pub mod CopiesLemmas
+pub mod SameLemmas
+pub mod NamedFormsLemmas
