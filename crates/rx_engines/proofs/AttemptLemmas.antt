@@ -1,19 +1,22 @@
 -- The steps of a depth-first search, over the bits that it keeps.
-use Rattle.std.proofs.Common.{◌≡◌, ℕ, ◌+◌, ◌-◌, ◌*◌, ◌<◌, ◌≤◌, List, ◌∷◌, length, sym, ◌∙◌, ap, subst, arith}
+use Rattle.std.proofs.Common.{◌≡◌, ℕ, ◌+◌, ◌-◌, ◌*◌, ◌%◌, ◌<◌, ◌≤◌, List, ◌∷◌, length, sym, ◌∙◌, ap, subst, arith}
+use Rattle.std.proofs.lemmas.Nat.{mod-mul-add}
 use Rattle.std.specs.Prelude.{Bool, true, false, not, ◌||◌, ◌==◌, Option, Some}
 use Rattle.rx_model.specs.Runs.{Configuration, same, Passed, and_at}
 use Rattle.rx_model.specs.Machine.{grid}
 use Rattle.rx_model.proofs.MachineLemmas.{grid-has}
 use Rattle.rx_model.proofs.RunLemmas.{by_test, same-true, weight, weight-less}
-use Rattle.rx_thompson.specs.Automaton.{at}
+use Rattle.rx_thompson.specs.Automaton.{at, state_at}
 use Rattle.rx_thompson.proofs.AutomatonLemmas.{automaton-bounded}
 use Rattle.rx_engines.specs.Walk.{Slots, Answer}
-use Rattle.rx_engines.specs.Backtrack.{is_set, passed_by, work, graph_for, Searching, Yields}
+use Rattle.rx_engines.specs.Backtrack.{is_set, extent, passed_by, work, frames_left, graph_for, Searching, Yields}
 use Rattle.rx_engines.specs.declared.backtrack.search.Search.{Search}
 use Rattle.rx_engines.specs.declared.frame.Frame.{Frame}
 use Rattle.rx_engines.specs.declared.frame.Frame.TheVariants.{Explore}
+use Rattle.rx_engines.specs.Simulation.{cost}
 use Rattle.rx_engines.proofs.BitLemmas.{passed_in-set, passed_in-bit}
 use Rattle.rx_engines.proofs.CloseLemmas.{not-true, not-false}
+use Rattle.rx_engines.proofs.FrameLemmas.{frames_below-passed, frames_below-inserted}
 use Rattle.rx_engines.proofs.SearchingLemmas.{Searching-passed, Searching-accepted, Searching-yields, Yields-length}
 
 and_at-passed : (c : Configuration) (p : Passed) → p c ≡ true → and_at c p ≡ p
@@ -28,15 +31,17 @@ module _ (s : Search) where
     pub state : q < length s.states.now
     pub above : s.first ≤ i
     pub below : i ≤ s.end
+    pub within : (i - s.first) * length s.states.now + q < extent s
     pub is_new : new ≡ not (is_set words ((i - s.first) * length s.states.now + q))
     pub after : (k : ℕ) → is_set words' k ≡ (((i - s.first) * length s.states.now + q == k) || is_set words k)
 
-  pub inserts-at : (words words' : List ℕ) (new : Bool) (q i n : ℕ) → q < length s.states.now → s.first ≤ i → i ≤ s.end → n ≡ (i - s.first) * length s.states.now + q
+  pub inserts-at : (words words' : List ℕ) (new : Bool) (q i n : ℕ) → q < length s.states.now → s.first ≤ i → i ≤ s.end → n ≡ (i - s.first) * length s.states.now + q → n < extent s
       → new ≡ not (is_set words n) → ((k : ℕ) → is_set words' k ≡ ((n == k) || is_set words k)) → Inserts words words' new q i
-  inserts-at words words' new q i n state above below at_n is_new after = record {
+  inserts-at words words' new q i n state above below at_n within is_new after = record {
     state = state;
     above = above;
     below = below;
+    within = omega arith;
     is_new = is_new ∙ ap (λ m. not (is_set words m)) at_n;
     after = λ k. after k ∙ ap (λ m. (m == k) || is_set words k) at_n;
   }
@@ -67,11 +72,16 @@ module _ {s : Search} {words words' : List ℕ} {new : Bool} {q i : ℕ} (t : In
   unfolding work
   passed-work seen = ap (weight (λ c. length ((graph_for s).successors c) + 2) (grid (length s.states.now) (s.end + 1))) (same_passed seen)
 
+  pub passed-frames : new ≡ false → frames_left s words' ≡ frames_left s words
+  passed-frames seen =
+      frames_below-passed s.states.now words words' ((i - s.first) * length s.states.now + q) t.after
+      (not-false _ (sym seen ∙ t.is_new)) (extent s)
+
   -- it accepts
   pub inserted-accepts : new ≡ true → {before : Passed} {goal : Option Answer} {base : Slots} {rest : List Frame} {slots : Slots} (pattern : ℕ)
       → (graph_for s).accepted (at q i) ≡ Some pattern
       → Searching (graph_for s) before (passed_by s words) goal base (Explore q i ∷ rest) slots → goal ≡ Some (record { pattern = pattern; end = i; slots = slots })
-  inserted-accepts unseen pattern accepts x = Searching-accepted x (automaton-bounded s.states.now s.text.now s.end) pattern (new_here unseen) accepts
+  inserted-accepts unseen pattern accepts x = Searching-accepted x (automaton-bounded s.matcher s.states.now s.text.now s.end) pattern (new_here unseen) accepts
 
   -- it gives way to its successors
   pub inserted-yields : new ≡ true → {before : Passed} {goal : Option Answer} {base : Slots} {rest frames : List Frame} {slots slots' : Slots}
@@ -79,7 +89,7 @@ module _ {s : Search} {words words' : List ℕ} {new : Bool} {q i : ℕ} (t : In
       → Searching (graph_for s) before (passed_by s words) goal base (Explore q i ∷ rest) slots → Searching (graph_for s) before (passed_by s words') goal base frames slots'
   inserted-yields unseen {before} {goal} {base} {rest} {frames} {slots} {slots'} y x =
       subst (λ p. Searching (graph_for s) before p goal base frames slots') (sym now_passed)
-      (Searching-yields x (automaton-bounded s.states.now s.text.now s.end) (new_here unseen) y)
+      (Searching-yields x (automaton-bounded s.matcher s.states.now s.text.now s.end) (new_here unseen) y)
 
   less_work : new ≡ true → work s words' + (length ((graph_for s).successors (at q i)) + 2) ≤ work s words
   unfolding work
@@ -95,3 +105,10 @@ module _ {s : Search} {words words' : List ℕ} {new : Bool} {q i : ℕ} (t : In
       let less = less_work unseen in
       let longer = Yields-length y in
       omega arith
+
+  -- the frames of the state do not come again
+  pub inserted-frames : new ≡ true → frames_left s words' + cost (state_at s.states.now q) ≡ frames_left s words
+  inserted-frames unseen =
+      let column : ((i - s.first) * length s.states.now + q) % length s.states.now ≡ q = mod-mul-add (i - s.first) (length s.states.now) q t.state in
+      let less = frames_below-inserted s.states.now words words' ((i - s.first) * length s.states.now + q) t.after (not-true _ (sym unseen ∙ t.is_new)) (extent s) t.within in
+      rw column at less

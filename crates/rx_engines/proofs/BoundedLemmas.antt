@@ -94,20 +94,20 @@ module _ (nfa : Nfa) (v : InputValue) where
       by_test (is_anchored v.anchor) (λ a. rw (e, a) (omega arith)) (λ a. rw (e, a) refl)
 
   start-is : (q last : ℕ) → v.start ≤ v.end → start_of nfa v.anchor ≡ Some q → last ≡ last_start v
-      → first_start (is_permitted nfa.utf8 v.haystack) (λ i. first_trace (automaton nfa.states v.haystack v.end) (at q i)) (last + 1 - v.start) v.start ≡ next_match_within nfa v
+      → first_start (is_permitted nfa.utf8 v.haystack) (λ i. first_trace (automaton nfa.terminator nfa.states v.haystack v.end) (at q i)) (last + 1 - v.start) v.start ≡ next_match_within nfa v
   unfolding next_match_of
   start-is q last le is at_last =
-      first_start-alike (is_permitted nfa.utf8 v.haystack) (λ i. first_trace (automaton nfa.states v.haystack v.end) (at q i)) (first_from nfa.states v.haystack v.end (start_of nfa v.anchor)) (last + 1 - v.start) v.start
-      (λ j _. ap (λ o. first_from nfa.states v.haystack v.end o j) (sym is))
-      ∙ ap (λ n. first_start (is_permitted nfa.utf8 v.haystack) (first_from nfa.states v.haystack v.end (start_of nfa v.anchor)) n v.start)
+      first_start-alike (is_permitted nfa.utf8 v.haystack) (λ i. first_trace (automaton nfa.terminator nfa.states v.haystack v.end) (at q i)) (first_from nfa.terminator nfa.states v.haystack v.end (start_of nfa v.anchor)) (last + 1 - v.start) v.start
+      (λ j _. ap (λ o. first_from nfa.terminator nfa.states v.haystack v.end o j) (sym is))
+      ∙ ap (λ n. first_start (is_permitted nfa.utf8 v.haystack) (first_from nfa.terminator nfa.states v.haystack v.end (start_of nfa v.anchor)) n v.start)
       (ap (λ l. l + 1 - v.start) at_last ∙ sym (starts-is le))
 
   -- what the search of the states was given
-  pub found-within : {states : List State} {text : List ℕ} {q last first end : ℕ} {utf8 : Bool} → states ≡ nfa.states → text ≡ v.haystack → utf8 ≡ nfa.utf8 → last ≡ last_start v → first ≡ v.start → end ≡ v.end
+  pub found-within : {terminator : ℕ} {states : List State} {text : List ℕ} {q last first end : ℕ} {utf8 : Bool} → terminator ≡ nfa.terminator → states ≡ nfa.states → text ≡ v.haystack → utf8 ≡ nfa.utf8 → last ≡ last_start v → first ≡ v.start → end ≡ v.end
       → v.start ≤ v.end → start_of nfa v.anchor ≡ Some q
-      → first_start (is_permitted utf8 text) (λ i. first_trace (automaton states text end) (at q i)) (last + 1 - first) first ≡ next_match_within nfa v
-  found-within {q = q} {last = last} a b c at_last d e le is =
-      (λ j. first_start (is_permitted (c j) (b j)) (λ i. first_trace (automaton (a j) (b j) (e j)) (at q i)) (last + 1 - d j) (d j))
+      → first_start (is_permitted utf8 text) (λ i. first_trace (automaton terminator states text end) (at q i)) (last + 1 - first) first ≡ next_match_within nfa v
+  found-within {q = q} {last = last} t a b c at_last d e le is =
+      (λ j. first_start (is_permitted (c j) (b j)) (λ i. first_trace (automaton (t j) (a j) (b j) (e j)) (at q i)) (last + 1 - d j) (d j))
       ∙ start-is q last le is at_last
 
   pub found-in_order : (o : Option Match) → o ≡ next_match_within nfa v → (found : Option (ℕ × ℕ × ℕ)) → found ≡ option_map triple o → IfSome found (λ f. f.1 ≤ f.2)

@@ -1,10 +1,13 @@
 -- The frames of a closure.
 use Rattle.std.proofs.Common.{◌≡◌, ℕ, ◌+◌, ◌<◌, ◌≤◌, List, [], ◌∷◌, ◌++◌, length, refl, sym, ◌∙◌, ap, subst, arith, true≢false}
 use Rattle.std.specs.Prelude.{map, All, Bool, true, false, not}
-use Rattle.rx_model.proofs.RunLemmas.{weight}
+use Rattle.rx_model.proofs.RunLemmas.{by_test, weight}
 use Rattle.std.proofs.lemmas.List.Elements.{All-head, All-tail}
 use Rattle.rx_thompson.specs.Automaton.{at}
-use Rattle.rx_engines.specs.Walk.{explore_all}
+use Rattle.rx_model.specs.Look.{holds}
+use Rattle.rx_search.specs.Look.{kind_of}
+use Rattle.rx_search.specs.declared.look.Look.{Look}
+use Rattle.rx_engines.specs.Walk.{explore_all, looked}
 use Rattle.rx_engines.specs.declared.frame.Frame.{Frame}
 use Rattle.rx_thompson.specs.Automaton.{state_at}
 use Rattle.rx_thompson.specs.declared.state.State.{State}
@@ -21,6 +24,14 @@ AllHere-union n i (q ∷ qs) frames all here =
 pub union-length : (qs : List ℕ) (i : ℕ) (frames : List Frame) → length (explore_all (map (λ q. at q i) qs) ++ frames) ≡ length qs + length frames
 union-length [] i frames = omega arith
 union-length (q ∷ qs) i frames = let h = union-length qs i frames in omega arith
+
+pub AllHere-looked : (n i terminator : ℕ) (text : List ℕ) (look : Look) (next : ℕ) (frames : List Frame) → next < n → AllHere n i frames → AllHere n i (explore_all (looked terminator text look next i) ++ frames)
+AllHere-looked n i terminator text look next frames lt here =
+    by_test (holds terminator text (kind_of look) i) (λ e. rw e (lt, refl, here)) (λ e. rw e here)
+
+pub looked-length : (terminator : ℕ) (text : List ℕ) (look : Look) (next i : ℕ) (frames : List Frame) → length (explore_all (looked terminator text look next i) ++ frames) ≤ 1 + length frames
+looked-length terminator text look next i frames =
+    by_test (holds terminator text (kind_of look) i) (λ e. rw e (omega arith)) (λ e. rw e (omega arith))
 
 -- the frame that was taken off
 pub on_top : {n i : ℕ} {stack rest : List Frame} {frame : Frame} {q j : ℕ} → AllHere n i stack → stack ≡ frame ∷ rest → frame ≡ Explore q j

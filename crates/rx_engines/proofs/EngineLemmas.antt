@@ -1,5 +1,5 @@
 -- What the search of a list of states finds, for an NFA and an input.
-use Rattle.std.proofs.Common.{◌≡◌, ℕ, zero, suc, ◌+◌, ◌-◌, ◌≤◌, ◌<◌, List, [], ◌∷◌, length, get_or, refl, sym, ◌∙◌, ap, subst, arith}
+use Rattle.std.proofs.Common.{◌≡◌, ℕ, ◌+◌, ◌-◌, ◌≤◌, ◌<◌, List, [], ◌∷◌, length, get_or, refl, sym, ◌∙◌, ap, subst, arith}
 use Rattle.std.proofs.lemmas.Bool.Decides.{nat_tests}
 use Rattle.std.proofs.lemmas.List.Elements.{All-nil, All-cons, All-get_or}
 use Rattle.std.proofs.lemmas.Option.{get_or_from_slice_get, slice_get_within}
@@ -15,7 +15,6 @@ use Rattle.rx_thompson.specs.Automaton.{at, automaton}
 use Rattle.rx_thompson.specs.Nfa.{Nfa, IsInRange}
 use Rattle.rx_thompson.specs.NextMatch.{start_of, first_from, next_match_of}
 use Rattle.rx_thompson.proofs.NextMatchLemmas.{first_start-alike, next_match_of-patterns, next_match_of-slot, next_match_of-within}
-use Rattle.rx_thompson.specs.declared.state.State.{State}
 use Rattle.rx_engines.specs.Simulation.{first_of}
 use Rattle.rx_engines.specs.Search.{IsInside, next_until, next_of, first_place, stop_of, answer_of, triple}
 use Rattle.rx_engines.specs.declared.pikevm.search.Search.{Search}
@@ -35,19 +34,19 @@ module _ (nfa : Nfa) (utf8_empty : Bool) (text : List ℕ) (anchor : Anchor) (en
   pub next_match_of-missing : start_of nfa anchor ≡ None → next_match_of nfa utf8_empty text anchor end start ≡ None
   unfolding next_match_of
   next_match_of-missing none =
-      first_start-none (is_permitted utf8_empty text) (first_from nfa.states text end (start_of nfa anchor)) (starts anchor start end) start (λ j le. ap (λ s. first_from nfa.states text end s j) none)
+      first_start-none (is_permitted utf8_empty text) (first_from nfa.terminator nfa.states text end (start_of nfa anchor)) (starts anchor start end) start (λ j le. ap (λ s. first_from nfa.terminator nfa.states text end s j) none)
 
   -- a search up to a later place looks at more starts, from which no run ends by here
   pub next_match_of-until : (top q : ℕ) → start ≤ end → end ≤ top → start_of nfa anchor ≡ Some q
-      → first_start (is_permitted utf8_empty text) (first_of (first_trace (automaton nfa.states text end)) (q ∷ [])) ((if is_anchored anchor then start else top) + 1 - start) start ≡ next_match_of nfa utf8_empty text anchor end start
+      → first_start (is_permitted utf8_empty text) (first_of (first_trace (automaton nfa.terminator nfa.states text end)) (q ∷ [])) ((if is_anchored anchor then start else top) + 1 - start) start ≡ next_match_of nfa utf8_empty text anchor end start
   unfolding next_match_of
   next_match_of-until top q low high is =
       fewer
-      ∙ first_start-alike (is_permitted utf8_empty text) from_start (first_from nfa.states text end (start_of nfa anchor)) (starts anchor start end) start
-      (λ j _. or-none_right (first_trace (automaton nfa.states text end) (at q j)) ∙ ap (λ s. first_from nfa.states text end s j) (sym is))
+      ∙ first_start-alike (is_permitted utf8_empty text) from_start (first_from nfa.terminator nfa.states text end (start_of nfa anchor)) (starts anchor start end) start
+      (λ j _. or-none_right (first_trace (automaton nfa.terminator nfa.states text end) (at q j)) ∙ ap (λ s. first_from nfa.terminator nfa.states text end s j) (sym is))
     where
       from_start : ℕ → Option Trace
-      from_start = first_of (first_trace (automaton nfa.states text end)) (q ∷ [])
+      from_start = first_of (first_trace (automaton nfa.terminator nfa.states text end)) (q ∷ [])
 
       in_order : nat_lt end start ≡ false
       in_order = grind (arith, nat_tests)
@@ -57,7 +56,7 @@ module _ (nfa : Nfa) (utf8_empty : Bool) (text : List ℕ) (anchor : Anchor) (en
           by_test (is_anchored anchor)
           (λ a. rw (in_order, a) (let one : start + 1 - start ≡ 1 = omega arith in ap (λ n. first_start (is_permitted utf8_empty text) from_start n start) one))
           (λ a. rw (in_order, a)
-          (first_start-more (is_permitted utf8_empty text) from_start (end + 1 - start) (top + 1 - start) start (omega arith) (λ j le. first_of-beyond nfa.states text [] utf8_empty end 0 0 (q ∷ []) j (omega arith))))
+          (first_start-more (is_permitted utf8_empty text) from_start (end + 1 - start) (top + 1 - start) start (omega arith) (λ j le. first_of-beyond nfa.terminator nfa.states text [] utf8_empty end 0 0 (q ∷ []) j (omega arith))))
 
 -- the start is there
 pub start-inside : (nfa : Nfa) (anchor : Anchor) (q : ℕ) → IsInRange nfa → start_of nfa anchor ≡ Some q → All (λ s. s < length nfa.states) (q ∷ [])
@@ -134,7 +133,7 @@ module _ (vm : PikeVMValue) (v : InputValue) where
 
     pub until-is : (end : ℕ) → v.start ≤ end → end ≤ v.end → next_until s v.start end ≡ next_match_by vm v end
     until-is end low high =
-        (λ j. first_start (is_permitted (of.utf8 j) (of.text j)) (first_of (first_trace (automaton (of.states j) (of.text j) end)) (of.starts j)) (of.last j + 1 - v.start) v.start)
+        (λ j. first_start (is_permitted (of.utf8 j) (of.text j)) (first_of (first_trace (automaton (of.matcher j) (of.states j) (of.text j) end)) (of.starts j)) (of.last j + 1 - v.start) v.start)
         ∙ next_match_of-until vm.nfa vm.nfa.utf8 v.haystack v.anchor end v.start v.end q low high is
 
     pub next-is : {from : ℕ} → from ≡ v.start → next_of s from ≡ next_match_in vm v

@@ -9,9 +9,11 @@ pub mod CloseLemmas
 pub mod StepLemmas
 pub mod StartLemmas
 pub mod StageLemmas
+pub mod SpanLemmas
 pub mod EngineLemmas
 pub mod BitLemmas
 pub mod SearchingLemmas
 pub mod YieldLemmas
+pub mod FrameLemmas
 pub mod AttemptLemmas
 pub mod BoundedLemmas

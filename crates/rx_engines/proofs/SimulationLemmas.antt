@@ -10,7 +10,7 @@ use Rattle.rx_model.proofs.FoundLemmas.{found-passed, found-accepted, found-prun
 use Rattle.rx_thompson.specs.Automaton.{at, automaton, state_at, state_step}
 use Rattle.rx_engines.specs.Walk.{Slots, answer, pending, explore_all, Expands}
 use Rattle.rx_thompson.specs.declared.state.State.{State}
-use Rattle.rx_thompson.specs.declared.state.State.TheVariants.{ByteRange, Sparse, Union, Capture, Fail, Match as Accepts}
+use Rattle.rx_thompson.specs.declared.state.State.TheVariants.{ByteRange, Sparse, Look, Union, Capture, Fail, Match as Accepts}
 use Rattle.rx_engines.specs.declared.frame.Frame.{Frame}
 use Rattle.rx_engines.specs.declared.frame.Frame.TheVariants.{Explore, Restore}
 use Rattle.rx_thompson.proofs.AutomatonLemmas.{automaton-bounded}
@@ -88,18 +88,19 @@ among-moves states g p i rows qs q moves = among-push states g p i rows qs q ∙
 
 -- What a state at rest leads to doesn't depend on what was passed at its place.
 
-rests-later : (text : List ℕ) (end : ℕ) (s : State) (i : ℕ) → is_resting s ≡ true → (d : Configuration) → Contains (state_step text end s i) d → i < d.place
-rests-later text end (ByteRange low high next) i h d m =
+rests-later : (terminator : ℕ) (text : List ℕ) (end : ℕ) (s : State) (i : ℕ) → is_resting s ≡ true → (d : Configuration) → Contains (state_step terminator text end s i) d → i < d.place
+rests-later terminator text end (ByteRange low high next) i h d m =
     let up = read_byte-place text end (record { start = low; end = high; next = next } ∷ []) i d m in omega arith
-rests-later text end (Sparse transitions) i h d m = let up = read_byte-place text end transitions i d m in omega arith
-rests-later text end (Union alternates) i h d m = absurd (true≢false (sym h))
-rests-later text end (Capture next pattern slot) i h d m = absurd (true≢false (sym h))
-rests-later text end Fail i h d m = absurd (true≢false (sym h))
-rests-later text end (Accepts pattern) i h d m = absurd (none-in d m)
+rests-later terminator text end (Sparse transitions) i h d m = let up = read_byte-place text end transitions i d m in omega arith
+rests-later terminator text end (Look look next) i h d m = absurd (true≢false (sym h))
+rests-later terminator text end (Union alternates) i h d m = absurd (true≢false (sym h))
+rests-later terminator text end (Capture next pattern slot) i h d m = absurd (true≢false (sym h))
+rests-later terminator text end Fail i h d m = absurd (true≢false (sym h))
+rests-later terminator text end (Accepts pattern) i h d m = absurd (none-in d m)
 
-module _ (states : List State) (text : List ℕ) (end q i : ℕ) where
+module _ (terminator : ℕ) (states : List State) (text : List ℕ) (end q i : ℕ) where
   abbrev the_graph : PriorityGraph
-  the_graph = automaton states text end
+  the_graph = automaton terminator states text end
 
   abbrev spot : Configuration
   spot = at q i
@@ -107,13 +108,13 @@ module _ (states : List State) (text : List ℕ) (end q i : ℕ) where
   pub found-rests : (p : Passed) → q < length states → i ≤ end → is_resting (state_at states q) ≡ true → p spot ≡ false → ((d : Configuration) → i < d.place → p d ≡ false)
       → found the_graph p spot ≡ found the_graph nowhere spot
   found-rests p lt le rests new level =
-      let bounded = automaton-bounded states text end in
+      let bounded = automaton-bounded terminator states text end in
       elim (tells (the_graph.accepted spot)) [
         | inl none ↦
             found-step the_graph p bounded spot new none
             ∙ ap (option_map (with_write (the_graph.written spot) i)) (first_some-alike_at (found the_graph (and_at spot p)) (found the_graph (and_at spot nowhere)) (the_graph.successors spot)
-            (λ d m. (let up = rests-later text end (state_at states q) i rests d (subst (λ ds. Contains ds d) (successors-is states text end q i lt le (state_at states q) refl) m) in
-            found-forget the_graph (automaton-rises states text end) (and_at spot p) (and_at spot nowhere) d (λ e above. ap (λ b. same spot e || b) (level e (omega arith))))))
+            (λ d m. (let up = rests-later terminator text end (state_at states q) i rests d (subst (λ ds. Contains ds d) (successors-is terminator states text end q i lt le (state_at states q) refl) m) in
+            found-forget the_graph (automaton-rises terminator states text end) (and_at spot p) (and_at spot nowhere) d (λ e above. ap (λ b. same spot e || b) (level e (omega arith))))))
             ∙ sym (found-step the_graph nowhere bounded spot refl none)
         | inr some ↦ found-accepted the_graph p bounded spot some.0 new some.1 ∙ sym (found-accepted the_graph nowhere bounded spot some.0 refl some.1)
       ]

@@ -1,18 +1,17 @@
 -- The stages of a search, for each end that it might have: what the threads at a place and the starts to come
 -- lead to is the next match that ends by there.
-use Rattle.std.proofs.Common.{◌≡◌, ◌⊎◌, ℕ, zero, suc, ◌+◌, ◌-◌, ◌≤◌, ◌<◌, List, [], refl, sym, ◌∙◌, ap, inl, inr, arith, true≢false}
-use Rattle.std.specs.Prelude.{Bool, true, false, ◌&&◌, Option, Some, None, option_map, is_some, nat_lt, if◌then◌else◌, IfSome, IfNone}
+use Rattle.std.proofs.Common.{◌≡◌, ℕ, zero, suc, ◌+◌, ◌-◌, ◌≤◌, ◌<◌, List, [], refl, sym, ◌∙◌, ap, arith, true≢false}
+use Rattle.std.specs.Prelude.{Bool, true, false, ◌&&◌, Option, Some, None, option_map, is_some, nat_lt, IfSome, IfNone}
 use Rattle.std.specs.Option.{option_or}
 use Rattle.std.proofs.lemmas.Bool.Decides.{nat_tests}
-use Rattle.rx_model.specs.Runs.{Passed, Trace, nowhere, found}
-use Rattle.rx_model.specs.Search.{Match, is_permitted, first_start}
+use Rattle.rx_model.specs.Runs.{Passed, nowhere}
 use Rattle.rx_model.proofs.RunLemmas.{by_test}
 use Rattle.rx_model.proofs.FirstLemmas.{none-is-some}
 use Rattle.rx_thompson.specs.Automaton.{automaton}
 use Rattle.rx_engines.specs.Walk.{Slots}
 use Rattle.rx_engines.specs.Threads.{Row}
 use Rattle.rx_engines.specs.Simulation.{Hit, hit_of, best_hit, accepted_hit, among, later_starts, byte_at}
-use Rattle.rx_engines.specs.Search.{next_until, next_of, first_place, stop_of, answer_of}
+use Rattle.rx_engines.specs.Search.{next_until, next_of, first_place, answer_of}
 use Rattle.rx_engines.specs.declared.pikevm.search.Search.{Search}
 use Rattle.rx_engines.proofs.StartLemmas.{over-matched, over-past, over-end, starts-beyond}
 
@@ -76,41 +75,41 @@ found-none (Some f) best i some none = none-is-some (sym none ∙ some)
 module _ (s : Search) (width from : ℕ) where
   abbrev pub Stage : (end : ℕ) → Option Hit → (place next : ℕ) → Passed → List Row → List ℕ → Type 0
   Stage end best place next p rows items =
-      option_or (among s.states.now (automaton s.states.now s.text.now end) nowhere place rows items)
-      (later_starts s.states.now s.text.now s.starts.now s.utf8_empty end width best s.last next p)
+      option_or (among s.states.now (automaton s.matcher s.states.now s.text.now end) nowhere place rows items)
+      (later_starts s.matcher s.states.now s.text.now s.starts.now s.utf8_empty end width best s.last next p)
       ≡ option_map (hit_of width) (next_until s from end)
 
   -- threads were started, with rows of some width
   pub seed-fits : (end : ℕ) (best : Option Hit) (i : ℕ) (p : Passed) (rows rows' : List Row) (items items' : List ℕ) {n : ℕ} → n ≡ width
-      → (option_or (among s.states.now (automaton s.states.now s.text.now end) nowhere i rows items) (later_starts s.states.now s.text.now s.starts.now s.utf8_empty end n best s.last i p) ≡ option_map (hit_of width) (next_until s from end)
-      → option_or (among s.states.now (automaton s.states.now s.text.now end) nowhere i rows' items') (later_starts s.states.now s.text.now s.starts.now s.utf8_empty end n best s.last (i + 1) nowhere) ≡ option_map (hit_of width) (next_until s from end))
+      → (option_or (among s.states.now (automaton s.matcher s.states.now s.text.now end) nowhere i rows items) (later_starts s.matcher s.states.now s.text.now s.starts.now s.utf8_empty end n best s.last i p) ≡ option_map (hit_of width) (next_until s from end)
+      → option_or (among s.states.now (automaton s.matcher s.states.now s.text.now end) nowhere i rows' items') (later_starts s.matcher s.states.now s.text.now s.starts.now s.utf8_empty end n best s.last (i + 1) nowhere) ≡ option_map (hit_of width) (next_until s from end))
       → Stage end best i i p rows items → Stage end best i (i + 1) nowhere rows' items'
   seed-fits end best i p rows rows' items items' same seeds value =
-      (λ j. option_or (among s.states.now (automaton s.states.now s.text.now end) nowhere i rows' items') (later_starts s.states.now s.text.now s.starts.now s.utf8_empty end (sym same j) best s.last (i + 1) nowhere))
-      ∙ seeds ((λ j. option_or (among s.states.now (automaton s.states.now s.text.now end) nowhere i rows items) (later_starts s.states.now s.text.now s.starts.now s.utf8_empty end (same j) best s.last i p)) ∙ value)
+      (λ j. option_or (among s.states.now (automaton s.matcher s.states.now s.text.now end) nowhere i rows' items') (later_starts s.matcher s.states.now s.text.now s.starts.now s.utf8_empty end (sym same j) best s.last (i + 1) nowhere))
+      ∙ seeds ((λ j. option_or (among s.states.now (automaton s.matcher s.states.now s.text.now end) nowhere i rows items) (later_starts s.matcher s.states.now s.text.now s.starts.now s.utf8_empty end (same j) best s.last i p)) ∙ value)
 
   -- no thread is left, and there is a match
   pub stage-matched : (end : ℕ) (best : Option (ℕ × ℕ × ℕ)) (slots : Slots) (items : List ℕ) (rows : List Row) (i : ℕ) → items ≡ [] → is_some best ≡ true
       → Stage end (best_hit best slots) i (i + 1) nowhere rows items → best_hit best slots ≡ option_map (hit_of width) (next_until s from end)
   stage-matched end best slots items rows i none h value =
-      over-matched s.states.now s.text.now s.starts.now s.utf8_empty end width s.last best slots items rows i (option_map (hit_of width) (next_until s from end)) none h value
+      over-matched s.matcher s.states.now s.text.now s.starts.now s.utf8_empty end width s.last best slots items rows i (option_map (hit_of width) (next_until s from end)) none h value
 
   -- no thread is left, nor a start
   pub stage-past : (end : ℕ) (best : Option (ℕ × ℕ × ℕ)) (slots : Slots) (items : List ℕ) (rows : List Row) (i : ℕ) → items ≡ [] → is_some best ≡ false → s.last ≤ i
       → Stage end (best_hit best slots) i (i + 1) nowhere rows items → next_until s from end ≡ None
   stage-past end best slots items rows i none h le value =
       unmapped (hit_of width) (next_until s from end)
-      (sym (over-past s.states.now s.text.now s.starts.now s.utf8_empty end width s.last best slots items rows i (option_map (hit_of width) (next_until s from end)) none h le value))
+      (sym (over-past s.matcher s.states.now s.text.now s.starts.now s.utf8_empty end width s.last best slots items rows i (option_map (hit_of width) (next_until s from end)) none h le value))
 
   -- the end was passed
   pub stage-over : (end : ℕ) (best : Option (ℕ × ℕ × ℕ)) (slots : Slots) (items : List ℕ) (rows : List Row) (p : Passed) (i : ℕ) → end < i → s.last < i
       → Stage end (best_hit best slots) i i p rows items → best_hit best slots ≡ option_map (hit_of width) (next_until s from end)
   stage-over end best slots items rows p i lt past value =
-      over-end s.states.now s.text.now s.starts.now s.utf8_empty end width s.last best slots items rows p i (option_map (hit_of width) (next_until s from end)) lt past value
+      over-end s.matcher s.states.now s.text.now s.starts.now s.utf8_empty end width s.last best slots items rows p i (option_map (hit_of width) (next_until s from end)) lt past value
 
   -- at its end, the first thread that accepts has the match
   pub stage-accepted : (f : Option (ℕ × ℕ)) (best best' : Option (ℕ × ℕ × ℕ)) (slots : Slots) (old : Option Hit) (items : List ℕ) (rows : List Row) (i : ℕ)
-      → among s.states.now (automaton s.states.now s.text.now i) nowhere i rows items ≡ accepted_hit f i slots
+      → among s.states.now (automaton s.matcher s.states.now s.text.now i) nowhere i rows items ≡ accepted_hit f i slots
       → IfSome f (λ f. best' ≡ Some (f.0, f.1, i)) → IfNone f (best' ≡ best) → best ≡ None → is_some best' ≡ true
       → Stage i old i (i + 1) nowhere rows items → best_hit best' slots ≡ option_map (hit_of width) (next_until s from i)
   stage-accepted None best best' slots old items rows i accepts some same none h value = absurd (true≢false (sym h ∙ ap is_some (same ∙ none)))
@@ -119,12 +118,12 @@ module _ (s : Search) (width from : ℕ) where
 
   -- and where none accepts there is none
   pub stage-silent : (f : Option (ℕ × ℕ)) (slots : Slots) (old : Option Hit) (items : List ℕ) (rows : List Row) (i : ℕ)
-      → among s.states.now (automaton s.states.now s.text.now i) nowhere i rows items ≡ accepted_hit f i slots
+      → among s.states.now (automaton s.matcher s.states.now s.text.now i) nowhere i rows items ≡ accepted_hit f i slots
       → f ≡ None → old ≡ None → Stage i old i (i + 1) nowhere rows items → next_until s from i ≡ None
   stage-silent f slots old items rows i accepts none unmatched value =
       unmapped (hit_of width) (next_until s from i)
-      (sym (sym (ap (λ o. option_or o (later_starts s.states.now s.text.now s.starts.now s.utf8_empty i width None s.last (i + 1) nowhere)) (accepts ∙ ap (λ o. accepted_hit o i slots) none)
-      ∙ ap (option_map (hit_of width)) (starts-beyond s.states.now s.text.now s.starts.now s.utf8_empty i width s.last (i + 1) (omega arith)))
+      (sym (sym (ap (λ o. option_or o (later_starts s.matcher s.states.now s.text.now s.starts.now s.utf8_empty i width None s.last (i + 1) nowhere)) (accepts ∙ ap (λ o. accepted_hit o i slots) none)
+      ∙ ap (option_map (hit_of width)) (starts-beyond s.matcher s.states.now s.text.now s.starts.now s.utf8_empty i width s.last (i + 1) (omega arith)))
       ∙ (rw unmatched at value)))
 
 -- the search stops at the first place by which a match ends

@@ -64,15 +64,15 @@ pub some_best : {A : Type 0} (best : Option A) → true ≡ is_some best → (x 
 some_best None h = absurd (true≢false h)
 some_best (Some x) h = (x, refl)
 
-module _ (states : List State) (text : List ℕ) (states_of_start : List ℕ) (utf8_empty : Bool) (end width last : ℕ) where
+module _ (terminator : ℕ) (states : List State) (text : List ℕ) (states_of_start : List ℕ) (utf8_empty : Bool) (end width last : ℕ) where
   abbrev g : PriorityGraph
-  g = automaton states text end
+  g = automaton terminator states text end
 
   abbrev starts : Passed → ℕ → Option Match
-  starts p i = from_starts states text states_of_start utf8_empty end p last i
+  starts p i = from_starts terminator states text states_of_start utf8_empty end p last i
 
   abbrev later : Option Hit → ℕ → Passed → Option Hit
-  later best i p = later_starts states text states_of_start utf8_empty end width best last i p
+  later best i p = later_starts terminator states text states_of_start utf8_empty end width best last i p
 
   pub later-stable : (best : Option Hit) (i : ℕ) → IsStable g (later best i)
   later-stable best i p x nothing =
@@ -85,7 +85,7 @@ module _ (states : List State) (text : List ℕ) (states_of_start : List ℕ) (u
       ap (λ m. option_or best (option_map (hit_of width) m))
       (first_start-alike (is_permitted utf8_empty text) (first_of (found g (passed_at items i)) states_of_start) (first_of (found g nowhere) states_of_start) (last + 1 - (i + 1)) (i + 1)
       (λ j le. first_of-alike (found g (passed_at items i)) (found g nowhere) states_of_start j
-      (λ q. found-forget g (automaton-rises states text end) (passed_at items i) nowhere (at q j) (λ d above. passed_at-elsewhere items i d (omega arith)))))
+      (λ q. found-forget g (automaton-rises terminator states text end) (passed_at items i) nowhere (at q j) (λ d above. passed_at-elsewhere items i d (omega arith)))))
 
   pub starts-over : (p : Passed) (i : ℕ) → last < i → starts p i ≡ None
   unfolding first_start
@@ -210,7 +210,7 @@ module _ (states : List State) (text : List ℕ) (states_of_start : List ℕ) (u
       elim (tells (found g nowhere (at q i))) [
         | inl none ↦ none
         | inr some ↦
-            let ends = found-end g (automaton-bounded states text end) (automaton-rises states text end) end (automaton-accepts-within states text end) nowhere (at q i) some.0 some.1 in
+            let ends = found-end g (automaton-bounded terminator states text end) (automaton-rises terminator states text end) end (automaton-accepts-within terminator states text end) nowhere (at q i) some.0 some.1 in
             absurd (let a = ends.0 in let b = ends.1 in omega arith)
       ]
 

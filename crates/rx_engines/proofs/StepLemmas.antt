@@ -12,7 +12,7 @@ use Rattle.std.proofs.lemmas.Bool.Decides.{nat_tests}
 use Rattle.rx_model.proofs.FirstLemmas.{none-is-some, some-is}
 use Rattle.rx_thompson.specs.Automaton.{automaton, route, read_byte, state_step, state_accepts, state_writes, NamesBelow}
 use Rattle.rx_thompson.specs.declared.state.Transition.{Transition}
-use Rattle.rx_thompson.specs.declared.state.State.TheVariants.{ByteRange, Sparse, Union, Capture, Fail, Match as Accepts}
+use Rattle.rx_thompson.specs.declared.state.State.TheVariants.{ByteRange, Sparse, Look, Union, Capture, Fail, Match as Accepts}
 use Rattle.rx_thompson.proofs.StateLemmas.{accepted-is, successors-is, written-is, state-known, names-known, read_byte-taken, read_byte-dead}
 use Rattle.rx_engines.specs.Simulation.{Acts, byte_at, onto, read_of, act_of}
 use Rattle.rx_engines.specs.declared.pikevm.step.Action.{Action}
@@ -137,42 +137,43 @@ onto-names n (t ∷ ts) b next all goes =
     (λ e. let is : t.next ≡ next = some-is (rw e at goes) in let lt = All-head (λ (t : Transition). t.next < n) t ts all in omega arith)
     (λ e. onto-names n ts b next (All-tail (λ (t : Transition). t.next < n) t ts all) (rw e at goes))
 
-module _ (states : List State) (text : List ℕ) (end q i : ℕ) (names : All (NamesBelow (length states)) states) (state : q < length states) (place : i ≤ end) where
+module _ (terminator : ℕ) (states : List State) (text : List ℕ) (end q i : ℕ) (names : All (NamesBelow (length states)) states) (state : q < length states) (place : i ≤ end) where
   -- a state that reads a byte by these transitions
-  acts-read : (s : State) (ts : List Transition) → state_at states q ≡ s → is_resting s ≡ true → state_accepts s ≡ None → state_writes s ≡ None → state_step text end s i ≡ read_byte text end ts i
-      → All (λ (t : Transition). t.next < length states) ts → Acts states (automaton states text end) end q i (read_of ts (byte_at text end i))
+  acts-read : (s : State) (ts : List Transition) → state_at states q ≡ s → is_resting s ≡ true → state_accepts s ≡ None → state_writes s ≡ None → state_step terminator text end s i ≡ read_byte text end ts i
+      → All (λ (t : Transition). t.next < length states) ts → Acts states (automaton terminator states text end) end q i (read_of ts (byte_at text end i))
   acts-read s ts is rests none unwritten steps all =
       by_test (nat_lt i end)
       (λ e. rw e (at_byte (grind (arith, nat_tests)) (route ts (get_or text i 0)) refl))
       (λ e. rw e (inr (accepts, goes ∙ read_byte-dead text end ts i (λ lt. absurd (grind (arith, nat_tests))))))
     where
-      accepts : (automaton states text end).accepted (at q i) ≡ None
-      accepts = accepted-is states text end q i state place s is ∙ none
+      accepts : (automaton terminator states text end).accepted (at q i) ≡ None
+      accepts = accepted-is terminator states text end q i state place s is ∙ none
 
-      goes : (automaton states text end).successors (at q i) ≡ read_byte text end ts i
-      goes = successors-is states text end q i state place s is ∙ steps
+      goes : (automaton terminator states text end).successors (at q i) ≡ read_byte text end ts i
+      goes = successors-is terminator states text end q i state place s is ∙ steps
 
-      at_byte : i < end → (o : Option ℕ) → route ts (get_or text i 0) ≡ o → Acts states (automaton states text end) end q i (onto o)
+      at_byte : i < end → (o : Option ℕ) → route ts (get_or text i 0) ≡ o → Acts states (automaton terminator states text end) end q i (onto o)
       at_byte lt None e = inr (accepts, goes ∙ read_byte-dead text end ts i (λ _. e))
       at_byte lt (Some next) e =
-          (ap is_resting is ∙ rests, onto-names (length states) ts (get_or text i 0) next all e, lt, accepts, written-is states text end q i state place s is ∙ unwritten, goes ∙ read_byte-taken text end ts next i lt e)
+          (ap is_resting is ∙ rests, onto-names (length states) ts (get_or text i 0) next all e, lt, accepts, written-is terminator states text end q i state place s is ∙ unwritten, goes ∙ read_byte-taken text end ts next i lt e)
 
-  acts : (s : State) → state_at states q ≡ s → Acts states (automaton states text end) end q i (act_of s (byte_at text end i))
+  acts : (s : State) → state_at states q ≡ s → Acts states (automaton terminator states text end) end q i (act_of s (byte_at text end i))
   acts (ByteRange low high next) is =
       acts-read (ByteRange low high next) (record { start = low; end = high; next = next } ∷ []) is refl refl refl refl (only (names-known states q (ByteRange low high next) names state is))
     where
       only : next < length states → All (λ (t : Transition). t.next < length states) (record { start = low; end = high; next = next } ∷ [])
       only lt = All-cons (λ (t : Transition). t.next < length states) (record { start = low; end = high; next = next }) [] lt (All-nil (λ (t : Transition). t.next < length states))
   acts (Sparse transitions) is = acts-read (Sparse transitions) transitions is refl refl refl refl (names-known states q (Sparse transitions) names state is)
+  acts (Look look next) is = inl (ap is_resting is)
   acts (Union alternates) is = inl (ap is_resting is)
   acts (Capture next pattern slot) is = inl (ap is_resting is)
   acts Fail is = inl (ap is_resting is)
-  acts (Accepts pattern) is = (ap is_resting is, accepted-is states text end q i state place (Accepts pattern) is)
+  acts (Accepts pattern) is = (ap is_resting is, accepted-is terminator states text end q i state place (Accepts pattern) is)
 
   -- what was done with the state and the byte that were read
-  pub acts-known : (n : ℕ) (r : State) (b : Option ℕ) (a : Action) → n ≡ q → r ≡ get_or states n r → b ≡ byte_at text end i → a ≡ act_of r b → Acts states (automaton states text end) end q i a
+  pub acts-known : (n : ℕ) (r : State) (b : Option ℕ) (a : Action) → n ≡ q → r ≡ get_or states n r → b ≡ byte_at text end i → a ≡ act_of r b → Acts states (automaton terminator states text end) end q i a
   acts-known n r b a same read byte is =
-      subst (Acts states (automaton states text end) end q i) (sym (is ∙ ap (act_of r) byte)) (acts r (state-known states n q r r same state read refl))
+      subst (Acts states (automaton terminator states text end) end q i) (sym (is ∙ ap (act_of r) byte)) (acts r (state-known states n q r r same state read refl))
 
 -- What a state does where no byte may be read.
 
@@ -192,29 +193,30 @@ idle-read ts (Some byte) = each (route ts byte)
 act-idle : (s : State) (b : Option ℕ) → act_of s None ≡ idle (act_of s b)
 act-idle (ByteRange low high next) b = idle-read (record { start = low; end = high; next = next } ∷ []) b
 act-idle (Sparse transitions) b = idle-read transitions b
+act-idle (Look look next) b = refl
 act-idle (Union alternates) b = refl
 act-idle (Capture next pattern slot) b = refl
 act-idle Fail b = refl
 act-idle (Accepts pattern) b = refl
 
-module _ (states : List State) (text : List ℕ) (q i : ℕ) (names : All (NamesBelow (length states)) states) (state : q < length states) (rows : List Row) where
+module _ (terminator : ℕ) (states : List State) (text : List ℕ) (q i : ℕ) (names : All (NamesBelow (length states)) states) (state : q < length states) (rows : List Row) where
   abbrev here : PriorityGraph
-  here = automaton states text i
+  here = automaton terminator states text i
 
   -- what was done with the state and some byte, in the graph that ends at this place
   pub idle-known : (n : ℕ) (r : State) (b : Option ℕ) (a : Action) → n ≡ q → r ≡ get_or states n r → a ≡ act_of r b → Acts states here i q i (idle a)
   idle-known n r b a same read is =
       let no_byte : byte_at text i i ≡ None = let e : nat_lt i i ≡ false = grind (arith, nat_tests) in rw e refl in
-      acts-known states text i q i names state (omega arith) n r None (idle a) same read (sym no_byte) (ap idle is ∙ sym (act-idle r b))
+      acts-known terminator states text i q i names state (omega arith) n r None (idle a) same read (sym no_byte) (ap idle is ∙ sym (act-idle r b))
 
   pub idle-ends : (qs : List ℕ) (k : ℕ) (a : Action) → k < length qs → q ≡ get_or qs k 0 → Nothing ≡ idle a → Acts states here i q i (idle a)
       → among states here nowhere i rows (drop k qs) ≡ among states here nowhere i rows (drop (k + 1) qs)
   idle-ends qs k a lt is ends acts =
       among-left states here nowhere i rows qs k q lt is
-      ∙ ap (λ o. option_or o (among states here nowhere i rows (drop (k + 1) qs))) (thread-ends states here i rows q (automaton-bounded states text i) nowhere refl (subst (Acts states here i q i) (sym ends) acts))
+      ∙ ap (λ o. option_or o (among states here nowhere i rows (drop (k + 1) qs))) (thread-ends states here i rows q (automaton-bounded terminator states text i) nowhere refl (subst (Acts states here i q i) (sym ends) acts))
 
   pub idle-accepts : (qs : List ℕ) (k pattern : ℕ) → k < length qs → q ≡ get_or qs k 0 → Acts states here i q i (Accept pattern)
       → among states here nowhere i rows (drop k qs) ≡ Some ((row_at rows q).0, record { pattern = pattern; end = i; slots = (row_at rows q).1 })
   idle-accepts qs k pattern lt is acts =
       among-left states here nowhere i rows qs k q lt is
-      ∙ ap (λ o. option_or o (among states here nowhere i rows (drop (k + 1) qs))) (thread-accepts states here i rows q (automaton-bounded states text i) nowhere refl pattern acts.0 acts.1)
+      ∙ ap (λ o. option_or o (among states here nowhere i rows (drop (k + 1) qs))) (thread-accepts states here i rows q (automaton-bounded terminator states text i) nowhere refl pattern acts.0 acts.1)

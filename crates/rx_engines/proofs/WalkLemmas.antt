@@ -39,18 +39,18 @@ pending-alike f h each [] slots = refl
 pending-alike f h each (Explore q i ∷ rest) slots = rw (each (record { state = q; place = i }), pending-alike f h each rest slots) refl
 pending-alike f h each (Restore slot old ∷ rest) slots = pending-alike f h each rest (set slots slot old)
 
-module _ (states : List State) (text : List ℕ) (end q i : ℕ) (state : q < length states) (place : i ≤ end) where
+module _ (terminator : ℕ) (states : List State) (text : List ℕ) (end q i : ℕ) (state : q < length states) (place : i ≤ end) where
   pub Expands-unwritten : (s : State) → state_at states q ≡ s → state_accepts s ≡ None → state_writes s ≡ None → (frames frames' : List Frame) (slots : Slots)
-      → frames' ≡ explore_all (state_step text end s i) ++ frames → Expands (automaton states text end) (at q i) frames frames' slots slots
+      → frames' ≡ explore_all (state_step terminator text end s i) ++ frames → Expands (automaton terminator states text end) (at q i) frames frames' slots slots
   Expands-unwritten s e none unwritten frames frames' slots is = record {
-    accepts = accepted-is states text end q i state place s e ∙ none;
-    goes_on = inl (written-is states text end q i state place s e ∙ unwritten, is ∙ ap (λ ds. explore_all ds ++ frames) (sym (successors-is states text end q i state place s e)), refl);
+    accepts = accepted-is terminator states text end q i state place s e ∙ none;
+    goes_on = inl (written-is terminator states text end q i state place s e ∙ unwritten, is ∙ ap (λ ds. explore_all ds ++ frames) (sym (successors-is terminator states text end q i state place s e)), refl);
   }
 
   pub Expands-written : (s : State) (k : ℕ) → state_at states q ≡ s → state_accepts s ≡ None → state_writes s ≡ Some k → (frames frames' : List Frame) (slots slots' : Slots)
-      → frames' ≡ explore_all (state_step text end s i) ++ (Restore k (get_or slots k None) ∷ frames) → slots' ≡ set slots k (Some i)
-      → Expands (automaton states text end) (at q i) frames frames' slots slots'
+      → frames' ≡ explore_all (state_step terminator text end s i) ++ (Restore k (get_or slots k None) ∷ frames) → slots' ≡ set slots k (Some i)
+      → Expands (automaton terminator states text end) (at q i) frames frames' slots slots'
   Expands-written s k e none written frames frames' slots slots' is wrote = record {
-    accepts = accepted-is states text end q i state place s e ∙ none;
-    goes_on = inr (k, written-is states text end q i state place s e ∙ written, is ∙ ap (λ ds. explore_all ds ++ (Restore k (get_or slots k None) ∷ frames)) (sym (successors-is states text end q i state place s e)), wrote);
+    accepts = accepted-is terminator states text end q i state place s e ∙ none;
+    goes_on = inr (k, written-is terminator states text end q i state place s e ∙ written, is ∙ ap (λ ds. explore_all ds ++ (Restore k (get_or slots k None) ∷ frames)) (sym (successors-is terminator states text end q i state place s e)), wrote);
   }

@@ -2,7 +2,7 @@
 use Rattle.std.proofs.Common.{◌≡◌, ℕ, ◌+◌, ◌<◌, ◌≤◌, List, [], ◌∷◌, ◌++◌, refl, sym, ◌∙◌, ap, inl, inr, arith, get_or, length}
 use Rattle.std.proofs.lemmas.Bool.Decides.{nat_tests}
 use Rattle.std.proofs.lemmas.List.Elements.{All-head, All-tail}
-use Rattle.std.specs.Prelude.{Option, Some, None, All, map, nat_lt, nat_le, ◌&&◌, slice_index}
+use Rattle.std.specs.Prelude.{Bool, true, false, if◌then◌else◌, Option, Some, None, All, map, nat_lt, nat_le, ◌&&◌, slice_index}
 use Rattle.rx_model.specs.Runs.{PriorityGraph, Configuration}
 use Rattle.rx_model.proofs.RunLemmas.{by_test}
 use Rattle.rx_model.proofs.FirstLemmas.{none-is-some, some-is}
@@ -28,34 +28,39 @@ reads-onto text end ts i rest =
     goes None = refl
     goes (Some q) = refl
 
+-- where a look-around leads to
+pub looks-onto : (b : Bool) (next i : ℕ) (rest : List Frame) → frames_of (onto (if b then Some next else None) i) rest ≡ explore_all (if b then at next i ∷ [] else []) ++ rest
+looks-onto true next i rest = refl
+looks-onto false next i rest = refl
+
 -- on to a state, or back
 pub Stepped-onto : (g : PriorityGraph) (c : Configuration) (o : Option ℕ) (i : ℕ) (frames frames' : List Frame) (slots slots' : Slots)
     → Yields g c frames (frames_of (onto o i) frames') slots slots' → Stepped g c (onto o i) frames frames' slots slots'
 Stepped-onto g c None i frames frames' slots slots' y = y
 Stepped-onto g c (Some q) i frames frames' slots slots' y = y
 
-module _ (states : List State) (text : List ℕ) (end q i : ℕ) (state : q < length states) (place : i ≤ end) where
+module _ (terminator : ℕ) (states : List State) (text : List ℕ) (end q i : ℕ) (state : q < length states) (place : i ≤ end) where
   -- the state writes nothing
   pub Yields-unwritten : (s : State) → state_at states q ≡ s → state_accepts s ≡ None → state_writes s ≡ None → (frames frames' : List Frame) (slots : Slots)
-      → frames' ≡ explore_all (state_step text end s i) ++ frames → Yields (automaton states text end) (at q i) frames frames' slots slots
+      → frames' ≡ explore_all (state_step terminator text end s i) ++ frames → Yields (automaton terminator states text end) (at q i) frames frames' slots slots
   Yields-unwritten s e none unwritten frames frames' slots is = record {
-    accepts = accepted-is states text end q i state place s e ∙ none;
+    accepts = accepted-is terminator states text end q i state place s e ∙ none;
     goes_on = inl (
-      λ k writes. none-is-some (sym (written-is states text end q i state place s e ∙ unwritten) ∙ writes),
-      is ∙ ap (λ ds. explore_all ds ++ frames) (sym (successors-is states text end q i state place s e)),
+      λ k writes. none-is-some (sym (written-is terminator states text end q i state place s e ∙ unwritten) ∙ writes),
+      is ∙ ap (λ ds. explore_all ds ++ frames) (sym (successors-is terminator states text end q i state place s e)),
       refl,
     );
   }
 
   -- the state writes a slot, if it is there
-  pub Yields-saved : (s : State) (slot next : ℕ) → state_at states q ≡ s → state_accepts s ≡ None → state_writes s ≡ Some slot → state_step text end s i ≡ at next i ∷ []
+  pub Yields-saved : (s : State) (slot next : ℕ) → state_at states q ≡ s → state_accepts s ≡ None → state_writes s ≡ Some slot → state_step terminator text end s i ≡ at next i ∷ []
       → (frames frames' : List Frame) (slots slots' : Slots) → Saves slot i frames frames' slots slots'
-      → Yields (automaton states text end) (at q i) frames (Explore next i ∷ frames') slots slots'
+      → Yields (automaton terminator states text end) (at q i) frames (Explore next i ∷ frames') slots slots'
   Yields-saved s slot next e none writes goes frames frames' slots slots' saved =
-      let successors : (automaton states text end).successors (at q i) ≡ at next i ∷ [] = successors-is states text end q i state place s e ∙ goes in
-      let written : (automaton states text end).written (at q i) ≡ Some slot = written-is states text end q i state place s e ∙ writes in
+      let successors : (automaton terminator states text end).successors (at q i) ≡ at next i ∷ [] = successors-is terminator states text end q i state place s e ∙ goes in
+      let written : (automaton terminator states text end).written (at q i) ≡ Some slot = written-is terminator states text end q i state place s e ∙ writes in
       record {
-        accepts = accepted-is states text end q i state place s e ∙ none;
+        accepts = accepted-is terminator states text end q i state place s e ∙ none;
         goes_on = elim saved [
           | inl h ↦ inl (
             λ k other. (let same : slot ≡ k = some-is (sym written ∙ other) in let past = h.0 in omega arith),
@@ -101,6 +106,11 @@ AllWithin-read n first end text ts i rest le all inside = at_target (target_of t
     at_target (Some next) e =
         let lt = target-within text end ts i next e in
         (target-names n ts (byte_at text end i) next all e, omega arith, omega arith, inside)
+
+pub AllWithin-looked : (n first end : ℕ) (b : Bool) (next i : ℕ) (rest : List Frame) → next < n → first ≤ i → i ≤ end → AllWithin n first end rest
+    → AllWithin n first end (frames_of (onto (if b then Some next else None) i) rest)
+AllWithin-looked n first end true next i rest lt ge le inside = (lt, ge, le, inside)
+AllWithin-looked n first end false next i rest lt ge le inside = inside
 
 pub AllWithin-union : (n first end i : ℕ) (qs : List ℕ) (frames : List Frame) → first ≤ i → i ≤ end → All (λ q. q < n) qs → AllWithin n first end frames → AllWithin n first end (explore_all (map (λ q. at q i) qs) ++ frames)
 AllWithin-union n first end i [] frames ge le all inside = inside

@@ -1,12 +1,14 @@
 -- A depth-first search that tries each state at each place of a span once.
-use Rattle.std.specs.Prelude.{◌≡◌, ◌⊎◌, ℕ, ◌+◌, ◌-◌, ◌*◌, ◌/◌, ◌%◌, ◌<◌, ◌≤◌, Bool, ◌&&◌, ◌==◌, List, [], ◌∷◌, ◌++◌, length, All, Option, Some, None, nat_lt, nat_le, slice_index, slice_index_or, slice_set, ◌^◌}
+use Rattle.std.specs.Prelude.{◌≡◌, ◌⊎◌, ℕ, zero, suc, ◌+◌, ◌-◌, ◌*◌, ◌/◌, ◌%◌, ◌<◌, ◌≤◌, Bool, ◌&&◌, ◌==◌, List, [], ◌∷◌, ◌++◌, length, All, Option, Some, None, nat_lt, nat_le, slice_index, slice_index_or, slice_set, ◌^◌, if◌then◌else◌}
 use Rattle.std.specs.Int.{bit_at}
 use Rattle.rx_model.specs.Runs.{Configuration, PriorityGraph, Passed, found, first_trace}
 use Rattle.rx_model.specs.Search.{Match, is_permitted, first_start}
 use Rattle.rx_model.specs.Machine.{grid}
 use Rattle.rx_model.proofs.RunLemmas.{weight}
-use Rattle.rx_thompson.specs.Automaton.{at, automaton, route, NamesBelow}
+use Rattle.rx_thompson.specs.Automaton.{at, automaton, state_at, route, NamesBelow}
+use Rattle.rx_thompson.specs.declared.state.State.{State}
 use Rattle.rx_thompson.specs.declared.state.Transition.{Transition}
+use Rattle.rx_engines.specs.Simulation.{cost, cost_below}
 use Rattle.rx_engines.specs.Walk.{Slots, Answer, pending, explore_all}
 use Rattle.rx_engines.specs.declared.frame.Frame.{Frame}
 use Rattle.rx_engines.specs.declared.frame.Frame.TheVariants.{Explore, Restore}
@@ -31,9 +33,13 @@ pub record IsInside (s : Search) : Type 0 where
   pub end : s.end ≤ length s.text.now
   pub small : extent s < 2 ^ 63
 
+-- how many frames these leave
+abbrev pub frames_of_span : Search → ℕ
+frames_of_span s = (s.end + 1 - s.first) * cost_below s.states.now (length s.states.now)
+
 -- the graph whose runs are searched
 abbrev pub graph_for : Search → PriorityGraph
-graph_for s = automaton s.states.now s.text.now s.end
+graph_for s = automaton s.matcher s.states.now s.text.now s.end
 
 -- the next match in the span
 abbrev pub next_of : Search → Option Match
@@ -51,6 +57,16 @@ passed_by s words = passed_in (length s.states.now) s.first s.end words
 -- What is left to do: for each configuration that was not passed, more than the frames that it leaves.
 unfoldable pub work : Search → List ℕ → ℕ
 work s words = weight (λ c. length ((graph_for s).successors c) + 2) (grid (length s.states.now) (s.end + 1)) (passed_by s words)
+
+-- The frames that may still come, in a span of which the first n numbers are looked at: of each number whose bit is not
+-- set those that its state leaves. The numbers of a place are those of its states in order.
+unfoldable pub frames_below : List State → List ℕ → (n : ℕ) → ℕ
+frames_below states words zero = 0
+frames_below states words (suc n) = (if is_set words n then 0 else cost (state_at states (n % length states))) + frames_below states words n
+
+-- the same of the whole span
+abbrev pub frames_left : Search → List ℕ → ℕ
+frames_left s words = frames_below s.states.now words (extent s)
 
 -- what was passed leads to nothing
 abbrev pub IsDead : PriorityGraph → Passed → Type 0

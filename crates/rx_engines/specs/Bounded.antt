@@ -7,6 +7,7 @@ use Rattle.rx_search.specs.declared.match_error.MatchError.{MatchError}
 use Rattle.rx_search.specs.declared.match_error.MatchError.TheVariants.{Quit, GaveUp, HaystackTooLong, UnsupportedAnchored, Memory}
 use Rattle.rx_thompson.specs.Nfa.{Nfa, HasFirstRuns}
 use Rattle.rx_thompson.specs.NextMatch.{next_match_of}
+use Rattle.rx_engines.specs.Simulation.{cost_below}
 
 -- the next match of the NFA in the input's span
 abbrev pub next_match_within : Nfa → InputValue → Option Match
@@ -29,24 +30,28 @@ span_len v = v.end - v.start
 -- The room that a cache has.
 pub record Room : Type 0 where
   pub bits : ℕ
+  -- how many frames there may be
+  pub stack : ℕ
   pub slots : ℕ
   -- what is accounted for it
   pub memory : ℕ
 
 abbrev pub room_code : Coded Room
 room_code =
-    code_by (ℕ × (ℕ × ℕ)) (coded× coded_ℕ (coded× coded_ℕ coded_ℕ)) (λ r. (r.bits, (r.slots, r.memory)))
-    (λ p. record { bits = p.0; slots = p.1.0; memory = p.1.1 }) (λ _. refl)
+    code_by (ℕ × (ℕ × (ℕ × ℕ))) (coded× coded_ℕ (coded× coded_ℕ (coded× coded_ℕ coded_ℕ)))
+    (λ r. (r.bits, (r.stack, (r.slots, r.memory))))
+    (λ p. record { bits = p.0; stack = p.1.0; slots = p.1.1.0; memory = p.1.1.1 }) (λ _. refl)
 
 -- a cache with this room serves the engine
 pub record Fits (nfa : Nfa) (room : Room) : Type 0 where
   pub bits : (max_len nfa + 1) * length nfa.states ≤ room.bits
+  pub stack : (max_len nfa + 1) * cost_below nfa.states (length nfa.states) ≤ room.stack
   pub slots : room.slots ≡ nfa.slots
 
--- Why a search has no answer: the span is too long; or it isn't, and there was no memory.
+-- Why a search has no answer: the span is too long.
 abbrev pub IsRefusal : Nfa → InputValue → MatchError → Type 0
 IsRefusal nfa v (Quit byte offset) = ⊥
 IsRefusal nfa v (GaveUp offset) = ⊥
 IsRefusal nfa v (HaystackTooLong len) = (len ≡ span_len v) × (max_len nfa < len)
 IsRefusal nfa v (UnsupportedAnchored mode) = ⊥
-IsRefusal nfa v Memory = span_len v ≤ max_len nfa
+IsRefusal nfa v Memory = ⊥

@@ -1,5 +1,5 @@
 -- What an engine is to a contract, and what its searches answer.
-use Rattle.std.specs.Prelude.{◌≡◌, ℕ, ◌-◌, ◌*◌, ◌^◌, ◌<◌, min, List, length, Option, None, is_some, slice_index_or, if◌then◌else◌}
+use Rattle.std.specs.Prelude.{◌≡◌, ℕ, ◌-◌, ◌*◌, ◌^◌, ◌<◌, ◌≤◌, min, List, length, Option, Some, None, is_some, slice_index_or, if◌then◌else◌}
 use Rattle.rx_model.specs.Search.{Patterns, Match, told_of, is_anchored, next_match, slot_value}
 use Rattle.rx_model.specs.Matches.{IsMatch}
 use Rattle.rx_search.specs.Input.{InputValue, IsSpanned}
@@ -50,6 +50,10 @@ next_match_for r v = next_match r v.haystack v.anchor v.end v.start
 abbrev pub HasSlots : List (Option ℕ) → Match → Type 0
 HasSlots slots m = (k : ℕ) → k < length slots → slice_index_or slots k None ≡ slot_value m k
 
+-- each place that a slot holds lies in the input's span
+abbrev pub AreWithin : InputValue → List (Option ℕ) → Type 0
+AreWithin v slots = (k place : ℕ) → slice_index_or slots k None ≡ Some place → (v.start ≤ place) × (place ≤ v.end)
+
 -- Where something is found it is a match of the patterns in the input's span, and this holds of what is told of it.
 abbrev pub IsMatchWith : Patterns → InputValue → (Match → Type 0) → Type 0
 IsMatchWith r v Holds = (m : Match) × IsMatch r v.haystack v.anchor v.end v.start m × Holds (told_of r.which_captures m)
@@ -59,6 +63,7 @@ pub record IsSearchOf (vm : PikeVMValue) (v : InputValue) (qs : List ℕ) (s : S
   pub states : s.states.now ≡ vm.nfa.states
   pub starts : s.starts.now ≡ qs
   pub text : s.text.now ≡ v.haystack
+  pub matcher : s.matcher ≡ vm.nfa.terminator
   pub utf8 : s.utf8_empty ≡ vm.nfa.utf8
   pub last : s.last ≡ last_start v
   pub end : s.end ≡ v.end

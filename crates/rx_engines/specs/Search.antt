@@ -16,7 +16,7 @@ pub record IsInside (s : Search) : Type 0 where
 -- the next match that starts at `from` or after it and ends by `end`
 abbrev pub next_until : Search → (from end : ℕ) → Option Match
 next_until s from end =
-    first_start (is_permitted s.utf8_empty s.text.now) (first_of (first_trace (automaton s.states.now s.text.now end)) s.starts.now) (s.last + 1 - from) from
+    first_start (is_permitted s.utf8_empty s.text.now) (first_of (first_trace (automaton s.matcher s.states.now s.text.now end)) s.starts.now) (s.last + 1 - from) from
 
 -- the same in all that is searched
 abbrev pub next_of : Search → (from : ℕ) → Option Match

@@ -7,7 +7,7 @@ use Rattle.rx_thompson.specs.Automaton.{at, automaton, state_at, route}
 use Rattle.rx_thompson.specs.declared.state.Transition.{Transition}
 use Rattle.rx_engines.specs.Walk.{Slots, Answer, answer, pending, write_all, Expands}
 use Rattle.rx_thompson.specs.declared.state.State.{State}
-use Rattle.rx_thompson.specs.declared.state.State.TheVariants.{ByteRange, Sparse, Union, Capture, Fail, Match as Accepts}
+use Rattle.rx_thompson.specs.declared.state.State.TheVariants.{ByteRange, Sparse, Look, Union, Capture, Fail, Match as Accepts}
 use Rattle.rx_engines.specs.declared.frame.Frame.{Frame}
 use Rattle.rx_engines.specs.declared.frame.Frame.TheVariants.{Explore, Restore}
 use Rattle.rx_engines.specs.Threads.{Row, row_at}
@@ -18,6 +18,7 @@ use Rattle.rx_engines.specs.declared.pikevm.step.Action.TheVariants.{Accept, Rea
 abbrev pub cost : State → ℕ
 cost (ByteRange low high next) = 0
 cost (Sparse transitions) = 0
+cost (Look look next) = 1
 cost (Union alternates) = length alternates
 cost (Capture next pattern slot) = 2
 cost Fail = 0
@@ -32,6 +33,7 @@ cost_below states (suc n) = cost (state_at states n) + cost_below states n
 abbrev pub is_resting : State → Bool
 is_resting (ByteRange low high next) = true
 is_resting (Sparse transitions) = true
+is_resting (Look look next) = false
 is_resting (Union alternates) = false
 is_resting (Capture next pattern slot) = false
 is_resting Fail = false
@@ -77,10 +79,10 @@ AllHere n i (Explore q j ∷ rest) = (q < n) × (j ≡ i) × AllHere n i rest
 AllHere n i (Restore slot old ∷ rest) = AllHere n i rest
 
 -- the state rests, or gives way to others
-abbrev pub Visited : List State → ℕ → ℕ → Bool → List Frame → List Frame → Slots → Slots → Type 0
-Visited states q i true frames frames' slots slots' = (is_resting (state_at states q) ≡ true) × (frames' ≡ frames) × (slots' ≡ slots)
-Visited states q i false frames frames' slots slots' =
-    (is_resting (state_at states q) ≡ false) × ((text : List ℕ) (end : ℕ) → i ≤ end → Expands (automaton states text end) (at q i) frames frames' slots slots')
+abbrev pub Visited : (terminator : ℕ) → List State → List ℕ → ℕ → ℕ → Bool → List Frame → List Frame → Slots → Slots → Type 0
+Visited terminator states text q i true frames frames' slots slots' = (is_resting (state_at states q) ≡ true) × (frames' ≡ frames) × (slots' ≡ slots)
+Visited terminator states text q i false frames frames' slots slots' =
+    (is_resting (state_at states q) ≡ false) × ((end : ℕ) → i ≤ end → Expands (automaton terminator states text end) (at q i) frames frames' slots slots')
 
 -- the byte at the place, if it lies before the end
 abbrev pub byte_at : List ℕ → (end place : ℕ) → Option ℕ
@@ -98,6 +100,7 @@ read_of transitions (Some byte) = onto (route transitions byte)
 abbrev pub act_of : State → Option ℕ → Action
 act_of (ByteRange low high next) byte = read_of (record { start = low; end = high; next = next } ∷ []) byte
 act_of (Sparse transitions) byte = read_of transitions byte
+act_of (Look look next) byte = Nothing
 act_of (Union alternates) byte = Nothing
 act_of (Capture next pattern slot) byte = Nothing
 act_of Fail byte = Nothing
@@ -136,10 +139,10 @@ abbrev pub first_of : (Configuration → Option Trace) → List ℕ → ℕ → 
 first_of go [] i = None
 first_of go (q ∷ qs) i = option_or (go (at q i)) (first_of go qs i)
 
-module _ (states : List State) (text : List ℕ) (starts : List ℕ) (utf8_empty : Bool) (end : ℕ) where
+module _ (terminator : ℕ) (states : List State) (text : List ℕ) (starts : List ℕ) (utf8_empty : Bool) (end : ℕ) where
   -- the first match that starts in i..=last, past what was passed
   abbrev pub from_starts : Passed → (last i : ℕ) → Option Match
-  from_starts p last i = first_start (is_permitted utf8_empty text) (first_of (found (automaton states text end) p) starts) (last + 1 - i) i
+  from_starts p last i = first_start (is_permitted utf8_empty text) (first_of (found (automaton terminator states text end) p) starts) (last + 1 - i) i
 
   -- the best match so far, and else the starts to come
   abbrev pub later_starts : (width : ℕ) → Option Hit → (last i : ℕ) → Passed → Option Hit

@@ -1,7 +1,11 @@
 -- A walk over the states, depth first: what its frames lead to.
-use Rattle.std.specs.Prelude.{◌≡◌, ℕ, ◌⊎◌, List, [], ◌∷◌, ◌++◌, Option, Some, None, slice_set, slice_index_or}
+use Rattle.std.specs.Prelude.{◌≡◌, ℕ, ◌⊎◌, List, [], ◌∷◌, ◌++◌, Option, Some, None, slice_set, slice_index_or, if◌then◌else◌}
 use Rattle.std.specs.Option.{option_or}
+use Rattle.rx_model.specs.Look.{holds}
 use Rattle.rx_model.specs.Runs.{Configuration, PriorityGraph, Trace}
+use Rattle.rx_search.specs.Look.{kind_of}
+use Rattle.rx_search.specs.declared.look.Look.{Look}
+use Rattle.rx_thompson.specs.Automaton.{at}
 use Rattle.rx_engines.specs.declared.frame.Frame.{Frame}
 use Rattle.rx_engines.specs.declared.frame.Frame.TheVariants.{Explore, Restore}
 
@@ -34,6 +38,10 @@ pending go (Restore slot old ∷ rest) slots = pending go rest (slice_set slots 
 abbrev pub explore_all : List Configuration → List Frame
 explore_all [] = []
 explore_all (d ∷ ds) = Explore d.state d.place ∷ explore_all ds
+
+-- on to the state where the look-around holds at the place of the text
+abbrev pub looked : (terminator : ℕ) → List ℕ → Look → (next place : ℕ) → List Configuration
+looked terminator text look next place = if holds terminator text (kind_of look) place then at next place ∷ [] else []
 
 -- c, which doesn't accept, gives way to its successors: the frames and the slots before and after
 pub record Expands (g : PriorityGraph) (c : Configuration) (frames frames' : List Frame) (slots slots' : Slots) : Type 0 where

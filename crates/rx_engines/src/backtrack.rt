@@ -7,9 +7,11 @@ mod backtracker;
 mod cache;
 mod find;
 mod search;
-mod stack;
 mod step;
 mod visited;
 
 pub use backtracker::BoundedBacktracker;
 pub use cache::Cache;
+
+#[cfg(test)]
+mod tests;

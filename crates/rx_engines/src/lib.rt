@@ -6,10 +6,14 @@
 
 mod accounting;
 pub mod backtrack;
+#[cfg(test)]
+mod expressions;
 mod frame;
 pub mod pikevm;
 mod report;
+mod room;
 mod slots;
+mod stack;
 mod starts;
 
 pub use slots::empty;

@@ -7,7 +7,6 @@ mod search;
 mod seed;
 mod set;
 mod simulate;
-mod stack;
 mod step;
 mod table;
 mod threads;

@@ -22,8 +22,8 @@ mod set;
 pub use emptiness::{can_be_empty, one_can_be_empty};
 pub use groups::greatest_group;
 pub use laws::{
-    fewest_ranges_hold_the_members, lengths_bound_the_meaning, look_sets_hold_at_the_ends,
-    sound_expressions_are_ordered, told_names_stand, utf8_expressions_mean_utf8,
+    lengths_bound_the_meaning, look_sets_hold_at_the_ends, sound_expressions_are_ordered,
+    told_names_stand, utf8_expressions_mean_utf8,
 };
 pub use names::group_names;
 pub use properties::Properties;

@@ -3,7 +3,8 @@ ghost use Rattle.std.specs.Prelude.{◌≡◌, ◌≤◌, ◌∷◌, [], false, 
 ghost use Rattle.rx_model.specs.Search.{Patterns};
 ghost use Rattle.rx_search.specs.Input.{next_in};
 ghost use Rattle.rx_search.specs.Matches.{match_value, half_match_value};
-ghost use Rattle.rx_engines.specs.Engine.{HasSlots};
+ghost use Rattle.rx_engines.specs.Engine.{HasSlots, AreWithin};
+ghost use Rattle.rx_reader.specs.Config.{default};
 ghost use Rattle.rx_strategy.specs.Config.{nothing_set};
 ghost use Rattle.rx_strategy.specs.Cache.{Fits, memory_of, accounted_for};
 ghost use Rattle.rx_strategy.specs.Strategy.{told_in, told_for, next_match_in, IsMatchWith};
@@ -46,8 +47,8 @@ impl Model for Regex {
 impl Regex {
     /// The regex of one pattern, under the default configuration. It is refused as by `new_many`.
     pub fn new(alloc: Global, pattern: &str) -> Result<Regex, BuildError>
-        ensures built { IfOk result (IsBuiltOf nothing_set (pattern.now ∷ [])) }
-        ensures refused { IfErr result (IsRefusedFor nothing_set (pattern.now ∷ [])) }
+        ensures built { IfOk result (IsBuiltOf default nothing_set (pattern.now ∷ [])) }
+        ensures refused { IfErr result (IsRefusedFor default nothing_set (pattern.now ∷ [])) }
     {
         Regex::builder().build(alloc, pattern)
     }
@@ -55,8 +56,8 @@ impl Regex {
     /// The regex of these patterns, numbered from 0 on, under the default configuration. It is refused as by
     /// `Builder::build_many`.
     pub fn new_many(alloc: Global, patterns: &[&str]) -> Result<Regex, BuildError>
-        ensures built { IfOk result (IsBuiltOf nothing_set (map (λ p. p.now) patterns.now)) }
-        ensures refused { IfErr result (IsRefusedFor nothing_set (map (λ p. p.now) patterns.now)) }
+        ensures built { IfOk result (IsBuiltOf default nothing_set (map (λ p. p.now) patterns.now)) }
+        ensures refused { IfErr result (IsRefusedFor default nothing_set (map (λ p. p.now) patterns.now)) }
     {
         Regex::builder().build_many(alloc, patterns)
     }
@@ -70,7 +71,8 @@ impl Regex {
 
     /// A builder with the default configuration.
     pub fn builder() -> Builder
-        ensures { result.config ≡ nothing_set }
+        ensures config { result.config ≡ nothing_set }
+        ensures syntax { result.syntax ≡ default }
     {
         Builder::new()
     }
@@ -183,6 +185,7 @@ impl Regex {
             → IfOk result (λ o. IfSome o (λ found. IsMatchWith r input.now (λ m. (found ≡ m.trace.pattern) × HasSlots slots.new m))) }
         ensures slots { input.now.earliest ≡ false → IfOk result (λ _. IfSome (told_in self.now.strategy input.now) (HasSlots slots.new)) }
         ensures none { IfOk result (λ o. IfNone o (slots.new ≡ replicate (length slots.old) None)) }
+        ensures slots_within { AreWithin input.now slots.new }
         ensures err { OnErr result (slots.new ≡ replicate (length slots.old) None) }
     {
         let Ok(mut cache) = self.cache_for(alloc, input) else {
@@ -248,6 +251,7 @@ impl Regex {
             → IfOk result (λ o. IfSome o (λ found. IsMatchWith r input.now (λ m. (found ≡ m.trace.pattern) × HasSlots slots.new m))) }
         ensures slots { input.now.earliest ≡ false → IfOk result (λ _. IfSome (told_in self.now.strategy input.now) (HasSlots slots.new)) }
         ensures none { IfOk result (λ o. IfNone o (slots.new ≡ replicate (length slots.old) None)) }
+        ensures slots_within { AreWithin input.now slots.new }
         ensures cache { cache.new ≡ cache.old }
         ensures sure { IsOk result }
     {
@@ -273,6 +277,7 @@ impl Regex {
         ensures within { IfOk result (λ o. IfSome o (λ m. (input.now.start ≤ m.start) × (m.end ≤ input.now.end))) }
         ensures slots { input.now.earliest ≡ false → IfOk result (λ _. IfSome (told_in self.now.strategy input.now) (HasSlots slots.new)) }
         ensures none { IfOk result (λ o. IfNone o (slots.new ≡ replicate (length slots.old) None)) }
+        ensures slots_within { AreWithin input.now slots.new }
         ensures cache { cache.new ≡ cache.old }
         ensures sure { IsOk result }
     {

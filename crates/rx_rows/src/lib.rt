@@ -1,4 +1,4 @@
-//! Whole runs as tables: words and input in, status and text out.
+//! Whole runs as tables, words and input in, status and text out; and searches of both engines.
 #![tactic(auto)]
 
 #[cfg(test)]
@@ -7,6 +7,10 @@ mod ends;
 mod limits;
 #[cfg(test)]
 mod rows;
+#[cfg(test)]
+mod scans;
+#[cfg(test)]
+mod slots;
 #[cfg(test)]
 mod standard;
 #[cfg(test)]

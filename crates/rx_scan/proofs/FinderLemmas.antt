@@ -20,7 +20,7 @@ use Rattle.rx_thompson.proofs.NextMatchLemmas.{next_match_of-patterns}
 use Rattle.rx_engines.specs.Engine.{HasSlots}
 use Rattle.rx_strategy.specs.Strategy.{StrategyValue, IsOf, tells, told_in, told_for}
 use Rattle.rx_strategy.proofs.StrategyLemmas.{told-agrees}
-use Rattle.rx_strategy.specs.Config.{utf8_of, captures_of}
+use Rattle.rx_strategy.specs.Config.{utf8_of, terminator_of, captures_of}
 use Rattle.rx_strategy.specs.declared.config.Config.{Config}
 use Rattle.rx_meta.specs.Regex.{RegexValue}
 use Rattle.rx_meta.specs.Build.{IsBuilt}
@@ -225,9 +225,9 @@ moved-place found m old new v some moved place i =
     ap (λ (s : SearcherValue). from_place i s.input) moves ∙ place i
 
 -- a regex that was built is for the patterns that it was built of
-pub built-for : (config : Config) (hs : List Expression) (terminator : ℕ) (regex : RegexValue) → IsBuilt config hs regex
-    → IsFor regex (patterns_of hs (utf8_of config) terminator (captures_of config))
-built-for config hs terminator regex built = record { is_of = built.is_of terminator; groups = built.compiled.groups }
+pub built-for : (config : Config) (hs : List Expression) (regex : RegexValue) → IsBuilt config hs regex
+    → IsFor regex (patterns_of hs (utf8_of config) (terminator_of config) (captures_of config))
+built-for config hs regex built = record { is_of = built.is_of; groups = built.compiled.groups }
 
 -- one haystack more was scanned
 pub scanned-more : {V W R : Type 0} (items : V → R) (f : W → R) (vs vs' : List V) (ws : List W) (k : ℕ) (v : V) (d : W) → k < length ws

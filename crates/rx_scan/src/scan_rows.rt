@@ -4,7 +4,7 @@ ghost use Rattle.std.specs.Vec.{vec_items};
 ghost use Rattle.rx_model.specs.Expression.{Expression};
 ghost use Rattle.rx_model.specs.Search.{Patterns};
 ghost use Rattle.rx_thompson.specs.Compiled.{patterns_of};
-ghost use Rattle.rx_strategy.specs.Config.{utf8_of, captures_of};
+ghost use Rattle.rx_strategy.specs.Config.{utf8_of, terminator_of, captures_of};
 ghost use Rattle.rx_strategy.specs.declared.config.Config.{Config};
 ghost use Rattle.rx_meta.specs.Build.{IsBuilt};
 ghost use Rattle.rx_scan.specs.Finder.{IsFor};
@@ -64,9 +64,9 @@ pub fn scan<R: Threads + Wait + Sync, G: Gate + Sync>(
     gate: &G,
 ) -> Result<Vec<Vec<Row>>, ScanError>
     requires { 0 < workers }
-    ensures { (config : Config) (hs : List Expression) (terminator : ℕ) → IsBuilt config hs regex.now
+    ensures { (config : Config) (hs : List Expression) → IsBuilt config hs regex.now
         → IfOk result (λ rows. map vec_items rows.items
-        ≡ map (λ h. scan_rows (patterns_of hs (utf8_of config) terminator (captures_of config)) h.now) haystacks.now) }
+        ≡ map (λ h. scan_rows (patterns_of hs (utf8_of config) (terminator_of config) (captures_of config)) h.now) haystacks.now) }
 {
     let mut finder = RegexFinder::new(alloc, regex)?;
     let mut all = Vec::with_capacity(alloc, haystacks.len())?;

@@ -29,6 +29,10 @@ captures_of c = captures_kind (which_of c)
 abbrev pub size_limit_of : Config → Option ℕ
 size_limit_of c = unwrap_or c.nfa_size_limit (Some 10485760)
 
+-- the byte that ends lines
+abbrev pub terminator_of : Config → ℕ
+terminator_of c = unwrap_or c.line_terminator 10
+
 -- the backtracker is asked for
 abbrev pub backtrack_of : Config → Bool
 backtrack_of c = unwrap_or c.backtrack true
@@ -39,6 +43,7 @@ compiler_of c = record {
   utf8 = Some (utf8_of c);
   nfa_size_limit = Some (size_limit_of c);
   which_captures = Some (which_of c);
+  look_matcher = Some (terminator_of c);
 }
 
 abbrev pub is_leftmost : MatchKind → Bool
@@ -51,7 +56,7 @@ has_backtracker c = backtrack_of c && is_leftmost (kind_of c)
 
 -- nothing is set
 abbrev pub nothing_set : Config
-nothing_set = record { match_kind = None; utf8_empty = None; which_captures = None; nfa_size_limit = None; backtrack = None }
+nothing_set = record { match_kind = None; utf8_empty = None; which_captures = None; nfa_size_limit = None; line_terminator = None; backtrack = None }
 
 -- the new configuration, with what it leaves open as in the old one
 abbrev pub overwritten : (old new : Config) → Config
@@ -60,5 +65,6 @@ overwritten old new = record {
   utf8_empty = option_or new.utf8_empty old.utf8_empty;
   which_captures = option_or new.which_captures old.which_captures;
   nfa_size_limit = option_or new.nfa_size_limit old.nfa_size_limit;
+  line_terminator = option_or new.line_terminator old.line_terminator;
   backtrack = option_or new.backtrack old.backtrack;
 }

@@ -3,7 +3,7 @@ ghost use Rattle.std.specs.Prelude.{◌≡◌, ◌≤◌, true, false, length, N
 ghost use Rattle.rx_model.specs.Search.{Patterns, told_of};
 ghost use Rattle.rx_search.specs.Input.{next_in};
 ghost use Rattle.rx_search.specs.Matches.{match_value};
-ghost use Rattle.rx_engines.specs.Engine.{HasSlots, IsMatchWith as IsToldMatchWith};
+ghost use Rattle.rx_engines.specs.Engine.{HasSlots, AreWithin, IsMatchWith as IsToldMatchWith};
 ghost use Rattle.rx_engines.specs.Bounded.{Fits as FitsBounded, IsNfaOf, next_match_within};
 ghost use Rattle.rx_strategy.specs.Config.{kind_of, captures_of, has_backtracker};
 ghost use Rattle.rx_strategy.specs.Strategy.{IsOf, tells, told_in, told_for, next_match_in, IsMatchWith};
@@ -120,6 +120,7 @@ impl Core {
             → IfSome result (λ found. IsMatchWith r input.now (λ m. (found ≡ match_value m) × HasSlots slots.new m)) }
         ensures slots { input.now.earliest ≡ false → IfSome (told_in self.now input.now) (HasSlots slots.new) }
         ensures none { IfNone result (slots.new ≡ replicate (length slots.old) None) }
+        ensures slots_within { AreWithin input.now slots.new }
         ensures within { IfSome result (λ m. (input.now.start ≤ m.start) × (m.end ≤ input.now.end)) }
         ensures cache { cache.new ≡ cache.old }
     {
@@ -157,6 +158,7 @@ impl Core {
             → IfSome result (λ found. IsToldMatchWith r input.now (λ m. (found ≡ match_value m) × HasSlots slots.new m)) }
         ensures slots { input.now.earliest ≡ false → IfSome (next_match_in self.now input.now) (HasSlots slots.new) }
         ensures none { IfNone result (slots.new ≡ replicate (length slots.old) None) }
+        ensures slots_within { AreWithin input.now slots.new }
         ensures within { IfSome result (λ m. (input.now.start ≤ m.start) × (m.end ≤ input.now.end)) }
         ensures cache { cache.new ≡ cache.old }
     {
@@ -166,8 +168,8 @@ impl Core {
         }
     }
 
-    /// What the backtracker answers. None where it does not serve this search: there is none, the span is too long for
-    /// it, or it wants memory.
+    /// What the backtracker answers. None where it does not serve this search: there is none, or the span is too long
+    /// for it.
     fn try_backtrack(
         &self,
         cache: &mut Option<backtrack::Cache>,
@@ -180,6 +182,7 @@ impl Core {
             → next_match_in self.now input.now ≡ option_map (told_of r.which_captures) (next_in r input.now)) }
         ensures slots { IfSome result (λ _. IfSome (next_match_in self.now input.now) (HasSlots slots.new)) }
         ensures none { IfSome result (λ found. IfNone found (slots.new ≡ replicate (length slots.old) None)) }
+        ensures slots_within { IfSome result (λ _. AreWithin input.now slots.new) }
         ensures within { IfSome result (λ found. IfSome found (λ m. (input.now.start ≤ m.start) × (m.end ≤ input.now.end))) }
         ensures cache { cache.new ≡ cache.old }
     {
@@ -213,6 +216,7 @@ fn try_search(
         → next_match_within engine.now input.now ≡ option_map (told_of r.which_captures) (next_in r input.now)) }
     ensures slots { IfSome result (λ _. IfSome (next_match_within engine.now input.now) (HasSlots slots.new)) }
     ensures none { IfSome result (λ found. IfNone found (slots.new ≡ replicate (length slots.old) None)) }
+    ensures slots_within { IfSome result (λ _. AreWithin input.now slots.new) }
     ensures within { IfSome result (λ found. IfSome found (λ m. (input.now.start ≤ m.start) × (m.end ≤ input.now.end))) }
     ensures cache { cache.new ≡ cache.old }
 {

@@ -1,17 +1,17 @@
-ghost use Rattle.std.specs.Prelude.{◌≡◌, ◌+◌, ◌-◌, ◌*◌, ◌<◌, ◌≤◌, ◌∷◌, length, Option, IfOk, IfNone};
+ghost use Rattle.std.specs.Prelude.{◌≡◌, ◌+◌, ◌-◌, ◌*◌, ◌<◌, ◌≤◌, ◌∷◌, length, Option, IfNone};
 ghost use Rattle.rx_model.specs.Runs.{Passed, first_trace};
 ghost use Rattle.rx_thompson.specs.Automaton.{at};
 ghost use Rattle.rx_engines.specs.Walk.{Slots, Answer, answer};
 ghost use Rattle.rx_engines.specs.declared.frame.Frame.TheVariants.{Explore};
-ghost use Rattle.rx_engines.specs.Backtrack.{IsInside, AllInside, graph_for, extent, passed_by, work, IsDead, Searching, Followed, returned};
+ghost use Rattle.rx_engines.specs.Backtrack.{IsInside, AllInside, graph_for, extent, passed_by, work, frames_left, IsDead, Searching, Followed, returned};
 
 use crate::backtrack::search::Search;
-use crate::backtrack::stack::Stack;
 use crate::backtrack::step::{Onward, step};
 use crate::backtrack::visited::Visited;
 use crate::frame::Frame;
 use crate::slots::{Slot, write};
-use rx_search::{Memory, PatternID, StateID};
+use crate::stack::Stack;
+use rx_search::{PatternID, StateID};
 
 /// The pattern and the end of the first run that starts at the place `from`. The slots get what it wrote.
 pub fn attempt(
@@ -20,33 +20,36 @@ pub fn attempt(
     visited: &mut Visited,
     stack: &mut Stack,
     slots: &mut [Slot],
-) -> Result<Option<(PatternID, usize)>, Memory>
+) -> Option<(PatternID, usize)>
     requires search { IsInside search.now }
     requires from { (search.now.first ≤ from) × (from ≤ search.now.end) }
     requires room { extent search.now ≤ 64 * length visited.old }
+    requires frames { frames_left search.now visited.old ≤ stack.old.room }
     requires dead { IsDead (graph_for search.now) (passed_by search.now visited.old) }
-    ensures value { IfOk result (λ r. returned r slots.new
-        ≡ answer slots.old (first_trace (graph_for search.now) (at search.now.start from))) }
-    ensures undone { IfOk result (λ r. IfNone r (slots.new ≡ slots.old)) }
-    ensures dead { IfOk result (λ r. IfNone r (IsDead (graph_for search.now) (passed_by search.now visited.new))) }
+    ensures value { returned result slots.new
+        ≡ answer slots.old (first_trace (graph_for search.now) (at search.now.start from)) }
+    ensures undone { IfNone result (slots.new ≡ slots.old) }
+    ensures dead { IfNone result (IsDead (graph_for search.now) (passed_by search.now visited.new)) }
+    ensures frames { IfNone result (frames_left search.now visited.new ≤ stack.new.room) }
+    ensures stack { stack.new.room ≡ stack.old.room }
     ensures room { length visited.new ≡ length visited.old }
     ensures width { length slots.new ≡ length slots.old }
 {
     stack.clear();
-    if let Some(found) = follow(search, search.start, from, visited, stack, slots)? {
-        return Ok(Some(found));
+    if let Some(found) = follow(search, search.start, from, visited, stack, slots) {
+        return Some(found);
     }
     while let Some(frame) = stack.pop() {
         match frame {
             Frame::Restore { slot, old } => write(slots, slot, old),
             Frame::Explore { state, place } => {
-                if let Some(found) = follow(search, state, place, visited, stack, slots)? {
-                    return Ok(Some(found));
+                if let Some(found) = follow(search, state, place, visited, stack, slots) {
+                    return Some(found);
                 }
             }
         }
     }
-    Ok(None)
+    None
 }
 
 /// Follows the preferred way from the state at the place, as far as it is new: the pattern and the place, where it
@@ -58,28 +61,32 @@ fn follow(
     visited: &mut Visited,
     stack: &mut Stack,
     slots: &mut [Slot],
-) -> Result<Option<(PatternID, usize)>, Memory>
+) -> Option<(PatternID, usize)>
     requires search { IsInside search.now }
     requires start { start < length search.now.states.now }
     requires from { (search.now.first ≤ from) × (from ≤ search.now.end) }
     requires room { extent search.now ≤ 64 * length visited.old }
-    requires inside { AllInside search.now stack.old }
-    ensures followed { IfOk result (λ r. (before : Passed) (goal : Option Answer) (base : Slots)
+    requires frames { frames_left search.now visited.old + length stack.old.items ≤ stack.old.room }
+    requires inside { AllInside search.now stack.old.items }
+    ensures followed { (before : Passed) (goal : Option Answer) (base : Slots)
         → Searching (graph_for search.now) before (passed_by search.now visited.old) goal base
-        (Explore start from ∷ stack.old) slots.old
-        → Followed r (graph_for search.now) before (passed_by search.now visited.new) goal base
-        stack.new slots.new) }
-    ensures inside { IfOk result (λ _. AllInside search.now stack.new) }
-    ensures less { IfOk result (λ r. IfNone r (work search.now visited.new + length stack.new
-        ≤ work search.now visited.old + length stack.old)) }
+        (Explore start from ∷ stack.old.items) slots.old
+        → Followed result (graph_for search.now) before (passed_by search.now visited.new) goal base
+        stack.new.items slots.new }
+    ensures inside { AllInside search.now stack.new.items }
+    ensures less { IfNone result (work search.now visited.new + length stack.new.items
+        ≤ work search.now visited.old + length stack.old.items) }
+    ensures frames { IfNone result (frames_left search.now visited.new + length stack.new.items
+        ≤ stack.new.room) }
+    ensures stack { stack.new.room ≡ stack.old.room }
     ensures room { length visited.new ≡ length visited.old }
     ensures width { length slots.new ≡ length slots.old }
 {
     let mut state = start;
     let mut place = from;
     while visited.insert(index(search, state, place)) {
-        match step(search, state, place, stack, slots)? {
-            Onward::Accept(pattern) => return Ok(Some((pattern, place))),
+        match step(search, state, place, stack, slots) {
+            Onward::Accept(pattern) => return Some((pattern, place)),
             Onward::To {
                 state: next,
                 place: at,
@@ -87,10 +94,10 @@ fn follow(
                 state = next;
                 place = at;
             }
-            Onward::Back => return Ok(None),
+            Onward::Back => return None,
         }
     }
-    Ok(None)
+    None
 }
 
 /// The number of the state at the place, among those of the span.

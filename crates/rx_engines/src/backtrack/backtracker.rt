@@ -5,7 +5,7 @@ ghost use Rattle.rx_search.specs.Anchored.{anchor_of};
 ghost use Rattle.rx_search.specs.Matches.{match_value};
 ghost use Rattle.rx_thompson.specs.Nfa.{IsInRange};
 ghost use Rattle.rx_thompson.specs.NextMatch.{start_of};
-ghost use Rattle.rx_engines.specs.Engine.{next_match_for, HasSlots, accounted_memory};
+ghost use Rattle.rx_engines.specs.Engine.{next_match_for, HasSlots, AreWithin, accounted_memory};
 ghost use Rattle.rx_engines.specs.Bounded.{next_match_within, IsNfaOf, max_len, span_len, IsRefusal, Fits};
 
 use crate::backtrack::cache::Cache;
@@ -75,7 +75,7 @@ impl BoundedBacktracker {
     ///
     /// # Errors
     ///
-    /// `HaystackTooLong` exactly where the span is longer than `max_haystack_len`; else only `Memory`.
+    /// `HaystackTooLong` exactly where the span is longer than `max_haystack_len`, and no other.
     pub fn try_search_slots(
         &self,
         cache: &mut Cache,
@@ -92,6 +92,7 @@ impl BoundedBacktracker {
         ensures slots { IfOk result (λ _. IfSome (next_match_within self.now input.now) (HasSlots slots.new)) }
         ensures none { IfOk result (λ r. IfNone r (slots.new ≡ replicate (length slots.old) None)) }
         ensures refused { IfErr result (λ _. slots.new ≡ replicate (length slots.old) None) }
+        ensures slots_within { AreWithin input.now slots.new }
         ensures cache { cache.new ≡ cache.old }
     {
         match self.try_find_slots(cache, input, slots) {
@@ -105,7 +106,7 @@ impl BoundedBacktracker {
     ///
     /// # Errors
     ///
-    /// `HaystackTooLong` exactly where the span is longer than `max_haystack_len`; else only `Memory`.
+    /// `HaystackTooLong` exactly where the span is longer than `max_haystack_len`, and no other.
     pub fn try_find_slots(
         &self,
         cache: &mut Cache,
@@ -121,6 +122,7 @@ impl BoundedBacktracker {
         ensures slots { IfOk result (λ _. IfSome (next_match_within self.now input.now) (HasSlots slots.new)) }
         ensures none { IfOk result (λ r. IfNone r (slots.new ≡ replicate (length slots.old) None)) }
         ensures refused { IfErr result (λ _. slots.new ≡ replicate (length slots.old) None) }
+        ensures slots_within { AreWithin input.now slots.new }
         ensures within { IfOk result (λ r. IfSome r (λ m. (input.now.start ≤ m.start) × (m.end ≤ input.now.end))) }
         ensures cache { cache.new ≡ cache.old }
     {
@@ -142,15 +144,13 @@ impl BoundedBacktracker {
             states: self.nfa.states(),
             start,
             text: input.haystack(),
+            matcher: *self.nfa.look_matcher(),
             utf8: self.nfa.is_utf8(),
             first: input.start(),
             last: latest_start(input),
             end: input.end(),
         };
-        match cache.find(&search, slots) {
-            Ok(found) => Ok(reported(found)),
-            Err(Memory) => Err(MatchError::Memory),
-        }
+        Ok(reported(cache.find(&search, slots)))
     }
 
     /// Where the runs start, if the pattern that is asked for is there.

@@ -1,7 +1,6 @@
 ghost use Rattle.std.specs.Prelude.{◌≡◌, vec_len, ℕ, ◌*◌, ◌+◌, ◌<◌, ◌≤◌, length, min, None, IfOk, OnOk, OnErr, IfSome, IfNone, option_map, replicate, nat_lt, slice_index_or, if◌then◌else◌};
-ghost use Rattle.std.specs.Result.{IfErr};
 ghost use Rattle.rx_model.specs.Search.{slot_value};
-ghost use Rattle.rx_engines.specs.Backtrack.{IsInside, extent, next_of, triple};
+ghost use Rattle.rx_engines.specs.Backtrack.{IsInside, extent, frames_of_span, next_of, triple};
 ghost use Rattle.rx_engines.specs.Bounded.{Room, room_code, Fits};
 ghost use Rattle.rx_engines.specs.Engine.{accounted_memory};
 
@@ -9,15 +8,16 @@ use crate::accounting::memory_of;
 use crate::backtrack::backtracker::BoundedBacktracker;
 use crate::backtrack::find::find;
 use crate::backtrack::search::Search;
-use crate::backtrack::stack::Stack;
 use crate::backtrack::visited::Visited;
+use crate::room::frames_of_all;
 use crate::slots::{Slot, empty, report};
+use crate::stack::Stack;
 use rx_search::{Memory, NonMaxUsize, PatternID};
 use std::alloc::Global;
 use std::marker::Model;
 
-/// What a search writes to. It is made once for an engine, with room for the longest span. A search takes memory
-/// only where it comes deeper than each search before it.
+/// What a search writes to. It is made once for an engine, with room for the longest span, and a search takes no
+/// memory.
 #[derive(Drop)]
 pub struct Cache {
     visited: Visited,
@@ -26,7 +26,7 @@ pub struct Cache {
     memory: usize,
 }
 
-/// For how many bits and slots it has room, and what is accounted for it.
+/// For how many bits, frames and slots it has room, and what is accounted for it.
 impl Model for Cache {
     ghost Value = { Room };
 
@@ -34,6 +34,7 @@ impl Model for Cache {
 
     ghost view = { λ c. record {
       bits = 64 * length c.visited;
+      stack = c.stack.room;
       slots = vec_len c.slots;
       memory = c.memory;
     } };
@@ -48,7 +49,10 @@ impl Cache {
         let nfa = backtracker.get_nfa();
         let places = backtracker.max_haystack_len() + 1;
         let visited = Visited::new(alloc, places * nfa.states_len())?;
-        let stack = Stack::new(alloc)?;
+        let Some(frames) = frames_of_all(nfa.states())?.checked_mul(places) else {
+            return Err(Memory);
+        };
+        let stack = Stack::new(alloc, frames)?;
         let none = Slot::none();
         let slots = vec![in alloc; none; nfa.slot_len()]?;
         Ok(Cache {
@@ -82,7 +86,7 @@ impl Cache {
         ensures { IfOk result (λ c. c ≡ self.now) }
     {
         let visited = self.visited.same_room(alloc)?;
-        let stack = Stack::new(alloc)?;
+        let stack = Stack::new(alloc, self.stack.room())?;
         let none = Slot::none();
         let slots = vec![in alloc; none; self.slots.len()]?;
         Ok(Cache {
@@ -98,15 +102,15 @@ impl Cache {
         &mut self,
         search: &Search<'_>,
         slots: &mut [Option<NonMaxUsize>],
-    ) -> Result<Option<(PatternID, usize, usize)>, Memory>
+    ) -> Option<(PatternID, usize, usize)>
         requires search { IsInside search.now }
         requires room { extent search.now ≤ self.old.bits }
-        ensures value { IfOk result (λ r. r ≡ option_map triple (next_of search.now)) }
-        ensures slots { IfOk result (λ _. IfSome (next_of search.now)
+        requires frames { frames_of_span search.now ≤ self.old.stack }
+        ensures value { result ≡ option_map triple (next_of search.now) }
+        ensures slots { IfSome (next_of search.now)
             (λ m. (k : ℕ) → k < length slots.new → slice_index_or slots.new k None
-            ≡ (if nat_lt k self.old.slots then slot_value m k else None))) }
-        ensures none { IfOk result (λ r. IfNone r (slots.new ≡ replicate (length slots.old) None)) }
-        ensures err { IfErr result (λ _. slots.new ≡ replicate (length slots.old) None) }
+            ≡ (if nat_lt k self.old.slots then slot_value m k else None)) }
+        ensures none { IfNone result (slots.new ≡ replicate (length slots.old) None) }
         ensures room { self.new ≡ self.old }
     {
         let width = slots.len().min(self.slots.len());
@@ -129,31 +133,28 @@ fn find_slots(
     stack: &mut Stack,
     scratch: &mut [Slot],
     slots: &mut [Option<NonMaxUsize>],
-) -> Result<Option<(PatternID, usize, usize)>, Memory>
+) -> Option<(PatternID, usize, usize)>
     requires search { IsInside search.now }
     requires room { extent search.now ≤ 64 * length visited.old }
+    requires frames { frames_of_span search.now ≤ stack.old.room }
     requires width { width ≡ min (length slots.old) (length scratch.old) }
-    ensures value { IfOk result (λ r. r ≡ option_map triple (next_of search.now)) }
-    ensures slots { IfOk result (λ _. IfSome (next_of search.now)
+    ensures value { result ≡ option_map triple (next_of search.now) }
+    ensures slots { IfSome (next_of search.now)
         (λ m. (k : ℕ) → k < length slots.new → slice_index_or slots.new k None
-        ≡ (if nat_lt k (length scratch.old) then slot_value m k else None))) }
-    ensures none { IfOk result (λ r. IfNone r (slots.new ≡ replicate (length slots.old) None)) }
-    ensures err { IfErr result (λ _. slots.new ≡ replicate (length slots.old) None) }
+        ≡ (if nat_lt k (length scratch.old) then slot_value m k else None)) }
+    ensures none { IfNone result (slots.new ≡ replicate (length slots.old) None) }
     ensures room { length visited.new ≡ length visited.old }
+    ensures stack { stack.new.room ≡ stack.old.room }
     ensures scratch { length scratch.new ≡ length scratch.old }
 {
     match find(search, visited, stack, &mut scratch[..width]) {
-        Ok(Some(found)) => {
+        Some(found) => {
             report(&scratch[..width], slots);
-            Ok(Some(found))
+            Some(found)
         }
-        Ok(None) => {
+        None => {
             empty(slots);
-            Ok(None)
-        }
-        Err(error) => {
-            empty(slots);
-            Err(error)
+            None
         }
     }
 }

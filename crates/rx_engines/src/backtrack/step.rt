@@ -1,14 +1,16 @@
-ghost use Rattle.std.specs.Prelude.{◌≡◌, ◌<◌, ◌≤◌, ◌∷◌, [], ◌++◌, length, map, IfOk};
-ghost use Rattle.rx_thompson.specs.Automaton.{at};
+ghost use Rattle.std.specs.Prelude.{◌≡◌, ◌+◌, ◌<◌, ◌≤◌, ◌∷◌, [], ◌++◌, length, map, Some, None, if◌then◌else◌};
+ghost use Rattle.rx_model.specs.Look.{holds};
+ghost use Rattle.rx_search.specs.Look.{kind_of};
+ghost use Rattle.rx_thompson.specs.Automaton.{at, state_at};
 ghost use Rattle.rx_engines.specs.Walk.{explore_all};
-ghost use Rattle.rx_engines.specs.Simulation.{byte_at};
+ghost use Rattle.rx_engines.specs.Simulation.{byte_at, cost};
 ghost use Rattle.rx_engines.specs.Backtrack.{IsInside, AllInside, graph_for, frames_of, target_of, onto, Saves, Stepped};
 
 use crate::backtrack::search::Search;
-use crate::backtrack::stack::Stack;
 use crate::frame::Frame;
 use crate::slots::Slot;
-use rx_search::{Memory, PatternID, StateID};
+use crate::stack::Stack;
+use rx_search::{Look, PatternID, StateID};
 use rx_thompson::{State, Transition, matches_byte};
 
 /// What a search does next.
@@ -29,39 +31,47 @@ pub fn step(
     place: usize,
     stack: &mut Stack,
     slots: &mut [Slot],
-) -> Result<Onward, Memory>
+) -> Onward
     requires search { IsInside search.now }
     requires state { state < length search.now.states.now }
     requires place { (search.now.first ≤ place) × (place ≤ search.now.end) }
-    requires inside { AllInside search.now stack.old }
-    ensures stepped { IfOk result (λ r. Stepped (graph_for search.now) (at state place) r
-        stack.old stack.new slots.old slots.new) }
-    ensures inside { IfOk result (λ r. AllInside search.now (frames_of r stack.new)) }
+    requires room { cost (state_at search.now.states.now state) + length stack.old.items ≤ stack.old.room }
+    requires inside { AllInside search.now stack.old.items }
+    ensures stepped { Stepped (graph_for search.now) (at state place) result
+        stack.old.items stack.new.items slots.old slots.new }
+    ensures inside { AllInside search.now (frames_of result stack.new.items) }
+    ensures frames { length stack.new.items
+        ≤ cost (state_at search.now.states.now state) + length stack.old.items }
+    ensures room { stack.new.room ≡ stack.old.room }
     ensures width { length slots.new ≡ length slots.old }
 {
     let states = search.states;
     match &states[state.as_usize()] {
         State::ByteRange { start, end, next } => {
             let byte = byte_before(search.text, search.end, place);
-            Ok(toward(in_range(*start, *end, *next, byte), place + 1))
+            toward(in_range(*start, *end, *next, byte), place + 1)
         }
         State::Sparse { transitions } => {
             let byte = byte_before(search.text, search.end, place);
-            Ok(toward(in_any(transitions.as_slice(), byte), place + 1))
+            toward(in_any(transitions.as_slice(), byte), place + 1)
+        }
+        State::Look { look, next } => {
+            let next = look_on(search, *look, *next, place);
+            toward(next, place)
         }
         State::Union { alternates } => {
-            let first = choose(alternates.as_slice(), place, stack)?;
-            Ok(toward(first, place))
+            let first = choose(alternates.as_slice(), place, stack);
+            toward(first, place)
         }
         State::Capture { next, slot, .. } => {
-            save(stack, slots, *slot, place)?;
-            Ok(Onward::To {
+            save(stack, slots, *slot, place);
+            Onward::To {
                 state: *next,
                 place,
-            })
+            }
         }
-        State::Fail => Ok(Onward::Back),
-        State::Match { pattern } => Ok(Onward::Accept(*pattern)),
+        State::Fail => Onward::Back,
+        State::Match { pattern } => Onward::Accept(*pattern),
     }
 }
 
@@ -93,6 +103,18 @@ fn in_any(transitions: &[Transition], byte: Option<u8>) -> Option<StateID>
     }
 }
 
+/// The state, where the look-around holds at the place in the whole text.
+fn look_on(search: &Search<'_>, look: Look, next: StateID, place: usize) -> Option<StateID>
+    requires { place ≤ length search.now.text.now }
+    ensures { result ≡ (if holds search.now.matcher search.now.text.now (kind_of look) place then Some next else None) }
+{
+    if search.matcher.matches(look, search.text, place) {
+        Some(next)
+    } else {
+        None
+    }
+}
+
 /// On to the state at the place, if there is one.
 fn toward(next: Option<StateID>, place: usize) -> Onward
     ensures { result ≡ onto next place }
@@ -104,41 +126,40 @@ fn toward(next: Option<StateID>, place: usize) -> Onward
 }
 
 /// The first of the states. The others are on the stack, the preferred one on top.
-fn choose(
-    alternates: &[StateID],
-    place: usize,
-    stack: &mut Stack,
-) -> Result<Option<StateID>, Memory>
-    ensures { IfOk result (λ r. frames_of (onto r place) stack.new
-        ≡ explore_all (map (λ q. at q place) alternates.now) ++ stack.old) }
+fn choose(alternates: &[StateID], place: usize, stack: &mut Stack) -> Option<StateID>
+    requires { length alternates.now + length stack.old.items ≤ stack.old.room }
+    ensures chosen { frames_of (onto result place) stack.new.items
+        ≡ explore_all (map (λ q. at q place) alternates.now) ++ stack.old.items }
+    ensures frames { length stack.new.items ≤ length alternates.now + length stack.old.items }
+    ensures room { stack.new.room ≡ stack.old.room }
 {
-    let Some(first) = alternates.first() else {
-        return Ok(None);
-    };
+    let first = alternates.first()?;
     let mut left = alternates.len();
     while left > 1 {
         left -= 1;
         stack.push(Frame::Explore {
             state: alternates[left],
             place,
-        })?;
+        });
     }
-    Ok(Some(*first))
+    Some(*first)
 }
 
 /// Writes the place into the slot, where there is room for it. The old value is on the stack.
-fn save(stack: &mut Stack, slots: &mut [Slot], slot: usize, place: usize) -> Result<(), Memory>
-    requires { place < usize.MAX }
-    ensures saved { IfOk result (λ _. Saves slot place stack.old stack.new slots.old slots.new) }
+fn save(stack: &mut Stack, slots: &mut [Slot], slot: usize, place: usize)
+    requires place { place < usize.MAX }
+    requires room { length stack.old.items < stack.old.room }
+    ensures saved { Saves slot place stack.old.items stack.new.items slots.old slots.new }
+    ensures frames { length stack.new.items ≤ 1 + length stack.old.items }
+    ensures room { stack.new.room ≡ stack.old.room }
     ensures width { length slots.new ≡ length slots.old }
 {
     if slot >= slots.len() {
-        return Ok(());
+        return;
     }
     stack.push(Frame::Restore {
         slot,
         old: slots[slot],
-    })?;
+    });
     slots[slot] = Slot::at(place);
-    Ok(())
 }

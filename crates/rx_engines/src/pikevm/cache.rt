@@ -1,7 +1,7 @@
-ghost use Rattle.std.specs.Prelude.{◌≡◌, vec_len, ℕ, ◌+◌, ◌^◌, ◌<◌, ◌≤◌, [], length, All, is_some, Some, None, IfOk, OnOk, OnErr, IfSome, IfNone, option_map, replicate, nat_lt, slice_index_or, if◌then◌else◌};
+ghost use Rattle.std.specs.Prelude.{◌≡◌, vec_len, ℕ, ◌^◌, ◌<◌, ◌≤◌, [], length, All, is_some, Some, None, IfOk, OnOk, OnErr, IfSome, IfNone, option_map, replicate, nat_lt, slice_index_or, if◌then◌else◌};
 ghost use Rattle.rx_model.specs.Search.{slot_value};
 ghost use Rattle.rx_engines.specs.Search.{IsInside, next_of, answer_of, triple};
-ghost use Rattle.rx_engines.specs.Simulation.{cost, cost_below};
+ghost use Rattle.rx_engines.specs.Simulation.{cost_below};
 ghost use Rattle.rx_engines.specs.Room.{Room, room_code};
 ghost use Rattle.rx_engines.specs.Engine.{Fits, accounted_memory};
 
@@ -9,11 +9,12 @@ use crate::accounting::memory_of;
 use crate::pikevm::search::Search;
 use crate::pikevm::set::SparseSet;
 use crate::pikevm::simulate::simulate_slots;
-use crate::pikevm::stack::Stack;
 use crate::pikevm::table::Table;
 use crate::pikevm::threads::Threads;
 use crate::pikevm::vm::PikeVM;
+use crate::room::frames_of_all;
 use crate::slots::Slot;
+use crate::stack::Stack;
 use rx_search::{Memory, NonMaxUsize, PatternID};
 use rx_thompson::State;
 use std::alloc::Global;
@@ -93,7 +94,9 @@ impl Cache {
         ensures widest { IfOk result (λ c. c.widest ≡ widest) }
         ensures memory { IfOk result (λ c. c.memory ≡ memory) }
     {
-        let stack = stack_room(states)?;
+        let Some(stack) = frames_of_all(states)?.checked_add(1) else {
+            return Err(Memory);
+        };
         Cache::of_room(alloc, states.len(), stack, widest, memory)
     }
 
@@ -203,30 +206,5 @@ impl Cache {
             &mut [],
         )
         .is_some()
-    }
-}
-
-/// A room for the frames of one closure of the states.
-fn stack_room(states: &[State]) -> Result<usize, Memory>
-    ensures { IfOk result (λ room. cost_below states.now (length states.now) < room) }
-{
-    let mut room: usize = 1;
-    for q in 0..states.len() {
-        let Some(more) = room.checked_add(frames_of(&states[q])) else {
-            return Err(Memory);
-        };
-        room = more;
-    }
-    Ok(room)
-}
-
-/// How many frames the state leaves on the stack.
-fn frames_of(state: &State) -> usize
-    ensures { result ≡ cost state.now }
-{
-    match state {
-        State::Capture { .. } => 2,
-        State::Union { alternates } => alternates.as_slice().len(),
-        State::ByteRange { .. } | State::Sparse { .. } | State::Fail | State::Match { .. } => 0,
     }
 }

@@ -1,37 +1,41 @@
-ghost use Rattle.std.specs.Prelude.{◌≡◌, ℕ, ◌+◌, ◌<◌, ◌≤◌, List, [], ◌∷◌, length, All, Option};
+ghost use Rattle.std.specs.Prelude.{◌≡◌, ℕ, ◌+◌, ◌<◌, ◌≤◌, List, [], ◌∷◌, ◌++◌, length, Option};
 ghost use Rattle.rx_model.specs.Runs.{Configuration, Passed};
-ghost use Rattle.rx_thompson.specs.Automaton.{at, automaton, state_at, NamesBelow};
+ghost use Rattle.rx_thompson.specs.Automaton.{automaton, state_at};
 ghost use Rattle.rx_engines.specs.declared.frame.Frame.TheVariants.{Explore};
+ghost use Rattle.rx_engines.specs.Walk.{explore_all, looked};
+ghost use Rattle.rx_engines.specs.Search.{IsInside};
 ghost use Rattle.rx_engines.specs.Simulation.{cost, cost_below, Hit, IsStable, Waits, Closed, Visited, AllHere};
 
 use crate::frame::Frame;
-use crate::pikevm::stack::{Stack, push_all};
+use crate::pikevm::search::Search;
 use crate::pikevm::threads::Threads;
 use crate::slots::{Slot, read, write};
-use rx_search::StateID;
+use crate::stack::{Stack, push_all};
+use rx_search::{Look, StateID};
 use rx_thompson::State;
 
 /// Whether the state rests. Else the stack and the slots go on from it.
 pub fn visit(
-    states: &[State],
+    search: &Search<'_>,
     state: StateID,
     place: usize,
     stack: &mut Stack,
     slots: &mut [Slot],
 ) -> bool
-    requires states { All (NamesBelow (length states.now)) states.now }
-    requires state { state < length states.now }
-    requires place { place < usize.MAX }
-    requires room { cost (state_at states.now state) + length stack.old.items ≤ stack.old.room }
-    requires inside { AllHere (length states.now) place stack.old.items }
-    ensures visited { Visited states.now state place result stack.old.items stack.new.items
+    requires search { IsInside search.now }
+    requires state { state < length search.now.states.now }
+    requires place { place ≤ length search.now.text.now }
+    requires room { cost (state_at search.now.states.now state) + length stack.old.items ≤ stack.old.room }
+    requires inside { AllHere (length search.now.states.now) place stack.old.items }
+    ensures visited { Visited search.now.matcher search.now.states.now search.now.text.now state place result stack.old.items stack.new.items
         slots.old slots.new }
     ensures frames { length stack.new.items
-        ≤ cost (state_at states.now state) + length stack.old.items }
-    ensures inside { AllHere (length states.now) place stack.new.items }
+        ≤ cost (state_at search.now.states.now state) + length stack.old.items }
+    ensures inside { AllHere (length search.now.states.now) place stack.new.items }
     ensures room { stack.new.room ≡ stack.old.room }
     ensures width { length slots.new ≡ length slots.old }
 {
+    let states = search.states;
     match &states[state.as_usize()] {
         State::Capture { next, slot, .. } => {
             stack.push(Frame::Restore {
@@ -45,6 +49,10 @@ pub fn visit(
             write(slots, *slot, Slot::at(place));
             false
         }
+        State::Look { look, next } => {
+            look_on(search, *look, *next, place, stack);
+            false
+        }
         State::Union { alternates } => {
             push_all(stack, alternates.as_slice(), place);
             false
@@ -54,9 +62,22 @@ pub fn visit(
     }
 }
 
+/// Goes on to the state, where the look-around holds at the place in the whole text.
+fn look_on(search: &Search<'_>, look: Look, next: StateID, place: usize, stack: &mut Stack)
+    requires place { place ≤ length search.now.text.now }
+    requires room { length stack.old.items < stack.old.room }
+    ensures { stack.new ≡ record stack.old {
+      items = explore_all (looked search.now.matcher search.now.text.now look next place) ++ stack.old.items;
+    } }
+{
+    if search.matcher.matches(look, search.text, place) {
+        stack.push(Frame::Explore { state: next, place });
+    }
+}
+
 /// Follows a thread from the state over those that read no byte, and adds the threads that come of it.
 pub fn close(
-    states: &[State],
+    search: &Search<'_>,
     state: StateID,
     place: usize,
     start: usize,
@@ -64,20 +85,20 @@ pub fn close(
     stack: &mut Stack,
     slots: &mut [Slot],
 )
-    requires states { All (NamesBelow (length states.now)) states.now }
-    requires state { state < length states.now }
-    requires place { place < usize.MAX }
-    requires set { threads.old.set.room ≡ length states.now }
-    requires table { length threads.old.table.items ≡ length states.now }
+    requires search { IsInside search.now }
+    requires state { state < length search.now.states.now }
+    requires place { place ≤ length search.now.text.now }
+    requires set { threads.old.set.room ≡ length search.now.states.now }
+    requires table { length threads.old.table.items ≡ length search.now.states.now }
     requires width { length slots.old ≡ threads.old.table.width }
     requires empty { stack.old.items ≡ [] }
-    requires stack { cost_below states.now (length states.now) < stack.old.room }
-    ensures closed { (text : List ℕ) (end : ℕ) (later : Passed → Option Hit) (goal : Option Hit)
+    requires stack { cost_below search.now.states.now (length search.now.states.now) < stack.old.room }
+    ensures closed { (end : ℕ) (later : Passed → Option Hit) (goal : Option Hit)
         → place ≤ end
-        → IsStable (automaton states.now text end) later
-        → Waits states.now (automaton states.now text end) place start later
+        → IsStable (automaton search.now.matcher search.now.states.now search.now.text.now end) later
+        → Waits search.now.states.now (automaton search.now.matcher search.now.states.now search.now.text.now end) place start later
         threads.old.set.items threads.old.table.items (Explore state place ∷ []) slots.old goal
-        → Closed states.now (automaton states.now text end) place later
+        → Closed search.now.states.now (automaton search.now.matcher search.now.states.now search.now.text.now end) place later
         threads.new.set.items threads.new.table.items goal }
     ensures set { threads.new.set.room ≡ threads.old.set.room }
     ensures table { length threads.new.table.items ≡ length threads.old.table.items }
@@ -93,7 +114,7 @@ pub fn close(
             Frame::Restore { slot, old } => write(slots, slot, old),
             Frame::Explore { state, .. } => {
                 if threads.set.insert(state) {
-                    if visit(states, state, place, stack, slots) {
+                    if visit(search, state, place, stack, slots) {
                         threads.table.set(state, start, slots);
                     }
                 }

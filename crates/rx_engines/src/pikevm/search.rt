@@ -1,4 +1,4 @@
-use rx_search::StateID;
+use rx_search::{LookMatcher, StateID};
 use rx_thompson::State;
 
 /// What is searched for a match, and where.
@@ -8,6 +8,8 @@ pub struct Search<'a> {
     /// Where the runs start, the preferred one first.
     pub starts: &'a [StateID],
     pub text: &'a [u8],
+    /// Tells where look-arounds hold.
+    pub matcher: LookMatcher,
     /// No match starts inside an encoded character.
     pub utf8_empty: bool,
     /// The place at which a match may start at the latest.

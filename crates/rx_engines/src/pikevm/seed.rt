@@ -7,9 +7,9 @@ ghost use Rattle.rx_engines.specs.Search.{IsInside};
 
 use crate::pikevm::close::close;
 use crate::pikevm::search::Search;
-use crate::pikevm::stack::Stack;
 use crate::pikevm::threads::Threads;
 use crate::slots::{Slot, clear};
+use crate::stack::Stack;
 use crate::starts::is_allowed;
 
 /// Starts a thread at each start, after the others, unless there is a match already or none may start here.
@@ -31,13 +31,13 @@ pub fn seed(
     ensures seeded { (end : ℕ) (best goal : Option Hit)
         → place ≤ end
         → matched ≡ is_some best
-        → option_or (among search.now.states.now (automaton search.now.states.now search.now.text.now end) nowhere place
+        → option_or (among search.now.states.now (automaton search.now.matcher search.now.states.now search.now.text.now end) nowhere place
         threads.old.table.items threads.old.set.items)
-        (later_starts search.now.states.now search.now.text.now search.now.starts.now search.now.utf8_empty end (length slots.old) best search.now.last place (passed_at threads.old.set.items place))
+        (later_starts search.now.matcher search.now.states.now search.now.text.now search.now.starts.now search.now.utf8_empty end (length slots.old) best search.now.last place (passed_at threads.old.set.items place))
         ≡ goal
-        → option_or (among search.now.states.now (automaton search.now.states.now search.now.text.now end) nowhere place
+        → option_or (among search.now.states.now (automaton search.now.matcher search.now.states.now search.now.text.now end) nowhere place
         threads.new.table.items threads.new.set.items)
-        (later_starts search.now.states.now search.now.text.now search.now.starts.now search.now.utf8_empty end (length slots.old) best search.now.last (place + 1) nowhere)
+        (later_starts search.now.matcher search.now.states.now search.now.text.now search.now.starts.now search.now.utf8_empty end (length slots.old) best search.now.last (place + 1) nowhere)
         ≡ goal }
     ensures set { threads.new.set.room ≡ threads.old.set.room }
     ensures table { length threads.new.table.items ≡ length threads.old.table.items }
@@ -53,14 +53,6 @@ pub fn seed(
     let starts = search.starts;
     for k in 0..starts.len() {
         clear(slots);
-        close(
-            search.states,
-            starts[k],
-            place,
-            place,
-            threads,
-            stack,
-            slots,
-        );
+        close(search, starts[k], place, place, threads, stack, slots);
     }
 }

@@ -4,10 +4,10 @@ ghost use Rattle.rx_engines.specs.Search.{IsInside, next_of, answer_of};
 
 use crate::pikevm::search::Search;
 use crate::pikevm::seed::seed;
-use crate::pikevm::stack::Stack;
 use crate::pikevm::step::step;
 use crate::pikevm::threads::Threads;
 use crate::slots::{Slot, clear, report};
+use crate::stack::Stack;
 use rx_search::{NonMaxUsize, PatternID};
 use std::mem;
 

@@ -7,9 +7,9 @@ ghost use Rattle.rx_engines.specs.Search.{IsInside};
 
 use crate::pikevm::close::close;
 use crate::pikevm::search::Search;
-use crate::pikevm::stack::Stack;
 use crate::pikevm::threads::Threads;
 use crate::slots::Slot;
+use crate::stack::Stack;
 use rx_search::{PatternID, StateID};
 use rx_thompson::{State, Transition, matches_byte};
 
@@ -34,7 +34,9 @@ fn act(state: &State, byte: Option<u8>) -> Action
         },
         State::Sparse { transitions } => read(transitions.as_slice(), byte),
         State::Match { pattern } => Action::Accept(*pattern),
-        State::Union { .. } | State::Capture { .. } | State::Fail => Action::Nothing,
+        State::Look { .. } | State::Union { .. } | State::Capture { .. } | State::Fail => {
+            Action::Nothing
+        }
     }
 }
 
@@ -83,12 +85,12 @@ pub fn step(
     ensures stepped { (end : ℕ) (later : Passed → Option Hit) (goal : Option Hit)
         → place ≤ end
         → byte_at search.now.text.now end place ≡ byte_at search.now.text.now search.now.end place
-        → IsStable (automaton search.now.states.now search.now.text.now end) later
-        → option_or (among search.now.states.now (automaton search.now.states.now search.now.text.now end) nowhere place
+        → IsStable (automaton search.now.matcher search.now.states.now search.now.text.now end) later
+        → option_or (among search.now.states.now (automaton search.now.matcher search.now.states.now search.now.text.now end) nowhere place
         curr.now.table.items curr.now.set.items) (later nowhere) ≡ goal
-        → Stepped result search.now.states.now (automaton search.now.states.now search.now.text.now end) place later
+        → Stepped result search.now.states.now (automaton search.now.matcher search.now.states.now search.now.text.now end) place later
         next.new.set.items next.new.table.items best.new goal }
-    ensures accepted { among search.now.states.now (automaton search.now.states.now search.now.text.now place) nowhere place
+    ensures accepted { among search.now.states.now (automaton search.now.matcher search.now.states.now search.now.text.now place) nowhere place
         curr.now.table.items curr.now.set.items ≡ accepted_hit result place best.new }
     ensures kept { IfNone result (best.new ≡ best.old) }
     ensures set { next.new.set.room ≡ next.old.set.room }
@@ -112,7 +114,7 @@ pub fn step(
             Action::Read(target) => {
                 slots.copy_from_slice(curr.table.slots(state));
                 close(
-                    states,
+                    search,
                     target,
                     place + 1,
                     curr.table.start(state),

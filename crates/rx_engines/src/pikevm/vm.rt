@@ -4,7 +4,7 @@ ghost use Rattle.rx_search.specs.Anchored.{anchor_of};
 ghost use Rattle.rx_search.specs.Matches.{match_value};
 ghost use Rattle.rx_thompson.specs.Nfa.{IsInRange};
 ghost use Rattle.rx_thompson.specs.NextMatch.{start_of};
-ghost use Rattle.rx_engines.specs.Engine.{PikeVMValue, next_match_in, next_match_for, answer_in, IsOf, IsMatchWith, IsSearchOf, HasSlots, Fits, accounted_memory};
+ghost use Rattle.rx_engines.specs.Engine.{PikeVMValue, next_match_in, next_match_for, answer_in, IsOf, IsMatchWith, IsSearchOf, HasSlots, AreWithin, Fits, accounted_memory};
 
 use crate::pikevm::cache::Cache;
 use crate::pikevm::search::Search;
@@ -112,6 +112,7 @@ impl PikeVM {
             → IfSome result (λ p. IsMatchWith r input.now (λ m. (p ≡ m.trace.pattern) × HasSlots slots.new m)) }
         ensures slots { IfSome (answer_in self.now input.now) (HasSlots slots.new) }
         ensures none { IfNone result (slots.new ≡ replicate (length slots.old) None) }
+        ensures slots_within { AreWithin input.now slots.new }
         ensures cache { cache.new ≡ cache.old }
     {
         match self.find_slots(cache, input, slots) {
@@ -136,6 +137,7 @@ impl PikeVM {
             → IfSome result (λ found. IsMatchWith r input.now (λ m. (found ≡ match_value m) × HasSlots slots.new m)) }
         ensures slots { IfSome (answer_in self.now input.now) (HasSlots slots.new) }
         ensures none { IfNone result (slots.new ≡ replicate (length slots.old) None) }
+        ensures slots_within { AreWithin input.now slots.new }
         ensures within { IfSome result (λ m. (input.now.start ≤ m.start) × (m.end ≤ input.now.end)) }
         ensures cache { cache.new ≡ cache.old }
     {
@@ -163,6 +165,7 @@ impl PikeVM {
             states: self.nfa.states(),
             starts,
             text: input.haystack(),
+            matcher: *self.nfa.look_matcher(),
             utf8_empty: self.nfa.is_utf8(),
             last: latest_start(input),
             end: input.end(),

@@ -1,31 +1,14 @@
-//! Laws of classes, of properties and of names.
+//! Laws of properties and of names.
 ghost use Rattle.std.specs.Prelude.{◌≡◌, ℕ, ◌+◌, ◌-◌, ◌≤◌, true, false, List, take, drop, Some, IsUtf8};
-ghost use Rattle.std.specs.Char.{IsScalar};
 ghost use Rattle.rx_model.specs.Expression.{Expression, AreOrdered};
 ghost use Rattle.rx_model.specs.Length.{minimum_len};
 ghost use Rattle.rx_model.specs.Look.{Look, holds};
 ghost use Rattle.rx_model.specs.Meaning.{Means};
 ghost use Rattle.rx_search.specs.GroupInfo.{has_duplicate};
-ghost use Rattle.rx_model.specs.Text.{is_member};
 ghost use Rattle.rx_hir.specs.Length.{maximum_len, saturated, in_64_bits};
 ghost use Rattle.rx_hir.specs.Names.{IsNamed, HasOneNameEach, name_in, group_names};
 ghost use Rattle.rx_hir.specs.Properties.{looks_first, looks_last, is_utf8};
 ghost use Rattle.rx_hir.specs.Sound.{IsSound};
-ghost use Rattle.rx_class.specs.Ranges.{next_scalar, next_byte, fewest, HaveScalarEnds, AreScalarRanges, AreByteRanges};
-
-/// A class holds exactly the members of the ranges that it was made of, in fewest ranges, and no other list of
-/// fewest ranges holds them.
-pub fn fewest_ranges_hold_the_members()
-    ensures scalars { (rs : List (ℕ × ℕ)) → HaveScalarEnds rs → (c : ℕ) → IsScalar c
-        → is_member (fewest next_scalar rs) c ≡ is_member rs c }
-    ensures scalar_ranges { (rs : List (ℕ × ℕ)) → HaveScalarEnds rs → AreScalarRanges (fewest next_scalar rs) }
-    ensures one_list_of_scalars { (qs rs : List (ℕ × ℕ)) → AreScalarRanges qs → AreScalarRanges rs
-        → ((c : ℕ) → IsScalar c → is_member qs c ≡ is_member rs c) → qs ≡ rs }
-    ensures bytes { (rs : List (ℕ × ℕ)) (b : ℕ) → is_member (fewest next_byte rs) b ≡ is_member rs b }
-    ensures byte_ranges { (rs : List (ℕ × ℕ)) → AreByteRanges (fewest next_byte rs) }
-    ensures one_list_of_bytes { (qs rs : List (ℕ × ℕ)) → AreByteRanges qs → AreByteRanges rs
-        → ((b : ℕ) → is_member qs b ≡ is_member rs b) → qs ≡ rs }
-{}
 
 /// What an expression means is as long as `minimum_len` says at least, and at most as long as `maximum_len`
 /// says, where they are known.

@@ -3,7 +3,7 @@ use Rattle.std.specs.Prelude.{map}
 use Rattle.std.specs.Vec.{vec_items}
 use Rattle.std.proofs.lemmas.List.{take_all}
 use Rattle.rx_thompson.specs.Compiled.{patterns_of}
-use Rattle.rx_strategy.specs.Config.{utf8_of, captures_of}
+use Rattle.rx_strategy.specs.Config.{utf8_of, terminator_of, captures_of}
 use Rattle.rx_meta.specs.Regex.{RegexValue}
 use Rattle.rx_scan.specs.Finder.{IsFor}
 use Rattle.rx_scan.specs.ScanRow.{scan_rows}
@@ -20,7 +20,7 @@ loop-index-preserved g c = record {
 }
 
 pub returns : goal.returns
-returns g c = λ config hs terminator built.
-    let r = patterns_of hs (utf8_of config) terminator (captures_of config) in
-    c.loop-index.invariant.told r (built-for config hs terminator c.args.regex.now built)
+returns g c = λ config hs built.
+    let r = patterns_of hs (utf8_of config) (terminator_of config) (captures_of config) in
+    c.loop-index.invariant.told r (built-for config hs c.args.regex.now built)
     ∙ ap (map (λ h. scan_rows r h.now)) (take_all c.loop-index.index c.args.haystacks.now c.loop-index-test.false)

@@ -1,5 +1,5 @@
 use Rattle.std.proofs.Common.{refl, ◌∙◌, arith}
-use Rattle.rx_engines.proofs.AttemptLemmas.{inserts-at, inserted-passed, passed-work, inserted-accepts, inserted-yields, yields-work}
+use Rattle.rx_engines.proofs.AttemptLemmas.{inserts-at, inserted-passed, passed-work, passed-frames, inserted-accepts, inserted-yields, yields-work, inserted-frames}
 use Rattle.rx_engines.proofs.backtrack.attempt.follow.Goals as goal
 
 pub loop-state-init : goal.loop-state-init
@@ -10,6 +10,8 @@ loop-state-init c = record {
   below = c.requires.from.1;
   inside = c.requires.inside;
   less = omega arith;
+  frames = c.requires.frames;
+  stack = refl;
   room = refl;
   width = refl;
 }
@@ -17,25 +19,29 @@ loop-state-init c = record {
 pub returns-in-Accept-clause-followed : goal.returns-in-Accept-clause-followed
 returns-in-Accept-clause-followed c before goal base x =
     let v = c.loop-state.invariant in
-    let t = inserts-at c.args.search.now c.loop-state.visited c.insert.new.self c.insert.result c.loop-state.state c.loop-state.place c.index.result v.state v.above v.below c.index.ensures.value c.insert.ensures.new c.insert.ensures.after in
-    let stepped = rw c.in-Accept.is at c.in_ok-pattern.ensures.stepped in
+    let t = inserts-at c.args.search.now c.loop-state.visited c.insert.new.self c.insert.result c.loop-state.state c.loop-state.place c.index.result v.state v.above v.below c.index.ensures.value c.index.ensures.within c.insert.ensures.new c.insert.ensures.after in
+    let stepped = rw c.in-Accept.is at c.step.ensures.stepped in
     rw stepped.1 (inserted-accepts t c.loop-state-test.true c.in-Accept.pattern stepped.0 (v.followed before goal base x))
 
 pub loop-state-smaller : goal.loop-state-smaller
 loop-state-smaller c =
     let v = c.loop-state.invariant in
-    let t = inserts-at c.args.search.now c.loop-state.visited c.insert.new.self c.insert.result c.loop-state.state c.loop-state.place c.index.result v.state v.above v.below c.index.ensures.value c.insert.ensures.new c.insert.ensures.after in
-    let less = yields-work t c.loop-state-test.true (rw c.in-To.is at c.in_ok-pattern.ensures.stepped) in
+    let t = inserts-at c.args.search.now c.loop-state.visited c.insert.new.self c.insert.result c.loop-state.state c.loop-state.place c.index.result v.state v.above v.below c.index.ensures.value c.index.ensures.within c.insert.ensures.new c.insert.ensures.after in
+    let less = yields-work t c.loop-state-test.true (rw c.in-To.is at c.step.ensures.stepped) in
     omega arith
 
 pub loop-state-preserved : goal.loop-state-preserved
 loop-state-preserved c =
     let v = c.loop-state.invariant in
-    let t = inserts-at c.args.search.now c.loop-state.visited c.insert.new.self c.insert.result c.loop-state.state c.loop-state.place c.index.result v.state v.above v.below c.index.ensures.value c.insert.ensures.new c.insert.ensures.after in
-    let stepped = rw c.in-To.is at c.in_ok-pattern.ensures.stepped in
-    let inside = rw c.in-To.is at c.in_ok-pattern.ensures.inside in
+    let t = inserts-at c.args.search.now c.loop-state.visited c.insert.new.self c.insert.result c.loop-state.state c.loop-state.place c.index.result v.state v.above v.below c.index.ensures.value c.index.ensures.within c.insert.ensures.new c.insert.ensures.after in
+    let stepped = rw c.in-To.is at c.step.ensures.stepped in
+    let inside = rw c.in-To.is at c.step.ensures.inside in
     let less = yields-work t c.loop-state-test.true stepped in
     let before = v.less in
+    let fewer = inserted-frames t c.loop-state-test.true in
+    let frames = v.frames in
+    let left = c.step.ensures.frames in
+    let fixed = c.step.ensures.room in
     record {
       followed = λ before goal base x. inserted-yields t c.loop-state-test.true stepped (v.followed before goal base x);
       state = inside.0;
@@ -43,34 +49,64 @@ loop-state-preserved c =
       below = inside.2;
       inside = inside.3;
       less = omega arith;
+      frames = omega arith;
+      stack = c.step.ensures.room ∙ v.stack;
       room = c.insert.ensures.room ∙ v.room;
-      width = c.in_ok-pattern.ensures.width ∙ v.width;
+      width = c.step.ensures.width ∙ v.width;
     }
 
 pub returns-in-Back-clause-followed : goal.returns-in-Back-clause-followed
 returns-in-Back-clause-followed c before goal base x =
     let v = c.loop-state.invariant in
-    let t = inserts-at c.args.search.now c.loop-state.visited c.insert.new.self c.insert.result c.loop-state.state c.loop-state.place c.index.result v.state v.above v.below c.index.ensures.value c.insert.ensures.new c.insert.ensures.after in
-    inserted-yields t c.loop-state-test.true (rw c.in-Back.is at c.in_ok-pattern.ensures.stepped) (v.followed before goal base x)
+    let t = inserts-at c.args.search.now c.loop-state.visited c.insert.new.self c.insert.result c.loop-state.state c.loop-state.place c.index.result v.state v.above v.below c.index.ensures.value c.index.ensures.within c.insert.ensures.new c.insert.ensures.after in
+    inserted-yields t c.loop-state-test.true (rw c.in-Back.is at c.step.ensures.stepped) (v.followed before goal base x)
 
 pub returns-in-Back-clause-less : goal.returns-in-Back-clause-less
 returns-in-Back-clause-less c =
     let v = c.loop-state.invariant in
-    let t = inserts-at c.args.search.now c.loop-state.visited c.insert.new.self c.insert.result c.loop-state.state c.loop-state.place c.index.result v.state v.above v.below c.index.ensures.value c.insert.ensures.new c.insert.ensures.after in
-    let less = yields-work t c.loop-state-test.true (rw c.in-Back.is at c.in_ok-pattern.ensures.stepped) in
+    let t = inserts-at c.args.search.now c.loop-state.visited c.insert.new.self c.insert.result c.loop-state.state c.loop-state.place c.index.result v.state v.above v.below c.index.ensures.value c.index.ensures.within c.insert.ensures.new c.insert.ensures.after in
+    let less = yields-work t c.loop-state-test.true (rw c.in-Back.is at c.step.ensures.stepped) in
     let before = v.less in
     omega arith
 
 pub returns-clause-followed : goal.returns-clause-followed
 returns-clause-followed c before goal base x =
     let v = c.loop-state.invariant in
-    let t = inserts-at c.args.search.now c.loop-state.visited c.insert.new.self c.insert.result c.loop-state.state c.loop-state.place c.index.result v.state v.above v.below c.index.ensures.value c.insert.ensures.new c.insert.ensures.after in
+    let t = inserts-at c.args.search.now c.loop-state.visited c.insert.new.self c.insert.result c.loop-state.state c.loop-state.place c.index.result v.state v.above v.below c.index.ensures.value c.index.ensures.within c.insert.ensures.new c.insert.ensures.after in
     inserted-passed t c.loop-state-test.false (v.followed before goal base x)
 
 pub returns-clause-less : goal.returns-clause-less
 returns-clause-less c =
     let v = c.loop-state.invariant in
-    let t = inserts-at c.args.search.now c.loop-state.visited c.insert.new.self c.insert.result c.loop-state.state c.loop-state.place c.index.result v.state v.above v.below c.index.ensures.value c.insert.ensures.new c.insert.ensures.after in
+    let t = inserts-at c.args.search.now c.loop-state.visited c.insert.new.self c.insert.result c.loop-state.state c.loop-state.place c.index.result v.state v.above v.below c.index.ensures.value c.index.ensures.within c.insert.ensures.new c.insert.ensures.after in
     let same = passed-work t c.loop-state-test.false in
     let before = v.less in
+    omega arith
+
+-- the stack has room
+
+pub step-requires-clause-room : goal.step-requires-clause-room
+step-requires-clause-room c =
+    let v = c.loop-state.invariant in
+    let t = inserts-at c.args.search.now c.loop-state.visited c.insert.new.self c.insert.result c.loop-state.state c.loop-state.place c.index.result v.state v.above v.below c.index.ensures.value c.index.ensures.within c.insert.ensures.new c.insert.ensures.after in
+    let fewer = inserted-frames t c.loop-state-test.true in
+    let frames = v.frames in
+    omega arith
+
+pub returns-in-Back-clause-frames : goal.returns-in-Back-clause-frames
+returns-in-Back-clause-frames c =
+    let v = c.loop-state.invariant in
+    let t = inserts-at c.args.search.now c.loop-state.visited c.insert.new.self c.insert.result c.loop-state.state c.loop-state.place c.index.result v.state v.above v.below c.index.ensures.value c.index.ensures.within c.insert.ensures.new c.insert.ensures.after in
+    let fewer = inserted-frames t c.loop-state-test.true in
+    let frames = v.frames in
+    let left = c.step.ensures.frames in
+    let fixed = c.step.ensures.room in
+    omega arith
+
+pub returns-clause-frames : goal.returns-clause-frames
+returns-clause-frames c =
+    let v = c.loop-state.invariant in
+    let t = inserts-at c.args.search.now c.loop-state.visited c.insert.new.self c.insert.result c.loop-state.state c.loop-state.place c.index.result v.state v.above v.below c.index.ensures.value c.index.ensures.within c.insert.ensures.new c.insert.ensures.after in
+    let same = passed-frames t c.loop-state-test.false in
+    let frames = v.frames in
     omega arith

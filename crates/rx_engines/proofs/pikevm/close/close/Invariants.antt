@@ -1,4 +1,4 @@
-use Rattle.std.proofs.Common.{◌≡◌, ◌+◌, ◌∷◌, ◌≤◌, [], length, ℕ, List}
+use Rattle.std.proofs.Common.{◌≡◌, ◌+◌, ◌∷◌, ◌≤◌, [], length, ℕ}
 use Rattle.std.specs.Prelude.{Option}
 use Rattle.rx_model.specs.Runs.{Passed}
 use Rattle.rx_model.proofs.RunLemmas.{weight}
@@ -10,13 +10,13 @@ use Rattle.rx_engines.proofs.pikevm.close.close.Given as goal
 
 abbrev pub invariant-loop-frame : goal.invariant-loop-frame
 invariant-loop-frame l = record {
-  waits : (text : List ℕ) (end : ℕ) (later : Passed → Option Hit) (goal : Option Hit) → l.place ≤ end → IsStable (automaton l.states text end) later
-      → Waits l.states (automaton l.states text end) l.place l.start later l.fn.threads.set.items l.fn.threads.table.items (Explore l.fn.state l.place ∷ []) l.fn.slots goal
-      → Waits l.states (automaton l.states text end) l.place l.start later l.threads.set.items l.threads.table.items l.stack.items l.slots goal;
-  here : AllHere (length l.states) l.place l.stack.items;
-  few : weight (cost_at l.states) (line (length l.states) l.place) (passed_at l.threads.set.items l.place) + length l.stack.items ≤ l.stack.room;
-  room : l.threads.set.room ≡ length l.states;
-  rows : length l.threads.table.items ≡ length l.states;
+  waits : (end : ℕ) (later : Passed → Option Hit) (goal : Option Hit) → l.place ≤ end → IsStable (automaton l.search.matcher l.search.states.now l.search.text.now end) later
+      → Waits l.search.states.now (automaton l.search.matcher l.search.states.now l.search.text.now end) l.place l.start later l.fn.threads.set.items l.fn.threads.table.items (Explore l.fn.state l.place ∷ []) l.fn.slots goal
+      → Waits l.search.states.now (automaton l.search.matcher l.search.states.now l.search.text.now end) l.place l.start later l.threads.set.items l.threads.table.items l.stack.items l.slots goal;
+  here : AllHere (length l.search.states.now) l.place l.stack.items;
+  few : weight (cost_at l.search.states.now) (line (length l.search.states.now) l.place) (passed_at l.threads.set.items l.place) + length l.stack.items ≤ l.stack.room;
+  room : l.threads.set.room ≡ length l.search.states.now;
+  rows : length l.threads.table.items ≡ length l.search.states.now;
   width : l.threads.table.width ≡ l.fn.threads.table.width;
   widest : l.threads.table.widest ≡ l.fn.threads.table.widest;
   slots_len : length l.slots ≡ length l.fn.slots;
@@ -25,4 +25,4 @@ invariant-loop-frame l = record {
 
 abbrev pub decreases-loop-frame : goal.decreases-loop-frame
 decreases-loop-frame l =
-    weight (cost_at l.states) (line (length l.states) l.place) (passed_at l.threads.set.items l.place) + length l.stack.items
+    weight (cost_at l.search.states.now) (line (length l.search.states.now) l.place) (passed_at l.threads.set.items l.place) + length l.stack.items

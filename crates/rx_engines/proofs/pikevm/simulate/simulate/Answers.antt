@@ -1,11 +1,11 @@
-use Rattle.std.proofs.Common.{◌≡◌, ◌+◌, ◌≤◌, ◌<◌, ℕ, length, refl, sym, ◌∙◌, ap, arith, true≢false}
-use Rattle.std.specs.Prelude.{true, false, None, replicate, option_map, is_some, nat_lt}
+use Rattle.std.proofs.Common.{◌≡◌, ◌+◌, ◌≤◌, ℕ, length, refl, sym, ◌∙◌, ap, arith, true≢false}
+use Rattle.std.specs.Prelude.{true, None, replicate, option_map, is_some, nat_lt}
 use Rattle.std.proofs.lemmas.Bool.Decides.{nat_tests}
 use Rattle.rx_model.specs.Runs.{nowhere}
 use Rattle.rx_model.proofs.RunLemmas.{by_test}
 use Rattle.rx_thompson.specs.Automaton.{automaton}
 use Rattle.rx_engines.specs.Threads.{StateSet}
-use Rattle.rx_engines.specs.Search.{next_until, answer_of}
+use Rattle.rx_engines.specs.Search.{next_until}
 use Rattle.rx_engines.specs.Simulation.{among, later_starts, best_hit, hit_of, passed_at}
 use Rattle.rx_engines.proofs.StartLemmas.{later-stable, after-step, best-some, cleared-after, none-left, reported-some, known-some}
 use Rattle.rx_engines.proofs.StageLemmas.{Stage, byte-same, not-some, and-false, and-true, found-none, seed-fits, stage-matched, stage-past, stage-over, stage-accepted, stage-silent, answer-stopped, answer-none, answer-late}
@@ -108,10 +108,10 @@ returns-then-is_enough-clause-any c =
     let matched : c.is_some.result ≡ is_some bh = c.is_some.ensures ∙ sym (best-some c.loop-place.best c.loop-place.slots) in
     let seeded = seed-fits s w c.args.from s.end bh c.loop-place.place (passed_at c.loop-place.curr.set.items c.loop-place.place) c.loop-place.curr.table.items c.seed.new.threads.table.items c.loop-place.curr.set.items c.seed.new.threads.set.items c.loop-place.invariant.row_len (c.seed.ensures.seeded s.end bh (option_map (hit_of w) (next_until s c.args.from s.end)) (omega arith) matched) c.loop-place.invariant.value in
     let both = and-true c.args.earliest (is_some c.better-best.result) (sym c.if-is_enough.true ∙ c.is_enough.ensures) in
-    known-some (among s.states.now (automaton s.states.now s.text.now s.end) nowhere (c.loop-place.place + 1) c.step-found.new.next.table.items c.step-found.new.next.set.items) c.better-best.result c.step-found.new.best _ w (next_until s c.args.from s.end) both.1
-    (after-step s.states.now s.text.now s.starts.now s.utf8_empty s.end w s.last c.step-found.result c.loop-place.best c.better-best.result c.loop-place.slots c.step-found.new.best c.step-found.new.next.set.items c.step-found.new.next.table.items c.loop-place.place (option_map (hit_of w) (next_until s c.args.from s.end))
-    (c.step-found.ensures.stepped s.end (later_starts s.states.now s.text.now s.starts.now s.utf8_empty s.end w bh s.last (c.loop-place.place + 1)) (option_map (hit_of w) (next_until s c.args.from s.end)) (omega arith) refl
-    (later-stable s.states.now s.text.now s.starts.now s.utf8_empty s.end w s.last bh (c.loop-place.place + 1)) seeded)
+    known-some (among s.states.now (automaton s.matcher s.states.now s.text.now s.end) nowhere (c.loop-place.place + 1) c.step-found.new.next.table.items c.step-found.new.next.set.items) c.better-best.result c.step-found.new.best _ w (next_until s c.args.from s.end) both.1
+    (after-step s.matcher s.states.now s.text.now s.starts.now s.utf8_empty s.end w s.last c.step-found.result c.loop-place.best c.better-best.result c.loop-place.slots c.step-found.new.best c.step-found.new.next.set.items c.step-found.new.next.table.items c.loop-place.place (option_map (hit_of w) (next_until s c.args.from s.end))
+    (c.step-found.ensures.stepped s.end (later_starts s.matcher s.states.now s.text.now s.starts.now s.utf8_empty s.end w bh s.last (c.loop-place.place + 1)) (option_map (hit_of w) (next_until s c.args.from s.end)) (omega arith) refl
+    (later-stable s.matcher s.states.now s.text.now s.starts.now s.utf8_empty s.end w s.last bh (c.loop-place.place + 1)) seeded)
     c.better-best.ensures.some c.better-best.ensures.none c.step-found.ensures.kept)
 
 pub loop-place-preserved : goal.loop-place-preserved
@@ -127,14 +127,14 @@ loop-place-preserved c =
     λ on. not-some c.better-best.result (and-false c.args.earliest (is_some c.better-best.result) (sym c.if-is_enough.false ∙ c.is_enough.ensures) on) in
     rw (c.swap.ensures.x_after, c.swap.ensures.y_after)
     (record {
-      value = after-step s.states.now s.text.now s.starts.now s.utf8_empty s.end w s.last c.step-found.result c.loop-place.best c.better-best.result c.loop-place.slots c.step-found.new.best c.step-found.new.next.set.items c.step-found.new.next.table.items c.loop-place.place (option_map (hit_of w) (next_until s c.args.from s.end))
-          (c.step-found.ensures.stepped s.end (later_starts s.states.now s.text.now s.starts.now s.utf8_empty s.end w bh s.last (c.loop-place.place + 1)) (option_map (hit_of w) (next_until s c.args.from s.end)) (omega arith) refl
-          (later-stable s.states.now s.text.now s.starts.now s.utf8_empty s.end w s.last bh (c.loop-place.place + 1)) seeded)
+      value = after-step s.matcher s.states.now s.text.now s.starts.now s.utf8_empty s.end w s.last c.step-found.result c.loop-place.best c.better-best.result c.loop-place.slots c.step-found.new.best c.step-found.new.next.set.items c.step-found.new.next.table.items c.loop-place.place (option_map (hit_of w) (next_until s c.args.from s.end))
+          (c.step-found.ensures.stepped s.end (later_starts s.matcher s.states.now s.text.now s.starts.now s.utf8_empty s.end w bh s.last (c.loop-place.place + 1)) (option_map (hit_of w) (next_until s c.args.from s.end)) (omega arith) refl
+          (later-stable s.matcher s.states.now s.text.now s.starts.now s.utf8_empty s.end w s.last bh (c.loop-place.place + 1)) seeded)
           c.better-best.ensures.some c.better-best.ensures.none c.step-found.ensures.kept;
       values = λ on e low high.
-          (after-step s.states.now s.text.now s.starts.now s.utf8_empty e w s.last c.step-found.result c.loop-place.best c.better-best.result c.loop-place.slots c.step-found.new.best c.step-found.new.next.set.items c.step-found.new.next.table.items c.loop-place.place (option_map (hit_of w) (next_until s c.args.from e))
-          (c.step-found.ensures.stepped e (later_starts s.states.now s.text.now s.starts.now s.utf8_empty e w bh s.last (c.loop-place.place + 1)) (option_map (hit_of w) (next_until s c.args.from e)) (omega arith) (byte-same s.text.now e s.end c.loop-place.place (omega arith) (omega arith))
-          (later-stable s.states.now s.text.now s.starts.now s.utf8_empty e w s.last bh (c.loop-place.place + 1)) (seed-fits s w c.args.from e bh c.loop-place.place (passed_at c.loop-place.curr.set.items c.loop-place.place) c.loop-place.curr.table.items c.seed.new.threads.table.items c.loop-place.curr.set.items c.seed.new.threads.set.items c.loop-place.invariant.row_len (c.seed.ensures.seeded e bh (option_map (hit_of w) (next_until s c.args.from e)) (omega arith) matched) (c.loop-place.invariant.values on e (omega arith) high)))
+          (after-step s.matcher s.states.now s.text.now s.starts.now s.utf8_empty e w s.last c.step-found.result c.loop-place.best c.better-best.result c.loop-place.slots c.step-found.new.best c.step-found.new.next.set.items c.step-found.new.next.table.items c.loop-place.place (option_map (hit_of w) (next_until s c.args.from e))
+          (c.step-found.ensures.stepped e (later_starts s.matcher s.states.now s.text.now s.starts.now s.utf8_empty e w bh s.last (c.loop-place.place + 1)) (option_map (hit_of w) (next_until s c.args.from e)) (omega arith) (byte-same s.text.now e s.end c.loop-place.place (omega arith) (omega arith))
+          (later-stable s.matcher s.states.now s.text.now s.starts.now s.utf8_empty e w s.last bh (c.loop-place.place + 1)) (seed-fits s w c.args.from e bh c.loop-place.place (passed_at c.loop-place.curr.set.items c.loop-place.place) c.loop-place.curr.table.items c.seed.new.threads.table.items c.loop-place.curr.set.items c.seed.new.threads.set.items c.loop-place.invariant.row_len (c.seed.ensures.seeded e bh (option_map (hit_of w) (next_until s c.args.from e)) (omega arith) matched) (c.loop-place.invariant.values on e (omega arith) high)))
           c.better-best.ensures.some c.better-best.ensures.none c.step-found.ensures.kept);
       unmatched = unmatched;
       none_before = λ on e low less.

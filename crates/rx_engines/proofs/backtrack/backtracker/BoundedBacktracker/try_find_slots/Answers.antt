@@ -1,12 +1,14 @@
-use Rattle.std.proofs.Common.{◌+◌, ◌-◌, [], length, sym, ◌∙◌, ap, subst, arith}
+use Rattle.std.proofs.Common.{◌+◌, ◌-◌, [], length, refl, sym, ◌∙◌, ap, subst, arith}
 use Rattle.std.proofs.lemmas.List.Elements.{All-head}
 use Rattle.std.specs.Prelude.{◌<◌, ◌≤◌, max, option_map, IfSome}
 use Rattle.rx_search.specs.Matches.{match_value}
 use Rattle.rx_thompson.specs.Nfa.{Nfa}
 use Rattle.rx_thompson.specs.NextMatch.{start_of}
 use Rattle.rx_engines.specs.Engine.{HasSlots}
+use Rattle.rx_engines.specs.Backtrack.{triple}
 use Rattle.rx_engines.proofs.EngineLemmas.{next_match_of-done, next_match_of-missing, start-inside}
 use Rattle.rx_engines.proofs.BoundedLemmas.{patterns-met, found-within, found-in_order, found-in_span, slots-met, reported-triple, small-extent}
+use Rattle.rx_engines.proofs.SpanLemmas.{empty-within, told-within}
 use Rattle.rx_engines.proofs.backtrack.backtracker.BoundedBacktracker.try_find_slots.Goals as goal
 
 pub returns-then-len-max_haystack_len-clause-patterns : goal.returns-then-len-max_haystack_len-clause-patterns
@@ -18,11 +20,8 @@ returns-in_default-clause-patterns c = patterns-met c.args.self.now c.args.input
 pub returns-then-is_done-clause-patterns : goal.returns-then-is_done-clause-patterns
 returns-then-is_done-clause-patterns c = patterns-met c.args.self.now c.args.input.now c.end.ensures.spanned.end
 
-pub returns-in-Ok-clause-patterns : goal.returns-in-Ok-clause-patterns
-returns-in-Ok-clause-patterns c = patterns-met c.args.self.now c.args.input.now c.end.ensures.spanned.end
-
-pub returns-in-Err-clause-patterns : goal.returns-in-Err-clause-patterns
-returns-in-Err-clause-patterns c = patterns-met c.args.self.now c.args.input.now c.end.ensures.spanned.end
+pub returns-clause-patterns : goal.returns-clause-patterns
+returns-clause-patterns c = patterns-met c.args.self.now c.args.input.now c.end.ensures.spanned.end
 
 -- the pattern is not there
 
@@ -75,27 +74,47 @@ find-requires-clause-search c =
 pub reported-requires : goal.reported-requires
 reported-requires c =
     let is = sym (c.start_state.ensures.value ∙ ap (start_of c.args.self.now) c.get_anchored-anchored.ensures) ∙ c.in-Some.is in
-    let m = found-within c.args.self.now c.args.input.now (c.states.ensures.value ∙ ap (λ (n : Nfa). n.states) c.self.view_is) c.haystack.ensures.value (c.is_utf8.ensures.value ∙ ap (λ (n : Nfa). n.utf8) c.self.view_is)
+    let m = found-within c.args.self.now c.args.input.now (c.look_matcher.ensures.value ∙ ap (λ (n : Nfa). n.terminator) c.self.view_is) (c.states.ensures.value ∙ ap (λ (n : Nfa). n.states) c.self.view_is) c.haystack.ensures.value (c.is_utf8.ensures.value ∙ ap (λ (n : Nfa). n.utf8) c.self.view_is)
     c.latest_start.ensures.value c.start-2.ensures.value c.end-2.ensures.value (grind (arith, c.is_done.ensures, c.if-is_done.false)) is in
-    found-in_order c.args.self.now c.args.input.now _ m c.in-Ok.found c.in-Ok.ensures.value
+    found-in_order c.args.self.now c.args.input.now _ m c.find.result c.find.ensures.value
 
-pub returns-in-Ok-clause-value : goal.returns-in-Ok-clause-value
-returns-in-Ok-clause-value c =
+pub returns-clause-value : goal.returns-clause-value
+returns-clause-value c =
     let is = sym (c.start_state.ensures.value ∙ ap (start_of c.args.self.now) c.get_anchored-anchored.ensures) ∙ c.in-Some.is in
-    let m = found-within c.args.self.now c.args.input.now (c.states.ensures.value ∙ ap (λ (n : Nfa). n.states) c.self.view_is) c.haystack.ensures.value (c.is_utf8.ensures.value ∙ ap (λ (n : Nfa). n.utf8) c.self.view_is)
+    let m = found-within c.args.self.now c.args.input.now (c.look_matcher.ensures.value ∙ ap (λ (n : Nfa). n.terminator) c.self.view_is) (c.states.ensures.value ∙ ap (λ (n : Nfa). n.states) c.self.view_is) c.haystack.ensures.value (c.is_utf8.ensures.value ∙ ap (λ (n : Nfa). n.utf8) c.self.view_is)
     c.latest_start.ensures.value c.start-2.ensures.value c.end-2.ensures.value (grind (arith, c.is_done.ensures, c.if-is_done.false)) is in
-    c.reported.ensures ∙ ap (option_map _) c.in-Ok.ensures.value ∙ reported-triple _ ∙ ap (option_map match_value) m
+    c.reported.ensures ∙ ap (option_map _) c.find.ensures.value ∙ reported-triple _ ∙ ap (option_map match_value) m
 
-pub returns-in-Ok-clause-slots : goal.returns-in-Ok-clause-slots
-returns-in-Ok-clause-slots c =
+pub returns-clause-slots : goal.returns-clause-slots
+returns-clause-slots c =
     let is = sym (c.start_state.ensures.value ∙ ap (start_of c.args.self.now) c.get_anchored-anchored.ensures) ∙ c.in-Some.is in
-    let m = found-within c.args.self.now c.args.input.now (c.states.ensures.value ∙ ap (λ (n : Nfa). n.states) c.self.view_is) c.haystack.ensures.value (c.is_utf8.ensures.value ∙ ap (λ (n : Nfa). n.utf8) c.self.view_is)
+    let m = found-within c.args.self.now c.args.input.now (c.look_matcher.ensures.value ∙ ap (λ (n : Nfa). n.terminator) c.self.view_is) (c.states.ensures.value ∙ ap (λ (n : Nfa). n.states) c.self.view_is) c.haystack.ensures.value (c.is_utf8.ensures.value ∙ ap (λ (n : Nfa). n.utf8) c.self.view_is)
     c.latest_start.ensures.value c.start-2.ensures.value c.end-2.ensures.value (grind (arith, c.is_done.ensures, c.if-is_done.false)) is in
-    slots-met c.args.self.now c.args.input.now c.start_state.ensures.in_range c.requires.slots _ m c.find.new.slots c.in-Ok.ensures.slots
+    slots-met c.args.self.now c.args.input.now c.start_state.ensures.in_range c.requires.slots _ m c.find.new.slots c.find.ensures.slots
 
-pub returns-in-Ok-clause-within : goal.returns-in-Ok-clause-within
-returns-in-Ok-clause-within c =
+pub returns-clause-within : goal.returns-clause-within
+returns-clause-within c =
     let is = sym (c.start_state.ensures.value ∙ ap (start_of c.args.self.now) c.get_anchored-anchored.ensures) ∙ c.in-Some.is in
-    let m = found-within c.args.self.now c.args.input.now (c.states.ensures.value ∙ ap (λ (n : Nfa). n.states) c.self.view_is) c.haystack.ensures.value (c.is_utf8.ensures.value ∙ ap (λ (n : Nfa). n.utf8) c.self.view_is)
+    let m = found-within c.args.self.now c.args.input.now (c.look_matcher.ensures.value ∙ ap (λ (n : Nfa). n.terminator) c.self.view_is) (c.states.ensures.value ∙ ap (λ (n : Nfa). n.states) c.self.view_is) c.haystack.ensures.value (c.is_utf8.ensures.value ∙ ap (λ (n : Nfa). n.utf8) c.self.view_is)
     c.latest_start.ensures.value c.start-2.ensures.value c.end-2.ensures.value (grind (arith, c.is_done.ensures, c.if-is_done.false)) is in
-    found-in_span c.args.self.now c.args.input.now _ m c.reported.result (c.reported.ensures ∙ ap (option_map _) c.in-Ok.ensures.value ∙ reported-triple _)
+    found-in_span c.args.self.now c.args.input.now _ m c.reported.result (c.reported.ensures ∙ ap (option_map _) c.find.ensures.value ∙ reported-triple _)
+
+-- the slots lie in the span
+
+pub returns-then-len-max_haystack_len-clause-slots_within : goal.returns-then-len-max_haystack_len-clause-slots_within
+returns-then-len-max_haystack_len-clause-slots_within c = empty-within c.args.input.now _ c.empty.new.slots c.empty.ensures
+
+pub returns-in_default-clause-slots_within : goal.returns-in_default-clause-slots_within
+returns-in_default-clause-slots_within c = empty-within c.args.input.now _ c.empty-in_default.new.slots c.empty-in_default.ensures
+
+pub returns-then-is_done-clause-slots_within : goal.returns-then-is_done-clause-slots_within
+returns-then-is_done-clause-slots_within c = empty-within c.args.input.now _ c.empty-then-is_done.new.slots c.empty-then-is_done.ensures
+
+pub returns-clause-slots_within : goal.returns-clause-slots_within
+returns-clause-slots_within c =
+    let is = sym (c.start_state.ensures.value ∙ ap (start_of c.args.self.now) c.get_anchored-anchored.ensures) ∙ c.in-Some.is in
+    let m = found-within c.args.self.now c.args.input.now (c.look_matcher.ensures.value ∙ ap (λ (n : Nfa). n.terminator) c.self.view_is) (c.states.ensures.value ∙ ap (λ (n : Nfa). n.states) c.self.view_is) c.haystack.ensures.value (c.is_utf8.ensures.value ∙ ap (λ (n : Nfa). n.utf8) c.self.view_is)
+    c.latest_start.ensures.value c.start-2.ensures.value c.end-2.ensures.value (grind (arith, c.is_done.ensures, c.if-is_done.false)) is in
+    told-within c.args.self.now c.args.self.now.utf8 c.args.input.now c.args.input.now.end (omega arith) _ refl c.find.new.slots
+    (slots-met c.args.self.now c.args.input.now c.start_state.ensures.in_range c.requires.slots _ m c.find.new.slots c.find.ensures.slots)
+    _ (λ none. rw (c.find.ensures.value ∙ ap (option_map triple) (m ∙ none)) at c.find.ensures.none)

@@ -2,8 +2,10 @@ use Rattle.std.proofs.Common.{◌≤◌, sym, ◌∙◌, ap, subst, refl, arith}
 use Rattle.std.specs.Prelude.{is_some, option_map, IfSome}
 use Rattle.rx_search.specs.Matches.{match_value}
 use Rattle.rx_thompson.specs.NextMatch.{start_of}
-use Rattle.rx_engines.specs.Engine.{HasSlots}
-use Rattle.rx_engines.proofs.EngineLemmas.{next_match_of-done, next_match_of-missing, answer_in-done, answer_in-missing, patterns-agree, search-inside, next-is, answer-is, reported-is_match, triple-in_order, value-within, slots-told, triple-value, reported-any}
+use Rattle.rx_engines.specs.Engine.{HasSlots, stop_in}
+use Rattle.rx_engines.specs.Search.{triple}
+use Rattle.rx_engines.proofs.EngineLemmas.{next_match_of-done, next_match_of-missing, answer_in-done, answer_in-missing, patterns-agree, stop-within, search-inside, next-is, answer-is, reported-is_match, triple-in_order, value-within, slots-told, triple-value, reported-any}
+use Rattle.rx_engines.proofs.SpanLemmas.{empty-within, told-within}
 use Rattle.rx_engines.proofs.pikevm.vm.PikeVM.find_slots.Goals as goal
 
 -- the pattern is not there
@@ -95,3 +97,20 @@ returns-then-is_done-clause-patterns c = patterns-agree c.args.self.now c.args.i
 
 pub returns-clause-patterns : goal.returns-clause-patterns
 returns-clause-patterns c = patterns-agree c.args.self.now c.args.input.now c.start-from.ensures.spanned.end
+
+-- the slots lie in the span
+
+pub returns-in_default-clause-slots_within : goal.returns-in_default-clause-slots_within
+returns-in_default-clause-slots_within c = empty-within c.args.input.now _ c.empty.new.slots c.empty.ensures
+
+pub returns-then-is_done-clause-slots_within : goal.returns-then-is_done-clause-slots_within
+returns-then-is_done-clause-slots_within c = empty-within c.args.input.now _ c.empty-then-is_done.new.slots c.empty-then-is_done.ensures
+
+pub returns-clause-slots_within : goal.returns-clause-slots_within
+returns-clause-slots_within c =
+    let is = sym (c.start.ensures.value ∙ ap (start_of c.args.self.now.nfa) c.get_anchored.ensures) ∙ c.in-Some.is in
+    let le : c.args.input.now.start ≤ c.args.input.now.end = grind (arith, c.is_done.ensures, c.if-is_done.false) in
+    let told = answer-is c.args.self.now c.args.input.now c.in-Some.start c.search_for-search.result c.search_for-search.ensures le is c.start-from.ensures.value c.get_earliest.ensures in
+    told-within c.args.self.now.nfa c.args.self.now.nfa.utf8 c.args.input.now (stop_in c.args.self.now c.args.input.now) (stop-within c.args.self.now c.args.input.now le).1 _ refl c.find-found.new.slots
+    (slots-told c.args.self.now c.args.input.now c.start.ensures.in_range c.requires.widest _ told c.find-found.new.slots c.find-found.ensures.slots)
+    _ (λ none. rw (c.find-found.ensures.value ∙ ap (option_map triple) (told ∙ none)) at c.find-found.ensures.cleared)

@@ -1,6 +1,0 @@
-use Rattle.std.proofs.Common.{◌≡◌, ◌+◌}
-use Rattle.rx_engines.specs.Simulation.{cost_below}
-use Rattle.rx_engines.proofs.pikevm.cache.stack_room.Given as goal
-
-abbrev pub invariant-loop-q : goal.invariant-loop-q
-invariant-loop-q l = l.room ≡ cost_below l.states l.q + 1

@@ -1,0 +1,81 @@
+ghost use Rattle.std.specs.Prelude.{◌≡◌, ◌+◌, ◌<◌, ◌≤◌, vec_capacity, [], ◌∷◌, ◌++◌, length, map, reverse, IfOk, IfSome, IfNone};
+ghost use Rattle.rx_thompson.specs.Automaton.{at};
+ghost use Rattle.rx_engines.specs.Walk.{explore_all};
+ghost use Rattle.rx_engines.specs.Threads.{Frames, frames_code};
+
+use crate::frame::Frame;
+use rx_search::{Memory, StateID};
+use std::alloc::Global;
+use std::marker::Model;
+
+/// The frames of a search, within a fixed room. A contract sees them as a list whose first is the top.
+#[derive(Drop)]
+pub struct Stack {
+    frames: Vec<Frame>,
+    room: usize,
+}
+
+impl Model for Stack {
+    ghost Value = { Frames };
+
+    ghost coded = { frames_code };
+
+    ghost view = { λ s. record { items = reverse s.frames.items; room = s.room } };
+
+    ghost invariant = { λ s. s.room ≤ vec_capacity s.frames };
+}
+
+impl Stack {
+    pub fn new(alloc: Global, room: usize) -> Result<Stack, Memory>
+        ensures { IfOk result (λ s. s ≡ record { items = []; room = room }) }
+    {
+        let frames = Vec::with_capacity(alloc, room)?;
+        Ok(Stack { frames, room })
+    }
+
+    /// How many frames there may be.
+    pub fn room(&self) -> usize
+        ensures { result ≡ self.now.room }
+    {
+        self.room
+    }
+
+    pub fn clear(&mut self)
+        ensures { self.new ≡ record self.old { items = [] } }
+    {
+        self.frames.clear();
+    }
+
+    pub fn push(&mut self, frame: Frame)
+        requires { length self.old.items < self.old.room }
+        ensures { self.new ≡ record self.old { items = frame ∷ self.old.items } }
+    {
+        self.frames.push_reserved(frame);
+    }
+
+    pub fn pop(&mut self) -> Option<Frame>
+        ensures some { IfSome result (λ frame. self.old
+            ≡ record self.new { items = frame ∷ self.new.items }) }
+        ensures none { IfNone result ((self.old.items ≡ []) × (self.new ≡ self.old)) }
+        ensures room { self.new.room ≡ self.old.room }
+    {
+        self.frames.pop()
+    }
+}
+
+/// Puts the states on the stack, the first one on top.
+pub fn push_all(stack: &mut Stack, alternates: &[StateID], place: usize)
+    requires { length stack.old.items + length alternates.now ≤ stack.old.room }
+    ensures { stack.new ≡ record stack.old {
+      items = explore_all (map (λ q. at q place) alternates.now) ++ stack.old.items;
+    } }
+{
+    let mut left = alternates.len();
+    while left > 0 {
+        left -= 1;
+        stack.push(Frame::Explore {
+            state: alternates[left],
+            place,
+        });
+    }
+}

@@ -1,0 +1,68 @@
+//! Scans with several workers.
+
+use rx_meta::Regex;
+use rx_scan::{Row, scan};
+use rx_search::{NonMaxUsize, Open};
+use std::alloc::Global;
+use std::process::Abort;
+use std::sync::Wait;
+use std::test::Fail;
+use std::thread::Threads;
+
+/// The place that a slot holds.
+fn place(slot: Option<NonMaxUsize>) -> Option<usize> {
+    match slot {
+        Some(place) => Some(place.get()),
+        None => None,
+    }
+}
+
+/// The row is of this pattern, with these places.
+fn expect_row(rt: &impl Abort, row: &Row, pattern: usize, places: &[Option<usize>]) {
+    assert_eq!(rt; row.pattern.as_usize(), pattern);
+    let slots = row.slots.as_slice();
+    assert_eq!(rt; slots.len(), places.len());
+    for k in 0..places.len() {
+        if k < slots.len() {
+            assert_eq!(rt; place(slots[k]), places[k]);
+        }
+    }
+}
+
+/// Scans three haystacks for two patterns.
+fn expect_rows<R: Threads + Wait + Sync + Abort>(
+    rt: &R,
+    alloc: Global,
+    workers: usize,
+) -> Result<(), Fail>
+    requires { 0 < workers }
+{
+    let regex = Regex::new_many(alloc, &["a(b)?", "c"]);
+    let regex = regex.ok().expect(rt, "a regex");
+    let haystacks: [&[u8]; 3] = [b"xab", b"", b"ca"];
+    let rows = scan(rt, alloc, &regex, &haystacks, workers, &Open);
+    let rows = rows.ok().expect(rt, "memory");
+    assert_eq!(rt; rows.len(), 3);
+    assert_eq!(rt; rows[0].len(), 1);
+    expect_row(rt, &rows[0][0], 0, &[Some(1), Some(3), Some(2), Some(3)]);
+    assert_eq!(rt; rows[1].len(), 0);
+    assert_eq!(rt; rows[2].len(), 2);
+    expect_row(rt, &rows[2][0], 1, &[Some(0), Some(1)]);
+    expect_row(rt, &rows[2][1], 0, &[Some(1), Some(2), None, None]);
+    Ok(())
+}
+
+#[test]
+fn one_worker(rt: HostRuntime) -> Result<(), Fail> {
+    expect_rows(&rt, rt.alloc(), 1)
+}
+
+#[test]
+fn two_workers(rt: HostRuntime) -> Result<(), Fail> {
+    expect_rows(&rt, rt.alloc(), 2)
+}
+
+#[test]
+fn more_workers_than_haystacks(rt: HostRuntime) -> Result<(), Fail> {
+    expect_rows(&rt, rt.alloc(), 64)
+}
