@@ -66,11 +66,11 @@ fn thousands_of_alternatives_are_built(rt: HostRuntime) -> Result<(), Fail> {
 }
 
 #[test]
-fn four_mebibytes_are_refused(rt: HostRuntime) -> Result<(), Fail> {
+fn half_a_mebibyte_is_refused(rt: HostRuntime) -> Result<(), Fail> {
     let alloc = rt.alloc();
-    assert_eq!(rt; status_of(&rt, alloc, vec![in alloc; b'('; 4194304]?)?, 1);
-    assert_eq!(rt; status_of(&rt, alloc, vec![in alloc; b'['; 4194304]?)?, 1);
-    assert_eq!(rt; status_of(&rt, alloc, vec![in alloc; b'*'; 4194304]?)?, 1);
-    assert_eq!(rt; status_of(&rt, alloc, vec![in alloc; b'a'; 4194304]?)?, 5);
+    assert_eq!(rt; status_of(&rt, alloc, vec![in alloc; b'('; 524288]?)?, 1);
+    assert_eq!(rt; status_of(&rt, alloc, vec![in alloc; b'['; 524288]?)?, 1);
+    assert_eq!(rt; status_of(&rt, alloc, vec![in alloc; b'*'; 524288]?)?, 1);
+    assert_eq!(rt; status_of(&rt, alloc, vec![in alloc; b'a'; 524288]?)?, 5);
     Ok(())
 }
