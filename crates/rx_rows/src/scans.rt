@@ -1,5 +1,7 @@
 //! Scans with several workers.
 
+ghost use Rattle.std.specs.Prelude.{◌<◌};
+
 use rx_meta::Regex;
 use rx_scan::{Row, scan};
 use rx_search::{NonMaxUsize, Open};
