@@ -6,6 +6,7 @@ ghost use Rattle.rx_model.specs.Look.{Look, holds};
 ghost use Rattle.rx_model.specs.Meaning.{Means};
 ghost use Rattle.rx_search.specs.GroupInfo.{has_duplicate};
 ghost use Rattle.rx_model.specs.Text.{Class, scalar_ranges, byte_ranges};
+ghost use Rattle.rx_class.specs.Ranges.{AreScalarRanges};
 ghost use Rattle.rx_hir.specs.Length.{maximum_len, saturated, in_64_bits};
 ghost use Rattle.rx_hir.specs.Names.{IsNamed, IsNamedAmong, HasOneNameEach, name_in, group_names};
 ghost use Rattle.rx_hir.specs.Normal.{expressions, literal_of, class_of, repetition_of, concat_of, alternation_of, MeanTheSame};
