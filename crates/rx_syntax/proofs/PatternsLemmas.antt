@@ -1,6 +1,13 @@
 -- Going through patterns one after another.
 use Rattle.std.proofs.Common.{◌≡◌, ℕ, ◌+◌, ◌<◌, ◌≤◌, List, [], ◌∷◌, ◌++◌, length, drop, get_or, Result, Ok, Err, refl, sym, ap, ◌∙◌, subst, append_assoc, append-nil, arith, length-append}
-use Rattle.std.proofs.lemmas.List.{drop_more, drop_all}
+use Rattle.std.proofs.Common.{Bor, map}
+use Rattle.std.specs.Prelude.{chars}
+use Rattle.std.proofs.lemmas.List.{drop_more, drop_all, get_or-map, length-map}
+use Rattle.rx_model.specs.Expression.{Expression}
+use Rattle.rx_reader.specs.Grammar.{read}
+use Rattle.rx_reader.specs.Syntax.{Syntax}
+use Rattle.rx_reader.specs.declared.config.Config.{Config}
+use Rattle.rx_syntax.specs.Translation.{translated}
 use Rattle.rx_reader.specs.Refusal.{Refuses}
 use Rattle.rx_reader.specs.declared.error.SyntaxError.{SyntaxError}
 use Rattle.rx_reader.specs.declared.error.ParseError.{ParseError}
@@ -63,3 +70,31 @@ module _ {A : Type 0} where
 pub error_at-within : (k count : ℕ) (e : ParseError) → k < count → IsWithin (error_at k e) count
 error_at-within k count (OneRefused error) lt = lt
 error_at-within k count OneMemory lt = tt
+
+-- what each pattern reads as
+abbrev pub read_each : Config → List (Bor (List ℕ)) → List (Result Syntax SyntaxError)
+read_each config ps = map (λ text. read config (chars text)) (map (λ (p : Bor (List ℕ)). p.now) ps)
+
+pub read_each-at : (config : Config) (ps : List (Bor (List ℕ))) (k : ℕ) (d : Bor (List ℕ)) → k < length ps
+    → get_or (read_each config ps) k (read config (chars (get_or ps k d).now)) ≡ read config (chars (get_or ps k d).now)
+read_each-at config ps k d lt =
+    let texts = map (λ (p : Bor (List ℕ)). p.now) ps in
+    let text = (get_or ps k d).now in
+    let within : k < length texts = omega (arith, length-map ps (λ (p : Bor (List ℕ)). p.now)) in
+    let here : get_or texts k text ≡ text = get_or-map (λ (p : Bor (List ℕ)). p.now) ps k d text lt in
+    get_or-map (λ t. read config (chars t)) texts k text (read config (chars text)) within ∙ ap (λ t. read config (chars t)) here
+
+pub length-read_each : (config : Config) (ps : List (Bor (List ℕ))) → length (read_each config ps) ≡ length ps
+length-read_each config ps =
+    length-map (map (λ (p : Bor (List ℕ)). p.now) ps) (λ text. read config (chars text)) ∙ length-map ps (λ (p : Bor (List ℕ)). p.now)
+
+-- what each syntax stands for
+abbrev pub translate_each : Config → List Syntax → List (Result Expression SyntaxError)
+translate_each config ss = map (translated config) ss
+
+pub translate_each-at : (config : Config) (ss : List Syntax) (k : ℕ) (d : Syntax) → k < length ss
+    → get_or (translate_each config ss) k (translated config (get_or ss k d)) ≡ translated config (get_or ss k d)
+translate_each-at config ss k d lt = get_or-map (translated config) ss k d (translated config (get_or ss k d)) lt
+
+pub length-translate_each : (config : Config) (ss : List Syntax) → length (translate_each config ss) ≡ length ss
+length-translate_each config ss = length-map ss (translated config)
