@@ -12,3 +12,7 @@ pub mod NamesLemmas
 pub mod LookLemmas
 pub mod NamedLemmas
 pub mod Utf8Lemmas
+pub mod RowLemmas
+pub mod CopiesLemmas
+pub mod SameLemmas
+pub mod NamedFormsLemmas

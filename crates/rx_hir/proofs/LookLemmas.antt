@@ -1,25 +1,19 @@
 -- A look-around that each match begins, or ends, with holds there.
-use Rattle.std.proofs.Common.{◌≡◌, ℕ, zero, suc, ◌<◌, true, List, Option, Some, None, sym, ap, ◌∙◌, subst, inl, inr, arith, true≢false}
+use Rattle.std.proofs.Common.{◌≡◌, ℕ, zero, suc, ◌<◌, true, List, Option, Some, None, sym, ap, subst, inl, inr, arith, true≢false}
 use Rattle.std.specs.Prelude.{nat_lt, ◌&&◌}
 use Rattle.std.proofs.lemmas.Bool.{or_cases, and_parts}
 use Rattle.std.proofs.lemmas.Bool.Decides.{nat_tests}
-use Rattle.std.proofs.lemmas.Option.{same_Some}
-use Rattle.rx_model.specs.Look.{Look, look_number, look_of, look-back, holds}
+use Rattle.rx_model.specs.Look.{Look, holds}
 use Rattle.rx_model.specs.Expression.{Expression, Expressions, empty, literal, class, look, repetition, capture, concat, alternation, nil, cons}
 use Rattle.rx_model.specs.Meaning.{Pieces, Means, MeansInTurn, MeansOne}
 use Rattle.rx_model.proofs.EmptyLemmas.{means-rises, in_turn-rise}
-use Rattle.rx_search.specs.Look.{is_same_kind}
 use Rattle.rx_hir.specs.Length.{maximum_len, sum_of_maximum_len}
 use Rattle.rx_hir.specs.Normal.{is_zero}
+use Rattle.rx_hir.specs.SameLaws.{same-kind}
 use Rattle.rx_hir.specs.Properties.{looks_first, row_looks_first, each_looks_first, looks_last, row_looks_last, each_looks_last}
 use Rattle.rx_hir.proofs.SpanLemmas.{means-short}
 
-same-kind : (a b : Look) → is_same_kind a b ≡ true → a ≡ b
-same-kind a b e =
-    let number : look_number a ≡ look_number b = grind (arith, nat_tests) in
-    same_Some a b (sym (look-back a) ∙ ap look_of number ∙ look-back b)
-
-zero-len : (o : Option ℕ) → is_zero o ≡ true → o ≡ Some 0
+pub zero-len : (o : Option ℕ) → is_zero o ≡ true → o ≡ Some 0
 zero-len None e = absurd (true≢false (sym e))
 zero-len (Some n) e = let none : n ≡ 0 = grind (arith, nat_tests) in ap Some none
 

@@ -8,4 +8,6 @@ pub mod Names
 pub mod Normal
 pub mod Properties
 pub mod PropertiesViews
+pub mod Same
+pub mod SameLaws
 pub mod Sound

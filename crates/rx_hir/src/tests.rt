@@ -110,3 +110,14 @@ fn names(rt: HostRuntime) -> Result<(), Fail> {
     assert_eq!(rt; name.as_str(), "x");
     Ok(())
 }
+
+#[test]
+fn equality(rt: HostRuntime) -> Result<(), Fail> {
+    let alloc = rt.alloc();
+    let index = NonZeroUsize::new(2).ok_or("two")?;
+    let hir = boundary_and_option(alloc, index)?;
+    assert!(rt; hir.clone()? == hir);
+    assert!(rt; hir != named(alloc, index, "x", Hir::empty())?);
+    assert!(rt; matches!(hir.into_kind(), HirKind::Concat(_)));
+    Ok(())
+}

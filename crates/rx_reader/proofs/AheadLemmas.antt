@@ -47,3 +47,7 @@ pub past_shorter : (p q : Place) → q ≡ past p → length q.text ≤ length p
 past_shorter p q next =
     let size : length q.text ≡ length p.text - 1 = ap (λ (r : Place). length r.text) next ∙ length-drop 1 p.text in
     omega (arith, size)
+
+pub skip_none : (flags : Flags) (p : Place) → flags.ignore_whitespace ≡ false → skip flags p ≡ p
+unfolding past_n
+skip_none flags p keeps = rw keeps refl

@@ -6,3 +6,4 @@ pub mod Classes
 pub mod Translation
 pub mod ItemViews
 pub mod Pattern
+pub mod Patterns

@@ -8,6 +8,7 @@ mod assertion;
 mod bytes;
 mod literal;
 mod pattern;
+mod patterns;
 mod refusal;
 mod scalars;
 mod set;
@@ -16,4 +17,5 @@ mod tests;
 mod translate;
 
 pub use pattern::{parse, parse_many, parse_many_with, parse_with, read_with, translate_with};
+pub use patterns::{PatternsError, parse_all};
 pub use rx_reader::{Ast, Config, ParseError, SyntaxError, SyntaxErrorKind};

@@ -3,9 +3,11 @@ ghost use Rattle.std.specs.Prelude.{◌≡◌, chars, map};
 ghost use Rattle.rx_reader.specs.Grammar.{read};
 ghost use Rattle.rx_reader.specs.Config.{default};
 ghost use Rattle.rx_syntax.specs.Answers.{Answers, AnswersAs};
-ghost use Rattle.rx_syntax.specs.Pattern.{reads, each_reads};
+ghost use Rattle.rx_syntax.specs.Pattern.{reads};
+ghost use Rattle.rx_syntax.specs.Patterns.{all_read, unnumbered};
 ghost use Rattle.rx_syntax.specs.Translation.{translated};
 
+use crate::patterns::{PatternsError, parse_all};
 use crate::translate::translate;
 use rx_hir::Hir;
 use rx_reader::{Ast, Config, ParseError, read};
@@ -28,27 +30,27 @@ pub fn parse_with(alloc: Global, pattern: &str, config: &Config) -> Result<Hir, 
     translate_with(alloc, &ast, config)
 }
 
-/// The expressions of patterns under the default configuration, or the refusal of the first one that is refused.
+/// The expressions of patterns under the default configuration, or the first refusal, as by `parse_many_with`.
 pub fn parse_many(alloc: Global, patterns: &[&str]) -> Result<Vec<Hir>, ParseError>
-    ensures { AnswersAs (λ v. v.items) result (each_reads default (map (λ p. p.now) patterns.now)) }
+    ensures { AnswersAs (λ v. v.items) result (unnumbered (all_read default (map (λ p. p.now) patterns.now))) }
 {
     parse_many_with(alloc, patterns, &Config::new())
 }
 
-/// The expressions of patterns under a configuration, or the refusal of the first one that is refused: each is
-/// read and translated before the next one is read.
+/// The expressions of patterns under a configuration, or the first refusal. All patterns are read before any is
+/// translated: so it is that of the first pattern that reading refuses, and else of the first that translation does.
 pub fn parse_many_with(
     alloc: Global,
     patterns: &[&str],
     config: &Config,
 ) -> Result<Vec<Hir>, ParseError>
-    ensures { AnswersAs (λ v. v.items) result (each_reads config.now (map (λ p. p.now) patterns.now)) }
+    ensures { AnswersAs (λ v. v.items) result (unnumbered (all_read config.now (map (λ p. p.now) patterns.now))) }
 {
-    let mut exprs = Vec::with_capacity(alloc, patterns.len())?;
-    for pattern in patterns {
-        exprs.push(parse_with(alloc, pattern, config)?)?;
+    match parse_all(alloc, patterns, config) {
+        Ok(exprs) => Ok(exprs),
+        Err(PatternsError::Syntax { error, .. }) => Err(ParseError::Syntax(error)),
+        Err(PatternsError::Memory) => Err(ParseError::Memory),
     }
-    Ok(exprs)
 }
 
 /// What a pattern reads as, before it is translated: for a caller that reads all its patterns first.

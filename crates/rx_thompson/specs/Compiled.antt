@@ -3,11 +3,11 @@ use Rattle.std.specs.Prelude.{◌≡◌, ℕ, ◌+◌, ◌*◌, ◌<◌, ◌≤�
 use Rattle.std.specs.List.{list_all}
 use Rattle.rx_model.specs.Expression.{Expression, AreOrdered}
 use Rattle.rx_model.specs.Look.{start_text}
-use Rattle.rx_model.specs.Search.{Patterns, WhichCaptures, all, implicit, none, greatest_group, groups_before}
-use Rattle.rx_search.specs.GroupInfo.{unnamed_groups}
+use Rattle.rx_model.specs.Search.{Patterns, WhichCaptures, all, implicit, none, groups_before}
 use Rattle.rx_model.specs.Empty.{one_can_be_empty}
 use Rattle.rx_hir.specs.Normal.{expressions}
 use Rattle.rx_hir.specs.Cost.{accounted_states, capped}
+use Rattle.rx_hir.specs.Names.{group_names}
 use Rattle.rx_hir.specs.Properties.{looks_first}
 use Rattle.rx_thompson.specs.Config.{utf8_of, size_limit_of, terminator_of, captures_of}
 use Rattle.rx_thompson.specs.declared.compiler.config.Config.{Config}
@@ -29,15 +29,12 @@ slots_of all hs = 2 * length hs + 2 * groups_before (length hs) hs
 slots_of implicit hs = 2 * length hs
 slots_of none hs = 0
 
--- how many groups of each pattern have slots: under `all` those from 0 to the greatest that its expression has
-abbrev pub group_lens_of : WhichCaptures → List Expression → List ℕ
-group_lens_of all hs = map (λ h. greatest_group h + 1) hs
-group_lens_of implicit hs = replicate (length hs) 1
-group_lens_of none hs = []
-
--- these groups, none of which has a name
+-- The groups of each pattern that have slots, by their names: under `all` those from 0 to the greatest that its
+-- expression has, under `implicit` the whole match, which has no name.
 abbrev pub groups_of : WhichCaptures → List Expression → List (List (Option (List ℕ)))
-groups_of which hs = map unnamed_groups (group_lens_of which hs)
+groups_of all hs = map group_names hs
+groups_of implicit hs = replicate (length hs) (None ∷ [])
+groups_of none hs = []
 
 -- the first slot of the groups that pattern p names, if they have slots
 abbrev pub first_slot_of : WhichCaptures → List Expression → ℕ → Option ℕ

@@ -20,4 +20,10 @@ impl Hir {
     {
         &self.properties
     }
+    /// What the expression is made of, without the expression around it.
+    pub fn into_kind(self) -> HirKind
+        ensures { kind_view result ≡ self }
+    {
+        self.kind
+    }
 }

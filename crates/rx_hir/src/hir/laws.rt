@@ -1,12 +1,14 @@
 //! Laws of properties and of names.
-ghost use Rattle.std.specs.Prelude.{◌≡◌, ℕ, ◌+◌, ◌-◌, ◌≤◌, true, false, List, take, drop, Some, IsUtf8};
-ghost use Rattle.rx_model.specs.Expression.{Expression, AreOrdered};
+ghost use Rattle.std.specs.Prelude.{◌≡◌, ℕ, ◌+◌, ◌-◌, ◌≤◌, true, false, Bool, List, take, drop, Option, Some, IfSome, IsUtf8};
+ghost use Rattle.rx_model.specs.Expression.{Expression, literal, class, repetition, concat, alternation, AreOrdered};
 ghost use Rattle.rx_model.specs.Length.{minimum_len};
 ghost use Rattle.rx_model.specs.Look.{Look, holds};
 ghost use Rattle.rx_model.specs.Meaning.{Means};
 ghost use Rattle.rx_search.specs.GroupInfo.{has_duplicate};
+ghost use Rattle.rx_model.specs.Text.{Class, scalar_ranges, byte_ranges};
 ghost use Rattle.rx_hir.specs.Length.{maximum_len, saturated, in_64_bits};
-ghost use Rattle.rx_hir.specs.Names.{IsNamed, HasOneNameEach, name_in, group_names};
+ghost use Rattle.rx_hir.specs.Names.{IsNamed, IsNamedAmong, HasOneNameEach, name_in, group_names};
+ghost use Rattle.rx_hir.specs.Normal.{expressions, literal_of, class_of, repetition_of, concat_of, alternation_of, MeanTheSame};
 ghost use Rattle.rx_hir.specs.Properties.{looks_first, looks_last, is_utf8};
 ghost use Rattle.rx_hir.specs.Sound.{IsSound};
 
@@ -46,4 +48,26 @@ pub fn told_names_stand()
     ensures stands { (h : Expression) (g : ℕ) (name : List ℕ) → name_in g h ≡ Some name → IsNamed g (Some name) h }
     ensures told { (h : Expression) → HasOneNameEach h → (g : ℕ) (name : List ℕ) → IsNamed g (Some name) h → name_in g h ≡ Some name }
     ensures once { (h : Expression) → HasOneNameEach h → has_duplicate (group_names h) ≡ false }
+{}
+
+/// The normal form that a constructor gives means just what the expression of its parts does.
+pub fn normal_forms_keep_the_meaning()
+    ensures literals { (t : ℕ) (text bytes : List ℕ) → MeanTheSame t text (literal_of bytes) (literal bytes) }
+    ensures scalars { (t : ℕ) (text : List ℕ) (rs : List (ℕ × ℕ)) → AreScalarRanges rs
+        → MeanTheSame t text (class_of (scalar_ranges rs)) (class (scalar_ranges rs)) }
+    ensures bytes { (t : ℕ) (text : List ℕ) (rs : List (ℕ × ℕ)) → MeanTheSame t text (class_of (byte_ranges rs)) (class (byte_ranges rs)) }
+    ensures copies { (t : ℕ) (text : List ℕ) (least : ℕ) (greatest : Option ℕ) (greedy : Bool) (h : Expression) → IfSome greatest (λ m. least ≤ m)
+        → MeanTheSame t text (repetition_of least greatest greedy h) (repetition least greatest greedy h) }
+    ensures rows { (t : ℕ) (text : List ℕ) (hs : List Expression) → MeanTheSame t text (concat_of hs) (concat (expressions hs)) }
+    ensures choices { (t : ℕ) (text : List ℕ) (hs : List Expression) → MeanTheSame t text (alternation_of hs) (alternation (expressions hs)) }
+{}
+
+/// A name in the normal form that a constructor gives is one of the parts.
+pub fn normal_forms_add_no_names()
+    ensures literals { (g : ℕ) (name : Option (List ℕ)) (bytes : List ℕ) → IsNamed g name (literal_of bytes) → ⊥ }
+    ensures classes { (g : ℕ) (name : Option (List ℕ)) (members : Class) → IsNamed g name (class_of members) → ⊥ }
+    ensures copies { (g : ℕ) (name : Option (List ℕ)) (least : ℕ) (greatest : Option ℕ) (greedy : Bool) (h : Expression)
+        → IsNamed g name (repetition_of least greatest greedy h) → IsNamed g name h }
+    ensures rows { (g : ℕ) (name : Option (List ℕ)) (hs : List Expression) → IsNamed g name (concat_of hs) → IsNamedAmong g name (expressions hs) }
+    ensures choices { (g : ℕ) (name : Option (List ℕ)) (hs : List Expression) → IsNamed g name (alternation_of hs) → IsNamedAmong g name (expressions hs) }
 {}

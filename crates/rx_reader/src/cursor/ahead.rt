@@ -79,7 +79,10 @@ impl Cursor {
         ensures progress { unread self.new ≤ unread self.old }
         ensures kept { HasRoom self.old → HasRoom self.new }
     {
-        let count = skipped_len(flags, self.rest());
+        if !flags.ignore_whitespace {
+            return;
+        }
+        let count = blank_len(self.rest());
         self.bump_by(count);
     }
 

@@ -203,6 +203,20 @@ fn a_look_around_is_one_state(rt: HostRuntime) -> Result<(), Fail> {
 }
 
 #[test]
+fn tells_the_names_of_groups(rt: HostRuntime) -> Result<(), Fail> {
+    let exprs = with_groups(rt.alloc())?;
+    let nfa = Compiler::new().build_many_from_hir(rt.alloc(), &exprs)?;
+    let info = nfa.group_info();
+    let first = PatternID::new(0).ok_or("0")?;
+    let second = PatternID::new(1).ok_or("1")?;
+    assert_eq!(rt; info.to_name(first, 1), None);
+    assert_eq!(rt; info.to_name(first, 2), Some("c"));
+    assert_eq!(rt; info.to_index(second, "d"), Some(1));
+    assert_eq!(rt; info.to_index(second, "c"), None);
+    Ok(())
+}
+
+#[test]
 fn tells_whether_each_pattern_is_start_anchored(rt: HostRuntime) -> Result<(), Fail> {
     let anchored = [Hir::look(Look::Start), Hir::look(Look::Start)];
     let nfa = Compiler::new().build_many_from_hir(rt.alloc(), &anchored)?;
