@@ -1,5 +1,5 @@
 -- On the names of sets in classes.
-use Rattle.std.proofs.Common.{◌≡◌, ℕ, Bool, true, length, sym, ap, ◌∙◌}
+use Rattle.std.proofs.Common.{◌≡◌, Bool, true, sym, ap, ◌∙◌}
 use Rattle.std.specs.Prelude.{Option, if◌then◌else◌}
 use Rattle.rx_sets.specs.Ascii.{ascii_named}
 use Rattle.rx_sets.specs.declared.ascii.ClassAsciiKind.{ClassAsciiKind}

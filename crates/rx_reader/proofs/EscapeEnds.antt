@@ -1,6 +1,6 @@
 -- Where escapes and classes end.
-use Rattle.std.proofs.Common.{◌≡◌, ℕ, zero, suc, ◌+◌, ◌<◌, ◌≤◌, ◌==◌, Bool, true, false, not, ◌&&◌, ◌||◌, List, [], ◌∷◌, length, take, drop, Ok, refl, ◌∙◌, ap, arith, add-one}
-use Rattle.std.specs.Prelude.{Option, Some, None, if◌then◌else◌, nat_lt, codes}
+use Rattle.std.proofs.Common.{◌≡◌, ℕ, zero, suc, ◌+◌, ◌<◌, ◌≤◌, ◌==◌, Bool, true, false, not, ◌&&◌, ◌||◌, List, ◌∷◌, length, Ok, refl, ◌∙◌, ap, arith, add-one}
+use Rattle.std.specs.Prelude.{Option, Some, None, if◌then◌else◌, nat_lt}
 use Rattle.std.specs.Char.{is_ascii_digit, is_digit}
 use Rattle.std.specs.Str.Parse.{digits_value}
 use lib.Utf8.{scalar}

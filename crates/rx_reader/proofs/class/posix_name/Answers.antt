@@ -1,4 +1,4 @@
-use Rattle.std.proofs.Common.{arith, ◌≡◌, ◌∙◌, ap, sym, Bool, Ok}
+use Rattle.std.proofs.Common.{arith, ◌∙◌, ap, sym, Bool, Ok}
 use Rattle.std.proofs.lemmas.Grind.{common_steps}
 use Rattle.rx_reader.specs.Input.{place}
 use Rattle.std.specs.Prelude.{Some, None}

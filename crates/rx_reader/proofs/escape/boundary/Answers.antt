@@ -1,7 +1,5 @@
 use Rattle.std.proofs.Common.{arith}
 use Rattle.std.proofs.lemmas.Grind.{common_steps}
-use Rattle.std.proofs.lemmas.Bool.Decides.{nat_tests}
-use Rattle.rx_reader.specs.Input.{place, Reads}
 use Rattle.rx_reader.specs.Escapes.{boundary}
 use Rattle.rx_reader.proofs.escape.boundary.Goals as goal
 

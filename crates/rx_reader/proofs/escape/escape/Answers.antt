@@ -1,6 +1,5 @@
 use Rattle.std.proofs.Common.{arith, ◌≡◌, sym, subst}
 use Rattle.std.proofs.lemmas.Grind.{common_steps}
-use Rattle.std.proofs.lemmas.Bool.Decides.{nat_tests}
 use Rattle.rx_reader.specs.Input.{place, Reads}
 use Rattle.rx_reader.specs.Escapes.{escape, octal_digits, lettered}
 use Rattle.rx_reader.proofs.escape.escape.Goals as goal

@@ -1,9 +1,8 @@
 use Rattle.std.proofs.Common.{arith, ◌≡◌, ◌==◌, sym, subst}
 use Rattle.std.proofs.lemmas.Grind.{common_steps}
 use Rattle.std.proofs.lemmas.Bool.Decides.{nat_tests}
-use Rattle.std.specs.Str.Parse.{digits_value}
 use Rattle.rx_reader.specs.Input.{place, Reads}
-use Rattle.rx_reader.specs.Escapes.{hex_digits, numbered, digits}
+use Rattle.rx_reader.specs.Escapes.{hex_digits, numbered}
 use Rattle.rx_reader.proofs.escape.hex_digits.Goals as goal
 
 pub returns-then-digits-count-clause-value : goal.returns-then-digits-count-clause-value

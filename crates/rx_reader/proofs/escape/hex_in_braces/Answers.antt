@@ -1,9 +1,8 @@
 use Rattle.std.proofs.Common.{arith, ◌≡◌, false, sym, subst}
 use Rattle.std.proofs.lemmas.Grind.{common_steps}
 use Rattle.std.proofs.lemmas.Bool.Decides.{nat_tests}
-use Rattle.std.specs.Str.Parse.{digits_value}
 use Rattle.rx_reader.specs.Input.{place, Reads}
-use Rattle.rx_reader.specs.Escapes.{hex_in_braces, numbered, digits}
+use Rattle.rx_reader.specs.Escapes.{hex_in_braces, numbered}
 use Rattle.rx_reader.proofs.escape.hex_in_braces.Goals as goal
 
 pub returns-then-digits-eq0-clause-value : goal.returns-then-digits-eq0-clause-value

@@ -1,9 +1,7 @@
 use Rattle.std.proofs.Common.{arith, ◌≡◌, false, sym, subst}
 use Rattle.std.proofs.lemmas.Grind.{common_steps}
-use Rattle.std.proofs.lemmas.Bool.Decides.{nat_tests}
-use Rattle.std.specs.Str.Parse.{digits_value}
 use Rattle.rx_reader.specs.Input.{place, Reads}
-use Rattle.rx_reader.specs.Escapes.{octal_digits, numbered, digits}
+use Rattle.rx_reader.specs.Escapes.{octal_digits, numbered}
 use Rattle.rx_reader.proofs.escape.octal_digits.Goals as goal
 
 pub returns-clause-value : goal.returns-clause-value

@@ -2,9 +2,8 @@ use Rattle.std.proofs.Common.{◌≡◌, ℕ, Bool, ◌∙◌, sym, ap}
 use Rattle.std.specs.Prelude.{Option, Some, None}
 use Rattle.rx_sets.specs.declared.perl.ClassPerlKind.{ClassPerlKind}
 use Rattle.rx_reader.specs.declared.assertion.AssertionKind.{AssertionKind}
-use Rattle.rx_reader.specs.declared.escape.Escaped.{Escaped}
 use Rattle.rx_reader.specs.declared.escape.Escaped.TheVariants.{Assertion, Perl}
-use Rattle.rx_reader.specs.Escapes.{perl_class, assertion, escaped_character, character, by_letter, one_letter}
+use Rattle.rx_reader.specs.Escapes.{perl_class, assertion, escaped_character, by_letter, one_letter}
 use Rattle.rx_reader.proofs.escape.one_letter.Goals as goal
 
 by_set : (c : ℕ) (set : ClassPerlKind × Bool) → perl_class c ≡ Some set → Some (Perl set.0 set.1) ≡ one_letter c

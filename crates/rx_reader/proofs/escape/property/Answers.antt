@@ -1,6 +1,5 @@
 use Rattle.std.proofs.Common.{arith, ◌≡◌, not, sym, subst}
 use Rattle.std.proofs.lemmas.Grind.{common_steps}
-use Rattle.std.proofs.lemmas.Bool.Decides.{nat_tests}
 use Rattle.rx_reader.specs.Input.{place, Reads}
 use Rattle.rx_reader.specs.Escapes.{property, property_in_braces}
 use Rattle.rx_reader.proofs.escape.property.Goals as goal

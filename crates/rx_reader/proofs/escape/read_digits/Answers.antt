@@ -1,5 +1,4 @@
-use Rattle.std.proofs.Common.{◌≡◌, ◌<◌, ◌≤◌, ◌+◌, ◌-◌, ◌*◌, ◌∙◌, suc, refl, ap, sym, arith, true, false, ℕ, [], length}
-use Rattle.std.specs.Char.{is_digit}
+use Rattle.std.proofs.Common.{◌≡◌, ◌+◌, ◌-◌, ◌∙◌, suc, refl, ap, sym, arith, ℕ, length}
 use Rattle.std.specs.Str.Parse.{digits_value_after}
 use Rattle.rx_reader.specs.Input.{place}
 use Rattle.rx_reader.specs.Reading.{past}

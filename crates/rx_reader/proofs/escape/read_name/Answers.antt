@@ -1,10 +1,10 @@
-use Rattle.std.proofs.Common.{◌≡◌, ◌<◌, ◌∙◌, ap, sym, arith, true, false, List, ℕ, ◌++◌, ◌∷◌, []}
+use Rattle.std.proofs.Common.{◌≡◌, ◌<◌, ◌∙◌, ap, sym, arith, true, false, ◌++◌}
 use Rattle.std.proofs.lemmas.List.{append-nil}
 use Rattle.rx_reader.specs.Input.{place, unread}
-use Rattle.rx_reader.specs.Reading.{Place, passes, past_all, first}
-use Rattle.rx_reader.specs.Escapes.{leading, in_name}
+use Rattle.rx_reader.specs.Reading.{passes, past_all}
+use Rattle.rx_reader.specs.Escapes.{in_name}
 use Rattle.rx_reader.proofs.PlaceLemmas.{past_all_goes, past_all_stops}
-use Rattle.rx_reader.proofs.EscapeLemmas.{leading-goes, leading-stops, push_leading}
+use Rattle.rx_reader.proofs.EscapeLemmas.{leading-stops, push_leading}
 use Rattle.rx_reader.proofs.escape.read_name.Goals as goal
 
 pub loop-inside-preserved : goal.loop-inside-preserved

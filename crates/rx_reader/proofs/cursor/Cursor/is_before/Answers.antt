@@ -1,4 +1,4 @@
-use Rattle.std.proofs.Common.{arith, ◌≡◌, ◌+◌, ◌∙◌, ap, sym, List, ℕ, [], ◌∷◌, drop, take, length, ◌-◌, ◌≤◌, drop-drop, true, false, Bool}
+use Rattle.std.proofs.Common.{arith, ◌≡◌, ◌+◌, ◌∙◌, ap, sym, List, ℕ, [], ◌∷◌, drop, take, length, ◌-◌, ◌≤◌, drop-drop, true, Bool}
 use Rattle.std.proofs.lemmas.Grind.{common_steps}
 use Rattle.std.proofs.lemmas.List.{take_all, length-drop}
 use Rattle.std.specs.Prelude.{nat_eq}
