@@ -1,5 +1,5 @@
 -- On the characters ahead of a place.
-use Rattle.std.proofs.Common.{◌≡◌, ℕ, zero, suc, ◌+◌, ◌-◌, ◌<◌, ◌≤◌, Bool, true, false, List, length, take, drop, refl, ◌∙◌, ap, sym, arith}
+use Rattle.std.proofs.Common.{◌≡◌, ℕ, zero, suc, ◌+◌, ◌-◌, ◌<◌, ◌≤◌, false, List, length, take, drop, refl, ◌∙◌, ap, sym, arith}
 use Rattle.std.proofs.lemmas.List.{drop-drop, length-drop, take_all}
 use Rattle.rx_reader.specs.Reading.{Place, past, begins}
 use Rattle.rx_reader.specs.Ahead.{past_n, skip, skipped_len}

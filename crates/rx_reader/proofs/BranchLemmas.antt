@@ -5,11 +5,10 @@ use Rattle.std.specs.Prelude.{if◌then◌else◌, nat_lt}
 use Rattle.rx_reader.specs.declared.config.Config.{Config}
 use Rattle.rx_reader.specs.declared.flags.Flags.{Flags}
 use Rattle.rx_reader.specs.declared.group_kind.GroupKind.{GroupKind}
-use Rattle.rx_reader.specs.declared.operator.Operator.{Operator}
 use Rattle.rx_reader.specs.declared.token.Token.{Token}
 use Rattle.rx_reader.specs.declared.token.Token.TheVariants.{End, Bar, Close, Opens, Directive, Atom}
 use Rattle.rx_reader.specs.Config.{limit_of}
-use Rattle.rx_reader.specs.Reading.{Place, Read, ◌>>=◌, at_end, first, past, is_at}
+use Rattle.rx_reader.specs.Reading.{Place, Read, ◌>>=◌, at_end, first, past}
 use Rattle.rx_reader.specs.Ahead.{skip}
 use Rattle.rx_reader.specs.Counts.{operator}
 use Rattle.rx_reader.specs.Syntax.{Syntax, group, depth}

@@ -1,12 +1,12 @@
 -- What operators of repetition read as, by evaluation of the definitions. The answers were worked out from the
 -- rules by hand.
-use Rattle.std.proofs.Common.{◌≡◌, ℕ, List, [], ◌∷◌, refl}
+use Rattle.std.proofs.Common.{◌≡◌, ℕ, List, [], refl}
 use Rattle.std.specs.Prelude.{Bool, true, false, Option, Some, None, Result, Ok, Err, codes}
 use Rattle.rx_reader.specs.declared.flags.Flags.{Flags}
 use Rattle.rx_reader.specs.declared.error.SyntaxError.{SyntaxError}
 use Rattle.rx_reader.specs.declared.error.SyntaxErrorKind.{SyntaxErrorKind}
 use Rattle.rx_reader.specs.declared.error.SyntaxErrorKind.TheVariants.{RepeatCount, Unsupported}
-use Rattle.rx_reader.specs.Reading.{Place, Read, ◌>>=◌, past_while}
+use Rattle.rx_reader.specs.Reading.{Place, ◌>>=◌, past_while}
 use Rattle.rx_reader.specs.Ahead.{past_n, blank_len}
 use Rattle.rx_reader.specs.declared.operator.Operator.{Operator}
 use Rattle.rx_reader.specs.Counts.{read_number, read_max, read_counts, operator}

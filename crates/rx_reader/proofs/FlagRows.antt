@@ -1,11 +1,11 @@
 -- What flags read as, by evaluation of the definitions. The answers were worked out from the rules by hand.
-use Rattle.std.proofs.Common.{◌≡◌, ℕ, List, [], ◌∷◌, refl}
+use Rattle.std.proofs.Common.{◌≡◌, ℕ, List, [], refl}
 use Rattle.std.specs.Prelude.{Bool, true, false, Result, Ok, Err, codes}
 use Rattle.rx_reader.specs.declared.flags.Flags.{Flags}
 use Rattle.rx_reader.specs.declared.error.SyntaxError.{SyntaxError}
 use Rattle.rx_reader.specs.declared.error.SyntaxErrorKind.{SyntaxErrorKind}
 use Rattle.rx_reader.specs.declared.error.SyntaxErrorKind.TheVariants.{UnclosedGroup, Flag}
-use Rattle.rx_reader.specs.Reading.{Place, Read, ◌>>=◌}
+use Rattle.rx_reader.specs.Reading.{Place, ◌>>=◌}
 use Rattle.rx_reader.specs.Ahead.{past_n}
 use Rattle.rx_reader.specs.Flags.{letters_after, read_flags}
 use Prim.Native.String.{String}

@@ -1,11 +1,10 @@
 -- On what stands in front of a text, read character by character.
-use Rattle.std.proofs.Common.{◌≡◌, ℕ, zero, suc, ◌+◌, ◌-◌, ◌*◌, ◌<◌, ◌≤◌, Bool, true, false, not, ◌&&◌, List, [], ◌∷◌, ◌++◌, length, take, drop, get_or, cond, refl, ◌∙◌, ap, sym, arith, append_assoc, drop-cons, add-one}
-use Rattle.std.specs.Prelude.{if◌then◌else◌, fold}
+use Rattle.std.proofs.Common.{◌≡◌, ℕ, suc, ◌+◌, ◌-◌, ◌*◌, ◌<◌, ◌≤◌, Bool, true, false, not, ◌&&◌, List, [], ◌∷◌, ◌++◌, length, take, drop, get_or, cond, refl, ◌∙◌, ap, sym, append_assoc, drop-cons, add-one}
+use Rattle.std.specs.Prelude.{if◌then◌else◌}
 use Rattle.std.proofs.lemmas.List.{append-nil, take_more, length-take-le}
 use Rattle.std.proofs.lemmas.List.Sums.{take_while-cons, fold-append}
 use Rattle.std.specs.List.{take_while, prefix_len}
 use Rattle.rx_sets.specs.Capture.{is_capture_char}
-use Rattle.rx_reader.specs.Reading.{◌∈◌}
 use Rattle.rx_reader.specs.Ahead.{is_blank, is_commented, blank_len}
 use Rattle.rx_reader.specs.Flags.{is_letter, has, letters_after}
 use Rattle.rx_reader.specs.Names.{name_of}

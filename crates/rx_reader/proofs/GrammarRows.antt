@@ -1,7 +1,7 @@
 -- What whole patterns read as, by evaluation of the definitions. The answers were worked out from the rules by
 -- hand.
 use Rattle.std.proofs.Common.{◌≡◌, ℕ, List, [], ◌∷◌, refl}
-use Rattle.std.specs.Prelude.{Bool, true, false, Some, None, Result, Ok, Err, codes}
+use Rattle.std.specs.Prelude.{true, false, Some, None, Result, Ok, Err, codes}
 use Rattle.unicode.proofs.DerivedComputing.{ucd_derived}
 use Rattle.rx_sets.specs.declared.perl.ClassPerlKind.TheVariants.{Digit}
 use Rattle.rx_sets.specs.declared.ascii.ClassAsciiKind.TheVariants.{Alpha}

@@ -1,14 +1,13 @@
 -- What flags, names, counts and openings read as, case by case.
-use Rattle.std.proofs.Common.{◌≡◌, ℕ, ◌+◌, ◌==◌, Bool, true, false, not, ◌&&◌, ◌||◌, List, length, take, Option, Some, None, Result, Ok, Err, refl, ◌∙◌, ap, sym}
-use Rattle.std.specs.Prelude.{if◌then◌else◌, nat_eq}
+use Rattle.std.proofs.Common.{◌≡◌, ℕ, ◌+◌, ◌==◌, Bool, true, false, not, ◌&&◌, ◌||◌, List, length, take, Option, Some, None, Ok, Err, refl, ◌∙◌, ap, sym}
+use Rattle.std.specs.Prelude.{if◌then◌else◌}
 use Rattle.std.specs.List.{take_while}
 use Rattle.std.specs.Char.{is_ascii_digit}
 use Rattle.rx_reader.specs.declared.error.SyntaxError.{SyntaxError}
-use Rattle.rx_reader.specs.declared.error.SyntaxErrorKind.TheVariants.{UnclosedGroup, Flag, GroupName, GroupNameTwice, RepeatCount, Unsupported}
+use Rattle.rx_reader.specs.declared.error.SyntaxErrorKind.TheVariants.{UnclosedGroup, Flag, GroupName, GroupNameTwice, Unsupported}
 use Rattle.rx_reader.specs.declared.flags.Flags.{Flags}
 use Rattle.rx_reader.specs.declared.operator.Counts.{Counts}
 use Rattle.rx_reader.specs.declared.operator.Operator.{Operator}
-use Rattle.rx_reader.specs.declared.opening.Opening.{Opening}
 use Rattle.rx_reader.specs.declared.opening.Opening.TheVariants.{Group, Directive}
 use Rattle.rx_reader.specs.declared.group_kind.GroupKind.TheVariants.{NonCapturing, CaptureName}
 use Rattle.rx_reader.specs.Reading.{Place, Read, refuse, at_end, first, past, past_white, is_at, begins, has_name, add_name, count_group}

@@ -1,5 +1,5 @@
 -- Each step of the operators after an item.
-use Rattle.std.proofs.Common.{◌≡◌, ℕ, Bool, true, false, Ok, Err, ◌∙◌, ap, sym}
+use Rattle.std.proofs.Common.{◌≡◌, Bool, true, false, Ok, Err, ◌∙◌, ap}
 use Rattle.std.specs.Prelude.{if◌then◌else◌, nat_lt}
 use Rattle.rx_reader.specs.declared.config.Config.{Config}
 use Rattle.rx_reader.specs.declared.flags.Flags.{Flags}

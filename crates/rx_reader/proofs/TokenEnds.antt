@@ -1,16 +1,14 @@
 -- Where tokens end.
-use Rattle.std.proofs.Common.{◌≡◌, ℕ, zero, suc, ◌+◌, ◌<◌, ◌≤◌, Bool, true, false, not, ◌&&◌, List, ◌||◌, ◌==◌, length, Ok, Err, refl, ap, ◌∙◌, sym, arith}
-use Rattle.std.proofs.lemmas.Bool.Decides.{nat_tests}
-use Rattle.std.specs.Prelude.{Option, Some, None, if◌then◌else◌, nat_lt}
+use Rattle.std.proofs.Common.{◌≡◌, ℕ, suc, ◌<◌, ◌≤◌, Bool, true, false, not, ◌&&◌, List, ◌||◌, ◌==◌, length, Ok, arith}
+use Rattle.std.specs.Prelude.{Option, Some, None, if◌then◌else◌}
 use Rattle.std.specs.List.{take_while}
 use Rattle.std.specs.Char.{is_ascii_digit}
 use Rattle.rx_reader.specs.declared.config.Config.{Config}
 use Rattle.rx_reader.specs.declared.flags.Flags.{Flags}
-use Rattle.rx_reader.specs.declared.token.Token.{Token}
 use Rattle.rx_reader.specs.declared.operator.Counts.{Counts}
 use Rattle.rx_reader.specs.declared.operator.Operator.{Operator}
 use Rattle.rx_reader.specs.Config.{octal_of}
-use Rattle.rx_reader.specs.Reading.{Place, Read, ◌>>=◌, at_end, first, past, past_white, is_at, begins, has_name, ◌∈◌}
+use Rattle.rx_reader.specs.Reading.{Place, at_end, first, past, past_white, is_at, begins, has_name, ◌∈◌}
 use Rattle.rx_reader.specs.Ahead.{past_n, skipped_len, skip}
 use Rattle.rx_reader.specs.Flags.{letters, ends_with_hyphen, may_end_at, read_flags}
 use Rattle.rx_reader.specs.Names.{name_of, read_name}

@@ -1,5 +1,5 @@
 -- A code for syntax, by which a model tells it apart, and its size.
-use Rattle.std.specs.Prelude.{◌≡◌, ◌≢◌, ℕ, zero, suc, max, refl}
+use Rattle.std.specs.Prelude.{◌≡◌, ◌≢◌, ℕ, suc, max, refl}
 use Rattle.std.specs.Coded.{Coded, coded_ℕ, coded_bool, coded_option}
 use Rattle.std.proofs.Common.{ap, arith}
 use base.Stored.{Gv, gnil, gnum, gcons}

@@ -1,5 +1,5 @@
 -- The operators of repetition.
-use Rattle.std.specs.Prelude.{ℕ, ◌+◌, ◌-◌, ◌*◌, ◌≤◌, Bool, false, ◌||◌, ◌==◌, not, nat_lt, List, length, fold, Option, Some, None, IfSome, Ok, if◌then◌else◌}
+use Rattle.std.specs.Prelude.{ℕ, ◌+◌, ◌-◌, ◌*◌, ◌≤◌, Bool, false, ◌==◌, not, nat_lt, List, length, fold, Option, Some, None, IfSome, Ok, if◌then◌else◌}
 use Rattle.std.specs.List.{take_while}
 use Rattle.std.specs.Bool.{beq}
 use Rattle.std.specs.Char.{is_ascii_digit}

@@ -1,5 +1,5 @@
 -- What an opening parenthesis begins.
-use Rattle.std.specs.Prelude.{ℕ, ◌+◌, Bool, ◌||◌, Ok, if◌then◌else◌}
+use Rattle.std.specs.Prelude.{◌+◌, Bool, ◌||◌, Ok, if◌then◌else◌}
 use Rattle.rx_reader.specs.declared.error.SyntaxErrorKind.TheVariants.{Unsupported}
 use Rattle.rx_reader.specs.declared.flags.Flags.{Flags}
 use Rattle.rx_reader.specs.declared.group_kind.GroupKind.TheVariants.{NonCapturing, CaptureIndex, CaptureName}

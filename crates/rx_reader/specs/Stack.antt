@@ -5,14 +5,12 @@ use Rattle.rx_reader.specs.declared.error.SyntaxErrorKind.TheVariants.{UnclosedG
 use Rattle.rx_reader.specs.declared.config.Config.{Config}
 use Rattle.rx_reader.specs.declared.flags.Flags.{Flags}
 use Rattle.rx_reader.specs.declared.group_kind.GroupKind.{GroupKind}
-use Rattle.rx_reader.specs.declared.level.Level.{Level}
 use Rattle.rx_reader.specs.declared.parser.Frame.{Frame}
 use Rattle.rx_reader.specs.declared.parser.Parser.{Parser}
 use Rattle.rx_reader.specs.Reading.{Place, Read, ◌>>=◌, refuse, at_end, past}
 use Rattle.rx_reader.specs.Syntax.{Syntax, group, cat, alt, syntaxes}
 use Rattle.rx_reader.specs.Grammar.{Branches, within_limit, all_repetitions, token_then, all_branches}
 use Rattle.rx_reader.specs.Input.{place}
-use Rattle.rx_reader.specs.AstViews.{with_run}
 pub use Rattle.rx_reader.specs.Gathered.{Gathered, nothing, push_item, push_branch, gathered_whole, gathered}
 
 -- what was gathered, and these after it

@@ -1,4 +1,4 @@
-use Rattle.std.proofs.Common.{arith, ◌≡◌, ◌∙◌, ap, sym, take, length, true, false, not, ◌||◌, ◌==◌, Bool, ℕ, List, Ok}
+use Rattle.std.proofs.Common.{arith, ◌≡◌, ◌∙◌, ap, sym, true, false, not, ◌||◌, ◌==◌, ℕ, List, Ok}
 use Rattle.std.proofs.lemmas.Grind.{common_steps}
 use Rattle.rx_reader.specs.declared.error.SyntaxErrorKind.TheVariants.{GroupName, GroupNameTwice}
 use Rattle.rx_reader.specs.Input.{place}

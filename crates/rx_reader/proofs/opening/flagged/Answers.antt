@@ -1,7 +1,6 @@
 use Rattle.std.proofs.Common.{◌≡◌, ◌∙◌, ap, sym, Bool, Ok}
 use Rattle.std.specs.Prelude.{if◌then◌else◌}
 use Rattle.std.proofs.lemmas.Result.{err_from_is_err_and}
-use Rattle.rx_reader.specs.declared.opening.Opening.{Opening}
 use Rattle.rx_reader.specs.declared.opening.Opening.TheVariants.{Group, Directive}
 use Rattle.rx_reader.specs.declared.group_kind.GroupKind.TheVariants.{NonCapturing}
 use Rattle.rx_reader.specs.Input.{place}

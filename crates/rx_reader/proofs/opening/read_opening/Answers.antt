@@ -1,4 +1,4 @@
-use Rattle.std.proofs.Common.{◌≡◌, ◌∙◌, ◌+◌, ap, sym, subst, true, false, Ok}
+use Rattle.std.proofs.Common.{◌≡◌, ◌∙◌, ◌+◌, ap, sym, subst, false, Ok}
 use Rattle.rx_reader.specs.declared.opening.Opening.TheVariants.{Group}
 use Rattle.rx_reader.specs.declared.group_kind.GroupKind.TheVariants.{CaptureIndex}
 use Rattle.rx_reader.specs.Input.{place, Reads}

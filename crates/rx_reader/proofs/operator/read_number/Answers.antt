@@ -3,7 +3,7 @@ use Rattle.std.specs.List.{take_while}
 use Rattle.std.specs.Char.{is_ascii_digit}
 use Rattle.rx_reader.specs.declared.error.SyntaxErrorKind.TheVariants.{RepeatCount}
 use Rattle.rx_reader.specs.Input.{place}
-use Rattle.rx_reader.specs.Reading.{Place, Read}
+use Rattle.rx_reader.specs.Reading.{Place}
 use Rattle.rx_reader.specs.Counts.{within, numeral, number_of, number_at}
 use Rattle.rx_reader.proofs.ReadsLemmas.{refuse_at}
 use Rattle.rx_reader.proofs.PartLemmas.{number_read}

@@ -1,8 +1,7 @@
-use Rattle.std.proofs.Common.{arith, ◌≡◌, ◌<◌, ◌≤◌, ◌-◌, ◌+◌, ◌∙◌, ap, sym, suc, ℕ}
+use Rattle.std.proofs.Common.{arith, ◌≡◌, ◌<◌, ◌≤◌, ◌-◌, ◌+◌, ◌∙◌, sym, suc}
 use Rattle.std.proofs.lemmas.Grind.{common_steps}
 use Rattle.std.proofs.lemmas.Bool.Decides.{nat_tests}
 use Rattle.rx_reader.specs.Input.{place, unread}
-use Rattle.rx_reader.specs.Ahead.{past_n}
 use Rattle.rx_reader.proofs.AheadLemmas.{by_zero, past_none, past_more, past_shorter}
 use Rattle.rx_reader.proofs.cursor.Cursor.bump_by.Goals as goal
 

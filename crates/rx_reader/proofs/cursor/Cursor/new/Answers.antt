@@ -1,4 +1,4 @@
-use Rattle.std.proofs.Common.{rules, ◌≡◌, ◌∙◌, ap, List, ℕ, []}
+use Rattle.std.proofs.Common.{rules, ◌∙◌, ap, List, ℕ}
 use Rattle.std.proofs.lemmas.Str.{chars_from_encodes}
 use Rattle.rx_reader.specs.Reading.{Place}
 use Rattle.rx_reader.specs.Input.{text_from, start_of}

@@ -1,7 +1,7 @@
-use Rattle.std.proofs.Common.{◌≡◌, ◌≤◌, ◌<◌, ◌∙◌, ap, sym, arith, true, false}
+use Rattle.std.proofs.Common.{◌≡◌, ◌<◌, ◌∙◌, ap, sym, arith, true, false}
 use Rattle.std.specs.Char.{is_whitespace}
-use Rattle.rx_reader.specs.Input.{place, unread, HasRoom}
-use Rattle.rx_reader.specs.Reading.{Place, passes, past_all}
+use Rattle.rx_reader.specs.Input.{place, unread}
+use Rattle.rx_reader.specs.Reading.{passes, past_all}
 use Rattle.rx_reader.proofs.PlaceLemmas.{past_all_goes, past_all_stops}
 use Rattle.rx_reader.proofs.cursor.Cursor.skip_spaces.Goals as goal
 

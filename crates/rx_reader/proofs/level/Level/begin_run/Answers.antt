@@ -1,6 +1,5 @@
-use Rattle.std.proofs.Common.{◌≡◌, ◌∙◌, ap, sym, List}
+use Rattle.std.proofs.Common.{◌∙◌, ap, sym, List}
 use Rattle.rx_reader.specs.Syntax.{Syntax}
-use Rattle.rx_reader.specs.Gathered.{Gathered}
 use Rattle.rx_reader.proofs.FlagsLemmas.{flags-same}
 use Rattle.rx_reader.proofs.ItemLemmas.{with_run-none}
 use Rattle.rx_reader.proofs.level.Level.begin_run.Goals as goal

@@ -1,11 +1,11 @@
-use Rattle.std.proofs.Common.{true, false, ◌≡◌, Ok, ◌∙◌, sym, ap}
+use Rattle.std.proofs.Common.{true, ◌≡◌, Ok, ◌∙◌, sym, ap}
 use Rattle.std.proofs.lemmas.Result.{err_from_is_err_and}
 use Rattle.rx_reader.specs.Input.{place}
 use Rattle.rx_reader.specs.Reading.{Place, Read, at_end}
 use Rattle.rx_reader.specs.declared.token.Token.{Token}
 use Rattle.rx_reader.specs.declared.token.Token.TheVariants.{End, Bar}
 use Rattle.rx_reader.specs.Tokens.{is_end}
-use Rattle.rx_reader.specs.Grammar.{token, all_branches}
+use Rattle.rx_reader.specs.Grammar.{token}
 use Rattle.rx_reader.specs.Stack.{Gathered, gathered, innermost, resume, opened_in, reads_on}
 use Rattle.rx_reader.proofs.ReadsLemmas.{refuses_from, refuses}
 use Rattle.rx_reader.proofs.BranchLemmas.{token-end}
