@@ -8,7 +8,7 @@ use crate::atom::Atom;
 use crate::class_item::{ClassCharacter, ClassItem, ClassItems};
 use crate::cursor::Cursor;
 use crate::error::{ParseError, SyntaxErrorKind};
-use crate::escape::{Escaped, NameIn, bump_by, escape, read_name};
+use crate::escape::{Escaped, NameIn, escape, read_name};
 use crate::piece::Piece;
 use rx_sets::ClassAsciiKind;
 
@@ -79,7 +79,7 @@ fn posix_name(cursor: &mut Cursor, bracket: Piece, negated: bool) -> Result<Clas
     }
     match ClassAsciiKind::from_name(&name) {
         Some(kind) => {
-            bump_by(cursor, 2);
+            cursor.bump_by(2);
             Ok(ClassItem::Posix { kind, negated })
         }
         None => Err(bracket.refuse(SyntaxErrorKind::Unsupported)),
@@ -95,7 +95,7 @@ fn posix(cursor: &mut Cursor) -> Result<ClassItem, ParseError>
     let bracket = cursor.here();
     if cursor.begins(&['[', ':', '^']) {
         cursor.bump();
-        bump_by(cursor, 2);
+        cursor.bump_by(2);
         return posix_name(cursor, bracket, true);
     }
     if cursor.begins(&['[', ':']) {
@@ -173,7 +173,7 @@ fn class_range(
     }
     if cursor.begins(&['-', '-']) {
         let hyphen = cursor.at();
-        bump_by(cursor, 2);
+        cursor.bump_by(2);
         return Err(cursor.refuse_from(hyphen, SyntaxErrorKind::Unsupported));
     }
     cursor.bump();
@@ -197,7 +197,7 @@ fn item_at(
 {
     let start = cursor.at();
     if is_set_operator(cursor) {
-        bump_by(cursor, 2);
+        cursor.bump_by(2);
         return Err(cursor.refuse_from(start, SyntaxErrorKind::Unsupported));
     }
     if cursor.is_at(&['[']) {

@@ -54,16 +54,6 @@ impl NameIn {
     }
 }
 
-/// Moves past so many characters.
-pub(crate) fn bump_by(cursor: &mut Cursor, count: usize)
-    ensures value { place cursor.new ≡ past_n count (place cursor.old) }
-    ensures progress { unread cursor.new ≤ unread cursor.old }
-{
-    for _ in 0..count {
-        cursor.bump();
-    }
-}
-
 /// Moves past the word, if it stands at the position.
 fn bump_word(cursor: &mut Cursor, word: &[char]) -> bool
     ensures value { result ≡ starts_with nat_eq (place cursor.old).text word.now }
@@ -72,7 +62,7 @@ fn bump_word(cursor: &mut Cursor, word: &[char]) -> bool
 {
     let found = cursor.begins(word);
     if found {
-        bump_by(cursor, word.len());
+        cursor.bump_by(word.len());
     }
     found
 }

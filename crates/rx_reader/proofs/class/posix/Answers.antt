@@ -9,7 +9,7 @@ pub returns-then-begins-clause-value : goal.returns-then-begins-clause-value
 unfolding posix past_n
 returns-then-begins-clause-value c =
     let p = place c.args.cursor.now in
-    let same : posix p ≡ posix_name p true (place c.bump_by.new.cursor) = grind (arith, common_steps) in
+    let same : posix p ≡ posix_name p true (place c.bump_by.new.self) = grind (arith, common_steps) in
     subst (λ reading. Reads c.posix_name.result reading (place c.posix_name.new.cursor)) (sym same) (c.posix_name.ensures.value p c.here-bracket.ensures)
 
 pub returns-then-begins-2-clause-value : goal.returns-then-begins-2-clause-value
