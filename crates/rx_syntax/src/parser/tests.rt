@@ -2,7 +2,7 @@
 
 use super::parse;
 use crate::error::{ParseError, SyntaxError, SyntaxErrorKind};
-use crate::hir::{Hir, HirKind};
+use rx_hir::{Hir, HirKind};
 use std::alloc::{AllocError, Global};
 use std::test::Fail;
 
