@@ -1,7 +1,9 @@
-//! Expressions, with what is known of their lengths, and their cost.
+//! Expressions, with their properties, their names and their cost.
 //!
 //! An expression is a `Hir`, which a contract sees as an `Expression` of rx_model. The constructors give normal
-//! forms. It stands on rx_class.
+//! forms, which keep the meaning and add no names. `Hir::properties` tells of lengths, groups, look-arounds, UTF-8
+//! and literals, as they were found when the expression was made; laws say what they tell of each match.
+//! `group_names` tells the names of the groups. It stands on rx_class.
 #![tactic(auto)]
 
 mod accounting;
