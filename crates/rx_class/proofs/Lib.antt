@@ -1,4 +1,9 @@
 pub mod RangeLemmas
 pub mod MergeLemmas
-pub mod ScalarLemmas
 pub mod SuccessorLemmas
+pub mod OutsideLemmas
+pub mod ScalarLemmas
+pub mod ByteLemmas
+pub mod FoldLemmas
+pub mod JoinedLemmas
+mod Rows

@@ -1,8 +1,10 @@
 -- Fewest ranges: that they hold the same members, and that there is only one list of them.
-use Rattle.std.proofs.Common.{◌≡◌, ℕ, ◌<◌, ◌≤◌, Bool, true, false, List, [], ◌∷◌, refl, ap, sym, ◌∙◌, subst, arith, inl, inr}
+use Rattle.std.proofs.Common.{◌≡◌, ◌↔◌, ℕ, ◌-◌, ◌<◌, ◌≤◌, Bool, true, false, List, [], ◌∷◌, length, get_or, Some, refl, ap, sym, ◌∙◌, subst, arith, inl, inr}
 use Rattle.std.specs.Prelude.{min, max, nat_le, nat_lt, ◌&&◌, ◌||◌, if◌then◌else◌}
-use Rattle.std.proofs.lemmas.Bool.{false≢true, cases_lt, ltb-true, ltb-false, leb-true}
+use Rattle.std.specs.List.{list_all, slice_get}
+use Rattle.std.proofs.lemmas.Bool.{false≢true, and_parts, or_cases, cases_lt, ltb-true, ltb-false, leb-true}
 use Rattle.std.proofs.lemmas.Bool.Decides.{nat_tests}
+use Rattle.std.proofs.lemmas.Option.{slice_get_within, get_or_from_slice_get}
 use Rattle.rx_model.specs.Text.{is_member}
 use Rattle.rx_class.specs.Ranges.{insert, fewest, BeginPast, AreFewest}
 
@@ -10,16 +12,29 @@ use Rattle.rx_class.specs.Ranges.{insert, fewest, BeginPast, AreFewest}
 abbrev pub inside : ℕ × ℕ → ℕ → Bool
 inside r n = nat_le r.0 n && nat_le n r.1
 
-inside-true : (r : ℕ × ℕ) (n : ℕ) → r.0 ≤ n → n ≤ r.1 → inside r n ≡ true
+pub inside-true : (r : ℕ × ℕ) (n : ℕ) → r.0 ≤ n → n ≤ r.1 → inside r n ≡ true
 inside-true r n low high = grind (arith, nat_tests)
 
-inside-before : (r : ℕ × ℕ) (n : ℕ) → n < r.0 → inside r n ≡ false
+pub inside-before : (r : ℕ × ℕ) (n : ℕ) → n < r.0 → inside r n ≡ false
 inside-before r n lt = grind (arith, nat_tests)
 
-inside-after : (r : ℕ × ℕ) (n : ℕ) → r.1 < n → inside r n ≡ false
+pub inside-after : (r : ℕ × ℕ) (n : ℕ) → r.1 < n → inside r n ≡ false
 inside-after r n lt = grind (arith, nat_tests)
 
-or-right : (b : Bool) → (b || true) ≡ true
+le-test : (m n : ℕ) → m ≤ n → nat_le m n ≡ true
+le-test m n le = grind (arith, nat_tests)
+
+and-true : (b : Bool) → b ≡ (b && true)
+and-true true = refl
+and-true false = refl
+
+-- what follows from a test may be joined to it
+follows : (a b : Bool) → (b ≡ true → a ≡ true) → b ≡ (a && b)
+follows true b f = refl
+follows false true f = sym (f refl)
+follows false false f = refl
+
+pub or-right : (b : Bool) → (b || true) ≡ true
 or-right true = refl
 or-right false = refl
 
@@ -87,13 +102,13 @@ module _ (next : ℕ → ℕ) (Counts : ℕ → Type 0) (succ : IsSuccessor next
   past-tail n r rs le h = past-weaker n (next r.1) rs (omega (arith, succ.above r.1)) h.1
 
   -- no member lies up to where the ranges begin
-  none-up-to : (m : ℕ) (rs : List (ℕ × ℕ)) → BeginPast m rs → AreFewest next rs → (n : ℕ) → n ≤ m → is_member rs n ≡ false
+  pub none-up-to : (m : ℕ) (rs : List (ℕ × ℕ)) → BeginPast m rs → AreFewest next rs → (n : ℕ) → n ≤ m → is_member rs n ≡ false
   none-up-to m [] past h n le = refl
   none-up-to m (r ∷ rs) past h n le =
       ap (λ b. b || is_member rs n) (inside-before r n (omega arith))
       ∙ none-up-to r.1 rs (past-tail r.1 r rs (omega arith) h) h.2 n (omega (arith, h.0))
 
-  none-before : (r : ℕ × ℕ) (rs : List (ℕ × ℕ)) → AreFewest next (r ∷ rs) → (n : ℕ) → n < r.0 → is_member (r ∷ rs) n ≡ false
+  pub none-before : (r : ℕ × ℕ) (rs : List (ℕ × ℕ)) → AreFewest next (r ∷ rs) → (n : ℕ) → n < r.0 → is_member (r ∷ rs) n ≡ false
   none-before r rs h n lt =
       ap (λ b. b || is_member rs n) (inside-before r n lt)
       ∙ none-up-to r.1 rs (past-tail r.1 r rs (omega arith) h) h.2 n (omega (arith, h.0))
@@ -102,7 +117,7 @@ module _ (next : ℕ → ℕ) (Counts : ℕ → Type 0) (succ : IsSuccessor next
   rest-none : (r : ℕ × ℕ) (rs : List (ℕ × ℕ)) → AreFewest next (r ∷ rs) → (n : ℕ) → n ≤ next r.1 → is_member rs n ≡ false
   rest-none r rs h n le = none-up-to (next r.1) rs h.1 h.2 n le
 
-  first-member : (r : ℕ × ℕ) (rs : List (ℕ × ℕ)) (n : ℕ) → r.0 ≤ n → n ≤ r.1 → is_member (r ∷ rs) n ≡ true
+  pub first-member : (r : ℕ × ℕ) (rs : List (ℕ × ℕ)) (n : ℕ) → r.0 ≤ n → n ≤ r.1 → is_member (r ∷ rs) n ≡ true
   first-member r rs n low high = ap (λ b. b || is_member rs n) (inside-true r n low high)
 
   SameMembers : List (ℕ × ℕ) → List (ℕ × ℕ) → Type 0
@@ -245,3 +260,54 @@ module _ (next : ℕ → ℕ) (Counts : ℕ → Type 0) (succ : IsSuccessor next
       kept (λ ys. is_member ys n ≡ is_member (r ∷ rs) n) (nat_le r.0 r.1) _ _
       (λ e. insert-members r.0 r.1 (fewest next rs) (leb-true r.0 r.1 e) ends.0 ends.1 (fewest-fewest rs) (fewest-ends rs ends.2) n counts ∙ ap (λ b. inside r n || b) rest)
       (λ e. rest ∙ sym (ap (λ b. b || is_member rs n) (inside-none r n e)))
+
+  -- ranges with the same members have the same fewest ranges
+  pub fewest-same : (xs ys : List (ℕ × ℕ)) → Ends Counts xs → Ends Counts ys → ((n : ℕ) → is_member xs n ≡ is_member ys n) → fewest next xs ≡ fewest next ys
+  fewest-same xs ys ex ey same =
+      fewest-unique (fewest next xs) (fewest next ys) (fewest-fewest xs) (fewest-fewest ys) (fewest-ends xs ex) (fewest-ends ys ey)
+      (λ n counts. fewest-members xs ex n counts ∙ same n ∙ sym (fewest-members ys ey n counts))
+
+  -- the last range tells whether all end by a number
+  pub last-tells : (r : ℕ × ℕ) (rs : List (ℕ × ℕ)) (n : ℕ) (d : ℕ × ℕ) → AreFewest next (r ∷ rs)
+      → nat_le (get_or (r ∷ rs) (length rs) d).1 n ≡ list_all (λ (q : ℕ × ℕ). nat_le q.1 n) (r ∷ rs)
+  last-tells r [] n d h = and-true (nat_le r.1 n)
+  last-tells r (s ∷ rs) n d h =
+      last-tells s rs n d h.2
+      ∙ follows (nat_le r.1 n) (list_all (λ (q : ℕ × ℕ). nat_le q.1 n) (s ∷ rs))
+      (λ all. le-test r.1 n (omega (arith, succ.above r.1, h.1, h.2.0, leb-true s.1 n (and_parts (nat_le s.1 n) (list_all (λ (q : ℕ × ℕ). nat_le q.1 n) rs) all).0)))
+
+  pub last-decides : (rs : List (ℕ × ℕ)) (n : ℕ) (last d : ℕ × ℕ) → AreFewest next rs → 0 < length rs → last ≡ get_or rs (length rs - 1) d
+      → nat_le last.1 n ≡ list_all (λ (q : ℕ × ℕ). nat_le q.1 n) rs
+  last-decides [] n last d h some is = absurd (omega arith)
+  last-decides (r ∷ rs) n last d h some is =
+      let place : length (r ∷ rs) - 1 ≡ length rs = omega arith in
+      ap (λ (q : ℕ × ℕ). nat_le q.1 n) (is ∙ ap (λ k. get_or (r ∷ rs) k d) place) ∙ last-tells r rs n d h
+
+  pub all-from-last : (rs : List (ℕ × ℕ)) (n : ℕ) (last : ℕ × ℕ) → AreFewest next rs → slice_get rs (length rs - 1) ≡ Some last
+      → nat_le last.1 n ≡ list_all (λ (q : ℕ × ℕ). nat_le q.1 n) rs
+  all-from-last rs n last h e =
+      let within = slice_get_within rs (length rs - 1) last e in
+      last-decides rs n last last h (omega (arith, within)) (sym (get_or_from_slice_get rs (length rs - 1) last last e))
+
+  ends-members : (rs : List (ℕ × ℕ)) (greatest : ℕ) → list_all (λ (q : ℕ × ℕ). nat_le q.1 greatest) rs ≡ true → (n : ℕ) → is_member rs n ≡ true → n ≤ greatest
+  ends-members [] greatest h n m = cc
+  ends-members (r ∷ rs) greatest h n m =
+      let parts = and_parts (nat_le r.1 greatest) (list_all (λ (q : ℕ × ℕ). nat_le q.1 greatest) rs) h in
+      elim (or_cases (inside r n) (is_member rs n) m) [
+        | inl here ↦
+            let bounds = and_parts (nat_le r.0 n) (nat_le n r.1) here in
+            omega (arith, leb-true n r.1 bounds.1, leb-true r.1 greatest parts.0)
+        | inr later ↦ ends-members rs greatest parts.1 n later
+      ]
+
+  members-ends : (rs : List (ℕ × ℕ)) (greatest : ℕ) → AreFewest next rs → ((n : ℕ) → is_member rs n ≡ true → n ≤ greatest)
+      → list_all (λ (q : ℕ × ℕ). nat_le q.1 greatest) rs ≡ true
+  members-ends [] greatest h f = refl
+  members-ends (r ∷ rs) greatest h f =
+      ap (λ b. b && list_all (λ (q : ℕ × ℕ). nat_le q.1 greatest) rs) (le-test r.1 greatest (f r.1 (first-member r rs r.1 h.0 (omega arith))))
+      ∙ members-ends rs greatest h.2 (λ n m. f n (ap (λ b. inside r n || b) m ∙ or-right (inside r n)))
+
+  -- all ranges end by a number where all members do
+  pub ends-bound : (rs : List (ℕ × ℕ)) (greatest : ℕ) → AreFewest next rs
+      → (list_all (λ (q : ℕ × ℕ). nat_le q.1 greatest) rs ≡ true) ↔ ((n : ℕ) → is_member rs n ≡ true → n ≤ greatest)
+  ends-bound rs greatest h = (ends-members rs greatest, members-ends rs greatest h)

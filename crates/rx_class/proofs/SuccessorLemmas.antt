@@ -10,7 +10,9 @@ use Rattle.rx_class.specs.Ranges.{next_scalar, next_byte, fewest, HaveScalarEnds
 use Rattle.rx_class.specs.Merged.{add_all}
 use Rattle.rx_class.proofs.MergeLemmas.{rise-sorted, add_all-fewest}
 use Rattle.rx_class.proofs.RangeLemmas.{IsSuccessor, Ends}
-use Rattle.rx_class.proofs.ScalarLemmas.{next_scalar-above}
+
+next_scalar-above : (c : ℕ) → c < next_scalar c
+next_scalar-above c = grind (arith, nat_tests)
 
 next_scalar-between : (m n : ℕ) → IsScalar m → IsScalar n → m < n → next_scalar m ≤ n
 next_scalar-between m n first second lt = grind (arith, nat_tests)

@@ -1,7 +1,7 @@
 -- The ranges of a class, each from its first member to its last.
-use Rattle.std.specs.Prelude.{ℕ, ◌+◌, ◌<◌, ◌≤◌, min, max, nat_lt, nat_le, List, [], ◌∷◌, if◌then◌else◌, ◌==◌, Option, Some, None}
+use Rattle.std.specs.Prelude.{ℕ, ◌+◌, ◌<◌, ◌≤◌, min, max, nat_lt, nat_le, Bool, List, [], ◌∷◌, ◌++◌, if◌then◌else◌, ◌==◌, Option, Some, None}
 use Rattle.std.specs.Char.{IsScalar}
-use Rattle.std.specs.List.{All}
+use Rattle.std.specs.List.{All, list_all}
 
 -- the scalar after this one
 abbrev pub next_scalar : ℕ → ℕ
@@ -25,6 +25,10 @@ insert next low high (r ∷ rs) =
 unfoldable pub fewest : (next : ℕ → ℕ) → List (ℕ × ℕ) → List (ℕ × ℕ)
 fewest next [] = []
 fewest next (r ∷ rs) = let rest = fewest next rs in if nat_le r.0 r.1 then insert next r.0 r.1 rest else rest
+
+-- the fewest ranges with the members of both
+abbrev pub union : (next : ℕ → ℕ) → List (ℕ × ℕ) → List (ℕ × ℕ) → List (ℕ × ℕ)
+union next xs ys = fewest next (xs ++ ys)
 
 -- the ranges begin past n
 abbrev pub BeginPast : ℕ → List (ℕ × ℕ) → Type 0
@@ -53,3 +57,7 @@ abbrev pub only_member : List (ℕ × ℕ) → Option ℕ
 only_member [] = None
 only_member (r ∷ []) = if r.0 == r.1 then Some r.0 else None
 only_member (r ∷ s ∷ rs) = None
+
+-- no range ends above 7F
+abbrev pub is_ascii : List (ℕ × ℕ) → Bool
+is_ascii rs = list_all (λ (r : ℕ × ℕ). nat_le r.1 0x7F) rs

@@ -1,6 +1,6 @@
 //! Classes of scalars and of bytes.
 ghost use Rattle.std.specs.Prelude.{◌≡◌, [], length, ◌==◌};
-ghost use Rattle.rx_class.specs.Ranges.{AreScalarRanges, AreByteRanges, only_member};
+ghost use Rattle.rx_class.specs.Ranges.{AreScalarRanges, AreByteRanges, only_member, is_ascii};
 
 use std::alloc::{AllocError, Global};
 use std::marker::Model;
@@ -83,6 +83,16 @@ impl ClassUnicode {
         let (low, high) = self.ranges[0];
         if low == high { Some(low) } else { None }
     }
+
+    /// No member is above 7F.
+    pub fn is_ascii(&self) -> bool
+        ensures { result ≡ is_ascii self.now }
+    {
+        match self.ranges.last() {
+            Some((_, greatest)) => *greatest <= '\u{7F}',
+            None => true,
+        }
+    }
 }
 
 impl ClassBytes {
@@ -119,6 +129,16 @@ impl ClassBytes {
         }
         let (low, high) = self.ranges[0];
         if low == high { Some(low) } else { None }
+    }
+
+    /// No member is above 7F.
+    pub fn is_ascii(&self) -> bool
+        ensures { result ≡ is_ascii self.now }
+    {
+        match self.ranges.last() {
+            Some((_, greatest)) => *greatest <= 0x7F,
+            None => true,
+        }
     }
 }
 

@@ -1,8 +1,9 @@
 //! Classes of scalars from ranges, and their complements.
 ghost use Rattle.std.specs.Prelude.{◌≡◌, ℕ, [], ◌∷◌, ◌+◌, ◌<◌, ◌≤◌, ◌++◌, nat_lt, IfOk, OnOk};
 ghost use Rattle.rx_class.specs.Merged.{extend, add, add_all};
-ghost use Rattle.rx_class.specs.Ranges.{next_scalar, fewest, HaveScalarEnds, AreScalarRanges};
-ghost use Rattle.rx_class.specs.Scalars.{previous_scalar, up_to, from, complement, or_past};
+ghost use Rattle.rx_class.specs.Outside.{up_to, from};
+ghost use Rattle.rx_class.specs.Ranges.{next_scalar, fewest, union, HaveScalarEnds, AreScalarRanges};
+ghost use Rattle.rx_class.specs.Scalars.{previous_scalar, complement, or_past};
 
 use crate::class::ClassUnicode;
 use rx_search::Memory;
@@ -17,6 +18,16 @@ impl ClassUnicode {
         sorted.sort_unstable_by_key(|range| range.0);
         let ranges = fewest(alloc, &sorted)?;
         Ok(ClassUnicode { ranges })
+    }
+
+    /// The scalars in either class.
+    pub fn union(&self, other: &ClassUnicode) -> Result<ClassUnicode, Memory>
+        ensures { IfOk result (λ c. c ≡ union next_scalar self.now other.now) }
+    {
+        let alloc = *self.ranges.allocator();
+        let mut both = Vec::from_slice(alloc, &self.ranges)?;
+        both.extend_from_slice(&other.ranges)?;
+        ClassUnicode::new(alloc, &both)
     }
 
     /// The scalars that are not in the class.
@@ -124,7 +135,7 @@ fn ranges_outside(alloc: Global, ranges: &[(char, char)]) -> Result<Vec<(char, c
 
 /// Adds the scalars from `low` to the one before `end`, if there are any.
 fn push_before(found: &mut Vec<(char, char)>, low: Option<char>, end: char) -> Result<(), Memory>
-    ensures { OnOk result (found.new.items ≡ found.old.items ++ up_to (or_past low) end) }
+    ensures { OnOk result (found.new.items ≡ found.old.items ++ up_to previous_scalar (or_past low) end) }
 {
     if let Some(low) = low {
         if low < end {
@@ -136,7 +147,7 @@ fn push_before(found: &mut Vec<(char, char)>, low: Option<char>, end: char) -> R
 
 /// Adds the scalars from `low` on, if there are any.
 fn push_from(found: &mut Vec<(char, char)>, low: Option<char>) -> Result<(), Memory>
-    ensures { OnOk result (found.new.items ≡ found.old.items ++ from (or_past low)) }
+    ensures { OnOk result (found.new.items ≡ found.old.items ++ from 0x10FFFF (or_past low)) }
 {
     if let Some(low) = low {
         found.push((low, char::MAX))?;

@@ -6,6 +6,8 @@
 
 mod accounting;
 pub mod backtrack;
+#[cfg(test)]
+mod expressions;
 mod frame;
 pub mod pikevm;
 mod report;

@@ -1,19 +1,19 @@
 -- The lengths of a class's members, from its first and its last range.
-use Rattle.std.proofs.Common.{◌≡◌, ℕ, suc, ◌-◌, ◌<◌, ◌≤◌, true, List, [], ◌∷◌, length, get_or, ap, sym, ◌∙◌, arith, Option, Some, None}
-use Rattle.std.specs.Prelude.{nat_le}
+use Rattle.std.proofs.Common.{◌≡◌, ℕ, suc, ◌-◌, ◌<◌, ◌≤◌, Bool, true, false, ◌&&◌, refl, List, [], ◌∷◌, length, get_or, ap, sym, ◌∙◌, arith, Some, None}
+use Rattle.std.specs.Prelude.{nat_le, nat_lt}
 use Rattle.std.specs.Char.{IsScalar, len_utf8}
-use Rattle.std.specs.List.{All}
+use Rattle.std.specs.List.{All, list_all}
 use Rattle.std.proofs.lemmas.Bool.Decides.{nat_tests}
 use Rattle.std.proofs.lemmas.List.Elements.{All-cons}
 use Rattle.std.proofs.lemmas.Str.{len_utf8_bounds}
 use Rattle.rx_model.specs.Text.{scalar_ranges, byte_ranges}
-use Rattle.rx_model.specs.Expression.{class}
 use Rattle.rx_model.specs.Length.{shorter, shortest_of, shortest_scalar, shortest_byte}
 use Rattle.rx_model.proofs.LengthLemmas.{shortest-first}
 use Rattle.rx_hir.specs.Length.{longer, longest_of, longest_scalar, scalar_until, saturated, in_64_bits}
-use Rattle.rx_hir.specs.Properties.{properties_of}
-use Rattle.rx_class.specs.Ranges.{next_scalar, BeginPast, AreFewest, HaveScalarEnds, AreScalarRanges, AreByteRanges}
+use Rattle.rx_model.specs.Expression.{class}
+use Rattle.rx_hir.specs.PropertiesViews.{AreOf, AreSimple}
 use Rattle.rx_hir.specs.declared.hir.properties.Properties.{Properties}
+use Rattle.rx_class.specs.Ranges.{next_scalar, BeginPast, AreFewest, HaveScalarEnds, AreScalarRanges, AreByteRanges}
 
 next_scalar-above : (c : ℕ) → c < next_scalar c
 next_scalar-above c = grind (arith, nat_tests)
@@ -71,23 +71,6 @@ small-saturated n le = ap Some (omega arith)
 small-in_64_bits : (n : ℕ) → n ≤ 4 → in_64_bits (Some n) ≡ Some n
 small-in_64_bits n le = grind (arith, nat_tests)
 
-properties-of-some : (a b : ℕ) (least greatest : Option ℕ) → a ≤ 4 → b ≤ 4 → least ≡ Some a → greatest ≡ Some b
-    → let p : Properties = record { minimum_len = Some a; maximum_len = Some b } in let q : Properties = record { minimum_len = saturated least; maximum_len = in_64_bits greatest } in p ≡ q
-properties-of-some a b least greatest small few e f =
-    let least_is = sym (ap saturated e ∙ small-saturated a small) in
-    let greatest_is = sym (ap in_64_bits f ∙ small-in_64_bits b few) in
-    λ i. record { minimum_len = least_is i; maximum_len = greatest_is i }
-
-pub properties_of-scalars : (rs : List (ℕ × ℕ)) (d : ℕ × ℕ) → 0 < length rs → AreScalarRanges rs
-    → let p : Properties = record { minimum_len = Some (len_utf8 (get_or rs 0 d).0); maximum_len = Some (len_utf8 (get_or rs (length rs - 1) d).1) } in
-    p ≡ properties_of (class (scalar_ranges rs))
-properties_of-scalars [] d lt h = absurd (omega arith)
-properties_of-scalars (r ∷ rs) d lt h =
-    let e : length (r ∷ rs) - 1 ≡ length rs = omega arith in
-    let last = longest_scalar-last r rs d h.0 h.1 in
-    rw e (properties-of-some (len_utf8 r.0) (len_utf8 (get_or (r ∷ rs) (length rs) d).1) _ _ (len_utf8_bounds r.0).1 (len_utf8_bounds (get_or (r ∷ rs) (length rs) d).1).1
-    (shortest_scalar-first r rs h) last.0)
-
 byte-len : (r : ℕ × ℕ) → r.0 ≤ r.1 → shortest_byte r ≡ Some 1
 byte-len r le = let fits : nat_le r.0 r.1 ≡ true = grind (arith, nat_tests) in rw fits
 
@@ -99,9 +82,66 @@ bytes-longest : (r : ℕ × ℕ) (rs : List (ℕ × ℕ)) → AreByteRanges (r �
 bytes-longest r [] h = ap (λ o. longer o None) (byte-len r h.0)
 bytes-longest r (s ∷ rs) h = ap (λ o. longer o (longest_of shortest_byte (s ∷ rs))) (byte-len r h.0) ∙ ap (longer (Some 1)) (bytes-longest s rs h.2)
 
-pub properties_of-bytes : (rs : List (ℕ × ℕ)) (p : Properties) → 0 < length rs → AreByteRanges rs → p.minimum_len ≡ Some 1 → p.maximum_len ≡ Some 1 → p ≡ properties_of (class (byte_ranges rs))
-properties_of-bytes [] p lt h e f = absurd (omega arith)
-properties_of-bytes (r ∷ rs) p lt h e f =
-    let least_is : p.minimum_len ≡ saturated (shortest_of shortest_byte (r ∷ rs)) = e ∙ sym (ap saturated (bytes-shortest r rs h)) in
-    let greatest_is : p.maximum_len ≡ in_64_bits (longest_of shortest_byte (r ∷ rs)) = f ∙ sym (ap in_64_bits (bytes-longest r rs h)) in
-    λ i. record { minimum_len = least_is i; maximum_len = greatest_is i }
+pub of-scalars : (rs : List (ℕ × ℕ)) (d : ℕ × ℕ) (p : Properties) (a b : ℕ) → 0 < length rs → AreScalarRanges rs
+    → a ≡ len_utf8 (get_or rs 0 d).0 → b ≡ len_utf8 (get_or rs (length rs - 1) d).1
+    → AreSimple (Some a) (Some b) true p → AreOf (class (scalar_ranges rs)) p
+of-scalars [] d p a b some h first last s = absurd (omega arith)
+of-scalars (r ∷ rs) d p a b some h first last s =
+    let e : length (r ∷ rs) - 1 ≡ length rs = omega arith in
+    let least : shortest_of shortest_scalar (r ∷ rs) ≡ Some a = shortest_scalar-first r rs h ∙ ap Some (sym first) in
+    let final : b ≡ len_utf8 (get_or (r ∷ rs) (length rs) d).1 = (rw e at last) in
+    let greatest : longest_of longest_scalar (r ∷ rs) ≡ Some b = (longest_scalar-last r rs d h.0 h.1).0 ∙ ap Some (sym final) in
+    let small : a ≤ 4 = omega (arith, first, (len_utf8_bounds r.0).1) in
+    let few : b ≤ 4 = omega (arith, final, (len_utf8_bounds (get_or (r ∷ rs) (length rs) d).1).1) in
+    record {
+      least = s.least_is ∙ sym (ap saturated least ∙ small-saturated a small);
+      greatest = s.greatest_is ∙ sym (ap in_64_bits greatest ∙ small-in_64_bits b few);
+      static_count = s.static_count;
+      count = s.count;
+      kinds = s.kinds;
+      first_kinds = s.first_kinds;
+      last_kinds = s.last_kinds;
+      utf8 = s.utf8_is;
+      one_literal = s.one_literal;
+      literals = s.literals;
+    }
+
+byte-rest : (r s : ℕ × ℕ) (rs : List (ℕ × ℕ)) → AreByteRanges (r ∷ s ∷ rs) → r.1 ≤ s.1
+byte-rest r s rs h = omega (arith, h.1, h.2.0)
+
+-- where the last is below a number, all are
+below-last : (r : ℕ × ℕ) (rs : List (ℕ × ℕ)) (d : ℕ × ℕ) → AreByteRanges (r ∷ rs)
+    → (list_all (λ (q : ℕ × ℕ). nat_lt q.1 0x80) (r ∷ rs) ≡ nat_lt (get_or (r ∷ rs) (length rs) d).1 0x80) × (r.1 ≤ (get_or (r ∷ rs) (length rs) d).1)
+below-last r [] d h = (and-true_right (nat_lt r.1 0x80), omega arith)
+  where
+    and-true_right : (b : Bool) → (b && true) ≡ b
+    and-true_right true = refl
+    and-true_right false = refl
+below-last r (s ∷ rs) d h =
+    let later = below-last s rs d h.2 in
+    let up = byte-rest r s rs h in
+    let last = (get_or (s ∷ rs) (length rs) d).1 in
+    let rises : r.1 ≤ last = omega (arith, later.1) in
+    (ap (λ b. nat_lt r.1 0x80 && b) later.0 ∙ both r.1 last rises, rises)
+  where
+    both : (m n : ℕ) → m ≤ n → (nat_lt m 0x80 && nat_lt n 0x80) ≡ nat_lt n 0x80
+    both m n le = grind (arith, nat_tests)
+
+pub of-bytes : (rs : List (ℕ × ℕ)) (d : ℕ × ℕ) (p : Properties) → 0 < length rs → AreByteRanges rs
+    → AreSimple (Some 1) (Some 1) (nat_lt (get_or rs (length rs - 1) d).1 0x80) p → AreOf (class (byte_ranges rs)) p
+of-bytes [] d p some h s = absurd (omega arith)
+of-bytes (r ∷ rs) d p some h s =
+    let e : length (r ∷ rs) - 1 ≡ length rs = omega arith in
+    let last : nat_lt (get_or (r ∷ rs) (length (r ∷ rs) - 1) d).1 0x80 ≡ nat_lt (get_or (r ∷ rs) (length rs) d).1 0x80 = rw e refl in
+    record {
+      least = s.least_is ∙ sym (ap saturated (bytes-shortest r rs h));
+      greatest = s.greatest_is ∙ sym (ap in_64_bits (bytes-longest r rs h));
+      static_count = s.static_count;
+      count = s.count;
+      kinds = s.kinds;
+      first_kinds = s.first_kinds;
+      last_kinds = s.last_kinds;
+      utf8 = s.utf8_is ∙ last ∙ sym (below-last r rs d h).0;
+      one_literal = s.one_literal;
+      literals = s.literals;
+    }

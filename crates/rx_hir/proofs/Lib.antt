@@ -7,3 +7,12 @@ pub mod JoinedLemmas
 pub mod PropertiesLemmas
 pub mod SoundLemmas
 pub mod SpanLemmas
+pub mod UnionLemmas
+pub mod NamesLemmas
+pub mod LookLemmas
+pub mod NamedLemmas
+pub mod Utf8Lemmas
+pub mod RowLemmas
+pub mod CopiesLemmas
+pub mod SameLemmas
+pub mod NamedFormsLemmas

@@ -19,7 +19,7 @@ mutual
   IsSound-ordered (class members) s = tt
   IsSound-ordered (look kind) s = tt
   IsSound-ordered (repetition min max greedy sub) s = (s.0, IsSound-ordered sub s.1)
-  IsSound-ordered (capture group sub) s = IsSound-ordered sub s
+  IsSound-ordered (capture group name sub) s = IsSound-ordered sub s
   IsSound-ordered (concat subs) s = AreSound-ordered subs s
   IsSound-ordered (alternation subs) s = AreSound-ordered subs s
 

@@ -106,7 +106,7 @@ module _ (terminator : ℕ) (text : List ℕ) where
         let more = mul-le-mul_left x.0 few in
         let is = x.4 in
         omega arith
-    means-short (capture group sub) n e i j m = means-short sub n e i j m
+    means-short (capture group name sub) n e i j m = means-short sub n e i j m
     means-short (concat subs) n e i j m = in_turn-short subs n e i j m
     means-short (alternation subs) n e i j m = one-short subs n e i j m
 

@@ -38,7 +38,7 @@ abbrev mutual
   accounted_states (class members) = states_of_class members
   accounted_states (look kind) = 1
   accounted_states (repetition least greatest greedy sub) = states_of_copies least greatest (accounted_states sub)
-  accounted_states (capture group sub) = accounted_states sub + 2
+  accounted_states (capture group name sub) = accounted_states sub + 2
   accounted_states (concat subs) = accounted_in subs
   accounted_states (alternation subs) = accounted_in subs + 1
 

@@ -9,7 +9,7 @@ abbrev mutual
   depth (class members) = 0
   depth (look kind) = 0
   depth (repetition least greatest greedy sub) = suc (depth sub)
-  depth (capture group sub) = suc (depth sub)
+  depth (capture group name sub) = suc (depth sub)
   depth (concat subs) = greatest_depth subs
   depth (alternation subs) = greatest_depth subs
 

@@ -50,7 +50,7 @@ abbrev mutual
   maximum_len (class members) = longest_member members
   maximum_len (look kind) = Some 0
   maximum_len (repetition least greatest greedy sub) = times (maximum_len sub) greatest
-  maximum_len (capture group sub) = maximum_len sub
+  maximum_len (capture group name sub) = maximum_len sub
   maximum_len (concat subs) = sum_of_maximum_len subs
   maximum_len (alternation subs) = greatest_maximum_len subs
 

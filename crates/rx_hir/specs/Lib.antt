@@ -4,6 +4,10 @@ pub mod HirFalls
 pub mod HirViews
 pub mod Joined
 pub mod Length
+pub mod Names
 pub mod Normal
 pub mod Properties
+pub mod PropertiesViews
+pub mod Same
+pub mod SameLaws
 pub mod Sound

@@ -2,6 +2,7 @@
 use Rattle.std.specs.Prelude.{ℕ, zero, suc, min, Bool, false, ◌==◌, List, [], ◌∷◌, ◌++◌, flat_map, Option, Some, None, option_map, if◌then◌else◌, encode_utf8}
 use Rattle.rx_model.specs.Text.{Class, scalar_ranges, byte_ranges}
 use Rattle.rx_model.specs.Expression.{Expression, Expressions, empty, literal, class, look, repetition, capture, concat, alternation, nil, cons}
+use Rattle.rx_model.specs.Meaning.{Means}
 use Rattle.rx_hir.specs.Length.{maximum_len}
 use Rattle.rx_class.specs.Ranges.{only_member}
 
@@ -74,7 +75,7 @@ parts_of (literal bytes) = literal bytes ∷ []
 parts_of (class members) = class members ∷ []
 parts_of (look kind) = look kind ∷ []
 parts_of (repetition least greatest greedy sub) = repetition least greatest greedy sub ∷ []
-parts_of (capture group sub) = capture group sub ∷ []
+parts_of (capture group name sub) = capture group name sub ∷ []
 parts_of (alternation subs) = alternation subs ∷ []
 
 -- a part before others, joined with the first of them where both are literals
@@ -104,7 +105,7 @@ alternatives_of (literal bytes) = literal bytes ∷ []
 alternatives_of (class members) = class members ∷ []
 alternatives_of (look kind) = look kind ∷ []
 alternatives_of (repetition least greatest greedy sub) = repetition least greatest greedy sub ∷ []
-alternatives_of (capture group sub) = capture group sub ∷ []
+alternatives_of (capture group name sub) = capture group name sub ∷ []
 alternatives_of (concat subs) = concat subs ∷ []
 
 abbrev pub choice_of : List Expression → Expression
@@ -115,3 +116,7 @@ choice_of (h ∷ i ∷ hs) = alternation (expressions (h ∷ i ∷ hs))
 -- one of these, the first preferred
 abbrev pub alternation_of : List Expression → Expression
 alternation_of hs = choice_of (flat_map alternatives_of hs)
+
+-- Two expressions mean the same parts of a text.
+abbrev pub MeanTheSame : (terminator : ℕ) (text : List ℕ) → Expression → Expression → Type 0
+MeanTheSame t text g h = (i j : ℕ) → (Means t text g i j → Means t text h i j) × (Means t text h i j → Means t text g i j)

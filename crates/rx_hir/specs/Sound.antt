@@ -11,7 +11,7 @@ abbrev mutual
   IsSound (class members) = Unit {0}
   IsSound (look kind) = Unit {0}
   IsSound (repetition min max greedy sub) = IfSome max (λ m. min ≤ m) × IsSound sub
-  IsSound (capture group sub) = IsSound sub
+  IsSound (capture group name sub) = IsSound sub
   IsSound (concat subs) = AreSound subs
   IsSound (alternation subs) = AreSound subs
 

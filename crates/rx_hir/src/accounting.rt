@@ -33,6 +33,7 @@ fn states_of_kind(kind: &HirKind) -> u64
         HirKind::Empty => 1,
         HirKind::Literal(bytes) => bytes.len() as u64,
         HirKind::Class(class) => states_of_class(class),
+        HirKind::Look(_) => 1,
         HirKind::Repetition(copies) => {
             states_of_copies(copies.min, copies.max, states(&copies.sub))
         }

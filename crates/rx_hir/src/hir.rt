@@ -1,8 +1,9 @@
 //! Expressions.
-ghost use Rattle.std.specs.Prelude.{◌≡◌, ◌≢◌, ◌<◌, ◌≤◌, IfSome, Some};
+ghost use Rattle.std.specs.Prelude.{◌≡◌, ◌≢◌, ◌<◌, ◌≤◌, IfSome, Some, option_map, string_bytes};
 ghost use Rattle.std.specs.Int.NonZero.{non_zero_usize_get};
-ghost use Rattle.rx_model.specs.Expression.{empty, repetition, capture};
+ghost use Rattle.rx_model.specs.Expression.{empty, look, repetition, capture};
 ghost use Rattle.rx_model.specs.Length.{minimum_len};
+ghost use Rattle.rx_search.specs.Look.{kind_of};
 ghost use Rattle.rx_hir.specs.Length.{maximum_len, saturated, in_64_bits};
 ghost use Rattle.rx_hir.specs.Normal.{fail, literal_of, copies_of, repetition_of};
 
@@ -10,19 +11,26 @@ mod alternation;
 mod concat;
 mod copy;
 mod emptiness;
+mod equality;
 mod groups;
 mod kind;
 mod laws;
+mod names;
+mod parts;
 mod properties;
 mod set;
 
 pub use emptiness::{can_be_empty, one_can_be_empty};
 pub use groups::greatest_group;
 pub use laws::{
-    fewest_ranges_hold_the_members, lengths_bound_the_meaning, sound_expressions_are_ordered,
+    lengths_bound_the_meaning, look_sets_hold_at_the_ends, normal_forms_add_no_names,
+    normal_forms_keep_the_meaning, sound_expressions_are_ordered, told_names_stand,
+    utf8_expressions_mean_utf8,
 };
-use properties::Properties;
+pub use names::group_names;
+pub use properties::Properties;
 use rx_class::{Class, ClassBytes};
+use rx_search::Look;
 use std::alloc::Global;
 use std::marker::Model;
 use std::num::NonZeroUsize;
@@ -46,6 +54,8 @@ pub enum HirKind {
     Literal(Vec<u8>),
     /// A member of the class.
     Class(Class),
+    /// The empty text, where this look-around holds.
+    Look(Look),
     /// Copies of the body, one after another.
     Repetition(Repetition),
     /// A capture group.
@@ -71,12 +81,14 @@ pub struct Repetition {
     pub sub: Box<Hir>,
 }
 
-/// The group of this number, from 1 on.
+/// The group of this number, from 1 on, and of this name.
 #[cycle(hir)]
 #[derive(Drop)]
 pub struct Capture {
     /// The group's number.
     pub index: NonZeroUsize,
+    /// The group's name, if it has one.
+    pub name: Option<String>,
     /// The body.
     pub sub: Box<Hir>,
 }
@@ -86,7 +98,7 @@ impl Model for Hir {
     ghost use Rattle.rx_model.specs.Expression.{Expression};
     ghost use Rattle.rx_model.specs.Coded.{coded_expression};
     ghost use Rattle.rx_hir.specs.Depth.{depth};
-    ghost use Rattle.rx_hir.specs.Properties.{properties_of};
+    ghost use Rattle.rx_hir.specs.PropertiesViews.{AreOf};
     ghost use Rattle.rx_hir.specs.Sound.{IsSound};
 
     ghost Value = { Expression };
@@ -97,7 +109,7 @@ impl Model for Hir {
 
     ghost view = { λ h. kind_view h.kind };
 
-    ghost invariant = { λ h. (h.properties ≡ properties_of (kind_view h.kind)) × IsSound (kind_view h.kind) };
+    ghost invariant = { λ h. AreOf (kind_view h.kind) h.properties × IsSound (kind_view h.kind) };
 
     ghost size = { depth };
 
@@ -113,7 +125,7 @@ impl Hir {
     {
         Hir {
             kind: HirKind::Empty,
-            properties: Properties::of_len(0),
+            properties: Properties::of_empty(),
         }
     }
 
@@ -123,7 +135,7 @@ impl Hir {
     {
         Hir {
             kind: HirKind::Class(Class::Bytes(ClassBytes::empty(alloc))),
-            properties: Properties::unknown(),
+            properties: Properties::of_fail(),
         }
     }
 
@@ -134,10 +146,20 @@ impl Hir {
         if bytes.is_empty() {
             return Hir::empty();
         }
-        let properties = Properties::of_len(bytes.len());
+        let properties = Properties::of_literal(&bytes);
         Hir {
             kind: HirKind::Literal(bytes),
             properties,
+        }
+    }
+
+    /// The empty text at each place where the look-around holds.
+    pub fn look(kind: Look) -> Hir
+        ensures { result ≡ look (kind_of kind) }
+    {
+        Hir {
+            kind: HirKind::Look(kind),
+            properties: Properties::of_look(kind),
         }
     }
 
@@ -155,11 +177,11 @@ impl Hir {
         copies(repetition)
     }
 
-    /// The capture group of this number.
+    /// The capture group of this number, with its name.
     pub fn capture(group: Capture) -> Hir
-        ensures { result ≡ capture (non_zero_usize_get group.index) group.sub.value }
+        ensures { result ≡ capture (non_zero_usize_get group.index) (option_map string_bytes group.name) group.sub.value }
     {
-        let properties = group.sub.properties;
+        let properties = group.sub.properties.captured();
         Hir {
             kind: HirKind::Capture(group),
             properties,
@@ -171,7 +193,7 @@ impl Hir {
     pub fn minimum_len(&self) -> Option<usize>
         ensures { result ≡ saturated (minimum_len self.now) }
     {
-        self.properties.minimum_len
+        self.properties.minimum_len()
     }
 
     /// The greatest length in bytes of what the expression matches. None: no bound is known, or it is above
@@ -179,7 +201,7 @@ impl Hir {
     pub fn maximum_len(&self) -> Option<usize>
         ensures { result ≡ in_64_bits (maximum_len self.now) }
     {
-        self.properties.maximum_len
+        self.properties.maximum_len()
     }
 }
 

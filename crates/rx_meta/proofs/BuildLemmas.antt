@@ -7,7 +7,9 @@ use Rattle.rx_thompson.specs.Compiled.{AreAllowed, IsCompiled}
 use Rattle.rx_strategy.specs.Config.{kind_of, utf8_of, captures_of, compiler_of, has_backtracker}
 use Rattle.rx_strategy.specs.Strategy.{StrategyValue}
 use Rattle.rx_strategy.specs.declared.config.Config.{Config}
-use Rattle.rx_meta.specs.Reading.{pattern_limit, readings, reading_of}
+use Rattle.rx_reader.specs.declared.config.Config.{Config as Grammar}
+use Rattle.rx_syntax.specs.Patterns.{all_read}
+use Rattle.rx_meta.specs.Reading.{pattern_limit, reading_of}
 use Rattle.rx_meta.specs.Regex.{RegexValue}
 use Rattle.rx_meta.specs.Build.{IsBuilt, IsBuiltOf}
 
@@ -29,11 +31,11 @@ built c hs nfa core regex compiled allowed is made =
     })
 
 -- all of the patterns are read, where there are few enough
-all-of : (texts : List (List ℕ)) → length texts ≤ pattern_limit → reading_of texts ≡ readings 0 texts
+all-of : (syntax : Grammar) (texts : List (List ℕ)) → length texts ≤ pattern_limit → reading_of syntax texts ≡ all_read syntax texts
 unfolding reading_of
-all-of texts few = ap (readings 0) (take_all pattern_limit texts few)
+all-of syntax texts few = ap (all_read syntax) (take_all pattern_limit texts few)
 
-pub built-of : (c : Config) (texts : List (List ℕ)) (count : ℕ) (hs given : List Expression) → count ≡ length texts → reading_of texts ≡ Ok hs → given ≡ hs
-    → (regex : RegexValue) → (count ≤ pattern_limit) × IsBuilt c given regex → IsBuiltOf c texts regex
-built-of c texts count hs given counted read same regex (few, is) =
-    (hs, sym (all-of texts (omega arith)) ∙ read, subst (λ es. IsBuilt c es regex) same is)
+pub built-of : (syntax : Grammar) (c : Config) (texts : List (List ℕ)) (count : ℕ) (hs given : List Expression) → count ≡ length texts → reading_of syntax texts ≡ Ok hs → given ≡ hs
+    → (regex : RegexValue) → (count ≤ pattern_limit) × IsBuilt c given regex → IsBuiltOf syntax c texts regex
+built-of syntax c texts count hs given counted read same regex (few, is) =
+    (hs, sym (all-of syntax texts (omega arith)) ∙ read, subst (λ es. IsBuilt c es regex) same is)

@@ -1,12 +1,14 @@
 -- What a build answers.
-use Rattle.std.specs.Prelude.{◌≡◌, ℕ, ◌<◌, ◌≤◌, List, length, Ok, Err}
+use Rattle.std.specs.Prelude.{◌≡◌, ℕ, ◌<◌, ◌≤◌, List, length, Result, Ok, Err}
 use Rattle.rx_model.specs.Expression.{Expression}
 use Rattle.rx_thompson.specs.Compiled.{patterns_of, AreAllowed, IsCompiled, IsRefusal}
 use Rattle.rx_thompson.specs.declared.error.BuildError.{BuildError as NfaError}
 use Rattle.rx_thompson.specs.declared.error.BuildError.TheVariants.{TooManyPatterns, TooManyGroups, TooManyStates, ExceededSizeLimit, Memory as NoMemory}
 use Rattle.rx_strategy.specs.Config.{kind_of, utf8_of, terminator_of, captures_of, compiler_of}
 use Rattle.rx_strategy.specs.declared.config.Config.{Config}
-use Rattle.rx_meta.specs.Reading.{pattern_limit, readings, reading_of}
+use Rattle.rx_reader.specs.declared.config.Config.{Config as Grammar}
+use Rattle.rx_syntax.specs.Patterns.{Refusal, all_read}
+use Rattle.rx_meta.specs.Reading.{pattern_limit, reading_of}
 use Rattle.rx_meta.specs.Regex.{RegexValue, IsOf}
 use Rattle.rx_meta.specs.declared.error.BuildError.{BuildError}
 use Rattle.rx_meta.specs.declared.error.BuildError.TheVariants.{Syntax, NFA, Memory}
@@ -35,8 +37,8 @@ IsRefused c hs (NFA cause) = IsCause c hs cause
 IsRefused c hs Memory = AreAllowed (compiler_of c) hs
 
 -- the regex of these patterns
-abbrev pub IsBuiltOf : Config → List (List ℕ) → RegexValue → Type 0
-IsBuiltOf c texts regex = (hs : List Expression) × (readings 0 texts ≡ Ok hs) × IsBuilt c hs regex
+abbrev pub IsBuiltOf : Grammar → Config → List (List ℕ) → RegexValue → Type 0
+IsBuiltOf syntax c texts regex = (hs : List Expression) × (all_read syntax texts ≡ Ok hs) × IsBuilt c hs regex
 
 -- why the compiler gives no NFA of so many patterns, of which the first ones read as these expressions
 abbrev pub IsCauseOf : Config → (count : ℕ) → List Expression → NfaError → Type 0
@@ -52,8 +54,14 @@ IsRefusedOf c count hs (Syntax pid err) = ⊥
 IsRefusedOf c count hs (NFA cause) = IsCauseOf c count hs cause
 IsRefusedOf c count hs Memory = Unit {0}
 
+-- the error is the refusal that was read, unless memory ran out
+abbrev pub RefusesBuild : BuildError → Result (List Expression) Refusal → Type 0
+RefusesBuild (Syntax pid err) reading = reading ≡ Err (record { pattern = pid; error = err })
+RefusesBuild (NFA cause) reading = ⊥
+RefusesBuild Memory reading = Unit {0}
+
 -- why there is no regex of these patterns: the first that the grammar refuses, and else what the compiler refuses
-abbrev pub IsRefusedFor : Config → List (List ℕ) → BuildError → Type 0
-IsRefusedFor c texts (Syntax pid err) = reading_of texts ≡ Err (record { pattern = pid; error = err })
-IsRefusedFor c texts (NFA cause) = (hs : List Expression) × (reading_of texts ≡ Ok hs) × IsCauseOf c (length texts) hs cause
-IsRefusedFor c texts Memory = Unit {0}
+abbrev pub IsRefusedFor : Grammar → Config → List (List ℕ) → BuildError → Type 0
+IsRefusedFor syntax c texts (Syntax pid err) = reading_of syntax texts ≡ Err (record { pattern = pid; error = err })
+IsRefusedFor syntax c texts (NFA cause) = (hs : List Expression) × (reading_of syntax texts ≡ Ok hs) × IsCauseOf c (length texts) hs cause
+IsRefusedFor syntax c texts Memory = Unit {0}

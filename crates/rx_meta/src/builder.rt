@@ -2,11 +2,12 @@
 ghost use Rattle.std.specs.Prelude.{◌≡◌, ◌≤◌, ◌∷◌, [], length, map, IfOk, IfErr};
 ghost use Rattle.rx_thompson.specs.Compiled.{AreAllowed, IsCompiled};
 ghost use Rattle.rx_strategy.specs.Config.{compiler_of, nothing_set, overwritten};
+ghost use Rattle.rx_reader.specs.Config.{default};
 ghost use Rattle.rx_meta.specs.Reading.{pattern_limit};
 ghost use Rattle.rx_meta.specs.Build.{IsBuilt, IsRefused, IsRefusedOf, IsBuiltOf, IsRefusedFor};
 
 use crate::error::BuildError;
-use crate::reading::parse_all;
+use crate::reading::{PATTERN_LIMIT, read_patterns};
 use crate::regex::Regex;
 use rx_hir::Hir;
 use rx_strategy::{Config, Core};
@@ -14,49 +15,60 @@ use rx_thompson::{Compiler, NFA};
 use std::alloc::Global;
 use std::slice;
 
-/// The most patterns that a regex may have.
-const PATTERN_LIMIT: usize = 2147483647;
-
-/// Makes regexes of patterns, under one configuration.
-#[derive(Debug, Drop)]
+/// Makes regexes of patterns, under one configuration and one grammar.
+#[derive(Drop)]
 pub struct Builder {
     config: Config,
+    syntax: rx_syntax::Config,
 }
 
 impl Builder {
-    /// With the default configuration.
+    /// With the default configurations.
     pub fn new() -> Builder
-        ensures { result.config ≡ nothing_set }
+        ensures config { result.config ≡ nothing_set }
+        ensures syntax { result.syntax ≡ default }
     {
         Builder {
             config: Config::new(),
+            syntax: rx_syntax::Config::new(),
         }
     }
 
     /// Takes what this configuration sets, and keeps what was set beside it.
     pub fn configure(&mut self, config: Config)
-        ensures { self.new.config ≡ overwritten self.old.config config }
+        ensures config { self.new.config ≡ overwritten self.old.config config }
+        ensures syntax { self.new.syntax ≡ self.old.syntax }
     {
         self.config = self.config.overwrite(&config);
     }
 
+    /// Takes this configuration of the grammar, in place of the one before. A line terminator of it is that of `.`
+    /// alone: anchors have the one of `Config::line_terminator`.
+    pub fn syntax(&mut self, config: rx_syntax::Config)
+        ensures syntax { self.new.syntax ≡ config }
+        ensures config { self.new.config ≡ self.old.config }
+    {
+        self.syntax = config;
+    }
+
     /// The regex of one pattern. It is refused as by `build_many`.
     pub fn build(&self, alloc: Global, pattern: &str) -> Result<Regex, BuildError>
-        ensures built { IfOk result (IsBuiltOf self.now.config (pattern.now ∷ [])) }
-        ensures refused { IfErr result (IsRefusedFor self.now.config (pattern.now ∷ [])) }
+        ensures built { IfOk result (IsBuiltOf self.now.syntax self.now.config (pattern.now ∷ [])) }
+        ensures refused { IfErr result (IsRefusedFor self.now.syntax self.now.config (pattern.now ∷ [])) }
     {
         self.build_many(alloc, &[pattern])
     }
 
     /// The regex of these patterns, which are numbered from 0 on.
     ///
-    /// All patterns are read, up to the 2147483647th, before anything is built. Refused are, in this order: the first
-    /// pattern that the grammar reads no expression for, and what `build_many_from_hir` refuses.
+    /// All patterns are read, up to the 2147483647th, before any is translated, and all are translated before anything
+    /// is built. Refused are, in this order: the first pattern that reading refuses, the first that translation refuses,
+    /// and what `build_many_from_hir` refuses.
     pub fn build_many(&self, alloc: Global, patterns: &[&str]) -> Result<Regex, BuildError>
-        ensures built { IfOk result (IsBuiltOf self.now.config (map (λ p. p.now) patterns.now)) }
-        ensures refused { IfErr result (IsRefusedFor self.now.config (map (λ p. p.now) patterns.now)) }
+        ensures built { IfOk result (IsBuiltOf self.now.syntax self.now.config (map (λ p. p.now) patterns.now)) }
+        ensures refused { IfErr result (IsRefusedFor self.now.syntax self.now.config (map (λ p. p.now) patterns.now)) }
     {
-        let exprs = parse_all(alloc, patterns)?;
+        let exprs = read_patterns(alloc, patterns, &self.syntax)?;
         self.build_counted(alloc, patterns.len(), &exprs)
     }
 
@@ -116,6 +128,7 @@ impl Builder {
     {
         Builder {
             config: self.config.clone(),
+            syntax: self.syntax,
         }
     }
 }

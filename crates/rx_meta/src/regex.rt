@@ -4,6 +4,7 @@ ghost use Rattle.rx_model.specs.Search.{Patterns};
 ghost use Rattle.rx_search.specs.Input.{next_in};
 ghost use Rattle.rx_search.specs.Matches.{match_value, half_match_value};
 ghost use Rattle.rx_engines.specs.Engine.{HasSlots, AreWithin};
+ghost use Rattle.rx_reader.specs.Config.{default};
 ghost use Rattle.rx_strategy.specs.Config.{nothing_set};
 ghost use Rattle.rx_strategy.specs.Cache.{Fits, memory_of, accounted_for};
 ghost use Rattle.rx_strategy.specs.Strategy.{told_in, told_for, next_match_in, IsMatchWith};
@@ -46,8 +47,8 @@ impl Model for Regex {
 impl Regex {
     /// The regex of one pattern, under the default configuration. It is refused as by `new_many`.
     pub fn new(alloc: Global, pattern: &str) -> Result<Regex, BuildError>
-        ensures built { IfOk result (IsBuiltOf nothing_set (pattern.now ∷ [])) }
-        ensures refused { IfErr result (IsRefusedFor nothing_set (pattern.now ∷ [])) }
+        ensures built { IfOk result (IsBuiltOf default nothing_set (pattern.now ∷ [])) }
+        ensures refused { IfErr result (IsRefusedFor default nothing_set (pattern.now ∷ [])) }
     {
         Regex::builder().build(alloc, pattern)
     }
@@ -55,8 +56,8 @@ impl Regex {
     /// The regex of these patterns, numbered from 0 on, under the default configuration. It is refused as by
     /// `Builder::build_many`.
     pub fn new_many(alloc: Global, patterns: &[&str]) -> Result<Regex, BuildError>
-        ensures built { IfOk result (IsBuiltOf nothing_set (map (λ p. p.now) patterns.now)) }
-        ensures refused { IfErr result (IsRefusedFor nothing_set (map (λ p. p.now) patterns.now)) }
+        ensures built { IfOk result (IsBuiltOf default nothing_set (map (λ p. p.now) patterns.now)) }
+        ensures refused { IfErr result (IsRefusedFor default nothing_set (map (λ p. p.now) patterns.now)) }
     {
         Regex::builder().build_many(alloc, patterns)
     }
@@ -70,7 +71,8 @@ impl Regex {
 
     /// A builder with the default configuration.
     pub fn builder() -> Builder
-        ensures { result.config ≡ nothing_set }
+        ensures config { result.config ≡ nothing_set }
+        ensures syntax { result.syntax ≡ default }
     {
         Builder::new()
     }

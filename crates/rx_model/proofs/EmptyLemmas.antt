@@ -45,17 +45,17 @@ module _ (terminator : ℕ) (text : List ℕ) where
     unfolding Means
 
     -- what an expression means doesn't end before it starts
-    means-rises : (h : Expression) (i j : ℕ) → Means terminator text h i j → i ≤ j
+    pub means-rises : (h : Expression) (i j : ℕ) → Means terminator text h i j → i ≤ j
     means-rises empty i j m = omega arith
     means-rises (literal bytes) i j m = let e = m.1 in omega arith
     means-rises (class members) i j m = let e = m.2 in omega arith
     means-rises (look kind) i j m = let e = m.1 in omega arith
     means-rises (repetition least greatest greedy sub) i j m = pieces-rise (Means terminator text sub) (λ a b piece. means-rises sub a b piece) m.0 i j m.2
-    means-rises (capture group sub) i j m = means-rises sub i j m
+    means-rises (capture group name sub) i j m = means-rises sub i j m
     means-rises (concat subs) i j m = in_turn-rise subs i j m
     means-rises (alternation subs) i j m = one-rises subs i j m
 
-    in_turn-rise : (hs : Expressions) (i j : ℕ) → MeansInTurn terminator text hs i j → i ≤ j
+    pub in_turn-rise : (hs : Expressions) (i j : ℕ) → MeansInTurn terminator text hs i j → i ≤ j
     in_turn-rise nil i j m = omega arith
     in_turn-rise (cons sub subs) i j m =
         let first = means-rises sub i m.0 m.1 in
@@ -77,7 +77,7 @@ module _ (terminator : ℕ) (text : List ℕ) where
     means-empty (look kind) i m = refl
     means-empty (repetition least greatest greedy sub) i m =
         pieces-empty (Means terminator text sub) (λ a b piece. means-rises sub a b piece) (can_be_empty sub) (λ k piece. means-empty sub k piece) least m.0 i m.1.0 m.2
-    means-empty (capture group sub) i m = means-empty sub i m
+    means-empty (capture group name sub) i m = means-empty sub i m
     means-empty (concat subs) i m = in_turn-empty subs i m
     means-empty (alternation subs) i m = one-empty subs i m
 

@@ -97,7 +97,7 @@ module _ (slots : ℕ → Option ℕ) where
     build-silent (class members) = state-silent (set members) (λ next. refl)
     build-silent (look kind) = state-silent (assertion kind) (λ next. refl)
     build-silent (repetition min max greedy sub) = repetition-silent (is_positive (minimum_len sub)) greedy (build slots sub) (build-silent sub) min max
-    build-silent (capture group sub) = group-silent (slots group) (build slots sub) (build-silent sub)
+    build-silent (capture group name sub) = group-silent (slots group) (build slots sub) (build-silent sub)
     build-silent (concat subs) = in_turn-silent subs
     build-silent (alternation subs) = λ next base.
         silent-append (build_each slots subs next base).states (choice (build_each slots subs next base).starts ∷ []) (each-silent subs next base)

@@ -182,7 +182,7 @@ module _ (terminator : ℕ) (text : List ℕ) where
         let more = mul-le-mul_left x.0 m.1.0 in
         let is = x.2 in
         omega arith
-    means-long (capture group sub) n e i j m = means-long sub n e i j m
+    means-long (capture group name sub) n e i j m = means-long sub n e i j m
     means-long (concat subs) n e i j m = in_turn-long subs n e i j m
     means-long (alternation subs) n e i j m = one-long subs n e i j m
 

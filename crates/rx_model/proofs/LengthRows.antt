@@ -27,7 +27,7 @@ no_bytes : minimum_len (class (byte_ranges [])) ≡ None
 no_bytes = refl
 
 -- `(ab|c)d{2,3}`
-some_of_each : minimum_len (turn (capture 1 (either (text "ab" ∷ text "c" ∷ [])) ∷ repetition 2 (Some 3) true (text "d") ∷ [])) ≡ Some 3
+some_of_each : minimum_len (turn (capture 1 None (either (text "ab" ∷ text "c" ∷ [])) ∷ repetition 2 (Some 3) true (text "d") ∷ [])) ≡ Some 3
 some_of_each = refl
 
 -- one alternative without a bound leaves none, and so does one part

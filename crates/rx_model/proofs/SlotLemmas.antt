@@ -178,7 +178,7 @@ module _ (low high : ℕ) (W : ℕ → Type 0) where
       build-body (class members) are = state-body (set members) (λ next is. is)
       build-body (look kind) are = state-body (assertion kind) (λ next is. is)
       build-body (repetition min max greedy sub) are = repetition-body (is_positive (minimum_len sub)) greedy (build slots sub) (build-body sub are) min max
-      build-body (capture group sub) are =
+      build-body (capture group name sub) are =
           group-body (slots group) (λ n e. own group n (are group (inl refl)) e) (build slots sub) (build-body sub (λ g s. are g (inr s)))
       build-body (concat subs) are = in_turn-body subs are
       build-body (alternation subs) are = choice-body (build_each slots subs) (each-body subs are)

@@ -496,7 +496,7 @@ module _ (terminator : ℕ) (hay : List ℕ) (end : ℕ) (whole : List State) (p
       Spells-build (look kind) o = Spells-look kind
       Spells-build (repetition min max greedy sub) o =
           Spells-repetition (Means terminator hay sub) greedy (build slot_of sub) (Spells-build sub o.1) (is_positive (minimum_len sub)) min max o.0
-      Spells-build (capture group sub) o = Spells-group (Means terminator hay sub) (slot_of group) (build slot_of sub) (Spells-build sub o)
+      Spells-build (capture group name sub) o = Spells-group (Means terminator hay sub) (slot_of group) (build slot_of sub) (Spells-build sub o)
       Spells-build (concat subs) o = Spells-in_turn subs o
       Spells-build (alternation subs) o = Spells-choice (MeansOne terminator hay subs) (build_each slot_of subs) (Spells-each subs o)
 

@@ -11,7 +11,7 @@ unfoldable mutual
   can_be_empty (class members) = false
   can_be_empty (look kind) = true
   can_be_empty (repetition min max greedy sub) = (min == 0) || can_be_empty sub
-  can_be_empty (capture group sub) = can_be_empty sub
+  can_be_empty (capture group name sub) = can_be_empty sub
   can_be_empty (concat subs) = all_can_be_empty subs
   can_be_empty (alternation subs) = one_can_be_empty subs
 

@@ -54,7 +54,7 @@ abbrev mutual
   minimum_len (class members) = shortest_member members
   minimum_len (look kind) = Some 0
   minimum_len (repetition least greatest greedy sub) = option_map (λ n. n * least) (minimum_len sub)
-  minimum_len (capture group sub) = minimum_len sub
+  minimum_len (capture group name sub) = minimum_len sub
   minimum_len (concat subs) = sum_of_minimum_len subs
   minimum_len (alternation subs) = least_minimum_len subs
 

@@ -70,7 +70,7 @@ unfoldable mutual
   StandsIn g (class members) = ⊥
   StandsIn g (look kind) = ⊥
   StandsIn g (repetition least greatest greedy sub) = StandsIn g sub
-  StandsIn g (capture group sub) = (g ≡ group) ⊎ StandsIn g sub
+  StandsIn g (capture group name sub) = (g ≡ group) ⊎ StandsIn g sub
   StandsIn g (concat subs) = StandsAmong g subs
   StandsIn g (alternation subs) = StandsAmong g subs
 

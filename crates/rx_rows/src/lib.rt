@@ -4,7 +4,13 @@
 #[cfg(test)]
 mod ends;
 #[cfg(test)]
+mod grammar;
+#[cfg(test)]
+mod hostile;
+#[cfg(test)]
 mod limits;
+#[cfg(test)]
+mod refusals;
 #[cfg(test)]
 mod rows;
 #[cfg(test)]

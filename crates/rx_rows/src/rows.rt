@@ -116,7 +116,7 @@ static ROWS: [Row; 34] = [
     },
     Row {
         words: SCAN,
-        input: b"a{2}\n\na\n",
+        input: b"(?=a)\n\na\n",
         status: 1,
         text: "pattern 0: unsupported syntax\n",
     },

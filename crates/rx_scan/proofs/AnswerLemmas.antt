@@ -5,9 +5,11 @@ use Rattle.std.specs.Str.{IsUtf8, is_utf8}
 use Rattle.std.specs.Str.Lossy.{utf8_valid_len}
 use Rattle.std.proofs.lemmas.Str.{IsUtf8-from_is_utf8, is_utf8-from_IsUtf8}
 use Rattle.rx_model.specs.Expression.{Expression}
-use Rattle.rx_syntax.specs.declared.error.SyntaxErrorKind.{SyntaxErrorKind}
+use Rattle.rx_reader.specs.Config.{default}
+use Rattle.rx_reader.specs.declared.error.SyntaxError.{SyntaxError}
+use Rattle.rx_syntax.specs.Patterns.{Refusal, all_read}
 use Rattle.rx_scan.specs.Lines.{lines, patterns, haystacks}
-use Rattle.rx_scan.specs.Patterns.{Refusal, readings, are_small}
+use Rattle.rx_scan.specs.Patterns.{are_small}
 use Rattle.rx_scan.specs.Answer.{AnswerValue, too_long, not_utf8, refused, too_big, all_rows, answer_patterns, answer_text, answer_input, answer, usage}
 use Rattle.rx_scan.specs.Status.{code, needs_all}
 use Rattle.rx_scan.specs.Words.{is_scan}
@@ -43,7 +45,7 @@ answer_patterns-few (Ok hs) texts = by_size-few hs texts (are_small hs)
 
 pub answer_text-few : (text : List ℕ) → code (answer_text text).status ≤ 5
 unfolding answer_text
-answer_text-few text = answer_patterns-few (readings 0 (patterns (lines text))) (haystacks (lines text))
+answer_text-few text = answer_patterns-few (all_read default (patterns (lines text))) (haystacks (lines text))
 
 by_tests-few : (input : List ℕ) (long text : Bool) → code (by_tests input long text).status ≤ 5
 unfolding by_tests
@@ -82,11 +84,11 @@ pub answer_patterns-big : (hs : List Expression) (texts : List (List ℕ)) → a
 unfolding answer_patterns
 answer_patterns-big hs texts e = ap (λ b. cond b (all_rows hs texts) too_big) e
 
-pub answer_text-is : (text : List ℕ) (r : Result (List Expression) Refusal) (texts : List (List ℕ)) → readings 0 (patterns (lines text)) ≡ r → texts ≡ haystacks (lines text)
+pub answer_text-is : (text : List ℕ) (r : Result (List Expression) Refusal) (texts : List (List ℕ)) → all_read default (patterns (lines text)) ≡ r → texts ≡ haystacks (lines text)
     → answer_text text ≡ answer_patterns r texts
 unfolding answer_text
 answer_text-is text r texts e f = λ i. answer_patterns (e i) (sym f i)
 
-pub answer_patterns-refused : (p : ℕ) (kind : SyntaxErrorKind) (texts : List (List ℕ)) → answer_patterns (Err (record { pattern = p; kind = kind })) texts ≡ refused p kind
+pub answer_patterns-refused : (p : ℕ) (error : SyntaxError) (texts : List (List ℕ)) → answer_patterns (Err (record { pattern = p; error = error })) texts ≡ refused p error.kind
 unfolding answer_patterns
-answer_patterns-refused p kind texts = refl
+answer_patterns-refused p error texts = refl

@@ -1,9 +1,9 @@
 -- What a finder with a regex finds, and the rows that it tells.
 use Rattle.std.proofs.Common.{◌≡◌, ℕ, zero, suc, ◌+◌, ◌-◌, ◌<◌, ◌≤◌, Bool, true, false, cond, List, [], ◌∷◌, ◌++◌, length, take, get_or, Option, Some, None, refl, sym, ap, ◌∙◌, append_assoc, append-nil, add-one, arith}
-use Rattle.std.specs.Prelude.{map, replicate, option_map, nat_lt, MatchOption}
+use Rattle.std.specs.Prelude.{map, option_map, nat_lt, MatchOption}
 use Rattle.std.proofs.lemmas.Bool.{ltb-true, ltb-false}
 use Rattle.std.proofs.Math.Seq.{take-suc}
-use Rattle.std.proofs.lemmas.List.{get_or_read, length-replicate, map-append}
+use Rattle.std.proofs.lemmas.List.{get_or_read, map-append}
 use Rattle.std.proofs.lemmas.Option.{slice_get_within}
 use Rattle.rx_model.specs.Expression.{Expression}
 use Rattle.rx_model.specs.Search.{Patterns, WhichCaptures, all, implicit, none, Match, greatest_group, slot_value, matches, matches_from, free, is_empty_at, next_after}
@@ -16,6 +16,7 @@ use Rattle.rx_search.specs.Matches.{MatchValue}
 use Rattle.rx_search.specs.Searcher.{SearcherValue, moved_past, search_from, match_after, upcoming, places_left, fresh, to_come, successive}
 use Rattle.rx_search.proofs.SearcherLemmas.{successive-matches}
 use Rattle.rx_thompson.specs.Compiled.{patterns_of, groups_of}
+use Rattle.rx_thompson.proofs.GroupLemmas.{length-group_names}
 use Rattle.rx_thompson.proofs.NextMatchLemmas.{next_match_of-patterns}
 use Rattle.rx_engines.specs.Engine.{HasSlots}
 use Rattle.rx_strategy.specs.Strategy.{StrategyValue, IsOf, tells, told_in, told_for}
@@ -99,12 +100,12 @@ found-rows regex r text for =
 -- the groups of each pattern under `all`
 lengths-all : (hs : List Expression) → map length (groups_of all hs) ≡ map groups_in_expression hs
 lengths-all [] = refl
-lengths-all (h ∷ hs) = λ i. (length-replicate {A = Option (List ℕ)} (greatest_group h + 1) None ∙ (let e : greatest_group h + 1 ≡ 1 + greatest_group h = omega arith in e)) i ∷ lengths-all hs i
+lengths-all (h ∷ hs) = λ i. (length-group_names h ∙ (let e : suc (greatest_group h) ≡ 1 + greatest_group h = omega arith in e)) i ∷ lengths-all hs i
 
 -- as many groups are told as have slots
 counted-all : (hs : List Expression) (p : ℕ) → p < length hs → length (groups_at (groups_of all hs) p) ≡ group_count hs p + 1
 counted-all [] p below = absurd (omega arith)
-counted-all (h ∷ hs) zero below = length-replicate (greatest_group h + 1) None
+counted-all (h ∷ hs) zero below = length-group_names h ∙ (let e : suc (greatest_group h) ≡ greatest_group h + 1 = omega arith in e)
 counted-all (h ∷ hs) (suc p) below = counted-all hs p (omega arith)
 
 counted-implicit : (hs : List Expression) (p : ℕ) → p < length hs → length (groups_at (groups_of implicit hs) p) ≡ 1

@@ -3,10 +3,12 @@ use Rattle.std.specs.Prelude.{ℕ, List, ◌++◌, length, codes, decimal, nat_l
 use Rattle.std.specs.Str.{is_utf8}
 use Rattle.std.specs.Str.Lossy.{utf8_valid_len}
 use Rattle.rx_model.specs.Expression.{Expression}
-use Rattle.rx_syntax.specs.Refusal.{text_of}
-use Rattle.rx_syntax.specs.declared.error.SyntaxErrorKind.{SyntaxErrorKind}
+use Rattle.rx_reader.specs.Config.{default}
+use Rattle.rx_reader.specs.Refusal.{text_of}
+use Rattle.rx_reader.specs.declared.error.SyntaxErrorKind.{SyntaxErrorKind}
+use Rattle.rx_syntax.specs.Patterns.{Refusal, all_read}
 use Rattle.rx_scan.specs.Lines.{lines, patterns, haystacks}
-use Rattle.rx_scan.specs.Patterns.{Refusal, readings, patterns_of, are_small}
+use Rattle.rx_scan.specs.Patterns.{patterns_of, are_small}
 use Rattle.rx_scan.specs.Row.{rows}
 use Rattle.rx_scan.specs.Words.{is_scan}
 use Rattle.rx_scan.specs.declared.status.Status.{Status}
@@ -39,12 +41,12 @@ all_rows hs texts = record { status = Rows; text = rows (patterns_of hs) 1 texts
 
 -- the answer to what the patterns read as, and haystacks
 unfoldable pub answer_patterns : Result (List Expression) Refusal → List (List ℕ) → AnswerValue
-answer_patterns (Err refusal) texts = refused refusal.pattern refusal.kind
+answer_patterns (Err refusal) texts = refused refusal.pattern refusal.error.kind
 answer_patterns (Ok hs) texts = if are_small hs then all_rows hs texts else too_big
 
 -- the answer to a text, which is UTF-8 and not too long
 unfoldable pub answer_text : List ℕ → AnswerValue
-answer_text text = answer_patterns (readings 0 (patterns (lines text))) (haystacks (lines text))
+answer_text text = answer_patterns (all_read default (patterns (lines text))) (haystacks (lines text))
 
 -- the answer to an input
 unfoldable pub answer_input : List ℕ → AnswerValue

@@ -7,7 +7,7 @@ ghost use Rattle.rx_scan.specs.Answer.{too_long, not_utf8, refused, too_big, all
 ghost use Rattle.rx_scan.specs.Lines.{lines};
 
 use crate::lines::split_lines;
-use crate::patterns::{PatternError, parse_patterns};
+use crate::patterns::parse_patterns;
 use crate::reading::INPUT_LIMIT;
 use crate::row::push_number;
 use crate::scan_rows::scan;
@@ -16,7 +16,7 @@ use crate::status::Status;
 use rx_hir::Hir;
 use rx_meta::{BuildError, Regex};
 use rx_search::{Gate, Memory};
-use rx_syntax::SyntaxErrorKind;
+use rx_syntax::{PatternsError, SyntaxErrorKind};
 use std::alloc::Global;
 use std::marker::Model;
 use std::str;
@@ -70,8 +70,8 @@ fn answer_text<R: Threads + Wait + Sync, G: Gate + Sync>(
 {
     match parse_patterns(alloc, text) {
         Ok((expressions, haystacks)) => answer_patterns(rt, alloc, &expressions, haystacks, gate),
-        Err(PatternError::Refused { pattern, kind }) => refused(alloc, pattern, kind),
-        Err(PatternError::Memory) => Err(Memory),
+        Err(PatternsError::Syntax { pattern, error }) => refused(alloc, pattern, error.kind),
+        Err(PatternsError::Memory) => Err(Memory),
     }
 }
 

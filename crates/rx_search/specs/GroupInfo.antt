@@ -1,6 +1,6 @@
 -- The groups of patterns, with their names and their slots. A pattern's groups are a list of their names, of
 -- which the first, the implicit group, has none.
-use Rattle.std.specs.Prelude.{ℕ, zero, suc, ◌+◌, ◌-◌, ◌*◌, ◌≡◌, ◌<◌, Bool, true, false, ◌||◌, List, [], ◌∷◌, length, map, take, replicate, Option, Some, None, option_map, unwrap_or, slice_get, position, if◌then◌else◌, nat_lt, ◌⊎◌, Vec, String, string_bytes, bytes_eq}
+use Rattle.std.specs.Prelude.{ℕ, zero, suc, ◌+◌, ◌-◌, ◌*◌, ◌≡◌, ◌<◌, Bool, true, false, ◌||◌, List, [], ◌∷◌, length, map, take, drop, replicate, Option, Some, None, option_map, unwrap_or, slice_get, position, if◌then◌else◌, nat_lt, ◌⊎◌, Vec, String, string_bytes, bytes_eq}
 use Rattle.std.specs.List.{list_any}
 use Rattle.std.specs.Option.{option_or, option_flatten}
 use Rattle.rx_model.specs.Expression.{Expression}
@@ -32,6 +32,10 @@ name_at info p group = option_flatten (slice_get (groups_at info p) group)
 abbrev pub is_named : List ℕ → Option (List ℕ) → Bool
 is_named name None = false
 is_named name (Some other) = bytes_eq name other
+
+-- the first group is there, and it is the implicit one: it has no name
+abbrev pub BeginsUnnamed : List (Option (List ℕ)) → Type 0
+BeginsUnnamed groups = groups ≡ None ∷ drop 1 groups
 
 -- the group of pattern p with this name
 abbrev pub index_of : List (List (Option (List ℕ))) → ℕ → List ℕ → Option ℕ

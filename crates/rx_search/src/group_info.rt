@@ -1,5 +1,5 @@
 ghost use Rattle.std.specs.Prelude.{◌≡◌, ◌+◌, ◌-◌, ◌*◌, ◌≤◌, ◌<◌, IfOk, IfSome, MatchResult, All, map, length, sum, option_map, option_copied, string_bytes, position, slice_range, MatchOption, Some, None, ◌∷◌, ◌++◌, drop};
-ghost use Rattle.rx_search.specs.GroupInfo.{names_of, groups_of, unnamed_groups, is_named, first_fault, refusal, IsRefusal, SlotsAreWritten};
+ghost use Rattle.rx_search.specs.GroupInfo.{names_of, groups_of, unnamed_groups, is_named, BeginsUnnamed, refusal, IsRefusal, SlotsAreWritten};
 ghost use Rattle.rx_search.specs.GroupTables.{AreOf, IsRowOf};
 ghost use Rattle.std.specs.Arc.{arc_value};
 
@@ -65,6 +65,18 @@ impl GroupInfo {
         ensures { MatchResult result (λ info. (info ≡ groups_of groups.now) × (refusal (groups_of groups.now) ≡ None)) (IsRefusal (groups_of groups.now)) }
     {
         check(alloc, groups)?;
+        let tables = named_tables(alloc, groups)?;
+        let tables = Arc::new(alloc, tables)?;
+        Ok(GroupInfo { tables })
+    }
+
+    /// The groups of patterns by their names, where it is known that each begins with an unnamed group and that all
+    /// have slots. A name that stands twice in a pattern is that of the first group that has it.
+    pub fn named(alloc: Global, groups: &[Vec<Option<String>>]) -> Result<GroupInfo, Memory>
+        requires each { All BeginsUnnamed (groups_of groups.now) }
+        requires few { slot_count (groups_of groups.now) ≤ 2147483646 }
+        ensures { IfOk result (λ info. info ≡ groups_of groups.now) }
+    {
         let tables = named_tables(alloc, groups)?;
         let tables = Arc::new(alloc, tables)?;
         Ok(GroupInfo { tables })
@@ -202,7 +214,7 @@ impl GroupInfo {
 
 /// The tables of these groups, of which the first of each pattern has no name.
 fn named_tables(alloc: Global, groups: &[Vec<Option<String>>]) -> Result<Tables, Memory>
-    requires { first_fault 0 (groups_of groups.now) ≡ None }
+    requires { All BeginsUnnamed (groups_of groups.now) }
     ensures { IfOk result (λ tables. AreOf (groups_of groups.now) tables.names.items tables.patterns.items) }
 {
     let mut patterns = Vec::new(alloc);

@@ -4,7 +4,6 @@ use Rattle.std.specs.Option.{option_or}
 use Rattle.rx_model.specs.Search as model
 use Rattle.rx_search.specs.declared.anchored.MatchKind.{MatchKind}
 use Rattle.rx_search.specs.declared.anchored.MatchKind.TheVariants.{All, LeftmostFirst}
-use Rattle.rx_thompson.specs.Config as compiler
 use Rattle.rx_thompson.specs.Config.{captures_kind}
 use Rattle.rx_thompson.specs.declared.compiler.config.Config.{Config as CompilerConfig}
 use Rattle.rx_thompson.specs.declared.compiler.config.WhichCaptures.{WhichCaptures}
@@ -30,6 +29,10 @@ captures_of c = captures_kind (which_of c)
 abbrev pub size_limit_of : Config → Option ℕ
 size_limit_of c = unwrap_or c.nfa_size_limit (Some 10485760)
 
+-- the byte that ends lines
+abbrev pub terminator_of : Config → ℕ
+terminator_of c = unwrap_or c.line_terminator 10
+
 -- the backtracker is asked for
 abbrev pub backtrack_of : Config → Bool
 backtrack_of c = unwrap_or c.backtrack true
@@ -40,12 +43,8 @@ compiler_of c = record {
   utf8 = Some (utf8_of c);
   nfa_size_limit = Some (size_limit_of c);
   which_captures = Some (which_of c);
-  look_matcher = None;
+  look_matcher = Some (terminator_of c);
 }
-
--- the byte that ends lines
-abbrev pub terminator_of : Config → ℕ
-terminator_of c = compiler.terminator_of (compiler_of c)
 
 abbrev pub is_leftmost : MatchKind → Bool
 is_leftmost All = false
@@ -57,7 +56,7 @@ has_backtracker c = backtrack_of c && is_leftmost (kind_of c)
 
 -- nothing is set
 abbrev pub nothing_set : Config
-nothing_set = record { match_kind = None; utf8_empty = None; which_captures = None; nfa_size_limit = None; backtrack = None }
+nothing_set = record { match_kind = None; utf8_empty = None; which_captures = None; nfa_size_limit = None; line_terminator = None; backtrack = None }
 
 -- the new configuration, with what it leaves open as in the old one
 abbrev pub overwritten : (old new : Config) → Config
@@ -66,5 +65,6 @@ overwritten old new = record {
   utf8_empty = option_or new.utf8_empty old.utf8_empty;
   which_captures = option_or new.which_captures old.which_captures;
   nfa_size_limit = option_or new.nfa_size_limit old.nfa_size_limit;
+  line_terminator = option_or new.line_terminator old.line_terminator;
   backtrack = option_or new.backtrack old.backtrack;
 }

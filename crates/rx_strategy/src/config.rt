@@ -1,8 +1,8 @@
 //! The configuration of a regex.
 ghost use Rattle.std.specs.Prelude.{◌≡◌, Some};
-ghost use Rattle.rx_strategy.specs.Config.{kind_of, utf8_of, which_of, size_limit_of, backtrack_of, compiler_of, has_backtracker, nothing_set, overwritten};
+ghost use Rattle.rx_strategy.specs.Config.{kind_of, utf8_of, which_of, size_limit_of, terminator_of, backtrack_of, compiler_of, has_backtracker, nothing_set, overwritten};
 
-use rx_search::MatchKind;
+use rx_search::{LookMatcher, MatchKind};
 use rx_thompson::WhichCaptures;
 use std::default::Default;
 
@@ -16,6 +16,7 @@ pub struct Config {
     utf8_empty: Option<bool>,
     which_captures: Option<WhichCaptures>,
     nfa_size_limit: Option<Option<usize>>,
+    line_terminator: Option<u8>,
     backtrack: Option<bool>,
 }
 
@@ -29,6 +30,7 @@ impl Config {
             utf8_empty: None,
             which_captures: None,
             nfa_size_limit: None,
+            line_terminator: None,
             backtrack: None,
         }
     }
@@ -62,6 +64,14 @@ impl Config {
         ensures { result ≡ record self { nfa_size_limit = Some limit } }
     {
         self.nfa_size_limit = Some(limit);
+        self
+    }
+
+    /// Sets the byte that ends a line, for anchors at lines.
+    pub fn line_terminator(mut self, byte: u8) -> Config
+        ensures { result ≡ record self { line_terminator = Some byte } }
+    {
+        self.line_terminator = Some(byte);
         self
     }
 
@@ -101,6 +111,13 @@ impl Config {
         self.nfa_size_limit.unwrap_or(Some(NFA_SIZE_LIMIT))
     }
 
+    /// The byte that ends a line; by default `\n`.
+    pub fn get_line_terminator(&self) -> u8
+        ensures { result ≡ terminator_of self.now }
+    {
+        self.line_terminator.unwrap_or(b'\n')
+    }
+
     /// Whether the bounded backtracker may be used; by default so.
     pub fn get_backtrack(&self) -> bool
         ensures { result ≡ backtrack_of self.now }
@@ -112,10 +129,13 @@ impl Config {
     pub fn compiler(&self) -> rx_thompson::Config
         ensures { result ≡ compiler_of self.now }
     {
+        let mut matcher = LookMatcher::new();
+        matcher.set_line_terminator(self.get_line_terminator());
         rx_thompson::Config::new()
             .utf8(self.get_utf8_empty())
             .nfa_size_limit(self.get_nfa_size_limit())
             .which_captures(self.get_which_captures())
+            .look_matcher(matcher)
     }
 
     /// Whether a strategy under this configuration has the bounded backtracker.
@@ -137,6 +157,7 @@ impl Config {
             utf8_empty: self.utf8_empty,
             which_captures: self.which_captures,
             nfa_size_limit: self.nfa_size_limit,
+            line_terminator: self.line_terminator,
             backtrack: self.backtrack,
         }
     }
@@ -150,6 +171,7 @@ impl Config {
             utf8_empty: other.utf8_empty.or(self.utf8_empty),
             which_captures: other.which_captures.or(self.which_captures),
             nfa_size_limit: other.nfa_size_limit.or(self.nfa_size_limit),
+            line_terminator: other.line_terminator.or(self.line_terminator),
             backtrack: other.backtrack.or(self.backtrack),
         }
     }

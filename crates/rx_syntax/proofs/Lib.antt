@@ -1,12 +1,6 @@
-pub mod BranchLemmas
-pub mod ClassItemLemmas
-pub mod EndLemmas
-pub mod ItemLemmas
-pub mod PatternLemmas
-pub mod PlaceLemmas
-pub mod ReadsLemmas
-pub mod RepeatLemmas
-mod Rows
+pub mod FewestLemmas
+pub mod GatherLemmas
+pub mod PatternsLemmas
 pub mod SizeLemmas
-pub mod StackLemmas
 pub mod TranslationLemmas
+pub mod RefusalLemmas

@@ -1,41 +1,46 @@
--- The expression that a syntax stands for.
-use Rattle.std.specs.Prelude.{ℕ, Bool, true, List, [], ◌∷◌, Option, Some, None, if◌then◌else◌, encode_utf8}
-use Rattle.rx_model.specs.Text.{scalar_ranges}
-use Rattle.rx_model.specs.Expression.{Expression, capture}
-use Rattle.rx_hir.specs.Normal.{literal_of, class_of, repetition_of, concat_of, alternation_of}
-use Rattle.rx_class.specs.Ranges.{next_scalar, fewest}
-use Rattle.rx_class.specs.Scalars.{complement}
-use Rattle.rx_syntax.specs.Syntax.{Syntax, Syntaxes, character, dot, set, repeated, group, cat, alt, nil, cons}
+-- The expression that a pattern stands for, as it is written, or the first refusal from left to right.
+use Rattle.std.specs.Prelude.{ℕ, List, [], ◌∷◌, Some, None, Result, Ok, if◌then◌else◌}
+use lib.Utf8.{encodes}
+use Rattle.rx_model.specs.Expression.{Expression, look, capture}
+use Rattle.rx_hir.specs.Normal.{repetition_of, concat_of, alternation_of}
+use Rattle.rx_reader.specs.Reading.{◌>>=◌}
+use Rattle.rx_reader.specs.Syntax.{Syntax, Syntaxes, literal, atom, repeated, group, cat, alt, nil, cons}
+use Rattle.rx_reader.specs.declared.config.Config.{Config}
+use Rattle.rx_reader.specs.declared.flags.Flags.{Flags}
+use Rattle.rx_reader.specs.declared.piece.Piece.{Piece}
+use Rattle.rx_reader.specs.declared.error.SyntaxError.{SyntaxError}
+use Rattle.rx_reader.specs.declared.atom.Atom.{Atom}
+use Rattle.rx_reader.specs.declared.atom.Atom.TheVariants.{HexByte, Dot, Assertion, Perl, Property, Bracketed}
+use Rattle.rx_reader.specs.declared.group_kind.GroupKind.{GroupKind}
+use Rattle.rx_reader.specs.declared.group_kind.GroupKind.TheVariants.{NonCapturing, CaptureIndex, CaptureName}
+use Rattle.rx_syntax.specs.Literals.{character}
+use Rattle.rx_syntax.specs.Assertions.{look_of}
+use Rattle.rx_syntax.specs.Classes.{perl_class, property_class, bracketed, dot, hex_byte}
 
--- the class of these scalars, in fewest ranges
-abbrev pub scalars_of : List (ℕ × ℕ) → Expression
-scalars_of ranges = class_of (scalar_ranges ranges)
+-- an atom under the flags at it
+abbrev pub atom_of : Config → Flags → Piece → Atom → Result Expression SyntaxError
+atom_of config flags piece (HexByte c) = if flags.unicode then Ok (character flags c) else hex_byte config flags piece c
+atom_of config flags piece Dot = dot config flags piece
+atom_of config flags piece (Assertion kind) = Ok (look (look_of flags kind))
+atom_of config flags piece (Perl kind negated) = perl_class config flags piece kind negated
+atom_of config flags piece (Property name negated) = property_class flags piece name negated
+atom_of config flags piece (Bracketed negated items) = bracketed config flags piece negated items
 
--- the scalars in the ranges, or outside them
-abbrev pub bracketed : (negated : Bool) → List (ℕ × ℕ) → Expression
-bracketed negated ranges =
-    let members = fewest next_scalar ranges in
-    scalars_of (if negated then complement members else members)
-
--- every scalar but the line feed
-abbrev pub dot_of : Expression
-dot_of = bracketed true ((10, 10) ∷ [])
-
--- the group of this number, or its body alone where it does not capture
-abbrev pub group_of : Option ℕ → Expression → Expression
-group_of None body = body
-group_of (Some number) body = capture number body
+-- a group that captures has a number, and some have a name
+abbrev pub group_of : GroupKind → Expression → Expression
+group_of NonCapturing body = body
+group_of (CaptureIndex number) body = capture number None body
+group_of (CaptureName number name) body = capture number (Some (encodes name)) body
 
 abbrev mutual
-  pub expression_of : Syntax → Expression
-  expression_of (character c) = literal_of (encode_utf8 c)
-  expression_of dot = dot_of
-  expression_of (set negated ranges) = bracketed negated ranges
-  expression_of (repeated min max greedy body) = repetition_of min max greedy (expression_of body)
-  expression_of (group number body) = group_of number (expression_of body)
-  expression_of (cat items) = concat_of (expressions_of items)
-  expression_of (alt branches) = alternation_of (expressions_of branches)
+  pub translated : Config → Syntax → Result Expression SyntaxError
+  translated config (literal flags c) = Ok (character flags c)
+  translated config (atom flags piece a) = atom_of config flags piece a
+  translated config (repeated min max greedy body) = translated config body >>= λ e. Ok (repetition_of min max greedy e)
+  translated config (group kind body) = translated config body >>= λ e. Ok (group_of kind e)
+  translated config (cat items) = all_translated config items >>= λ es. Ok (concat_of es)
+  translated config (alt branches) = all_translated config branches >>= λ es. Ok (alternation_of es)
 
-  pub expressions_of : Syntaxes → List Expression
-  expressions_of nil = []
-  expressions_of (cons s ss) = expression_of s ∷ expressions_of ss
+  pub all_translated : Config → Syntaxes → Result (List Expression) SyntaxError
+  all_translated config nil = Ok []
+  all_translated config (cons s ss) = translated config s >>= λ e. all_translated config ss >>= λ es. Ok (e ∷ es)

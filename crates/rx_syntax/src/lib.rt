@@ -1,18 +1,21 @@
 //! Patterns and the expressions that they read as.
 //!
-//! `parse` answers exactly what the grammar's definition says: the expression, or the first refusal
-//! with its kind and piece. It stands on rx_hir.
+//! `parse_with` answers exactly what the grammar's definition says: the expression, or the first refusal
+//! with its kind and piece. It reads by rx_reader, and translates what was read.
 #![tactic(auto)]
 
-mod ast;
-mod class;
-mod cursor;
-mod error;
-mod parser;
+mod assertion;
+mod bytes;
+mod literal;
+mod pattern;
+mod patterns;
+mod refusal;
+mod scalars;
+mod set;
 #[cfg(test)]
 mod tests;
-mod token;
 mod translate;
 
-pub use error::{ParseError, SyntaxError, SyntaxErrorKind};
-pub use parser::parse;
+pub use pattern::{parse, parse_many, parse_many_with, parse_with, read_with, translate_with};
+pub use patterns::{PatternsError, parse_all};
+pub use rx_reader::{Ast, Config, ParseError, SyntaxError, SyntaxErrorKind};

@@ -1,25 +1,46 @@
 //! From a pattern as it is written to its expression.
-ghost use Rattle.std.specs.Prelude.{◌≡◌, ◌<◌, ◌≤◌, map, IfOk, IfSome};
-ghost use lib.Utf8.{encodes};
-ghost use Rattle.rx_hir.specs.Normal.{literal_of, repetition_of};
-ghost use Rattle.rx_syntax.specs.Translation.{expression_of, group_of, dot_of, bracketed};
-ghost use Rattle.rx_syntax.specs.ItemViews.{item_expression};
+ghost use Rattle.std.specs.Prelude.{◌≡◌, ◌<◌, ◌≤◌, option_map, string_bytes, IfOk, IfSome};
+ghost use Rattle.rx_model.specs.Expression.{capture};
+ghost use Rattle.rx_hir.specs.Normal.{repetition_of};
+ghost use Rattle.rx_reader.specs.AstViews.{IsNumbered};
+ghost use Rattle.rx_syntax.specs.Answers.{Answers, AnswersAs};
+ghost use Rattle.rx_syntax.specs.Translation.{atom_of, group_of, translated};
+ghost use Rattle.rx_syntax.specs.ItemViews.{all_parts, branch_parts};
+ghost use Rattle.rx_syntax.specs.Refused.{gathered};
 
-use crate::ast::{Ast, AstKind, Item};
-use rx_hir::{Capture, Class, ClassUnicode, Hir, Repetition};
+use crate::assertion::look_of;
+use crate::bytes::hex_byte;
+use crate::literal::{character, push_run, text};
+use crate::set::{bracketed, dot, perl, property};
+use rx_hir::{Capture, Hir, Repetition};
+use rx_reader::{Ast, AstKind, Atom, Config, Flags, GroupKind, Item, ParseError, Piece};
 use rx_search::Memory;
 use std::alloc::Global;
 use std::num::NonZeroUsize;
 
-/// The literal of these characters' encodings.
-fn literal(alloc: Global, chars: &[char]) -> Result<Hir, Memory>
-    ensures { IfOk result (λ h. h ≡ literal_of (encodes chars.now)) }
+/// What an atom stands for under the flags at it.
+fn atom(
+    alloc: Global,
+    config: &Config,
+    flags: Flags,
+    piece: Piece,
+    atom: &Atom,
+) -> Result<Hir, ParseError>
+    ensures { Answers result (atom_of config.now flags piece atom.now) }
 {
-    let mut text = String::new(alloc);
-    for c in chars {
-        text.push(*c)?;
+    match atom {
+        Atom::HexByte(c) if flags.unicode => Ok(character(alloc, flags, *c)?),
+        Atom::HexByte(c) => hex_byte(alloc, config, flags, piece, *c),
+        Atom::Dot => dot(alloc, config, flags, piece),
+        Atom::Assertion(kind) => Ok(Hir::look(look_of(flags, *kind))),
+        Atom::Perl { kind, negated } => perl(alloc, config, flags, piece, *kind, *negated),
+        Atom::Property { name, negated } => {
+            property(alloc, flags, piece, name.as_slice(), *negated)
+        }
+        Atom::Bracketed { negated, items } => {
+            bracketed(alloc, config, flags, piece, *negated, items.as_slice())
+        }
     }
-    Ok(Hir::literal(text.into_bytes()))
 }
 
 fn repetition(
@@ -41,89 +62,99 @@ fn repetition(
     }))
 }
 
-/// The group of this number, or its body alone where it does not capture.
-fn group(alloc: Global, number: Option<usize>, sub: Hir) -> Result<Hir, Memory>
-    requires { IfSome number (λ n. 0 < n) }
-    ensures { IfOk result (λ h. h ≡ group_of number sub) }
+/// The group of this number and name.
+fn capture(alloc: Global, number: usize, name: Option<String>, sub: Hir) -> Result<Hir, Memory>
+    requires { 0 < number }
+    ensures { IfOk result (λ h. h ≡ capture number (option_map string_bytes name) sub) }
 {
-    match number.and_then(NonZeroUsize::new) {
+    match NonZeroUsize::new(number) {
         None => Ok(sub),
         Some(index) => {
             let sub = Box::new(alloc, sub)?;
-            Ok(Hir::capture(Capture { index, sub }))
+            Ok(Hir::capture(Capture { index, name, sub }))
         }
     }
 }
 
-/// The expression that a syntax stands for.
-#[cycle(translate)]
-pub(crate) fn translate(alloc: Global, ast: &Ast) -> Result<Hir, Memory>
-    ensures { IfOk result (λ h. h ≡ expression_of ast.now) }
+/// The group, or its body alone where it does not capture.
+fn group(alloc: Global, kind: &GroupKind, sub: Hir) -> Result<Hir, Memory>
+    requires { IsNumbered kind.now }
+    ensures { IfOk result (λ h. h ≡ group_of kind.now sub) }
 {
-    match &ast.kind {
-        AstKind::Literal(c) => literal(alloc, &[*c]),
-        AstKind::Dot => dot(alloc),
-        AstKind::Class { negated, ranges } => bracketed(alloc, *negated, ranges),
+    match kind {
+        GroupKind::NonCapturing => Ok(sub),
+        GroupKind::CaptureIndex(number) => capture(alloc, *number, None, sub),
+        GroupKind::CaptureName { index, name } => {
+            let name = text(alloc, name.as_slice())?;
+            capture(alloc, *index, Some(name), sub)
+        }
+    }
+}
+
+/// The expression that a syntax stands for, or the first refusal from left to right.
+#[cycle(translate)]
+pub(crate) fn translate(alloc: Global, ast: &Ast, config: &Config) -> Result<Hir, ParseError>
+    ensures { Answers result (translated config.now ast.now) }
+{
+    match ast.kind() {
+        AstKind::Literal {
+            flags,
+            character: c,
+        } => Ok(character(alloc, *flags, *c)?),
+        AstKind::Atom {
+            flags,
+            piece,
+            atom: own,
+        } => atom(alloc, config, *flags, *piece, own),
         AstKind::Repetition {
             min,
             max,
             greedy,
             sub,
-        } => repetition(alloc, *min, *max, *greedy, translate(alloc, sub)?),
-        AstKind::Group { number, sub } => group(alloc, *number, translate(alloc, sub)?),
-        AstKind::Concat(items) => Hir::concat(alloc, translate_items(alloc, items)?),
+        } => {
+            let body = translate(alloc, sub, config)?;
+            Ok(repetition(alloc, *min, *max, *greedy, body)?)
+        }
+        AstKind::Group { kind, sub } => {
+            let body = translate(alloc, sub, config)?;
+            Ok(group(alloc, kind, body)?)
+        }
+        AstKind::Concat(items) => {
+            let subs = translate_items(alloc, items, config)?;
+            Ok(Hir::concat(alloc, subs)?)
+        }
         AstKind::Alternation(branches) => {
-            Hir::alternation(alloc, translate_branches(alloc, branches)?)
+            let subs = translate_branches(alloc, branches, config)?;
+            Ok(Hir::alternation(alloc, subs)?)
         }
     }
 }
 
 #[cycle(translate)]
-fn translate_branches(alloc: Global, branches: &[Ast]) -> Result<Vec<Hir>, Memory>
-    ensures { IfOk result (λ v. v.items ≡ map expression_of branches.now) }
+fn translate_branches(
+    alloc: Global,
+    branches: &[Ast],
+    config: &Config,
+) -> Result<Vec<Hir>, ParseError>
+    ensures { AnswersAs (λ v. v.items) result (gathered (branch_parts config.now) branches.now) }
 {
     let mut subs = Vec::with_capacity(alloc, branches.len())?;
     for branch in branches {
-        subs.push(translate(alloc, branch)?)?;
+        subs.push(translate(alloc, branch, config)?)?;
     }
     Ok(subs)
 }
 
 #[cycle(translate)]
-fn translate_items(alloc: Global, items: &[Item]) -> Result<Vec<Hir>, Memory>
-    ensures { IfOk result (λ v. v.items ≡ map item_expression items.now) }
+fn translate_items(alloc: Global, items: &[Item], config: &Config) -> Result<Vec<Hir>, ParseError>
+    ensures { AnswersAs (λ v. v.items) result (all_parts config.now items.now) }
 {
     let mut subs = Vec::with_capacity(alloc, items.len())?;
     for item in items {
-        subs.push(translate_item(alloc, item)?)?;
+        match item {
+            Item::Literals { flags, run } => push_run(alloc, &mut subs, *flags, run)?,
+            Item::One(ast) => subs.push(translate(alloc, ast, config)?)?,
+        }
     }
     Ok(subs)
-}
-
-#[cycle(translate)]
-fn translate_item(alloc: Global, item: &Item) -> Result<Hir, Memory>
-    ensures { IfOk result (λ h. h ≡ item_expression item.now) }
-{
-    match item {
-        Item::Literals(run) => literal(alloc, run),
-        Item::One(ast) => translate(alloc, ast),
-    }
-}
-
-/// Every scalar but the line feed.
-fn dot(alloc: Global) -> Result<Hir, Memory>
-    ensures { IfOk result (λ h. h ≡ dot_of) }
-{
-    bracketed(alloc, true, &[('\n', '\n')])
-}
-
-/// The scalars in the ranges, or outside them.
-fn bracketed(alloc: Global, negated: bool, ranges: &[(char, char)]) -> Result<Hir, Memory>
-    ensures { IfOk result (λ h. h ≡ bracketed negated ranges.now) }
-{
-    let members = ClassUnicode::new(alloc, ranges)?;
-    if negated {
-        return Hir::class(alloc, Class::Unicode(members.complement(alloc)?));
-    }
-    Hir::class(alloc, Class::Unicode(members))
 }

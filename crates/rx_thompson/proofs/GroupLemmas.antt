@@ -1,29 +1,41 @@
 -- The groups that have slots, and how many slots they have.
-use Rattle.std.proofs.Common.{◌≡◌, ℕ, ◌+◌, ◌*◌, ◌<◌, List, [], ◌∷◌, refl, sym, ◌∙◌, ap, arith, length}
-use Rattle.std.specs.Prelude.{All, map, replicate, sum}
+use Rattle.std.proofs.Common.{◌≡◌, ℕ, zero, suc, ◌<◌, List, [], ◌∷◌, refl, ap, arith, length}
+use Rattle.std.specs.Prelude.{All, Option, None, map, replicate, sum}
 use Rattle.std.proofs.lemmas.List.Sums.{sum_by-cons}
+use Rattle.std.proofs.lemmas.List.FromFn.{length-map-range_with_len}
 use Rattle.std.proofs.lemmas.List.Elements.{All-nil, All-cons}
 use Rattle.rx_model.specs.Expression.{Expression}
-use Rattle.rx_model.specs.Search.{WhichCaptures, all, implicit, none, greatest_group, groups_before}
-use Rattle.rx_search.specs.GroupInfo.{slot_count}
-use Rattle.rx_search.proofs.GroupLemmas.{group_count-unnamed}
-use Rattle.rx_thompson.specs.Compiled.{slots_of, group_lens_of, groups_of}
+use Rattle.rx_model.specs.Search.{WhichCaptures, all, implicit, none, greatest_group}
+use Rattle.rx_search.specs.GroupInfo.{slot_count, unnamed_groups, BeginsUnnamed}
+use Rattle.rx_hir.specs.Names.{group_names, name_in}
+use Rattle.rx_thompson.specs.Compiled.{slots_of, groups_of}
 
--- each pattern has a group
-pub lens-positive : (which : WhichCaptures) (hs : List Expression) → All (λ n. 0 < n) (group_lens_of which hs)
-lens-positive all [] = All-nil (λ n. 0 < n)
-lens-positive all (h ∷ hs) = All-cons (λ n. 0 < n) (greatest_group h + 1) (map (λ x. greatest_group x + 1) hs) (omega arith) (lens-positive all hs)
-lens-positive implicit [] = All-nil (λ n. 0 < n)
-lens-positive implicit (h ∷ hs) = All-cons (λ n. 0 < n) 1 (replicate (length hs) 1) (omega arith) (lens-positive implicit hs)
-lens-positive none hs = All-nil (λ n. 0 < n)
+-- the whole match, and the groups up to the greatest
+pub length-group_names : (h : Expression) → length (group_names h) ≡ suc (greatest_group h)
+length-group_names h = ap suc (length-map-range_with_len (λ g. name_in g h) 1 (greatest_group h))
+
+-- each pattern's first group is the whole match
+pub groups-begin : (hs : List Expression) → All BeginsUnnamed (map group_names hs)
+groups-begin [] = All-nil BeginsUnnamed
+groups-begin (h ∷ hs) = All-cons BeginsUnnamed (group_names h) (map group_names hs) refl (groups-begin hs)
+
+-- one group for each of so many patterns
+pub wholes : (n : ℕ) → map unnamed_groups (replicate n 1) ≡ replicate n (None ∷ [])
+wholes zero = refl
+wholes (suc n) = ap (λ (gs : List (List (Option (List ℕ)))). (None ∷ []) ∷ gs) (wholes n)
+
+pub ones-positive : (n : ℕ) → All (λ k. 0 < k) (replicate n 1)
+ones-positive zero = All-nil (λ k. 0 < k)
+ones-positive (suc n) = All-cons (λ k. 0 < k) 1 (replicate n 1) (omega arith) (ones-positive n)
+
+pub ones-sum : (n : ℕ) → sum (replicate n 1) ≡ n
+ones-sum zero = refl
+ones-sum (suc n) = omega (arith, ones-sum n, sum_by-cons (λ (x : ℕ). x) 1 (replicate n 1))
 
 -- each group has two slots
-pub lens-sum : (which : WhichCaptures) (hs : List Expression) → 2 * sum (group_lens_of which hs) ≡ slots_of which hs
-lens-sum all [] = refl
-lens-sum all (h ∷ hs) = omega (arith, lens-sum all hs, sum_by-cons (λ (x : ℕ). x) (greatest_group h + 1) (map (λ x. greatest_group x + 1) hs))
-lens-sum implicit [] = refl
-lens-sum implicit (h ∷ hs) = omega (arith, lens-sum implicit hs, sum_by-cons (λ (x : ℕ). x) 1 (replicate (length hs) 1))
-lens-sum none hs = refl
-
 pub slots-counted : (which : WhichCaptures) (hs : List Expression) → slots_of which hs ≡ slot_count (groups_of which hs)
-slots-counted which hs = sym (lens-sum which hs) ∙ sym (ap (λ n. 2 * n) (group_count-unnamed (group_lens_of which hs)))
+slots-counted all [] = refl
+slots-counted all (h ∷ hs) = omega (arith, slots-counted all hs, length-group_names h)
+slots-counted implicit [] = refl
+slots-counted implicit (h ∷ hs) = omega (arith, slots-counted implicit hs)
+slots-counted none hs = refl

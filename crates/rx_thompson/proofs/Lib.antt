@@ -24,3 +24,4 @@ pub mod ReadLemmas
 pub mod RefinedLemmas
 pub mod NextMatchLemmas
 pub mod SetLemmas
+pub mod LookLemmas

@@ -1,11 +1,14 @@
 -- What the compiler answers.
 use Rattle.std.specs.Prelude.{◌≡◌, ℕ, ◌+◌, ◌*◌, ◌<◌, ◌≤◌, Bool, List, [], ◌∷◌, length, map, replicate, Option, Some, None, IfSome, slice_get}
+use Rattle.std.specs.List.{list_all}
 use Rattle.rx_model.specs.Expression.{Expression, AreOrdered}
-use Rattle.rx_model.specs.Search.{Patterns, WhichCaptures, all, implicit, none, greatest_group, groups_before}
-use Rattle.rx_search.specs.GroupInfo.{unnamed_groups}
+use Rattle.rx_model.specs.Look.{start_text}
+use Rattle.rx_model.specs.Search.{Patterns, WhichCaptures, all, implicit, none, groups_before}
 use Rattle.rx_model.specs.Empty.{one_can_be_empty}
 use Rattle.rx_hir.specs.Normal.{expressions}
 use Rattle.rx_hir.specs.Cost.{accounted_states, capped}
+use Rattle.rx_hir.specs.Names.{group_names}
+use Rattle.rx_hir.specs.Properties.{looks_first}
 use Rattle.rx_thompson.specs.Config.{utf8_of, size_limit_of, terminator_of, captures_of}
 use Rattle.rx_thompson.specs.declared.compiler.config.Config.{Config}
 use Rattle.rx_thompson.specs.Nfa.{Nfa, IsInRange, HasFirstRuns}
@@ -16,21 +19,22 @@ use Rattle.rx_thompson.specs.declared.error.BuildError.TheVariants.{TooManyPatte
 abbrev pub patterns_of : List Expression → (utf8_empty : Bool) → (terminator : ℕ) → WhichCaptures → Patterns
 patterns_of hs utf8_empty terminator which = record { expressions = hs; utf8_empty = utf8_empty; terminator = terminator; which_captures = which }
 
+-- each pattern begins with the start of the text
+abbrev pub all_start_anchored : List Expression → Bool
+all_start_anchored hs = list_all (looks_first start_text) hs
+
 -- how many slots there are: two for each pattern, and under `all` two for each group that one names
 abbrev pub slots_of : WhichCaptures → List Expression → ℕ
 slots_of all hs = 2 * length hs + 2 * groups_before (length hs) hs
 slots_of implicit hs = 2 * length hs
 slots_of none hs = 0
 
--- how many groups of each pattern have slots: under `all` those from 0 to the greatest that its expression has
-abbrev pub group_lens_of : WhichCaptures → List Expression → List ℕ
-group_lens_of all hs = map (λ h. greatest_group h + 1) hs
-group_lens_of implicit hs = replicate (length hs) 1
-group_lens_of none hs = []
-
--- these groups, none of which has a name
+-- The groups of each pattern that have slots, by their names: under `all` those from 0 to the greatest that its
+-- expression has, under `implicit` the whole match, which has no name.
 abbrev pub groups_of : WhichCaptures → List Expression → List (List (Option (List ℕ)))
-groups_of which hs = map unnamed_groups (group_lens_of which hs)
+groups_of all hs = map group_names hs
+groups_of implicit hs = replicate (length hs) (None ∷ [])
+groups_of none hs = []
 
 -- the first slot of the groups that pattern p names, if they have slots
 abbrev pub first_slot_of : WhichCaptures → List Expression → ℕ → Option ℕ
@@ -63,6 +67,7 @@ pub record IsCompiled (config : Config) (hs : List Expression) (nfa : Nfa) : Typ
   pub groups : nfa.groups ≡ groups_of (captures_of config) hs
   pub utf8 : nfa.utf8 ≡ utf8_of config
   pub terminator : nfa.terminator ≡ terminator_of config
+  pub always_start_anchored : nfa.always_start_anchored ≡ all_start_anchored hs
   pub has_empty : nfa.has_empty ≡ one_can_be_empty (expressions hs)
   -- the counts of each expression are in order, as the laws on its meaning ask
   pub ordered : (p : ℕ) (h : Expression) → slice_get hs p ≡ Some h → AreOrdered h

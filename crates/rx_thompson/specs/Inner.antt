@@ -12,6 +12,7 @@ nfa_of i = record {
   utf8 = i.utf8;
   terminator = i.look_matcher;
   looks = i.look_set_any;
+  always_start_anchored = i.always_start_anchored;
   has_empty = i.has_empty;
   accounted = i.accounted_states;
 }

@@ -26,6 +26,8 @@ pub record Nfa : Type 0 where
   pub terminator : ℕ
   -- the kinds of look-around that the states ask for, as a set
   pub looks : ℕ
+  -- each of the patterns begins with the start of the text
+  pub always_start_anchored : Bool
   -- one of the patterns can match the empty string
   pub has_empty : Bool
   -- how many states were accounted for the patterns

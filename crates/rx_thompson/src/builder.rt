@@ -27,6 +27,7 @@ pub struct Facts {
     pub group_info: GroupInfo,
     pub utf8: bool,
     pub look_matcher: LookMatcher,
+    pub always_start_anchored: bool,
     pub has_empty: bool,
     pub accounted_states: usize,
 }
@@ -172,6 +173,7 @@ impl Builder {
           utf8 = facts.utf8;
           terminator = facts.look_matcher;
           looks = nfa.looks;
+          always_start_anchored = facts.always_start_anchored;
           has_empty = facts.has_empty;
           accounted = facts.accounted_states;
         }) }
@@ -190,6 +192,7 @@ impl Builder {
                 utf8: facts.utf8,
                 look_matcher: facts.look_matcher,
                 look_set_any,
+                always_start_anchored: facts.always_start_anchored,
                 has_empty: facts.has_empty,
                 accounted_states: facts.accounted_states,
             },

@@ -12,6 +12,7 @@ ghost use Rattle.rx_thompson.specs.Draft.{Extends};
 ghost use Rattle.rx_thompson.specs.Room.{HasRoom};
 
 mod accounting;
+mod anchors;
 mod config;
 mod constant;
 mod expression;
@@ -26,6 +27,7 @@ use crate::error::BuildError;
 use crate::nfa::NFA;
 use crate::state::{Alternates, State};
 use accounting::{nfa_states, slot_len};
+use anchors::all_start_anchored;
 pub use config::{Config, WhichCaptures};
 use expression::compile;
 use grouping::group_info;
@@ -34,6 +36,7 @@ use rx_hir::{Hir, one_can_be_empty};
 use rx_search::{Memory, PatternID, StateID};
 use slots::{first_slot, second_slot, slot_after, whole_slot};
 use std::alloc::Global;
+use std::slice;
 
 /// The most patterns that an NFA may have.
 const PATTERN_LIMIT: usize = 2147483647;
@@ -68,6 +71,15 @@ impl Compiler {
         ensures { self.new.config ≡ overwritten self.old.config config }
     {
         self.config = self.config.overwrite(config);
+    }
+
+    /// The NFA of this expression, as the only pattern: as `build_many_from_hir` answers.
+    pub fn build_from_hir(&self, alloc: Global, expr: &Hir) -> Result<NFA, BuildError>
+        ensures compiled { IfOk result (IsCompiled self.now.config (expr.now ∷ [])) }
+        ensures allowed { OnOk result (AreAllowed self.now.config (expr.now ∷ [])) }
+        ensures refused { IfErr result (IsRefusal self.now.config (expr.now ∷ [])) }
+    {
+        self.build_many_from_hir(alloc, slice::from_ref(expr))
     }
 
     /// The NFA of these expressions, one pattern each. A match's slots come in the order of the patterns: two for each
@@ -148,6 +160,7 @@ fn build(
         group_info,
         utf8: config.get_utf8(),
         look_matcher: config.get_look_matcher(),
+        always_start_anchored: all_start_anchored(exprs),
         has_empty: one_can_be_empty(exprs),
         accounted_states: states,
     };

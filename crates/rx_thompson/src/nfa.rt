@@ -160,11 +160,12 @@ impl NFA {
         self.inner.has_empty
     }
 
-    /// Whether every pattern asks for the start of the text: false, since no expression can ask for that yet.
+    /// Whether each pattern begins with the start of the text: `Look::Start` stands in its prefix look set. No
+    /// patterns at all do.
     pub fn is_always_start_anchored(&self) -> bool
-        ensures { result ≡ false }
+        ensures { result ≡ self.now.always_start_anchored }
     {
-        false
+        self.inner.always_start_anchored
     }
 
     /// Whether the NFA reads its texts backwards: false, since every NFA is a forward one yet.

@@ -1,16 +1,15 @@
 use crate::backtrack::BoundedBacktracker;
+use crate::expressions::{a_in_group_then_b, a_or_ab, either, group, text};
+use rx_hir::Hir;
 use rx_search::{Input, MatchError, NonMaxUsize, PatternID, Span};
-use rx_syntax::parse;
 use rx_thompson::Compiler;
 use std::alloc::Global;
 use std::process::Abort;
 use std::test::Fail;
 
 /// The engine of the pattern.
-fn engine(rt: &impl Abort, alloc: Global, pattern: &str) -> Result<BoundedBacktracker, Fail> {
-    let mut expressions = Vec::new(alloc);
-    expressions.push(parse(alloc, pattern).ok().expect(rt, "a pattern"))?;
-    let nfa = Compiler::new().build_many_from_hir(alloc, &expressions);
+fn engine(rt: &impl Abort, alloc: Global, expression: Hir) -> Result<BoundedBacktracker, Fail> {
+    let nfa = Compiler::new().build_from_hir(alloc, &expression);
     Ok(BoundedBacktracker::build_from_nfa(nfa.ok().expect(rt, "an NFA")))
 }
 
@@ -25,7 +24,7 @@ fn place(slot: Option<NonMaxUsize>) -> Option<usize> {
 #[test]
 fn the_first_alternative_is_preferred(rt: HostRuntime) -> Result<(), Fail> {
     let alloc = rt.alloc();
-    let backtracker = engine(&rt, alloc, "a|ab")?;
+    let backtracker = engine(&rt, alloc, a_or_ab(alloc)?)?;
     let mut cache = backtracker.create_cache(alloc)?;
     let mut slots = [None; 3];
     let found = backtracker.try_search_slots(&mut cache, &Input::new(b"ab"), &mut slots);
@@ -39,7 +38,7 @@ fn the_first_alternative_is_preferred(rt: HostRuntime) -> Result<(), Fail> {
 #[test]
 fn a_cache_keeps_nothing_of_a_search(rt: HostRuntime) -> Result<(), Fail> {
     let alloc = rt.alloc();
-    let backtracker = engine(&rt, alloc, "(a)b")?;
+    let backtracker = engine(&rt, alloc, a_in_group_then_b(alloc)?)?;
     let mut cache = backtracker.create_cache(alloc)?;
     let mut slots = [None; 4];
     let found = backtracker.try_search_slots(&mut cache, &Input::new(b"xab"), &mut slots);
@@ -57,8 +56,16 @@ fn a_cache_keeps_nothing_of_a_search(rt: HostRuntime) -> Result<(), Fail> {
 #[test]
 fn a_cache_is_reset(rt: HostRuntime) -> Result<(), Fail> {
     let alloc = rt.alloc();
-    let small = engine(&rt, alloc, "a")?;
-    let large = engine(&rt, alloc, "(a)b|(c)")?;
+    let small = engine(&rt, alloc, text(alloc, b"a")?)?;
+    let large = engine(
+        &rt,
+        alloc,
+        either(
+            alloc,
+            a_in_group_then_b(alloc)?,
+            group(alloc, 2, text(alloc, b"c")?)?,
+        )?,
+    )?;
     let mut cache = small.create_cache(alloc)?;
     cache.reset(alloc, &large)?;
     let mut slots = [None; 6];
@@ -73,7 +80,7 @@ fn a_cache_is_reset(rt: HostRuntime) -> Result<(), Fail> {
 #[test]
 fn no_slots_and_some(rt: HostRuntime) -> Result<(), Fail> {
     let alloc = rt.alloc();
-    let backtracker = engine(&rt, alloc, "(a)b")?;
+    let backtracker = engine(&rt, alloc, a_in_group_then_b(alloc)?)?;
     let mut cache = backtracker.create_cache(alloc)?;
     let input = Input::new(b"xab");
     let found = backtracker.try_search_slots(&mut cache, &input, &mut []);
@@ -88,7 +95,7 @@ fn no_slots_and_some(rt: HostRuntime) -> Result<(), Fail> {
 #[test]
 fn as_many_slots_as_there_are_and_more(rt: HostRuntime) -> Result<(), Fail> {
     let alloc = rt.alloc();
-    let backtracker = engine(&rt, alloc, "(a)b")?;
+    let backtracker = engine(&rt, alloc, a_in_group_then_b(alloc)?)?;
     let mut cache = backtracker.create_cache(alloc)?;
     let mut slots = [None; 5];
     let found = backtracker.try_search_slots(&mut cache, &Input::new(b"xab"), &mut slots);
@@ -103,7 +110,7 @@ fn as_many_slots_as_there_are_and_more(rt: HostRuntime) -> Result<(), Fail> {
 fn the_longest_span(rt: HostRuntime) -> Result<(), Fail> {
     let alloc = rt.alloc();
     // 4 states, 1 of the expression and 3 of the pattern, with two slots
-    let backtracker = engine(&rt, alloc, "a")?;
+    let backtracker = engine(&rt, alloc, text(alloc, b"a")?)?;
     assert_eq!(rt; backtracker.max_haystack_len(), 262143);
     let mut cache = backtracker.create_cache(alloc)?;
     assert_eq!(rt; cache.memory_usage(), 256);
@@ -128,7 +135,7 @@ fn crosses_threads<T: Send + Sync>(_value: &T) {}
 #[test]
 fn an_engine_crosses_threads(rt: HostRuntime) -> Result<(), Fail> {
     let alloc = rt.alloc();
-    let backtracker = engine(&rt, alloc, "a")?;
+    let backtracker = engine(&rt, alloc, text(alloc, b"a")?)?;
     crosses_threads(&backtracker);
     goes_to_threads(&backtracker.create_cache(alloc)?);
     Ok(())

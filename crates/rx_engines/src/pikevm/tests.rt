@@ -1,6 +1,7 @@
+use crate::expressions::{a_in_group_then_b, a_or_ab, either, plus, text};
 use crate::pikevm::vm::PikeVM;
+use rx_hir::Hir;
 use rx_search::{Input, MatchKind, NonMaxUsize, PatternID};
-use rx_syntax::parse;
 use rx_thompson::Compiler;
 use std::alloc::Global;
 use std::process::Abort;
@@ -10,14 +11,10 @@ use std::test::Fail;
 fn engine(
     rt: &impl Abort,
     alloc: Global,
-    patterns: &[&str],
+    expression: Hir,
     kind: MatchKind,
 ) -> Result<PikeVM, Fail> {
-    let mut expressions = Vec::new(alloc);
-    for pattern in patterns {
-        expressions.push(parse(alloc, pattern).ok().expect(rt, "a pattern"))?;
-    }
-    let nfa = Compiler::new().build_many_from_hir(alloc, &expressions);
+    let nfa = Compiler::new().build_from_hir(alloc, &expression);
     Ok(PikeVM::build_from_nfa(nfa.ok().expect(rt, "an NFA"), kind))
 }
 
@@ -33,10 +30,10 @@ fn place(slot: Option<NonMaxUsize>) -> Option<usize> {
 fn find_first(
     rt: &impl Abort,
     alloc: Global,
-    pattern: &str,
+    expression: Hir,
     input: &Input<'_>,
 ) -> Result<(usize, usize, usize), Fail> {
-    let vm = engine(rt, alloc, &[pattern], MatchKind::LeftmostFirst)?;
+    let vm = engine(rt, alloc, expression, MatchKind::LeftmostFirst)?;
     let mut cache = vm.create_cache(alloc)?;
     let found = vm.find(&mut cache, input).expect(rt, "a match");
     Ok((found.pattern().as_usize(), found.start(), found.end()))
@@ -46,16 +43,37 @@ fn find_first(
 fn earliest_ends_where_a_match_ends_first(rt: HostRuntime) -> Result<(), Fail> {
     let alloc = rt.alloc();
     let late = Input::new(b"xaaa");
-    assert_eq!(rt; find_first(&rt, alloc, "a+", &late)?, (0, 1, 4));
     assert_eq!(rt;
-        find_first(&rt, alloc, "a+", &late.earliest(true))?,
+        find_first(&rt, alloc, plus(alloc, text(alloc, b"a")?)?, &late)?,
+        (0, 1, 4)
+    );
+    assert_eq!(rt;
+        find_first(
+            &rt,
+            alloc,
+            plus(alloc, text(alloc, b"a")?)?,
+            &late.earliest(true)
+        )?,
         (0, 1, 2)
     );
     // the second alternative starts later and ends first
     let late = Input::new(b"abcd");
-    assert_eq!(rt; find_first(&rt, alloc, "abcd|c", &late)?, (0, 0, 4));
     assert_eq!(rt;
-        find_first(&rt, alloc, "abcd|c", &late.earliest(true))?,
+        find_first(
+            &rt,
+            alloc,
+            either(alloc, text(alloc, b"abcd")?, text(alloc, b"c")?)?,
+            &late
+        )?,
+        (0, 0, 4)
+    );
+    assert_eq!(rt;
+        find_first(
+            &rt,
+            alloc,
+            either(alloc, text(alloc, b"abcd")?, text(alloc, b"c")?)?,
+            &late.earliest(true)
+        )?,
         (0, 2, 3)
     );
     Ok(())
@@ -64,7 +82,7 @@ fn earliest_ends_where_a_match_ends_first(rt: HostRuntime) -> Result<(), Fail> {
 #[test]
 fn the_first_alternative_is_preferred(rt: HostRuntime) -> Result<(), Fail> {
     let alloc = rt.alloc();
-    let vm = engine(&rt, alloc, &["a|ab"], MatchKind::LeftmostFirst)?;
+    let vm = engine(&rt, alloc, a_or_ab(alloc)?, MatchKind::LeftmostFirst)?;
     let mut cache = vm.create_cache(alloc)?;
     let mut slots = [None; 3];
     let found = vm.search_slots(&mut cache, &Input::new(b"ab"), &mut slots);
@@ -78,7 +96,12 @@ fn the_first_alternative_is_preferred(rt: HostRuntime) -> Result<(), Fail> {
 #[test]
 fn a_cache_keeps_nothing_of_a_search(rt: HostRuntime) -> Result<(), Fail> {
     let alloc = rt.alloc();
-    let vm = engine(&rt, alloc, &["(a)b"], MatchKind::LeftmostFirst)?;
+    let vm = engine(
+        &rt,
+        alloc,
+        a_in_group_then_b(alloc)?,
+        MatchKind::LeftmostFirst,
+    )?;
     let mut cache = vm.create_cache(alloc)?;
     let mut slots = [None; 4];
     let found = vm.search_slots(&mut cache, &Input::new(b"xab"), &mut slots);
@@ -93,7 +116,12 @@ fn a_cache_keeps_nothing_of_a_search(rt: HostRuntime) -> Result<(), Fail> {
 #[test]
 fn no_slots_and_some(rt: HostRuntime) -> Result<(), Fail> {
     let alloc = rt.alloc();
-    let vm = engine(&rt, alloc, &["(a)b"], MatchKind::LeftmostFirst)?;
+    let vm = engine(
+        &rt,
+        alloc,
+        a_in_group_then_b(alloc)?,
+        MatchKind::LeftmostFirst,
+    )?;
     let mut cache = vm.create_cache(alloc)?;
     let input = Input::new(b"xab");
     let found = vm.search_slots(&mut cache, &input, &mut []);
@@ -109,8 +137,8 @@ fn no_slots_and_some(rt: HostRuntime) -> Result<(), Fail> {
 fn memory_is_fixed_when_a_cache_is_made(rt: HostRuntime) -> Result<(), Fail> {
     let alloc = rt.alloc();
     // 4 states, 2 and 3 of the pattern, with 2 slots; and 4, 4 and 3, with 4 slots
-    let small = engine(&rt, alloc, &["ab"], MatchKind::LeftmostFirst)?;
-    let large = engine(&rt, alloc, &["(a)b"], MatchKind::All)?;
+    let small = engine(&rt, alloc, text(alloc, b"ab")?, MatchKind::LeftmostFirst)?;
+    let large = engine(&rt, alloc, a_in_group_then_b(alloc)?, MatchKind::All)?;
     let mut cache = small.create_cache(alloc)?;
     assert_eq!(rt; cache.memory_usage(), 16 * 9 * 2);
     assert!(rt; small.is_match(&mut cache, &Input::new(b"ab")));
@@ -129,7 +157,7 @@ fn crosses_threads<T: Send + Sync>(_value: &T) {}
 #[test]
 fn an_engine_crosses_threads(rt: HostRuntime) -> Result<(), Fail> {
     let alloc = rt.alloc();
-    let vm = engine(&rt, alloc, &["a"], MatchKind::LeftmostFirst)?;
+    let vm = engine(&rt, alloc, text(alloc, b"a")?, MatchKind::LeftmostFirst)?;
     crosses_threads(&vm);
     goes_to_threads(&vm.create_cache(alloc)?);
     Ok(())

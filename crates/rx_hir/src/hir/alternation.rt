@@ -2,7 +2,7 @@
 ghost use Rattle.std.specs.Prelude.{◌≡◌, ◌<◌, ◌++◌, length, IfOk, OnOk};
 ghost use Rattle.rx_model.specs.Expression.{alternation};
 ghost use Rattle.rx_hir.specs.Normal.{expressions, alternatives_of, choice_of, alternation_of};
-ghost use Rattle.rx_hir.specs.Properties.{properties_of};
+ghost use Rattle.rx_hir.specs.PropertiesViews.{AreOf};
 ghost use Rattle.rx_hir.specs.Sound.{AreSound};
 
 use super::properties::Properties;
@@ -71,12 +71,12 @@ fn one_of(alternatives: Vec<Hir>) -> Hir
 
 fn properties_of_one(alternatives: &[Hir]) -> Properties
     requires { 0 < length alternatives.now }
-    ensures value { result ≡ properties_of (alternation (expressions alternatives.now)) }
+    ensures value { AreOf (alternation (expressions alternatives.now)) result }
     ensures sound { AreSound (expressions alternatives.now) }
 {
     let mut i = alternatives.len() - 1;
     let last = &alternatives[i];
-    let mut properties = last.properties;
+    let mut properties = last.properties.alone();
     while i > 0 {
         i -= 1;
         let alternative = &alternatives[i];

@@ -3,7 +3,7 @@ ghost use Rattle.std.specs.Prelude.{◌≡◌, ◌<◌, [], ◌∷◌, ◌++◌,
 ghost use Rattle.rx_model.specs.Expression.{literal, concat};
 ghost use Rattle.rx_hir.specs.Joined.{and_then, and_then_all};
 ghost use Rattle.rx_hir.specs.Normal.{expressions, join_literals, parts_of, sequence_of, concat_of};
-ghost use Rattle.rx_hir.specs.Properties.{properties_of};
+ghost use Rattle.rx_hir.specs.PropertiesViews.{AreOf};
 ghost use Rattle.rx_hir.specs.Sound.{AreSound};
 
 use super::properties::Properties;
@@ -96,7 +96,7 @@ pub(super) fn bytes_in_row(bytes: Vec<u8>) -> Hir
     requires { 0 < length bytes.items }
     ensures { result ≡ literal bytes.items }
 {
-    let properties = Properties::of_len(bytes.len());
+    let properties = Properties::of_literal(&bytes);
     Hir {
         kind: HirKind::Literal(bytes),
         properties,
@@ -127,10 +127,10 @@ fn in_row(parts: Vec<Hir>) -> Hir
 }
 
 fn properties_in_row(parts: &[Hir]) -> Properties
-    ensures value { result ≡ properties_of (concat (expressions parts.now)) }
+    ensures value { AreOf (concat (expressions parts.now)) result }
     ensures sound { AreSound (expressions parts.now) }
 {
-    let mut properties = Properties::of_len(0);
+    let mut properties = Properties::of_empty();
     let mut i = parts.len();
     while i > 0 {
         i -= 1;

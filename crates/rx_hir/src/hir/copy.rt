@@ -39,6 +39,7 @@ fn copy_of_kind(kind: &HirKind) -> Result<HirKind, AllocError>
             bytes,
         )?)),
         HirKind::Class(class) => Ok(HirKind::Class(copy_of_class(class)?)),
+        HirKind::Look(look) => Ok(HirKind::Look(*look)),
         HirKind::Repetition(repetition) => Ok(HirKind::Repetition(Repetition {
             min: repetition.min,
             max: repetition.max,
@@ -47,6 +48,7 @@ fn copy_of_kind(kind: &HirKind) -> Result<HirKind, AllocError>
         })),
         HirKind::Capture(capture) => Ok(HirKind::Capture(Capture {
             index: capture.index,
+            name: capture.name.clone()?,
             sub: copy_of_box(&capture.sub)?,
         })),
         HirKind::Concat(subs) => Ok(HirKind::Concat(copy_of_all(subs)?)),

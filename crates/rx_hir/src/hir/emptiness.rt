@@ -22,6 +22,7 @@ fn kind_can_be_empty(kind: &HirKind) -> bool
         HirKind::Empty => true,
         HirKind::Literal(bytes) => bytes.is_empty(),
         HirKind::Class(_) => false,
+        HirKind::Look(_) => true,
         HirKind::Repetition(repetition) => {
             if repetition.min == 0 {
                 return true;

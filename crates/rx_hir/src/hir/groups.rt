@@ -22,6 +22,7 @@ fn greatest_of_kind(kind: &HirKind) -> usize
         HirKind::Empty => 0,
         HirKind::Literal(_) => 0,
         HirKind::Class(_) => 0,
+        HirKind::Look(_) => 0,
         HirKind::Repetition(repetition) => greatest_group(&repetition.sub),
         HirKind::Capture(capture) => capture.index.get().max(greatest_group(&capture.sub)),
         HirKind::Concat(subs) => greatest_in(subs),

@@ -1,27 +1,16 @@
-//! Laws of classes and of lengths.
-ghost use Rattle.std.specs.Prelude.{◌≡◌, ℕ, ◌+◌, ◌≤◌, List, Some};
-ghost use Rattle.std.specs.Char.{IsScalar};
-ghost use Rattle.rx_model.specs.Expression.{Expression, AreOrdered};
+//! Laws of properties and of names.
+ghost use Rattle.std.specs.Prelude.{◌≡◌, ℕ, ◌+◌, ◌-◌, ◌≤◌, true, false, Bool, List, take, drop, Option, Some, IfSome, IsUtf8};
+ghost use Rattle.rx_model.specs.Expression.{Expression, literal, class, repetition, concat, alternation, AreOrdered};
 ghost use Rattle.rx_model.specs.Length.{minimum_len};
+ghost use Rattle.rx_model.specs.Look.{Look, holds};
 ghost use Rattle.rx_model.specs.Meaning.{Means};
-ghost use Rattle.rx_model.specs.Text.{is_member};
+ghost use Rattle.rx_search.specs.GroupInfo.{has_duplicate};
+ghost use Rattle.rx_model.specs.Text.{Class, scalar_ranges, byte_ranges};
 ghost use Rattle.rx_hir.specs.Length.{maximum_len, saturated, in_64_bits};
+ghost use Rattle.rx_hir.specs.Names.{IsNamed, IsNamedAmong, HasOneNameEach, name_in, group_names};
+ghost use Rattle.rx_hir.specs.Normal.{expressions, literal_of, class_of, repetition_of, concat_of, alternation_of, MeanTheSame};
+ghost use Rattle.rx_hir.specs.Properties.{looks_first, looks_last, is_utf8};
 ghost use Rattle.rx_hir.specs.Sound.{IsSound};
-ghost use Rattle.rx_class.specs.Ranges.{next_scalar, next_byte, fewest, HaveScalarEnds, AreScalarRanges, AreByteRanges};
-
-/// A class holds exactly the members of the ranges that it was made of, in fewest ranges, and no other list of
-/// fewest ranges holds them.
-pub fn fewest_ranges_hold_the_members()
-    ensures scalars { (rs : List (ℕ × ℕ)) → HaveScalarEnds rs → (c : ℕ) → IsScalar c
-        → is_member (fewest next_scalar rs) c ≡ is_member rs c }
-    ensures scalar_ranges { (rs : List (ℕ × ℕ)) → HaveScalarEnds rs → AreScalarRanges (fewest next_scalar rs) }
-    ensures one_list_of_scalars { (qs rs : List (ℕ × ℕ)) → AreScalarRanges qs → AreScalarRanges rs
-        → ((c : ℕ) → IsScalar c → is_member qs c ≡ is_member rs c) → qs ≡ rs }
-    ensures bytes { (rs : List (ℕ × ℕ)) (b : ℕ) → is_member (fewest next_byte rs) b ≡ is_member rs b }
-    ensures byte_ranges { (rs : List (ℕ × ℕ)) → AreByteRanges (fewest next_byte rs) }
-    ensures one_list_of_bytes { (qs rs : List (ℕ × ℕ)) → AreByteRanges qs → AreByteRanges rs
-        → ((b : ℕ) → is_member qs b ≡ is_member rs b) → qs ≡ rs }
-{}
 
 /// What an expression means is as long as `minimum_len` says at least, and at most as long as `maximum_len`
 /// says, where they are known.
@@ -36,4 +25,49 @@ pub fn lengths_bound_the_meaning()
 /// says that it is sound.
 pub fn sound_expressions_are_ordered()
     ensures { (h : Expression) → IsSound h → AreOrdered h }
+{}
+
+/// A kind that is in the prefix set of an expression holds wherever a match of it starts, and one that is in the
+/// suffix set holds wherever it ends.
+pub fn look_sets_hold_at_the_ends()
+    ensures first { (t : ℕ) (text : List ℕ) (h : Expression) (kind : Look) → looks_first kind h ≡ true
+        → (i j : ℕ) → Means t text h i j → holds t text kind i ≡ true }
+    ensures last { (t : ℕ) (text : List ℕ) (h : Expression) (kind : Look) → looks_last kind h ≡ true
+        → (i j : ℕ) → Means t text h i j → holds t text kind j ≡ true }
+{}
+
+/// Whatever an expression that is UTF-8 means is UTF-8.
+pub fn utf8_expressions_mean_utf8()
+    ensures { (t : ℕ) (text : List ℕ) (h : Expression) → is_utf8 h ≡ true
+        → (i j : ℕ) → Means t text h i j → IsUtf8 (take (j - i) (drop i text)) }
+{}
+
+/// A name that is told of a group stands at its number. Where each number has one name or none, and no name has two
+/// numbers, each name that stands is told, and no name is told twice.
+pub fn told_names_stand()
+    ensures stands { (h : Expression) (g : ℕ) (name : List ℕ) → name_in g h ≡ Some name → IsNamed g (Some name) h }
+    ensures told { (h : Expression) → HasOneNameEach h → (g : ℕ) (name : List ℕ) → IsNamed g (Some name) h → name_in g h ≡ Some name }
+    ensures once { (h : Expression) → HasOneNameEach h → has_duplicate (group_names h) ≡ false }
+{}
+
+/// The normal form that a constructor gives means just what the expression of its parts does.
+pub fn normal_forms_keep_the_meaning()
+    ensures literals { (t : ℕ) (text bytes : List ℕ) → MeanTheSame t text (literal_of bytes) (literal bytes) }
+    ensures scalars { (t : ℕ) (text : List ℕ) (rs : List (ℕ × ℕ)) → AreScalarRanges rs
+        → MeanTheSame t text (class_of (scalar_ranges rs)) (class (scalar_ranges rs)) }
+    ensures bytes { (t : ℕ) (text : List ℕ) (rs : List (ℕ × ℕ)) → MeanTheSame t text (class_of (byte_ranges rs)) (class (byte_ranges rs)) }
+    ensures copies { (t : ℕ) (text : List ℕ) (least : ℕ) (greatest : Option ℕ) (greedy : Bool) (h : Expression) → IfSome greatest (λ m. least ≤ m)
+        → MeanTheSame t text (repetition_of least greatest greedy h) (repetition least greatest greedy h) }
+    ensures rows { (t : ℕ) (text : List ℕ) (hs : List Expression) → MeanTheSame t text (concat_of hs) (concat (expressions hs)) }
+    ensures choices { (t : ℕ) (text : List ℕ) (hs : List Expression) → MeanTheSame t text (alternation_of hs) (alternation (expressions hs)) }
+{}
+
+/// A name in the normal form that a constructor gives is one of the parts.
+pub fn normal_forms_add_no_names()
+    ensures literals { (g : ℕ) (name : Option (List ℕ)) (bytes : List ℕ) → IsNamed g name (literal_of bytes) → ⊥ }
+    ensures classes { (g : ℕ) (name : Option (List ℕ)) (members : Class) → IsNamed g name (class_of members) → ⊥ }
+    ensures copies { (g : ℕ) (name : Option (List ℕ)) (least : ℕ) (greatest : Option ℕ) (greedy : Bool) (h : Expression)
+        → IsNamed g name (repetition_of least greatest greedy h) → IsNamed g name h }
+    ensures rows { (g : ℕ) (name : Option (List ℕ)) (hs : List Expression) → IsNamed g name (concat_of hs) → IsNamedAmong g name (expressions hs) }
+    ensures choices { (g : ℕ) (name : Option (List ℕ)) (hs : List Expression) → IsNamed g name (alternation_of hs) → IsNamedAmong g name (expressions hs) }
 {}

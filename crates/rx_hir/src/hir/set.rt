@@ -4,7 +4,6 @@ ghost use Rattle.rx_model.specs.Expression.{literal, class};
 ghost use Rattle.rx_model.specs.Text.{scalar_ranges, byte_ranges};
 ghost use Rattle.rx_class.specs.ClassViews.{class_view};
 ghost use Rattle.rx_hir.specs.Normal.{class_of};
-ghost use Rattle.rx_hir.specs.Properties.{properties_of};
 ghost use Rattle.rx_class.specs.Ranges.{AreScalarRanges, AreByteRanges};
 
 use super::concat::bytes_in_row;
@@ -36,7 +35,7 @@ fn scalar_of(alloc: Global, scalars: ClassUnicode) -> Result<Hir, Memory>
     if scalars.is_empty() {
         return Ok(Hir::fail(alloc));
     }
-    let properties = scalar_properties(scalars.ranges());
+    let properties = Properties::of_scalars(scalars.ranges());
     Ok(Hir {
         kind: HirKind::Class(Class::Unicode(scalars)),
         properties,
@@ -57,7 +56,10 @@ fn byte_of(alloc: Global, bytes: ClassBytes) -> Result<Hir, Memory>
     if let Some(b) = bytes.only_member() {
         return byte(alloc, b);
     }
-    let properties = byte_properties(bytes.ranges());
+    if bytes.is_empty() {
+        return Ok(Hir::fail(alloc));
+    }
+    let properties = Properties::of_bytes(bytes.ranges());
     Ok(Hir {
         kind: HirKind::Class(Class::Bytes(bytes)),
         properties,
@@ -70,30 +72,4 @@ fn byte(alloc: Global, b: u8) -> Result<Hir, Memory>
     let mut bytes = Vec::new(alloc);
     bytes.push(b)?;
     Ok(bytes_in_row(bytes))
-}
-
-fn scalar_properties(ranges: &[(char, char)]) -> Properties
-    requires { AreScalarRanges ranges.now }
-    ensures { result ≡ properties_of (class (scalar_ranges ranges.now)) }
-{
-    if ranges.is_empty() {
-        return Properties::unknown();
-    }
-    let (first, _) = ranges[0];
-    let (_, last) = ranges[ranges.len() - 1];
-    Properties {
-        minimum_len: Some(first.len_utf8()),
-        maximum_len: Some(last.len_utf8()),
-    }
-}
-
-fn byte_properties(ranges: &[(u8, u8)]) -> Properties
-    requires { AreByteRanges ranges.now }
-    ensures { result ≡ properties_of (class (byte_ranges ranges.now)) }
-{
-    if ranges.is_empty() {
-        Properties::unknown()
-    } else {
-        Properties::of_len(1)
-    }
 }

@@ -2,9 +2,10 @@
 //! where the part starts. There are no more of them than are accounted for it.
 ghost use Rattle.std.specs.Prelude.{◌≡◌, ◌+◌, ◌*◌, ◌-◌, ◌<◌, ◌≤◌, length, IfOk, IfSome, OnOk, None};
 ghost use Rattle.std.specs.Int.NonZero.{non_zero_usize_get};
-ghost use Rattle.rx_model.specs.Graph.{text, build_state, build_group, build, build_in_turn, build_each, build_choice, build_repetition, loop, loop_once, options};
+ghost use Rattle.rx_model.specs.Graph.{text, assertion, build_state, build_group, build, build_in_turn, build_each, build_choice, build_repetition, loop, loop_once, options};
 ghost use Rattle.rx_model.specs.Length.{minimum_len, is_positive};
 ghost use Rattle.rx_model.specs.Search.{greatest_group, greatest_in};
+ghost use Rattle.rx_search.specs.Look.{kind_of};
 ghost use Rattle.rx_hir.specs.Cost.{states_of_copies, accounted_states, accounted_in};
 ghost use Rattle.rx_hir.specs.Normal.{expressions};
 ghost use Rattle.rx_hir.specs.Sound.{IsSound};
@@ -17,7 +18,7 @@ use crate::builder::Builder;
 use crate::compiler::groups::Groups;
 use crate::state::{Alternates, State};
 use rx_hir::{Capture, Hir, HirKind, Repetition};
-use rx_search::{Memory, StateID};
+use rx_search::{Look, Memory, StateID};
 use std::alloc::Global;
 
 #[cycle(compile)]
@@ -40,6 +41,7 @@ pub fn compile(
         HirKind::Empty => Ok(next),
         HirKind::Literal(bytes) => compile_literal(builder, bytes, next),
         HirKind::Class(class) => builder.push_class(alloc, class, next),
+        HirKind::Look(look) => compile_look(builder, *look, next),
         HirKind::Repetition(repetition) => {
             compile_repetition(alloc, builder, groups, repetition, next)
         }
@@ -69,6 +71,17 @@ fn compile_literal(builder: &mut Builder, bytes: &[u8], next: StateID) -> Result
         })?;
     }
     Ok(start)
+}
+
+/// A state that asks whether the look-around holds.
+fn compile_look(builder: &mut Builder, look: Look, next: StateID) -> Result<StateID, Memory>
+    requires next { next < length builder.old.states }
+    requires fits { length builder.old.states < 2147483647 }
+    ensures built { IfOk result (λ start. Built (build_state (assertion (kind_of look))) next builder.old builder.new start) }
+    ensures inside { IfOk result (λ start. start < length builder.new.states) }
+    ensures count { OnOk result (length builder.new.states ≤ length builder.old.states + 1) }
+{
+    builder.push(State::Look { look, next })
 }
 
 /// A slot before the group, and one after it. The group alone, where groups have no slots.

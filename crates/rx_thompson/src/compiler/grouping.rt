@@ -1,50 +1,52 @@
 //! The groups of patterns that have slots.
-ghost use Rattle.std.specs.Prelude.{◌≡◌, ◌+◌, ◌≤◌, length, map, replicate, IfOk};
-ghost use Rattle.rx_model.specs.Search.{greatest_group, all};
-ghost use Rattle.rx_thompson.specs.Compiled.{AreFew, group_lens_of, groups_of};
+ghost use Rattle.std.specs.Prelude.{◌≡◌, ◌∷◌, [], ◌*◌, ◌≤◌, None, replicate, IfOk};
+ghost use Rattle.rx_model.specs.Search.{all};
+ghost use Rattle.rx_thompson.specs.Compiled.{AreFew, groups_of};
 ghost use Rattle.rx_thompson.specs.Config.{captures_kind};
 
 use crate::compiler::config::WhichCaptures;
-use rx_hir::{Hir, greatest_group};
+use rx_hir::{Hir, group_names};
 use rx_search::{GroupInfo, Memory};
 use std::alloc::Global;
 
-/// The groups that have slots, without names.
+/// The groups that have slots, with their names.
 pub fn group_info(alloc: Global, which: WhichCaptures, exprs: &[Hir]) -> Result<GroupInfo, Memory>
     requires { AreFew (captures_kind which) exprs.now }
     ensures { IfOk result (λ info. info ≡ groups_of (captures_kind which) exprs.now) }
 {
-    let lens = group_lens(alloc, which, exprs)?;
-    let info = GroupInfo::unnamed(alloc, &lens)?;
-    Ok(info)
-}
-
-/// How many groups of each pattern have slots.
-fn group_lens(alloc: Global, which: WhichCaptures, exprs: &[Hir]) -> Result<Vec<usize>, Memory>
-    requires { AreFew (captures_kind which) exprs.now }
-    ensures { IfOk result (λ lens. lens.items ≡ group_lens_of (captures_kind which) exprs.now) }
-{
     match which {
-        WhichCaptures::All => all_group_lens(alloc, exprs),
-        WhichCaptures::Implicit => one_for_each(alloc, exprs.len()),
-        WhichCaptures::None => Ok(Vec::new(alloc)),
+        WhichCaptures::All => all_groups(alloc, exprs),
+        WhichCaptures::Implicit => whole_matches(alloc, exprs.len()),
+        WhichCaptures::None => whole_matches(alloc, 0),
     }
 }
 
 /// The whole match and the groups up to the greatest one, of each pattern.
-fn all_group_lens(alloc: Global, exprs: &[Hir]) -> Result<Vec<usize>, Memory>
+fn all_groups(alloc: Global, exprs: &[Hir]) -> Result<GroupInfo, Memory>
     requires { AreFew all exprs.now }
-    ensures { IfOk result (λ lens. lens.items ≡ group_lens_of all exprs.now) }
+    ensures { IfOk result (λ info. info ≡ groups_of all exprs.now) }
 {
-    let mut lens = Vec::new(alloc);
+    let mut groups = Vec::new(alloc);
     for hir in exprs {
-        lens.push(greatest_group(hir) + 1)?;
+        let names = group_names(alloc, hir)?;
+        groups.push(names)?;
     }
-    Ok(lens)
+    let info = GroupInfo::named(alloc, &groups)?;
+    Ok(info)
+}
+
+/// The whole match alone, of each of so many patterns.
+fn whole_matches(alloc: Global, count: usize) -> Result<GroupInfo, Memory>
+    requires { 2 * count ≤ 2147483646 }
+    ensures { IfOk result (λ info. info ≡ replicate count (None ∷ [])) }
+{
+    let lens = ones(alloc, count)?;
+    let info = GroupInfo::unnamed(alloc, &lens)?;
+    Ok(info)
 }
 
 /// The number 1, so many times.
-fn one_for_each(alloc: Global, count: usize) -> Result<Vec<usize>, Memory>
+fn ones(alloc: Global, count: usize) -> Result<Vec<usize>, Memory>
     ensures { IfOk result (λ lens. lens.items ≡ replicate count 1) }
 {
     let one: usize = 1;

@@ -1,8 +1,8 @@
-use crate::{BuildError, Compiler, Config, NFA, WhichCaptures};
-use rx_hir::Hir;
-use rx_search::PatternID;
-use rx_syntax::parse;
+use crate::{BuildError, Compiler, Config, NFA, State, WhichCaptures};
+use rx_hir::{Capture, Hir};
+use rx_search::{Look, LookMatcher, LookSet, PatternID};
 use std::alloc::{AllocError, Global};
+use std::num::NonZeroUsize;
 use std::test::Fail;
 
 /// `ab`, and the empty pattern.
@@ -73,6 +73,7 @@ fn tells_what_was_set(rt: HostRuntime) -> Result<(), Fail> {
     assert!(rt; config.get_utf8());
     assert_eq!(rt; config.get_nfa_size_limit(), None);
     assert_eq!(rt; config.get_which_captures(), WhichCaptures::All);
+    assert_eq!(rt; config.get_look_matcher().get_line_terminator(), b'\n');
     let config = config
         .utf8(false)
         .nfa_size_limit(Some(7))
@@ -95,11 +96,34 @@ fn keeps_what_is_left_open(rt: HostRuntime) -> Result<(), Fail> {
     Ok(())
 }
 
-/// How many groups `(a)|b(c)` and `(d)` have, in order.
-fn group_lens(alloc: Global, which: WhichCaptures) -> Result<[usize; 4], Fail> {
+/// The group of this number and name around the byte.
+fn group(alloc: Global, index: usize, name: Option<String>, byte: u8) -> Result<Hir, Fail> {
+    let index = NonZeroUsize::new(index).ok_or("0")?;
+    let sub = Hir::literal(vec![in alloc; byte; 1]?);
+    Ok(Hir::capture(Capture {
+        index,
+        name,
+        sub: Box::new(alloc, sub)?,
+    }))
+}
+
+/// `(a)|b(?P<c>c)` and `(?P<d>d)`.
+fn with_groups(alloc: Global) -> Result<Vec<Hir>, Fail> {
+    let mut second = Vec::new(alloc);
+    second.push(Hir::literal(vec![in alloc; b'b'; 1]?))?;
+    second.push(group(alloc, 2, Some(String::from_str(alloc, "c")?), b'c')?)?;
+    let mut first = Vec::new(alloc);
+    first.push(group(alloc, 1, None, b'a')?)?;
+    first.push(Hir::concat(alloc, second)?)?;
     let mut exprs = Vec::new(alloc);
-    exprs.push(parse(alloc, "(a)|b(c)")?)?;
-    exprs.push(parse(alloc, "(d)")?)?;
+    exprs.push(Hir::alternation(alloc, first)?)?;
+    exprs.push(group(alloc, 1, Some(String::from_str(alloc, "d")?), b'd')?)?;
+    Ok(exprs)
+}
+
+/// How many groups these have, in order, and how many slots.
+fn group_lens(alloc: Global, which: WhichCaptures) -> Result<[usize; 4], Fail> {
+    let exprs = with_groups(alloc)?;
     let mut compiler = Compiler::new();
     compiler.configure(Config::new().which_captures(which));
     let nfa = compiler.build_many_from_hir(alloc, &exprs)?;
@@ -145,5 +169,60 @@ fn crosses_threads<T: Send + Sync>(_value: &T) {}
 #[test]
 fn an_nfa_crosses_threads(rt: HostRuntime) -> Result<(), Fail> {
     crosses_threads(&NFA::never_match(rt.alloc())?);
+    Ok(())
+}
+
+/// `^` of lines, with this terminator.
+fn line_start(alloc: Global, terminator: u8) -> Result<NFA, Fail> {
+    let mut matcher = LookMatcher::new();
+    matcher.set_line_terminator(terminator);
+    let mut compiler = Compiler::new();
+    compiler.configure(Config::new().look_matcher(matcher));
+    let nfa = compiler.build_from_hir(alloc, &Hir::look(Look::StartLF))?;
+    Ok(nfa)
+}
+
+#[test]
+fn a_look_around_is_one_state(rt: HostRuntime) -> Result<(), Fail> {
+    let nfa = line_start(rt.alloc(), b'\0')?;
+    // It stands between the two slots of the whole match, before the match.
+    assert_eq!(rt; nfa.states_len(), 4);
+    assert!(rt;
+        matches!(
+            nfa.states().get(2),
+            Some(State::Look {
+                look: Look::StartLF,
+                ..
+            })
+        )
+    );
+    assert!(rt; nfa.look_set_any() == LookSet::empty().insert(Look::StartLF));
+    assert_eq!(rt; nfa.look_matcher().get_line_terminator(), b'\0');
+    assert!(rt; nfa.has_empty());
+    Ok(())
+}
+
+#[test]
+fn tells_the_names_of_groups(rt: HostRuntime) -> Result<(), Fail> {
+    let exprs = with_groups(rt.alloc())?;
+    let nfa = Compiler::new().build_many_from_hir(rt.alloc(), &exprs)?;
+    let info = nfa.group_info();
+    let first = PatternID::new(0).ok_or("0")?;
+    let second = PatternID::new(1).ok_or("1")?;
+    assert_eq!(rt; info.to_name(first, 1), None);
+    assert_eq!(rt; info.to_name(first, 2), Some("c"));
+    assert_eq!(rt; info.to_index(second, "d"), Some(1));
+    assert_eq!(rt; info.to_index(second, "c"), None);
+    Ok(())
+}
+
+#[test]
+fn tells_whether_each_pattern_is_start_anchored(rt: HostRuntime) -> Result<(), Fail> {
+    let anchored = [Hir::look(Look::Start), Hir::look(Look::Start)];
+    let nfa = Compiler::new().build_many_from_hir(rt.alloc(), &anchored)?;
+    assert!(rt; nfa.is_always_start_anchored());
+    let one = [Hir::look(Look::Start), Hir::look(Look::StartLF)];
+    let nfa = Compiler::new().build_many_from_hir(rt.alloc(), &one)?;
+    assert!(rt; !nfa.is_always_start_anchored());
     Ok(())
 }

@@ -12,6 +12,7 @@ pub struct Inner {
     pub utf8: bool,
     pub look_matcher: LookMatcher,
     pub look_set_any: LookSet,
+    pub always_start_anchored: bool,
     pub has_empty: bool,
     pub accounted_states: usize,
 }

@@ -11,7 +11,7 @@ returns-in-Ok g c =
     IfOk-weaker c.answer_patterns.result _ _ (λ a same. same ∙ ap (λ hs. answer_patterns (Ok hs) (lines c.in-Ok.haystacks.now)) c.deref.ensures.value ∙ sym (answer_text-is c.args.text.now _ _ s.expressions s.haystacks))
     c.answer_patterns.ensures
 
-pub returns-in-Err-Refused : goal.returns-in-Err-Refused
-returns-in-Err-Refused g c =
-    let e = rw c.in-Err-Refused.field-0-is at c.in-Err-Refused.ensures in
+pub returns-in-Err-Syntax : goal.returns-in-Err-Syntax
+returns-in-Err-Syntax g c =
+    let e = rw c.in-Err-Syntax.field-0-is at c.in-Err-Syntax.ensures in
     IfOk-weaker c.refused.result _ _ (λ a same. same ∙ sym (answer_text-is c.args.text.now _ _ e refl ∙ answer_patterns-refused _ _ _)) c.refused.ensures

@@ -56,6 +56,7 @@ returns c =
       groups = ap (λ (n : Nfa). n.groups) is ∙ groups;
       utf8 = ap (λ (n : Nfa). n.utf8) is ∙ c.get_utf8.ensures;
       terminator = terminator;
+      always_start_anchored = ap (λ (n : Nfa). n.always_start_anchored) is ∙ c.all_start_anchored.ensures;
       has_empty = ap (λ (n : Nfa). n.has_empty) is ∙ c.one_can_be_empty.ensures;
       accounted = ap (λ (n : Nfa). n.accounted) is ∙ c.requires.states;
       ordered = λ p h at. IsSound-ordered h (c.in_ok-starts.ensures.sound p h at);
@@ -71,6 +72,7 @@ returns c =
             utf8 = c.get_utf8.result;
             terminator = c.get_look_matcher.result;
             looks = nfa.looks;
+            always_start_anchored = c.all_start_anchored.result;
             has_empty = c.one_can_be_empty.result;
             accounted = c.args.states;
           })

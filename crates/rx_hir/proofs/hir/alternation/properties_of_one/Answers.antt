@@ -1,20 +1,28 @@
-use Rattle.std.proofs.Common.{◌≡◌, ◌<◌, ◌+◌, ◌-◌, length, arith, ◌∙◌, ap, subst}
-use Rattle.rx_hir.specs.Properties.{properties_of}
+use Rattle.std.proofs.Common.{◌≡◌, ◌<◌, ◌+◌, ◌-◌, length, drop, get_or, arith, ◌∙◌, ap, sym, subst}
+use Rattle.std.proofs.lemmas.List.{at_drop_more}
+use Rattle.rx_model.specs.Expression.{alternation, cons}
+use Rattle.rx_hir.specs.Normal.{expressions}
+use Rattle.rx_hir.specs.PropertiesViews.{AreOf}
 use Rattle.rx_hir.specs.Sound.{IsSound}
+use Rattle.rx_hir.proofs.JoinedLemmas.{expressions-drop}
 use Rattle.rx_hir.proofs.SoundLemmas.{AreSound-drop}
-use Rattle.rx_hir.proofs.PropertiesLemmas.{properties_of-alternation-drop}
 use Rattle.rx_hir.proofs.hir.alternation.properties_of_one.Goals as goal
 
 pub loop-i-preserved : goal.loop-i-preserved
 loop-i-preserved c =
+    let hs = c.args.alternatives.now in
     let i = c.loop-i.i - 1 in
     let within : c.loop-i.i - 1 < length c.args.alternatives.now = omega arith in
     let e : c.loop-i.i ≡ c.loop-i.i - 1 + 1 = omega arith in
+    let one = c.index-alternatives-i-in-loop-i.result in
+    let own = subst (λ h. AreOf h c.alternative.inside.properties) c.alternative.view_is c.alternative.invariant.0 in
+    let next = get_or hs (i + 1) one in
+    let rest = expressions (drop (i + 1 + 1) hs) in
+    let later : expressions (drop (i + 1) hs) ≡ cons next rest = at_drop_more expressions hs (i + 1) one (rw (← e) c.loop-i.invariant.within) in
+    let others = subst (λ xs. AreOf (alternation xs) c.loop-i.properties) later (rw (← e) c.loop-i.invariant.later) in
+    let all = c.or-properties.ensures one next rest own others in
     record {
-      later = properties_of-alternation-drop c.or-properties.result c.alternative.inside.properties c.loop-i.properties c.args.alternatives.now i c.index-alternatives-i-in-loop-i.result
-          (rw (← e) c.loop-i.invariant.within) c.index-alternatives-i-in-loop-i.is
-          (c.alternative.invariant.0 ∙ ap properties_of c.alternative.view_is)
-          (rw (← e) c.loop-i.invariant.later) c.or-properties.ensures.least c.or-properties.ensures.greatest;
-      sound = AreSound-drop c.args.alternatives.now i c.index-alternatives-i-in-loop-i.result within c.index-alternatives-i-in-loop-i.is (subst IsSound c.alternative.view_is c.alternative.invariant.1) (rw (← e) c.loop-i.invariant.sound);
+      later = subst (λ xs. AreOf (alternation xs) c.or-properties.result) (ap (λ ys. cons one ys) (sym later) ∙ sym (expressions-drop hs i one within c.index-alternatives-i-in-loop-i.is)) all;
+      sound = AreSound-drop hs i one within c.index-alternatives-i-in-loop-i.is (subst IsSound c.alternative.view_is c.alternative.invariant.1) (rw (← e) c.loop-i.invariant.sound);
       within = within;
     }

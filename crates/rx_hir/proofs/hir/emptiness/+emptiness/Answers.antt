@@ -60,6 +60,10 @@ pub kind_can_be_empty-returns-in-Class : goal.kind_can_be_empty-returns-in-Class
 unfolding can_be_empty
 kind_can_be_empty-returns-in-Class t c = sym (ap (λ k. can_be_empty (kind_view k)) c.in-Class.is)
 
+pub kind_can_be_empty-returns-in-Look : goal.kind_can_be_empty-returns-in-Look
+unfolding can_be_empty
+kind_can_be_empty-returns-in-Look t c = sym (ap (λ k. can_be_empty (kind_view k)) c.in-Look.is)
+
 pub kind_can_be_empty-returns-then-repetition-eq0 : goal.kind_can_be_empty-returns-then-repetition-eq0
 unfolding can_be_empty
 kind_can_be_empty-returns-then-repetition-eq0 t c =

@@ -49,6 +49,10 @@ pub greatest_of_kind-returns-in-Class : goal.greatest_of_kind-returns-in-Class
 unfolding greatest_group
 greatest_of_kind-returns-in-Class t c = sym (ap (λ k. greatest_group (kind_view k)) c.in-Class.is)
 
+pub greatest_of_kind-returns-in-Look : goal.greatest_of_kind-returns-in-Look
+unfolding greatest_group
+greatest_of_kind-returns-in-Look t c = sym (ap (λ k. greatest_group (kind_view k)) c.in-Look.is)
+
 pub greatest_of_kind-returns-in-Concat : goal.greatest_of_kind-returns-in-Concat
 unfolding greatest_group
 greatest_of_kind-returns-in-Concat t c =

@@ -1,8 +1,7 @@
-use Rattle.std.proofs.Common.{sym, subst, ◌∙◌, ap, refl}
+use Rattle.std.proofs.Common.{sym, subst, ◌∙◌, refl}
 use Rattle.std.proofs.lemmas.Bool.{true≢false}
 use Rattle.rx_model.specs.Look as model
 use Rattle.rx_model.specs.Look.{holds}
-use Rattle.rx_search.specs.LookSet.{kinds_from}
 use Rattle.rx_search.proofs.LookSetLemmas.{Each, each-kind, kind-of-each}
 use Rattle.rx_search.proofs.look_matcher.LookMatcher.matches_set.Goals as goal
 

@@ -1,11 +1,12 @@
 use Rattle.std.proofs.Common.{◌≡◌, ◌<◌, ◌+◌, ◌-◌, ◌*◌, ◌∙◌, sym, ap, subst, arith, length, drop, take}
-use Rattle.std.specs.Prelude.{max, false, IfOk}
+use Rattle.std.specs.Prelude.{max, false, IfOk, option_map, string_bytes}
 use Rattle.std.specs.Int.NonZero.{non_zero_usize_get}
 use Rattle.std.proofs.lemmas.List.{take_all}
 use Rattle.rx_model.specs.Length.{minimum_len, is_positive}
-use Rattle.rx_model.specs.Expression.{empty, literal, class, repetition, capture, concat, alternation}
+use Rattle.rx_model.specs.Expression.{empty, literal, class, look, repetition, capture, concat, alternation}
 use Rattle.rx_model.specs.Graph.{text, build_state, build_group, build_in_turn, build_each, build_choice, build, loop_once}
 use Rattle.rx_model.specs.Search.{greatest_group, greatest_in}
+use Rattle.rx_search.specs.Look.{kind_of}
 use Rattle.rx_hir.specs.Cost.{accounted_states}
 use Rattle.rx_hir.specs.Sound.{IsSound}
 use Rattle.rx_hir.proofs.CostLemmas.{accounted_in-drop}
@@ -53,7 +54,7 @@ pub compile-compile_capture-requires : goal.compile-compile_capture-requires
 unfolding greatest_group
 compile-compile_capture-requires t c =
     let g = c.in-Capture.capture in
-    let is : capture (non_zero_usize_get g.index) g.sub.value ≡ c.args.hir.now = sym (ap kind_view c.in-Capture.is) ∙ c.kind.ensures.value in
+    let is : capture (non_zero_usize_get g.index) (option_map string_bytes g.name) g.sub.value ≡ c.args.hir.now = sym (ap kind_view c.in-Capture.is) ∙ c.kind.ensures.value in
     let deep = ap depth is in
     let groups : max (non_zero_usize_get g.index) (greatest_group g.sub.value) ≡ greatest_group c.args.hir.now = ap greatest_group is in
     let states = ap accounted_states is in
@@ -104,6 +105,13 @@ compile-returns-in-Literal-clause-built t c =
     Built-same _ _ c.args.next c.args.builder.now c.compile_literal.new.builder c.compile_literal.result
     (ap (λ bytes. build_state (text bytes)) c.deref.ensures.value ∙ ap (build (slot_from c.args.groups.now.first_slot)) is) c.compile_literal.ensures.built
 
+pub compile-returns-in-Look-clause-built : goal.compile-returns-in-Look-clause-built
+unfolding build
+compile-returns-in-Look-clause-built t c =
+    let is : look (kind_of c.in-Look.look) ≡ c.args.hir.now = sym (ap kind_view c.in-Look.is) ∙ c.kind.ensures.value in
+    Built-same _ _ c.args.next c.args.builder.now c.compile_look.new.builder c.compile_look.result
+    (ap (build (slot_from c.args.groups.now.first_slot)) is) c.compile_look.ensures.built
+
 pub compile-returns-in-Repetition-clause-built : goal.compile-returns-in-Repetition-clause-built
 unfolding build
 compile-returns-in-Repetition-clause-built t c =
@@ -116,7 +124,7 @@ pub compile-returns-in-Capture-clause-built : goal.compile-returns-in-Capture-cl
 unfolding build
 compile-returns-in-Capture-clause-built t c =
     let g = c.in-Capture.capture in
-    let is : capture (non_zero_usize_get g.index) g.sub.value ≡ c.args.hir.now = sym (ap kind_view c.in-Capture.is) ∙ c.kind.ensures.value in
+    let is : capture (non_zero_usize_get g.index) (option_map string_bytes g.name) g.sub.value ≡ c.args.hir.now = sym (ap kind_view c.in-Capture.is) ∙ c.kind.ensures.value in
     Built-same _ _ c.args.next c.args.builder.now c.compile_capture.new.builder c.compile_capture.result
     (ap (build (slot_from c.args.groups.now.first_slot)) is) c.compile_capture.ensures.built
 

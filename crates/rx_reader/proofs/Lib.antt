@@ -1,0 +1,24 @@
+pub mod AheadLemmas
+pub mod BranchLemmas
+pub mod ClassItemLemmas
+pub mod ClassLemmas
+mod ClassRows
+mod CountRows
+pub mod EndLemmas
+pub mod EscapeEnds
+pub mod EscapeLemmas
+mod EscapeRows
+mod FlagRows
+pub mod FlagsLemmas
+pub mod FrontLemmas
+mod GrammarRows
+pub mod ItemLemmas
+pub mod NamesLemmas
+mod OpeningRows
+pub mod PartLemmas
+pub mod PlaceLemmas
+pub mod ReadsLemmas
+pub mod RepeatLemmas
+pub mod StackLemmas
+pub mod TokenEnds
+pub mod TokenLemmas

@@ -1,0 +1,23 @@
+use Rattle.std.proofs.Common.{arith, true}
+use Rattle.std.proofs.lemmas.Grind.{common_steps}
+use Rattle.std.proofs.lemmas.Result.{err_from_is_err_and}
+use Rattle.rx_reader.specs.Input.{place}
+use Rattle.rx_reader.proofs.ReadsLemmas.{refuses_from, refuses}
+use Rattle.rx_reader.specs.Classes.{class, all_class_items}
+use Rattle.rx_reader.proofs.class.class.Goals as goal
+
+pub returns-in_err-items-clause-value : goal.returns-in_err-items-clause-value
+unfolding class
+returns-in_err-items-clause-value c =
+    let e = err_from_is_err_and c.from_residual.result c.from_residual.ensures.1 in
+    rw (e.1, e.2) (refuses_from _ _ (λ x is.
+    let p = place c.args.cursor.now in
+    let stops = refuses _ (all_class_items c.args.syntax.octal c.args.syntax.skips p true (place c.bump_over-negated.new.self)) (c.in_err-items.ensures.value p c.here-opening.ensures) x is in
+    grind (arith, common_steps)))
+
+pub returns-clause-value : goal.returns-clause-value
+unfolding class
+returns-clause-value c =
+    let p = place c.args.cursor.now in
+    let found = c.in_ok-items.ensures.value p c.here-opening.ensures in
+    grind (arith, common_steps)

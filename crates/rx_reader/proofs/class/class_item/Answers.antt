@@ -1,0 +1,33 @@
+use Rattle.std.proofs.Common.{arith}
+use Rattle.std.proofs.lemmas.Grind.{common_steps}
+use Rattle.std.proofs.lemmas.Result.{err_from_is_err_and}
+use Rattle.rx_reader.specs.Input.{place}
+use Rattle.rx_reader.proofs.ReadsLemmas.{refuses_from, refuses}
+use Rattle.rx_reader.specs.Classes.{class_item, item_at}
+use Rattle.rx_reader.proofs.class.class_item.Goals as goal
+
+pub returns-then-is_at_end-clause-value : goal.returns-then-is_at_end-clause-value
+unfolding class_item
+returns-then-is_at_end-clause-value c from piece = rw c.refuse.ensures (grind (arith, common_steps))
+
+pub returns-then-comes_first-clause-value : goal.returns-then-comes_first-clause-value
+unfolding class_item
+returns-then-comes_first-clause-value c from piece = rw (c.item_of.ensures, c.plain.ensures) (grind (arith, common_steps))
+
+pub returns-then-is_at-clause-value : goal.returns-then-is_at-clause-value
+unfolding class_item
+returns-then-is_at-clause-value c from piece = grind (arith, common_steps)
+
+pub returns-in_err-item_at-clause-value : goal.returns-in_err-item_at-clause-value
+unfolding class_item
+returns-in_err-item_at-clause-value c from piece =
+    let e = err_from_is_err_and c.from_residual.result c.from_residual.ensures.1 in
+    rw (e.1, e.2) (refuses_from _ _ (λ x is.
+    let stops = refuses _ (item_at c.args.syntax.octal c.args.syntax.skips from (place c.skip_white.new.self)) (c.in_err-item_at.ensures.value from piece) x is in
+    grind (arith, common_steps)))
+
+pub returns-clause-value : goal.returns-clause-value
+unfolding class_item
+returns-clause-value c from piece =
+    let found = c.in_ok-item_at.ensures.value from piece in
+    grind (arith, common_steps)

@@ -1,0 +1,27 @@
+use Rattle.std.proofs.Common.{◌≡◌, ◌∙◌, ◌+◌, ap, sym, Ok}
+use Rattle.std.proofs.lemmas.Result.{err_from_is_err_and}
+use Rattle.rx_reader.specs.declared.opening.Opening.TheVariants.{Group}
+use Rattle.rx_reader.specs.declared.group_kind.GroupKind.TheVariants.{CaptureName}
+use Rattle.rx_reader.specs.Input.{place}
+use Rattle.rx_reader.specs.Reading.{Place}
+use Rattle.rx_reader.specs.Names.{read_name}
+use Rattle.rx_reader.specs.Openings.{named}
+use Rattle.rx_reader.proofs.ReadsLemmas.{refuses_from, refuses}
+use Rattle.rx_reader.proofs.PartLemmas.{named_refused, named_read}
+use Rattle.rx_reader.proofs.opening.named.Goals as goal
+
+pub returns-in_err-name-clause-value : goal.returns-in_err-name-clause-value
+returns-in_err-name-clause-value c =
+    let e = err_from_is_err_and c.from_residual.result c.from_residual.ensures.1 in
+    let p = place c.bump_by.new.self in
+    rw (e.1, e.2) (refuses_from _ _ (λ x is.
+    let stops = refuses _ (read_name p) c.in_err-name.ensures.value x is in
+    ap (named c.args.flags) (sym c.bump_by.ensures.value) ∙ named_refused p c.args.flags x stops))
+
+pub returns-clause-value : goal.returns-clause-value
+returns-clause-value c =
+    let p = place c.bump_by.new.self in
+    let q = place c.read_name.new.cursor in
+    let index : c.groups.result ≡ q.groups + 1 = c.groups.ensures ∙ ap (λ (x : Place). x.groups) c.count_group.ensures in
+    ap (named c.args.flags) (sym c.bump_by.ensures.value) ∙ named_read p q c.args.flags c.in_ok-name.name c.in_ok-name.ensures.value
+    ∙ (λ i. Ok (Group (CaptureName (sym index i) c.in_ok-name.name) c.args.flags, sym c.count_group.ensures i))

@@ -1,0 +1,48 @@
+use Rattle.std.proofs.Common.{true, false, ◌≡◌, Ok, ◌∙◌, sym, ap}
+use Rattle.std.proofs.lemmas.Result.{err_from_is_err_and}
+use Rattle.rx_reader.specs.Input.{place}
+use Rattle.rx_reader.specs.Reading.{Place, Read, at_end}
+use Rattle.rx_reader.specs.declared.token.Token.{Token}
+use Rattle.rx_reader.specs.declared.token.Token.TheVariants.{End, Bar}
+use Rattle.rx_reader.specs.Tokens.{is_end}
+use Rattle.rx_reader.specs.Grammar.{token, all_branches}
+use Rattle.rx_reader.specs.Stack.{Gathered, gathered, innermost, resume, opened_in, reads_on}
+use Rattle.rx_reader.proofs.ReadsLemmas.{refuses_from, refuses}
+use Rattle.rx_reader.proofs.BranchLemmas.{token-end}
+use Rattle.rx_reader.proofs.StackLemmas.{resume-token, resume-token_err, resume-bar, resume-end}
+use Rattle.rx_reader.proofs.parser.Parser.take_token.Goals as goal
+
+found : Token → Place → Read Token
+found t q = Ok (t, q)
+
+pub returns-in_err-read_token-clause-value : goal.returns-in_err-read_token-clause-value
+returns-in_err-read_token-clause-value c =
+    let s = c.args.self.now in
+    let p = place s.cursor in
+    let e = err_from_is_err_and c.from_residual.result c.from_residual.ensures.1 in
+    rw (e.1, e.2) (refuses_from _ _ (λ x is.
+    resume-token_err s.config (innermost s.frames.items) (gathered s.level) s.flags (opened_in s) p x (refuses _ (token s.config s.flags p) c.in_err-read_token.ensures.value x is)))
+
+pub returns-in-End-clause-value : goal.returns-in-End-clause-value
+returns-in-End-clause-value c =
+    let s = c.args.self.now in
+    let p = place s.cursor in
+    let fs = innermost s.frames.items in
+    let g = gathered s.level in
+    let q = place c.read_token.new.cursor in
+    let ends : at_end p ≡ true = sym c.in_ok-read_token.ensures.end ∙ ap is_end c.in-End.is in
+    let same : q ≡ p = c.in_ok-read_token.ensures.stays (ap is_end c.in-End.is) in
+    ap (λ (r : Place). resume s.config fs g (reads_on s s.flags r)) same ∙ resume-end s.config fs g s.flags (opened_in s) p ends
+    ∙ sym (resume-token s.config fs g s.flags (opened_in s) p End p (token-end s.config s.flags p ends))
+
+pub returns-in_ok-end_branch-in-Bar-clause-value : goal.returns-in_ok-end_branch-in-Bar-clause-value
+unfolding found
+returns-in_ok-end_branch-in-Bar-clause-value c =
+    let s = c.args.self.now in
+    let p = place s.cursor in
+    let fs = innermost s.frames.items in
+    let g = gathered s.level in
+    let q = place c.read_token.new.cursor in
+    let tok : token s.config s.flags p ≡ Ok (Bar, q) = c.in_ok-read_token.ensures.value ∙ ap (λ (t : Token). found t q) c.in-Bar.is in
+    sym (resume-token s.config fs g s.flags (opened_in s) p Bar q tok ∙ resume-bar s.config fs g s.flags (opened_in s) q
+    ∙ ap (λ (h : Gathered). resume s.config fs h (reads_on s s.flags q)) (sym c.in_ok-end_branch-in-Bar.ensures))

@@ -1,0 +1,30 @@
+use Rattle.std.proofs.Common.{arith, true, false, ◌≡◌, ◌∙◌, ap, sym}
+use Rattle.std.specs.Prelude.{nat_lt}
+use Rattle.std.proofs.lemmas.Bool.Decides.{nat_tests}
+use Rattle.rx_reader.specs.Input.{place}
+use Rattle.rx_reader.specs.Config.{limit_of}
+use Rattle.rx_reader.specs.Syntax.{Syntax, depth}
+use Rattle.rx_reader.specs.Grammar.{is_operator, repeated_by}
+use Rattle.rx_reader.proofs.BranchLemmas.{all_repetitions-step}
+use Rattle.rx_reader.proofs.RepeatLemmas.{repeated_from, repeat_goes}
+use Rattle.rx_reader.proofs.parser.repetitions.Goals as goal
+
+pub loop-flags-init : goal.loop-flags-init
+loop-flags-init c = record {
+  read = all_repetitions-step c.args.config c.args.flags c.args.item (place c.args.cursor.now) ∙ ap (repeated_from c.args.config c.args.flags c.args.item) (sym c.skip.ensures.value);
+  moves = c.skip.ensures.progress;
+}
+
+pub loop-flags-preserved : goal.loop-flags-preserved
+loop-flags-preserved c =
+    let l = c.loop-flags in
+    let p = place l.cursor in
+    let o = c.in_ok-operator.operator in
+    let at : is_operator p ≡ true = sym c.is_at.ensures.value ∙ c.loop-flags-test.true in
+    let within : nat_lt (limit_of c.args.config) (depth (repeated_by o l.item)) ≡ false = grind (arith, nat_tests) in
+    record {
+      read = l.invariant.read ∙ repeat_goes c.args.config c.args.flags l.item p o (place c.read_operator.new.cursor) at c.in_ok-operator.ensures.value within
+          ∙ ap (repeated_from c.args.config c.args.flags (repeated_by o l.item)) (sym c.skip-in-loop-flags.ensures.value)
+          ∙ ap (λ (s : Syntax). repeated_from c.args.config c.args.flags s (place c.skip-in-loop-flags.new.self)) (sym c.in_ok-item.ensures);
+      moves = omega (arith, l.invariant.moves, c.in_ok-operator.ensures.progress, c.skip-in-loop-flags.ensures.progress);
+    }

@@ -1,0 +1,27 @@
+use Rattle.std.proofs.Common.{◌≡◌, ◌∙◌, sym, ap, true, false}
+use Rattle.rx_reader.specs.Input.{place}
+use Rattle.rx_reader.specs.Reading.{at_end}
+use Rattle.rx_reader.specs.Grammar.{is_operator}
+use Rattle.rx_reader.proofs.BranchLemmas.{token-end}
+use Rattle.rx_reader.proofs.TokenLemmas.{token-stray, token-some}
+use Rattle.rx_reader.proofs.token.read_token.Goals as goal
+
+pub returns-then-is_at_end-clause-value : goal.returns-then-is_at_end-clause-value
+returns-then-is_at_end-clause-value c =
+    let p = place c.args.cursor.now in
+    let ends : at_end p ≡ true = sym c.is_at_end.ensures.value ∙ c.if-is_at_end.true in
+    token-end c.args.config c.args.flags p ends
+
+pub returns-then-is_at-clause-value : goal.returns-then-is_at-clause-value
+returns-then-is_at-clause-value c =
+    let p = place c.args.cursor.now in
+    let more : at_end p ≡ false = sym c.is_at_end.ensures.value ∙ c.if-is_at_end.false in
+    let stray : is_operator p ≡ true = sym c.is_at.ensures.value ∙ c.if-is_at.true in
+    rw (token-stray c.args.config c.args.flags p more stray) c.stray_operator.ensures
+
+pub returns-clause-value : goal.returns-clause-value
+returns-clause-value c =
+    let p = place c.args.cursor.now in
+    let more : at_end p ≡ false = sym c.is_at_end.ensures.value ∙ c.if-is_at_end.false in
+    let none : is_operator p ≡ false = sym c.is_at.ensures.value ∙ c.if-is_at.false in
+    rw (token-some c.args.config c.args.flags p more none) c.read_some_token.ensures.value

@@ -1,0 +1,53 @@
+-- What the program's syntax stands for.
+use Rattle.std.specs.Prelude.{ℕ, ◌<◌, ◌≤◌, List, [], ◌∷◌, ◌++◌, map, IfSome}
+use Rattle.std.specs.Coded.{Unit-prop, le_prop}
+use Rattle.rx_reader.specs.Syntax.{Syntax, literal, atom, repeated, group, cat, alt, syntaxes}
+use Rattle.rx_reader.specs.declared.flags.Flags.{Flags}
+use Rattle.rx_reader.specs.declared.group_kind.GroupKind.{GroupKind}
+use Rattle.rx_reader.specs.declared.group_kind.GroupKind.TheVariants.{NonCapturing, CaptureIndex, CaptureName}
+use Rattle.rx_reader.specs.declared.ast.AstKind.{AstKind}
+use Rattle.rx_reader.specs.declared.ast.AstKind.TheVariants.{Literal, Atom, Repetition, Group, Concat, Alternation}
+use Rattle.rx_reader.specs.declared.ast.Item.{Item}
+use Rattle.rx_reader.specs.declared.ast.Item.TheVariants.{Literals, One}
+
+-- the items one after another, where each character of a run is one
+abbrev pub expanded : List Item → List Syntax
+expanded [] = []
+expanded (Literals flags run ∷ items) = map (literal flags) run.items ++ expanded items
+expanded (One item ∷ items) = item ∷ expanded items
+
+-- the items, and then a run of characters
+abbrev pub with_run : List Item → Flags → List ℕ → List Syntax
+with_run items flags run = expanded items ++ map (literal flags) run
+
+abbrev pub kind_view : AstKind → Syntax
+kind_view (Literal flags c) = literal flags c
+kind_view (Atom flags piece a) = atom flags piece a
+kind_view (Repetition min max greedy sub) = repeated min max greedy sub.value
+kind_view (Group kind sub) = group kind sub.value
+kind_view (Concat items) = cat (syntaxes (expanded items.items))
+kind_view (Alternation branches) = alt (syntaxes branches.items)
+
+-- the number of a group that captures is above 0
+abbrev pub IsNumbered : GroupKind → Type 0
+IsNumbered NonCapturing = Unit {0}
+IsNumbered (CaptureIndex index) = 0 < index
+IsNumbered (CaptureName index name) = 0 < index
+
+pub IsNumbered-prop : (kind : GroupKind) → IsProp (IsNumbered kind)
+IsNumbered-prop NonCapturing = Unit-prop
+IsNumbered-prop (CaptureIndex index) = le_prop
+IsNumbered-prop (CaptureName index name) = le_prop
+
+-- the counts of a repetition are in order, and the number of a group is above 0
+abbrev pub IsWellFormed : AstKind → Type 0
+IsWellFormed (Repetition min max greedy sub) = IfSome max (λ m. min ≤ m)
+IsWellFormed (Group kind sub) = IsNumbered kind
+IsWellFormed (Literal flags c) = Unit {0}
+IsWellFormed (Atom flags piece a) = Unit {0}
+IsWellFormed (Concat items) = Unit {0}
+IsWellFormed (Alternation branches) = Unit {0}
+
+-- a character with its flags
+abbrev pub literal_of : Flags × ℕ → Syntax
+literal_of c = literal c.0 c.1

@@ -1,0 +1,219 @@
+//! Items, branches and groups.
+ghost use Rattle.std.specs.Prelude.{◌≡◌, ◌+◌, ◌<◌, ◌≤◌, ◌^◌, ◌⊎◌, true, false, length, nat_lt, chars, Ok, Err, OnOk, IfOk, MatchResult, IsTrue};
+ghost use Rattle.rx_reader.specs.Reading.{Place, at_end, past};
+ghost use Rattle.rx_reader.specs.Syntax.{Syntax, depth};
+ghost use Rattle.rx_reader.specs.Config.{limit_of, flags_of};
+ghost use Rattle.rx_reader.specs.AstViews.{IsNumbered, IsNumbered-prop};
+ghost use Rattle.rx_reader.specs.Ahead.{skip};
+ghost use Rattle.rx_reader.specs.Grammar.{all_repetitions, item_then, group_then, all_branches, no_items, read};
+ghost use Rattle.rx_reader.specs.Input.{place, unread, Reads, Refuses, IsPieceAt};
+
+use crate::ast::Ast;
+use crate::config::Config;
+use crate::cursor::Cursor;
+use crate::error::{ParseError, SyntaxErrorKind};
+use crate::flags::Flags;
+use crate::group_kind::GroupKind;
+use crate::level::Level;
+use crate::operator::read_operator;
+use crate::piece::Piece;
+use crate::token::{Token, read_token};
+use std::alloc::{AllocError, Global};
+use std::mem;
+
+#[cfg(test)]
+mod tests;
+
+/// A group that is open, what was read around it, and the flags that stand there.
+#[derive(Drop)]
+pub(crate) struct Frame {
+    level: Level,
+    opening: Piece,
+    kind: GroupKind,
+    flags: Flags,
+    ghost numbered: { IsNumbered kind } by { IsNumbered-prop kind },
+}
+
+#[derive(Drop)]
+pub(crate) struct Parser {
+    cursor: Cursor,
+    frames: Vec<Frame>,
+    level: Level,
+    flags: Flags,
+    config: Config,
+}
+
+/// Puts the item under each operator that follows it.
+fn repetitions(
+    cursor: &mut Cursor,
+    config: Config,
+    flags: Flags,
+    item: Ast,
+) -> Result<Ast, ParseError>
+    ensures value { Reads result (all_repetitions config flags item (place cursor.old)) (place cursor.new) }
+    ensures progress { OnOk result (unread cursor.new ≤ unread cursor.old) }
+{
+    let mut item = item;
+    cursor.skip(flags);
+    while cursor.is_at(&['*', '+', '?', '{']) {
+        let start = cursor.at();
+        let operator = read_operator(cursor, flags)?;
+        if item.depth() >= config.get_nest_limit() {
+            return Err(cursor.refuse_from(start, SyntaxErrorKind::NestLimit));
+        }
+        item = Ast::repetition(
+            cursor.alloc(),
+            operator.min,
+            operator.max,
+            operator.greedy,
+            item,
+        )?;
+        cursor.skip(flags);
+    }
+    Ok(item)
+}
+
+impl Parser {
+    ghost use Rattle.rx_reader.specs.Stack.{answer, answer_with, answer_at_token, reads_on, innermost, opened_in};
+
+    fn new(alloc: Global, pattern: &str, config: Config) -> Result<Parser, AllocError>
+        ensures { IfOk result (λ s. answer s ≡ read config (chars pattern.now)) }
+    {
+        let cursor = Cursor::new(alloc, pattern)?;
+        let flags = config.flags();
+        Ok(Parser {
+            cursor,
+            frames: Vec::new(alloc),
+            level: Level::new(alloc, flags),
+            flags,
+            config,
+        })
+    }
+
+    /// Takes an item, with the operators that follow it.
+    fn take_item(&mut self, item: Ast) -> Result<(), ParseError>
+        ensures value { MatchResult result (λ _. answer self.new ≡ answer_with self.old (item_then self.old.config (reads_on self.old self.old.flags) self.old.flags item (place self.old.cursor))) (λ e. Refuses e (answer_with self.old (item_then self.old.config (reads_on self.old self.old.flags) self.old.flags item (place self.old.cursor)))) }
+        ensures progress { OnOk result (unread self.new.cursor ≤ unread self.old.cursor) }
+    {
+        let item = repetitions(&mut self.cursor, self.config, self.flags, item)?;
+        self.level.push(item)?;
+        Ok(())
+    }
+
+    /// Opens a group, whose opening was read.
+    fn open_group(
+        &mut self,
+        opening: Piece,
+        kind: GroupKind,
+        flags: Flags,
+    ) -> Result<(), ParseError>
+        requires { IsNumbered kind }
+        ensures value { (p : Place) → IsPieceAt opening p → MatchResult result (λ _. answer self.new ≡ answer_with self.old (group_then self.old.config (all_branches self.old.config) self.old.flags (opened_in self.old) p kind flags (place self.old.cursor) (nat_lt (limit_of self.old.config) (opened_in self.old + 1)))) (λ e. Refuses e (answer_with self.old (group_then self.old.config (all_branches self.old.config) self.old.flags (opened_in self.old) p kind flags (place self.old.cursor) (nat_lt (limit_of self.old.config) (opened_in self.old + 1))))) }
+        ensures progress { OnOk result (unread self.new.cursor ≤ unread self.old.cursor) }
+    {
+        if self.frames.len() >= self.config.get_nest_limit() as usize {
+            return Err(
+                self.cursor
+                    .refuse_from(opening.start, SyntaxErrorKind::NestLimit),
+            );
+        }
+        let alloc = self.cursor.alloc();
+        let level = mem::replace(&mut self.level, Level::new(alloc, flags));
+        self.frames.push(Frame {
+            level,
+            opening,
+            kind,
+            flags: self.flags,
+        })?;
+        self.flags = flags;
+        Ok(())
+    }
+
+    /// Closes a group, whose end was read.
+    fn close_group(&mut self, start: usize) -> Result<(), ParseError>
+        ensures value { (p : Place) → start ≡ p.at → at_end p ≡ false → place self.old.cursor ≡ past p → MatchResult result (λ _. answer self.new ≡ answer_with self.old (Ok (no_items, p))) (λ e. Refuses e (answer_with self.old (Ok (no_items, p)))) }
+        ensures progress { OnOk result (unread self.new.cursor ≤ unread self.old.cursor) }
+    {
+        let frame = match self.frames.pop() {
+            Some(frame) => frame,
+            None => {
+                return Err(
+                    self.cursor
+                        .refuse_from(start, SyntaxErrorKind::UnopenedGroup),
+                );
+            }
+        };
+        let Frame {
+            level,
+            kind,
+            flags,
+            ..
+        } = frame;
+        let inside = mem::replace(&mut self.level, level);
+        self.flags = flags;
+        let body = inside.whole()?;
+        if body.depth() >= self.config.get_nest_limit() {
+            return Err(self.cursor.refuse_from(start, SyntaxErrorKind::NestLimit));
+        }
+        let group = Ast::group(self.cursor.alloc(), kind, body)?;
+        self.take_item(group)
+    }
+
+    /// Takes the token at the position, and what follows it as far as that belongs to it.
+    fn take_token(&mut self) -> Result<(), ParseError>
+        ensures value { MatchResult result (λ _. answer self.new ≡ answer_at_token self.old (place self.old.cursor)) (λ e. Refuses e (answer_at_token self.old (place self.old.cursor))) }
+        ensures progress { OnOk result (IsTrue (at_end (place self.old.cursor)) ⊎ (unread self.new.cursor < unread self.old.cursor)) }
+        ensures moves { OnOk result (unread self.new.cursor ≤ unread self.old.cursor) }
+    {
+        let piece = self.cursor.here();
+        match read_token(&mut self.cursor, self.config, self.flags)? {
+            Token::End => Ok(()),
+            Token::Bar => Ok(self.level.end_branch()?),
+            Token::Close => self.close_group(piece.start),
+            Token::Opens { kind, flags } => self.open_group(piece, kind, flags),
+            Token::Directive(flags) => {
+                self.flags = flags;
+                Ok(())
+            }
+            Token::Atom(ast) => self.take_item(ast),
+        }
+    }
+
+    /// Takes the next token, and what stands before it.
+    fn step(&mut self) -> Result<(), ParseError>
+        requires { 0 < unread self.old.cursor }
+        ensures value { MatchResult result (λ _. answer self.new ≡ answer self.old) (λ e. Refuses e (answer self.old)) }
+        ensures progress { OnOk result (unread self.new.cursor < unread self.old.cursor) }
+    {
+        self.cursor.skip(self.flags);
+        self.take_token()
+    }
+
+    /// What was read, where the pattern ends.
+    fn finish(self) -> Result<Ast, ParseError>
+        requires { at_end (place self.cursor) ≡ true }
+        ensures { MatchResult result (λ a. answer self ≡ Ok a) (λ e. Refuses e (answer self)) }
+    {
+        let mut parser = self;
+        match parser.frames.pop() {
+            Some(frame) => Err(frame.opening.refuse(SyntaxErrorKind::UnclosedGroup)),
+            None => Ok(parser.level.whole()?),
+        }
+    }
+}
+
+/// What a pattern reads as under a configuration, or the first refusal from left to right, with its kind and its
+/// piece in bytes. An empty pattern is a tree too. `Memory` comes only where memory runs out.
+///
+/// The flags of the configuration stand at the start of the pattern, and `(?flags)` and `(?flags:..)` change them.
+/// Each atom of the tree has the flags that stand there. Groups and repetitions nest at most as deep as the
+/// configuration permits.
+pub fn read(alloc: Global, pattern: &str, config: &Config) -> Result<Ast, ParseError>
+    ensures { MatchResult result (λ a. read config.now (chars pattern.now) ≡ Ok a) (λ e. Refuses e (read config.now (chars pattern.now))) }
+{
+    let mut parser = Parser::new(alloc, pattern, *config)?;
+    while !parser.cursor.is_at_end() {
+        parser.step()?;
+    }
+    parser.finish()
+}

@@ -1,0 +1,25 @@
+//! A piece of a pattern.
+ghost use Rattle.std.specs.Prelude.{◌≡◌};
+
+use crate::error::{ParseError, SyntaxError, SyntaxErrorKind};
+
+/// A piece of the pattern, in bytes.
+#[derive(Clone, Copy, Debug, PartialEq, Eq)]
+pub struct Piece {
+    /// How many bytes of the pattern stand before the piece.
+    pub start: usize,
+    /// How many bytes stand before what follows the piece.
+    pub end: usize,
+}
+
+impl Piece {
+    pub(crate) fn refuse(self, kind: SyntaxErrorKind) -> ParseError
+        ensures { result ≡ ParseError.Syntax (record { kind = kind; start = self.start; end = self.end }) }
+    {
+        ParseError::Syntax(SyntaxError {
+            kind,
+            start: self.start,
+            end: self.end,
+        })
+    }
+}

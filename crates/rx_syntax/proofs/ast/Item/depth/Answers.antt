@@ -1,8 +1,0 @@
-use Rattle.std.proofs.Common.{sym, ap, [], ◌∷◌}
-use Rattle.rx_syntax.specs.declared.ast.Item.{Item}
-use Rattle.rx_syntax.specs.AstViews.{expanded}
-use Rattle.rx_syntax.proofs.ItemLemmas.{deepest-run}
-use Rattle.rx_syntax.proofs.ast.Item.depth.Goals as goal
-
-pub returns-in-Literals : goal.returns-in-Literals
-returns-in-Literals c = sym (deepest-run c.args.self.now c.in-Literals.field-0.items (ap (λ (i : Item). expanded (i ∷ [])) c.in-Literals.is))
