@@ -92,9 +92,9 @@ length-read_each config ps =
 abbrev pub translate_each : Config → List Syntax → List (Result Expression SyntaxError)
 translate_each config ss = map (translated config) ss
 
-pub translate_each-at : (config : Config) (ss : List Syntax) (k : ℕ) (d : Syntax) → k < length ss
-    → get_or (translate_each config ss) k (translated config (get_or ss k d)) ≡ translated config (get_or ss k d)
-translate_each-at config ss k d lt = get_or-map (translated config) ss k d (translated config (get_or ss k d)) lt
+pub translate_each-at : (config : Config) (ss : List Syntax) (k : ℕ) (s : Syntax) → k < length ss → s ≡ get_or ss k s
+    → get_or (translate_each config ss) k (translated config s) ≡ translated config s
+translate_each-at config ss k s lt is = get_or-map (translated config) ss k s (translated config s) lt ∙ ap (translated config) (sym is)
 
 pub length-translate_each : (config : Config) (ss : List Syntax) → length (translate_each config ss) ≡ length ss
 length-translate_each config ss = length-map ss (translated config)

@@ -15,7 +15,7 @@ returns-in-Err-clause-value c =
     let rs = translate_each c.args.config.now ss in
     let count : c.len.result ≡ k = omega (arith, c.len.ensures, c.loop-ast.exprs.ok.0, c.loop-ast.invariant.count) in
     let lt : k < length rs = omega (arith, length-translate_each c.args.config.now ss, c.loop-ast-test.true) in
-    let fails = Gathers-fails rs k _ _ c.in-Err.error c.loop-ast.invariant lt (translate_each-at c.args.config.now ss k _ c.loop-ast-test.true) c.in-Err.ensures in
+    let fails = Gathers-fails rs k _ _ c.in-Err.error c.loop-ast.invariant lt (translate_each-at c.args.config.now ss k c.ast-item.result c.loop-ast-test.true c.ast-item.is) c.in-Err.ensures in
     subst (λ (e : PatternsError). RefusesAll e (all_translated c.args.config.now ss)) (sym (c.refused.ensures ∙ ap (λ n. error_at n c.in-Err.error) count)) fails
 
 pub returns-in-Err-clause-within : goal.returns-in-Err-clause-within
@@ -28,7 +28,7 @@ loop-ast-preserved c =
     let ss = c.args.asts.now in
     let k = c.loop-ast.ast-index in
     let lt : k < length (translate_each c.args.config.now ss) = omega (arith, length-translate_each c.args.config.now ss, c.loop-ast-test.true) in
-    Gathers-more _ k _ _ _ _ c.loop-ast.invariant lt (translate_each-at c.args.config.now ss k _ c.loop-ast-test.true) c.in-Ok.ensures c.in_ok-push-in-Ok.ensures.items
+    Gathers-more _ k _ _ _ _ c.loop-ast.invariant lt (translate_each-at c.args.config.now ss k c.ast-item.result c.loop-ast-test.true c.ast-item.is) c.in-Ok.ensures c.in_ok-push-in-Ok.ensures.items
 
 pub returns-clause-value : goal.returns-clause-value
 unfolding all_translated
