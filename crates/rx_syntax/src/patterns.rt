@@ -60,6 +60,7 @@ pub fn parse_all(
         (λ exprs. all_read config.now (map (λ p. p.now) patterns.now) ≡ Ok exprs.items)
         (λ e. RefusesAll e (all_read config.now (map (λ p. p.now) patterns.now))) }
     ensures within { IfErr result (λ e. IsWithin e (length patterns.now)) }
+    ensures count { IfOk result (λ exprs. length exprs.items ≡ length patterns.now) }
 {
     let asts = read_all(alloc, patterns, config)?;
     translate_all(alloc, &asts, config)
@@ -89,6 +90,7 @@ fn translate_all(alloc: Global, asts: &[Ast], config: &Config) -> Result<Vec<Hir
         (λ exprs. all_translated config.now asts.now ≡ Ok exprs.items)
         (λ e. RefusesAll e (all_translated config.now asts.now)) }
     ensures within { IfErr result (λ e. IsWithin e (length asts.now)) }
+    ensures count { IfOk result (λ exprs. length exprs.items ≡ length asts.now) }
 {
     let mut exprs = Vec::new(alloc);
     for ast in asts {

@@ -35,3 +35,6 @@ unfolding all_translated
 returns-clause-value c =
     let le : length (translate_each c.args.config.now c.args.asts.now) ≤ c.loop-ast.ast-index = omega (arith, length-translate_each c.args.config.now c.args.asts.now, c.loop-ast-test.false) in
     Gathers-over _ _ _ c.loop-ast.invariant le
+
+pub returns-clause-count : goal.returns-clause-count
+returns-clause-count c = omega (arith, c.loop-ast.invariant.count, c.loop-ast-test.false, c.loop-ast.auto)
