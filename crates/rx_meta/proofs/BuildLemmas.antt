@@ -25,6 +25,7 @@ built c hs nfa core regex compiled allowed is made =
     subst P (sym whole) (record {
       config = refl;
       kind = refl;
+      backtracks = refl;
       compiled = compiled;
       allowed = allowed;
       is_of = record { runs = compiled.first_runs (utf8_of c); utf8 = sym compiled.utf8; which_captures = refl };

@@ -4,7 +4,7 @@ use Rattle.rx_model.specs.Expression.{Expression}
 use Rattle.rx_thompson.specs.Compiled.{patterns_of, AreAllowed, IsCompiled, IsRefusal}
 use Rattle.rx_thompson.specs.declared.error.BuildError.{BuildError as NfaError}
 use Rattle.rx_thompson.specs.declared.error.BuildError.TheVariants.{TooManyPatterns, TooManyGroups, TooManyStates, ExceededSizeLimit, Memory as NoMemory}
-use Rattle.rx_strategy.specs.Config.{kind_of, utf8_of, terminator_of, captures_of, compiler_of}
+use Rattle.rx_strategy.specs.Config.{kind_of, utf8_of, terminator_of, captures_of, compiler_of, has_backtracker}
 use Rattle.rx_strategy.specs.declared.config.Config.{Config}
 use Rattle.rx_reader.specs.declared.config.Config.{Config as Grammar}
 use Rattle.rx_syntax.specs.Patterns.{Refusal, all_read}
@@ -17,6 +17,7 @@ use Rattle.rx_meta.specs.declared.error.BuildError.TheVariants.{Syntax, NFA, Mem
 pub record IsBuilt (c : Config) (hs : List Expression) (regex : RegexValue) : Type 0 where
   pub config : regex.config ≡ c
   pub kind : regex.strategy.kind ≡ kind_of c
+  pub backtracks : regex.strategy.backtracks ≡ has_backtracker c
   pub compiled : IsCompiled (compiler_of c) hs regex.strategy.nfa
   -- no count and no cost passes its limit
   pub allowed : AreAllowed (compiler_of c) hs

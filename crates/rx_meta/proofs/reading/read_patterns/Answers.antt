@@ -1,0 +1,12 @@
+use Rattle.std.proofs.Common.{sym, ◌∙◌}
+use Rattle.rx_meta.proofs.ReadingLemmas.{first-read, first-count, refuses-first}
+use Rattle.rx_meta.proofs.reading.read_patterns.Goals as goal
+
+pub returns-in-Ok : goal.returns-in-Ok
+returns-in-Ok c = (
+  sym (first-read c.args.config.now c.args.patterns.now c.min.result c.min.ensures) ∙ c.in-Ok.ensures.value,
+  λ few. first-count c.args.patterns.now c.min.result _ c.min.ensures c.in-Ok.ensures.count few,
+)
+
+pub returns-in-Err : goal.returns-in-Err
+returns-in-Err c = refuses-first c.args.config.now c.args.patterns.now c.min.result c.in-Err.error _ c.min.ensures c.build_error.ensures c.in-Err.ensures.value
