@@ -10,12 +10,12 @@ use Rattle.rx_scan.proofs.answer.answer_patterns.Goals as goal
 pub returns-in-Ok : goal.returns-in-Ok
 returns-in-Ok g c =
     let hs = c.args.expressions.now in
-    let built : IsBuilt nothing_set hs c.in-Ok.regex = subst (λ (k : Config). IsBuilt k hs c.in-Ok.regex) c.builder.ensures c.in-Ok.ensures.built in
+    let built : IsBuilt nothing_set hs c.in-Ok.regex = subst (λ (k : Config). IsBuilt k hs c.in-Ok.regex) c.builder.ensures.config c.in-Ok.ensures.built in
     IfOk-weaker c.all_rows.result _ _ (λ a e. e ∙ sym (answer_patterns-small hs _ (small-allowed hs built.allowed))) (c.all_rows.ensures hs built)
 
 pub returns-in-Err-NFA : goal.returns-in-Err-NFA
 returns-in-Err-NFA g c =
     let hs = c.args.expressions.now in
     let refused = rw c.in-Err-NFA.field-0-is at c.in-Err-NFA.ensures.refused in
-    let cause = subst (λ (k : Config). IsCause k hs c.in-Err-NFA.field-0-0) c.builder.ensures refused in
+    let cause = subst (λ (k : Config). IsCause k hs c.in-Err-NFA.field-0-0) c.builder.ensures.config refused in
     IfOk-weaker c.too_big.result _ _ (λ a e. e ∙ sym (answer_patterns-big hs _ (refused-big _ hs cause))) c.too_big.ensures

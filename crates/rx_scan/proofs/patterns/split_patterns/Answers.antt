@@ -1,4 +1,30 @@
-use Rattle.std.proofs.Common.{sym, arith, refl}
+use Rattle.std.proofs.Common.{sym, refl}
 use Rattle.std.proofs.lemmas.Bool.{eqb-true, eqb-false}
-use Rattle.rx_scan.proofs.ReadingLemmas.{Cut-begun, Cut-more, Cut-ended, Cut-over}
+use Rattle.rx_scan.proofs.ReadingLemmas.{Cut-more, Cut-ended, Cut-over}
 use Rattle.rx_scan.proofs.patterns.split_patterns.Goals as goal
+
+pub returns-then-is_empty-clause-patterns : goal.returns-then-is_empty-clause-patterns
+returns-then-is_empty-clause-patterns c =
+    let ended = Cut-ended (λ line. line.now) _ _ _ _ _ c.lines.invariant.cut c.split_line.ensures.lines (eqb-true _ _ (sym c.if-is_empty.ensures)) in
+    ended.0
+
+pub returns-then-is_empty-clause-haystacks : goal.returns-then-is_empty-clause-haystacks
+returns-then-is_empty-clause-haystacks c =
+    let ended = Cut-ended (λ line. line.now) _ _ _ _ _ c.lines.invariant.cut c.split_line.ensures.lines (eqb-true _ _ (sym c.if-is_empty.ensures)) in
+    ended.1
+
+pub lines-preserved : goal.lines-preserved
+lines-preserved c = record {
+  cut = Cut-more (λ line. line.now) _ _ _ _ _ _ _ c.lines.invariant.cut c.split_line.ensures.lines (eqb-false _ _ (sym c.if-is_empty.ensures)) refl c.in_ok-push.ensures.items;
+  utf8 = c.split_line.ensures.utf8;
+}
+
+pub returns-clause-patterns : goal.returns-clause-patterns
+returns-clause-patterns c =
+    let over = Cut-over (λ line. line.now) _ _ _ c.lines.invariant.cut (eqb-true _ _ (sym c.lines-test.ensures)) in
+    over.0
+
+pub returns-clause-haystacks : goal.returns-clause-haystacks
+returns-clause-haystacks c =
+    let over = Cut-over (λ line. line.now) _ _ _ c.lines.invariant.cut (eqb-true _ _ (sym c.lines-test.ensures)) in
+    over.1
