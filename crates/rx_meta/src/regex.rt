@@ -9,7 +9,7 @@ ghost use Rattle.rx_strategy.specs.Config.{nothing_set};
 ghost use Rattle.rx_strategy.specs.Cache.{Fits, memory_of, accounted_for};
 ghost use Rattle.rx_strategy.specs.Strategy.{told_in, told_for, next_match_in, IsMatchWith};
 ghost use Rattle.rx_meta.specs.Build.{IsBuiltOf, IsRefusedFor};
-ghost use Rattle.rx_meta.specs.Regex.{IsOf};
+ghost use Rattle.rx_meta.specs.Regex.{IsOf, regex_memory};
 
 use crate::builder::Builder;
 use crate::cache::Cache;
@@ -21,6 +21,9 @@ use rx_strategy::{Config, Core};
 use std::alloc::Global;
 use std::marker::Model;
 use std::sync::Wait;
+
+/// The bytes that are accounted for the properties of a pattern.
+const PROPERTIES_SIZE: usize = 64;
 
 /// Patterns that are searched for together. It is built once, and may be searched from many threads at once.
 ///
@@ -312,6 +315,15 @@ impl Regex {
         ensures patterns { (r : Patterns) → IsOf self.now r → result ≡ length r.expressions }
     {
         self.core.get_nfa().pattern_len()
+    }
+
+    /// The bytes that are accounted for the regex: 64 for the properties of each pattern and for those of all of them
+    /// together, and what is accounted for its NFA.
+    pub fn memory_usage(&self) -> usize
+        ensures { result ≡ regex_memory self.now }
+    {
+        let nfa = self.core.get_nfa();
+        PROPERTIES_SIZE * (nfa.pattern_len() + 1) + nfa.memory_usage()
     }
 
     /// The groups of each pattern that have slots.

@@ -235,9 +235,29 @@ fn a_regex_is_built_of_expressions(rt: HostRuntime) -> Result<(), Fail> {
     let two = two.ok().expect(&rt, "a regex");
     assert_eq!(rt; two.pattern_len(), 2);
     assert_eq!(rt; two.group_info().pattern_len(), 2);
+    // three properties; 4 states, and 1 and 3 of each pattern
+    assert_eq!(rt; two.memory_usage(), 64 * 3 + 32 * 12);
     let input = Input::new(b"b");
     assert!(rt; one.is_match(&rt, alloc, &input) == Ok(false));
     let found = two.find(&rt, alloc, &input).ok();
     assert_eq!(rt; whole(found.expect(&rt, "memory")), Some((1, 0, 1)));
+    Ok(())
+}
+
+#[test]
+fn a_builder_takes_a_grammar_and_a_line_terminator(rt: HostRuntime) -> Result<(), Fail> {
+    let alloc = rt.alloc();
+    let mut builder = Builder::new();
+    builder.syntax(
+        rx_syntax::Config::new()
+            .case_insensitive(true)
+            .multi_line(true),
+    );
+    builder.configure(Config::new().line_terminator(b';'));
+    let built = builder.build(alloc, "^a$");
+    let regex = built.ok().expect(&rt, "a regex");
+    assert_eq!(rt; regex.get_config().get_line_terminator(), b';');
+    let found = regex.find(&rt, alloc, &Input::new(b"x;A;")).ok();
+    assert_eq!(rt; whole(found.expect(&rt, "memory")), Some((0, 2, 3)));
     Ok(())
 }

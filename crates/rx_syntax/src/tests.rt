@@ -48,6 +48,8 @@ fn several_patterns(rt: HostRuntime) -> Result<(), Fail> {
     assert_eq!(rt; literals, 2);
     let both = parse_many(rt.alloc(), &["a", "b"])?;
     assert_eq!(rt; both.len(), 2);
+    let bytes = parse(rt.alloc(), "(?-u:\u{E9})")?;
+    assert!(rt; is_literal(&bytes, b"\xC3\xA9"));
     let ast = read_with(rt.alloc(), "a", &Config::new())?;
     let read = translate_with(rt.alloc(), &ast, &Config::new())?;
     assert!(rt; is_literal(&read, b"a"));
@@ -86,6 +88,9 @@ fn refusals(rt: HostRuntime) {
         (r"(?-u:\W)", SyntaxErrorKind::Utf8, 5, 7),
         (r"(?-u:\pL)", SyntaxErrorKind::UnicodeOff, 5, 8),
         ("(?-u:[\u{E9}])", SyntaxErrorKind::UnicodeOff, 5, 9),
+        (r"[a\pQ]", SyntaxErrorKind::Property, 2, 5),
+        ("(?-u).", SyntaxErrorKind::Utf8, 5, 6),
+        (r"(?-u)[\d\p{Nope}]", SyntaxErrorKind::UnicodeOff, 5, 17),
     ] {
         assert_eq!(rt;
             refusal(rt.alloc(), pattern, &config),
@@ -101,6 +106,14 @@ fn configurations(rt: HostRuntime) {
         refusal(rt.alloc(), "a.", &odd),
         error(SyntaxErrorKind::LineTerminator, 1, 2)
     );
+    assert_eq!(rt;
+        refusal(rt.alloc(), "(.)", &odd),
+        error(SyntaxErrorKind::LineTerminator, 1, 2)
+    );
+    assert_eq!(rt;
+        refusal(rt.alloc(), "(?R:a)(?s:.).", &odd),
+        error(SyntaxErrorKind::LineTerminator, 12, 13)
+    );
     assert_eq!(rt; refusal(rt.alloc(), "(?s).", &odd), None);
     assert_eq!(rt;
         refusal(rt.alloc(), r"(?-u:[^\x80-\xFF])", &Config::new()),
@@ -110,4 +123,17 @@ fn configurations(rt: HostRuntime) {
         refusal(rt.alloc(), "(?-u)[^a]", &Config::new().utf8(false)),
         None
     );
+}
+
+#[test]
+fn all_patterns_are_read_before_one_is_translated(rt: HostRuntime) {
+    let refused = |pattern, kind, start, end| {
+        let error = SyntaxError { kind, start, end };
+        Some(PatternsError::Syntax { pattern, error })
+    };
+    let config = Config::new();
+    let lists = parse_all(rt.alloc(), &["a", r"\p{Nope}", "b("], &config);
+    assert!(rt; lists.err() == refused(2, SyntaxErrorKind::UnclosedGroup, 1, 2));
+    let lists = parse_all(rt.alloc(), &["a", r"\p{Nope}", "b"], &config);
+    assert!(rt; lists.err() == refused(1, SyntaxErrorKind::Property, 0, 8));
 }
