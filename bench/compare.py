@@ -1,7 +1,7 @@
 #!/usr/bin/env python3
 """Times the built rxscan beside outside tools that do the same job, and prints a table of ratios.
 
-usage: bench/compare.py [MIB]   (the size of each input, 2 MiB if left out)
+usage: bench/compare.py [MIB [RXSCAN]]   (the size of each input, 2 MiB if left out; a built rxscan in place of ours)
 
 Build the program first: `cd crates/rxscan && rt run`. Each input is made from a fixed seed. `grep -aobE` prints the
 places of the matches of one pattern; Python's `re` prints the places of the matches and their groups. Each job is run
@@ -72,9 +72,10 @@ def least_time(command, stdin=None):
 
 
 def main():
-    if not os.path.exists(PROGRAM):
-        sys.exit('build the program first: cd crates/rxscan && rt run')
     size = int(sys.argv[1] if len(sys.argv) > 1 else 2) << 20
+    program = os.path.abspath(sys.argv[2]) if len(sys.argv) > 2 else PROGRAM
+    if not os.path.exists(program):
+        sys.exit('build the program first: cd crates/rxscan && rt run')
     print('| input | pattern | rxscan / grep -aobE | rxscan / Python re |')
     print('|---|---|---|---|')
     with tempfile.TemporaryDirectory() as folder:
@@ -82,7 +83,7 @@ def main():
             hay, given = os.path.join(folder, 'hay'), os.path.join(folder, 'given')
             open(hay, 'w').write(text)
             open(given, 'w').write(pattern + '\n\n' + text)
-            ours = least_time([PROGRAM, 'scan'], given)
+            ours = least_time([program, 'scan'], given)
             grep = least_time(['grep', '-aobE', pattern, hay])
             python = least_time([sys.executable, '-c', PYTHON, pattern, hay])
             print('| %s | `%s` | %.2f | %.2f |' % (name, pattern.replace('|', '\\|'), ours / grep, ours / python))
