@@ -4,7 +4,7 @@ ghost use Rattle.rx_engines.specs.Bounded.{next_match_within, Fits as BacktrackF
 
 use rx_engines::{backtrack, pikevm};
 use rx_search::{Finder, Input, Match, MatchError, MatchKind, Memory, NonMaxUsize};
-use rx_thompson::NFA;
+use rx_nfa::NFA;
 use std::alloc::Global;
 
 /// The PikeVM, with its cache and the slots of its last match.

@@ -6,8 +6,8 @@ use Rattle.rx_model.specs.Runs.{Configuration, same, Passed, and_at}
 use Rattle.rx_model.specs.Machine.{grid}
 use Rattle.rx_model.proofs.MachineLemmas.{grid-has}
 use Rattle.rx_model.proofs.RunLemmas.{by_test, same-true, weight, weight-less}
-use Rattle.rx_thompson.specs.Automaton.{at, state_at}
-use Rattle.rx_thompson.proofs.AutomatonLemmas.{automaton-bounded}
+use Rattle.rx_nfa.specs.Automaton.{at, state_at}
+use Rattle.rx_nfa.proofs.AutomatonLemmas.{automaton-bounded}
 use Rattle.rx_engines.specs.Walk.{Slots, Answer}
 use Rattle.rx_engines.specs.Backtrack.{is_set, extent, passed_by, work, frames_left, graph_for, Searching, Yields}
 use Rattle.rx_engines.specs.declared.backtrack.search.Search.{Search}

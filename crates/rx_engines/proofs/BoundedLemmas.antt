@@ -11,11 +11,11 @@ use Rattle.rx_model.proofs.RunLemmas.{by_test}
 use Rattle.rx_model.proofs.FirstLemmas.{none-is-some, some-is}
 use Rattle.rx_search.specs.Input.{InputValue}
 use Rattle.rx_search.specs.Matches.{match_value, MatchValue}
-use Rattle.rx_thompson.specs.Automaton.{at, automaton}
-use Rattle.rx_thompson.specs.Nfa.{Nfa, IsInRange}
-use Rattle.rx_thompson.specs.NextMatch.{start_of, first_from, next_match_of}
-use Rattle.rx_thompson.proofs.NextMatchLemmas.{first_start-alike, next_match_of-patterns, next_match_of-slot, next_match_of-within}
-use Rattle.rx_thompson.specs.declared.state.State.{State}
+use Rattle.rx_nfa.specs.Automaton.{at, automaton}
+use Rattle.rx_nfa.specs.Nfa.{Nfa, IsInRange}
+use Rattle.rx_nfa.specs.NextMatch.{start_of, first_from, next_match_of}
+use Rattle.rx_nfa.proofs.NextMatchLemmas.{first_start-alike, next_match_of-patterns, next_match_of-slot, next_match_of-within}
+use Rattle.rx_nfa.specs.declared.state.State.{State}
 use Rattle.rx_engines.specs.Engine.{next_match_for, last_start, HasSlots}
 use Rattle.rx_engines.specs.Walk.{Slots, Answer, answer, write_all}
 use Rattle.rx_engines.specs.Backtrack.{graph_for, returned, triple}

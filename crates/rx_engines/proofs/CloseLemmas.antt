@@ -3,14 +3,14 @@ use Rattle.std.proofs.Common.{◌≡◌, ℕ, ◌+◌, ◌<◌, ◌≤◌, List,
 use Rattle.std.specs.Prelude.{map, All, Bool, true, false, not}
 use Rattle.rx_model.proofs.RunLemmas.{by_test, weight}
 use Rattle.std.proofs.lemmas.List.Elements.{All-head, All-tail}
-use Rattle.rx_thompson.specs.Automaton.{at}
+use Rattle.rx_nfa.specs.Automaton.{at}
 use Rattle.rx_model.specs.Look.{holds}
 use Rattle.rx_search.specs.Look.{kind_of}
 use Rattle.rx_search.specs.declared.look.Look.{Look}
 use Rattle.rx_engines.specs.Walk.{explore_all, looked}
 use Rattle.rx_engines.specs.declared.frame.Frame.{Frame}
-use Rattle.rx_thompson.specs.Automaton.{state_at}
-use Rattle.rx_thompson.specs.declared.state.State.{State}
+use Rattle.rx_nfa.specs.Automaton.{state_at}
+use Rattle.rx_nfa.specs.declared.state.State.{State}
 use Rattle.rx_engines.specs.declared.frame.Frame.TheVariants.{Explore}
 use Rattle.rx_engines.specs.Threads.{has}
 use Rattle.rx_engines.specs.Simulation.{AllHere, cost, passed_at}

@@ -11,10 +11,10 @@ use Rattle.rx_model.proofs.FirstLemmas.{none-is-some, some-is}
 use Rattle.rx_model.proofs.WithinLemmas.{next-later}
 use Rattle.rx_search.specs.Matches.{match_value, MatchValue}
 use Rattle.rx_search.specs.Input.{InputValue}
-use Rattle.rx_thompson.specs.Automaton.{at, automaton}
-use Rattle.rx_thompson.specs.Nfa.{Nfa, IsInRange}
-use Rattle.rx_thompson.specs.NextMatch.{start_of, first_from, next_match_of}
-use Rattle.rx_thompson.proofs.NextMatchLemmas.{first_start-alike, next_match_of-patterns, next_match_of-slot, next_match_of-within}
+use Rattle.rx_nfa.specs.Automaton.{at, automaton}
+use Rattle.rx_nfa.specs.Nfa.{Nfa, IsInRange}
+use Rattle.rx_nfa.specs.NextMatch.{start_of, first_from, next_match_of}
+use Rattle.rx_nfa.proofs.NextMatchLemmas.{first_start-alike, next_match_of-patterns, next_match_of-slot, next_match_of-within}
 use Rattle.rx_engines.specs.Simulation.{first_of}
 use Rattle.rx_engines.specs.Search.{IsInside, next_until, next_of, first_place, stop_of, answer_of, triple}
 use Rattle.rx_engines.specs.declared.pikevm.search.Search.{Search}

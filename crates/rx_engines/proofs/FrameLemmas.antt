@@ -4,8 +4,8 @@ use Rattle.std.proofs.lemmas.Bool.Decides.{Decides-eqb}
 use Rattle.std.proofs.lemmas.Nat.{mod-mul-add}
 use Rattle.std.specs.Prelude.{true, false, ◌||◌, ◌==◌}
 use Rattle.rx_model.proofs.RunLemmas.{by_test}
-use Rattle.rx_thompson.specs.Automaton.{state_at}
-use Rattle.rx_thompson.specs.declared.state.State.{State}
+use Rattle.rx_nfa.specs.Automaton.{state_at}
+use Rattle.rx_nfa.specs.declared.state.State.{State}
 use Rattle.rx_engines.specs.Backtrack.{is_set, frames_below}
 use Rattle.rx_engines.specs.Simulation.{cost, cost_below}
 

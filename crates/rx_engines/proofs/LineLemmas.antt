@@ -4,8 +4,8 @@ use Rattle.std.specs.Prelude.{true, false, ◌==◌}
 use Rattle.std.proofs.lemmas.Bool.Decides.{nat_tests}
 use Rattle.rx_model.specs.Runs.{Configuration, Passed, same, is_among}
 use Rattle.rx_model.proofs.RunLemmas.{by_test, weight, weight-less}
-use Rattle.rx_thompson.specs.Automaton.{at, state_at}
-use Rattle.rx_thompson.specs.declared.state.State.{State}
+use Rattle.rx_nfa.specs.Automaton.{at, state_at}
+use Rattle.rx_nfa.specs.declared.state.State.{State}
 use Rattle.rx_engines.specs.Threads.{has}
 use Rattle.rx_engines.specs.Simulation.{cost, cost_below, passed_at}
 use Rattle.rx_engines.proofs.SimulationLemmas.{passed_at-has, passed_at-push}

@@ -7,7 +7,7 @@ use Rattle.rx_model.specs.Runs.{Configuration, PriorityGraph, Passed, and_at, Tr
 use Rattle.rx_model.proofs.RunLemmas.{or-none}
 use Rattle.rx_model.proofs.FirstLemmas.{none-is-some}
 use Rattle.rx_model.proofs.FoundLemmas.{found-passed, found-prune, found-accepted, found-step}
-use Rattle.rx_thompson.specs.Automaton.{at}
+use Rattle.rx_nfa.specs.Automaton.{at}
 use Rattle.rx_engines.specs.Walk.{Slots, Answer, answer, pending, explore_all}
 use Rattle.rx_engines.specs.Backtrack.{undone, Searching, Yields}
 use Rattle.rx_engines.specs.declared.frame.Frame.{Frame}

@@ -7,15 +7,15 @@ use Rattle.std.specs.Option.{option_or}
 use Rattle.rx_model.specs.Runs.{Configuration, PriorityGraph, Passed, nowhere, and_at, same, Trace, with_write, found, first_some, IsBounded}
 use Rattle.rx_model.proofs.RunLemmas.{by_test, same-true, first_some-alike_at}
 use Rattle.rx_model.proofs.FoundLemmas.{found-passed, found-accepted, found-prune, found-step, found-forget, option_map-or}
-use Rattle.rx_thompson.specs.Automaton.{at, automaton, state_at, state_step}
+use Rattle.rx_nfa.specs.Automaton.{at, automaton, state_at, state_step}
 use Rattle.rx_engines.specs.Walk.{Slots, answer, pending, explore_all, Expands}
-use Rattle.rx_thompson.specs.declared.state.State.{State}
-use Rattle.rx_thompson.specs.declared.state.State.TheVariants.{ByteRange, Sparse, Look, Union, Capture, Fail, Match as Accepts}
+use Rattle.rx_nfa.specs.declared.state.State.{State}
+use Rattle.rx_nfa.specs.declared.state.State.TheVariants.{ByteRange, Sparse, Look, Union, Capture, Fail, Match as Accepts}
 use Rattle.rx_engines.specs.declared.frame.Frame.{Frame}
 use Rattle.rx_engines.specs.declared.frame.Frame.TheVariants.{Explore, Restore}
-use Rattle.rx_thompson.proofs.AutomatonLemmas.{automaton-bounded}
-use Rattle.rx_thompson.proofs.StateLemmas.{successors-is, none-in, read_byte-place}
-use Rattle.rx_thompson.proofs.AutomatonLemmas.{automaton-rises}
+use Rattle.rx_nfa.proofs.AutomatonLemmas.{automaton-bounded}
+use Rattle.rx_nfa.proofs.StateLemmas.{successors-is, none-in, read_byte-place}
+use Rattle.rx_nfa.proofs.AutomatonLemmas.{automaton-rises}
 use Rattle.rx_engines.proofs.WalkLemmas.{pending-alike, pending-explore_all, answer-unwritten, answer-written}
 use Rattle.rx_engines.proofs.OptionLemmas.{or-none_right, tells, or-assoc}
 use Rattle.rx_engines.specs.Threads.{Row, has}

@@ -7,7 +7,7 @@ use Rattle.std.proofs.lemmas.Bool.Decides.{nat_tests}
 use Rattle.rx_model.specs.Runs.{Passed, nowhere}
 use Rattle.rx_model.proofs.RunLemmas.{by_test}
 use Rattle.rx_model.proofs.FirstLemmas.{none-is-some}
-use Rattle.rx_thompson.specs.Automaton.{automaton}
+use Rattle.rx_nfa.specs.Automaton.{automaton}
 use Rattle.rx_engines.specs.Walk.{Slots}
 use Rattle.rx_engines.specs.Threads.{Row}
 use Rattle.rx_engines.specs.Simulation.{Hit, hit_of, best_hit, accepted_hit, among, later_starts, byte_at}

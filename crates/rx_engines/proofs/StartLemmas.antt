@@ -10,14 +10,14 @@ use Rattle.rx_model.proofs.RunLemmas.{by_test}
 use Rattle.rx_model.proofs.FirstLemmas.{none-is-some, some-is}
 use Rattle.rx_model.proofs.RiseLemmas.{found-end}
 use Rattle.rx_model.proofs.FoundLemmas.{found-prune, found-forget, option_map-or}
-use Rattle.rx_thompson.proofs.NextMatchLemmas.{first_start-alike}
-use Rattle.rx_thompson.specs.Automaton.{at, automaton, state_at}
+use Rattle.rx_nfa.proofs.NextMatchLemmas.{first_start-alike}
+use Rattle.rx_nfa.specs.Automaton.{at, automaton, state_at}
 use Rattle.rx_engines.specs.Walk.{Slots, answer, pending}
 use Rattle.rx_engines.specs.Search.{triple}
-use Rattle.rx_thompson.specs.declared.state.State.{State}
+use Rattle.rx_nfa.specs.declared.state.State.{State}
 use Rattle.rx_engines.specs.declared.frame.Frame.TheVariants.{Explore}
-use Rattle.rx_thompson.proofs.AutomatonLemmas.{automaton-rises, automaton-accepts-within}
-use Rattle.rx_thompson.proofs.AutomatonLemmas.{automaton-bounded}
+use Rattle.rx_nfa.proofs.AutomatonLemmas.{automaton-rises, automaton-accepts-within}
+use Rattle.rx_nfa.proofs.AutomatonLemmas.{automaton-bounded}
 use Rattle.rx_engines.proofs.SlotLemmas.{slot-of_match, length-write_all, empty-slot, all-empty}
 use Rattle.rx_engines.proofs.OptionLemmas.{or-none_right, tells, or-assoc}
 use Rattle.std.proofs.Math.Seq.{drop-cons}

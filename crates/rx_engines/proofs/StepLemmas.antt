@@ -10,17 +10,17 @@ use Rattle.rx_model.proofs.FoundLemmas.{found-accepted, found-prune, found-step,
 use Rattle.std.proofs.lemmas.List.Elements.{All-nil, All-cons, All-head, All-tail}
 use Rattle.std.proofs.lemmas.Bool.Decides.{nat_tests}
 use Rattle.rx_model.proofs.FirstLemmas.{none-is-some, some-is}
-use Rattle.rx_thompson.specs.Automaton.{automaton, route, read_byte, state_step, state_accepts, state_writes, NamesBelow}
-use Rattle.rx_thompson.specs.declared.state.Transition.{Transition}
-use Rattle.rx_thompson.specs.declared.state.State.TheVariants.{ByteRange, Sparse, Look, Union, Capture, Fail, Match as Accepts}
-use Rattle.rx_thompson.proofs.StateLemmas.{accepted-is, successors-is, written-is, state-known, names-known, read_byte-taken, read_byte-dead}
+use Rattle.rx_nfa.specs.Automaton.{automaton, route, read_byte, state_step, state_accepts, state_writes, NamesBelow}
+use Rattle.rx_nfa.specs.declared.state.Transition.{Transition}
+use Rattle.rx_nfa.specs.declared.state.State.TheVariants.{ByteRange, Sparse, Look, Union, Capture, Fail, Match as Accepts}
+use Rattle.rx_nfa.proofs.StateLemmas.{accepted-is, successors-is, written-is, state-known, names-known, read_byte-taken, read_byte-dead}
 use Rattle.rx_engines.specs.Simulation.{Acts, byte_at, onto, read_of, act_of}
 use Rattle.rx_engines.specs.declared.pikevm.step.Action.{Action}
 use Rattle.rx_engines.specs.declared.pikevm.step.Action.TheVariants.{Accept, Read, Nothing}
-use Rattle.rx_thompson.proofs.AutomatonLemmas.{automaton-bounded}
-use Rattle.rx_thompson.specs.Automaton.{at, state_at}
+use Rattle.rx_nfa.proofs.AutomatonLemmas.{automaton-bounded}
+use Rattle.rx_nfa.specs.Automaton.{at, state_at}
 use Rattle.rx_engines.specs.Walk.{answer, pending}
-use Rattle.rx_thompson.specs.declared.state.State.{State}
+use Rattle.rx_nfa.specs.declared.state.State.{State}
 use Rattle.rx_engines.specs.declared.frame.Frame.TheVariants.{Explore}
 use Rattle.rx_engines.proofs.OptionLemmas.{or-none_right, or-assoc}
 use Rattle.rx_engines.specs.Threads.{Row, row_at}

@@ -3,9 +3,9 @@ use Rattle.std.proofs.Common.{◌≡◌, ℕ, ◌<◌, ◌≤◌, List, [], ◌�
 use Rattle.std.specs.Prelude.{Option, Some, None, option_map}
 use Rattle.std.specs.Option.{option_or}
 use Rattle.rx_model.specs.Runs.{Configuration, Trace, with_write, first_some}
-use Rattle.rx_thompson.specs.Automaton.{at, automaton, state_at, state_step, state_accepts, state_writes}
-use Rattle.rx_thompson.specs.declared.state.State.{State}
-use Rattle.rx_thompson.proofs.StateLemmas.{accepted-is, successors-is, written-is}
+use Rattle.rx_nfa.specs.Automaton.{at, automaton, state_at, state_step, state_accepts, state_writes}
+use Rattle.rx_nfa.specs.declared.state.State.{State}
+use Rattle.rx_nfa.proofs.StateLemmas.{accepted-is, successors-is, written-is}
 use Rattle.rx_engines.specs.Walk.{Slots, answer, pending, explore_all, Expands}
 use Rattle.rx_engines.specs.declared.frame.Frame.{Frame}
 use Rattle.rx_engines.specs.declared.frame.Frame.TheVariants.{Explore, Restore}

@@ -6,10 +6,10 @@ use Rattle.std.specs.Prelude.{Bool, true, false, if◌then◌else◌, Option, So
 use Rattle.rx_model.specs.Runs.{PriorityGraph, Configuration}
 use Rattle.rx_model.proofs.RunLemmas.{by_test}
 use Rattle.rx_model.proofs.FirstLemmas.{none-is-some, some-is}
-use Rattle.rx_thompson.specs.Automaton.{at, automaton, state_at, state_step, state_accepts, state_writes, route, go_on, read_byte}
-use Rattle.rx_thompson.specs.declared.state.Transition.{Transition}
-use Rattle.rx_thompson.specs.declared.state.State.{State}
-use Rattle.rx_thompson.proofs.StateLemmas.{accepted-is, successors-is, written-is}
+use Rattle.rx_nfa.specs.Automaton.{at, automaton, state_at, state_step, state_accepts, state_writes, route, go_on, read_byte}
+use Rattle.rx_nfa.specs.declared.state.Transition.{Transition}
+use Rattle.rx_nfa.specs.declared.state.State.{State}
+use Rattle.rx_nfa.proofs.StateLemmas.{accepted-is, successors-is, written-is}
 use Rattle.rx_engines.specs.Walk.{Slots, explore_all}
 use Rattle.rx_engines.specs.Simulation.{byte_at}
 use Rattle.rx_engines.specs.Backtrack.{frames_of, target_of, onto, Saves, Yields, Stepped, AllWithin}

@@ -5,9 +5,9 @@ use Rattle.rx_model.specs.Runs.{Configuration, PriorityGraph, Passed, found, fir
 use Rattle.rx_model.specs.Search.{Match, is_permitted, first_start}
 use Rattle.rx_model.specs.Machine.{grid}
 use Rattle.rx_model.proofs.RunLemmas.{weight}
-use Rattle.rx_thompson.specs.Automaton.{at, automaton, state_at, route, NamesBelow}
-use Rattle.rx_thompson.specs.declared.state.State.{State}
-use Rattle.rx_thompson.specs.declared.state.Transition.{Transition}
+use Rattle.rx_nfa.specs.Automaton.{at, automaton, state_at, route, NamesBelow}
+use Rattle.rx_nfa.specs.declared.state.State.{State}
+use Rattle.rx_nfa.specs.declared.state.Transition.{Transition}
 use Rattle.rx_engines.specs.Simulation.{cost, cost_below}
 use Rattle.rx_engines.specs.Walk.{Slots, Answer, pending, explore_all}
 use Rattle.rx_engines.specs.declared.frame.Frame.{Frame}

@@ -5,8 +5,8 @@ use Rattle.rx_model.specs.Search.{Patterns, Match}
 use Rattle.rx_search.specs.Input.{InputValue}
 use Rattle.rx_search.specs.declared.match_error.MatchError.{MatchError}
 use Rattle.rx_search.specs.declared.match_error.MatchError.TheVariants.{Quit, GaveUp, HaystackTooLong, UnsupportedAnchored, Memory}
-use Rattle.rx_thompson.specs.Nfa.{Nfa, HasFirstRuns}
-use Rattle.rx_thompson.specs.NextMatch.{next_match_of}
+use Rattle.rx_nfa.specs.Nfa.{Nfa, HasFirstRuns}
+use Rattle.rx_nfa.specs.NextMatch.{next_match_of}
 use Rattle.rx_engines.specs.Simulation.{cost_below}
 
 -- the next match of the NFA in the input's span

@@ -4,8 +4,8 @@ use Rattle.rx_model.specs.Search.{Patterns, Match, told_of, is_anchored, next_ma
 use Rattle.rx_model.specs.Matches.{IsMatch}
 use Rattle.rx_search.specs.Input.{InputValue, IsSpanned}
 use Rattle.rx_search.specs.declared.anchored.MatchKind.{MatchKind}
-use Rattle.rx_thompson.specs.Nfa.{Nfa, HasFirstRuns}
-use Rattle.rx_thompson.specs.NextMatch.{next_match_of}
+use Rattle.rx_nfa.specs.Nfa.{Nfa, HasFirstRuns}
+use Rattle.rx_nfa.specs.NextMatch.{next_match_of}
 use Rattle.rx_engines.specs.Room.{Room}
 use Rattle.rx_engines.specs.Simulation.{cost_below}
 use Rattle.rx_engines.specs.Search.{first_place}

@@ -2,7 +2,7 @@
 use Rattle.std.specs.Prelude.{ℕ, zero, suc, ◌+◌, ◌-◌, ◌≤◌, ◌<◌, Bool, length, All, Option, is_some, if◌then◌else◌}
 use Rattle.rx_model.specs.Runs.{first_trace}
 use Rattle.rx_model.specs.Search.{Match, is_permitted, first_start}
-use Rattle.rx_thompson.specs.Automaton.{automaton, NamesBelow}
+use Rattle.rx_nfa.specs.Automaton.{automaton, NamesBelow}
 use Rattle.rx_engines.specs.Simulation.{first_of}
 use Rattle.rx_engines.specs.declared.pikevm.search.Search.{Search}
 

@@ -3,11 +3,11 @@ use Rattle.std.specs.Prelude.{◌≡◌, ◌⊎◌, ℕ, zero, suc, ◌+◌, ◌
 use Rattle.std.specs.Option.{option_or}
 use Rattle.rx_model.specs.Runs.{Trace, Configuration, PriorityGraph, Passed, nowhere, and_at, found, is_among}
 use Rattle.rx_model.specs.Search.{Match, is_permitted, first_start}
-use Rattle.rx_thompson.specs.Automaton.{at, automaton, state_at, route}
-use Rattle.rx_thompson.specs.declared.state.Transition.{Transition}
+use Rattle.rx_nfa.specs.Automaton.{at, automaton, state_at, route}
+use Rattle.rx_nfa.specs.declared.state.Transition.{Transition}
 use Rattle.rx_engines.specs.Walk.{Slots, Answer, answer, pending, write_all, Expands}
-use Rattle.rx_thompson.specs.declared.state.State.{State}
-use Rattle.rx_thompson.specs.declared.state.State.TheVariants.{ByteRange, Sparse, Look, Union, Capture, Fail, Match as Accepts}
+use Rattle.rx_nfa.specs.declared.state.State.{State}
+use Rattle.rx_nfa.specs.declared.state.State.TheVariants.{ByteRange, Sparse, Look, Union, Capture, Fail, Match as Accepts}
 use Rattle.rx_engines.specs.declared.frame.Frame.{Frame}
 use Rattle.rx_engines.specs.declared.frame.Frame.TheVariants.{Explore, Restore}
 use Rattle.rx_engines.specs.Threads.{Row, row_at}

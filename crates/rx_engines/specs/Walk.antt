@@ -5,7 +5,7 @@ use Rattle.rx_model.specs.Look.{holds}
 use Rattle.rx_model.specs.Runs.{Configuration, PriorityGraph, Trace}
 use Rattle.rx_search.specs.Look.{kind_of}
 use Rattle.rx_search.specs.declared.look.Look.{Look}
-use Rattle.rx_thompson.specs.Automaton.{at}
+use Rattle.rx_nfa.specs.Automaton.{at}
 use Rattle.rx_engines.specs.declared.frame.Frame.{Frame}
 use Rattle.rx_engines.specs.declared.frame.Frame.TheVariants.{Explore, Restore}
 

@@ -1,7 +1,7 @@
 ghost use Rattle.std.specs.Prelude.{◌≡◌};
 ghost use Rattle.rx_engines.specs.Engine.{accounted_memory};
 
-use rx_thompson::NFA;
+use rx_nfa::NFA;
 
 /// The bytes that are accounted for a slot.
 const SLOT_SIZE: usize = 16;

@@ -1,4 +1,4 @@
-//! Engines that run an NFA over a text. It stands on rx_thompson.
+//! Engines that run an NFA over a text. It stands on rx_nfa.
 //!
 //! `pikevm` simulates all its threads at once, place by place. `backtrack` searches depth first, in a bounded span.
 //! The contract of both is the next match, with slots.

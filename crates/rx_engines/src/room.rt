@@ -3,7 +3,7 @@ ghost use Rattle.std.specs.Prelude.{◌≡◌, length, IfOk};
 ghost use Rattle.rx_engines.specs.Simulation.{cost, cost_below};
 
 use rx_search::Memory;
-use rx_thompson::State;
+use rx_nfa::State;
 
 /// How many frames the states leave on a stack, each state once.
 pub fn frames_of_all(states: &[State]) -> Result<usize, Memory>

@@ -1,5 +1,5 @@
 ghost use Rattle.std.specs.Prelude.{◌≡◌, ◌+◌, ◌<◌, ◌≤◌, vec_capacity, [], ◌∷◌, ◌++◌, length, map, reverse, IfOk, IfSome, IfNone};
-ghost use Rattle.rx_thompson.specs.Automaton.{at};
+ghost use Rattle.rx_nfa.specs.Automaton.{at};
 ghost use Rattle.rx_engines.specs.Walk.{explore_all};
 ghost use Rattle.rx_engines.specs.Threads.{Frames, frames_code};
 

@@ -2,8 +2,8 @@
 use Rattle.std.proofs.Common.{◌≡◌, ℕ, ◌≤◌, List, length, Ok, refl, sym, ap, ◌∙◌, subst, arith}
 use Rattle.std.proofs.lemmas.List.{take_all}
 use Rattle.rx_model.specs.Expression.{Expression}
-use Rattle.rx_thompson.specs.Nfa.{Nfa}
-use Rattle.rx_thompson.specs.Compiled.{AreAllowed, IsCompiled}
+use Rattle.rx_nfa.specs.Nfa.{Nfa}
+use Rattle.rx_nfa.specs.Compiled.{AreAllowed, IsCompiled}
 use Rattle.rx_strategy.specs.Config.{kind_of, utf8_of, captures_of, compiler_of, has_backtracker}
 use Rattle.rx_strategy.specs.Strategy.{StrategyValue}
 use Rattle.rx_strategy.specs.declared.config.Config.{Config}

@@ -1,9 +1,9 @@
 -- What a build answers.
 use Rattle.std.specs.Prelude.{◌≡◌, ℕ, ◌<◌, ◌≤◌, List, length, Result, Ok, Err}
 use Rattle.rx_model.specs.Expression.{Expression}
-use Rattle.rx_thompson.specs.Compiled.{patterns_of, AreAllowed, IsCompiled, IsRefusal}
-use Rattle.rx_thompson.specs.declared.error.BuildError.{BuildError as NfaError}
-use Rattle.rx_thompson.specs.declared.error.BuildError.TheVariants.{TooManyPatterns, TooManyGroups, TooManyStates, ExceededSizeLimit, Memory as NoMemory}
+use Rattle.rx_nfa.specs.Compiled.{patterns_of, AreAllowed, IsCompiled, IsRefusal}
+use Rattle.rx_nfa.specs.declared.error.BuildError.{BuildError as NfaError}
+use Rattle.rx_nfa.specs.declared.error.BuildError.TheVariants.{TooManyPatterns, TooManyGroups, TooManyStates, ExceededSizeLimit, Memory as NoMemory}
 use Rattle.rx_strategy.specs.Config.{kind_of, utf8_of, terminator_of, captures_of, compiler_of, has_backtracker}
 use Rattle.rx_strategy.specs.declared.config.Config.{Config}
 use Rattle.rx_reader.specs.declared.config.Config.{Config as Grammar}

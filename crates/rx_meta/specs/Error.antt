@@ -1,8 +1,8 @@
 -- The refusals of a build, seen from outside.
 use Rattle.std.specs.Prelude.{ℕ, List, ◌++◌, Option, Some, None, codes, decimal}
 use Rattle.rx_reader.specs.declared.error.SyntaxError.{SyntaxError}
-use Rattle.rx_thompson.specs.declared.error.BuildError.{BuildError as NfaError}
-use Rattle.rx_thompson.specs.declared.error.BuildError.TheVariants.{TooManyPatterns, TooManyGroups, TooManyStates, ExceededSizeLimit, Memory as NfaMemory}
+use Rattle.rx_nfa.specs.declared.error.BuildError.{BuildError as NfaError}
+use Rattle.rx_nfa.specs.declared.error.BuildError.TheVariants.{TooManyPatterns, TooManyGroups, TooManyStates, ExceededSizeLimit, Memory as NfaMemory}
 use Rattle.rx_meta.specs.declared.error.BuildError.{BuildError}
 use Rattle.rx_meta.specs.declared.error.BuildError.TheVariants.{Syntax, NFA, Memory}
 

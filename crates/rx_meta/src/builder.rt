@@ -1,6 +1,6 @@
 //! From patterns to a regex.
 ghost use Rattle.std.specs.Prelude.{◌≡◌, ◌≤◌, ◌∷◌, [], length, map, IfOk, IfErr};
-ghost use Rattle.rx_thompson.specs.Compiled.{AreAllowed, IsCompiled};
+ghost use Rattle.rx_nfa.specs.Compiled.{AreAllowed, IsCompiled};
 ghost use Rattle.rx_strategy.specs.Config.{compiler_of, nothing_set, overwritten};
 ghost use Rattle.rx_reader.specs.Config.{default};
 ghost use Rattle.rx_meta.specs.Reading.{pattern_limit};
@@ -11,7 +11,7 @@ use crate::reading::{PATTERN_LIMIT, read_patterns};
 use crate::regex::Regex;
 use rx_hir::Hir;
 use rx_strategy::{Config, Core};
-use rx_thompson::{Compiler, NFA};
+use rx_nfa::{Compiler, NFA};
 use std::alloc::Global;
 use std::slice;
 
@@ -100,7 +100,7 @@ impl Builder {
         ensures refused { IfErr result (IsRefusedOf self.now.config count exprs.now) }
     {
         if count > PATTERN_LIMIT {
-            return Err(BuildError::NFA(rx_thompson::BuildError::TooManyPatterns {
+            return Err(BuildError::NFA(rx_nfa::BuildError::TooManyPatterns {
                 given: count,
                 limit: PATTERN_LIMIT,
             }));

@@ -14,7 +14,7 @@ pub enum BuildError {
     /// The grammar reads no expression for this pattern, the first such one.
     Syntax { pid: PatternID, err: SyntaxError },
     /// A count or the cost of the patterns passes its limit.
-    NFA(rx_thompson::BuildError),
+    NFA(rx_nfa::BuildError),
     /// There was no memory.
     Memory,
 }
@@ -36,7 +36,7 @@ impl BuildError {
         ensures { result ≡ size_limit_of self.now }
     {
         match self {
-            BuildError::NFA(rx_thompson::BuildError::ExceededSizeLimit { limit, .. }) => Some(
+            BuildError::NFA(rx_nfa::BuildError::ExceededSizeLimit { limit, .. }) => Some(
                 *limit,
             ),
             _ => None,
@@ -100,12 +100,12 @@ impl<T: Drop> From<AllocFailed<T>> for BuildError {
     }
 }
 
-impl From<rx_thompson::BuildError> for BuildError {
+impl From<rx_nfa::BuildError> for BuildError {
     ghost from_gives = { λ cause e. e ≡ error_of cause };
 
-    fn from(error: rx_thompson::BuildError) -> BuildError {
+    fn from(error: rx_nfa::BuildError) -> BuildError {
         match error {
-            rx_thompson::BuildError::Memory => BuildError::Memory,
+            rx_nfa::BuildError::Memory => BuildError::Memory,
             other => BuildError::NFA(other),
         }
     }

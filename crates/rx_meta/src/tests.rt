@@ -4,7 +4,7 @@ ghost use Rattle.rx_strategy.specs.Cache.{Fits};
 use crate::{BuildError, Builder, Cache, Config, Regex};
 use rx_search::{Anchored, HalfMatch, Input, Match, NonMaxUsize, PatternID};
 use rx_syntax::{SyntaxErrorKind, parse};
-use rx_thompson::WhichCaptures;
+use rx_nfa::WhichCaptures;
 use std::alloc::Global;
 use std::process::Abort;
 use std::sync::Wait;
@@ -147,7 +147,7 @@ fn a_size_limit_is_told(rt: HostRuntime) -> Result<(), Fail> {
     let mut builder = Regex::builder();
     builder.configure(Regex::config().nfa_size_limit(Some(159)));
     let error = builder.build(alloc, "a").err().expect(&rt, "a refusal");
-    let cause = rx_thompson::BuildError::ExceededSizeLimit {
+    let cause = rx_nfa::BuildError::ExceededSizeLimit {
         limit: 159,
         size: 256,
     };

@@ -15,9 +15,9 @@ use Rattle.rx_search.specs.Input.{InputValue, from_place, next_in, whole}
 use Rattle.rx_search.specs.Matches.{MatchValue}
 use Rattle.rx_search.specs.Searcher.{SearcherValue, moved_past, search_from, match_after, upcoming, places_left, fresh, to_come, successive}
 use Rattle.rx_search.proofs.SearcherLemmas.{successive-matches}
-use Rattle.rx_thompson.specs.Compiled.{patterns_of, groups_of}
-use Rattle.rx_thompson.proofs.GroupLemmas.{length-group_names}
-use Rattle.rx_thompson.proofs.NextMatchLemmas.{next_match_of-patterns}
+use Rattle.rx_nfa.specs.Compiled.{patterns_of, groups_of}
+use Rattle.rx_nfa.proofs.GroupLemmas.{length-group_names}
+use Rattle.rx_nfa.proofs.NextMatchLemmas.{next_match_of-patterns}
 use Rattle.rx_engines.specs.Engine.{HasSlots}
 use Rattle.rx_strategy.specs.Strategy.{StrategyValue, IsOf, tells, told_in, told_for}
 use Rattle.rx_strategy.proofs.StrategyLemmas.{told-agrees}

@@ -6,9 +6,9 @@ use Rattle.std.proofs.lemmas.Bool.{le-leb}
 use Rattle.std.proofs.lemmas.Bool.Decides.{nat_tests}
 use Rattle.rx_model.specs.Expression.{Expression}
 use Rattle.rx_hir.specs.Cost.{capped}
-use Rattle.rx_thompson.specs.Compiled.{AreAllowed, nfa_states}
-use Rattle.rx_thompson.specs.declared.error.BuildError.{BuildError as NfaError}
-use Rattle.rx_thompson.specs.declared.error.BuildError.TheVariants.{TooManyPatterns, TooManyGroups, TooManyStates, ExceededSizeLimit, Memory as NoMemory}
+use Rattle.rx_nfa.specs.Compiled.{AreAllowed, nfa_states}
+use Rattle.rx_nfa.specs.declared.error.BuildError.{BuildError as NfaError}
+use Rattle.rx_nfa.specs.declared.error.BuildError.TheVariants.{TooManyPatterns, TooManyGroups, TooManyStates, ExceededSizeLimit, Memory as NoMemory}
 use Rattle.rx_strategy.specs.Config.{compiler_of, nothing_set}
 use Rattle.rx_meta.specs.Build.{IsCause}
 use Rattle.rx_scan.specs.Patterns.{slot_count, are_small}

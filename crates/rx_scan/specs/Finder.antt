@@ -2,7 +2,7 @@
 use Rattle.std.specs.Prelude.{◌≡◌, ℕ, zero, suc, ◌+◌, List, [], ◌++◌, length, Option, Some}
 use Rattle.rx_model.specs.Search.{Patterns, Match}
 use Rattle.rx_search.specs.GroupInfo.{groups_at, slot_of_group}
-use Rattle.rx_thompson.specs.Compiled.{groups_of}
+use Rattle.rx_nfa.specs.Compiled.{groups_of}
 use Rattle.rx_meta.specs.Regex.{RegexValue, IsOf}
 use Rattle.rx_scan.specs.ScanRow.{RowValue, group_places}
 

@@ -2,7 +2,7 @@
 use Rattle.std.specs.Prelude.{ℕ, ◌+◌, ◌*◌, Bool, true, ◌&&◌, nat_le, List, length}
 use Rattle.rx_model.specs.Expression.{Expression}
 use Rattle.rx_model.specs.Search.{Patterns, groups_before, all}
-use Rattle.rx_thompson.specs.Compiled.{nfa_states}
+use Rattle.rx_nfa.specs.Compiled.{nfa_states}
 
 -- how they are searched for
 abbrev pub patterns_of : List Expression → Patterns

@@ -3,7 +3,7 @@ ghost use Rattle.std.specs.Prelude.{◌≡◌, ◌<◌, ℕ, List, map, IfOk, On
 ghost use Rattle.std.specs.Vec.{vec_items};
 ghost use Rattle.rx_model.specs.Expression.{Expression};
 ghost use Rattle.rx_model.specs.Search.{Patterns};
-ghost use Rattle.rx_thompson.specs.Compiled.{patterns_of};
+ghost use Rattle.rx_nfa.specs.Compiled.{patterns_of};
 ghost use Rattle.rx_strategy.specs.Config.{utf8_of, terminator_of, captures_of};
 ghost use Rattle.rx_strategy.specs.declared.config.Config.{Config};
 ghost use Rattle.rx_meta.specs.Build.{IsBuilt};

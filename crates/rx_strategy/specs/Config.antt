@@ -4,10 +4,10 @@ use Rattle.std.specs.Option.{option_or}
 use Rattle.rx_model.specs.Search as model
 use Rattle.rx_search.specs.declared.anchored.MatchKind.{MatchKind}
 use Rattle.rx_search.specs.declared.anchored.MatchKind.TheVariants.{All, LeftmostFirst}
-use Rattle.rx_thompson.specs.Config.{captures_kind}
-use Rattle.rx_thompson.specs.declared.compiler.config.Config.{Config as CompilerConfig}
-use Rattle.rx_thompson.specs.declared.compiler.config.WhichCaptures.{WhichCaptures}
-use Rattle.rx_thompson.specs.declared.compiler.config.WhichCaptures.TheVariants.{All as EveryGroup}
+use Rattle.rx_nfa.specs.Config.{captures_kind}
+use Rattle.rx_nfa.specs.declared.compiler.config.Config.{Config as CompilerConfig}
+use Rattle.rx_nfa.specs.declared.compiler.config.WhichCaptures.{WhichCaptures}
+use Rattle.rx_nfa.specs.declared.compiler.config.WhichCaptures.TheVariants.{All as EveryGroup}
 use Rattle.rx_strategy.specs.declared.config.Config.{Config}
 
 -- which of the matches that begin at one place is reported

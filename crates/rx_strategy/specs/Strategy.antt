@@ -4,8 +4,8 @@ use Rattle.rx_model.specs.Search.{Patterns, WhichCaptures, all, implicit, none, 
 use Rattle.rx_model.specs.Matches.{IsMatch}
 use Rattle.rx_search.specs.Input.{InputValue, next_in}
 use Rattle.rx_search.specs.declared.anchored.MatchKind.{MatchKind}
-use Rattle.rx_thompson.specs.Nfa.{Nfa, HasFirstRuns}
-use Rattle.rx_thompson.specs.NextMatch.{next_match_of}
+use Rattle.rx_nfa.specs.Nfa.{Nfa, HasFirstRuns}
+use Rattle.rx_nfa.specs.NextMatch.{next_match_of}
 use Rattle.rx_engines.specs.Engine.{PikeVMValue}
 
 pub record StrategyValue : Type 0 where

@@ -3,7 +3,7 @@ ghost use Rattle.std.specs.Prelude.{◌≡◌, Some};
 ghost use Rattle.rx_strategy.specs.Config.{kind_of, utf8_of, which_of, size_limit_of, terminator_of, backtrack_of, compiler_of, has_backtracker, nothing_set, overwritten};
 
 use rx_search::{LookMatcher, MatchKind};
-use rx_thompson::WhichCaptures;
+use rx_nfa::WhichCaptures;
 use std::default::Default;
 
 /// The bytes that the NFA may have where no other limit is set, by what is accounted for it.
@@ -126,12 +126,12 @@ impl Config {
     }
 
     /// How the NFA is compiled under this configuration.
-    pub fn compiler(&self) -> rx_thompson::Config
+    pub fn compiler(&self) -> rx_nfa::Config
         ensures { result ≡ compiler_of self.now }
     {
         let mut matcher = LookMatcher::new();
         matcher.set_line_terminator(self.get_line_terminator());
-        rx_thompson::Config::new()
+        rx_nfa::Config::new()
             .utf8(self.get_utf8_empty())
             .nfa_size_limit(self.get_nfa_size_limit())
             .which_captures(self.get_which_captures())

@@ -15,7 +15,7 @@ use rx_engines::backtrack::{self, BoundedBacktracker};
 use rx_engines::empty;
 use rx_engines::pikevm::PikeVM;
 use rx_search::{Input, Match, Memory, NonMaxUsize};
-use rx_thompson::{NFA, WhichCaptures};
+use rx_nfa::{NFA, WhichCaptures};
 use std::alloc::Global;
 use std::marker::Model;
 
@@ -31,7 +31,7 @@ pub struct Core {
 impl Model for Core {
     ghost use Rattle.std.specs.Prelude.{◌≡◌, is_some, IfSome};
     ghost use Rattle.rx_search.specs.declared.anchored.MatchKind.TheVariants.{LeftmostFirst};
-    ghost use Rattle.rx_thompson.specs.Config.{captures_kind};
+    ghost use Rattle.rx_nfa.specs.Config.{captures_kind};
     ghost use Rattle.rx_strategy.specs.Strategy.{StrategyValue};
 
     ghost Value = { StrategyValue };

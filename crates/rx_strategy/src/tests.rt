@@ -3,7 +3,7 @@ ghost use Rattle.rx_strategy.specs.Cache.{Fits};
 use crate::{Cache, Config, Core};
 use rx_search::{Input, Match, MatchKind, NonMaxUsize};
 use rx_syntax::parse;
-use rx_thompson::{Compiler, WhichCaptures};
+use rx_nfa::{Compiler, WhichCaptures};
 use std::alloc::Global;
 use std::process::Abort;
 use std::test::Fail;

@@ -1,6 +1,6 @@
 ghost use Rattle.std.specs.Prelude.{◌≡◌, ◌+◌, ◌-◌, ◌*◌, ◌<◌, ◌≤◌, ◌∷◌, length, Option, IfNone};
 ghost use Rattle.rx_model.specs.Runs.{Passed, first_trace};
-ghost use Rattle.rx_thompson.specs.Automaton.{at};
+ghost use Rattle.rx_nfa.specs.Automaton.{at};
 ghost use Rattle.rx_engines.specs.Walk.{Slots, Answer, answer};
 ghost use Rattle.rx_engines.specs.declared.frame.Frame.TheVariants.{Explore};
 ghost use Rattle.rx_engines.specs.Backtrack.{IsInside, AllInside, graph_for, extent, passed_by, work, frames_left, IsDead, Searching, Followed, returned};

@@ -3,8 +3,8 @@ ghost use Rattle.std.specs.Result.{IfErr};
 ghost use Rattle.rx_model.specs.Search.{Patterns, told_of};
 ghost use Rattle.rx_search.specs.Anchored.{anchor_of};
 ghost use Rattle.rx_search.specs.Matches.{match_value};
-ghost use Rattle.rx_thompson.specs.Nfa.{IsInRange};
-ghost use Rattle.rx_thompson.specs.NextMatch.{start_of};
+ghost use Rattle.rx_nfa.specs.Nfa.{IsInRange};
+ghost use Rattle.rx_nfa.specs.NextMatch.{start_of};
 ghost use Rattle.rx_engines.specs.Engine.{next_match_for, HasSlots, AreWithin, accounted_memory};
 ghost use Rattle.rx_engines.specs.Bounded.{next_match_within, IsNfaOf, max_len, span_len, IsRefusal, Fits};
 
@@ -14,7 +14,7 @@ use crate::report::reported;
 use crate::slots::empty;
 use crate::starts::latest_start;
 use rx_search::{Anchored, Input, Match, MatchError, Memory, NonMaxUsize, PatternID, StateID};
-use rx_thompson::NFA;
+use rx_nfa::NFA;
 use std::alloc::Global;
 use std::marker::Model;
 
@@ -33,7 +33,7 @@ pub struct BoundedBacktracker {
 }
 
 impl Model for BoundedBacktracker {
-    ghost use Rattle.rx_thompson.specs.Nfa.{Nfa};
+    ghost use Rattle.rx_nfa.specs.Nfa.{Nfa};
 
     ghost Value = { Nfa };
 

@@ -1,7 +1,7 @@
 ghost use Rattle.std.specs.Prelude.{◌≡◌, ◌+◌, ◌<◌, ◌≤◌, ◌∷◌, [], ◌++◌, length, map, Some, None, if◌then◌else◌};
 ghost use Rattle.rx_model.specs.Look.{holds};
 ghost use Rattle.rx_search.specs.Look.{kind_of};
-ghost use Rattle.rx_thompson.specs.Automaton.{at, state_at};
+ghost use Rattle.rx_nfa.specs.Automaton.{at, state_at};
 ghost use Rattle.rx_engines.specs.Walk.{explore_all};
 ghost use Rattle.rx_engines.specs.Simulation.{byte_at, cost};
 ghost use Rattle.rx_engines.specs.Backtrack.{IsInside, AllInside, graph_for, frames_of, target_of, onto, Saves, Stepped};
@@ -11,7 +11,7 @@ use crate::frame::Frame;
 use crate::slots::Slot;
 use crate::stack::Stack;
 use rx_search::{Look, PatternID, StateID};
-use rx_thompson::{State, Transition, matches_byte};
+use rx_nfa::{State, Transition, matches_byte};
 
 /// What a search does next.
 #[derive(Clone, Copy)]

@@ -16,7 +16,7 @@ use crate::room::frames_of_all;
 use crate::slots::Slot;
 use crate::stack::Stack;
 use rx_search::{Memory, NonMaxUsize, PatternID};
-use rx_thompson::State;
+use rx_nfa::State;
 use std::alloc::Global;
 use std::marker::Model;
 

@@ -1,6 +1,6 @@
 ghost use Rattle.std.specs.Prelude.{◌≡◌, ℕ, ◌+◌, ◌<◌, ◌≤◌, List, [], ◌∷◌, ◌++◌, length, Option};
 ghost use Rattle.rx_model.specs.Runs.{Configuration, Passed};
-ghost use Rattle.rx_thompson.specs.Automaton.{automaton, state_at};
+ghost use Rattle.rx_nfa.specs.Automaton.{automaton, state_at};
 ghost use Rattle.rx_engines.specs.declared.frame.Frame.TheVariants.{Explore};
 ghost use Rattle.rx_engines.specs.Walk.{explore_all, looked};
 ghost use Rattle.rx_engines.specs.Search.{IsInside};
@@ -12,7 +12,7 @@ use crate::pikevm::threads::Threads;
 use crate::slots::{Slot, read, write};
 use crate::stack::{Stack, push_all};
 use rx_search::{Look, StateID};
-use rx_thompson::State;
+use rx_nfa::State;
 
 /// Whether the state rests. Else the stack and the slots go on from it.
 pub fn visit(

@@ -1,5 +1,5 @@
 use rx_search::{LookMatcher, StateID};
-use rx_thompson::State;
+use rx_nfa::State;
 
 /// What is searched for a match, and where.
 #[derive(Drop)]

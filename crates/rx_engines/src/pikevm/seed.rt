@@ -1,7 +1,7 @@
 ghost use Rattle.std.specs.Prelude.{◌≡◌, ℕ, ◌+◌, ◌<◌, ◌≤◌, List, [], length, All, Bool, true, Option, is_some};
 ghost use Rattle.rx_model.specs.Runs.{Passed, nowhere};
 ghost use Rattle.std.specs.Option.{option_or};
-ghost use Rattle.rx_thompson.specs.Automaton.{automaton};
+ghost use Rattle.rx_nfa.specs.Automaton.{automaton};
 ghost use Rattle.rx_engines.specs.Simulation.{cost_below, Hit, among, later_starts, passed_at};
 ghost use Rattle.rx_engines.specs.Search.{IsInside};
 

@@ -1,7 +1,7 @@
 ghost use Rattle.std.specs.Prelude.{◌≡◌, ℕ, ◌+◌, ◌<◌, ◌≤◌, List, [], length, All, Option, IfNone};
 ghost use Rattle.rx_model.specs.Runs.{Passed, nowhere};
 ghost use Rattle.std.specs.Option.{option_or};
-ghost use Rattle.rx_thompson.specs.Automaton.{automaton};
+ghost use Rattle.rx_nfa.specs.Automaton.{automaton};
 ghost use Rattle.rx_engines.specs.Simulation.{cost_below, Hit, among, accepted_hit, IsStable, Stepped, byte_at, act_of, read_of};
 ghost use Rattle.rx_engines.specs.Search.{IsInside};
 
@@ -11,7 +11,7 @@ use crate::pikevm::threads::Threads;
 use crate::slots::Slot;
 use crate::stack::Stack;
 use rx_search::{PatternID, StateID};
-use rx_thompson::{State, Transition, matches_byte};
+use rx_nfa::{State, Transition, matches_byte};
 
 /// What a state does at a byte.
 #[derive(Clone, Copy)]

@@ -2,8 +2,8 @@ ghost use Rattle.std.specs.Prelude.{◌≡◌, ◌≤◌, length, None, replicat
 ghost use Rattle.rx_model.specs.Search.{Patterns, told_of};
 ghost use Rattle.rx_search.specs.Anchored.{anchor_of};
 ghost use Rattle.rx_search.specs.Matches.{match_value};
-ghost use Rattle.rx_thompson.specs.Nfa.{IsInRange};
-ghost use Rattle.rx_thompson.specs.NextMatch.{start_of};
+ghost use Rattle.rx_nfa.specs.Nfa.{IsInRange};
+ghost use Rattle.rx_nfa.specs.NextMatch.{start_of};
 ghost use Rattle.rx_engines.specs.Engine.{PikeVMValue, next_match_in, next_match_for, answer_in, IsOf, IsMatchWith, IsSearchOf, HasSlots, AreWithin, Fits, accounted_memory};
 
 use crate::pikevm::cache::Cache;
@@ -12,7 +12,7 @@ use crate::report::reported;
 use crate::slots::empty;
 use crate::starts::latest_start;
 use rx_search::{Anchored, Input, Match, MatchKind, Memory, NonMaxUsize, PatternID, StateID};
-use rx_thompson::NFA;
+use rx_nfa::NFA;
 use std::alloc::Global;
 use std::marker::Model;
 

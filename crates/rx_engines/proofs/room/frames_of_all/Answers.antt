@@ -1,6 +1,6 @@
 use Rattle.std.proofs.Common.{◌≡◌, arith, refl, ap, ◌∙◌}
 use Rattle.std.proofs.lemmas.List.{get_or_default}
-use Rattle.rx_thompson.specs.Automaton.{state_at}
+use Rattle.rx_nfa.specs.Automaton.{state_at}
 use Rattle.rx_engines.proofs.LineLemmas.{cost_below-more}
 use Rattle.rx_engines.specs.Simulation.{cost, cost_below}
 use Rattle.rx_engines.proofs.room.frames_of_all.Goals as goal

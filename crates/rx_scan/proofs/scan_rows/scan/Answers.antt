@@ -2,7 +2,7 @@ use Rattle.std.proofs.Common.{◌≡◌, length, refl, sym, subst, ◌∙◌, ap
 use Rattle.std.specs.Prelude.{map}
 use Rattle.std.specs.Vec.{vec_items}
 use Rattle.std.proofs.lemmas.List.{take_all}
-use Rattle.rx_thompson.specs.Compiled.{patterns_of}
+use Rattle.rx_nfa.specs.Compiled.{patterns_of}
 use Rattle.rx_strategy.specs.Config.{utf8_of, terminator_of, captures_of}
 use Rattle.rx_meta.specs.Regex.{RegexValue}
 use Rattle.rx_scan.specs.Finder.{IsFor}

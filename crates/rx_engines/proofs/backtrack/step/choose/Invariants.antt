@@ -1,6 +1,6 @@
 use Rattle.std.proofs.Common.{◌≡◌, ◌≤◌, ◌+◌, ◌++◌, length, drop}
 use Rattle.std.specs.Prelude.{map}
-use Rattle.rx_thompson.specs.Automaton.{at}
+use Rattle.rx_nfa.specs.Automaton.{at}
 use Rattle.rx_engines.specs.Walk.{explore_all}
 use Rattle.rx_engines.proofs.backtrack.step.choose.Given as goal
 

@@ -2,9 +2,9 @@ use Rattle.std.proofs.Common.{◌≡◌, ◌+◌, ◌∷◌, [], length, refl, �
 use Rattle.std.specs.Prelude.{Some, None, if◌then◌else◌}
 use Rattle.rx_model.specs.Look.{holds}
 use Rattle.rx_search.specs.Look.{kind_of}
-use Rattle.rx_thompson.specs.Automaton.{at}
-use Rattle.rx_thompson.specs.declared.state.Transition.{Transition}
-use Rattle.rx_thompson.proofs.StateLemmas.{accepted-is, state-known, names-known}
+use Rattle.rx_nfa.specs.Automaton.{at}
+use Rattle.rx_nfa.specs.declared.state.Transition.{Transition}
+use Rattle.rx_nfa.proofs.StateLemmas.{accepted-is, state-known, names-known}
 use Rattle.rx_engines.specs.Simulation.{byte_at}
 use Rattle.rx_engines.specs.Backtrack.{graph_for, target_of, onto}
 use Rattle.rx_engines.proofs.YieldLemmas.{reads-onto, looks-onto, Stepped-onto, Yields-unwritten, Yields-saved, AllWithin-read, AllWithin-looked, AllWithin-union}

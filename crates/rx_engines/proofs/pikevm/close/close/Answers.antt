@@ -1,7 +1,7 @@
 use Rattle.std.proofs.Common.{◌≡◌, ◌∷◌, [], length, length-set, refl, sym, ◌∙◌, ap, arith}
 use Rattle.std.specs.Prelude.{false}
 use Rattle.rx_engines.specs.declared.frame.Frame.TheVariants.{Explore}
-use Rattle.rx_thompson.proofs.AutomatonLemmas.{automaton-bounded}
+use Rattle.rx_nfa.proofs.AutomatonLemmas.{automaton-bounded}
 use Rattle.rx_engines.proofs.CloseLemmas.{not-true, not-false}
 use Rattle.rx_engines.specs.Threads.{Frames, has}
 use Rattle.rx_engines.specs.Simulation.{passed_at}

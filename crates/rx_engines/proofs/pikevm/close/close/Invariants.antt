@@ -2,7 +2,7 @@ use Rattle.std.proofs.Common.{◌≡◌, ◌+◌, ◌∷◌, ◌≤◌, [], leng
 use Rattle.std.specs.Prelude.{Option}
 use Rattle.rx_model.specs.Runs.{Passed}
 use Rattle.rx_model.proofs.RunLemmas.{weight}
-use Rattle.rx_thompson.specs.Automaton.{automaton}
+use Rattle.rx_nfa.specs.Automaton.{automaton}
 use Rattle.rx_engines.specs.declared.frame.Frame.TheVariants.{Explore}
 use Rattle.rx_engines.specs.Simulation.{Hit, Waits, IsStable, AllHere, passed_at}
 use Rattle.rx_engines.proofs.LineLemmas.{line, cost_at}

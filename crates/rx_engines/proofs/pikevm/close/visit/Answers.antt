@@ -1,6 +1,6 @@
 use Rattle.std.proofs.Common.{refl, ap, arith, length}
 use Rattle.rx_engines.proofs.WalkLemmas.{Expands-unwritten, Expands-written}
-use Rattle.rx_thompson.proofs.StateLemmas.{state-known, names-known}
+use Rattle.rx_nfa.proofs.StateLemmas.{state-known, names-known}
 use Rattle.rx_engines.specs.Threads.{Frames}
 use Rattle.rx_engines.specs.Simulation.{is_resting, cost}
 use Rattle.rx_engines.proofs.CloseLemmas.{AllHere-union, union-length, AllHere-looked, looked-length}

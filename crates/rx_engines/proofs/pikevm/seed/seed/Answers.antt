@@ -1,7 +1,7 @@
 use Rattle.std.proofs.Common.{◌+◌, length, refl, sym, ◌∙◌, arith, drop}
 use Rattle.std.proofs.lemmas.List.{get_or_default}
 use Rattle.rx_model.specs.Runs.{nowhere}
-use Rattle.rx_thompson.specs.Automaton.{automaton}
+use Rattle.rx_nfa.specs.Automaton.{automaton}
 use Rattle.rx_engines.specs.Simulation.{among, passed_at}
 use Rattle.rx_engines.proofs.StartLemmas.{unseeded-matched, unseeded-past, unseeded-forbidden, after_seeds, after_seeds-stable, seeding, seeding-first, seeding-over}
 use Rattle.rx_engines.proofs.pikevm.seed.seed.Goals as goal

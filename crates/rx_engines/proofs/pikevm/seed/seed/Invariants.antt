@@ -2,7 +2,7 @@ use Rattle.std.proofs.Common.{◌≡◌, ◌≤◌, [], length, ℕ, drop}
 use Rattle.std.specs.Prelude.{Option, is_some}
 use Rattle.std.specs.Option.{option_or}
 use Rattle.rx_model.specs.Runs.{nowhere}
-use Rattle.rx_thompson.specs.Automaton.{automaton}
+use Rattle.rx_nfa.specs.Automaton.{automaton}
 use Rattle.rx_engines.specs.Simulation.{Hit, Closed, among, later_starts, passed_at}
 use Rattle.rx_engines.proofs.StartLemmas.{after_seeds}
 use Rattle.rx_engines.proofs.pikevm.seed.seed.Given as goal

@@ -3,7 +3,7 @@ use Rattle.std.specs.Prelude.{true, None, replicate, option_map, is_some, nat_lt
 use Rattle.std.proofs.lemmas.Bool.Decides.{nat_tests}
 use Rattle.rx_model.specs.Runs.{nowhere}
 use Rattle.rx_model.proofs.RunLemmas.{by_test}
-use Rattle.rx_thompson.specs.Automaton.{automaton}
+use Rattle.rx_nfa.specs.Automaton.{automaton}
 use Rattle.rx_engines.specs.Threads.{StateSet}
 use Rattle.rx_engines.specs.Search.{next_until}
 use Rattle.rx_engines.specs.Simulation.{among, later_starts, best_hit, hit_of, passed_at}

@@ -2,8 +2,8 @@ use Rattle.std.proofs.Common.{◌+◌, ◌-◌, [], length, refl, sym, ◌∙◌
 use Rattle.std.proofs.lemmas.List.Elements.{All-head}
 use Rattle.std.specs.Prelude.{◌<◌, ◌≤◌, max, option_map, IfSome}
 use Rattle.rx_search.specs.Matches.{match_value}
-use Rattle.rx_thompson.specs.Nfa.{Nfa}
-use Rattle.rx_thompson.specs.NextMatch.{start_of}
+use Rattle.rx_nfa.specs.Nfa.{Nfa}
+use Rattle.rx_nfa.specs.NextMatch.{start_of}
 use Rattle.rx_engines.specs.Engine.{HasSlots}
 use Rattle.rx_engines.specs.Backtrack.{triple}
 use Rattle.rx_engines.proofs.EngineLemmas.{next_match_of-done, next_match_of-missing, start-inside}

@@ -1,7 +1,7 @@
 use Rattle.std.proofs.Common.{◌≤◌, sym, ◌∙◌, ap, subst, refl, arith}
 use Rattle.std.specs.Prelude.{is_some, option_map, IfSome}
 use Rattle.rx_search.specs.Matches.{match_value}
-use Rattle.rx_thompson.specs.NextMatch.{start_of}
+use Rattle.rx_nfa.specs.NextMatch.{start_of}
 use Rattle.rx_engines.specs.Engine.{HasSlots, stop_in}
 use Rattle.rx_engines.specs.Search.{triple}
 use Rattle.rx_engines.proofs.EngineLemmas.{next_match_of-done, next_match_of-missing, answer_in-done, answer_in-missing, patterns-agree, stop-within, search-inside, next-is, answer-is, reported-is_match, triple-in_order, value-within, slots-told, triple-value, reported-any}

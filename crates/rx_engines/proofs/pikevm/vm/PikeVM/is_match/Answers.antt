@@ -1,6 +1,6 @@
 use Rattle.std.proofs.Common.{◌≤◌, sym, ◌∙◌, ap, arith}
 use Rattle.std.specs.Prelude.{is_some}
-use Rattle.rx_thompson.specs.NextMatch.{start_of}
+use Rattle.rx_nfa.specs.NextMatch.{start_of}
 use Rattle.rx_engines.proofs.EngineLemmas.{next_match_of-done, next_match_of-missing, patterns-agree, search-inside, next-is}
 use Rattle.rx_engines.proofs.pikevm.vm.PikeVM.is_match.Goals as goal
 

@@ -1,0 +1,13 @@
+use Rattle.std.proofs.Common.{sym, ap}
+use Rattle.rx_model.specs.Graph.{build_state, set}
+use Rattle.rx_class.specs.ClassViews.{class_view}
+use Rattle.rx_nfa.proofs.CompileLemmas.{Built-same}
+use Rattle.rx_nfa.proofs.builder.Builder.push_class.Goals as goal
+
+pub returns-in-Unicode-clause-built : goal.returns-in-Unicode-clause-built
+returns-in-Unicode-clause-built c =
+    Built-same _ _ c.args.next c.args.self.now c.push_scalars.new.self c.push_scalars.result (ap (λ class. build_state (set (class_view class))) (sym c.in-Unicode.is)) c.push_scalars.ensures.built
+
+pub returns-in-Bytes-clause-built : goal.returns-in-Bytes-clause-built
+returns-in-Bytes-clause-built c =
+    Built-same _ _ c.args.next c.args.self.now c.push_bytes.new.self c.push_bytes.result (ap (λ class. build_state (set (class_view class))) (sym c.in-Bytes.is)) c.push_bytes.ensures.built

@@ -1,0 +1,31 @@
+use Rattle.std.proofs.Common.{◌≡◌, ◌≤◌, ◌+◌, ◌-◌, ◌∷◌, [], ◌∙◌, ap, arith, length, slice_index}
+use Rattle.std.proofs.lemmas.Grind.{common_steps}
+use Rattle.std.proofs.lemmas.List.{length_push}
+use Rattle.rx_nfa.proofs.RowLemmas.{AddsReaders-trans, RoutesBelow-one}
+use Rattle.rx_nfa.proofs.BlockLemmas.{IsReady-push, whole-inside}
+use Rattle.rx_nfa.proofs.class.trie.reach.Goals as goal
+
+pub loop-alloc-preserved : goal.loop-alloc-preserved
+loop-alloc-preserved c =
+    let before = c.loop-alloc.invariant in
+    let id = c.in_ok-id.ensures in
+    let some = c.requires.some in
+    let longer = before.longer in
+    let states = before.grows.longer in
+    let is = id.is in
+    let pushed = c.in_ok-push-2.ensures.items in
+    let size : length c.push-in-loop-alloc.new.self.items ≡ length c.loop-alloc.whole.items + 1 = ap length pushed ∙ length_push c.loop-alloc.whole.items c.in_ok-id.id in
+    let one = id.count in
+    let count = before.count in
+    let test : length c.loop-alloc.whole.items ≤ c.args.depth = grind (arith, common_steps) in
+    let last : c.index.result.now ≡ slice_index c.loop-alloc.whole.items (length c.loop-alloc.whole.items - 1) = grind (arith, common_steps) in
+    let row : c.push.new.self.items ≡ record { start = 0x80; end = 0xBF; next = slice_index c.loop-alloc.whole.items (length c.loop-alloc.whole.items - 1) } ∷ [] = rw (c.in_ok-push.ensures.items, c.new-transitions.ensures.items) (ap (λ n. record { start = 0x80; end = 0xBF; next = n } ∷ []) last) in
+    record {
+      grows = AddsReaders-trans c.args.states.now.items c.loop-alloc.states.items c.push_reader.new.states.items before.grows id.grows;
+      closed = λ base next ready lt closed. id.closed (rw row (RoutesBelow-one (length c.loop-alloc.states.items) 0x80 0xBF (slice_index c.loop-alloc.whole.items (length c.loop-alloc.whole.items - 1))
+          (whole-inside c.loop-alloc.states.items base next (length c.loop-alloc.whole.items - 1) c.loop-alloc.whole.items (omega arith) (before.ready base next ready).whole (omega arith)))) (before.closed base next ready lt closed);
+      ready = λ base next ready. rw pushed (IsReady-push c.loop-alloc.states.items c.push_reader.new.states.items base next c.in_ok-id.id c.loop-alloc.whole.items c.push.new.self.items (omega arith) id.grows id.is id.reads row (before.ready base next ready));
+      longer = omega arith;
+      most = omega arith;
+      count = omega arith;
+    }

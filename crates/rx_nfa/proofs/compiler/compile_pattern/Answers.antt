@@ -1,0 +1,17 @@
+use Rattle.std.proofs.Common.{subst}
+use Rattle.rx_model.specs.Graph.{build, build_state}
+use Rattle.rx_nfa.specs.Built.{Built, bound, build_bounds, slot_from}
+use Rattle.rx_nfa.proofs.PatternLemmas.{HasPart-pattern}
+use Rattle.rx_nfa.proofs.SlotLemmas.{Built-bounds}
+use Rattle.rx_nfa.proofs.compiler.compile_pattern.Goals as goal
+
+pub returns-clause-has : goal.returns-clause-has
+returns-clause-has c =
+    let groups = c.args.groups.now in
+    let slot = slot_from c.args.groups.now.first_slot in
+    let whole = c.args.groups.now.whole_slot in
+    let last = subst (λ o. Built (build_state (bound o)) c.in_ok-accept.accept c.push.new.self c.push_bound.new.builder c.in_ok-close.close) c.second_slot-last_slot.ensures c.in_ok-close.ensures.built in
+    let part = Built-bounds (build slot c.args.hir.now) whole c.in_ok-accept.accept c.in_ok-close.close c.in_ok-body.body c.in_ok-open.open
+    c.push.new.self c.push_bound.new.builder c.compile.new.builder c.push_bound-2.new.builder last c.in_ok-body.ensures.built c.in_ok-open.ensures.built in
+    HasPart-pattern whole slot c.args.groups.now.pattern c.args.hir.now c.args.builder.now c.push.new.self c.push_bound-2.new.builder c.in_ok-open.open c.in_ok-accept.ensures.states
+    (subst (λ q. Built (build_bounds whole (build slot c.args.hir.now)) q c.push.new.self c.push_bound-2.new.builder c.in_ok-open.open) c.in_ok-accept.ensures.id part)

@@ -1,0 +1,101 @@
+use Rattle.std.proofs.Common.{◌≡◌, ◌+◌, ◌*◌, ◌<◌, ◌≤◌, ◌∙◌, sym, ap, subst, arith, length, [], ◌∷◌}
+use Rattle.std.proofs.lemmas.List.{length-append}
+use Rattle.std.proofs.lemmas.Option.{slice_get_within}
+use Rattle.std.specs.Prelude.{true, IfSome, option_map}
+use Rattle.rx_model.specs.Search.{greatest_group}
+use Rattle.rx_nfa.specs.Built.{HasPart, part_of}
+use Rattle.rx_nfa.specs.Compiled.{patterns_of, slots_of}
+use Rattle.rx_nfa.specs.Config.{captures_kind}
+use Rattle.rx_nfa.proofs.ExpressionLemmas.{nfa_states-drop, nfa_states-none}
+use Rattle.rx_nfa.proofs.BuiltLemmas.{Extends-trans}
+use Rattle.rx_nfa.proofs.CompileLemmas.{below-more}
+use Rattle.rx_nfa.proofs.PatternLemmas.{HasPatterns-more, sound-more}
+use Rattle.rx_nfa.proofs.SlotLemmas.{groups-inside, whole-inside, first_slot-more, part-is, room-more}
+use Rattle.rx_nfa.proofs.compiler.compile_patterns.Goals as goal
+
+pub compile_pattern-requires-clause-room : goal.compile_pattern-requires-clause-room
+compile_pattern-requires-clause-room c =
+    let which = captures_kind c.args.which in
+    let exprs = c.args.exprs.now in
+    let item = c.hir-item.result in
+    let inside = groups-inside which exprs c.loop-hir.hir-index item (omega arith) c.hir-item.is in
+    let few = c.requires.few.slots in
+    let slots : c.loop-hir.builder.slots ≡ slots_of (captures_kind c.args.which) c.args.exprs.now = c.loop-hir.invariant.extends.slots ∙ c.requires.slots in
+    let patterns = c.loop-hir.invariant.extends.patterns in
+    let is = rw c.unwrap-pattern.ensures at c.new.ensures in
+    let index = is.0 in
+    record {
+      pattern = omega arith;
+      slots = subst (λ n. IfSome c.loop-hir.first_slot (λ first. first + 2 * greatest_group c.hir-item.result ≤ n)) (sym slots)
+          (subst (λ o. IfSome o (λ first. first + 2 * greatest_group c.hir-item.result ≤ slots_of (captures_kind c.args.which) c.args.exprs.now)) (sym c.loop-hir.invariant.first_slot) inside);
+      few = omega arith;
+    }
+
+pub compile_pattern-requires-clause-whole : goal.compile_pattern-requires-clause-whole
+compile_pattern-requires-clause-whole c =
+    let slots : c.loop-hir.builder.slots ≡ slots_of (captures_kind c.args.which) c.args.exprs.now = c.loop-hir.invariant.extends.slots ∙ c.requires.slots in
+    let is = rw c.unwrap-pattern.ensures at c.new.ensures in
+    let index : c.unwrap-pattern.result ≡ c.loop-hir.hir-index = is.0 ∙ c.len.ensures ∙ c.loop-hir.invariant.len in
+    let inside = whole-inside (captures_kind c.args.which) c.args.exprs.now c.unwrap-pattern.result (omega arith) in
+    subst (λ n. IfSome c.whole_slot.result (λ slot. slot + 1 < n)) (sym slots)
+    (subst (λ o. IfSome o (λ slot. slot + 1 < slots_of (captures_kind c.args.which) c.args.exprs.now)) (sym c.whole_slot.ensures) inside)
+
+pub slot_after-first_slot-requires : goal.slot_after-first_slot-requires
+slot_after-first_slot-requires c =
+    let which = captures_kind c.args.which in
+    let inside = groups-inside which c.args.exprs.now c.loop-hir.hir-index c.hir-item.result (omega arith) c.hir-item.is in
+    room-more c.loop-hir.first_slot (2 * greatest_group c.hir-item.result) (slots_of which c.args.exprs.now) 2147483646 c.requires.few.slots
+    (subst (λ o. IfSome o (λ first. first + 2 * greatest_group c.hir-item.result ≤ slots_of (captures_kind c.args.which) c.args.exprs.now)) (sym c.loop-hir.invariant.first_slot) inside)
+
+pub loop-hir-preserved : goal.loop-hir-preserved
+loop-hir-preserved c =
+    let before = c.loop-hir.invariant in
+    let which = captures_kind c.args.which in
+    let exprs = c.args.exprs.now in
+    let k = c.loop-hir.hir-index in
+    let item = c.hir-item.result in
+    let r = patterns_of exprs true 0 which in
+    let old = c.loop-hir.builder in
+    let new = c.compile_pattern.new.builder in
+    let start = c.in_ok-start.start in
+    let grown = c.in_ok-push.ensures.items in
+    let is = rw c.unwrap-pattern.ensures at c.new.ensures in
+    let index : c.unwrap-pattern.result ≡ c.loop-hir.hir-index = is.0 ∙ c.len.ensures ∙ c.loop-hir.invariant.len in
+    let e = c.in_ok-start.ensures.extends in
+    let part = part-is r c.unwrap-pattern.result k item c.whole_slot.result c.loop-hir.first_slot c.whole_slot.ensures c.loop-hir.invariant.first_slot index in
+    let has : HasPart new.states (part_of r k item) start = subst (λ p. HasPart c.compile_pattern.new.builder.states p c.in_ok-start.start) part c.in_ok-start.ensures.has in
+    let long = ap length grown in
+    let sum = length-append c.loop-hir.starts.items (start ∷ []) in
+    record {
+      extends = Extends-trans c.args.builder.now old new before.extends e;
+      len = c.in_ok-push.ensures.len ∙ ap (λ n. n + 1) before.len;
+      count =
+          (let states = nfa_states-drop exprs k item item (omega arith) c.hir-item.is in
+          let one = c.in_ok-start.ensures.count in
+          let count = before.count in
+          omega arith);
+      items = omega arith;
+      first_slot = c.slot_after-first_slot.ensures ∙ ap (option_map (λ first. first + 2 * greatest_group c.hir-item.result)) before.first_slot
+          ∙ first_slot-more which exprs k item (omega arith) c.hir-item.is;
+      has = HasPatterns-more r k old new c.loop-hir.starts.items c.push.new.self.items start item e before.items grown (omega arith) c.hir-item.is before.has has;
+      inside = below-more (length old.states) (length new.states) c.loop-hir.starts.items c.push.new.self.items start e.longer c.in_ok-start.ensures.inside grown before.inside;
+      sound = sound-more exprs k item (omega arith) c.hir-item.is c.in_ok-start.ensures.sound before.sound;
+    }
+
+pub compile_pattern-requires-clause-fits : goal.compile_pattern-requires-clause-fits
+compile_pattern-requires-clause-fits c =
+    let states = nfa_states-drop c.args.exprs.now c.loop-hir.hir-index c.hir-item.result c.hir-item.result (omega arith) c.hir-item.is in
+    let count = c.loop-hir.invariant.count in
+    let fits = c.requires.fits in
+    omega arith
+
+pub returns-clause-count : goal.returns-clause-count
+returns-clause-count c =
+    let none = nfa_states-none c.args.exprs.now c.loop-hir.hir-index (omega arith) in
+    let count = c.loop-hir.invariant.count in
+    omega arith
+
+pub returns-clause-sound : goal.returns-clause-sound
+returns-clause-sound c p h at =
+    let inside = slice_get_within c.args.exprs.now p h at in
+    c.loop-hir.invariant.sound p h (omega arith) at

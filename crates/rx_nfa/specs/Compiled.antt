@@ -1,0 +1,86 @@
+-- What the compiler answers.
+use Rattle.std.specs.Prelude.{◌≡◌, ℕ, ◌+◌, ◌*◌, ◌<◌, ◌≤◌, Bool, List, [], ◌∷◌, length, map, replicate, Option, Some, None, IfSome, slice_get}
+use Rattle.std.specs.List.{list_all}
+use Rattle.rx_model.specs.Expression.{Expression, AreOrdered}
+use Rattle.rx_model.specs.Look.{start_text}
+use Rattle.rx_model.specs.Search.{Patterns, WhichCaptures, all, implicit, none, groups_before}
+use Rattle.rx_model.specs.Empty.{one_can_be_empty}
+use Rattle.rx_hir.specs.Normal.{expressions}
+use Rattle.rx_hir.specs.Cost.{accounted_states, capped}
+use Rattle.rx_hir.specs.Names.{group_names}
+use Rattle.rx_hir.specs.Properties.{looks_first}
+use Rattle.rx_nfa.specs.Config.{utf8_of, size_limit_of, terminator_of, captures_of}
+use Rattle.rx_nfa.specs.declared.compiler.config.Config.{Config}
+use Rattle.rx_nfa.specs.Nfa.{Nfa, IsInRange, HasFirstRuns}
+use Rattle.rx_nfa.specs.declared.error.BuildError.{BuildError}
+use Rattle.rx_nfa.specs.declared.error.BuildError.TheVariants.{TooManyPatterns, TooManyGroups, TooManyStates, ExceededSizeLimit, Memory}
+
+-- the patterns of these expressions
+abbrev pub patterns_of : List Expression → (utf8_empty : Bool) → (terminator : ℕ) → WhichCaptures → Patterns
+patterns_of hs utf8_empty terminator which = record { expressions = hs; utf8_empty = utf8_empty; terminator = terminator; which_captures = which }
+
+-- each pattern begins with the start of the text
+abbrev pub all_start_anchored : List Expression → Bool
+all_start_anchored hs = list_all (looks_first start_text) hs
+
+-- how many slots there are: two for each pattern, and under `all` two for each group that one names
+abbrev pub slots_of : WhichCaptures → List Expression → ℕ
+slots_of all hs = 2 * length hs + 2 * groups_before (length hs) hs
+slots_of implicit hs = 2 * length hs
+slots_of none hs = 0
+
+-- The groups of each pattern that have slots, by their names: under `all` those from 0 to the greatest that its
+-- expression has, under `implicit` the whole match, which has no name.
+abbrev pub groups_of : WhichCaptures → List Expression → List (List (Option (List ℕ)))
+groups_of all hs = map group_names hs
+groups_of implicit hs = replicate (length hs) (None ∷ [])
+groups_of none hs = []
+
+-- the first slot of the groups that pattern p names, if they have slots
+abbrev pub first_slot_of : WhichCaptures → List Expression → ℕ → Option ℕ
+first_slot_of all hs p = Some (2 * length hs + 2 * groups_before p hs)
+first_slot_of implicit hs p = None
+first_slot_of none hs p = None
+
+-- the states that are accounted for an NFA: 4, and for each pattern 3 beside those of its expression
+abbrev pub nfa_states : List Expression → ℕ
+nfa_states [] = 4
+nfa_states (h ∷ hs) = accounted_states h + 3 + nfa_states hs
+
+-- there are few enough patterns and slots
+pub record AreFew (which : WhichCaptures) (hs : List Expression) : Type 0 where
+  pub patterns : length hs ≤ 2147483647
+  pub slots : slots_of which hs ≤ 2147483646
+
+-- there are few enough states too, and at 32 for each they are within the limit, where there is one
+pub record AreAllowed (config : Config) (hs : List Expression) : Type 0 where
+  pub few : AreFew (captures_of config) hs
+  pub states : nfa_states hs ≤ 2147483647
+  pub size : IfSome (size_limit_of config) (λ limit. 32 * nfa_states hs ≤ limit)
+
+-- the NFA is in range, has no more states than are accounted, and does what the patterns ask for
+pub record IsCompiled (config : Config) (hs : List Expression) (nfa : Nfa) : Type 0 where
+  pub in_range : IsInRange nfa
+  pub few : length nfa.states ≤ nfa_states hs
+  pub accounted : nfa.accounted ≡ nfa_states hs
+  pub slots : nfa.slots ≡ slots_of (captures_of config) hs
+  pub groups : nfa.groups ≡ groups_of (captures_of config) hs
+  pub utf8 : nfa.utf8 ≡ utf8_of config
+  pub terminator : nfa.terminator ≡ terminator_of config
+  pub always_start_anchored : nfa.always_start_anchored ≡ all_start_anchored hs
+  pub has_empty : nfa.has_empty ≡ one_can_be_empty (expressions hs)
+  -- the counts of each expression are in order, as the laws on its meaning ask
+  pub ordered : (p : ℕ) (h : Expression) → slice_get hs p ≡ Some h → AreOrdered h
+  -- a first run does not look at where a match may start
+  pub first_runs : (utf8_empty : Bool) → HasFirstRuns nfa (patterns_of hs utf8_empty (terminator_of config) (captures_of config))
+
+-- Why there is no NFA. Numbers are told up to the greatest of 64 bits.
+abbrev pub IsRefusal : (config : Config) → List Expression → BuildError → Type 0
+IsRefusal config hs (TooManyPatterns given limit) = (given ≡ length hs) × (limit ≡ 2147483647) × (limit < given)
+IsRefusal config hs (TooManyGroups given limit) =
+    (length hs ≤ 2147483647) × (given ≡ capped (slots_of (captures_of config) hs)) × (limit ≡ 2147483646) × (limit < given)
+IsRefusal config hs (TooManyStates given limit) =
+    AreFew (captures_of config) hs × (given ≡ capped (nfa_states hs)) × (limit ≡ 2147483647) × (limit < given)
+IsRefusal config hs (ExceededSizeLimit limit size) =
+    AreFew (captures_of config) hs × (nfa_states hs ≤ 2147483647) × (size_limit_of config ≡ Some limit) × (size ≡ 32 * nfa_states hs) × (limit < size)
+IsRefusal config hs Memory = AreAllowed config hs

@@ -1,0 +1,31 @@
+-- An NFA in the making.
+use Rattle.std.specs.Prelude.{◌≡◌, ℕ, ◌<◌, ◌≤◌, List, [], ◌∷◌, ◌++◌, length, All, slice_set}
+use Rattle.rx_nfa.specs.Automaton.{state_at, NamesBelow, IsWithin}
+use Rattle.rx_nfa.specs.declared.state.State.{State}
+
+pub record Draft : Type 0 where
+  pub states : List State
+  -- how many patterns there are, and how many slots
+  pub patterns : ℕ
+  pub slots : ℕ
+
+-- every state, pattern and slot that is named is there
+pub record AreInRange (d : Draft) : Type 0 where
+  pub names : All (NamesBelow (length d.states)) d.states
+  pub within : All (IsWithin d.patterns d.slots) d.states
+  pub few : length d.states ≤ 2147483647
+
+-- one more state
+abbrev pub pushed : Draft → State → Draft
+pushed d state = record d { states = d.states ++ state ∷ [] }
+
+-- another state in place of state q
+abbrev pub patched : Draft → ℕ → State → Draft
+patched d q state = record d { states = slice_set d.states q state }
+
+-- states were added, and none was changed
+pub record Extends (old new : Draft) : Type 0 where
+  pub patterns : new.patterns ≡ old.patterns
+  pub slots : new.slots ≡ old.slots
+  pub longer : length old.states ≤ length new.states
+  pub kept : (q : ℕ) → q < length old.states → state_at new.states q ≡ state_at old.states q

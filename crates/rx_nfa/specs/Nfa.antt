@@ -1,0 +1,56 @@
+-- What an NFA is to a contract, and what it has to do with the patterns that it was built from.
+use Rattle.std.specs.Prelude.{◌≡◌, ℕ, ◌<◌, ◌≤◌, Bool, List, length, All, Option, Some, option_map, slice_get, slice_index}
+use Rattle.std.specs.List.{list_any}
+use Rattle.rx_model.specs.Expression.{Expression}
+use Rattle.rx_model.specs.Look.{Look}
+use Rattle.rx_model.specs.Runs.{first_trace}
+use Rattle.rx_model.specs.Search.{Patterns, told, first, first_of_patterns}
+use Rattle.rx_search.specs.GroupInfo.{slot_count}
+use Rattle.rx_search.specs.LookSet.{has}
+use Rattle.rx_nfa.specs.Automaton.{at, automaton, asks_for, NamesBelow, IsWithin}
+use Rattle.rx_nfa.specs.declared.state.State.{State}
+
+pub record Nfa : Type 0 where
+  pub states : List State
+  -- where the runs of all the patterns start, the first pattern preferred
+  pub start_anchored : ℕ
+  -- where the runs of each pattern start
+  pub starts : List ℕ
+  -- how many slots there are
+  pub slots : ℕ
+  -- the groups of each pattern that have slots, by their names
+  pub groups : List (List (Option (List ℕ)))
+  -- no match is to start inside a character
+  pub utf8 : Bool
+  -- the byte that ends lines, where a look-around asks for that
+  pub terminator : ℕ
+  -- the kinds of look-around that the states ask for, as a set
+  pub looks : ℕ
+  -- each of the patterns begins with the start of the text
+  pub always_start_anchored : Bool
+  -- one of the patterns can match the empty string
+  pub has_empty : Bool
+  -- how many states were accounted for the patterns
+  pub accounted : ℕ
+
+-- every state, pattern and slot that is named is there, the slots are those of the groups, and the look-arounds those of
+-- the states
+pub record IsInRange (nfa : Nfa) : Type 0 where
+  pub start_anchored : nfa.start_anchored < length nfa.states
+  pub starts : All (λ q. q < length nfa.states) nfa.starts
+  pub names : All (NamesBelow (length nfa.states)) nfa.states
+  pub within : All (IsWithin (length nfa.starts) nfa.slots) nfa.states
+  pub slots : nfa.slots ≡ slot_count nfa.groups
+  pub looks : (kind : Look) → has nfa.looks kind ≡ list_any (asks_for kind) nfa.states
+  pub few_states : length nfa.states ≤ 2147483647
+  pub few_patterns : length nfa.starts ≤ 2147483647
+  pub few_accounted : nfa.accounted ≤ 2147483647
+
+-- The first runs of the states are those of the patterns' graphs, with pattern and end, and with slots where captures are
+-- asked for.
+pub record HasFirstRuns (nfa : Nfa) (r : Patterns) : Type 0 where
+  pub patterns : length nfa.starts ≡ length r.expressions
+  pub each : (text : List ℕ) (end p i : ℕ) (h : Expression) → end ≤ length text → slice_get r.expressions p ≡ Some h
+      → first_trace (automaton nfa.terminator nfa.states text end) (at (slice_index nfa.starts p) i) ≡ option_map (told r.which_captures) (first r text end p h i)
+  pub all : (text : List ℕ) (end i : ℕ) → end ≤ length text
+      → first_trace (automaton nfa.terminator nfa.states text end) (at nfa.start_anchored i) ≡ option_map (told r.which_captures) (first_of_patterns r text end 0 r.expressions i)

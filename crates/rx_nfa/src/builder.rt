@@ -1,0 +1,202 @@
+//! An NFA in the making.
+ghost use Rattle.std.specs.Prelude.{◌≡◌, ◌+◌, ◌<◌, ◌≤◌, [], length, All, IfOk, OnOk};
+ghost use Rattle.rx_nfa.specs.Automaton.{NamesBelow, IsWithin};
+ghost use Rattle.rx_model.specs.Graph.{build_state, set};
+ghost use Rattle.rx_model.specs.Text.{scalar_ranges, byte_ranges};
+ghost use Rattle.rx_search.specs.GroupInfo.{slot_count};
+ghost use Rattle.rx_class.specs.ClassViews.{class_view};
+ghost use Rattle.rx_hir.specs.Cost.{states_of_class};
+ghost use Rattle.rx_nfa.specs.Built.{Built};
+ghost use Rattle.rx_nfa.specs.Draft.{pushed, patched};
+ghost use Rattle.rx_nfa.specs.Nfa.{IsInRange};
+
+use crate::State;
+use crate::class::{compile_bytes, compile_class};
+use crate::looks::looks_of;
+use crate::nfa::NFA;
+use crate::nfa::inner::Inner;
+use rx_hir::{Class, ClassBytes, ClassUnicode};
+use rx_search::{GroupInfo, LookMatcher, Memory, StateID};
+use std::alloc::Global;
+use std::marker::Model;
+use std::mem;
+
+/// What an NFA tells beside its states.
+#[derive(Drop)]
+pub struct Facts {
+    pub group_info: GroupInfo,
+    pub utf8: bool,
+    pub look_matcher: LookMatcher,
+    pub always_start_anchored: bool,
+    pub has_empty: bool,
+    pub accounted_states: usize,
+}
+
+/// The states so far. Every state, pattern and slot that they name is there.
+#[derive(Drop)]
+pub struct Builder {
+    states: Vec<State>,
+    pattern_len: usize,
+    slot_len: usize,
+}
+
+impl Model for Builder {
+    ghost use Rattle.rx_nfa.specs.Draft.{Draft, AreInRange};
+
+    ghost Value = { Draft };
+
+    ghost view = { λ b. record {
+      states = b.states.items;
+      patterns = b.pattern_len;
+      slots = b.slot_len;
+    } };
+
+    ghost invariant = { λ b. AreInRange (record {
+      states = b.states.items;
+      patterns = b.pattern_len;
+      slots = b.slot_len;
+    }) };
+}
+
+impl Builder {
+    /// No states yet, for so many patterns and slots.
+    pub fn new(alloc: Global, pattern_len: usize, slot_len: usize) -> Builder
+        ensures { result ≡ record { states = []; patterns = pattern_len; slots = slot_len } }
+    {
+        Builder {
+            states: Vec::new(alloc),
+            pattern_len,
+            slot_len,
+        }
+    }
+
+    /// Appends a state, and answers its number.
+    pub fn push(&mut self, state: State) -> Result<StateID, Memory>
+        requires room { length self.old.states < 2147483647 }
+        requires names { NamesBelow (length self.old.states) state }
+        requires within { IsWithin self.old.patterns self.old.slots state }
+        ensures id { IfOk result (λ id. id ≡ length self.old.states) }
+        ensures states { IfOk result (λ id. self.new ≡ pushed self.old state) }
+    {
+        let id = StateID::new(self.states.len()).unwrap();
+        self.states.push(state)?;
+        Ok(id)
+    }
+
+    /// Appends the states of a class, which go on to the state `next`. Answers where they start. Where there was no
+    /// memory, no states are left.
+    pub fn push_class(
+        &mut self,
+        alloc: Global,
+        class: &Class,
+        next: StateID,
+    ) -> Result<StateID, Memory>
+        requires next { next < length self.old.states }
+        requires room { length self.old.states + states_of_class (class_view class.now) ≤ 2147483647 }
+        ensures built { IfOk result (λ start. Built (build_state (set (class_view class.now))) next self.old self.new start) }
+        ensures inside { IfOk result (λ start. start < length self.new.states) }
+        ensures count { OnOk result (length self.new.states ≤ length self.old.states + states_of_class (class_view class.now)) }
+    {
+        match class {
+            Class::Unicode(scalars) => self.push_scalars(alloc, scalars, next),
+            Class::Bytes(bytes) => self.push_bytes(alloc, bytes, next),
+        }
+    }
+
+    fn push_scalars(
+        &mut self,
+        alloc: Global,
+        scalars: &ClassUnicode,
+        next: StateID,
+    ) -> Result<StateID, Memory>
+        requires next { next < length self.old.states }
+        requires room { length self.old.states + states_of_class (scalar_ranges scalars.now) ≤ 2147483647 }
+        ensures built { IfOk result (λ start. Built (build_state (set (scalar_ranges scalars.now))) next self.old self.new start) }
+        ensures inside { IfOk result (λ start. start < length self.new.states) }
+        ensures count { OnOk result (length self.new.states ≤ length self.old.states + states_of_class (scalar_ranges scalars.now)) }
+    {
+        let ranges = scalars.ranges();
+        let mut states = mem::replace(&mut self.states, Vec::new(alloc));
+        let start = compile_class(alloc, &mut states, ranges, next)?;
+        self.states = states;
+        Ok(start)
+    }
+
+    fn push_bytes(
+        &mut self,
+        alloc: Global,
+        bytes: &ClassBytes,
+        next: StateID,
+    ) -> Result<StateID, Memory>
+        requires next { next < length self.old.states }
+        requires room { length self.old.states < 2147483647 }
+        ensures built { IfOk result (λ start. Built (build_state (set (byte_ranges bytes.now))) next self.old self.new start) }
+        ensures inside { IfOk result (λ start. start < length self.new.states) }
+        ensures count { OnOk result (length self.new.states ≡ length self.old.states + 1) }
+    {
+        let mut states = mem::replace(&mut self.states, Vec::new(alloc));
+        let start = compile_bytes(alloc, &mut states, bytes.ranges(), next)?;
+        self.states = states;
+        Ok(start)
+    }
+
+    /// Puts another state in place of the one of this number.
+    pub fn patch(&mut self, id: StateID, state: State)
+        requires inside { id < length self.old.states }
+        requires names { NamesBelow (length self.old.states) state }
+        requires within { IsWithin self.old.patterns self.old.slots state }
+        ensures { self.new ≡ patched self.old id state }
+    {
+        self.states[id.as_usize()] = state;
+    }
+
+    /// The NFA of these states.
+    pub fn finish(
+        self,
+        alloc: Global,
+        start_anchored: StateID,
+        starts: Vec<StateID>,
+        facts: Facts,
+    ) -> Result<NFA, Memory>
+        requires start { start_anchored < length self.states }
+        requires starts { All (λ q. q < length self.states) starts.items }
+        requires patterns { length starts.items ≡ self.patterns }
+        requires few { self.patterns ≤ 2147483647 }
+        requires slots { self.slots ≡ slot_count facts.group_info }
+        requires accounted { facts.accounted_states ≤ 2147483647 }
+        ensures value { IfOk result (λ nfa. nfa ≡ record {
+          states = self.states;
+          start_anchored = start_anchored;
+          starts = starts.items;
+          slots = self.slots;
+          groups = facts.group_info;
+          utf8 = facts.utf8;
+          terminator = facts.look_matcher;
+          looks = nfa.looks;
+          always_start_anchored = facts.always_start_anchored;
+          has_empty = facts.has_empty;
+          accounted = facts.accounted_states;
+        }) }
+        ensures in_range { IfOk result IsInRange }
+    {
+        let slot_len = self.slot_len;
+        let look_set_any = looks_of(&self.states);
+        let nfa = NFA::new(
+            alloc,
+            Inner {
+                states: self.states,
+                start_anchored,
+                starts,
+                slot_len,
+                group_info: facts.group_info,
+                utf8: facts.utf8,
+                look_matcher: facts.look_matcher,
+                look_set_any,
+                always_start_anchored: facts.always_start_anchored,
+                has_empty: facts.has_empty,
+                accounted_states: facts.accounted_states,
+            },
+        )?;
+        Ok(nfa)
+    }
+}

@@ -1,0 +1,55 @@
+//! Which slots the groups of patterns have.
+ghost use Rattle.std.specs.Prelude.{◌≡◌, ◌+◌, ◌*◌, ◌<◌, ◌≤◌, suc, length, IfSome, option_map};
+ghost use Rattle.rx_model.specs.Search.{greatest_group};
+ghost use Rattle.rx_nfa.specs.Built.{whole_slot};
+ghost use Rattle.rx_nfa.specs.Compiled.{first_slot_of};
+ghost use Rattle.rx_nfa.specs.Config.{captures_kind};
+
+use crate::compiler::config::WhichCaptures;
+use rx_hir::{Hir, greatest_group};
+use rx_search::PatternID;
+
+/// The first slot of the whole match of a pattern.
+pub fn whole_slot(which: WhichCaptures, pattern: PatternID) -> Option<usize>
+    ensures { result ≡ whole_slot (captures_kind which) pattern }
+{
+    match which {
+        WhichCaptures::All => Some(2 * pattern.as_usize()),
+        WhichCaptures::Implicit => Some(2 * pattern.as_usize()),
+        WhichCaptures::None => None,
+    }
+}
+
+/// The first slot of the groups that the first pattern names.
+pub fn first_slot(which: WhichCaptures, exprs: &[Hir]) -> Option<usize>
+    requires { length exprs.now ≤ 2147483647 }
+    ensures { result ≡ first_slot_of (captures_kind which) exprs.now 0 }
+{
+    match which {
+        WhichCaptures::All => Some(2 * exprs.len()),
+        WhichCaptures::Implicit => None,
+        WhichCaptures::None => None,
+    }
+}
+
+/// The first slot of the groups that the pattern after this one names.
+pub fn slot_after(first_slot: Option<usize>, hir: &Hir) -> Option<usize>
+    requires { IfSome first_slot (λ first. first + 2 * greatest_group hir.now ≤ 2147483646) }
+    ensures { result ≡ option_map (λ first. first + 2 * greatest_group hir.now) first_slot }
+{
+    match first_slot {
+        Some(first) => Some(first + 2 * greatest_group(hir)),
+        None => None,
+    }
+}
+
+/// The second slot of a group.
+pub fn second_slot(slot: Option<usize>) -> Option<usize>
+    requires { IfSome slot (λ first. first < 2147483646) }
+    ensures { result ≡ option_map suc slot }
+{
+    match slot {
+        Some(first) => Some(first + 1),
+        None => None,
+    }
+}

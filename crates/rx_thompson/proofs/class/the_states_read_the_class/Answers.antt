@@ -1,8 +1,0 @@
-use Rattle.rx_thompson.proofs.RefinedLemmas.{IsClass-reads, IsByteClass-reads}
-use Rattle.rx_thompson.proofs.class.the_states_read_the_class.Goals as goal
-
-pub returns-clause-scalars : goal.returns-clause-scalars
-returns-clause-scalars c = λ terminator states text end base next q ranges inside k. IsClass-reads terminator states text end base next q ranges inside k
-
-pub returns-clause-bytes : goal.returns-clause-bytes
-returns-clause-bytes c = λ terminator states text end base next q ranges inside below k. IsByteClass-reads terminator states text end base next q ranges inside below k

@@ -1,8 +1,0 @@
-use Rattle.std.proofs.Common.{arith}
-use Rattle.rx_thompson.proofs.ExpressionLemmas.{groups_before-more}
-use Rattle.rx_thompson.proofs.compiler.accounting.all_slot_len.Goals as goal
-
-pub loop-hir-preserved : goal.loop-hir-preserved
-loop-hir-preserved c =
-    let more = groups_before-more c.args.exprs.now c.loop-hir.hir-index c.hir-item.result c.hir-item.result (omega arith) c.hir-item.is in
-    omega arith
