@@ -2,9 +2,9 @@
 
 use rx_engines::backtrack::BoundedBacktracker;
 use rx_engines::pikevm::PikeVM;
+use rx_nfa::{Compiler, NFA};
 use rx_search::{Anchored, Input, Match, MatchKind, NonMaxUsize, PatternID, Span};
 use rx_syntax::parse;
-use rx_nfa::{Compiler, NFA};
 use std::alloc::Global;
 use std::process::Abort;
 use std::test::Fail;
