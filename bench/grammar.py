@@ -5,8 +5,8 @@ usage: bench/grammar.py [MIB [RXSCAN]]   (the size of each input, 1 MiB if left 
 
 Build the program first: `cd crates/rxscan && rt run`. Each input is made from a fixed seed. `grep -aobP` prints the
 places of the matches of one pattern; Python's `re` prints the places of the matches as it counts them, in characters.
-Each job is run three times, and the least time counts. A ratio is rxscan's time over the tool's: below 1, rxscan is the
-faster one. The second table has the whole run over a pattern and no haystack, in milliseconds.
+The jobs of an input take turns, and the least time of each counts. A ratio is rxscan's time over the tool's: below 1,
+rxscan is the faster one. The second table has the whole run over a pattern and no haystack, in milliseconds.
 """
 import os
 import random
