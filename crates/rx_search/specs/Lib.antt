@@ -7,3 +7,4 @@ pub mod Look
 pub mod LookSet
 pub mod GroupInfo
 pub mod GroupTables
+pub mod MatchError
