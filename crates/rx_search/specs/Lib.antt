@@ -7,4 +7,3 @@ pub mod Look
 pub mod LookSet
 pub mod GroupInfo
 pub mod GroupTables
-pub mod MatchError

@@ -1,5 +1,5 @@
 //! The words of a search: identifiers, spans, inputs, matches and groups. It stands on rx_model, and takes word
-//! characters from `unicode` and the reading of UTF-8 from `bstr`.
+//! characters from `unicode`, the reading of UTF-8 from `bstr` and the texts of one error from `thiserror`.
 //!
 //! `PatternID`, `StateID` and `NonMaxUsize` are numbers with a limit; `Memory` is the error of a call that only
 //! want of memory can refuse. An `Input` is what a search is given, and contracts see it as a record. A
