@@ -1,7 +1,7 @@
 use crate::failure::Failure;
 use rx_hir::Hir;
-use rx_syntax::{ParseError, parse};
 use rx_nfa::{BuildError, Compiler, NFA};
+use rx_syntax::{ParseError, parse};
 use std::alloc::Global;
 use std::slice;
 
