@@ -1,16 +1,19 @@
 -- From what is read and what rx_nfa answers to what a build answers.
-use Rattle.std.proofs.Common.{◌≡◌, ℕ, ◌≤◌, List, length, sym, ap, ◌∙◌, subst}
-use Rattle.std.specs.Prelude.{Result, Ok, Err}
+use Rattle.std.proofs.Common.{◌≡◌, ℕ, ◌≤◌, List, length, sym, ◌∙◌, subst, arith}
+use Rattle.std.specs.Prelude.{Result, Ok, Err, OnOk, IfOk}
 use Rattle.rx_model.specs.Expression.{Expression}
-use Rattle.rx_nfa.specs.Compiled.{IsRefusal}
+use Rattle.rx_nfa.specs.Compiled.{AreAllowed, IsCompiled, IsRefusal}
+use Rattle.rx_nfa.specs.Nfa.{Nfa}
 use Rattle.rx_nfa.specs.declared.compiler.config.Config.{Config}
 use Rattle.rx_nfa.specs.declared.error.BuildError.{BuildError as NfaError}
 use Rattle.rx_nfa.specs.declared.error.BuildError.TheVariants.{TooManyPatterns as ManyPatterns, TooManyGroups as ManyGroups, TooManyStates as ManyStates, ExceededSizeLimit as ExceededLimit, Memory as NoMemory}
+use Rattle.rx_reader.specs.declared.config.Config.{Config as Grammar}
 use Rattle.rx_syntax.specs.Patterns.{Refusal, RefusesAll}
 use Rattle.rx_syntax.specs.declared.patterns.PatternsError.{PatternsError}
 use Rattle.rx_syntax.specs.declared.patterns.PatternsError.TheVariants.{Syntax as Refused, Memory as NoMemoryToRead}
 use Rattle.rx_thompson.specs.Error.{error_of, syntax_error_of}
-use Rattle.rx_thompson.specs.Build.{IsRefused, IsRefusedOf, IsRefusedAfter}
+use Rattle.rx_thompson.specs.Build.{reading_of, IsBuiltOf, IsRefused, IsRefusedOf, IsRefusedAfter, IsRefusedFor}
+use Rattle.rx_thompson.proofs.ReadingLemmas.{all-read}
 use Rattle.rx_thompson.specs.declared.error.BuildError.{BuildError}
 use Rattle.rx_thompson.specs.declared.error.BuildError.TheVariants.{Syntax, TooManyPatterns, TooManyGroups, TooManyStates, ExceededSizeLimit, Memory}
 
@@ -39,6 +42,18 @@ refused-after reading config count hs same (TooManyGroups given limit) is = (hs,
 refused-after reading config count hs same (TooManyStates given limit) is = (hs, same, is)
 refused-after reading config count hs same (ExceededSizeLimit limit size) is = (hs, same, is)
 refused-after reading config count hs same Memory is = tt
+
+-- so many patterns as there are
+pub refused-for : (syntax : Grammar) (config : Config) (texts : List (List ℕ)) (count : ℕ) (hs : List Expression) → count ≡ length texts → reading_of syntax texts ≡ Ok hs
+    → (e : BuildError) → IsRefusedOf config count hs e → IsRefusedFor syntax config texts e
+refused-for syntax config texts count hs counted same e is =
+    refused-after (reading_of syntax texts) config (length texts) hs same e (subst (λ n. IsRefusedOf config n hs e) counted is)
+
+pub built-of : (syntax : Grammar) (config : Config) (texts : List (List ℕ)) (count : ℕ) (hs : List Expression) → count ≡ length texts → reading_of syntax texts ≡ Ok hs
+    → (r : Result Nfa BuildError) → OnOk r (count ≤ 2147483647) → IfOk r (IsCompiled config hs) → OnOk r (AreAllowed config hs) → IfOk r (IsBuiltOf syntax config texts)
+built-of syntax config texts count hs counted same (Ok nfa) few compiled allowed =
+    record { expressions = hs; read = sym (all-read syntax texts (omega arith)) ∙ same; compiled = compiled; allowed = allowed }
+built-of syntax config texts count hs counted same (Err e) few compiled allowed = tt
 
 -- patterns of which one is refused
 pub refused-reading : (reading : Result (List Expression) Refusal) (config : Config) (count : ℕ) (e : PatternsError) → RefusesAll e reading → IsRefusedAfter reading config count (syntax_error_of e)

@@ -1,10 +1,8 @@
 -- Which patterns are read.
 use Rattle.std.proofs.Common.{◌≡◌, ℕ, ◌≤◌, min, List, Bor, length, take, map, sym, ap, ◌∙◌, arith}
-use Rattle.std.proofs.lemmas.List.{take_min, take_all, take-map, length-map, length-take}
-use Rattle.std.specs.Prelude.{Result, Ok, Err}
-use Rattle.rx_model.specs.Expression.{Expression}
+use Rattle.std.proofs.lemmas.List.{take_min, take_all, take-map, length-map}
 use Rattle.rx_reader.specs.declared.config.Config.{Config as Grammar}
-use Rattle.rx_syntax.specs.Patterns.{Refusal, each_read}
+use Rattle.rx_syntax.specs.Patterns.{each_read}
 use Rattle.rx_thompson.specs.Build.{reading_of}
 
 -- the texts of a list of references
@@ -16,10 +14,6 @@ pub first-texts : (ps : List (Bor (List ℕ))) (n k : ℕ) → k ≡ min (length
 first-texts ps n k is =
     let other : k ≡ min n (length (texts_of ps)) = omega (arith, is, length-map ps (λ (p : Bor (List ℕ)). p.now)) in
     sym (take-map (λ (p : Bor (List ℕ)). p.now) k ps) ∙ ap (λ j. take j (texts_of ps)) other ∙ take_min n (texts_of ps)
-
--- all of them, where there are no more
-pub first-count : (ps : List (Bor (List ℕ))) (n k count : ℕ) → k ≡ min (length ps) n → count ≡ length (take k ps) → length ps ≤ n → count ≡ length ps
-first-count ps n k count is counted few = omega (arith, is, counted, few, length-take k ps)
 
 -- what is read is what the patterns up to the limit read as
 pub first-read : (syntax : Grammar) (ps : List (Bor (List ℕ))) (k : ℕ) → k ≡ min (length ps) 2147483647 → each_read syntax (texts_of (take k ps)) ≡ reading_of syntax (texts_of ps)
