@@ -1,4 +1,4 @@
-use Rattle.std.proofs.Common.{◌≡◌, ℕ, List, Bor, map, ◌≤◌, ◌<◌, length, refl, sym, ap, ◌∙◌, subst, arith}
+use Rattle.std.proofs.Common.{◌≡◌, ℕ, List, Bor, map, ◌≤◌, ◌<◌, length, sym, ap, ◌∙◌, subst, arith}
 use Rattle.rx_syntax.specs.Patterns.{each_read, RefusesAll, IsWithin, error_at}
 use Rattle.rx_syntax.specs.declared.patterns.PatternsError.{PatternsError}
 use Rattle.rx_syntax.proofs.PatternsLemmas.{Gathers-begun, Gathers-more, Gathers-over, Gathers-fails, error_at-within, each_answer, each_answer-at, length-each_answer, expression_of}
