@@ -7,13 +7,8 @@ use Rattle.rx_model.proofs.RunLemmas.{by_test, weight, weight-less}
 use Rattle.rx_nfa.specs.Automaton.{at, state_at}
 use Rattle.rx_nfa.specs.declared.state.State.{State}
 use Rattle.rx_engines.specs.Threads.{has}
-use Rattle.rx_engines.specs.Simulation.{cost, cost_below, passed_at}
+use Rattle.rx_engines.specs.Simulation.{cost, cost_below, line, cost_at, passed_at}
 use Rattle.rx_engines.proofs.SimulationLemmas.{passed_at-has, passed_at-push}
-
--- the states below n, at place i
-abbrev pub line : ℕ → ℕ → List Configuration
-line zero i = []
-line (suc n) i = at n i ∷ line n i
 
 pub line-has : (n i q : ℕ) → q < n → is_among (line n i) (at q i) ≡ true
 line-has zero i q lt = absurd (omega arith)
@@ -31,10 +26,6 @@ line-count zero i p = omega arith
 line-count (suc n) i p =
     let h = line-count n i p in
     by_test (p (at n i)) (λ e. rw e (omega arith)) (λ e. rw e (omega arith))
-
--- the frames that the states which are left will leave
-abbrev pub cost_at : List State → Configuration → ℕ
-cost_at states c = cost (state_at states c.state)
 
 pub line-cost : (states : List State) (n i : ℕ) (p : Passed) → weight (cost_at states) (line n i) p ≤ cost_below states n
 unfolding weight cost_below

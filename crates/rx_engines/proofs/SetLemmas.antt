@@ -5,8 +5,8 @@ use Rattle.std.proofs.lemmas.Bool.Decides.{nat_tests, Decides-eqb}
 use Rattle.std.specs.Prelude.{true, false, ◌==◌}
 use Rattle.rx_model.proofs.RunLemmas.{by_test, weight}
 use Rattle.rx_engines.specs.Threads.{has, IsSparse}
-use Rattle.rx_engines.specs.Simulation.{passed_at}
-use Rattle.rx_engines.proofs.LineLemmas.{line, line-count, count-less}
+use Rattle.rx_engines.specs.Simulation.{line, passed_at}
+use Rattle.rx_engines.proofs.LineLemmas.{line-count, count-less}
 
 pub has-get : (xs : List ℕ) (k q : ℕ) → k < length xs → get_or xs k 0 ≡ q → has xs q ≡ true
 has-get [] k q lt e = absurd (omega arith)

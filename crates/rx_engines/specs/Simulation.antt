@@ -3,6 +3,7 @@ use Rattle.std.specs.Prelude.{◌≡◌, ◌⊎◌, ℕ, zero, suc, ◌+◌, ◌
 use Rattle.std.specs.Option.{option_or}
 use Rattle.rx_model.specs.Runs.{Trace, Configuration, PriorityGraph, Passed, nowhere, and_at, found, is_among}
 use Rattle.rx_model.specs.Search.{Match, is_permitted, first_start}
+use Rattle.rx_model.proofs.RunLemmas.{weight}
 use Rattle.rx_nfa.specs.Automaton.{at, automaton, state_at, route}
 use Rattle.rx_nfa.specs.declared.state.Transition.{Transition}
 use Rattle.rx_engines.specs.Walk.{Slots, Answer, answer, pending, write_all, Expands}
@@ -11,6 +12,8 @@ use Rattle.rx_nfa.specs.declared.state.State.TheVariants.{ByteRange, Sparse, Loo
 use Rattle.rx_engines.specs.declared.frame.Frame.{Frame}
 use Rattle.rx_engines.specs.declared.frame.Frame.TheVariants.{Explore, Restore}
 use Rattle.rx_engines.specs.Threads.{Row, row_at}
+use Rattle.rx_engines.specs.declared.pikevm.close.Move.{Move}
+use Rattle.rx_engines.specs.declared.pikevm.close.Move.TheVariants.{Rest, On, Back}
 use Rattle.rx_engines.specs.declared.pikevm.step.Action.{Action}
 use Rattle.rx_engines.specs.declared.pikevm.step.Action.TheVariants.{Accept, Read, Nothing}
 
@@ -39,9 +42,21 @@ is_resting (Capture next pattern slot) = false
 is_resting Fail = false
 is_resting (Accepts pattern) = true
 
+-- the states below n, at place i
+abbrev pub line : ℕ → ℕ → List Configuration
+line zero i = []
+line (suc n) i = at n i ∷ line n i
+
+abbrev pub cost_at : List State → Configuration → ℕ
+cost_at states c = cost (state_at states c.state)
+
 -- the states of the list, at place i
 abbrev pub passed_at : List ℕ → ℕ → Passed
 passed_at items i c = is_among (map (λ q. at q i) items) c
+
+-- how many frames the states that are not in the list will leave at place i
+abbrev pub frames_to_come : List State → (i : ℕ) → List ℕ → ℕ
+frames_to_come states i items = weight (cost_at states) (line (length states) i) (passed_at items i)
 
 -- an answer with the start of its match
 abbrev pub Hit : Type 0
@@ -83,6 +98,23 @@ abbrev pub Visited : (terminator : ℕ) → List State → List ℕ → ℕ → 
 Visited terminator states text q i true frames frames' slots slots' = (is_resting (state_at states q) ≡ true) × (frames' ≡ frames) × (slots' ≡ slots)
 Visited terminator states text q i false frames frames' slots slots' =
     (is_resting (state_at states q) ≡ false) × ((end : ℕ) → i ≤ end → Expands (automaton terminator states text end) (at q i) frames frames' slots slots')
+
+-- on to this state, if there is one
+abbrev pub move_of : Option ℕ → Move
+move_of None = Back
+move_of (Some q) = On q
+
+-- the state that was looked at rests
+abbrev pub rests : Move → Bool
+rests Rest = true
+rests (On next) = false
+rests Back = false
+
+-- the frames of a walk that does this next at place i, above those of its stack
+abbrev pub going_on : Move → (i : ℕ) → List Frame → List Frame
+going_on Rest i frames = frames
+going_on (On next) i frames = Explore next i ∷ frames
+going_on Back i frames = frames
 
 -- the byte at the place, if it lies before the end
 abbrev pub byte_at : List ℕ → (end place : ℕ) → Option ℕ

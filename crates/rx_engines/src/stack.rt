@@ -1,6 +1,7 @@
 ghost use Rattle.std.specs.Prelude.{◌≡◌, ◌+◌, ◌<◌, ◌≤◌, vec_capacity, [], ◌∷◌, ◌++◌, length, map, reverse, IfOk, IfSome, IfNone};
 ghost use Rattle.rx_nfa.specs.Automaton.{at};
 ghost use Rattle.rx_engines.specs.Walk.{explore_all};
+ghost use Rattle.rx_engines.specs.Backtrack.{frames_of, onto};
 ghost use Rattle.rx_engines.specs.Threads.{Frames, frames_code};
 
 use crate::frame::Frame;
@@ -63,19 +64,22 @@ impl Stack {
     }
 }
 
-/// Puts the states on the stack, the first one on top.
-pub fn push_all(stack: &mut Stack, alternates: &[StateID], place: usize)
-    requires { length stack.old.items + length alternates.now ≤ stack.old.room }
-    ensures { stack.new ≡ record stack.old {
-      items = explore_all (map (λ q. at q place) alternates.now) ++ stack.old.items;
-    } }
+/// The first of the states. The others are on the stack, the preferred one on top.
+pub fn choose(alternates: &[StateID], place: usize, stack: &mut Stack) -> Option<StateID>
+    requires { length alternates.now + length stack.old.items ≤ stack.old.room }
+    ensures chosen { frames_of (onto result place) stack.new.items
+        ≡ explore_all (map (λ q. at q place) alternates.now) ++ stack.old.items }
+    ensures frames { length stack.new.items ≤ length alternates.now + length stack.old.items }
+    ensures room { stack.new.room ≡ stack.old.room }
 {
+    let first = alternates.first()?;
     let mut left = alternates.len();
-    while left > 0 {
+    while left > 1 {
         left -= 1;
         stack.push(Frame::Explore {
             state: alternates[left],
             place,
         });
     }
+    Some(*first)
 }

@@ -9,7 +9,7 @@ ghost use Rattle.rx_engines.specs.Backtrack.{IsInside, AllInside, graph_for, fra
 use crate::backtrack::search::Search;
 use crate::frame::Frame;
 use crate::slots::Slot;
-use crate::stack::Stack;
+use crate::stack::{Stack, choose};
 use rx_nfa::{State, Transition, matches_byte};
 use rx_search::{Look, PatternID, StateID};
 
@@ -123,26 +123,6 @@ fn toward(next: Option<StateID>, place: usize) -> Onward
         Some(state) => Onward::To { state, place },
         None => Onward::Back,
     }
-}
-
-/// The first of the states. The others are on the stack, the preferred one on top.
-fn choose(alternates: &[StateID], place: usize, stack: &mut Stack) -> Option<StateID>
-    requires { length alternates.now + length stack.old.items ≤ stack.old.room }
-    ensures chosen { frames_of (onto result place) stack.new.items
-        ≡ explore_all (map (λ q. at q place) alternates.now) ++ stack.old.items }
-    ensures frames { length stack.new.items ≤ length alternates.now + length stack.old.items }
-    ensures room { stack.new.room ≡ stack.old.room }
-{
-    let first = alternates.first()?;
-    let mut left = alternates.len();
-    while left > 1 {
-        left -= 1;
-        stack.push(Frame::Explore {
-            state: alternates[left],
-            place,
-        });
-    }
-    Some(*first)
 }
 
 /// Writes the place into the slot, where there is room for it. The old value is on the stack.

@@ -1,37 +1,49 @@
-ghost use Rattle.std.specs.Prelude.{◌≡◌, ℕ, ◌+◌, ◌<◌, ◌≤◌, List, [], ◌∷◌, ◌++◌, length, Option};
-ghost use Rattle.rx_model.specs.Runs.{Configuration, Passed};
+ghost use Rattle.std.specs.Prelude.{◌≡◌, ℕ, ◌+◌, ◌<◌, ◌≤◌, List, [], ◌∷◌, length, Option, Some, None, if◌then◌else◌};
+ghost use Rattle.rx_model.specs.Look.{holds};
+ghost use Rattle.rx_model.specs.Runs.{Passed};
+ghost use Rattle.rx_search.specs.Look.{kind_of};
 ghost use Rattle.rx_nfa.specs.Automaton.{automaton, state_at};
 ghost use Rattle.rx_engines.specs.declared.frame.Frame.TheVariants.{Explore};
-ghost use Rattle.rx_engines.specs.Walk.{explore_all, looked};
 ghost use Rattle.rx_engines.specs.Search.{IsInside};
-ghost use Rattle.rx_engines.specs.Simulation.{cost, cost_below, Hit, IsStable, Waits, Closed, Visited, AllHere};
+ghost use Rattle.rx_engines.specs.Simulation.{cost, cost_below, frames_to_come, Hit, IsStable, Waits, Closed, Visited, move_of, rests, going_on, AllHere};
 
 use crate::frame::Frame;
 use crate::pikevm::search::Search;
 use crate::pikevm::threads::Threads;
 use crate::slots::{Slot, read, write};
-use crate::stack::{Stack, push_all};
+use crate::stack::{Stack, choose};
 use rx_nfa::State;
 use rx_search::{Look, StateID};
 
-/// Whether the state rests. Else the stack and the slots go on from it.
+/// What a walk does after a look at a state.
+#[derive(Clone, Copy)]
+pub enum Move {
+    /// It leaves a thread that rests at the state.
+    Rest,
+    /// It goes on to this state at the same place.
+    On(StateID),
+    /// It comes back to the stack.
+    Back,
+}
+
+/// Looks at the state. The stack gets what the walk comes back to.
 pub fn visit(
     search: &Search<'_>,
     state: StateID,
     place: usize,
     stack: &mut Stack,
     slots: &mut [Slot],
-) -> bool
+) -> Move
     requires search { IsInside search.now }
     requires state { state < length search.now.states.now }
     requires place { place ≤ length search.now.text.now }
     requires room { cost (state_at search.now.states.now state) + length stack.old.items ≤ stack.old.room }
     requires inside { AllHere (length search.now.states.now) place stack.old.items }
-    ensures visited { Visited search.now.matcher search.now.states.now search.now.text.now state place result stack.old.items stack.new.items
-        slots.old slots.new }
-    ensures frames { length stack.new.items
+    ensures visited { Visited search.now.matcher search.now.states.now search.now.text.now state place (rests result) stack.old.items
+        (going_on result place stack.new.items) slots.old slots.new }
+    ensures frames { length (going_on result place stack.new.items)
         ≤ cost (state_at search.now.states.now state) + length stack.old.items }
-    ensures inside { AllHere (length search.now.states.now) place stack.new.items }
+    ensures inside { AllHere (length search.now.states.now) place (going_on result place stack.new.items) }
     ensures room { stack.new.room ≡ stack.old.room }
     ensures width { length slots.new ≡ length slots.old }
 {
@@ -42,36 +54,90 @@ pub fn visit(
                 slot: *slot,
                 old: read(slots, *slot),
             });
-            stack.push(Frame::Explore {
-                state: *next,
-                place,
-            });
             write(slots, *slot, Slot::at(place));
-            false
+            Move::On(*next)
         }
         State::Look { look, next } => {
-            look_on(search, *look, *next, place, stack);
-            false
+            let next = look_on(search, *look, *next, place);
+            onward(next)
         }
         State::Union { alternates } => {
-            push_all(stack, alternates.as_slice(), place);
-            false
+            let first = choose(alternates.as_slice(), place, stack);
+            onward(first)
         }
-        State::Fail => false,
-        State::ByteRange { .. } | State::Sparse { .. } | State::Match { .. } => true,
+        State::Fail => Move::Back,
+        State::ByteRange { .. } | State::Sparse { .. } | State::Match { .. } => Move::Rest,
     }
 }
 
-/// Goes on to the state, where the look-around holds at the place in the whole text.
-fn look_on(search: &Search<'_>, look: Look, next: StateID, place: usize, stack: &mut Stack)
-    requires place { place ≤ length search.now.text.now }
-    requires room { length stack.old.items < stack.old.room }
-    ensures { stack.new ≡ record stack.old {
-      items = explore_all (looked search.now.matcher search.now.text.now look next place) ++ stack.old.items;
-    } }
+/// The state, where the look-around holds at the place in the whole text.
+fn look_on(search: &Search<'_>, look: Look, next: StateID, place: usize) -> Option<StateID>
+    requires { place ≤ length search.now.text.now }
+    ensures { result ≡ (if holds search.now.matcher search.now.text.now (kind_of look) place then Some next else None) }
 {
     if search.matcher.matches(look, search.text, place) {
-        stack.push(Frame::Explore { state: next, place });
+        Some(next)
+    } else {
+        None
+    }
+}
+
+/// On to the state, if there is one.
+fn onward(next: Option<StateID>) -> Move
+    ensures { result ≡ move_of next }
+{
+    match next {
+        Some(state) => Move::On(state),
+        None => Move::Back,
+    }
+}
+
+/// Follows the preferred way from the state, over those that read no byte, as far as it is new. It leaves a thread where
+/// the way comes to rest.
+fn follow(
+    search: &Search<'_>,
+    from: StateID,
+    place: usize,
+    start: usize,
+    threads: &mut Threads,
+    stack: &mut Stack,
+    slots: &mut [Slot],
+)
+    requires search { IsInside search.now }
+    requires from { from < length search.now.states.now }
+    requires place { place ≤ length search.now.text.now }
+    requires set { threads.old.set.room ≡ length search.now.states.now }
+    requires table { length threads.old.table.items ≡ length search.now.states.now }
+    requires width { length slots.old ≡ threads.old.table.width }
+    requires frames { frames_to_come search.now.states.now place threads.old.set.items + length stack.old.items ≤ stack.old.room }
+    requires inside { AllHere (length search.now.states.now) place stack.old.items }
+    ensures followed { (end : ℕ) (later : Passed → Option Hit) (goal : Option Hit)
+        → place ≤ end
+        → IsStable (automaton search.now.matcher search.now.states.now search.now.text.now end) later
+        → Waits search.now.states.now (automaton search.now.matcher search.now.states.now search.now.text.now end) place start later
+        threads.old.set.items threads.old.table.items (Explore from place ∷ stack.old.items) slots.old goal
+        → Waits search.now.states.now (automaton search.now.matcher search.now.states.now search.now.text.now end) place start later
+        threads.new.set.items threads.new.table.items stack.new.items slots.new goal }
+    ensures inside { AllHere (length search.now.states.now) place stack.new.items }
+    ensures less { frames_to_come search.now.states.now place threads.new.set.items + length stack.new.items
+        ≤ frames_to_come search.now.states.now place threads.old.set.items + length stack.old.items }
+    ensures set { threads.new.set.room ≡ threads.old.set.room }
+    ensures table { length threads.new.table.items ≡ length threads.old.table.items }
+    ensures width { threads.new.table.width ≡ threads.old.table.width }
+    ensures widest { threads.new.table.widest ≡ threads.old.table.widest }
+    ensures slots { length slots.new ≡ length slots.old }
+    ensures stack { stack.new.room ≡ stack.old.room }
+{
+    let mut state = from;
+    while threads.set.insert(state) {
+        match visit(search, state, place, stack, slots) {
+            Move::Rest => {
+                threads.table.set(state, start, slots);
+                return;
+            }
+            Move::On(next) => state = next,
+            Move::Back => return,
+        }
     }
 }
 
@@ -108,16 +174,12 @@ pub fn close(
     ensures empty { stack.new.items ≡ [] }
     ensures stack { stack.new.room ≡ stack.old.room }
 {
-    stack.push(Frame::Explore { state, place });
+    follow(search, state, place, start, threads, stack, slots);
     while let Some(frame) = stack.pop() {
         match frame {
             Frame::Restore { slot, old } => write(slots, slot, old),
             Frame::Explore { state, .. } => {
-                if threads.set.insert(state) {
-                    if visit(search, state, place, stack, slots) {
-                        threads.table.set(state, start, slots);
-                    }
-                }
+                follow(search, state, place, start, threads, stack, slots);
             }
         }
     }

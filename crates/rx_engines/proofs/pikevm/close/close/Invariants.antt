@@ -1,11 +1,9 @@
 use Rattle.std.proofs.Common.{◌≡◌, ◌+◌, ◌∷◌, ◌≤◌, [], length, ℕ}
 use Rattle.std.specs.Prelude.{Option}
 use Rattle.rx_model.specs.Runs.{Passed}
-use Rattle.rx_model.proofs.RunLemmas.{weight}
 use Rattle.rx_nfa.specs.Automaton.{automaton}
 use Rattle.rx_engines.specs.declared.frame.Frame.TheVariants.{Explore}
-use Rattle.rx_engines.specs.Simulation.{Hit, Waits, IsStable, AllHere, passed_at}
-use Rattle.rx_engines.proofs.LineLemmas.{line, cost_at}
+use Rattle.rx_engines.specs.Simulation.{Hit, Waits, IsStable, AllHere, frames_to_come}
 use Rattle.rx_engines.proofs.pikevm.close.close.Given as goal
 
 abbrev pub invariant-loop-frame : goal.invariant-loop-frame
@@ -14,7 +12,7 @@ invariant-loop-frame l = record {
       → Waits l.search.states.now (automaton l.search.matcher l.search.states.now l.search.text.now end) l.place l.start later l.fn.threads.set.items l.fn.threads.table.items (Explore l.fn.state l.place ∷ []) l.fn.slots goal
       → Waits l.search.states.now (automaton l.search.matcher l.search.states.now l.search.text.now end) l.place l.start later l.threads.set.items l.threads.table.items l.stack.items l.slots goal;
   here : AllHere (length l.search.states.now) l.place l.stack.items;
-  few : weight (cost_at l.search.states.now) (line (length l.search.states.now) l.place) (passed_at l.threads.set.items l.place) + length l.stack.items ≤ l.stack.room;
+  few : frames_to_come l.search.states.now l.place l.threads.set.items + length l.stack.items ≤ l.stack.room;
   room : l.threads.set.room ≡ length l.search.states.now;
   rows : length l.threads.table.items ≡ length l.search.states.now;
   width : l.threads.table.width ≡ l.fn.threads.table.width;
@@ -24,5 +22,4 @@ invariant-loop-frame l = record {
 }
 
 abbrev pub decreases-loop-frame : goal.decreases-loop-frame
-decreases-loop-frame l =
-    weight (cost_at l.search.states.now) (line (length l.search.states.now) l.place) (passed_at l.threads.set.items l.place) + length l.stack.items
+decreases-loop-frame l = frames_to_come l.search.states.now l.place l.threads.set.items + length l.stack.items

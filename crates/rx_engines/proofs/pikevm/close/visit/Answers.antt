@@ -1,9 +1,13 @@
-use Rattle.std.proofs.Common.{refl, ap, arith, length}
-use Rattle.rx_engines.proofs.WalkLemmas.{Expands-unwritten, Expands-written}
+use Rattle.std.proofs.Common.{◌≡◌, ◌++◌, ◌∷◌, refl, ◌∙◌, ap, arith, length}
+use Rattle.std.specs.Prelude.{map}
+use Rattle.rx_nfa.specs.Automaton.{at}
 use Rattle.rx_nfa.proofs.StateLemmas.{state-known, names-known}
+use Rattle.rx_engines.specs.declared.frame.Frame.TheVariants.{Explore}
 use Rattle.rx_engines.specs.Threads.{Frames}
-use Rattle.rx_engines.specs.Simulation.{is_resting, cost}
-use Rattle.rx_engines.proofs.CloseLemmas.{AllHere-union, union-length, AllHere-looked, looked-length}
+use Rattle.rx_engines.specs.Walk.{explore_all, looked}
+use Rattle.rx_engines.specs.Simulation.{is_resting, cost, move_of, going_on}
+use Rattle.rx_engines.proofs.WalkLemmas.{Expands-unwritten, Expands-written}
+use Rattle.rx_engines.proofs.CloseLemmas.{AllHere-union, union-length, AllHere-looked, looked-length, going-onto, going-looked, Visited-onward}
 use Rattle.rx_engines.proofs.pikevm.close.visit.Goals as goal
 
 pub returns-in-Capture-clause-visited : goal.returns-in-Capture-clause-visited
@@ -11,29 +15,30 @@ returns-in-Capture-clause-visited c =
     let is = state-known c.args.search.now.states.now _ c.args.state _ _ c.as_usize.ensures.value c.requires.state c.index-states-as_usize.is c.in-Capture.is in (
       ap is_resting is,
       λ end le. Expands-written c.args.search.now.matcher c.args.search.now.states.now c.args.search.now.text.now end c.args.state c.args.place c.requires.state le _ c.in-Capture.slot is refl refl _ _ _ _
-          (ap (λ (f : Frames). f.items) (rw (c.push.ensures, c.read.ensures) at c.push-in-Capture.ensures)) (rw c.at.ensures at c.write.ensures),
+          (ap (λ (f : Frames). Explore c.in-Capture.next c.args.place ∷ f.items) (rw c.read.ensures at c.push.ensures)) (rw c.at.ensures at c.write.ensures),
     )
 
 pub returns-in-Union-clause-visited : goal.returns-in-Union-clause-visited
 returns-in-Union-clause-visited c =
-    let is = state-known c.args.search.now.states.now _ c.args.state _ _ c.as_usize.ensures.value c.requires.state c.index-states-as_usize.is c.in-Union.is in (
-      ap is_resting is,
-      λ end le. Expands-unwritten c.args.search.now.matcher c.args.search.now.states.now c.args.search.now.text.now end c.args.state c.args.place c.requires.state le _ is refl refl _ _ _
-          (ap (λ (f : Frames). f.items) (rw c.as_slice.ensures at c.push_all.ensures)),
-    )
+    let is = state-known c.args.search.now.states.now _ c.args.state _ _ c.as_usize.ensures.value c.requires.state c.index-states-as_usize.is c.in-Union.is in
+    let left = c.choose-first.new.stack.items in
+    rw c.onward-in-Union.ensures
+    (Visited-onward c.args.search.now.matcher c.args.search.now.states.now c.args.search.now.text.now c.args.state c.args.place c.choose-first.result _ left _ _ (ap is_resting is)
+    (λ end le. Expands-unwritten c.args.search.now.matcher c.args.search.now.states.now c.args.search.now.text.now end c.args.state c.args.place c.requires.state le _ is refl refl _ _ _
+    (going-onto c.choose-first.result c.args.place left ∙ rw c.as_slice.ensures at c.choose-first.ensures.chosen)))
 
 pub returns-in-Union-clause-frames : goal.returns-in-Union-clause-frames
 returns-in-Union-clause-frames c =
     let is = state-known c.args.search.now.states.now _ c.args.state _ _ c.as_usize.ensures.value c.requires.state c.index-states-as_usize.is c.in-Union.is in
     let size = ap cost is in
-    let now = ap (λ (f : Frames). length f.items) (rw c.as_slice.ensures at c.push_all.ensures) in
+    let now = ap length (going-onto c.choose-first.result c.args.place c.choose-first.new.stack.items ∙ rw c.as_slice.ensures at c.choose-first.ensures.chosen) in
     let many = union-length c.in-Union.alternates c.args.place c.args.stack.now.items in
-    omega arith
+    rw c.onward-in-Union.ensures (omega arith)
 
 pub returns-in-Union-clause-inside : goal.returns-in-Union-clause-inside
 returns-in-Union-clause-inside c =
     let is = state-known c.args.search.now.states.now _ c.args.state _ _ c.as_usize.ensures.value c.requires.state c.index-states-as_usize.is c.in-Union.is in
-    rw (c.push_all.ensures, c.as_slice.ensures)
+    rw (c.onward-in-Union.ensures, going-onto c.choose-first.result c.args.place c.choose-first.new.stack.items, c.choose-first.ensures.chosen, c.as_slice.ensures)
     (AllHere-union _ _ _ _ (names-known c.args.search.now.states.now c.args.state _ c.requires.search.names c.requires.state is) c.requires.inside)
 
 pub returns-in-Fail-clause-visited : goal.returns-in-Fail-clause-visited
@@ -43,31 +48,26 @@ returns-in-Fail-clause-visited c =
       λ end le. Expands-unwritten c.args.search.now.matcher c.args.search.now.states.now c.args.search.now.text.now end c.args.state c.args.place c.requires.state le _ is refl refl _ _ _ refl,
     )
 
-pub look_on-requires-clause-room : goal.look_on-requires-clause-room
-look_on-requires-clause-room c =
-    let is = state-known c.args.search.now.states.now _ c.args.state _ _ c.as_usize.ensures.value c.requires.state c.index-states-as_usize.is c.in-Look.is in
-    let size = ap cost is in
-    let room = c.requires.room in
-    omega arith
-
 pub returns-in-Look-clause-visited : goal.returns-in-Look-clause-visited
 returns-in-Look-clause-visited c =
-    let is = state-known c.args.search.now.states.now _ c.args.state _ _ c.as_usize.ensures.value c.requires.state c.index-states-as_usize.is c.in-Look.is in (
-      ap is_resting is,
-      λ end le. Expands-unwritten c.args.search.now.matcher c.args.search.now.states.now c.args.search.now.text.now end c.args.state c.args.place c.requires.state le _ is refl refl _ _ _
-          (ap (λ (f : Frames). f.items) c.look_on.ensures),
-    )
+    let is = state-known c.args.search.now.states.now _ c.args.state _ _ c.as_usize.ensures.value c.requires.state c.index-states-as_usize.is c.in-Look.is in
+    let goes = rw c.look_on-next.ensures at c.onward.ensures in
+    rw goes
+    (Visited-onward c.args.search.now.matcher c.args.search.now.states.now c.args.search.now.text.now c.args.state c.args.place _ _ c.args.stack.now.items _ _ (ap is_resting is)
+    (λ end le. Expands-unwritten c.args.search.now.matcher c.args.search.now.states.now c.args.search.now.text.now end c.args.state c.args.place c.requires.state le _ is refl refl _ _ _
+    (going-looked _ c.in-Look.next c.args.place c.args.stack.now.items)))
 
 pub returns-in-Look-clause-frames : goal.returns-in-Look-clause-frames
 returns-in-Look-clause-frames c =
     let is = state-known c.args.search.now.states.now _ c.args.state _ _ c.as_usize.ensures.value c.requires.state c.index-states-as_usize.is c.in-Look.is in
+    let goes = rw c.look_on-next.ensures at c.onward.ensures in
     let size = ap cost is in
-    let now = ap (λ (f : Frames). length f.items) c.look_on.ensures in
     let one = looked-length c.args.search.now.matcher c.args.search.now.text.now c.in-Look.look c.in-Look.next c.args.place c.args.stack.now.items in
-    omega arith
+    rw (goes, going-looked _ c.in-Look.next c.args.place c.args.stack.now.items) (omega arith)
 
 pub returns-in-Look-clause-inside : goal.returns-in-Look-clause-inside
 returns-in-Look-clause-inside c =
     let is = state-known c.args.search.now.states.now _ c.args.state _ _ c.as_usize.ensures.value c.requires.state c.index-states-as_usize.is c.in-Look.is in
-    rw c.look_on.ensures
+    let goes = rw c.look_on-next.ensures at c.onward.ensures in
+    rw (goes, going-looked _ c.in-Look.next c.args.place c.args.stack.now.items)
     (AllHere-looked _ _ _ _ _ _ _ (names-known c.args.search.now.states.now c.args.state _ c.requires.search.names c.requires.state is) c.requires.inside)

@@ -2,12 +2,14 @@ use Rattle.std.proofs.Common.{◌≡◌, ◌≤◌, ◌+◌, ◌++◌, length, d
 use Rattle.std.specs.Prelude.{map}
 use Rattle.rx_nfa.specs.Automaton.{at}
 use Rattle.rx_engines.specs.Walk.{explore_all}
-use Rattle.rx_engines.proofs.stack.push_all.Given as goal
+use Rattle.rx_engines.proofs.stack.choose.Given as goal
 
 abbrev pub invariant-loop-left : goal.invariant-loop-left
 invariant-loop-left l = record {
-  pushed : l.stack ≡ record l.fn.stack { items = explore_all (map (λ q. at q l.place) (drop l.left l.alternates)) ++ l.fn.stack.items };
-  few : length l.stack.items + l.left ≤ l.stack.room;
+  pushed : l.stack.items ≡ explore_all (map (λ q. at q l.place) (drop l.left l.alternates)) ++ l.fn.stack.items;
+  few : length l.stack.items + l.left ≤ length l.alternates + length l.fn.stack.items;
+  room : l.stack.room ≡ l.fn.stack.room;
+  above : 1 ≤ l.left;
   within : l.left ≤ length l.alternates;
 }
 

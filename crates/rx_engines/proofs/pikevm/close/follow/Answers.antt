@@ -1,0 +1,125 @@
+use Rattle.std.proofs.Common.{◌≡◌, ◌<◌, length, length-set, refl, sym, ◌∙◌, arith}
+use Rattle.std.specs.Prelude.{false}
+use Rattle.rx_nfa.proofs.AutomatonLemmas.{automaton-bounded}
+use Rattle.rx_engines.specs.Threads.{has}
+use Rattle.rx_engines.specs.Simulation.{passed_at}
+use Rattle.rx_engines.proofs.CloseLemmas.{not-true, not-false}
+use Rattle.rx_engines.proofs.LineLemmas.{line-less}
+use Rattle.rx_engines.proofs.SimulationLemmas.{passed_at-has, passed_at-elsewhere, found-rests, Waits-passed, Waits-moves, Waits-rests}
+use Rattle.rx_engines.proofs.pikevm.close.follow.Goals as goal
+
+pub loop-state-init : goal.loop-state-init
+loop-state-init c = record {
+  followed = λ end later goal le stable w. w;
+  state = c.requires.from;
+  inside = c.requires.inside;
+  less = omega arith;
+  room = refl;
+  rows = refl;
+  width = refl;
+  widest = refl;
+  slots_len = refl;
+  stack_room = refl;
+}
+
+pub visit-requires-clause-room : goal.visit-requires-clause-room
+visit-requires-clause-room c =
+    let v = c.loop-state.invariant in
+    let states = c.args.search.now.states.now in
+    let new : has c.loop-state.threads.set.items c.loop-state.state ≡ false = not-true _ (sym c.loop-state-test.true ∙ c.insert.ensures.new) in
+    let cost = line-less states (length states) c.args.place c.loop-state.state c.loop-state.threads.set.items v.state new in
+    let less = v.less in
+    let frames = c.requires.frames in
+    let room = v.stack_room in
+    omega arith
+
+pub returns-in-Rest-clause-followed : goal.returns-in-Rest-clause-followed
+returns-in-Rest-clause-followed c end later goal le stable w =
+    let v = c.loop-state.invariant in
+    let items = c.loop-state.threads.set.items in
+    let q = c.loop-state.state in
+    let new : has items q ≡ false = not-true _ (sym c.loop-state-test.true ∙ c.insert.ensures.new) in
+    let more = rw c.loop-state-test.true at c.insert.ensures.after in
+    let seen = rw c.in-Rest.is at c.visit.ensures.visited in
+    let rows = v.rows in
+    let table = c.requires.table in
+    let inside = v.state in
+    let lt : q < length c.loop-state.threads.table.items = omega arith in
+    rw (more, c.set.ensures, seen.1, seen.2)
+    (Waits-rests stable (v.followed end later goal le stable w) new lt seen.0
+    (found-rests c.args.search.now.matcher c.args.search.now.states.now c.args.search.now.text.now end q c.args.place (passed_at items c.args.place) v.state le seen.0 (passed_at-has items c.args.place q ∙ new)
+    (λ d lt. passed_at-elsewhere items c.args.place d (omega arith))))
+
+pub returns-in-Rest-clause-less : goal.returns-in-Rest-clause-less
+returns-in-Rest-clause-less c =
+    let v = c.loop-state.invariant in
+    let states = c.args.search.now.states.now in
+    let new : has c.loop-state.threads.set.items c.loop-state.state ≡ false = not-true _ (sym c.loop-state-test.true ∙ c.insert.ensures.new) in
+    let cost = line-less states (length states) c.args.place c.loop-state.state c.loop-state.threads.set.items v.state new in
+    let more = rw c.loop-state-test.true at c.insert.ensures.after in
+    let frames = rw c.in-Rest.is at c.visit.ensures.frames in
+    let less = v.less in
+    rw more (omega arith)
+
+pub loop-state-smaller : goal.loop-state-smaller
+loop-state-smaller c =
+    let v = c.loop-state.invariant in
+    let states = c.args.search.now.states.now in
+    let new : has c.loop-state.threads.set.items c.loop-state.state ≡ false = not-true _ (sym c.loop-state-test.true ∙ c.insert.ensures.new) in
+    let cost = line-less states (length states) c.args.place c.loop-state.state c.loop-state.threads.set.items v.state new in
+    let more = rw c.loop-state-test.true at c.insert.ensures.after in
+    let frames = rw c.in-On.is at c.visit.ensures.frames in
+    rw more (omega arith)
+
+pub loop-state-preserved : goal.loop-state-preserved
+loop-state-preserved c =
+    let v = c.loop-state.invariant in
+    let states = c.args.search.now.states.now in
+    let items = c.loop-state.threads.set.items in
+    let new : has items c.loop-state.state ≡ false = not-true _ (sym c.loop-state-test.true ∙ c.insert.ensures.new) in
+    let cost = line-less states (length states) c.args.place c.loop-state.state items v.state new in
+    let more = rw c.loop-state-test.true at c.insert.ensures.after in
+    let frames = rw c.in-On.is at c.visit.ensures.frames in
+    let inside = rw c.in-On.is at c.visit.ensures.inside in
+    let seen = rw c.in-On.is at c.visit.ensures.visited in
+    let less = v.less in
+    rw more
+    (record {
+      followed = λ end later goal le stable w.
+          Waits-moves stable (v.followed end later goal le stable w) (automaton-bounded c.args.search.now.matcher states c.args.search.now.text.now end) new seen.0 _ _ (seen.1 end le);
+      state = inside.0;
+      inside = inside.2;
+      less = omega arith;
+      room = v.room;
+      rows = v.rows;
+      width = v.width;
+      widest = v.widest;
+      slots_len = c.visit.ensures.width ∙ v.slots_len;
+      stack_room = c.visit.ensures.room ∙ v.stack_room;
+    })
+
+pub returns-in-Back-clause-followed : goal.returns-in-Back-clause-followed
+returns-in-Back-clause-followed c end later goal le stable w =
+    let v = c.loop-state.invariant in
+    let new : has c.loop-state.threads.set.items c.loop-state.state ≡ false = not-true _ (sym c.loop-state-test.true ∙ c.insert.ensures.new) in
+    let more = rw c.loop-state-test.true at c.insert.ensures.after in
+    let seen = rw c.in-Back.is at c.visit.ensures.visited in
+    rw more
+    (Waits-moves stable (v.followed end later goal le stable w) (automaton-bounded c.args.search.now.matcher c.args.search.now.states.now c.args.search.now.text.now end) new seen.0 _ _ (seen.1 end le))
+
+pub returns-in-Back-clause-less : goal.returns-in-Back-clause-less
+returns-in-Back-clause-less c =
+    let v = c.loop-state.invariant in
+    let states = c.args.search.now.states.now in
+    let new : has c.loop-state.threads.set.items c.loop-state.state ≡ false = not-true _ (sym c.loop-state-test.true ∙ c.insert.ensures.new) in
+    let cost = line-less states (length states) c.args.place c.loop-state.state c.loop-state.threads.set.items v.state new in
+    let more = rw c.loop-state-test.true at c.insert.ensures.after in
+    let frames = rw c.in-Back.is at c.visit.ensures.frames in
+    let less = v.less in
+    rw more (omega arith)
+
+pub returns-clause-followed : goal.returns-clause-followed
+returns-clause-followed c end later goal le stable w =
+    let seen = not-false _ (sym c.loop-state-test.false ∙ c.insert.ensures.new) in
+    let same = rw c.loop-state-test.false at c.insert.ensures.after in
+    rw same (Waits-passed stable (c.loop-state.invariant.followed end later goal le stable w) seen)
