@@ -1,11 +1,13 @@
 #!/usr/bin/env python3
 """Times the built rxscan beside outside tools that do the same job, and prints a table of ratios.
 
-usage: bench/compare.py [MIB [RXSCAN]]   (the size of each input, 2 MiB if left out; a built rxscan in place of ours)
+usage: bench/compare.py [MIB [RXSCAN [BEFORE]]]   (the size of each input, 2 MiB if left out; a built rxscan in place of
+ours; one of an earlier commit, to stand beside it)
 
 Build the program first: `cd crates/rxscan && rt run`. Each input is made from a fixed seed. `grep -aobE` prints the
-places of the matches of one pattern; Python's `re` prints the places of the matches and their groups. Each job is run
-three times, and the least time counts. A ratio is rxscan's time over the tool's: below 1, rxscan is the faster one.
+places of the matches of one pattern; Python's `re` prints the places of the matches and their groups. The jobs of an
+input take turns, each five times, and the least time of each counts. A ratio is rxscan's time over the tool's: below 1,
+rxscan is the faster one.
 """
 import os
 import random
@@ -16,6 +18,7 @@ import time
 
 TOP = os.path.dirname(os.path.dirname(os.path.abspath(__file__)))
 PROGRAM = os.path.join(TOP, 'crates', 'rxscan', 'out', 'rxscan')
+RUNS = 5
 
 PYTHON = r'''
 import re, sys
@@ -60,15 +63,17 @@ def inputs(size):
     ]
 
 
-def least_time(command, stdin=None):
-    best = None
-    for _ in range(3):
-        given = open(stdin, 'rb') if stdin else subprocess.DEVNULL
-        begin = time.perf_counter()
-        subprocess.run(command, stdin=given, stdout=subprocess.DEVNULL, stderr=subprocess.DEVNULL, check=False)
-        spent = time.perf_counter() - begin
-        best = spent if best is None else min(best, spent)
-    return best
+def run_time(command, stdin=None):
+    given = open(stdin, 'rb') if stdin else subprocess.DEVNULL
+    begin = time.perf_counter()
+    subprocess.run(command, stdin=given, stdout=subprocess.DEVNULL, stderr=subprocess.DEVNULL, check=False)
+    return time.perf_counter() - begin
+
+
+def least_times(jobs):
+    """The least time of each job, a command with what it reads."""
+    runs = [[run_time(command, stdin) for command, stdin in jobs] for _ in range(RUNS)]
+    return [min(times) for times in zip(*runs)]
 
 
 def main():
@@ -76,17 +81,25 @@ def main():
     program = os.path.abspath(sys.argv[2]) if len(sys.argv) > 2 else PROGRAM
     if not os.path.exists(program):
         sys.exit('build the program first: cd crates/rxscan && rt run')
-    print('| input | pattern | rxscan / grep -aobE | rxscan / Python re |')
-    print('|---|---|---|---|')
+    before = os.path.abspath(sys.argv[3]) if len(sys.argv) > 3 else None
+    tools = ['grep -aobE', 'Python re'] + (['before'] if before else [])
+    print('| input | pattern | %s |' % ' | '.join('rxscan / ' + tool for tool in tools))
+    print('|---' * (2 + len(tools)) + '|')
     with tempfile.TemporaryDirectory() as folder:
         for name, pattern, text in inputs(size):
             hay, given = os.path.join(folder, 'hay'), os.path.join(folder, 'given')
             open(hay, 'w').write(text)
             open(given, 'w').write(pattern + '\n\n' + text)
-            ours = least_time([program, 'scan'], given)
-            grep = least_time(['grep', '-aobE', pattern, hay])
-            python = least_time([sys.executable, '-c', PYTHON, pattern, hay])
-            print('| %s | `%s` | %.2f | %.2f |' % (name, pattern.replace('|', '\\|'), ours / grep, ours / python))
+            jobs = [
+                ([program, 'scan'], given),
+                (['grep', '-aobE', pattern, hay], None),
+                ([sys.executable, '-c', PYTHON, pattern, hay], None),
+            ]
+            if before:
+                jobs.append(([before, 'scan'], given))
+            ours, *theirs = least_times(jobs)
+            ratios = ' | '.join('%.2f' % (ours / other) for other in theirs)
+            print('| %s | `%s` | %s |' % (name, pattern.replace('|', '\\|'), ratios), flush=True)
 
 
 if __name__ == '__main__':

@@ -5,8 +5,8 @@ usage: bench/grammar.py [MIB [RXSCAN]]   (the size of each input, 1 MiB if left 
 
 Build the program first: `cd crates/rxscan && rt run`. Each input is made from a fixed seed. `grep -aobP` prints the
 places of the matches of one pattern; Python's `re` prints the places of the matches as it counts them, in characters.
-Each job is run three times, and the least time counts. A ratio is rxscan's time over the tool's: below 1, rxscan is the
-faster one. The second table has the whole run over a pattern and no haystack, in milliseconds.
+The jobs of an input take turns, and the least time of each counts. A ratio is rxscan's time over the tool's: below 1,
+rxscan is the faster one. The second table has the whole run over a pattern and no haystack, in milliseconds.
 """
 import os
 import random
@@ -14,7 +14,7 @@ import subprocess
 import sys
 import tempfile
 
-from compare import PROGRAM, least_time, letters, words
+from compare import PROGRAM, least_times, letters, words
 
 PYTHON = r'''
 import re, sys
@@ -56,8 +56,11 @@ def inputs(size):
     ]
 
 
-def ratio(ours, tool, command):
-    return '%.2f' % (ours / tool(command)) if command else '-'
+def ratios(ours, tools):
+    """The least time of ours over that of each tool; `-` where there is none."""
+    least, *others = least_times([ours] + [(tool, None) for tool in tools if tool])
+    rest = iter(others)
+    return ['%.2f' % (least / next(rest)) if tool else '-' for tool in tools]
 
 
 def main():
@@ -74,16 +77,15 @@ def main():
             open(hay, 'w', encoding='utf-8', newline='').write(text)
             open(given, 'w', encoding='utf-8', newline='').write(pattern + '\n\n' + text)
             rows = subprocess.run([program, 'scan'], stdin=open(given, 'rb'), stdout=subprocess.PIPE, check=True).stdout
-            ours = least_time([program, 'scan'], given)
-            print('| %s | `%s` | %d | %s | %s |' % (
-                name, pattern.replace('|', '\\|'), rows.count(b'\n'),
-                ratio(ours, least_time, perl and ['grep', '-aobP', perl, hay]),
-                ratio(ours, least_time, [sys.executable, '-c', PYTHON, python, hay])), flush=True)
+            tools = [perl and ['grep', '-aobP', perl, hay], [sys.executable, '-c', PYTHON, python, hay]]
+            beside = ratios(([program, 'scan'], given), tools)
+            print('| %s | `%s` | %d | %s |' % (
+                name, pattern.replace('|', '\\|'), rows.count(b'\n'), ' | '.join(beside)), flush=True)
         print('\n| pattern | status | milliseconds |\n|---|---|---|')
         for pattern in ['a', r'\w{50}', r'\pL{20}', r'\w{1000}{1000}', r'(?i)\pL']:
             open(given, 'w', encoding='utf-8').write(pattern + '\n\n')
             status = subprocess.run([program, 'scan'], stdin=open(given, 'rb'), stdout=subprocess.DEVNULL, check=False).returncode
-            print('| `%s` | %d | %.1f |' % (pattern, status, 1000 * least_time([program, 'scan'], given)), flush=True)
+            print('| `%s` | %d | %.1f |' % (pattern, status, 1000 * least_times([([program, 'scan'], given)])[0]), flush=True)
 
 
 if __name__ == '__main__':

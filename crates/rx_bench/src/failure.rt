@@ -1,25 +1,31 @@
 use rx_search::Memory;
-use std::io;
-use thiserror::Error;
+use std::{fmt, io};
 
 /// Why there are no figures.
-#[derive(Clone, Copy, Debug, Drop, Error, PartialEq, Eq)]
+#[derive(Clone, Copy, Debug, PartialEq, Eq)]
 pub enum Failure {
     /// The words are not those of a command.
-    #[error("usage: rx_bench pikevm|backtrack PATTERN")]
     Usage,
     /// The pattern is refused.
-    #[error("the pattern is refused")]
     Pattern,
     /// The engine searches no line of this length.
-    #[error("a line of {len} bytes is too long")]
     Line { len: usize },
     /// There was no memory.
-    #[error("out of memory")]
     Memory,
     /// An input, an output or the clock failed.
-    #[error("the system failed")]
     System,
+}
+
+impl fmt::Display for Failure {
+    fn fmt<W: fmt::Write>(&self, f: &mut fmt::Formatter<W>) -> fmt::Result {
+        match self {
+            Failure::Usage => write!(f, "usage: rx_bench pikevm|backtrack PATTERN"),
+            Failure::Pattern => write!(f, "the pattern is refused"),
+            Failure::Line { len } => write!(f, "a line of {} bytes is too long", *len),
+            Failure::Memory => write!(f, "out of memory"),
+            Failure::System => write!(f, "the system failed"),
+        }
+    }
 }
 
 impl Failure {

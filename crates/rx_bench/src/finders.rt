@@ -3,8 +3,8 @@ ghost use Rattle.rx_engines.specs.Engine.{answer_in, Fits as PikeVMFits};
 ghost use Rattle.rx_engines.specs.Bounded.{next_match_within, Fits as BacktrackFits};
 
 use rx_engines::{backtrack, pikevm};
-use rx_search::{Finder, Input, Match, MatchError, MatchKind, Memory, NonMaxUsize};
 use rx_nfa::NFA;
+use rx_search::{Finder, Input, Match, MatchError, MatchKind, Memory, NonMaxUsize};
 use std::alloc::Global;
 
 /// The PikeVM, with its cache and the slots of its last match.

@@ -2,8 +2,8 @@
 ghost use Rattle.std.specs.Prelude.{◌≡◌, length, IfOk};
 ghost use Rattle.rx_engines.specs.Simulation.{cost, cost_below};
 
-use rx_search::Memory;
 use rx_nfa::State;
+use rx_search::Memory;
 
 /// How many frames the states leave on a stack, each state once.
 pub fn frames_of_all(states: &[State]) -> Result<usize, Memory>

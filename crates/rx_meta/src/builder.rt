@@ -10,8 +10,8 @@ use crate::error::BuildError;
 use crate::reading::{PATTERN_LIMIT, read_patterns};
 use crate::regex::Regex;
 use rx_hir::Hir;
-use rx_strategy::{Config, Core};
 use rx_nfa::{Compiler, NFA};
+use rx_strategy::{Config, Core};
 use std::alloc::Global;
 use std::slice;
 

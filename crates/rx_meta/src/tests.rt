@@ -2,9 +2,9 @@ ghost use Rattle.std.specs.Prelude.{◌≡◌};
 ghost use Rattle.rx_strategy.specs.Cache.{Fits};
 
 use crate::{BuildError, Builder, Cache, Config, Regex};
+use rx_nfa::WhichCaptures;
 use rx_search::{Anchored, HalfMatch, Input, Match, NonMaxUsize, PatternID};
 use rx_syntax::{SyntaxErrorKind, parse};
-use rx_nfa::WhichCaptures;
 use std::alloc::Global;
 use std::process::Abort;
 use std::sync::Wait;

@@ -17,7 +17,13 @@ struct Row {
 
 const SCAN: &[&str] = &["scan"];
 
-static ROWS: [Row; 34] = [
+/// Five haystacks, one of them empty.
+const FIVE: &[u8] = b"a*\n\nba\n\naab\n\xe2\x98\x83\nb\n";
+
+const ROWS_OF_FIVE: &str =
+    "1:0:0..0\n1:0:1..2\n2:0:0..0\n3:0:0..2\n3:0:3..3\n4:0:0..0\n4:0:3..3\n5:0:0..0\n5:0:1..1\n";
+
+static ROWS: [Row; 39] = [
     Row {
         words: SCAN,
         input: b"[a-zA-Z]+ing\n\ntingling\n",
@@ -80,9 +86,39 @@ static ROWS: [Row; 34] = [
     },
     Row {
         words: SCAN,
-        input: b"a*\n\nba\n\naab\n\xe2\x98\x83\nb\n",
+        input: FIVE,
         status: 0,
-        text: "1:0:0..0\n1:0:1..2\n2:0:0..0\n3:0:0..2\n3:0:3..3\n4:0:0..0\n4:0:3..3\n5:0:0..0\n5:0:1..1\n",
+        text: ROWS_OF_FIVE,
+    },
+    Row {
+        words: &["scan", "1"],
+        input: FIVE,
+        status: 0,
+        text: ROWS_OF_FIVE,
+    },
+    Row {
+        words: &["scan", "3"],
+        input: FIVE,
+        status: 0,
+        text: ROWS_OF_FIVE,
+    },
+    Row {
+        words: &["scan", "64"],
+        input: FIVE,
+        status: 0,
+        text: ROWS_OF_FIVE,
+    },
+    Row {
+        words: &["scan", "off:dhobp"],
+        input: FIVE,
+        status: 0,
+        text: ROWS_OF_FIVE,
+    },
+    Row {
+        words: &["scan", "3", "off:dhobp"],
+        input: FIVE,
+        status: 0,
+        text: ROWS_OF_FIVE,
     },
     Row {
         words: SCAN,

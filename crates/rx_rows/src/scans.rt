@@ -2,12 +2,14 @@
 
 ghost use Rattle.std.specs.Prelude.{◌<◌};
 
+use crate::words::words_of;
 use rx_meta::Regex;
-use rx_scan::{Row, scan};
-use rx_search::{NonMaxUsize, Open};
+use rx_scan::{BytesSure, KeptSure, Row, run, scan};
+use rx_search::{Gate, NonMaxUsize, Open};
 use std::alloc::Global;
 use std::process::Abort;
 use std::sync::Wait;
+use std::sync::atomic::{AtomicU64, Ordering};
 use std::test::Fail;
 use std::thread::Threads;
 
@@ -67,4 +69,46 @@ fn two_workers(rt: HostRuntime) -> Result<(), Fail> {
 #[test]
 fn more_workers_than_haystacks(rt: HostRuntime) -> Result<(), Fail> {
     expect_rows(&rt, rt.alloc(), 64)
+}
+
+/// A gate that is told of haystacks: the bits of those that it was told of, each of which comes after all before it.
+#[derive(Drop)]
+struct InOrder {
+    told: AtomicU64,
+}
+
+impl InOrder {
+    /// That was told of none yet.
+    fn new() -> InOrder {
+        InOrder {
+            told: AtomicU64::new(0),
+        }
+    }
+}
+
+impl Gate for InOrder {
+    fn reached(&self, index: usize) {
+        let bit = if index < 64 { 1u64 << index } else { 0 };
+        // Where all before it were told, and no other, this is the number of those bits.
+        if self.told.load(Ordering::SeqCst) == bit.wrapping_sub(1) {
+            self.told.fetch_or(bit, Ordering::SeqCst);
+        }
+    }
+}
+
+#[test]
+fn the_gate_is_told_of_each_haystack_in_order(rt: HostRuntime) -> Result<(), Fail> {
+    let alloc = rt.alloc();
+    let regex = Regex::new(alloc, "a").ok().expect(&rt, "a regex");
+    let haystacks: [&[u8]; 3] = [b"a", b"", b"ba"];
+    let gate = InOrder::new();
+    assert!(rt; scan(&rt, alloc, &regex, &haystacks, 1, &gate).is_ok());
+    assert_eq!(rt; gate.told.load(Ordering::SeqCst), 0b111);
+    let gate = InOrder::new();
+    let words = words_of(alloc, &["scan"])?;
+    let mut source = BytesSure::new(Vec::from_slice(alloc, b"a\n\na\n\nba\nb")?);
+    let mut sink = KeptSure::new(alloc);
+    assert_eq!(rt; run(&rt, alloc, &words, &mut source, &mut sink, &gate), 0);
+    assert_eq!(rt; gate.told.load(Ordering::SeqCst), 0b1111);
+    Ok(())
 }

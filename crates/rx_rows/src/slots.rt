@@ -3,20 +3,15 @@
 use rx_engines::backtrack::BoundedBacktracker;
 use rx_engines::pikevm::PikeVM;
 use rx_search::{Anchored, Input, Match, MatchKind, NonMaxUsize, PatternID, Span};
-use rx_syntax::parse;
-use rx_nfa::{Compiler, NFA};
+use rx_thompson::{Compiler, NFA};
 use std::alloc::Global;
 use std::process::Abort;
 use std::test::Fail;
 
 /// The NFA of the patterns.
-fn nfa(rt: &impl Abort, alloc: Global, patterns: &[&str]) -> Result<NFA, Fail> {
-    let mut expressions = Vec::new(alloc);
-    for pattern in patterns {
-        expressions.push(parse(alloc, pattern).ok().expect(rt, "a pattern"))?;
-    }
-    let nfa = Compiler::new().build_many_from_hir(alloc, &expressions);
-    Ok(nfa.ok().expect(rt, "an NFA"))
+fn nfa(rt: &impl Abort, alloc: Global, patterns: &[&str]) -> NFA {
+    let nfa = Compiler::new().build_many(alloc, patterns);
+    nfa.ok().expect(rt, "an NFA")
 }
 
 /// The place that a slot holds.
@@ -94,9 +89,9 @@ fn searched(
     input: &Input<'_>,
     want: &str,
 ) -> Result<(), Fail> {
-    let found = simulated(alloc, nfa(rt, alloc, patterns)?, input)?;
+    let found = simulated(alloc, nfa(rt, alloc, patterns), input)?;
     assert_eq!(rt; found.as_str(), want);
-    let found = backtracked(rt, alloc, nfa(rt, alloc, patterns)?, input)?;
+    let found = backtracked(rt, alloc, nfa(rt, alloc, patterns), input)?;
     assert_eq!(rt; found.as_str(), want);
     Ok(())
 }
@@ -501,4 +496,23 @@ fn one_pattern_of_several(rt: HostRuntime) -> Result<(), Fail> {
     only(&rt, alloc, &["a", "(a)"], "a", 0, 0, "0: 0..1 - -")?;
     only(&rt, alloc, &["a"], "a", 0, 1, "none")?;
     Ok(())
+}
+
+/// Both engines find this in `x` by the NFA.
+fn constant(rt: &impl Abort, alloc: Global, nfa: NFA, want: &str) -> Result<(), Fail> {
+    let input = Input::new(b"x");
+    let found = simulated(alloc, nfa.clone()?, &input)?;
+    assert_eq!(rt; found.as_str(), want);
+    let found = backtracked(rt, alloc, nfa, &input)?;
+    assert_eq!(rt; found.as_str(), want);
+    Ok(())
+}
+
+#[test]
+fn constant_nfas(rt: HostRuntime) -> Result<(), Fail> {
+    let alloc = rt.alloc();
+    let always = NFA::always_match(alloc)?;
+    constant(&rt, alloc, always, "0: 0..0")?;
+    let never = NFA::never_match(alloc)?;
+    constant(&rt, alloc, never, "none")
 }

@@ -14,6 +14,28 @@ pub record Progress {A : Type 0} (searches : InputValue → Option Match) (row :
   pub whole : so_far ++ map row (matches_from (search_from searches s.input) more (upcoming searches s)) ≡ goal
   pub enough : places_left s ≤ more
 
+-- The second finder answers as the first one: it searches alike, can search what that could, and keeps what that kept.
+pub record AnswersAlike {F : Type 0} (searches : F → InputValue → Option Match) (can_search : F → InputValue → Type 0) (keeps : F → F → Type 0) (f g : F) : Type 0 where
+  pub same_answers : (v : InputValue) → searches g v ≡ searches f v
+  pub still_can : (v : InputValue) → can_search f v → can_search g v
+  pub stays : (s : F) → keeps s f → keeps s g
+
+module _ {F : Type 0} {searches : F → InputValue → Option Match} {can_search : F → InputValue → Type 0} {keeps : F → F → Type 0} where
+  pub AnswersAlike-begun : (f : F) → AnswersAlike searches can_search keeps f f
+  AnswersAlike-begun f = record { same_answers = λ v. refl; still_can = λ v can. can; stays = λ s kept. kept }
+
+  -- after one call more
+  pub AnswersAlike-more : {f g h : F} → AnswersAlike searches can_search keeps f g
+      → ((v : InputValue) → searches h v ≡ searches g v)
+      → ((v : InputValue) → can_search g v → can_search h v)
+      → ((s : F) → keeps s g → keeps s h)
+      → AnswersAlike searches can_search keeps f h
+  AnswersAlike-more alike same_answers still_can stays = record {
+    same_answers = λ v. same_answers v ∙ alike.same_answers v;
+    still_can = λ v can. still_can v (alike.still_can v can);
+    stays = λ s kept. stays s (alike.stays s kept);
+  }
+
 no-value : {A : Type 0} {P : Type 0} {x : A} → None ≡ Some x → P
 no-value e = cc
 

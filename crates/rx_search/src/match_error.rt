@@ -15,7 +15,7 @@ pub enum MatchError {
     /// The search gave up at this byte offset.
     #[error("GaveUp")]
     GaveUp { offset: usize },
-    /// The haystack, of this number of bytes, is longer than the engine can search.
+    /// The span, of this number of bytes, is longer than the engine can search.
     #[error("HaystackTooLong")]
     HaystackTooLong { len: usize },
     /// The engine does not search in this mode.

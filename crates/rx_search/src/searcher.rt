@@ -99,7 +99,10 @@ impl<'h> Searcher<'h> {
     /// The number of matches that are still to come.
     pub fn count<F: Finder>(mut self, finder: &mut F) -> Result<usize, F::Error>
         requires { (i : ℕ) → F.can_search finder.old (from_place i self.input) }
-        ensures { IfOk result (λ n. n ≡ length (to_come (F.searches finder.old) self.entry)) }
+        ensures value { IfOk result (λ n. n ≡ length (to_come (F.searches finder.old) self.entry)) }
+        ensures same_answers { (v : InputValue) → F.searches finder.new v ≡ F.searches finder.old v }
+        ensures still_can { (v : InputValue) → F.can_search finder.old v → F.can_search finder.new v }
+        ensures stays { (s : F) → F.keeps s finder.old → F.keeps s finder.new }
     {
         // Each match ends at a place of its own, and the number of places fits a `usize`.
         let _haystack = self.input.haystack();
@@ -119,7 +122,10 @@ impl<'h> Searcher<'h> {
     where
         F::Error: From<AllocFailed<Match>>,
         requires { (i : ℕ) → F.can_search finder.old (from_place i self.input) }
-        ensures { IfOk result (λ all. all.items ≡ map match_value (to_come (F.searches finder.old) self.entry)) }
+        ensures value { IfOk result (λ all. all.items ≡ map match_value (to_come (F.searches finder.old) self.entry)) }
+        ensures same_answers { (v : InputValue) → F.searches finder.new v ≡ F.searches finder.old v }
+        ensures still_can { (v : InputValue) → F.can_search finder.old v → F.can_search finder.new v }
+        ensures stays { (s : F) → F.keeps s finder.old → F.keeps s finder.new }
     {
         let mut all = Vec::new(alloc);
         while let Some(found) = self.advance(finder)? {

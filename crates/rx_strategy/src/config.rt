@@ -2,8 +2,8 @@
 ghost use Rattle.std.specs.Prelude.{◌≡◌, Some};
 ghost use Rattle.rx_strategy.specs.Config.{kind_of, utf8_of, which_of, size_limit_of, terminator_of, backtrack_of, compiler_of, has_backtracker, nothing_set, overwritten};
 
-use rx_search::{LookMatcher, MatchKind};
 use rx_nfa::WhichCaptures;
+use rx_search::{LookMatcher, MatchKind};
 use std::default::Default;
 
 /// The bytes that the NFA may have where no other limit is set, by what is accounted for it.

@@ -14,8 +14,8 @@ use crate::config::Config;
 use rx_engines::backtrack::{self, BoundedBacktracker};
 use rx_engines::empty;
 use rx_engines::pikevm::PikeVM;
-use rx_search::{Input, Match, Memory, NonMaxUsize};
 use rx_nfa::{NFA, WhichCaptures};
+use rx_search::{Input, Match, Memory, NonMaxUsize};
 use std::alloc::Global;
 use std::marker::Model;
 

@@ -1,9 +1,9 @@
 ghost use Rattle.rx_strategy.specs.Cache.{Fits};
 
 use crate::{Cache, Config, Core};
+use rx_nfa::{Compiler, WhichCaptures};
 use rx_search::{Input, Match, MatchKind, NonMaxUsize};
 use rx_syntax::parse;
-use rx_nfa::{Compiler, WhichCaptures};
 use std::alloc::Global;
 use std::process::Abort;
 use std::test::Fail;

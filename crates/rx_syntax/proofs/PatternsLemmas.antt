@@ -7,6 +7,7 @@ use Rattle.rx_model.specs.Expression.{Expression}
 use Rattle.rx_reader.specs.Grammar.{read}
 use Rattle.rx_reader.specs.Syntax.{Syntax}
 use Rattle.rx_reader.specs.declared.config.Config.{Config}
+use Rattle.rx_syntax.specs.Pattern.{reads}
 use Rattle.rx_syntax.specs.Translation.{translated}
 use Rattle.rx_reader.specs.Refusal.{Refuses}
 use Rattle.rx_reader.specs.declared.error.SyntaxError.{SyntaxError}
@@ -71,22 +72,30 @@ pub error_at-within : (k count : ℕ) (e : ParseError) → k < count → IsWithi
 error_at-within k count (OneRefused error) lt = lt
 error_at-within k count OneMemory lt = tt
 
--- what each pattern reads as
-abbrev pub read_each : Config → List (Bor (List ℕ)) → List (Result Syntax SyntaxError)
-read_each config ps = map (λ text. read config (chars text)) (map (λ (p : Bor (List ℕ)). p.now) ps)
+-- what is answered of each pattern
+module _ {A : Type 0} (answer : List ℕ → Result A SyntaxError) where
+  abbrev pub each_answer : List (Bor (List ℕ)) → List (Result A SyntaxError)
+  each_answer ps = map answer (map (λ (p : Bor (List ℕ)). p.now) ps)
 
-pub read_each-at : (config : Config) (ps : List (Bor (List ℕ))) (k : ℕ) (d : Bor (List ℕ)) → k < length ps
-    → get_or (read_each config ps) k (read config (chars (get_or ps k d).now)) ≡ read config (chars (get_or ps k d).now)
-read_each-at config ps k d lt =
-    let texts = map (λ (p : Bor (List ℕ)). p.now) ps in
-    let text = (get_or ps k d).now in
-    let within : k < length texts = omega (arith, length-map ps (λ (p : Bor (List ℕ)). p.now)) in
-    let here : get_or texts k text ≡ text = get_or-map (λ (p : Bor (List ℕ)). p.now) ps k d text lt in
-    get_or-map (λ t. read config (chars t)) texts k text (read config (chars text)) within ∙ ap (λ t. read config (chars t)) here
+  pub each_answer-at : (ps : List (Bor (List ℕ))) (k : ℕ) (d : Bor (List ℕ)) → k < length ps
+      → get_or (each_answer ps) k (answer (get_or ps k d).now) ≡ answer (get_or ps k d).now
+  each_answer-at ps k d lt =
+      let texts = map (λ (p : Bor (List ℕ)). p.now) ps in
+      let text = (get_or ps k d).now in
+      let within : k < length texts = omega (arith, length-map ps (λ (p : Bor (List ℕ)). p.now)) in
+      let here : get_or texts k text ≡ text = get_or-map (λ (p : Bor (List ℕ)). p.now) ps k d text lt in
+      get_or-map answer texts k text (answer text) within ∙ ap answer here
 
-pub length-read_each : (config : Config) (ps : List (Bor (List ℕ))) → length (read_each config ps) ≡ length ps
-length-read_each config ps =
-    length-map (map (λ (p : Bor (List ℕ)). p.now) ps) (λ text. read config (chars text)) ∙ length-map ps (λ (p : Bor (List ℕ)). p.now)
+  pub length-each_answer : (ps : List (Bor (List ℕ))) → length (each_answer ps) ≡ length ps
+  length-each_answer ps = length-map (map (λ (p : Bor (List ℕ)). p.now) ps) answer ∙ length-map ps (λ (p : Bor (List ℕ)). p.now)
+
+-- the syntax of a pattern of these bytes
+abbrev pub syntax_of : Config → List ℕ → Result Syntax SyntaxError
+syntax_of config text = read config (chars text)
+
+-- its expression
+abbrev pub expression_of : Config → List ℕ → Result Expression SyntaxError
+expression_of config text = reads config (chars text)
 
 -- what each syntax stands for
 abbrev pub translate_each : Config → List Syntax → List (Result Expression SyntaxError)

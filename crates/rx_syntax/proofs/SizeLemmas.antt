@@ -1,5 +1,5 @@
 -- A part of a list is smaller than the list.
-use Rattle.std.proofs.Common.{◌≡◌, ℕ, zero, suc, ◌<◌, ◌≤◌, List, [], ◌∷◌, ◌++◌, length, get_or, arith}
+use Rattle.std.proofs.Common.{ℕ, zero, suc, ◌<◌, ◌≤◌, List, [], ◌∷◌, ◌++◌, length, get_or, arith}
 use Rattle.std.specs.Prelude.{map}
 use Rattle.rx_reader.specs.Syntax.{Syntax, literal, syntaxes}
 use Rattle.rx_reader.specs.Coded.{syntax_size, greatest_size}

@@ -1,5 +1,5 @@
 -- What a character that stands for itself means, and a byte that is written by two digits.
-use Rattle.std.specs.Prelude.{ℕ, nat_le, List, [], ◌∷◌, if◌then◌else◌, encode_utf8}
+use Rattle.std.specs.Prelude.{ℕ, nat_le, [], ◌∷◌, if◌then◌else◌, encode_utf8}
 use Rattle.rx_model.specs.Text.{scalar_ranges, byte_ranges}
 use Rattle.rx_model.specs.Expression.{Expression}
 use Rattle.rx_class.specs.Folding.{folded}

@@ -1,4 +1,4 @@
--- What a list of patterns reads as: all of them are read, and then all are translated.
+-- What a list of patterns reads as: where one is translated before the next is read, and where all are read first.
 use Rattle.std.specs.Prelude.{◌≡◌, ℕ, ◌+◌, ◌<◌, List, [], ◌∷◌, map, chars, Result, Ok, Err}
 use Rattle.rx_model.specs.Expression.{Expression}
 use Rattle.rx_reader.specs.Grammar.{read}
@@ -7,6 +7,7 @@ use Rattle.rx_reader.specs.declared.config.Config.{Config}
 use Rattle.rx_reader.specs.declared.error.SyntaxError.{SyntaxError}
 use Rattle.rx_reader.specs.declared.error.ParseError.{ParseError}
 use Rattle.rx_reader.specs.declared.error.ParseError.TheVariants.{Syntax as OneRefused, Memory as OneMemory}
+use Rattle.rx_syntax.specs.Pattern.{reads}
 use Rattle.rx_syntax.specs.Translation.{translated}
 use Rattle.rx_syntax.specs.declared.patterns.PatternsError.{PatternsError}
 use Rattle.rx_syntax.specs.declared.patterns.PatternsError.TheVariants.{Syntax as Refused, Memory}
@@ -27,6 +28,10 @@ unfoldable pub all_of : {A : Type 0} → (p : ℕ) → List (Result A SyntaxErro
 all_of p [] = Ok []
 all_of p (r ∷ rs) = before p r (all_of (p + 1) rs)
 
+-- the expression of each pattern, or the first refusal: a pattern is translated before the next one is read
+unfoldable pub each_read : Config → List (List ℕ) → Result (List Expression) Refusal
+each_read config texts = all_of 0 (map (λ text. reads config (chars text)) texts)
+
 -- the syntax of each pattern
 unfoldable pub all_syntaxes : Config → List (List ℕ) → Result (List Syntax) Refusal
 all_syntaxes config texts = all_of 0 (map (λ text. read config (chars text)) texts)
@@ -39,7 +44,7 @@ abbrev pub translated_if : Config → Result (List Syntax) Refusal → Result (L
 translated_if config (Err refusal) = Err refusal
 translated_if config (Ok syntaxes) = all_translated config syntaxes
 
--- the expression of each pattern, or the first refusal: of reading, and else of translation
+-- the expression of each pattern, or the first refusal: of reading, and else of translation, where all are read first
 abbrev pub all_read : Config → List (List ℕ) → Result (List Expression) Refusal
 all_read config texts = translated_if config (all_syntaxes config texts)
 

@@ -1,5 +1,5 @@
 -- The expression that a pattern stands for, as it is written, or the first refusal from left to right.
-use Rattle.std.specs.Prelude.{ℕ, List, [], ◌∷◌, Some, None, Result, Ok, if◌then◌else◌}
+use Rattle.std.specs.Prelude.{List, [], ◌∷◌, Some, None, Result, Ok, if◌then◌else◌}
 use lib.Utf8.{encodes}
 use Rattle.rx_model.specs.Expression.{Expression, look, capture}
 use Rattle.rx_hir.specs.Normal.{repetition_of, concat_of, alternation_of}

@@ -16,6 +16,6 @@ mod set;
 mod tests;
 mod translate;
 
-pub use pattern::{parse, parse_many, parse_many_with, parse_with, read_with, translate_with};
-pub use patterns::{PatternsError, parse_all};
+pub use pattern::{parse, parse_with, read_with, translate_with};
+pub use patterns::{PatternsError, parse_all, parse_each, parse_many, parse_many_with};
 pub use rx_reader::{Ast, Config, ParseError, SyntaxError, SyntaxErrorKind};

@@ -1,7 +1,10 @@
 //! Lists of patterns.
 ghost use Rattle.std.specs.Prelude.{◌≡◌, map, length, Ok, IfOk, IfErr, MatchResult};
-ghost use Rattle.rx_syntax.specs.Patterns.{all_syntaxes, all_translated, all_read, RefusesAll, IsWithin, error_at};
+ghost use Rattle.rx_reader.specs.Config.{default};
+ghost use Rattle.rx_syntax.specs.Answers.{AnswersAs};
+ghost use Rattle.rx_syntax.specs.Patterns.{all_syntaxes, all_translated, all_read, each_read, unnumbered, RefusesAll, IsWithin, error_at};
 
+use crate::pattern::parse_with;
 use crate::translate::translate;
 use rx_hir::Hir;
 use rx_reader::{Ast, Config, ParseError, SyntaxError, read};
@@ -45,6 +48,54 @@ fn refused(pattern: usize, error: ParseError) -> PatternsError
         ParseError::Syntax(error) => PatternsError::Syntax { pattern, error },
         ParseError::Memory => PatternsError::Memory,
     }
+}
+
+/// The expressions of patterns under the default configuration, or the first refusal, as by `parse_many_with`.
+pub fn parse_many(alloc: Global, patterns: &[&str]) -> Result<Vec<Hir>, ParseError>
+    ensures { AnswersAs (λ v. v.items) result (unnumbered (each_read default (map (λ p. p.now) patterns.now))) }
+{
+    parse_many_with(alloc, patterns, &Config::new())
+}
+
+/// The expressions of patterns under a configuration, or the refusal of the first pattern that `parse_with` refuses:
+/// as `parse_each` answers, without the pattern's number.
+pub fn parse_many_with(
+    alloc: Global,
+    patterns: &[&str],
+    config: &Config,
+) -> Result<Vec<Hir>, ParseError>
+    ensures { AnswersAs (λ v. v.items) result (unnumbered (each_read config.now (map (λ p. p.now) patterns.now))) }
+{
+    match parse_each(alloc, patterns, config) {
+        Ok(exprs) => Ok(exprs),
+        Err(PatternsError::Syntax { error, .. }) => Err(ParseError::Syntax(error)),
+        Err(PatternsError::Memory) => Err(ParseError::Memory),
+    }
+}
+
+/// The expressions of the patterns, under a configuration.
+///
+/// A pattern is read and translated before the next one is read. So the refusal is that of the first pattern that
+/// `parse_with` refuses.
+pub fn parse_each(
+    alloc: Global,
+    patterns: &[&str],
+    config: &Config,
+) -> Result<Vec<Hir>, PatternsError>
+    ensures value { MatchResult result
+        (λ exprs. each_read config.now (map (λ p. p.now) patterns.now) ≡ Ok exprs.items)
+        (λ e. RefusesAll e (each_read config.now (map (λ p. p.now) patterns.now))) }
+    ensures within { IfErr result (λ e. IsWithin e (length patterns.now)) }
+    ensures count { IfOk result (λ exprs. length exprs.items ≡ length patterns.now) }
+{
+    let mut parsed = Vec::new(alloc);
+    for pattern in patterns {
+        match parse_with(alloc, pattern, config) {
+            Ok(expr) => parsed.push(expr)?,
+            Err(error) => return Err(refused(parsed.len(), error)),
+        }
+    }
+    Ok(parsed)
 }
 
 /// The expressions of the patterns, under a configuration.

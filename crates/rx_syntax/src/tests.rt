@@ -1,6 +1,6 @@
 use crate::*;
 use rx_class::Class;
-use rx_hir::{Hir, HirKind};
+use rx_hir::{Hir, HirKind, cost};
 use std::alloc::Global;
 use std::test::Fail;
 
@@ -38,21 +38,38 @@ fn is_literal(hir: &Hir, bytes: &[u8]) -> bool {
     }
 }
 
+/// Whether these are two literals, of these bytes.
+fn are_literals(exprs: &[Hir], first: &[u8], second: &[u8]) -> bool {
+    match exprs {
+        [one, other] => is_literal(one, first) && is_literal(other, second),
+        _ => false,
+    }
+}
+
 #[test]
 fn several_patterns(rt: HostRuntime) -> Result<(), Fail> {
     let hir = parse(rt.alloc(), "a|b")?;
-    let mut literals = 0;
+    let mut alternatives = 0;
     if let HirKind::Alternation(subs) = hir.kind() {
-        literals = subs.len();
+        alternatives = subs.len();
+        assert!(rt; are_literals(subs, b"a", b"b"));
     }
-    assert_eq!(rt; literals, 2);
+    assert_eq!(rt; alternatives, 2);
     let both = parse_many(rt.alloc(), &["a", "b"])?;
-    assert_eq!(rt; both.len(), 2);
+    assert!(rt; are_literals(&both, b"a", b"b"));
     let bytes = parse(rt.alloc(), "(?-u:\u{E9})")?;
     assert!(rt; is_literal(&bytes, b"\xC3\xA9"));
     let ast = read_with(rt.alloc(), "a", &Config::new())?;
     let read = translate_with(rt.alloc(), &ast, &Config::new())?;
     assert!(rt; is_literal(&read, b"a"));
+    Ok(())
+}
+
+#[test]
+fn accounted_bytes(rt: HostRuntime) -> Result<(), Fail> {
+    for (pattern, bytes) in [("a", 32), ("a{3}", 128), ("[a-c]", 64), ("(a)", 96)] {
+        assert_eq!(rt; cost(&parse(rt.alloc(), pattern)?), bytes);
+    }
     Ok(())
 }
 
@@ -125,15 +142,32 @@ fn configurations(rt: HostRuntime) {
     );
 }
 
+/// The refusal of the pattern of this number.
+fn refused(
+    pattern: usize,
+    kind: SyntaxErrorKind,
+    start: usize,
+    end: usize,
+) -> Option<PatternsError> {
+    let error = SyntaxError { kind, start, end };
+    Some(PatternsError::Syntax { pattern, error })
+}
+
 #[test]
 fn all_patterns_are_read_before_one_is_translated(rt: HostRuntime) {
-    let refused = |pattern, kind, start, end| {
-        let error = SyntaxError { kind, start, end };
-        Some(PatternsError::Syntax { pattern, error })
-    };
     let config = Config::new();
     let lists = parse_all(rt.alloc(), &["a", r"\p{Nope}", "b("], &config);
     assert!(rt; lists.err() == refused(2, SyntaxErrorKind::UnclosedGroup, 1, 2));
     let lists = parse_all(rt.alloc(), &["a", r"\p{Nope}", "b"], &config);
     assert!(rt; lists.err() == refused(1, SyntaxErrorKind::Property, 0, 8));
+}
+
+#[test]
+fn each_pattern_is_translated_before_the_next_is_read(rt: HostRuntime) {
+    let config = Config::new();
+    let patterns = ["a", r"\p{Nope}", "b("];
+    let lists = parse_each(rt.alloc(), &patterns, &config);
+    assert!(rt; lists.err() == refused(1, SyntaxErrorKind::Property, 0, 8));
+    let lists = parse_many(rt.alloc(), &patterns);
+    assert!(rt; lists.err() == parse(rt.alloc(), r"\p{Nope}").err());
 }

@@ -1,5 +1,5 @@
-use rx_search::{LookMatcher, StateID};
 use rx_nfa::State;
+use rx_search::{LookMatcher, StateID};
 
 /// What is searched for a match, and where.
 #[derive(Drop)]

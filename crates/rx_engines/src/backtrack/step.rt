@@ -10,8 +10,8 @@ use crate::backtrack::search::Search;
 use crate::frame::Frame;
 use crate::slots::Slot;
 use crate::stack::Stack;
-use rx_search::{Look, PatternID, StateID};
 use rx_nfa::{State, Transition, matches_byte};
+use rx_search::{Look, PatternID, StateID};
 
 /// What a search does next.
 #[derive(Clone, Copy)]

@@ -1,8 +1,8 @@
 use crate::backtrack::BoundedBacktracker;
 use crate::expressions::{a_in_group_then_b, a_or_ab, either, group, text};
 use rx_hir::Hir;
-use rx_search::{Input, MatchError, NonMaxUsize, PatternID, Span};
 use rx_nfa::Compiler;
+use rx_search::{Input, MatchError, NonMaxUsize, PatternID, Span};
 use std::alloc::Global;
 use std::process::Abort;
 use std::test::Fail;

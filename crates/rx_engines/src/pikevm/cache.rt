@@ -15,8 +15,8 @@ use crate::pikevm::vm::PikeVM;
 use crate::room::frames_of_all;
 use crate::slots::Slot;
 use crate::stack::Stack;
-use rx_search::{Memory, NonMaxUsize, PatternID};
 use rx_nfa::State;
+use rx_search::{Memory, NonMaxUsize, PatternID};
 use std::alloc::Global;
 use std::marker::Model;
 

@@ -11,8 +11,8 @@ use crate::pikevm::search::Search;
 use crate::pikevm::threads::Threads;
 use crate::slots::{Slot, read, write};
 use crate::stack::{Stack, push_all};
-use rx_search::{Look, StateID};
 use rx_nfa::State;
+use rx_search::{Look, StateID};
 
 /// Whether the state rests. Else the stack and the slots go on from it.
 pub fn visit(

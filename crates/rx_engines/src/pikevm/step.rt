@@ -10,8 +10,8 @@ use crate::pikevm::search::Search;
 use crate::pikevm::threads::Threads;
 use crate::slots::Slot;
 use crate::stack::Stack;
-use rx_search::{PatternID, StateID};
 use rx_nfa::{State, Transition, matches_byte};
+use rx_search::{PatternID, StateID};
 
 /// What a state does at a byte.
 #[derive(Clone, Copy)]

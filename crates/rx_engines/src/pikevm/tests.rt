@@ -1,8 +1,8 @@
 use crate::expressions::{a_in_group_then_b, a_or_ab, either, plus, text};
 use crate::pikevm::vm::PikeVM;
 use rx_hir::Hir;
-use rx_search::{Input, MatchKind, NonMaxUsize, PatternID};
 use rx_nfa::Compiler;
+use rx_search::{Input, MatchKind, NonMaxUsize, PatternID};
 use std::alloc::Global;
 use std::process::Abort;
 use std::test::Fail;

@@ -11,8 +11,8 @@ use crate::pikevm::search::Search;
 use crate::report::reported;
 use crate::slots::empty;
 use crate::starts::latest_start;
-use rx_search::{Anchored, Input, Match, MatchKind, Memory, NonMaxUsize, PatternID, StateID};
 use rx_nfa::NFA;
+use rx_search::{Anchored, Input, Match, MatchKind, Memory, NonMaxUsize, PatternID, StateID};
 use std::alloc::Global;
 use std::marker::Model;
 

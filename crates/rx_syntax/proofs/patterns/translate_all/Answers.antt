@@ -1,4 +1,4 @@
-use Rattle.std.proofs.Common.{◌≡◌, ◌≤◌, ◌<◌, length, refl, sym, ap, ◌∙◌, subst, arith}
+use Rattle.std.proofs.Common.{◌≡◌, ◌≤◌, ◌<◌, length, sym, ap, ◌∙◌, subst, arith}
 use Rattle.rx_syntax.specs.Patterns.{all_translated, RefusesAll, IsWithin, error_at}
 use Rattle.rx_syntax.specs.declared.patterns.PatternsError.{PatternsError}
 use Rattle.rx_syntax.proofs.PatternsLemmas.{Gathers-begun, Gathers-more, Gathers-over, Gathers-fails, error_at-within, translate_each, translate_each-at, length-translate_each}

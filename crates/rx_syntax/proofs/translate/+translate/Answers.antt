@@ -1,4 +1,4 @@
-use Rattle.std.proofs.Common.{◌≡◌, suc, ◌+◌, ◌*◌, List, get_or, ◌∙◌, ap, sym, arith}
+use Rattle.std.proofs.Common.{◌≡◌, suc, ◌*◌, List, get_or, ◌∙◌, ap, sym, arith}
 use Rattle.std.proofs.lemmas.Result.{err_from_is_err_and}
 use Rattle.std.specs.Prelude.{Ok}
 use Rattle.rx_model.specs.Expression.{Expression}

@@ -1,9 +1,9 @@
 use Rattle.std.proofs.Common.{refl}
-use Rattle.rx_search.proofs.SearcherLemmas.{Progress-begun, Progress-more, Progress-over}
+use Rattle.rx_search.proofs.SearcherLemmas.{Progress-begun, Progress-more, Progress-over, AnswersAlike-begun, AnswersAlike-more}
 use Rattle.rx_search.proofs.searcher.Searcher.collect.Goals as goal
 
 pub loop-all-init : goal.loop-all-init
-loop-all-init g c = record { progress = Progress-begun _ refl c.new-all.ensures.items; can = c.requires }
+loop-all-init g c = record { progress = Progress-begun _ refl c.new-all.ensures.items; can = c.requires; alike = AnswersAlike-begun _ }
 
 pub advance-requires : goal.advance-requires
 advance-requires g c = c.loop-all.invariant.can
@@ -17,7 +17,8 @@ loop-all-preserved g c = record {
       Progress-more c.loop-all.invariant.progress c.in-Some.is c.in_ok-found.ensures.answer c.in_ok-found.ensures.moved
       c.in_ok-found.ensures.fewer_left c.in_ok-found.ensures.same_answers (λ x next value. value) c.in_ok-push.ensures.items;
   can = c.in_ok-found.ensures.can_go_on;
+  alike = AnswersAlike-more c.loop-all.invariant.alike c.in_ok-found.ensures.same_answers c.in_ok-found.ensures.still_can c.in_ok-found.ensures.stays;
 }
 
-pub returns : goal.returns
-returns g c = Progress-over c.loop-all.invariant.progress c.in_default.is c.in_ok-found.ensures.answer
+pub returns-clause-value : goal.returns-clause-value
+returns-clause-value g c = Progress-over c.loop-all.invariant.progress c.in_default.is c.in_ok-found.ensures.answer

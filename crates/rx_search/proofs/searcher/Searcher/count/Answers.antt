@@ -3,7 +3,7 @@ use Rattle.std.specs.Prelude.{Option, Some, None}
 use Rattle.std.proofs.lemmas.List.{length-map}
 use Rattle.rx_search.specs.Input.{InputValue}
 use Rattle.rx_search.specs.Searcher.{places_left, places_after, to_come}
-use Rattle.rx_search.proofs.SearcherLemmas.{Progress-begun, Progress-more, Progress-over}
+use Rattle.rx_search.proofs.SearcherLemmas.{Progress-begun, Progress-more, Progress-over, AnswersAlike-begun, AnswersAlike-more}
 use Rattle.rx_search.proofs.searcher.Searcher.count.Invariants.{one}
 use Rattle.rx_search.proofs.searcher.Searcher.count.Goals as goal
 
@@ -11,6 +11,7 @@ pub loop-count-init : goal.loop-count-init
 loop-count-init g c = record {
   counted = record { so_far = []; progress = Progress-begun _ refl refl; counted = refl };
   can = c.requires;
+  alike = AnswersAlike-begun _;
   room = omega arith;
 }
 
@@ -49,11 +50,12 @@ loop-count-preserved g c =
         counted = length-append i.counted.so_far (tt ∷ []) ∙ ap (λ n. n + 1) i.counted.counted;
       };
       can = c.in_ok-advance.ensures.can_go_on;
+      alike = AnswersAlike-more i.alike c.in_ok-advance.ensures.same_answers c.in_ok-advance.ensures.still_can c.in_ok-advance.ensures.stays;
       room = omega arith;
     }
 
-pub returns : goal.returns
-returns g c =
+pub returns-clause-value : goal.returns-clause-value
+returns-clause-value g c =
     let i = c.loop-count.invariant.counted in
     let all = to_come (g.F.Finder.searches c.args.finder.now) c.args.self in
     sym i.counted

@@ -3,7 +3,7 @@ use Rattle.std.specs.Prelude.{Option, map}
 use Rattle.rx_model.specs.Search.{Match}
 use Rattle.rx_search.specs.Input.{InputValue, from_place}
 use Rattle.rx_search.specs.Searcher.{SearcherValue, places_left, to_come}
-use Rattle.rx_search.proofs.SearcherLemmas.{Progress}
+use Rattle.rx_search.proofs.SearcherLemmas.{Progress, AnswersAlike}
 use Rattle.rx_search.proofs.searcher.Searcher.count.Given as goal
 
 -- one for each match
@@ -19,6 +19,7 @@ abbrev pub invariant-loop-count : goal.invariant-loop-count
 invariant-loop-count g l = record {
   counted : Counted (g.F.Finder.searches l.finder) (to_come (g.F.Finder.searches l.fn.finder) l.fn.self) l.count l.self;
   can : (i : ℕ) → g.F.Finder.can_search l.finder (from_place i l.self.input);
+  alike : AnswersAlike g.F.Finder.searches g.F.Finder.can_search g.F.Finder.keeps l.fn.finder l.finder;
   room : l.count + places_left l.self ≤ places_left l.fn.self;
 }
 

@@ -1,0 +1,18 @@
+//! From patterns to automata.
+//!
+//! A `Compiler` takes patterns, or expressions, to the `NFA` that rx_nfa makes of them. Its contract says what the
+//! patterns read as, and that the NFA has the first runs of these expressions; or it names the first refusal, of the
+//! grammar or of a limit. It stands on rx_syntax and rx_nfa.
+#![tactic(auto)]
+
+mod compiler;
+mod error;
+
+pub use compiler::{Compiler, PATTERN_LIMIT};
+pub use error::BuildError;
+pub use rx_nfa::{
+    Alternates, Config, NFA, State, Transition, Transitions, WhichCaptures, matches_byte,
+};
+
+#[cfg(test)]
+mod tests;
