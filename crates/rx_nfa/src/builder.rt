@@ -1,5 +1,5 @@
 //! An NFA in the making.
-ghost use Rattle.std.specs.Prelude.{◌≡◌, ◌+◌, ◌<◌, ◌≤◌, [], length, All, IfOk, OnOk};
+ghost use Rattle.std.specs.Prelude.{◌≡◌, ◌+◌, ◌<◌, ◌≤◌, [], length, All, IfOk, OnOk, OnErr};
 ghost use Rattle.rx_nfa.specs.Automaton.{NamesBelow, IsWithin};
 ghost use Rattle.rx_model.specs.Graph.{build_state, set};
 ghost use Rattle.rx_model.specs.Text.{scalar_ranges, byte_ranges};
@@ -96,6 +96,7 @@ impl Builder {
         ensures built { IfOk result (λ start. Built (build_state (set (class_view class.now))) next self.old self.new start) }
         ensures inside { IfOk result (λ start. start < length self.new.states) }
         ensures count { OnOk result (length self.new.states ≤ length self.old.states + states_of_class (class_view class.now)) }
+        ensures err { OnErr result (self.new ≡ record self.old { states = [] }) }
     {
         match class {
             Class::Unicode(scalars) => self.push_scalars(alloc, scalars, next),
@@ -114,6 +115,7 @@ impl Builder {
         ensures built { IfOk result (λ start. Built (build_state (set (scalar_ranges scalars.now))) next self.old self.new start) }
         ensures inside { IfOk result (λ start. start < length self.new.states) }
         ensures count { OnOk result (length self.new.states ≤ length self.old.states + states_of_class (scalar_ranges scalars.now)) }
+        ensures err { OnErr result (self.new ≡ record self.old { states = [] }) }
     {
         let ranges = scalars.ranges();
         let mut states = mem::replace(&mut self.states, Vec::new(alloc));
@@ -133,6 +135,7 @@ impl Builder {
         ensures built { IfOk result (λ start. Built (build_state (set (byte_ranges bytes.now))) next self.old self.new start) }
         ensures inside { IfOk result (λ start. start < length self.new.states) }
         ensures count { OnOk result (length self.new.states ≡ length self.old.states + 1) }
+        ensures err { OnErr result (self.new ≡ record self.old { states = [] }) }
     {
         let mut states = mem::replace(&mut self.states, Vec::new(alloc));
         let start = compile_bytes(alloc, &mut states, bytes.ranges(), next)?;

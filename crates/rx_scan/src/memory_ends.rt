@@ -1,7 +1,7 @@
 //! Sources and sinks in memory.
-ghost use Rattle.std.specs.Prelude.{◌≡◌, ℕ, ◌+◌, ◌<◌, ◌≤◌, [], length, drop, take, vec_len, Some, None, if◌then◌else◌};
+ghost use Rattle.std.specs.Prelude.{◌≡◌, ℕ, ◌+◌, ◌<◌, ◌≤◌, ◌↔◌, ◌-◌, ◌^◌, [], min, length, drop, take, vec_len, Some, None, if◌then◌else◌, Contains, IfOk, IsErr, OnErr};
 ghost use Rattle.std.specs.Option.{option_map};
-ghost use Rattle.rx_scan.specs.Ends.{counted};
+ghost use Rattle.rx_scan.specs.Ends.{HasRisen, Reads, Writes, CountsCall, counted};
 
 use crate::ends::{Failed, Sink, Source};
 use crate::reading::read_at_most;
@@ -66,6 +66,7 @@ impl Bytes {
         ensures left { ⟦<Bytes as Source>⟧.left result ≡ Some bytes.items }
         ensures faults { ⟦<Bytes as Source>⟧.faults result ≡ 0 }
         ensures reads { ⟦<Bytes as Source>⟧.reads result ≡ Some 0 }
+        ensures plan { (result.most ≡ most) × (result.failing.items ≡ failing.items) × (result.calls ≡ 0) }
     {
         Bytes {
             bytes: BytesSure::new(bytes),
@@ -84,7 +85,16 @@ impl Source for Bytes {
 
     ghost reads = { λ s. counted s.calls };
 
-    fn read(&mut self, buf: &mut [u8]) -> Result<usize, Failed> {
+    fn read(&mut self, buf: &mut [u8]) -> Result<usize, Failed>
+        ensures bytes { Reads (⟦<BytesSure as Source>⟧.left self.old.bytes) (⟦<BytesSure as Source>⟧.left self.new.bytes) buf.new result }
+        ensures counts { self.old.faults ≤ self.new.faults }
+        ensures call { CountsCall (counted self.old.calls) (counted self.new.calls) }
+        ensures failed { OnErr result (HasRisen self.old.faults self.new.faults) }
+        ensures fails { IsErr result ↔ Contains self.old.failing.items self.old.calls }
+        ensures most { IfOk result (λ n. n ≤ self.old.most) }
+        ensures plan { (self.new.most ≡ self.old.most) × (self.new.failing.items ≡ self.old.failing.items)
+            × (self.new.calls ≡ min (self.old.calls + 1) (2 ^ 64 - 1)) }
+    {
         let call = self.calls;
         self.calls = call.saturating_add(1);
         if self.failing.contains(&call) {
@@ -154,6 +164,7 @@ impl Kept {
         requires { 0 < most }
         ensures held { ⟦<Kept as Sink>⟧.held result ≡ Some [] }
         ensures faults { ⟦<Kept as Sink>⟧.faults result ≡ 0 }
+        ensures plan { (result.most ≡ most) × (result.failing.items ≡ failing.items) × (result.calls ≡ 0) }
     {
         Kept {
             held: Vec::new(alloc),
@@ -177,7 +188,15 @@ impl Sink for Kept {
 
     ghost faults = { λ k. k.faults };
 
-    fn write(&mut self, piece: &[u8]) -> Result<usize, Failed> {
+    fn write(&mut self, piece: &[u8]) -> Result<usize, Failed>
+        ensures bytes { Writes (Some self.old.held.items) (Some self.new.held.items) piece.now result }
+        ensures counts { self.old.faults ≤ self.new.faults }
+        ensures failed { OnErr result (HasRisen self.old.faults self.new.faults) }
+        ensures fails { Contains self.old.failing.items self.old.calls → IsErr result }
+        ensures most { IfOk result (λ n. n ≤ self.old.most) }
+        ensures plan { (self.new.most ≡ self.old.most) × (self.new.failing.items ≡ self.old.failing.items)
+            × (self.new.calls ≡ min (self.old.calls + 1) (2 ^ 64 - 1)) }
+    {
         let call = self.calls;
         self.calls = call.saturating_add(1);
         if self.failing.contains(&call) {

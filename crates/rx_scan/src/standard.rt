@@ -1,6 +1,7 @@
-//! The real ends: standard input and standard output. They tell no bytes.
-ghost use Rattle.std.specs.Prelude.{◌≡◌, None};
-ghost use Rattle.rx_scan.specs.Ends.{HasRisen};
+//! Ends over a reader and a writer, as standard input and standard output, which tell no bytes.
+ghost use Rattle.std.specs.Prelude.{◌≡◌, ◌≤◌, None, OnErr};
+ghost use Rattle.std.specs.Io.KnownBytes.{WriteAppends};
+ghost use Rattle.rx_scan.specs.Ends.{HasRisen, Writes};
 
 use crate::ends::{Failed, Sink, Source};
 use std::io::{Read, Write};
@@ -12,7 +13,7 @@ fn one_more(faults: u64) -> u64
     faults.saturating_add(1)
 }
 
-/// A source over a reader.
+/// A source over a reader. It tells the bytes that are still to come where the reader does.
 #[derive(Drop)]
 pub struct StandardInput<R> {
     reader: R,
@@ -21,7 +22,8 @@ pub struct StandardInput<R> {
 
 impl<R: Read> StandardInput<R> {
     pub fn new(reader: R) -> StandardInput<R>
-        ensures { ⟦<StandardInput<R> as Source>⟧.faults result ≡ 0 }
+        ensures faults { ⟦<StandardInput<R> as Source>⟧.faults result ≡ 0 }
+        ensures left { ⟦<StandardInput<R> as Source>⟧.left result ≡ R.remaining reader }
     {
         StandardInput { reader, faults: 0 }
     }
@@ -35,7 +37,7 @@ impl<R: Read> StandardInput<R> {
 }
 
 impl<R: Read> Source for StandardInput<R> {
-    ghost left = { λ _. None };
+    ghost left = { λ s. R.remaining s.reader };
 
     ghost faults = { λ s. s.faults };
 
@@ -52,7 +54,8 @@ impl<R: Read> Source for StandardInput<R> {
     }
 }
 
-/// A sink over a writer. A write that takes nothing of a piece is a fault.
+/// A sink over a writer. It takes what the writer does; a write that takes nothing of a piece is a fault. It doesn't
+/// tell what it holds.
 #[derive(Drop)]
 pub struct StandardOutput<W> {
     writer: W,
@@ -79,7 +82,12 @@ impl<W: Write> Sink for StandardOutput<W> {
 
     ghost faults = { λ s. s.faults };
 
-    fn write(&mut self, piece: &[u8]) -> Result<usize, Failed> {
+    fn write(&mut self, piece: &[u8]) -> Result<usize, Failed>
+        ensures bytes { Writes None None piece.now result }
+        ensures counts { self.old.faults ≤ self.new.faults }
+        ensures failed { OnErr result (HasRisen self.old.faults self.new.faults) }
+        ensures writer { WriteAppends (W.contents self.old.writer) (W.contents self.new.writer) result piece.now }
+    {
         if piece.is_empty() {
             return Ok(0);
         }
