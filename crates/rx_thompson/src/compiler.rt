@@ -42,7 +42,8 @@ impl Compiler {
         self.nfa.configure(config);
     }
 
-    /// Takes this configuration of the grammar, in place of the one before.
+    /// Takes this configuration of the grammar, in place of the one before. A line terminator of it is that of `.`
+    /// alone: anchors have the one of `Config::look_matcher`.
     pub fn syntax(&mut self, config: rx_syntax::Config)
         ensures syntax { self.new.syntax ≡ config }
         ensures config { self.new.nfa.config ≡ self.old.nfa.config }
