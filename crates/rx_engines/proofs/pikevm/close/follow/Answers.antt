@@ -1,4 +1,4 @@
-use Rattle.std.proofs.Common.{◌≡◌, ◌<◌, length, length-set, refl, sym, ◌∙◌, arith}
+use Rattle.std.proofs.Common.{◌≡◌, ◌<◌, length, refl, sym, ◌∙◌, arith}
 use Rattle.std.specs.Prelude.{false}
 use Rattle.rx_nfa.proofs.AutomatonLemmas.{automaton-bounded}
 use Rattle.rx_engines.specs.Threads.{has}

@@ -1,11 +1,8 @@
-use Rattle.std.proofs.Common.{◌≡◌, ◌++◌, ◌∷◌, refl, ◌∙◌, ap, arith, length}
-use Rattle.std.specs.Prelude.{map}
-use Rattle.rx_nfa.specs.Automaton.{at}
+use Rattle.std.proofs.Common.{◌∷◌, refl, ◌∙◌, ap, arith, length}
 use Rattle.rx_nfa.proofs.StateLemmas.{state-known, names-known}
 use Rattle.rx_engines.specs.declared.frame.Frame.TheVariants.{Explore}
 use Rattle.rx_engines.specs.Threads.{Frames}
-use Rattle.rx_engines.specs.Walk.{explore_all, looked}
-use Rattle.rx_engines.specs.Simulation.{is_resting, cost, move_of, going_on}
+use Rattle.rx_engines.specs.Simulation.{is_resting, cost}
 use Rattle.rx_engines.proofs.WalkLemmas.{Expands-unwritten, Expands-written}
 use Rattle.rx_engines.proofs.CloseLemmas.{AllHere-union, union-length, AllHere-looked, looked-length, going-onto, going-looked, Visited-onward}
 use Rattle.rx_engines.proofs.pikevm.close.visit.Goals as goal
