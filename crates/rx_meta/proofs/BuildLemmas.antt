@@ -14,7 +14,7 @@ use Rattle.rx_meta.specs.Regex.{RegexValue}
 use Rattle.rx_meta.specs.Build.{IsBuilt, IsBuiltOf}
 
 -- the strategy of an NFA under a configuration
-abbrev strategy_of : Config → Nfa → StrategyValue
+abbrev pub strategy_of : Config → Nfa → StrategyValue
 strategy_of c nfa = record { nfa = nfa; kind = kind_of c; which_captures = captures_of c; backtracks = has_backtracker c }
 
 pub built : (c : Config) (hs : List Expression) (nfa : Nfa) (core : StrategyValue) (regex : RegexValue) → IsCompiled (compiler_of c) hs nfa → AreAllowed (compiler_of c) hs → core ≡ strategy_of c nfa

@@ -7,11 +7,12 @@ ghost use Rattle.rx_meta.specs.Reading.{pattern_limit};
 ghost use Rattle.rx_meta.specs.Build.{IsBuilt, IsRefused, IsRefusedOf, IsBuiltOf, IsRefusedFor};
 
 use crate::error::BuildError;
+use crate::info::RegexInfo;
 use crate::reading::{PATTERN_LIMIT, read_patterns};
 use crate::regex::Regex;
 use rx_hir::Hir;
-use rx_strategy::{Config, Core};
 use rx_nfa::{Compiler, NFA};
+use rx_strategy::{Config, Core};
 use std::alloc::Global;
 use std::slice;
 
@@ -90,7 +91,8 @@ impl Builder {
     {
         let nfa = self.compile(alloc, exprs)?;
         let core = Core::new(&self.config, nfa)?;
-        Ok(Regex::from_parts(self.config.clone(), core))
+        let info = RegexInfo::new(alloc, exprs)?;
+        Ok(Regex::from_parts(self.config.clone(), core, info))
     }
 
     /// The regex of so many patterns, of which the first ones, of at most 2147483647, read as these expressions.

@@ -36,9 +36,7 @@ impl BuildError {
         ensures { result ≡ size_limit_of self.now }
     {
         match self {
-            BuildError::NFA(rx_nfa::BuildError::ExceededSizeLimit { limit, .. }) => Some(
-                *limit,
-            ),
+            BuildError::NFA(rx_nfa::BuildError::ExceededSizeLimit { limit, .. }) => Some(*limit),
             _ => None,
         }
     }

@@ -2,7 +2,12 @@ use Rattle.std.proofs.Common.{ap, ◌∙◌}
 use Rattle.rx_strategy.specs.declared.config.Config.{Config}
 use Rattle.rx_meta.specs.Regex.{RegexValue}
 use Rattle.rx_meta.proofs.BuildLemmas.{built}
+use Rattle.rx_meta.proofs.InfoLemmas.{known-of}
 use Rattle.rx_meta.proofs.builder.Builder.build_many_from_hir.Goals as goal
+
+pub from_parts-requires : goal.from_parts-requires
+from_parts-requires c =
+    known-of c.args.self.now.config c.args.exprs.now c.in_ok-nfa.nfa c.in_ok-core.core c.in_ok-info.info.properties c.in_ok-nfa.ensures.compiled c.in_ok-core.ensures c.in_ok-info.ensures
 
 pub returns-clause-built : goal.returns-clause-built
 returns-clause-built c =
