@@ -58,7 +58,7 @@ is_impossible hs v =
     let h : Expression = alternation (expressions hs) in
     begins_too_late h v || ends_too_early h v || is_too_short h v || is_too_long h v
 
--- the properties are those of patterns together of which the strategy finds no match where none is possible
+-- The properties are those of some patterns together, of which the strategy finds no match where none is possible.
 pub record AreKnownOf (p : Properties) (s : StrategyValue) : Type 0 where
   pub patterns : List Expression
   pub properties : AreOf (alternation (expressions patterns)) p

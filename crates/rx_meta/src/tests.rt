@@ -147,7 +147,7 @@ fn a_size_limit_is_told(rt: HostRuntime) -> Result<(), Fail> {
     let mut builder = Regex::builder();
     builder.configure(Regex::config().nfa_size_limit(Some(159)));
     let error = builder.build(alloc, "a").err().expect(&rt, "a refusal");
-    let cause = rx_nfa::BuildError::ExceededSizeLimit {
+    let cause = rx_thompson::BuildError::ExceededSizeLimit {
         limit: 159,
         size: 256,
     };
