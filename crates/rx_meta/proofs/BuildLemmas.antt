@@ -1,5 +1,5 @@
 -- From what the compiler and the strategy give to a regex.
-use Rattle.std.proofs.Common.{◌≡◌, ℕ, ◌≤◌, List, length, Ok, refl, sym, ap, ◌∙◌, subst, arith}
+use Rattle.std.proofs.Common.{◌≡◌, ℕ, ◌≤◌, List, length, Result, Ok, refl, sym, ap, ◌∙◌, subst, arith}
 use Rattle.std.proofs.lemmas.List.{take_all}
 use Rattle.rx_model.specs.Expression.{Expression}
 use Rattle.rx_nfa.specs.Nfa.{Nfa}
@@ -14,7 +14,7 @@ use Rattle.rx_meta.specs.Regex.{RegexValue}
 use Rattle.rx_meta.specs.Build.{IsBuilt, IsBuiltOf}
 
 -- the strategy of an NFA under a configuration
-abbrev strategy_of : Config → Nfa → StrategyValue
+abbrev pub strategy_of : Config → Nfa → StrategyValue
 strategy_of c nfa = record { nfa = nfa; kind = kind_of c; which_captures = captures_of c; backtracks = has_backtracker c }
 
 pub built : (c : Config) (hs : List Expression) (nfa : Nfa) (core : StrategyValue) (regex : RegexValue) → IsCompiled (compiler_of c) hs nfa → AreAllowed (compiler_of c) hs → core ≡ strategy_of c nfa
@@ -36,7 +36,7 @@ all-of : (syntax : Grammar) (texts : List (List ℕ)) → length texts ≤ patte
 unfolding reading_of
 all-of syntax texts few = ap (all_read syntax) (take_all pattern_limit texts few)
 
-pub built-of : (syntax : Grammar) (c : Config) (texts : List (List ℕ)) (count : ℕ) (hs given : List Expression) → count ≡ length texts → reading_of syntax texts ≡ Ok hs → given ≡ hs
-    → (regex : RegexValue) → (count ≤ pattern_limit) × IsBuilt c given regex → IsBuiltOf syntax c texts regex
-built-of syntax c texts count hs given counted read same regex (few, is) =
+pub built-of : (syntax : Grammar) (c : Config) (texts : List (List ℕ)) (count : ℕ) (hs given : List Expression) → count ≡ length texts → count ≤ pattern_limit → reading_of syntax texts ≡ Ok hs
+    → given ≡ hs → (regex : RegexValue) → IsBuilt c given regex → IsBuiltOf syntax c texts regex
+built-of syntax c texts count hs given counted few read same regex is =
     (hs, sym (all-of syntax texts (omega arith)) ∙ read, subst (λ es. IsBuilt c es regex) same is)

@@ -1,3 +1,5 @@
 pub mod ReadingLemmas
+pub mod ImpossibleLemmas
 pub mod BuildLemmas
+pub mod InfoLemmas
 pub mod RegexLemmas

@@ -2,3 +2,4 @@ pub mod Error
 pub mod Reading
 pub mod Regex
 pub mod Build
+pub mod Impossible

@@ -1,12 +1,8 @@
 -- What the patterns of a regex read as.
-use Rattle.std.specs.Prelude.{◌≡◌, ℕ, List, take, Result}
+use Rattle.std.specs.Prelude.{ℕ, List, take, Result}
 use Rattle.rx_model.specs.Expression.{Expression}
 use Rattle.rx_reader.specs.declared.config.Config.{Config}
 use Rattle.rx_syntax.specs.Patterns.{Refusal, all_read}
-use Rattle.rx_syntax.specs.declared.patterns.PatternsError.{PatternsError}
-use Rattle.rx_syntax.specs.declared.patterns.PatternsError.TheVariants.{Syntax as Refused, Memory as NoMemory}
-use Rattle.rx_meta.specs.declared.error.BuildError.{BuildError}
-use Rattle.rx_meta.specs.declared.error.BuildError.TheVariants.{Syntax, Memory}
 
 -- how many patterns are read
 abbrev pub pattern_limit : ℕ
@@ -15,8 +11,3 @@ pattern_limit = 2147483647
 -- what the patterns up to that many read as, or the first refusal
 unfoldable pub reading_of : Config → List (List ℕ) → Result (List Expression) Refusal
 reading_of syntax texts = all_read syntax (take pattern_limit texts)
-
--- the error of a build for that of its patterns
-abbrev pub error_of : PatternsError → BuildError
-error_of (Refused pattern error) = Syntax pattern error
-error_of NoMemory = Memory

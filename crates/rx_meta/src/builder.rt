@@ -1,17 +1,19 @@
 //! From patterns to a regex.
-ghost use Rattle.std.specs.Prelude.{◌≡◌, ◌≤◌, ◌∷◌, [], length, map, IfOk, IfErr};
+ghost use Rattle.std.specs.Prelude.{◌≡◌, ◌∷◌, [], map, IfOk, IfErr};
 ghost use Rattle.rx_nfa.specs.Compiled.{AreAllowed, IsCompiled};
 ghost use Rattle.rx_strategy.specs.Config.{compiler_of, nothing_set, overwritten};
 ghost use Rattle.rx_reader.specs.Config.{default};
-ghost use Rattle.rx_meta.specs.Reading.{pattern_limit};
-ghost use Rattle.rx_meta.specs.Build.{IsBuilt, IsRefused, IsRefusedOf, IsBuiltOf, IsRefusedFor};
+ghost use Rattle.rx_meta.specs.Build.{IsBuilt, IsRefused, IsBuiltOf, IsRefusedFor};
 
 use crate::error::BuildError;
-use crate::reading::{PATTERN_LIMIT, read_patterns};
+use crate::info::RegexInfo;
+use crate::reading::read_patterns;
 use crate::regex::Regex;
 use rx_hir::Hir;
-use rx_nfa::{Compiler, NFA};
+use rx_nfa::NFA;
+use rx_search::Memory;
 use rx_strategy::{Config, Core};
+use rx_thompson::Compiler;
 use std::alloc::Global;
 use std::slice;
 
@@ -69,7 +71,10 @@ impl Builder {
         ensures refused { IfErr result (IsRefusedFor self.now.syntax self.now.config (map (λ p. p.now) patterns.now)) }
     {
         let exprs = read_patterns(alloc, patterns, &self.syntax)?;
-        self.build_counted(alloc, patterns.len(), &exprs)
+        let nfa = self
+            .compiler()
+            .build_counted(alloc, patterns.len(), &exprs)?;
+        Ok(self.regex_of(alloc, nfa, &exprs)?)
     }
 
     /// The regex of one expression. It is refused as by `build_many_from_hir`.
@@ -88,38 +93,28 @@ impl Builder {
         ensures built { IfOk result (IsBuilt self.now.config exprs.now) }
         ensures refused { IfErr result (IsRefused self.now.config exprs.now) }
     {
-        let nfa = self.compile(alloc, exprs)?;
-        let core = Core::new(&self.config, nfa)?;
-        Ok(Regex::from_parts(self.config.clone(), core))
+        let nfa = self.compiler().build_many_from_hir(alloc, exprs)?;
+        Ok(self.regex_of(alloc, nfa, exprs)?)
     }
 
-    /// The regex of so many patterns, of which the first ones, of at most 2147483647, read as these expressions.
-    fn build_counted(&self, alloc: Global, count: usize, exprs: &[Hir]) -> Result<Regex, BuildError>
-        requires { count ≤ pattern_limit → length exprs.now ≡ count }
-        ensures built { IfOk result (λ regex. (count ≤ pattern_limit) × IsBuilt self.now.config exprs.now regex) }
-        ensures refused { IfErr result (IsRefusedOf self.now.config count exprs.now) }
-    {
-        if count > PATTERN_LIMIT {
-            return Err(BuildError::NFA(rx_nfa::BuildError::TooManyPatterns {
-                given: count,
-                limit: PATTERN_LIMIT,
-            }));
-        }
-        self.build_many_from_hir(alloc, exprs)
-    }
-
-    /// The NFA of these expressions.
-    fn compile(&self, alloc: Global, exprs: &[Hir]) -> Result<NFA, BuildError>
-        ensures compiled { IfOk result (IsCompiled (compiler_of self.now.config) exprs.now) }
-        ensures allowed { IfOk result (λ _. AreAllowed (compiler_of self.now.config) exprs.now) }
-        ensures refused { IfErr result (IsRefused self.now.config exprs.now) }
+    /// The compiler under this configuration.
+    fn compiler(&self) -> Compiler
+        ensures { result.nfa.config ≡ compiler_of self.now.config }
     {
         let mut compiler = Compiler::new();
         compiler.configure(self.config.compiler());
-        match compiler.build_many_from_hir(alloc, exprs) {
-            Ok(nfa) => Ok(nfa),
-            Err(error) => Err(BuildError::from(error)),
-        }
+        compiler
+    }
+
+    /// The regex of these expressions, whose NFA this is.
+    fn regex_of(&self, alloc: Global, nfa: NFA, exprs: &[Hir]) -> Result<Regex, Memory>
+        requires compiled { IsCompiled (compiler_of self.now.config) exprs.now nfa }
+        requires allowed { AreAllowed (compiler_of self.now.config) exprs.now }
+        ensures { IfOk result (IsBuilt self.now.config exprs.now) }
+    {
+        let core = Core::new(&self.config, nfa)?;
+        let info = RegexInfo::new(alloc, exprs)?;
+        Ok(Regex::from_parts(self.config.clone(), core, info))
     }
 
     /// The same builder once more.

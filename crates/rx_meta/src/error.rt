@@ -14,7 +14,7 @@ pub enum BuildError {
     /// The grammar reads no expression for this pattern, the first such one.
     Syntax { pid: PatternID, err: SyntaxError },
     /// A count or the cost of the patterns passes its limit.
-    NFA(rx_nfa::BuildError),
+    NFA(rx_thompson::BuildError),
     /// There was no memory.
     Memory,
 }
@@ -36,7 +36,9 @@ impl BuildError {
         ensures { result ≡ size_limit_of self.now }
     {
         match self {
-            BuildError::NFA(rx_nfa::BuildError::ExceededSizeLimit { limit, .. }) => Some(*limit),
+            BuildError::NFA(rx_thompson::BuildError::ExceededSizeLimit { limit, .. }) => Some(
+                *limit,
+            ),
             _ => None,
         }
     }
@@ -98,12 +100,13 @@ impl<T: Drop> From<AllocFailed<T>> for BuildError {
     }
 }
 
-impl From<rx_nfa::BuildError> for BuildError {
+impl From<rx_thompson::BuildError> for BuildError {
     ghost from_gives = { λ cause e. e ≡ error_of cause };
 
-    fn from(error: rx_nfa::BuildError) -> BuildError {
+    fn from(error: rx_thompson::BuildError) -> BuildError {
         match error {
-            rx_nfa::BuildError::Memory => BuildError::Memory,
+            rx_thompson::BuildError::Syntax { pid, err } => BuildError::Syntax { pid, err },
+            rx_thompson::BuildError::Memory => BuildError::Memory,
             other => BuildError::NFA(other),
         }
     }

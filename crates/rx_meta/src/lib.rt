@@ -8,14 +8,17 @@ mod builder;
 mod cache;
 mod error;
 mod found;
+mod info;
+mod laws;
 mod reading;
 mod regex;
 
 pub use builder::Builder;
 pub use cache::Cache;
 pub use error::BuildError;
+pub use laws::impossible_inputs_have_no_match;
 pub use regex::Regex;
-pub use rx_strategy::Config;
+pub use rx_strategy::{Config, Core};
 
 #[cfg(test)]
 mod tests;

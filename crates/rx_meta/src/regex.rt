@@ -1,5 +1,5 @@
 //! The public face: build once, search from anywhere.
-ghost use Rattle.std.specs.Prelude.{◌≡◌, ◌≤◌, ◌∷◌, [], false, length, None, replicate, is_some, map, option_map, IfOk, IfErr, IfNone, IfSome, OnErr, IsOk};
+ghost use Rattle.std.specs.Prelude.{◌≡◌, ◌≤◌, ◌∷◌, [], false, length, None, replicate, is_some, map, option_map, IfOk, IfErr, IfNone, IfSome, IsTrue, OnErr, IsOk};
 ghost use Rattle.rx_model.specs.Search.{Patterns};
 ghost use Rattle.rx_search.specs.Input.{next_in};
 ghost use Rattle.rx_search.specs.Matches.{match_value, half_match_value};
@@ -9,12 +9,14 @@ ghost use Rattle.rx_strategy.specs.Config.{nothing_set};
 ghost use Rattle.rx_strategy.specs.Cache.{Fits, memory_of, accounted_for};
 ghost use Rattle.rx_strategy.specs.Strategy.{told_in, told_for, next_match_in, IsMatchWith};
 ghost use Rattle.rx_meta.specs.Build.{IsBuiltOf, IsRefusedFor};
+ghost use Rattle.rx_meta.specs.Impossible.{AreKnownOf};
 ghost use Rattle.rx_meta.specs.Regex.{IsOf, regex_memory};
 
 use crate::builder::Builder;
 use crate::cache::Cache;
 use crate::error::BuildError;
 use crate::found::{half_match, pattern};
+use crate::info::RegexInfo;
 use rx_engines::empty;
 use rx_search::{GroupInfo, HalfMatch, Input, Match, Memory, NonMaxUsize, PatternID};
 use rx_strategy::{Config, Core};
@@ -32,19 +34,24 @@ const PROPERTIES_SIZE: usize = 64;
 /// pattern. A search that finds nothing leaves every slot None.
 ///
 /// A call that takes `rt` makes a cache for itself, and fails where there is no memory for it. A call that ends in `_with`
-/// is given one that serves this regex, and never fails.
+/// is given one that serves this regex, and never fails. Where it is known beforehand that there is no match in the span,
+/// no engine runs, and no cache is made.
 #[derive(Drop)]
 pub struct Regex {
     config: Config,
     core: Core,
+    info: RegexInfo,
 }
 
 impl Model for Regex {
     ghost use Rattle.rx_meta.specs.Regex.{RegexValue};
+    ghost use Rattle.rx_meta.specs.Impossible.{AreKnownOf};
 
     ghost Value = { RegexValue };
 
     ghost view = { λ r. record { config = r.config; strategy = r.core } };
+
+    ghost invariant = { λ r. AreKnownOf r.info.properties r.core };
 }
 
 impl Regex {
@@ -80,11 +87,13 @@ impl Regex {
         Builder::new()
     }
 
-    /// A regex that searches by this strategy, which was made under the configuration.
-    pub(crate) fn from_parts(config: Config, core: Core) -> Regex
+    /// A regex that searches by this strategy, which was made under the configuration. The strategy finds no match where
+    /// the patterns are known to have none.
+    pub(crate) fn from_parts(config: Config, core: Core, info: RegexInfo) -> Regex
+        requires { AreKnownOf info.properties core }
         ensures { result ≡ record { config = config; strategy = core } }
     {
-        Regex { config, core }
+        Regex { config, core, info }
     }
 
     /// Whether there is a match in the input's span, under every configuration.
@@ -100,7 +109,10 @@ impl Regex {
         ensures patterns { (r : Patterns) → IsOf self.now r
             → is_some (next_match_in self.now.strategy input.now) ≡ is_some (next_in r input.now) }
     {
-        let mut cache = self.cache_for(alloc, input)?;
+        if self.is_impossible(input) {
+            return Ok(false);
+        }
+        let mut cache = self.create_cache(alloc)?;
         Ok(self.core.is_match(&mut cache.engines, input))
     }
 
@@ -142,7 +154,10 @@ impl Regex {
             → IfOk result (λ o. IfSome o (λ found. IsMatchWith r input.now (λ m. found ≡ match_value m))) }
         ensures within { IfOk result (λ o. IfSome o (λ m. (input.now.start ≤ m.start) × (m.end ≤ input.now.end))) }
     {
-        let mut cache = self.cache_for(alloc, input)?;
+        if self.is_impossible(input) {
+            return Ok(None);
+        }
+        let mut cache = self.create_cache(alloc)?;
         self.search_with(&mut cache, input)
     }
 
@@ -164,7 +179,10 @@ impl Regex {
             → IfOk result (λ o. IfSome o (λ found. IsMatchWith r input.now (λ m. found ≡ half_match_value m))) }
         ensures within { IfOk result (λ o. IfSome o (λ h. (input.now.start ≤ h.offset) × (h.offset ≤ input.now.end))) }
     {
-        let mut cache = self.cache_for(alloc, input)?;
+        if self.is_impossible(input) {
+            return Ok(None);
+        }
+        let mut cache = self.create_cache(alloc)?;
         self.search_half_with(&mut cache, input)
     }
 
@@ -191,10 +209,11 @@ impl Regex {
         ensures slots_within { AreWithin input.now slots.new }
         ensures err { OnErr result (slots.new ≡ replicate (length slots.old) None) }
     {
-        let Ok(mut cache) = self.cache_for(alloc, input) else {
-            empty(slots);
-            return Err(Memory);
-        };
+        empty(slots);
+        if self.is_impossible(input) {
+            return Ok(None);
+        }
+        let mut cache = self.create_cache(alloc)?;
         self.search_slots_with(&mut cache, input, slots)
     }
 
@@ -212,7 +231,7 @@ impl Regex {
         ensures cache { cache.new ≡ cache.old }
         ensures sure { IsOk result }
     {
-        Ok(self.core.search(&mut cache.engines, input, &mut []))
+        self.search_match_with(cache, input, &mut [])
     }
 
     /// As `search_half`, with a cache that serves this regex.
@@ -233,7 +252,7 @@ impl Regex {
         ensures cache { cache.new ≡ cache.old }
         ensures sure { IsOk result }
     {
-        let found = self.core.search(&mut cache.engines, input, &mut []);
+        let found = self.search_match_with(cache, input, &mut [])?;
         Ok(half_match(found))
     }
 
@@ -258,7 +277,7 @@ impl Regex {
         ensures cache { cache.new ≡ cache.old }
         ensures sure { IsOk result }
     {
-        let found = self.core.search(&mut cache.engines, input, slots);
+        let found = self.search_match_with(cache, input, slots)?;
         Ok(pattern(found))
     }
 
@@ -284,6 +303,10 @@ impl Regex {
         ensures cache { cache.new ≡ cache.old }
         ensures sure { IsOk result }
     {
+        if self.is_impossible(input) {
+            empty(slots);
+            return Ok(None);
+        }
         Ok(self.core.search(&mut cache.engines, input, slots))
     }
 
@@ -297,16 +320,15 @@ impl Regex {
         })
     }
 
-    /// The same, for a search of this input.
-    fn cache_for(&self, alloc: Global, input: &Input<'_>) -> Result<Cache, Memory>
-        ensures fits { IfOk result (Fits self.now.strategy) }
+    /// Whether it is known that there is no match in the input's span.
+    fn is_impossible(&self, input: &Input<'_>) -> bool
+        ensures none { IsTrue result → next_match_in self.now.strategy input.now ≡ None }
+        ensures untold { IsTrue result → told_in self.now.strategy input.now ≡ None }
         ensures patterns { (r : Patterns) → IsOf self.now r → told_in self.now.strategy input.now ≡ told_for r input.now }
         ensures exists { (r : Patterns) → IsOf self.now r
             → is_some (next_match_in self.now.strategy input.now) ≡ is_some (next_in r input.now) }
     {
-        // What is read tells that the span lies in the haystack, also where there is no memory for a search.
-        let _start = input.start();
-        self.create_cache(alloc)
+        self.info.is_impossible(input)
     }
 
     /// How many patterns there are.

@@ -147,7 +147,7 @@ fn a_size_limit_is_told(rt: HostRuntime) -> Result<(), Fail> {
     let mut builder = Regex::builder();
     builder.configure(Regex::config().nfa_size_limit(Some(159)));
     let error = builder.build(alloc, "a").err().expect(&rt, "a refusal");
-    let cause = rx_nfa::BuildError::ExceededSizeLimit {
+    let cause = rx_thompson::BuildError::ExceededSizeLimit {
         limit: 159,
         size: 256,
     };
@@ -260,4 +260,81 @@ fn a_builder_takes_a_grammar_and_a_line_terminator(rt: HostRuntime) -> Result<()
     let found = regex.find(&rt, alloc, &Input::new(b"x;A;")).ok();
     assert_eq!(rt; whole(found.expect(&rt, "memory")), Some((0, 2, 3)));
     Ok(())
+}
+
+/// What a search of this input for a pattern finds.
+fn found_in<R: Abort + Wait>(
+    rt: &R,
+    alloc: Global,
+    pattern: &str,
+    input: &Input<'_>,
+) -> Option<(usize, usize, usize)> {
+    let regex = regex_of(rt, alloc, pattern);
+    let found = regex.search(rt, alloc, input).ok();
+    whole(found.expect(rt, "memory"))
+}
+
+/// What a search of this input for a pattern leaves in the slots of the whole match, which held places before.
+fn slots_in<R: Abort + Wait>(
+    rt: &R,
+    alloc: Global,
+    pattern: &str,
+    input: &Input<'_>,
+) -> (Option<usize>, Option<usize>) {
+    let regex = regex_of(rt, alloc, pattern);
+    let mut slots = [NonMaxUsize::new(9); 2];
+    let _found = regex.search_slots(rt, alloc, input, &mut slots);
+    (place(slots[0]), place(slots[1]))
+}
+
+#[test]
+fn each_match_begins_at_the_start(rt: HostRuntime) {
+    let alloc = rt.alloc();
+    let whole = Input::new(b"aa");
+    let later = Input::new(b"aa").range(1..2);
+    assert_eq!(rt; found_in(&rt, alloc, "^a", &whole), Some((0, 0, 1)));
+    assert_eq!(rt; found_in(&rt, alloc, "^a", &later), None);
+    assert_eq!(rt; found_in(&rt, alloc, "^a|a", &later), Some((0, 1, 2)));
+    assert_eq!(rt; slots_in(&rt, alloc, "^a", &whole), (Some(0), Some(1)));
+    assert_eq!(rt; slots_in(&rt, alloc, "^a", &later), (None, None));
+}
+
+#[test]
+fn each_match_ends_at_the_end(rt: HostRuntime) {
+    let alloc = rt.alloc();
+    let whole = Input::new(b"aa");
+    let shorter = Input::new(b"aa").range(0..1);
+    assert_eq!(rt; found_in(&rt, alloc, "a$", &whole), Some((0, 1, 2)));
+    assert_eq!(rt; found_in(&rt, alloc, "a$", &shorter), None);
+    assert_eq!(rt; found_in(&rt, alloc, "a$|a", &shorter), Some((0, 0, 1)));
+    assert_eq!(rt; slots_in(&rt, alloc, "a$", &whole), (Some(1), Some(2)));
+    assert_eq!(rt; slots_in(&rt, alloc, "a$", &shorter), (None, None));
+}
+
+#[test]
+fn each_match_has_a_least_length(rt: HostRuntime) {
+    let alloc = rt.alloc();
+    let two = Input::new(b"aaa").range(0..2);
+    let three = Input::new(b"aaa");
+    assert_eq!(rt; found_in(&rt, alloc, "a{3}", &two), None);
+    assert_eq!(rt; found_in(&rt, alloc, "a{3}", &three), Some((0, 0, 3)));
+    assert_eq!(rt; slots_in(&rt, alloc, "a{3}", &two), (None, None));
+    assert_eq!(rt; slots_in(&rt, alloc, "a{3}", &three), (Some(0), Some(3)));
+}
+
+#[test]
+fn each_match_is_the_whole_span(rt: HostRuntime) {
+    let alloc = rt.alloc();
+    let two = Input::new(b"aa");
+    let three = Input::new(b"aaa");
+    assert_eq!(rt; found_in(&rt, alloc, "^a{2}$", &two), Some((0, 0, 2)));
+    assert_eq!(rt; found_in(&rt, alloc, "^a{2}$", &three), None);
+    assert_eq!(rt; slots_in(&rt, alloc, "^a{2}$", &three), (None, None));
+    // without an anchor the match may begin later
+    assert_eq!(rt; found_in(&rt, alloc, "a{2}$", &three), Some((0, 1, 3)));
+    let two = Input::new(b"aa").anchored(Anchored::Yes);
+    let three = Input::new(b"aaa").anchored(Anchored::Yes);
+    assert_eq!(rt; found_in(&rt, alloc, "a{2}$", &two), Some((0, 0, 2)));
+    assert_eq!(rt; found_in(&rt, alloc, "a{2}$", &three), None);
+    assert_eq!(rt; slots_in(&rt, alloc, "a{2}$", &three), (None, None));
 }

@@ -7,10 +7,13 @@ use Rattle.std.proofs.lemmas.Bool.Decides.{nat_tests}
 use Rattle.rx_model.specs.Expression.{Expression}
 use Rattle.rx_hir.specs.Cost.{capped}
 use Rattle.rx_nfa.specs.Compiled.{AreAllowed, nfa_states}
-use Rattle.rx_nfa.specs.declared.error.BuildError.{BuildError as NfaError}
-use Rattle.rx_nfa.specs.declared.error.BuildError.TheVariants.{TooManyPatterns, TooManyGroups, TooManyStates, ExceededSizeLimit, Memory as NoMemory}
+use Rattle.rx_thompson.specs.Build.{IsRefused}
+use Rattle.rx_thompson.specs.declared.error.BuildError.{BuildError as CompilerError}
+use Rattle.rx_thompson.specs.declared.error.BuildError.TheVariants.{Syntax, TooManyPatterns, TooManyGroups, TooManyStates, ExceededSizeLimit, Memory as NoMemory}
 use Rattle.rx_strategy.specs.Config.{compiler_of, nothing_set}
-use Rattle.rx_meta.specs.Build.{IsCause}
+use Rattle.rx_meta.specs.Error.{error_of}
+use Rattle.rx_meta.specs.declared.error.BuildError.{BuildError}
+use Rattle.rx_meta.specs.declared.error.BuildError.TheVariants.{NFA, Memory}
 use Rattle.rx_scan.specs.Patterns.{slot_count, are_small}
 
 -- The size of patterns, by the compiler's counts.
@@ -49,14 +52,18 @@ big-cost hs lt = second-false _ _ (second-false _ _ (above _ _ lt))
 capped-above : (n limit : ℕ) → limit < capped n → limit < n
 capped-above n limit lt = omega (arith, lt, min-le_left n (2 ^ 64 - 1))
 
--- what the compiler refuses under the default configuration is too big
-pub refused-big : (cause : NfaError) (hs : List Expression) → IsCause nothing_set hs cause → are_small hs ≡ false
-refused-big (TooManyPatterns given limit) hs is = big-patterns hs (omega (arith, is.0, is.1, is.2))
-refused-big (TooManyGroups given limit) hs is =
+-- what the compiler refuses under the default configuration, beside want of memory, is too big
+pub refused-big : (e cause : CompilerError) (hs : List Expression) → ◌≡◌ {A = BuildError} (NFA e) (error_of cause) → IsRefused (compiler_of nothing_set) hs cause → are_small hs ≡ false
+refused-big e (Syntax pid err) hs same is = absurd is
+refused-big e (TooManyPatterns given limit) hs same is = big-patterns hs (omega (arith, is.0, is.1, is.2))
+refused-big e (TooManyGroups given limit) hs same is =
     big-slots hs (capped-above (slot_count hs) 2147483646 (omega (arith, is.1, is.2, is.3)))
-refused-big (TooManyStates given limit) hs is =
+refused-big e (TooManyStates given limit) hs same is =
     big-states hs (capped-above (nfa_states hs) 2147483647 (omega (arith, is.1, is.2, is.3)))
-refused-big (ExceededSizeLimit limit size) hs is =
-    let same : 10485760 ≡ limit = (let e : Some 10485760 ≡ Some limit = is.2 in cc) in
-    big-cost hs (omega (arith, same, is.3, is.4))
-refused-big NoMemory hs is = absurd is
+refused-big e (ExceededSizeLimit limit size) hs same is =
+    let known : 10485760 ≡ limit = (let e : Some 10485760 ≡ Some limit = is.2 in cc) in
+    big-cost hs (omega (arith, known, is.3, is.4))
+refused-big e NoMemory hs same is = absurd (memory-apart e same)
+  where
+    memory-apart : (e : CompilerError) → ◌≡◌ {A = BuildError} (NFA e) Memory → ⊥
+    memory-apart e same = cc

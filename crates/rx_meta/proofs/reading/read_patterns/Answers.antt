@@ -1,5 +1,5 @@
 use Rattle.std.proofs.Common.{sym, ◌∙◌}
-use Rattle.rx_meta.proofs.ReadingLemmas.{first-read, first-count, refuses-first}
+use Rattle.rx_meta.proofs.ReadingLemmas.{first-read, first-count, refused-first}
 use Rattle.rx_meta.proofs.reading.read_patterns.Goals as goal
 
 pub returns-in-Ok : goal.returns-in-Ok
@@ -9,4 +9,5 @@ returns-in-Ok c = (
 )
 
 pub returns-in-Err : goal.returns-in-Err
-returns-in-Err c = refuses-first c.args.config.now c.args.patterns.now c.min.result c.in-Err.error _ c.min.ensures c.build_error.ensures c.in-Err.ensures.value
+returns-in-Err c = λ config count.
+    refused-first c.args.config.now config count c.args.patterns.now c.min.result c.in-Err.error _ c.min.ensures c.of_patterns.ensures c.in-Err.ensures.value

@@ -1,9 +1,5 @@
-use Rattle.std.proofs.Common.{sym, subst}
-use Rattle.rx_meta.specs.Regex.{RegexValue, IsOf}
 use Rattle.rx_meta.proofs.RegexLemmas.{next-pattern}
 use Rattle.rx_meta.proofs.regex.Regex.search_slots_with.Goals as goal
 
 pub returns-clause-next : goal.returns-clause-next
-returns-clause-next c r of e =
-    let inside = subst (λ (x : RegexValue). IsOf x r) (sym c.self.view_is) of in
-    next-pattern _ _ _ (c.search-found.ensures.value e) (c.search-found.ensures.patterns r inside) _ c.pattern.ensures
+returns-clause-next c r of e = next-pattern _ _ (c.in_ok-found.ensures.next r of e) _ c.pattern.ensures
