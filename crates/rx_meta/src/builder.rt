@@ -63,9 +63,8 @@ impl Builder {
 
     /// The regex of these patterns, which are numbered from 0 on.
     ///
-    /// All patterns are read, up to the 2147483647th, before any is translated, and all are translated before anything
-    /// is built. Refused are, in this order: the first pattern that reading refuses, the first that translation refuses,
-    /// and what `build_many_from_hir` refuses.
+    /// All patterns are read, up to the 2147483647th, before any is translated. Refused are, in this order: the first
+    /// pattern that reading refuses, the first that translation refuses, and what `build_many_from_hir` refuses.
     pub fn build_many(&self, alloc: Global, patterns: &[&str]) -> Result<Regex, BuildError>
         ensures built { IfOk result (IsBuiltOf self.now.syntax self.now.config (map (λ p. p.now) patterns.now)) }
         ensures refused { IfErr result (IsRefusedFor self.now.syntax self.now.config (map (λ p. p.now) patterns.now)) }

@@ -338,3 +338,15 @@ fn each_match_is_the_whole_span(rt: HostRuntime) {
     assert_eq!(rt; found_in(&rt, alloc, "a{2}$", &three), None);
     assert_eq!(rt; slots_in(&rt, alloc, "a{2}$", &three), (None, None));
 }
+
+#[test]
+fn no_match_begins_inside_a_character(rt: HostRuntime) {
+    let alloc = rt.alloc();
+    for earliest in [false, true] {
+        let input = Input::new("a☃b".as_bytes()).earliest(earliest);
+        let regex = regex_of(&rt, alloc, r"(?-u:\B)|a☃");
+        assert!(rt; regex.is_match(&rt, alloc, &input) == Ok(true));
+        let regex = regex_of(&rt, alloc, r"(?-u:\B)");
+        assert!(rt; regex.is_match(&rt, alloc, &input) == Ok(false));
+    }
+}

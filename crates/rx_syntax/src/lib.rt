@@ -18,4 +18,5 @@ mod translate;
 
 pub use pattern::{parse, parse_with, read_with, translate_with};
 pub use patterns::{PatternsError, parse_all, parse_each, parse_many, parse_many_with};
+pub use rx_hir::{Capture, Class, Hir, HirKind, Look, Properties, Repetition, cost};
 pub use rx_reader::{Ast, Config, ParseError, SyntaxError, SyntaxErrorKind};
