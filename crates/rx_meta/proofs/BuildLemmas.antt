@@ -1,7 +1,10 @@
 -- From what the compiler and the strategy give to a regex.
 use Rattle.std.proofs.Common.{◌≡◌, ℕ, ◌≤◌, List, length, Result, Ok, refl, sym, ap, ◌∙◌, subst, arith}
 use Rattle.std.proofs.lemmas.List.{take_all}
-use Rattle.rx_model.specs.Expression.{Expression}
+use Rattle.rx_model.specs.Expression.{Expression, alternation}
+use Rattle.rx_hir.specs.Normal.{expressions}
+use Rattle.rx_hir.specs.PropertiesViews.{AreOf}
+use Rattle.rx_hir.specs.declared.hir.properties.Properties.{Properties}
 use Rattle.rx_nfa.specs.Nfa.{Nfa}
 use Rattle.rx_nfa.specs.Compiled.{AreAllowed, IsCompiled}
 use Rattle.rx_strategy.specs.Config.{kind_of, utf8_of, captures_of, compiler_of, has_backtracker}
@@ -17,10 +20,10 @@ use Rattle.rx_meta.specs.Build.{IsBuilt, IsBuiltOf}
 abbrev pub strategy_of : Config → Nfa → StrategyValue
 strategy_of c nfa = record { nfa = nfa; kind = kind_of c; which_captures = captures_of c; backtracks = has_backtracker c }
 
-pub built : (c : Config) (hs : List Expression) (nfa : Nfa) (core : StrategyValue) (regex : RegexValue) → IsCompiled (compiler_of c) hs nfa → AreAllowed (compiler_of c) hs → core ≡ strategy_of c nfa
-    → regex ≡ record { config = c; strategy = core } → IsBuilt c hs regex
-built c hs nfa core regex compiled allowed is made =
-    let whole : regex ≡ record { config = c; strategy = strategy_of c nfa } = made ∙ ap (λ s. record { config = c; strategy = s }) is in
+pub built : (c : Config) (hs : List Expression) (nfa : Nfa) (core : StrategyValue) (p : Properties) (regex : RegexValue) → IsCompiled (compiler_of c) hs nfa → AreAllowed (compiler_of c) hs → core ≡ strategy_of c nfa
+    → AreOf (alternation (expressions hs)) p → regex ≡ record { config = c; strategy = core; properties = p } → IsBuilt c hs regex
+built c hs nfa core p regex compiled allowed is of made =
+    let whole : regex ≡ record { config = c; strategy = strategy_of c nfa; properties = p } = made ∙ ap (λ s. record { config = c; strategy = s; properties = p }) is in
     let P : RegexValue → Type 0 = IsBuilt c hs in
     subst P (sym whole) (record {
       config = refl;
@@ -29,6 +32,7 @@ built c hs nfa core regex compiled allowed is made =
       compiled = compiled;
       allowed = allowed;
       is_of = record { runs = compiled.first_runs (utf8_of c); utf8 = sym compiled.utf8; which_captures = refl };
+      properties = of;
     })
 
 -- all of the patterns are read, where there are few enough

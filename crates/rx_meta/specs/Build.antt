@@ -1,6 +1,8 @@
 -- What a build answers.
 use Rattle.std.specs.Prelude.{◌≡◌, ℕ, List, length, Ok}
-use Rattle.rx_model.specs.Expression.{Expression}
+use Rattle.rx_model.specs.Expression.{Expression, alternation}
+use Rattle.rx_hir.specs.Normal.{expressions}
+use Rattle.rx_hir.specs.PropertiesViews.{AreOf}
 use Rattle.rx_nfa.specs.Compiled.{patterns_of, AreAllowed, IsCompiled}
 use Rattle.rx_thompson.specs.Build as compiler
 use Rattle.rx_thompson.specs.declared.error.BuildError.{BuildError as CompilerError}
@@ -22,6 +24,8 @@ pub record IsBuilt (c : Config) (hs : List Expression) (regex : RegexValue) : Ty
   -- no count and no cost passes its limit
   pub allowed : AreAllowed (compiler_of c) hs
   pub is_of : IsOf regex (patterns_of hs (utf8_of c) (terminator_of c) (captures_of c))
+  -- its properties are those of the expressions together, so that it is known where no match is possible
+  pub properties : AreOf (alternation (expressions hs)) regex.properties
 
 -- why there is no regex of these expressions: what the compiler refuses
 abbrev pub IsRefused : Config → List Expression → BuildError → Type 0

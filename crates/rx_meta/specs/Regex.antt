@@ -2,12 +2,15 @@
 use Rattle.std.specs.Prelude.{ℕ, ◌+◌, ◌*◌, length}
 use Rattle.rx_model.specs.Search.{Patterns}
 use Rattle.rx_search.specs.Matches.{MatchValue, HalfMatchValue}
+use Rattle.rx_hir.specs.declared.hir.properties.Properties.{Properties}
 use Rattle.rx_strategy.specs.Strategy as strategy
 use Rattle.rx_strategy.specs.declared.config.Config.{Config}
 
 pub record RegexValue : Type 0 where
   pub config : Config
   pub strategy : strategy.StrategyValue
+  -- the properties of the patterns together
+  pub properties : Properties
 
 -- What is accounted for a regex: 64 for the properties of each pattern, 64 for those of all of them, and 32 for each
 -- accounted state of its NFA.

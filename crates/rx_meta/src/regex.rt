@@ -1,15 +1,18 @@
 //! The public face: build once, search from anywhere.
-ghost use Rattle.std.specs.Prelude.{◌≡◌, ◌≤◌, ◌∷◌, [], false, length, None, replicate, is_some, map, option_map, IfOk, IfErr, IfNone, IfSome, IsTrue, OnErr, IsOk};
+ghost use Rattle.std.specs.Prelude.{◌≡◌, ◌≤◌, ◌∷◌, [], true, false, List, length, None, replicate, is_some, map, option_map, IfOk, IfErr, IfNone, IfSome, IsTrue, OnErr, IsOk};
+ghost use Rattle.rx_model.specs.Expression.{Expression, alternation};
 ghost use Rattle.rx_model.specs.Search.{Patterns};
 ghost use Rattle.rx_search.specs.Input.{next_in};
 ghost use Rattle.rx_search.specs.Matches.{match_value, half_match_value};
+ghost use Rattle.rx_hir.specs.Normal.{expressions};
+ghost use Rattle.rx_hir.specs.PropertiesViews.{AreOf};
 ghost use Rattle.rx_engines.specs.Engine.{HasSlots, AreWithin};
 ghost use Rattle.rx_reader.specs.Config.{default};
 ghost use Rattle.rx_strategy.specs.Config.{nothing_set};
 ghost use Rattle.rx_strategy.specs.Cache.{Fits, memory_of, accounted_for};
 ghost use Rattle.rx_strategy.specs.Strategy.{told_in, told_for, next_match_in, IsMatchWith};
 ghost use Rattle.rx_meta.specs.Build.{IsBuiltOf, IsRefusedFor};
-ghost use Rattle.rx_meta.specs.Impossible.{AreKnownOf};
+ghost use Rattle.rx_meta.specs.Impossible.{AreKnownOf, is_impossible};
 ghost use Rattle.rx_meta.specs.Regex.{IsOf, regex_memory};
 
 use crate::builder::Builder;
@@ -49,7 +52,7 @@ impl Model for Regex {
 
     ghost Value = { RegexValue };
 
-    ghost view = { λ r. record { config = r.config; strategy = r.core } };
+    ghost view = { λ r. record { config = r.config; strategy = r.core; properties = r.info.properties } };
 
     ghost invariant = { λ r. AreKnownOf r.info.properties r.core };
 }
@@ -91,7 +94,7 @@ impl Regex {
     /// the patterns are known to have none.
     pub(crate) fn from_parts(config: Config, core: Core, info: RegexInfo) -> Regex
         requires { AreKnownOf info.properties core }
-        ensures { result ≡ record { config = config; strategy = core } }
+        ensures { result ≡ record { config = config; strategy = core; properties = info.properties } }
     {
         Regex { config, core, info }
     }
@@ -108,6 +111,7 @@ impl Regex {
         ensures value { IfOk result (λ yes. yes ≡ is_some (next_match_in self.now.strategy input.now)) }
         ensures patterns { (r : Patterns) → IsOf self.now r
             → is_some (next_match_in self.now.strategy input.now) ≡ is_some (next_in r input.now) }
+        ensures sure { (hs : List Expression) → AreOf (alternation (expressions hs)) self.now.properties → is_impossible hs input.now ≡ true → IsOk result }
     {
         if self.is_impossible(input) {
             return Ok(false);
@@ -131,6 +135,7 @@ impl Regex {
         ensures is_match { (r : Patterns) → IsOf self.now r
             → IfOk result (λ o. IfSome o (λ found. IsMatchWith r input.now (λ m. found ≡ match_value m))) }
         ensures within { IfOk result (λ o. IfSome o (λ m. (input.now.start ≤ m.start) × (m.end ≤ input.now.end))) }
+        ensures sure { (hs : List Expression) → AreOf (alternation (expressions hs)) self.now.properties → is_impossible hs input.now ≡ true → IsOk result }
     {
         self.search(rt, alloc, input)
     }
@@ -153,6 +158,7 @@ impl Regex {
         ensures is_match { (r : Patterns) → IsOf self.now r
             → IfOk result (λ o. IfSome o (λ found. IsMatchWith r input.now (λ m. found ≡ match_value m))) }
         ensures within { IfOk result (λ o. IfSome o (λ m. (input.now.start ≤ m.start) × (m.end ≤ input.now.end))) }
+        ensures sure { (hs : List Expression) → AreOf (alternation (expressions hs)) self.now.properties → is_impossible hs input.now ≡ true → IsOk result }
     {
         if self.is_impossible(input) {
             return Ok(None);
@@ -178,6 +184,7 @@ impl Regex {
         ensures is_match { (r : Patterns) → IsOf self.now r
             → IfOk result (λ o. IfSome o (λ found. IsMatchWith r input.now (λ m. found ≡ half_match_value m))) }
         ensures within { IfOk result (λ o. IfSome o (λ h. (input.now.start ≤ h.offset) × (h.offset ≤ input.now.end))) }
+        ensures sure { (hs : List Expression) → AreOf (alternation (expressions hs)) self.now.properties → is_impossible hs input.now ≡ true → IsOk result }
     {
         if self.is_impossible(input) {
             return Ok(None);
@@ -208,6 +215,7 @@ impl Regex {
         ensures none { IfOk result (λ o. IfNone o (slots.new ≡ replicate (length slots.old) None)) }
         ensures slots_within { AreWithin input.now slots.new }
         ensures err { OnErr result (slots.new ≡ replicate (length slots.old) None) }
+        ensures sure { (hs : List Expression) → AreOf (alternation (expressions hs)) self.now.properties → is_impossible hs input.now ≡ true → IsOk result }
     {
         empty(slots);
         if self.is_impossible(input) {
@@ -322,6 +330,7 @@ impl Regex {
 
     /// Whether it is known that there is no match in the input's span.
     fn is_impossible(&self, input: &Input<'_>) -> bool
+        ensures value { (hs : List Expression) → AreOf (alternation (expressions hs)) self.now.properties → result ≡ is_impossible hs input.now }
         ensures none { IsTrue result → next_match_in self.now.strategy input.now ≡ None }
         ensures untold { IsTrue result → told_in self.now.strategy input.now ≡ None }
         ensures patterns { (r : Patterns) → IsOf self.now r → told_in self.now.strategy input.now ≡ told_for r input.now }

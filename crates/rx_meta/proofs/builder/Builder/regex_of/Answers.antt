@@ -11,6 +11,6 @@ from_parts-requires c =
 
 pub returns : goal.returns
 returns c =
-    let with_config : Config → RegexValue = λ k. record { config = k; strategy = c.in_ok-core.core } in
-    built c.args.self.now.config c.args.exprs.now c.args.nfa c.in_ok-core.core c.from_parts.result c.requires.compiled c.requires.allowed c.in_ok-core.ensures
+    let with_config : Config → RegexValue = λ k. record { config = k; strategy = c.in_ok-core.core; properties = c.in_ok-info.info.properties } in
+    built c.args.self.now.config c.args.exprs.now c.args.nfa c.in_ok-core.core c.in_ok-info.info.properties c.from_parts.result c.requires.compiled c.requires.allowed c.in_ok-core.ensures c.in_ok-info.ensures
     (c.from_parts.ensures ∙ ap with_config c.clone.ensures)
