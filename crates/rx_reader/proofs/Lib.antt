@@ -9,9 +9,13 @@ pub mod EscapeEnds
 pub mod EscapeLemmas
 mod EscapeRows
 mod FlagRows
+pub mod CountedLemmas
+pub mod EscapeKeeps
 pub mod FlagsLemmas
 pub mod FrontLemmas
+pub mod GivesLemmas
 mod GrammarRows
+pub mod GroupLemmas
 pub mod ItemLemmas
 pub mod NamesLemmas
 mod OpeningRows
@@ -21,4 +25,6 @@ pub mod ReadsLemmas
 pub mod RepeatLemmas
 pub mod StackLemmas
 pub mod TokenEnds
+pub mod TokenGroups
+pub mod TokenKeeps
 pub mod TokenLemmas

@@ -9,6 +9,7 @@ pub mod Escapes
 pub mod Flags
 pub mod Gathered
 pub mod Grammar
+pub mod Groups
 pub mod Input
 pub mod Names
 pub mod Openings

@@ -1,0 +1,38 @@
+-- What is so of what is read, and of the place after it.
+use Rattle.std.proofs.Common.{◌≡◌, ℕ, Bool, true, false, List, Ok, Err, refl, subst}
+use Rattle.std.specs.Prelude.{if◌then◌else◌}
+use Rattle.rx_reader.specs.declared.error.SyntaxError.{SyntaxError}
+use Rattle.rx_reader.specs.Reading.{Place, Read, ◌>>=◌}
+
+-- where something is read, this is so of it and of the place after it
+pub record Gives {A : Type 0} (P : A → Place → Type 0) (r : Read A) : Type 0 where
+  pub given : (a : A) (q : Place) → r ≡ Ok (a, q) → P a q
+
+pub refused : {A : Type 0} {P : A → Place → Type 0} {e : SyntaxError} → Gives P (Err e)
+refused = record { given = λ a q is. cc }
+
+pub reads : {A : Type 0} {P : A → Place → Type 0} {a : A} {q : Place} → P a q → Gives P (Ok (a, q))
+reads {A} {P} {a} {q} h = record { given = λ b r is. let pairs : ◌≡◌ {A = A × Place} (a, q) (b, r) = cc in subst (λ (t : A × Place). P t.0 t.1) pairs h }
+
+pub bind : {A B : Type 0} {P : A → Place → Type 0} {Q : B → Place → Type 0} {r : Read A} (f : A × Place → Read B)
+    → Gives P r → ((a : A) (q : Place) → P a q → Gives Q (f (a, q))) → Gives Q (r >>= f)
+bind {A} {B} {P} {Q} {r} f h next = bind_at r h
+  where
+    bind_at : (r : Read A) → Gives P r → Gives Q (r >>= f)
+    bind_at (Ok (a, q)) h = next a q (h.given a q refl)
+    bind_at (Err e) h = refused
+
+pub test : {A : Type 0} {P : A → Place → Type 0} (b : Bool) {x y : Read A} → (b ≡ true → Gives P x) → (b ≡ false → Gives P y) → Gives P (if b then x else y)
+test true then_x else_y = then_x refl
+test false then_x else_y = else_y refl
+
+pub weaker : {A : Type 0} {P Q : A → Place → Type 0} {r : Read A} → Gives P r → ((a : A) (q : Place) → P a q → Q a q) → Gives Q r
+weaker h leads = record { given = λ a q is. leads a q (h.given a q is) }
+
+-- so many groups were opened at the place, and they have these names
+abbrev pub IsAt : (groups : ℕ) (names : List (List ℕ)) → Place → Type 0
+IsAt g ns q = (q.groups ≡ g) × (q.names ≡ ns)
+
+-- no group is opened in what is read
+abbrev pub Keeps : {A : Type 0} (groups : ℕ) (names : List (List ℕ)) → Read A → Type 0
+Keeps {A} g ns r = Gives {A = A} (λ a q. IsAt g ns q) r

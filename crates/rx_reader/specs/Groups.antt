@@ -1,0 +1,27 @@
+-- The capturing groups of a syntax.
+use Rattle.std.specs.Prelude.{ℕ, ◌≡◌, List, Option, Some, None, ◌⊎◌}
+use Rattle.rx_reader.specs.declared.group_kind.GroupKind.{GroupKind}
+use Rattle.rx_reader.specs.declared.group_kind.GroupKind.TheVariants.{NonCapturing, CaptureIndex, CaptureName}
+use Rattle.rx_reader.specs.Syntax.{Syntax, Syntaxes, literal, atom, repeated, group, cat, alt, nil, cons}
+
+-- a group of this kind captures under this number, with this name or without one
+abbrev pub Captures : (number : ℕ) (name : Option (List ℕ)) → GroupKind → Type 0
+Captures g n NonCapturing = ⊥
+Captures g n (CaptureIndex number) = (g ≡ number) × (n ≡ None)
+Captures g n (CaptureName number name) = (g ≡ number) × (n ≡ Some name)
+
+-- a capturing group of this number stands, with this name or without one, in
+unfoldable mutual
+  -- the syntax
+  pub IsGroup : (number : ℕ) (name : Option (List ℕ)) → Syntax → Type 0
+  IsGroup g n (literal flags c) = ⊥
+  IsGroup g n (atom flags piece a) = ⊥
+  IsGroup g n (repeated min max greedy body) = IsGroup g n body
+  IsGroup g n (group kind body) = Captures g n kind ⊎ IsGroup g n body
+  IsGroup g n (cat items) = IsGroupAmong g n items
+  IsGroup g n (alt branches) = IsGroupAmong g n branches
+
+  -- one of the list
+  pub IsGroupAmong : (number : ℕ) (name : Option (List ℕ)) → Syntaxes → Type 0
+  IsGroupAmong g n nil = ⊥
+  IsGroupAmong g n (cons s ss) = IsGroup g n s ⊎ IsGroupAmong g n ss

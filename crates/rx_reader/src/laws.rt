@@ -1,0 +1,19 @@
+//! Laws of what a pattern reads as.
+ghost use Rattle.std.specs.Prelude.{◌≡◌, ℕ, ◌≤◌, List, Option, Some, Ok};
+ghost use Rattle.rx_reader.specs.declared.config.Config.{Config};
+ghost use Rattle.rx_reader.specs.Grammar.{read};
+ghost use Rattle.rx_reader.specs.Groups.{IsGroup};
+ghost use Rattle.rx_reader.specs.Syntax.{Syntax};
+
+/// The capturing groups of a pattern are numbered from 1 on, with no number left out. A number stands always with the
+/// same name, or always without one, and no name stands at two numbers.
+pub fn groups_are_numbered_and_named_apart()
+    ensures numbers { (config : Config) (text : List ℕ) (s : Syntax) → read config text ≡ Ok s
+        → (g : ℕ) (name : Option (List ℕ)) → IsGroup g name s → 1 ≤ g }
+    ensures no_gap { (config : Config) (text : List ℕ) (s : Syntax) → read config text ≡ Ok s
+        → (g k : ℕ) (name : Option (List ℕ)) → IsGroup g name s → 1 ≤ k → k ≤ g → (other : Option (List ℕ)) × IsGroup k other s }
+    ensures one_name { (config : Config) (text : List ℕ) (s : Syntax) → read config text ≡ Ok s
+        → (g : ℕ) (m n : Option (List ℕ)) → IsGroup g m s → IsGroup g n s → m ≡ n }
+    ensures one_number { (config : Config) (text : List ℕ) (s : Syntax) → read config text ≡ Ok s
+        → (g k : ℕ) (name : List ℕ) → IsGroup g (Some name) s → IsGroup k (Some name) s → g ≡ k }
+{}
