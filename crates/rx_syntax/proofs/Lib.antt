@@ -1,5 +1,8 @@
 pub mod FewestLemmas
 pub mod GatherLemmas
+pub mod GivesLemmas
+pub mod AtomGroups
+pub mod GroupLemmas
 pub mod PatternsLemmas
 pub mod SizeLemmas
 pub mod TranslationLemmas

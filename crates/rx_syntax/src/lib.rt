@@ -6,6 +6,7 @@
 
 mod assertion;
 mod bytes;
+mod laws;
 mod literal;
 mod pattern;
 mod patterns;
@@ -16,6 +17,7 @@ mod set;
 mod tests;
 mod translate;
 
+pub use laws::each_group_of_a_pattern_has_one_name;
 pub use pattern::{parse, parse_with, read_with, translate_with};
 pub use patterns::{PatternsError, parse_all, parse_each, parse_many, parse_many_with};
 pub use rx_hir::{Capture, Class, Hir, HirKind, Look, Properties, Repetition, cost};
