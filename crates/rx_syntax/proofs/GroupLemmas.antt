@@ -1,9 +1,11 @@
 -- The groups of a pattern's expression are those of its syntax, and so are their names.
 use Rattle.std.proofs.Common.{◌≡◌, ℕ, Bool, List, [], ◌∷◌, Option, Some, None, option_map, Ok, inl, inr, refl, sym, ap, subst, ◌∙◌}
 use Rattle.std.proofs.lemmas.Str.{encodes_same}
+use Rattle.std.specs.Prelude.{◌≤◌, slice_get}
 use lib.Utf8.{encodes}
 use Rattle.rx_model.specs.Expression.{Expression}
-use Rattle.rx_hir.specs.Names.{IsNamed, IsNamedAmong, HasOneNameEach}
+use Rattle.rx_hir.specs.Names.{IsNamed, IsNamedAmong, HasOneNameEach, name_in, group_names}
+use Rattle.rx_hir.proofs.NamedLemmas.{one-told}
 use Rattle.rx_hir.specs.Normal.{expressions, repetition_of, concat_of, alternation_of}
 use Rattle.rx_hir.proofs.NamedFormsLemmas.{repetition-named, concat-named, alternation-named}
 use Rattle.rx_reader.specs.declared.config.Config.{Config}
@@ -12,11 +14,12 @@ use Rattle.rx_reader.specs.declared.group_kind.GroupKind.TheVariants.{NonCapturi
 use Rattle.rx_reader.specs.Grammar.{read}
 use Rattle.rx_reader.specs.Groups.{IsGroup, IsGroupAmong}
 use Rattle.rx_reader.specs.Syntax.{Syntax, Syntaxes, literal, atom, repeated, group, cat, alt, nil, cons}
-use Rattle.rx_reader.proofs.GroupLemmas.{one_name, one_number}
+use Rattle.rx_reader.proofs.GroupLemmas.{from_one, one_name, one_number}
 use Rattle.rx_syntax.specs.Literals.{character}
 use Rattle.rx_syntax.specs.Translation.{group_of, translated, all_translated}
 use Rattle.rx_syntax.specs.Pattern.{reads}
 use Rattle.rx_syntax.proofs.GivesLemmas.{Gives, gives, bind}
+use Rattle.rx_syntax.proofs.ToldLemmas.{named-within, told-at}
 use Rattle.rx_syntax.proofs.AtomGroups.{HasNone, character-none, atom-none}
 
 -- Each group of the expression is one of the syntax.
@@ -137,11 +140,31 @@ each-of config text s h is from = record {
       one_number config text s is g k right.0 (subst (λ (x : List ℕ). IsGroup g (Some x) s) same left.1) right.1;
 }
 
+-- the syntax that the pattern reads as, where the expression's groups stand
+record IsReadOf (config : Config) (text : List ℕ) (h : Expression) : Type 0 where
+  pub syntax : Syntax
+  pub reads_as : read config text ≡ Ok syntax
+  pub from : ComesFrom syntax h
+
 read-gives : (config : Config) (text : List ℕ) → Gives (λ s. read config text ≡ Ok s) (read config text)
 read-gives config text = record { given = λ s is. is }
 
-pub one_name_each : (config : Config) (text : List ℕ) (h : Expression) → reads config text ≡ Ok h → HasOneNameEach h
+reads-gives : (config : Config) (text : List ℕ) → Gives (IsReadOf config text) (reads config text)
 unfolding reads
-one_name_each config text h is =
-    let all : Gives HasOneNameEach (reads config text) = bind _ (read-gives config text) (λ s read_as. record { given = λ e translates. each-of config text s e read_as ((translated-from config s).given e translates) }) in
-    all.given h is
+reads-gives config text =
+    bind _ (read-gives config text) (λ s reads_as. record { given = λ h is. record { syntax = s; reads_as = reads_as; from = (translated-from config s).given h is } })
+
+module _ (config : Config) (text : List ℕ) (h : Expression) (is : reads config text ≡ Ok h) where
+  pub one_name_each : HasOneNameEach h
+  one_name_each = let all = (reads-gives config text).given h is in each-of config text all.syntax h all.reads_as all.from
+
+  pub from_one_on : (g : ℕ) (name : Option (List ℕ)) → IsNamed g name h → 1 ≤ g
+  from_one_on g name named =
+      let all = (reads-gives config text).given h is in
+      let stands = all.from.stands g name named in
+      from_one config text all.syntax all.reads_as g stands.name stands.group
+
+  pub told_at_its_number : (g : ℕ) (name : List ℕ) → IsNamed g (Some name) h → slice_get (group_names h) g ≡ Some (Some name)
+  told_at_its_number g name named =
+      told-at h g (name_in g h) (from_one_on g (Some name) named) (named-within h g (Some name) named) refl
+      ∙ ap Some (one-told h one_name_each g name named)

@@ -7,3 +7,4 @@ pub mod PatternsLemmas
 pub mod SizeLemmas
 pub mod TranslationLemmas
 pub mod RefusalLemmas
+pub mod ToldLemmas
