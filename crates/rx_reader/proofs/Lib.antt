@@ -4,18 +4,19 @@ pub mod ClassItemLemmas
 pub mod ClassLemmas
 mod ClassRows
 mod CountRows
+pub mod CountedLemmas
 pub mod EndLemmas
 pub mod EscapeEnds
+pub mod EscapeKeeps
 pub mod EscapeLemmas
 mod EscapeRows
 mod FlagRows
-pub mod CountedLemmas
-pub mod EscapeKeeps
 pub mod FlagsLemmas
 pub mod FrontLemmas
 pub mod GivesLemmas
 mod GrammarRows
 pub mod GroupLemmas
+mod GroupRows
 pub mod ItemLemmas
 pub mod NamesLemmas
 mod OpeningRows

@@ -1,8 +1,8 @@
 //! The reader of patterns: `read` answers exactly what the grammar's definition says of a pattern under a
 //! configuration, the syntax tree or the first refusal with its kind and piece.
 //!
-//! A contract sees the tree as a `Syntax`, and a text in it as the list of its characters. It stands on
-//! rx_search and rx_sets.
+//! A contract sees the tree as a `Syntax`, and a text in it as the list of its characters. A law says how the groups
+//! of a pattern are numbered and named. It stands on rx_search and rx_sets.
 #![tactic(auto)]
 
 mod assertion;

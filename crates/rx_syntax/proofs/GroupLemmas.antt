@@ -1,11 +1,12 @@
 -- The groups of a pattern's expression are those of its syntax, and so are their names.
-use Rattle.std.proofs.Common.{◌≡◌, ℕ, Bool, List, [], ◌∷◌, Option, Some, None, option_map, Ok, inl, inr, refl, sym, ap, subst, ◌∙◌}
+use Rattle.std.proofs.Common.{◌≡◌, ℕ, Bool, false, List, [], ◌∷◌, Option, Some, None, option_map, Ok, inl, inr, refl, sym, ap, subst, ◌∙◌}
 use Rattle.std.proofs.lemmas.Str.{encodes_same}
 use Rattle.std.specs.Prelude.{◌≤◌, slice_get}
 use lib.Utf8.{encodes}
 use Rattle.rx_model.specs.Expression.{Expression}
+use Rattle.rx_search.specs.GroupInfo.{has_duplicate}
 use Rattle.rx_hir.specs.Names.{IsNamed, IsNamedAmong, HasOneNameEach, name_in, group_names}
-use Rattle.rx_hir.proofs.NamedLemmas.{one-told}
+use Rattle.rx_hir.proofs.NamedLemmas.{one-told, names-apart}
 use Rattle.rx_hir.specs.Normal.{expressions, repetition_of, concat_of, alternation_of}
 use Rattle.rx_hir.proofs.NamedFormsLemmas.{repetition-named, concat-named, alternation-named}
 use Rattle.rx_reader.specs.declared.config.Config.{Config}
@@ -168,3 +169,6 @@ module _ (config : Config) (text : List ℕ) (h : Expression) (is : reads config
   told_at_its_number g name named =
       told-at h g (name_in g h) (from_one_on g (Some name) named) (named-within h g (Some name) named) refl
       ∙ ap Some (one-told h one_name_each g name named)
+
+  pub told_once : has_duplicate (group_names h) ≡ false
+  told_once = names-apart h one_name_each

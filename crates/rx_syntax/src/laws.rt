@@ -1,16 +1,18 @@
 //! Laws of what a pattern reads as.
-ghost use Rattle.std.specs.Prelude.{◌≡◌, ℕ, ◌≤◌, List, Option, Some, Ok, slice_get};
+ghost use Rattle.std.specs.Prelude.{◌≡◌, ℕ, ◌≤◌, false, List, Option, Some, Ok, slice_get};
 ghost use Rattle.rx_model.specs.Expression.{Expression};
+ghost use Rattle.rx_search.specs.GroupInfo.{has_duplicate};
 ghost use Rattle.rx_hir.specs.Names.{IsNamed, HasOneNameEach, group_names};
 ghost use Rattle.rx_reader.specs.declared.config.Config.{Config};
 ghost use Rattle.rx_syntax.specs.Pattern.{reads};
 
 /// In the expression of a pattern each group has a number from 1 on and one name or none, and each name is that of one
-/// number. So each name that stands in it is told at its number, and by the laws of rx_hir none is told twice.
+/// number. So each name that stands in it is told at its number, and no name is told twice.
 pub fn each_group_of_a_pattern_has_one_name()
     ensures numbers { (config : Config) (text : List ℕ) (h : Expression) → reads config text ≡ Ok h
         → (g : ℕ) (name : Option (List ℕ)) → IsNamed g name h → 1 ≤ g }
     ensures names { (config : Config) (text : List ℕ) (h : Expression) → reads config text ≡ Ok h → HasOneNameEach h }
     ensures told { (config : Config) (text : List ℕ) (h : Expression) → reads config text ≡ Ok h
         → (g : ℕ) (name : List ℕ) → IsNamed g (Some name) h → slice_get (group_names h) g ≡ Some (Some name) }
+    ensures once { (config : Config) (text : List ℕ) (h : Expression) → reads config text ≡ Ok h → has_duplicate (group_names h) ≡ false }
 {}

@@ -1,7 +1,8 @@
 //! Patterns and the expressions that they read as.
 //!
 //! `parse_with` answers exactly what the grammar's definition says: the expression, or the first refusal
-//! with its kind and piece. It reads by rx_reader, and translates what was read.
+//! with its kind and piece. It reads by rx_reader, and translates what was read. A law says that each group of a
+//! pattern has one name or none, and is told with it.
 #![tactic(auto)]
 
 mod assertion;

@@ -1,0 +1,32 @@
+-- The groups of `((a)b)(?P<n>c)(?:d)`, by the definition.
+use Rattle.std.proofs.Common.{ℕ, List, [], ◌∷◌, Some, None, inl, inr, refl}
+use Rattle.std.specs.Prelude.{codes}
+use Rattle.rx_reader.specs.declared.group_kind.GroupKind.TheVariants.{NonCapturing, CaptureIndex, CaptureName}
+use Rattle.rx_reader.specs.Config.{unicode_alone}
+use Rattle.rx_reader.specs.Syntax.{Syntax, literal, group, cat, alt, syntaxes, nil, cons}
+use Rattle.rx_reader.specs.Groups.{IsGroup}
+
+abbrev row : List Syntax → Syntax
+row items = alt (cons (cat (syntaxes items)) nil)
+
+abbrev plain : ℕ → Syntax
+plain c = literal unicode_alone c
+
+abbrev pattern : Syntax
+pattern = row (
+    group (CaptureIndex 1) (row (group (CaptureIndex 2) (row (plain 97 ∷ [])) ∷ plain 98 ∷ []))
+    ∷ group (CaptureName 3 (codes "n")) (row (plain 99 ∷ []))
+    ∷ group NonCapturing (row (plain 100 ∷ []))
+    ∷ [])
+
+first : IsGroup 1 None pattern
+unfolding IsGroup
+first = inl (inl (inl (refl, refl)))
+
+second : IsGroup 2 None pattern
+unfolding IsGroup
+second = inl (inl (inr (inl (inl (inl (refl, refl))))))
+
+third : IsGroup 3 (Some (codes "n")) pattern
+unfolding IsGroup
+third = inl (inr (inl (inl (refl, refl))))
