@@ -1,10 +1,10 @@
 -- The groups of `((a)b)(?P<n>c)(?:d)`, by the definition.
-use Rattle.std.proofs.Common.{ℕ, List, [], ◌∷◌, Some, None, inl, inr, refl}
+use Rattle.std.proofs.Common.{◌≡◌, ℕ, List, [], ◌∷◌, Some, None, inl, inr, refl}
 use Rattle.std.specs.Prelude.{codes}
 use Rattle.rx_reader.specs.declared.group_kind.GroupKind.TheVariants.{NonCapturing, CaptureIndex, CaptureName}
 use Rattle.rx_reader.specs.Config.{unicode_alone}
 use Rattle.rx_reader.specs.Syntax.{Syntax, literal, group, cat, alt, syntaxes, nil, cons}
-use Rattle.rx_reader.specs.Groups.{IsGroup}
+use Rattle.rx_reader.specs.Groups.{IsGroup, group_numbers}
 
 abbrev row : List Syntax → Syntax
 row items = alt (cons (cat (syntaxes items)) nil)
@@ -30,3 +30,7 @@ second = inl (inl (inr (inl (inl (inl (refl, refl))))))
 third : IsGroup 3 (Some (codes "n")) pattern
 unfolding IsGroup
 third = inl (inr (inl (inl (refl, refl))))
+
+numbers : group_numbers pattern ≡ 1 ∷ 2 ∷ 3 ∷ []
+unfolding group_numbers
+numbers = refl

@@ -1,5 +1,5 @@
 -- The group that a token opens.
-use Rattle.std.proofs.Common.{◌≡◌, ℕ, ◌+◌, Bool, true, false, not, ◌||◌, ◌==◌, List, length, Option, Some, None, sym, ap, ◌∙◌}
+use Rattle.std.proofs.Common.{◌≡◌, ℕ, ◌+◌, Bool, true, false, not, ◌||◌, ◌==◌, List, [], length, Option, Some, None, sym, ap, ◌∙◌}
 use Rattle.std.specs.Prelude.{if◌then◌else◌}
 use Rattle.std.specs.Ordering.{nat_cmp}
 use Rattle.std.specs.Cmp.Lexicographic.{slice_cmp}
@@ -23,7 +23,7 @@ use Rattle.rx_reader.specs.Syntax.{literal, atom}
 use Rattle.rx_reader.specs.Names.{name_of, read_name}
 use Rattle.rx_reader.specs.Openings.{is_look_ahead, is_look_behind, is_reference, named, flagged, opening}
 use Rattle.rx_reader.specs.Grammar.{opened, opens, escaped_atom, escaped, bracketed, is_operator, stray_operator, token_of, token}
-use Rattle.rx_reader.specs.Groups.{Captures, IsGroup}
+use Rattle.rx_reader.specs.Groups.{Captures, IsGroup, own_number, group_numbers}
 use Rattle.rx_reader.proofs.GivesLemmas.{Gives, refused, reads, bind, test, IsAt}
 use Rattle.rx_reader.proofs.CountedLemmas.{is_in, Counts, none, single, kept_in, added_in}
 use Rattle.rx_reader.proofs.EscapeKeeps.{past_n-keeps, escape-keeps, class-keeps}
@@ -37,6 +37,15 @@ TokenGroups End k n = ⊥
 TokenGroups Bar k n = ⊥
 TokenGroups Close k n = ⊥
 TokenGroups (Directive next) k n = ⊥
+
+-- the number of that group
+abbrev pub token_numbers : Token → List ℕ
+token_numbers (Opens kind inside) = own_number kind
+token_numbers (One item) = group_numbers item
+token_numbers End = []
+token_numbers Bar = []
+token_numbers Close = []
+token_numbers (Directive next) = []
 
 -- a name that was read is new, and stands among the names from then on
 pub record Adds (g : ℕ) (ns : List (List ℕ)) (name : List ℕ) (q : Place) : Type 0 where
@@ -61,7 +70,7 @@ module _ (g : ℕ) (ns : List (List ℕ)) where
 
   -- what an opening begins
   abbrev CountsOpening : Opening → Place → Type 0
-  CountsOpening o q = Counts g ns q (λ k n. TokenGroups (opened o) k n)
+  CountsOpening o q = Counts g ns q (λ k n. TokenGroups (opened o) k n) (token_numbers (opened o))
 
   named-counts : (flags : Flags) (p : Place) → IsAt g ns p → Gives CountsOpening (named flags p)
   unfolding named
@@ -92,7 +101,7 @@ module _ (g : ℕ) (ns : List (List ℕ)) where
 
   -- what a token begins
   abbrev pub CountsToken : Token → Place → Type 0
-  CountsToken t q = Counts g ns q (λ k n. TokenGroups t k n)
+  CountsToken t q = Counts g ns q (λ k n. TokenGroups t k n) (token_numbers t)
 
   opens-counts : (flags : Flags) (p : Place) → IsAt g ns p → Gives CountsToken (opens flags p)
   unfolding opens
@@ -100,11 +109,11 @@ module _ (g : ℕ) (ns : List (List ℕ)) where
 
   -- an atom has no group
   atom-counts : (flags : Flags) (piece : Piece) (a : Atom) (q : Place) → IsAt g ns q → CountsToken (One (atom flags piece a)) q
-  unfolding IsGroup
+  unfolding IsGroup group_numbers
   atom-counts flags piece a q at = none at
 
   literal-counts : (flags : Flags) (c : ℕ) (q : Place) → IsAt g ns q → CountsToken (One (literal flags c)) q
-  unfolding IsGroup
+  unfolding IsGroup group_numbers
   literal-counts flags c q at = none at
 
   character-counts : (b : Bool) (flags : Flags) (piece : Piece) (c : ℕ) (q : Place) → IsAt g ns q → CountsToken (One (if b then atom flags piece (atoms.HexByte c) else literal flags c)) q

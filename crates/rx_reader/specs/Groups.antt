@@ -1,5 +1,5 @@
 -- The capturing groups of a syntax.
-use Rattle.std.specs.Prelude.{ℕ, ◌≡◌, List, Option, Some, None, ◌⊎◌}
+use Rattle.std.specs.Prelude.{ℕ, ◌≡◌, List, [], ◌∷◌, ◌++◌, Option, Some, None, ◌⊎◌}
 use Rattle.rx_reader.specs.declared.group_kind.GroupKind.{GroupKind}
 use Rattle.rx_reader.specs.declared.group_kind.GroupKind.TheVariants.{NonCapturing, CaptureIndex, CaptureName}
 use Rattle.rx_reader.specs.Syntax.{Syntax, Syntaxes, literal, atom, repeated, group, cat, alt, nil, cons}
@@ -25,3 +25,25 @@ unfoldable mutual
   pub IsGroupAmong : (number : ℕ) (name : Option (List ℕ)) → Syntaxes → Type 0
   IsGroupAmong g n nil = ⊥
   IsGroupAmong g n (cons s ss) = IsGroup g n s ⊎ IsGroupAmong g n ss
+
+-- the number of a group of this kind, if it captures
+abbrev pub own_number : GroupKind → List ℕ
+own_number NonCapturing = []
+own_number (CaptureIndex number) = number ∷ []
+own_number (CaptureName number name) = number ∷ []
+
+-- the numbers of the capturing groups, in the order of their opening parentheses, of
+unfoldable mutual
+  -- the syntax
+  pub group_numbers : Syntax → List ℕ
+  group_numbers (literal flags c) = []
+  group_numbers (atom flags piece a) = []
+  group_numbers (repeated min max greedy body) = group_numbers body
+  group_numbers (group kind body) = own_number kind ++ group_numbers body
+  group_numbers (cat items) = all_group_numbers items
+  group_numbers (alt branches) = all_group_numbers branches
+
+  -- all in the list
+  pub all_group_numbers : Syntaxes → List ℕ
+  all_group_numbers nil = []
+  all_group_numbers (cons s ss) = group_numbers s ++ all_group_numbers ss

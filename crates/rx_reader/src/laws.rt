@@ -1,15 +1,19 @@
 //! Laws of what a pattern reads as.
-ghost use Rattle.std.specs.Prelude.{◌≡◌, ℕ, ◌≤◌, List, Option, Some, Ok};
+ghost use Rattle.std.specs.Prelude.{◌≡◌, ℕ, ◌≤◌, List, length, Option, Some, Ok};
+ghost use Rattle.std.specs.List.{range_with_len};
 ghost use Rattle.rx_reader.specs.declared.config.Config.{Config};
 ghost use Rattle.rx_reader.specs.Grammar.{read};
-ghost use Rattle.rx_reader.specs.Groups.{IsGroup};
+ghost use Rattle.rx_reader.specs.Groups.{IsGroup, group_numbers};
 ghost use Rattle.rx_reader.specs.Syntax.{Syntax};
 
-/// The capturing groups of a pattern are numbered from 1 on, with no number left out. A number stands always with the
-/// same name, or always without one, and no name stands at two numbers.
+/// The capturing groups of a pattern are numbered from 1 on in the order of their opening parentheses, each with a
+/// number of its own and none left out. A number stands always with the same name, or always without one, and no name
+/// stands at two numbers.
 pub fn groups_are_numbered_and_named_apart()
     ensures numbers { (config : Config) (text : List ℕ) (s : Syntax) → read config text ≡ Ok s
         → (g : ℕ) (name : Option (List ℕ)) → IsGroup g name s → 1 ≤ g }
+    ensures in_order { (config : Config) (text : List ℕ) (s : Syntax) → read config text ≡ Ok s
+        → group_numbers s ≡ range_with_len 1 (length (group_numbers s)) }
     ensures no_gap { (config : Config) (text : List ℕ) (s : Syntax) → read config text ≡ Ok s
         → (g k : ℕ) (name : Option (List ℕ)) → IsGroup g name s → 1 ≤ k → k ≤ g → (other : Option (List ℕ)) × IsGroup k other s }
     ensures one_name { (config : Config) (text : List ℕ) (s : Syntax) → read config text ≡ Ok s
