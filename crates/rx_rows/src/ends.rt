@@ -18,7 +18,7 @@ fn a_run_in_pieces_of_one_byte(rt: HostRuntime) -> Result<(), Fail> {
     let mut source = Bytes::new(Vec::from_slice(alloc, INPUT)?, 1, Vec::new(alloc));
     let mut sink = Kept::new(alloc, 1, Vec::new(alloc));
     assert_eq!(rt; run(&rt, alloc, &words, &mut source, &mut sink, &Open), 0);
-    assert_eq!(rt; sink.held(), ROWS);
+    assert!(rt; sink.held() == Some(ROWS));
     Ok(())
 }
 
@@ -31,7 +31,7 @@ fn a_sink_fails_at_each_write(rt: HostRuntime) -> Result<(), Fail> {
         let mut source = Bytes::new(Vec::from_slice(alloc, INPUT)?, 1, Vec::new(alloc));
         let mut sink = Kept::new(alloc, 1, Vec::from_slice(alloc, &[call])?);
         assert_eq!(rt; run(&rt, alloc, &words, &mut source, &mut sink, &Open), 7);
-        assert_eq!(rt; sink.held(), &ROWS[..call]);
+        assert!(rt; sink.held() == Some(&ROWS[..call]));
     }
     Ok(())
 }
@@ -62,6 +62,6 @@ fn a_sink_fails_in_mid_stream(rt: HostRuntime) -> Result<(), Fail> {
     let mut source = BytesSure::new(input);
     let mut sink = Kept::new(alloc, 3, Vec::from_slice(alloc, &[1])?);
     assert_eq!(rt; run(&rt, alloc, &words, &mut source, &mut sink, &Open), 7);
-    assert_eq!(rt; sink.held(), b"1:0".as_slice());
+    assert!(rt; sink.held() == Some(b"1:0".as_slice()));
     Ok(())
 }

@@ -269,7 +269,7 @@ fn runs_end_as_the_rows_say(rt: HostRuntime) -> Result<(), Fail> {
         let mut sink = Kept::new(alloc, 3, Vec::new(alloc));
         let status = run(&rt, alloc, &words, &mut source, &mut sink, &Open);
         assert_eq!(rt; status, row.status);
-        assert_eq!(rt; sink.held(), row.text.as_bytes());
+        assert!(rt; sink.held() == Some(row.text.as_bytes()));
     }
     Ok(())
 }

@@ -4,7 +4,7 @@ ghost use Rattle.std.specs.Prelude.{◌<◌};
 
 use crate::words::words_of;
 use rx_meta::Regex;
-use rx_scan::{BytesSure, KeptSure, Row, run, scan};
+use rx_scan::{BytesSure, KeptSure, Row, Slots, run, scan};
 use rx_search::{Gate, NonMaxUsize, Open};
 use std::alloc::Global;
 use std::process::Abort;
@@ -57,6 +57,16 @@ fn expect_rows<R: Threads + Wait + Sync + Abort>(
 }
 
 #[test]
+fn a_rows_places_come_back(rt: HostRuntime) -> Result<(), Fail> {
+    let places = Vec::from_slice(rt.alloc(), &[NonMaxUsize::new(1), None])?;
+    let places = Slots::new(places).into_vec();
+    assert_eq!(rt; places.len(), 2);
+    assert_eq!(rt; place(places[0]), Some(1));
+    assert_eq!(rt; place(places[1]), None);
+    Ok(())
+}
+
+#[test]
 fn one_worker(rt: HostRuntime) -> Result<(), Fail> {
     expect_rows(&rt, rt.alloc(), 1)
 }
@@ -71,10 +81,12 @@ fn more_workers_than_haystacks(rt: HostRuntime) -> Result<(), Fail> {
     expect_rows(&rt, rt.alloc(), 64)
 }
 
-/// A gate that is told of haystacks: the bits of those that it was told of, each of which comes after all before it.
+/// A gate that is told of haystacks: the bits of those that it was told of, each of which comes after all before it, and
+/// how often it was told.
 #[derive(Drop)]
 struct InOrder {
     told: AtomicU64,
+    calls: AtomicU64,
 }
 
 impl InOrder {
@@ -82,12 +94,14 @@ impl InOrder {
     fn new() -> InOrder {
         InOrder {
             told: AtomicU64::new(0),
+            calls: AtomicU64::new(0),
         }
     }
 }
 
 impl Gate for InOrder {
     fn reached(&self, index: usize) {
+        self.calls.fetch_add(1, Ordering::SeqCst);
         let bit = if index < 64 { 1u64 << index } else { 0 };
         // Where all before it were told, and no other, this is the number of those bits.
         if self.told.load(Ordering::SeqCst) == bit.wrapping_sub(1) {
@@ -97,18 +111,20 @@ impl Gate for InOrder {
 }
 
 #[test]
-fn the_gate_is_told_of_each_haystack_in_order(rt: HostRuntime) -> Result<(), Fail> {
+fn the_gate_is_told_of_each_haystack_once_in_order(rt: HostRuntime) -> Result<(), Fail> {
     let alloc = rt.alloc();
     let regex = Regex::new(alloc, "a").ok().expect(&rt, "a regex");
     let haystacks: [&[u8]; 3] = [b"a", b"", b"ba"];
     let gate = InOrder::new();
     assert!(rt; scan(&rt, alloc, &regex, &haystacks, 1, &gate).is_ok());
     assert_eq!(rt; gate.told.load(Ordering::SeqCst), 0b111);
+    assert_eq!(rt; gate.calls.load(Ordering::SeqCst), 3);
     let gate = InOrder::new();
     let words = words_of(alloc, &["scan"])?;
     let mut source = BytesSure::new(Vec::from_slice(alloc, b"a\n\na\n\nba\nb")?);
     let mut sink = KeptSure::new(alloc);
     assert_eq!(rt; run(&rt, alloc, &words, &mut source, &mut sink, &gate), 0);
     assert_eq!(rt; gate.told.load(Ordering::SeqCst), 0b1111);
+    assert_eq!(rt; gate.calls.load(Ordering::SeqCst), 4);
     Ok(())
 }

@@ -27,7 +27,7 @@ use Rattle.rx_meta.specs.Regex.{RegexValue}
 use Rattle.rx_meta.specs.Build.{IsBuilt}
 use Rattle.rx_scan.specs.Finder.{places_in, row_in, IsFor}
 use Rattle.rx_scan.specs.Row.{group_count}
-use Rattle.rx_scan.specs.ScanRow.{RowValue, group_slot, group_places, places_from, told_count, row_of, scan_rows}
+use Rattle.rx_scan.specs.ScanRow.{group_slot, group_places, places_from, told_count, row_of, scan_rows}
 
 no-pair : {P : Type 0} {x : ℕ × ℕ} → Some x ≡ None → P
 no-pair e = cc

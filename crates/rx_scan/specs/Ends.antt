@@ -1,14 +1,18 @@
 -- What a source gives and a sink takes, and when they may fail.
-use Rattle.std.specs.Prelude.{◌≡◌, ℕ, ◌+◌, ◌<◌, ◌≤◌, nat_lt, ◌⊎◌, List, [], ◌++◌, length, take, ⊤, Option, Some, None, Result, MatchResult, if◌then◌else◌}
+use Rattle.std.specs.Prelude.{◌≡◌, ℕ, ◌+◌, ◌-◌, ◌^◌, ◌<◌, ◌≤◌, min, nat_lt, ◌⊎◌, List, [], ◌++◌, length, take, ⊤, Option, Some, None, Result, MatchResult, if◌then◌else◌}
 use Rattle.std.specs.Io.KnownBytes.{Consumes, IsAtEnd}
 
 -- Faults were counted between. A count that stands at the end of its type may have stood still, so it is taken as one that rose.
 abbrev pub HasRisen : (before after : ℕ) → Type 0
-HasRisen before after = (before < after) ⊎ (after ≡ 18446744073709551615)
+HasRisen before after = (before < after) ⊎ (after ≡ 2 ^ 64 - 1)
+
+-- one more, but no more than its type holds
+abbrev pub raised : ℕ → ℕ
+raised n = min (n + 1) (2 ^ 64 - 1)
 
 -- a count of calls, which tells nothing once it stands at the end of its type
 abbrev pub counted : ℕ → Option ℕ
-counted n = if nat_lt n 18446744073709551615 then Some n else None
+counted n = if nat_lt n (2 ^ 64 - 1) then Some n else None
 
 -- One call more was counted, where calls are counted. A source may stop counting.
 abbrev pub CountsCall : (before after : Option ℕ) → Type 0

@@ -2,6 +2,7 @@ pub mod Answer
 pub mod Ends
 pub mod Finder
 pub mod Lines
+pub mod MemoryEnds
 pub mod Patterns
 pub mod Refused
 pub mod Row

@@ -2,18 +2,26 @@
 use Rattle.std.specs.Prelude.{ℕ, ◌+◌, ◌-◌, ◌*◌, Bool, true, false, not, ◌&&◌, ◌||◌, ◌==◌, nat_eq, nat_le, List, [], ◌∷◌, codes, drop}
 use Rattle.std.specs.List.{list_any, starts_with}
 use Rattle.std.specs.Str.{bytes_eq}
+use Rattle.rx_reader.specs.Reading.{◌∈◌}
+
+-- the byte of the digit 0
+abbrev pub digit_0 : ℕ
+digit_0 = 48
+
+-- a decimal digit that counts at least so much
+abbrev pub is_digit_from : (least : ℕ) → ℕ → Bool
+is_digit_from least b = nat_le (digit_0 + least) b && nat_le b (digit_0 + 9)
 
 -- the number of workers: 1 to 64, in decimal, without a sign or a leading zero
 abbrev pub is_workers : List ℕ → Bool
 is_workers [] = false
-is_workers (b ∷ []) = nat_le 49 b && nat_le b 57
-is_workers (b ∷ c ∷ []) =
-    (nat_le 49 b && nat_le b 57) && (nat_le 48 c && nat_le c 57) && nat_le ((b - 48) * 10 + (c - 48)) 64
+is_workers (b ∷ []) = is_digit_from 1 b
+is_workers (b ∷ c ∷ []) = is_digit_from 1 b && is_digit_from 0 c && nat_le ((b - digit_0) * 10 + (c - digit_0)) 64
 is_workers (b ∷ c ∷ d ∷ bytes) = false
 
--- one of the letters `dhobp`: full DFA, lazy DFA, one-pass, backtracker, automatic prefilters
+-- one of the letters: full DFA, lazy DFA, one-pass, backtracker, automatic prefilters
 abbrev pub is_letter : ℕ → Bool
-is_letter b = (b == 100) || (b == 104) || (b == 111) || (b == 98) || (b == 112)
+is_letter b = b ∈ "dhobp"
 
 -- each is one of the letters, and none comes twice
 abbrev pub are_letters : List ℕ → Bool

@@ -24,7 +24,7 @@ const USAGE: &str = "usage: rxscan scan [W] [off:LETTERS]\n";
 /// | Status | Text | When |
 /// |---|---|---|
 /// | 0 | the rows of all matches | the input was read to its end |
-/// | 1 | `pattern P: KIND` | the grammar reads no expression for pattern P, the first such pattern |
+/// | 1 | `pattern P: KIND` | pattern P is refused: the first whose reading is refused, and else the first whose translation is |
 /// | 2 | the usage line | the words are not those of a command; nothing is read, and 8 never comes in its place |
 /// | 3 | `input is not UTF-8 at byte N` | N is the length of the input's longest UTF-8 prefix |
 /// | 4 | `input too long` | there are more than 16777216 bytes |

@@ -1,23 +1,34 @@
 //! Sources and sinks in memory.
-ghost use Rattle.std.specs.Prelude.{◌≡◌, ℕ, ◌+◌, ◌<◌, ◌≤◌, ◌↔◌, ◌-◌, ◌^◌, [], min, length, drop, take, vec_len, Some, None, if◌then◌else◌, Contains, IfOk, IsErr, OnErr};
+ghost use Rattle.std.specs.Prelude.{◌≡◌, ◌<◌, ◌≤◌, ◌↔◌, [], min, length, take, Some, None, Contains, IfOk, IsErr, OnOk, OnErr};
 ghost use Rattle.std.specs.Option.{option_map};
-ghost use Rattle.rx_scan.specs.Ends.{HasRisen, Reads, Writes, CountsCall, counted};
+ghost use Rattle.rx_scan.specs.Ends.{HasRisen, Reads, Writes, CountsCall, counted, raised};
 
 use crate::ends::{Failed, Sink, Source};
 use crate::reading::read_at_most;
 use std::alloc::Global;
+use std::marker::Model;
 
-/// A source of these bytes that never fails.
+/// A source of these bytes that never fails. A contract sees the bytes that are still to come.
 #[derive(Drop)]
 pub struct BytesSure {
     bytes: Vec<u8>,
     at: usize,
-    ghost within: { at ≤ vec_len bytes },
+}
+
+impl Model for BytesSure {
+    ghost use Rattle.std.specs.Prelude.{ℕ, ◌≤◌, List, drop, vec_len};
+
+    ghost Value = { List ℕ };
+
+    ghost view = { λ s. drop s.at s.bytes.items };
+
+    ghost invariant = { λ s. s.at ≤ vec_len s.bytes };
 }
 
 impl BytesSure {
+    /// All of these bytes are still to come.
     pub fn new(bytes: Vec<u8>) -> BytesSure
-        ensures { ⟦<BytesSure as Source>⟧.left result ≡ Some bytes.items }
+        ensures { result ≡ bytes.items }
     {
         BytesSure { bytes, at: 0 }
     }
@@ -35,7 +46,7 @@ fn copy_front(buf: &mut [u8], bytes: &[u8]) -> usize
 }
 
 impl Source for BytesSure {
-    ghost left = { λ s. Some (drop s.at s.bytes.items) };
+    ghost left = { λ s. Some s };
 
     ghost faults = { λ _. 0 };
 
@@ -56,17 +67,24 @@ pub struct Bytes {
     failing: Vec<usize>,
     calls: usize,
     faults: u64,
-    ghost gives_some: { 0 < most },
+}
+
+impl Model for Bytes {
+    ghost use Rattle.std.specs.Prelude.{◌<◌};
+    ghost use Rattle.rx_scan.specs.MemoryEnds.{BytesValue};
+
+    ghost Value = { BytesValue };
+
+    ghost view = { λ s. record { left = s.bytes; most = s.most; failing = s.failing.items; calls = s.calls; faults = s.faults } };
+
+    ghost invariant = { λ s. 0 < s.most };
 }
 
 impl Bytes {
     /// It gives at most `most` bytes at a time, and fails at the calls of these numbers, counted from 0.
     pub fn new(bytes: Vec<u8>, most: usize, failing: Vec<usize>) -> Bytes
         requires { 0 < most }
-        ensures left { ⟦<Bytes as Source>⟧.left result ≡ Some bytes.items }
-        ensures faults { ⟦<Bytes as Source>⟧.faults result ≡ 0 }
-        ensures reads { ⟦<Bytes as Source>⟧.reads result ≡ Some 0 }
-        ensures plan { (result.most ≡ most) × (result.failing.items ≡ failing.items) × (result.calls ≡ 0) }
+        ensures { result ≡ record { left = bytes.items; most = most; failing = failing.items; calls = 0; faults = 0 } }
     {
         Bytes {
             bytes: BytesSure::new(bytes),
@@ -79,21 +97,21 @@ impl Bytes {
 }
 
 impl Source for Bytes {
-    ghost left = { λ s. ⟦<BytesSure as Source>⟧.left s.bytes };
+    ghost left = { λ s. Some s.left };
 
     ghost faults = { λ s. s.faults };
 
     ghost reads = { λ s. counted s.calls };
 
     fn read(&mut self, buf: &mut [u8]) -> Result<usize, Failed>
-        ensures bytes { Reads (⟦<BytesSure as Source>⟧.left self.old.bytes) (⟦<BytesSure as Source>⟧.left self.new.bytes) buf.new result }
+        ensures bytes { Reads (Some self.old.left) (Some self.new.left) buf.new result }
         ensures counts { self.old.faults ≤ self.new.faults }
         ensures call { CountsCall (counted self.old.calls) (counted self.new.calls) }
         ensures failed { OnErr result (HasRisen self.old.faults self.new.faults) }
-        ensures fails { IsErr result ↔ Contains self.old.failing.items self.old.calls }
+        ensures fails { IsErr result ↔ Contains self.old.failing self.old.calls }
         ensures most { IfOk result (λ n. n ≤ self.old.most) }
-        ensures plan { (self.new.most ≡ self.old.most) × (self.new.failing.items ≡ self.old.failing.items)
-            × (self.new.calls ≡ min (self.old.calls + 1) (2 ^ 64 - 1)) }
+        ensures faults { OnOk result (self.new.faults ≡ self.old.faults) × OnErr result (self.new.faults ≡ raised self.old.faults) }
+        ensures plan { (self.new.most ≡ self.old.most) × (self.new.failing ≡ self.old.failing) × (self.new.calls ≡ raised self.old.calls) }
     {
         let call = self.calls;
         self.calls = call.saturating_add(1);
@@ -106,15 +124,25 @@ impl Source for Bytes {
 }
 
 /// A sink in memory that never fails. Where there is no memory for what it takes, it stops telling what it holds.
+/// A contract sees what it holds.
 #[derive(Drop)]
 pub struct KeptSure {
     held: Vec<u8>,
     is_whole: bool,
 }
 
+impl Model for KeptSure {
+    ghost use Rattle.std.specs.Prelude.{ℕ, List, Option, Some, None, if◌then◌else◌};
+
+    ghost Value = { Option (List ℕ) };
+
+    ghost view = { λ k. if k.is_whole then Some k.held.items else None };
+}
+
 impl KeptSure {
+    /// It holds nothing yet.
     pub fn new(alloc: Global) -> KeptSure
-        ensures { ⟦<KeptSure as Sink>⟧.held result ≡ Some [] }
+        ensures { result ≡ Some [] }
     {
         KeptSure {
             held: Vec::new(alloc),
@@ -124,7 +152,7 @@ impl KeptSure {
 
     /// What it holds; None where memory ran out.
     pub fn held(&self) -> Option<&[u8]>
-        ensures { ⟦<KeptSure as Sink>⟧.held self.now ≡ option_map (λ held. held.now) result }
+        ensures { self.now ≡ option_map (λ held. held.now) result }
     {
         if self.is_whole {
             Some(&self.held)
@@ -135,11 +163,16 @@ impl KeptSure {
 }
 
 impl Sink for KeptSure {
-    ghost held = { λ k. if k.is_whole then Some k.held.items else None };
+    ghost held = { λ k. k };
 
     ghost faults = { λ _. 0 };
 
-    fn write(&mut self, piece: &[u8]) -> Result<usize, Failed> {
+    fn write(&mut self, piece: &[u8]) -> Result<usize, Failed>
+        ensures bytes { Writes self.old self.new piece.now result }
+        ensures counts { 0 ≤ 0 }
+        ensures failed { OnErr result (HasRisen 0 0) }
+        ensures takes { result ≡ Ok (length piece.now) }
+    {
         if self.is_whole && self.held.extend_from_slice(piece).is_err() {
             self.is_whole = false;
         }
@@ -147,27 +180,36 @@ impl Sink for KeptSure {
     }
 }
 
-/// A sink in memory that fails at some calls, and where there is no memory.
+/// A sink in memory that fails at some calls, and at no other. Where there is no memory for what it takes, it stops
+/// telling what it holds.
 #[derive(Drop)]
 pub struct Kept {
-    held: Vec<u8>,
+    kept: KeptSure,
     most: usize,
     failing: Vec<usize>,
     calls: usize,
     faults: u64,
-    ghost takes_some: { 0 < most },
+}
+
+impl Model for Kept {
+    ghost use Rattle.std.specs.Prelude.{◌<◌};
+    ghost use Rattle.rx_scan.specs.MemoryEnds.{KeptValue};
+
+    ghost Value = { KeptValue };
+
+    ghost view = { λ k. record { held = k.kept; most = k.most; failing = k.failing.items; calls = k.calls; faults = k.faults } };
+
+    ghost invariant = { λ k. 0 < k.most };
 }
 
 impl Kept {
     /// It takes at most `most` bytes at a time, and fails at the calls of these numbers, counted from 0.
     pub fn new(alloc: Global, most: usize, failing: Vec<usize>) -> Kept
         requires { 0 < most }
-        ensures held { ⟦<Kept as Sink>⟧.held result ≡ Some [] }
-        ensures faults { ⟦<Kept as Sink>⟧.faults result ≡ 0 }
-        ensures plan { (result.most ≡ most) × (result.failing.items ≡ failing.items) × (result.calls ≡ 0) }
+        ensures { result ≡ record { held = Some []; most = most; failing = failing.items; calls = 0; faults = 0 } }
     {
         Kept {
-            held: Vec::new(alloc),
+            kept: KeptSure::new(alloc),
             most,
             failing,
             calls: 0,
@@ -175,27 +217,27 @@ impl Kept {
         }
     }
 
-    /// What it holds.
-    pub fn held(&self) -> &[u8]
-        ensures { ⟦<Kept as Sink>⟧.held self.now ≡ Some result.now }
+    /// What it holds; None where memory ran out.
+    pub fn held(&self) -> Option<&[u8]>
+        ensures { self.now.held ≡ option_map (λ held. held.now) result }
     {
-        &self.held
+        self.kept.held()
     }
 }
 
 impl Sink for Kept {
-    ghost held = { λ k. Some k.held.items };
+    ghost held = { λ k. k.held };
 
     ghost faults = { λ k. k.faults };
 
     fn write(&mut self, piece: &[u8]) -> Result<usize, Failed>
-        ensures bytes { Writes (Some self.old.held.items) (Some self.new.held.items) piece.now result }
+        ensures bytes { Writes self.old.held self.new.held piece.now result }
         ensures counts { self.old.faults ≤ self.new.faults }
         ensures failed { OnErr result (HasRisen self.old.faults self.new.faults) }
-        ensures fails { Contains self.old.failing.items self.old.calls → IsErr result }
-        ensures most { IfOk result (λ n. n ≤ self.old.most) }
-        ensures plan { (self.new.most ≡ self.old.most) × (self.new.failing.items ≡ self.old.failing.items)
-            × (self.new.calls ≡ min (self.old.calls + 1) (2 ^ 64 - 1)) }
+        ensures fails { IsErr result ↔ Contains self.old.failing self.old.calls }
+        ensures takes { IfOk result (λ n. n ≡ min (length piece.now) self.old.most) }
+        ensures faults { OnOk result (self.new.faults ≡ self.old.faults) × OnErr result (self.new.faults ≡ raised self.old.faults) }
+        ensures plan { (self.new.most ≡ self.old.most) × (self.new.failing ≡ self.old.failing) × (self.new.calls ≡ raised self.old.calls) }
     {
         let call = self.calls;
         self.calls = call.saturating_add(1);
@@ -204,10 +246,6 @@ impl Sink for Kept {
             return Err(Failed);
         }
         let n = piece.len().min(self.most);
-        if self.held.extend_from_slice(&piece[..n]).is_err() {
-            self.faults = self.faults.saturating_add(1);
-            return Err(Failed);
-        }
-        Ok(n)
+        self.kept.write(&piece[..n])
     }
 }

@@ -27,6 +27,13 @@ impl Slots {
         Slots { places }
     }
 
+    /// The places, in order, in the vector that they were made of.
+    pub fn into_vec(self) -> Vec<Option<NonMaxUsize>>
+        ensures { result.items ≡ self }
+    {
+        self.places
+    }
+
     /// The places, in order.
     pub fn as_slice(&self) -> &[Option<NonMaxUsize>]
         ensures { result.now ≡ self.now }

@@ -1,17 +1,10 @@
 //! Ends over a reader and a writer, as standard input and standard output, which tell no bytes.
-ghost use Rattle.std.specs.Prelude.{◌≡◌, ◌≤◌, None, OnErr};
+ghost use Rattle.std.specs.Prelude.{◌≡◌, ◌≤◌, None, OnOk, OnErr};
 ghost use Rattle.std.specs.Io.KnownBytes.{WriteAppends};
-ghost use Rattle.rx_scan.specs.Ends.{HasRisen, Writes};
+ghost use Rattle.rx_scan.specs.Ends.{HasRisen, CountsCall, Reads, Writes, raised};
 
 use crate::ends::{Failed, Sink, Source};
 use std::io::{Read, Write};
-
-/// One more fault; the count stays at its type's end.
-fn one_more(faults: u64) -> u64
-    ensures { HasRisen faults result }
-{
-    faults.saturating_add(1)
-}
 
 /// A source over a reader. It tells the bytes that are still to come where the reader does.
 #[derive(Drop)]
@@ -21,6 +14,7 @@ pub struct StandardInput<R> {
 }
 
 impl<R: Read> StandardInput<R> {
+    /// Over this reader, without a fault.
     pub fn new(reader: R) -> StandardInput<R>
         ensures faults { ⟦<StandardInput<R> as Source>⟧.faults result ≡ 0 }
         ensures left { ⟦<StandardInput<R> as Source>⟧.left result ≡ R.remaining reader }
@@ -43,11 +37,17 @@ impl<R: Read> Source for StandardInput<R> {
 
     ghost reads = { λ _. None };
 
-    fn read(&mut self, buf: &mut [u8]) -> Result<usize, Failed> {
+    fn read(&mut self, buf: &mut [u8]) -> Result<usize, Failed>
+        ensures bytes { Reads (R.remaining self.old.reader) (R.remaining self.new.reader) buf.new result }
+        ensures counts { self.old.faults ≤ self.new.faults }
+        ensures call { CountsCall None None }
+        ensures failed { OnErr result (HasRisen self.old.faults self.new.faults) }
+        ensures faults { OnOk result (self.new.faults ≡ self.old.faults) × OnErr result (self.new.faults ≡ raised self.old.faults) }
+    {
         match self.reader.read(buf) {
             Ok(n) => Ok(n),
             Err(_) => {
-                self.faults = one_more(self.faults);
+                self.faults = self.faults.saturating_add(1);
                 Err(Failed)
             }
         }
@@ -63,8 +63,10 @@ pub struct StandardOutput<W> {
 }
 
 impl<W: Write> StandardOutput<W> {
+    /// Over this writer, without a fault.
     pub fn new(writer: W) -> StandardOutput<W>
-        ensures { ⟦<StandardOutput<W> as Sink>⟧.faults result ≡ 0 }
+        ensures faults { ⟦<StandardOutput<W> as Sink>⟧.faults result ≡ 0 }
+        ensures writer { result.writer ≡ writer }
     {
         StandardOutput { writer, faults: 0 }
     }
@@ -86,6 +88,7 @@ impl<W: Write> Sink for StandardOutput<W> {
         ensures bytes { Writes None None piece.now result }
         ensures counts { self.old.faults ≤ self.new.faults }
         ensures failed { OnErr result (HasRisen self.old.faults self.new.faults) }
+        ensures faults { OnOk result (self.new.faults ≡ self.old.faults) × OnErr result (self.new.faults ≡ raised self.old.faults) }
         ensures writer { WriteAppends (W.contents self.old.writer) (W.contents self.new.writer) result piece.now }
     {
         if piece.is_empty() {
@@ -94,7 +97,7 @@ impl<W: Write> Sink for StandardOutput<W> {
         match self.writer.write(piece) {
             Ok(n) if n > 0 => Ok(n),
             _ => {
-                self.faults = one_more(self.faults);
+                self.faults = self.faults.saturating_add(1);
                 Err(Failed)
             }
         }

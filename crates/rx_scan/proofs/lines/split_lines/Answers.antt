@@ -1,5 +1,4 @@
-use Rattle.std.proofs.Common.{◌≢◌, length, sym, ap, ◌∙◌, arith}
-use Rattle.std.specs.Prelude.{map}
+use Rattle.std.proofs.Common.{◌≢◌, length, sym, arith}
 use Rattle.std.proofs.lemmas.Bool.{eqb-true, eqb-false}
 use Rattle.rx_scan.proofs.LineLemmas.{lines-more, lines-over}
 use Rattle.rx_scan.proofs.lines.split_lines.Goals as goal

@@ -1,8 +1,8 @@
-use Rattle.std.proofs.Common.{◌≡◌, ℕ, Option, refl, sym, ap, subst, ◌∙◌}
+use Rattle.std.proofs.Common.{◌≡◌, Option, refl, sym, ap, subst, ◌∙◌}
 use Rattle.std.specs.Prelude.{IfSome}
 use Rattle.rx_model.specs.Search.{Match}
 use Rattle.rx_search.specs.Matches.{MatchValue}
-use Rattle.rx_search.specs.Input.{InputValue, from_place, whole}
+use Rattle.rx_search.specs.Input.{from_place, whole}
 use Rattle.rx_search.specs.Searcher.{SearcherValue, fresh}
 use Rattle.rx_search.proofs.SearcherLemmas.{Progress-begun, Progress-more, Progress-over}
 use Rattle.rx_engines.specs.Engine.{HasSlots}

@@ -1,10 +1,7 @@
-use Rattle.std.proofs.Common.{◌≡◌, ℕ, ◌+◌, ◌-◌, ◌<◌, [], ◌∷◌, List, Option, None, Some, length, get_or, sym, ap, ◌∙◌, arith}
-use Rattle.std.proofs.lemmas.List.{get_or_read}
-use Rattle.rx_model.specs.Search.{Match, slot_value}
+use Rattle.std.proofs.Common.{◌≡◌, ◌+◌, [], ◌∷◌, length, sym, ap, ◌∙◌, arith}
+use Rattle.rx_model.specs.Search.{slot_value}
 use Rattle.rx_search.specs.GroupInfo.{groups_at, slot_of_group, slot_count}
-use Rattle.rx_engines.specs.Engine.{HasSlots}
 use Rattle.rx_scan.specs.Finder.{places_in}
-use Rattle.rx_scan.specs.ScanRow.{group_places}
 use Rattle.rx_scan.proofs.FinderLemmas.{groups-few, looked-up, looked-past, places-more, places-over, place-read}
 use Rattle.rx_scan.proofs.finder.RegexFinder.row.Goals as goal
 
