@@ -1,8 +1,11 @@
 //! Laws of what a pattern reads as.
-ghost use Rattle.std.specs.Prelude.{◌≡◌, ℕ, ◌≤◌, List, Option, Some, Ok};
+ghost use Rattle.std.specs.Prelude.{◌≡◌, ℕ, ◌≤◌, false, List, Option, Some, Ok};
+ghost use Rattle.std.specs.List.{list_any};
 ghost use Rattle.rx_reader.specs.declared.config.Config.{Config};
+ghost use Rattle.rx_reader.specs.Config.{flags_of};
 ghost use Rattle.rx_reader.specs.Grammar.{read};
 ghost use Rattle.rx_reader.specs.Groups.{IsGroup};
+ghost use Rattle.rx_reader.specs.Plain.{is_meta, escaped_text, characters};
 ghost use Rattle.rx_reader.specs.Syntax.{Syntax};
 
 /// The capturing groups of a pattern are numbered from 1 on, with no number left out. A number stands always with the
@@ -16,4 +19,14 @@ pub fn groups_are_numbered_and_named_apart()
         → (g : ℕ) (m n : Option (List ℕ)) → IsGroup g m s → IsGroup g n s → m ≡ n }
     ensures one_number { (config : Config) (text : List ℕ) (s : Syntax) → read config text ≡ Ok s
         → (g k : ℕ) (name : List ℕ) → IsGroup g (Some name) s → IsGroup k (Some name) s → g ≡ k }
+{}
+
+/// A text in which each character that can mean something else stands after a backslash reads as its characters one
+/// after another, and so does a text without such characters: under each configuration whose patterns begin with the
+/// flag `x` off.
+pub fn escaped_text_reads_as_its_characters()
+    ensures escaped { (config : Config) (cs : List ℕ) → (flags_of config).ignore_whitespace ≡ false
+        → read config (escaped_text cs) ≡ Ok (characters (flags_of config) cs) }
+    ensures plain { (config : Config) (cs : List ℕ) → (flags_of config).ignore_whitespace ≡ false → list_any is_meta cs ≡ false
+        → read config cs ≡ Ok (characters (flags_of config) cs) }
 {}
