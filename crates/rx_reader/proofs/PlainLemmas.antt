@@ -3,7 +3,7 @@ use Rattle.std.proofs.Common.{◌≡◌, ℕ, Bool, true, false, not, ◌&&◌, 
 use Rattle.std.proofs.lemmas.Bool.Decides.{nat_tests}
 use Rattle.std.specs.Prelude.{codes, map, if◌then◌else◌}
 use Rattle.std.specs.List.{list_any}
-use Rattle.std.specs.Char.{is_digit, is_ascii_digit}
+use Rattle.std.specs.Char.{is_whitespace, is_digit, is_ascii_digit}
 use Rattle.rx_reader.specs.declared.config.Config.{Config}
 use Rattle.rx_reader.specs.declared.flags.Flags.{Flags}
 use Rattle.rx_reader.specs.declared.escape.Escaped.{Escaped}
@@ -12,10 +12,10 @@ use Rattle.rx_reader.specs.declared.token.Token.{Token}
 use Rattle.rx_reader.specs.declared.token.Token.TheVariants.{Atom as One}
 use Rattle.rx_reader.specs.Config.{flags_of, octal_of}
 use Rattle.rx_reader.specs.Reading.{Place, Read, ◌>>=◌, refuse, piece_of, at_end, first, past, is_among}
-use Rattle.rx_reader.specs.Ahead.{past_n, blank_len, skip}
+use Rattle.rx_reader.specs.Ahead.{past_n, blank_len, skipped_len, skip}
 use Rattle.rx_reader.specs.Escapes.{character, octal_digits, one_letter, lettered, escape}
 use Rattle.rx_reader.specs.Syntax.{Syntax, literal}
-use Rattle.rx_reader.specs.Plain.{is_meta, escaped_text, characters}
+use Rattle.rx_reader.specs.Plain.{is_meta, escaped_text, has_skipped, characters}
 use Rattle.rx_reader.specs.Grammar.{escaped_atom, escaped, is_operator, token_of, token, all_repetitions, Branches, add_item, whole, branches_at, token_then, all_branches, to_end, read}
 use Rattle.rx_reader.proofs.BranchLemmas.{token-end, all_repetitions-step, all_branches-step}
 use Rattle.rx_reader.proofs.PlaceLemmas.{not_at_end}
@@ -63,9 +63,40 @@ escape-goes : (octal : Bool) (p : Place) → at_end (past p) ≡ false → escap
 unfolding escape escape_if
 escape-goes octal p more = ap (λ ends. escape_if ends octal p (past p)) more
 
-skip-none : (flags : Flags) (p : Place) → flags.ignore_whitespace ≡ false → skip flags p ≡ p
+skip-none : (flags : Flags) (p : Place) → skipped_len flags p.text ≡ 0 → skip flags p ≡ p
 unfolding past_n
-skip-none flags p off = ap (λ b. past_n (if b then blank_len false p.text else 0) p) off
+skip-none flags p none = ap (λ n. past_n n p) none
+
+-- White space.
+
+-- nothing that is skipped stands before an escaped text without white space
+blank-none : (cs : List ℕ) → list_any is_whitespace cs ≡ false → blank_len false (escaped_text cs) ≡ 0
+unfolding blank_len
+blank-none [] h = refl
+blank-none (c ∷ cs) h = by (is_meta c) refl
+  where
+    solid : (b d : Bool) → (b || d) ≡ false → b ≡ false
+    solid true d g = g
+    solid false d g = refl
+
+    by : (b : Bool) → is_meta c ≡ b → blank_len false ((if b then codes "\\" ++ c ∷ [] else c ∷ []) ++ escaped_text cs) ≡ 0
+    by true is = refl
+    by false is = rw (solid (is_whitespace c) (list_any is_whitespace cs) h, apart c 35 is refl) refl
+
+skips-nothing : (flags : Flags) (cs : List ℕ) → has_skipped flags cs ≡ false → skipped_len flags (escaped_text cs) ≡ 0
+skips-nothing flags cs h = by flags.ignore_whitespace h
+  where
+    by : (b : Bool) → (b && list_any is_whitespace cs) ≡ false → (if b then blank_len false (escaped_text cs) else 0) ≡ 0
+    by true g = blank-none cs g
+    by false g = refl
+
+later-none : (flags : Flags) (c : ℕ) (cs : List ℕ) → has_skipped flags (c ∷ cs) ≡ false → has_skipped flags cs ≡ false
+later-none flags c cs h = by flags.ignore_whitespace (is_whitespace c) h
+  where
+    by : (b d : Bool) → (b && (d || list_any is_whitespace cs)) ≡ false → (b && list_any is_whitespace cs) ≡ false
+    by true true g = absurd (true≢false g)
+    by true false g = g
+    by false d g = refl
 
 -- A place after which these characters stand.
 module _ (g : ℕ) (ns : List (List ℕ)) where
@@ -136,38 +167,44 @@ module _ (g : ℕ) (ns : List (List ℕ)) where
     unfolding IsRow
     add-row c cs reading (q, ends, is) = (q, ends, ap (λ (r : Read Branches). r >>= λ (b, r). Ok (add_item (literal flags c) b, r)) is)
 
-    module _ (off : flags.ignore_whitespace ≡ false) where
-      stays : (item : Syntax) (p : Place) → is_operator p ≡ false → all_repetitions config flags item p ≡ Ok (item, p)
-      stays item p alone =
-          all_repetitions-step config flags item p
-          ∙ ap (λ (q : Place). repeated_from config flags item q) (skip-none flags p off)
-          ∙ repeat_stops config flags item p alone
+    -- nothing is skipped before the escaped text
+    stands : (cs : List ℕ) (a : ℕ) → has_skipped flags cs ≡ false → skip flags (spot (escaped_text cs) a) ≡ spot (escaped_text cs) a
+    stands cs a solid = skip-none flags (spot (escaped_text cs) a) (skips-nothing flags cs solid)
 
-      rows : (opened : ℕ) (cs : List ℕ) (a : ℕ) → IsRow cs (all_branches config flags opened (spot (escaped_text cs) a))
-      unfolding IsRow IsNext
-      rows opened [] a =
-          let p : Place = spot [] a in (
-            p,
-            refl,
-            all_branches-step config flags opened p
-                ∙ ap (λ (q : Place). token_then config (all_branches config) flags opened q) (skip-none flags p off)
-                ∙ ap (λ (r : Read Token). r >>= branches_at config (all_branches config) flags opened p) (token-end config flags p refl),
-          )
-      rows opened (c ∷ cs) a =
-          let p : Place = spot (escaped_text (c ∷ cs)) a in
-          let (b, is) = next c cs a in
-          let q : Place = spot (escaped_text cs) b in
-          let same : all_branches config flags opened p ≡ (all_branches config flags opened q >>= λ (b, r). Ok (add_item (literal flags c) b, r)) =
+    -- no operator follows an item there
+    stays : (item : Syntax) (cs : List ℕ) (a : ℕ) → has_skipped flags cs ≡ false → all_repetitions config flags item (spot (escaped_text cs) a) ≡ Ok (item, spot (escaped_text cs) a)
+    stays item cs a solid =
+        let p : Place = spot (escaped_text cs) a in
+        all_repetitions-step config flags item p
+        ∙ ap (λ (q : Place). repeated_from config flags item q) (stands cs a solid)
+        ∙ repeat_stops config flags item p (no-operator cs a)
+
+    rows : (opened : ℕ) (cs : List ℕ) (a : ℕ) → has_skipped flags cs ≡ false → IsRow cs (all_branches config flags opened (spot (escaped_text cs) a))
+    unfolding IsRow IsNext
+    rows opened [] a solid =
+        let p : Place = spot [] a in (
+          p,
+          refl,
           all_branches-step config flags opened p
-          ∙ ap (λ (q : Place). token_then config (all_branches config) flags opened q) (skip-none flags p off)
-          ∙ ap (λ (r : Read Token). r >>= branches_at config (all_branches config) flags opened p) is
-          ∙ ap (λ (r : Read Syntax). r >>= λ (item, q). all_branches config flags opened q >>= λ (b, r). Ok (add_item item b, r)) (stays (literal flags c) q (no-operator cs b)) in
-          subst (IsRow (c ∷ cs)) (sym same) (add-row c cs (all_branches config flags opened q) (rows opened cs b))
+              ∙ ap (λ (q : Place). token_then config (all_branches config) flags opened q) (stands [] a solid)
+              ∙ ap (λ (r : Read Token). r >>= branches_at config (all_branches config) flags opened p) (token-end config flags p refl),
+        )
+    rows opened (c ∷ cs) a solid =
+        let p : Place = spot (escaped_text (c ∷ cs)) a in
+        let (b, is) = next c cs a in
+        let q : Place = spot (escaped_text cs) b in
+        let later : has_skipped flags cs ≡ false = later-none flags c cs solid in
+        let same : all_branches config flags opened p ≡ (all_branches config flags opened q >>= λ (b, r). Ok (add_item (literal flags c) b, r)) =
+        all_branches-step config flags opened p
+        ∙ ap (λ (q : Place). token_then config (all_branches config) flags opened q) (stands (c ∷ cs) a solid)
+        ∙ ap (λ (r : Read Token). r >>= branches_at config (all_branches config) flags opened p) is
+        ∙ ap (λ (r : Read Syntax). r >>= λ (item, q). all_branches config flags opened q >>= λ (b, r). Ok (add_item item b, r)) (stays (literal flags c) cs b later) in
+        subst (IsRow (c ∷ cs)) (sym same) (add-row c cs (all_branches config flags opened q) (rows opened cs b later))
 
-pub escaped-reads : (config : Config) (cs : List ℕ) → (flags_of config).ignore_whitespace ≡ false → read config (escaped_text cs) ≡ Ok (characters (flags_of config) cs)
+pub escaped-reads : (config : Config) (cs : List ℕ) → has_skipped (flags_of config) cs ≡ false → read config (escaped_text cs) ≡ Ok (characters (flags_of config) cs)
 unfolding read IsRow
-escaped-reads config cs off =
-    let (q, ends, is) = rows 0 [] config (flags_of config) off 0 cs 0 in
+escaped-reads config cs solid =
+    let (q, ends, is) = rows 0 [] config (flags_of config) 0 cs 0 solid in
     let whole_row : Branches = record { items = map (literal (flags_of config)) cs; others = [] } in
     ap (λ (r : Read Branches). r >>= to_end config) is
     ∙ ap (λ (b : Bool). if b then Ok (whole whole_row) else refuse UnopenedGroup q (past q)) ends
@@ -181,5 +218,5 @@ plain-same (c ∷ cs) h = by (is_meta c) h (λ g. plain-same cs g)
     by true g more = absurd (true≢false g)
     by false g more = ap (λ rest. c ∷ rest) (more g)
 
-pub plain-reads : (config : Config) (cs : List ℕ) → (flags_of config).ignore_whitespace ≡ false → list_any is_meta cs ≡ false → read config cs ≡ Ok (characters (flags_of config) cs)
-plain-reads config cs off plain = ap (read config) (sym (plain-same cs plain)) ∙ escaped-reads config cs off
+pub plain-reads : (config : Config) (cs : List ℕ) → has_skipped (flags_of config) cs ≡ false → list_any is_meta cs ≡ false → read config cs ≡ Ok (characters (flags_of config) cs)
+plain-reads config cs solid plain = ap (read config) (sym (plain-same cs plain)) ∙ escaped-reads config cs solid

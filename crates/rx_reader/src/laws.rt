@@ -5,7 +5,7 @@ ghost use Rattle.rx_reader.specs.declared.config.Config.{Config};
 ghost use Rattle.rx_reader.specs.Config.{flags_of};
 ghost use Rattle.rx_reader.specs.Grammar.{read};
 ghost use Rattle.rx_reader.specs.Groups.{IsGroup};
-ghost use Rattle.rx_reader.specs.Plain.{is_meta, escaped_text, characters};
+ghost use Rattle.rx_reader.specs.Plain.{is_meta, escaped_text, has_skipped, characters};
 ghost use Rattle.rx_reader.specs.Syntax.{Syntax};
 
 /// The capturing groups of a pattern are numbered from 1 on, with no number left out. A number stands always with the
@@ -22,11 +22,11 @@ pub fn groups_are_numbered_and_named_apart()
 {}
 
 /// A text in which each character that can mean something else stands after a backslash reads as its characters one
-/// after another, and so does a text without such characters: under each configuration whose patterns begin with the
-/// flag `x` off.
+/// after another, and so does a text without such characters: under each configuration, as long as the flag `x` doesn't
+/// skip white space that stands in the text.
 pub fn escaped_text_reads_as_its_characters()
-    ensures escaped { (config : Config) (cs : List ℕ) → (flags_of config).ignore_whitespace ≡ false
+    ensures escaped { (config : Config) (cs : List ℕ) → has_skipped (flags_of config) cs ≡ false
         → read config (escaped_text cs) ≡ Ok (characters (flags_of config) cs) }
-    ensures plain { (config : Config) (cs : List ℕ) → (flags_of config).ignore_whitespace ≡ false → list_any is_meta cs ≡ false
+    ensures plain { (config : Config) (cs : List ℕ) → has_skipped (flags_of config) cs ≡ false → list_any is_meta cs ≡ false
         → read config cs ≡ Ok (characters (flags_of config) cs) }
 {}
