@@ -22,6 +22,8 @@ pub mod NamesLemmas
 mod OpeningRows
 pub mod PartLemmas
 pub mod PlaceLemmas
+pub mod PlainLemmas
+mod PlainRows
 pub mod ReadsLemmas
 pub mod RepeatLemmas
 pub mod StackLemmas

@@ -13,6 +13,7 @@ pub mod Groups
 pub mod Input
 pub mod Names
 pub mod Openings
+pub mod Plain
 pub mod Reading
 pub mod Refusal
 pub mod Stack

@@ -1,9 +1,11 @@
 //! Laws of what a pattern reads as.
-ghost use Rattle.std.specs.Prelude.{◌≡◌, ℕ, ◌≤◌, List, length, Option, Some, Ok};
-ghost use Rattle.std.specs.List.{range_with_len};
+ghost use Rattle.std.specs.Prelude.{◌≡◌, ℕ, ◌≤◌, false, List, length, Option, Some, Ok};
+ghost use Rattle.std.specs.List.{list_any, range_with_len};
 ghost use Rattle.rx_reader.specs.declared.config.Config.{Config};
+ghost use Rattle.rx_reader.specs.Config.{flags_of};
 ghost use Rattle.rx_reader.specs.Grammar.{read};
 ghost use Rattle.rx_reader.specs.Groups.{IsGroup, group_numbers};
+ghost use Rattle.rx_reader.specs.Plain.{is_meta, escaped_text, has_skipped, characters};
 ghost use Rattle.rx_reader.specs.Syntax.{Syntax};
 
 /// The capturing groups of a pattern are numbered from 1 on in the order of their opening parentheses, each with a
@@ -20,4 +22,14 @@ pub fn groups_are_numbered_and_named_apart()
         → (g : ℕ) (m n : Option (List ℕ)) → IsGroup g m s → IsGroup g n s → m ≡ n }
     ensures one_number { (config : Config) (text : List ℕ) (s : Syntax) → read config text ≡ Ok s
         → (g k : ℕ) (name : List ℕ) → IsGroup g (Some name) s → IsGroup k (Some name) s → g ≡ k }
+{}
+
+/// A text in which each character that can mean something else stands after a backslash reads as its characters one
+/// after another, and so does a text without such characters: under each configuration, as long as the flag `x` doesn't
+/// skip white space that stands in the text.
+pub fn escaped_text_reads_as_its_characters()
+    ensures escaped { (config : Config) (cs : List ℕ) → has_skipped (flags_of config) cs ≡ false
+        → read config (escaped_text cs) ≡ Ok (characters (flags_of config) cs) }
+    ensures plain { (config : Config) (cs : List ℕ) → has_skipped (flags_of config) cs ≡ false → list_any is_meta cs ≡ false
+        → read config cs ≡ Ok (characters (flags_of config) cs) }
 {}

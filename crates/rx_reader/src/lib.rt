@@ -1,8 +1,8 @@
 //! The reader of patterns: `read` answers exactly what the grammar's definition says of a pattern under a
 //! configuration, the syntax tree or the first refusal with its kind and piece.
 //!
-//! A contract sees the tree as a `Syntax`, and a text in it as the list of its characters. A law says how the groups
-//! of a pattern are numbered and named. It stands on rx_search and rx_sets.
+//! A contract sees the tree as a `Syntax`, and a text in it as the list of its characters. Laws say how the groups
+//! of a pattern are numbered and named, and that an escaped text reads as itself. It stands on rx_search and rx_sets.
 #![tactic(auto)]
 
 mod assertion;
@@ -36,7 +36,7 @@ pub use config::Config;
 pub use error::{ParseError, SyntaxError, SyntaxErrorKind};
 pub use flags::Flags;
 pub use group_kind::GroupKind;
-pub use laws::groups_are_numbered_and_named_apart;
+pub use laws::{escaped_text_reads_as_its_characters, groups_are_numbered_and_named_apart};
 pub use parser::read;
 pub use piece::Piece;
 pub use rx_sets::{ClassAsciiKind, ClassPerlKind};

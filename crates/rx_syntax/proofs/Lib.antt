@@ -4,6 +4,7 @@ pub mod GivesLemmas
 pub mod AtomGroups
 pub mod GroupLemmas
 pub mod PatternsLemmas
+pub mod PlainLemmas
 pub mod SizeLemmas
 pub mod TranslationLemmas
 pub mod RefusalLemmas

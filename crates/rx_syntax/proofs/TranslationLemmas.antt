@@ -54,6 +54,16 @@ after-run (c ∷ cs) hs =
     after-literals (encode_utf8 c) (encodes cs) hs ∙ ap (after own) (after-run cs hs)
     ∙ sym (after-append own (flat_map parts_of (map (λ c. literal_of (encode_utf8 c)) cs)) hs)
 
+-- the literals of the characters join to one
+pub joined-run : (cs : List ℕ) → joined (flat_map parts_of (map (λ c. literal_of (encode_utf8 c)) cs)) ≡ parts_of (literal_of (encodes cs))
+joined-run cs =
+    let own = flat_map parts_of (map (λ c. literal_of (encode_utf8 c)) cs) in
+    ap joined (sym (append-nil own)) ∙ joined-append own [] ∙ sym (after-run cs []) ∙ alone (encodes cs)
+  where
+    alone : (bytes : List ℕ) → after (parts_of (literal_of bytes)) [] ≡ parts_of (literal_of bytes)
+    alone [] = refl
+    alone (b ∷ bytes) = refl
+
 run-same : (b : Bool) (f : ℕ → Expression) (cs : List ℕ) (hs : List Expression)
     → after (flat_map parts_of (if b then map f cs else literal_of (encodes cs) ∷ [])) hs
     ≡ after (flat_map parts_of (map (λ c. if b then f c else literal_of (encode_utf8 c)) cs)) hs
@@ -89,6 +99,11 @@ run-translated config flags [] ss = before-nothing (all_translated config (synta
 run-translated config flags (c ∷ cs) ss =
     ap (λ r. r >>= λ es. Ok (character flags c ∷ es)) (run-translated config flags cs ss)
     ∙ before-cons (character flags c) (map (character flags) cs) (all_translated config (syntaxes ss))
+
+-- a run alone
+pub run-alone : (config : Config) (flags : Flags) (cs : List ℕ) → all_translated config (syntaxes (map (written flags) cs)) ≡ Ok (map (character flags) cs)
+run-alone config flags [] = refl
+run-alone config flags (c ∷ cs) = ap (λ r. r >>= λ es. Ok (character flags c ∷ es)) (run-alone config flags cs)
 
 same-after : (f g : List Expression → List Expression) (r : Result (List Expression) SyntaxError) → ((hs : List Expression) → f hs ≡ g hs) → (r >>= λ hs. Ok (f hs)) ≡ (r >>= λ hs. Ok (g hs))
 same-after f g (Ok hs) same = ap (λ zs. Ok zs) (same hs)

@@ -1,9 +1,14 @@
 //! Laws of what a pattern reads as.
 ghost use Rattle.std.specs.Prelude.{◌≡◌, ℕ, ◌≤◌, false, List, Option, Some, Ok, slice_get};
+ghost use Rattle.std.specs.List.{list_any};
+ghost use lib.Utf8.{encodes};
 ghost use Rattle.rx_model.specs.Expression.{Expression};
 ghost use Rattle.rx_search.specs.GroupInfo.{has_duplicate};
 ghost use Rattle.rx_hir.specs.Names.{IsNamed, HasOneNameEach, group_names};
+ghost use Rattle.rx_hir.specs.Normal.{literal_of};
 ghost use Rattle.rx_reader.specs.declared.config.Config.{Config};
+ghost use Rattle.rx_reader.specs.Config.{flags_of};
+ghost use Rattle.rx_reader.specs.Plain.{is_meta, escaped_text, has_skipped};
 ghost use Rattle.rx_syntax.specs.Pattern.{reads};
 
 /// In the expression of a pattern each group has a number from 1 on and one name or none, and each name is that of one
@@ -15,4 +20,14 @@ pub fn each_group_of_a_pattern_has_one_name()
     ensures told { (config : Config) (text : List ℕ) (h : Expression) → reads config text ≡ Ok h
         → (g : ℕ) (name : List ℕ) → IsNamed g (Some name) h → slice_get (group_names h) g ≡ Some (Some name) }
     ensures once { (config : Config) (text : List ℕ) (h : Expression) → reads config text ≡ Ok h → has_duplicate (group_names h) ≡ false }
+{}
+
+/// A text in which each character that can mean something else stands after a backslash is the literal of its
+/// characters, and so is a text without such characters: under each configuration whose patterns begin with the flag `i`
+/// off, as long as the flag `x` doesn't skip white space that stands in the text.
+pub fn escaped_text_means_itself()
+    ensures escaped { (config : Config) (cs : List ℕ) → (flags_of config).case_insensitive ≡ false → has_skipped (flags_of config) cs ≡ false
+        → reads config (escaped_text cs) ≡ Ok (literal_of (encodes cs)) }
+    ensures plain { (config : Config) (cs : List ℕ) → (flags_of config).case_insensitive ≡ false → has_skipped (flags_of config) cs ≡ false
+        → list_any is_meta cs ≡ false → reads config cs ≡ Ok (literal_of (encodes cs)) }
 {}

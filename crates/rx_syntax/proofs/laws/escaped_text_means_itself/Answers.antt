@@ -1,0 +1,5 @@
+use Rattle.rx_syntax.proofs.PlainLemmas.{escaped-literal, plain-literal}
+use Rattle.rx_syntax.proofs.laws.escaped_text_means_itself.Goals as goal
+
+pub returns : goal.returns
+returns c = record { escaped = escaped-literal; plain = plain-literal }
