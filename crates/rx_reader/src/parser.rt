@@ -3,7 +3,6 @@ ghost use Rattle.std.specs.Prelude.{◌≡◌, ◌+◌, ◌<◌, ◌≤◌, ◌^
 ghost use Rattle.rx_reader.specs.Reading.{Place, at_end, past};
 ghost use Rattle.rx_reader.specs.Syntax.{Syntax, depth};
 ghost use Rattle.rx_reader.specs.Config.{limit_of, flags_of};
-ghost use Rattle.rx_reader.specs.AstViews.{IsNumbered, IsNumbered-prop};
 ghost use Rattle.rx_reader.specs.Ahead.{skip};
 ghost use Rattle.rx_reader.specs.Grammar.{all_repetitions, item_then, group_then, all_branches, no_items, read};
 ghost use Rattle.rx_reader.specs.Input.{place, unread, Reads, Refuses, IsPieceAt};
@@ -31,7 +30,6 @@ pub(crate) struct Frame {
     opening: Piece,
     kind: GroupKind,
     flags: Flags,
-    ghost numbered: { IsNumbered kind } by { IsNumbered-prop kind },
 }
 
 #[derive(Drop)]
@@ -107,7 +105,6 @@ impl Parser {
         kind: GroupKind,
         flags: Flags,
     ) -> Result<(), ParseError>
-        requires { IsNumbered kind }
         ensures value { (p : Place) → IsPieceAt opening p → MatchResult result (λ _. answer self.new ≡ answer_with self.old (group_then self.old.config (all_branches self.old.config) self.old.flags (opened_in self.old) p kind flags (place self.old.cursor) (nat_lt (limit_of self.old.config) (opened_in self.old + 1)))) (λ e. Refuses e (answer_with self.old (group_then self.old.config (all_branches self.old.config) self.old.flags (opened_in self.old) p kind flags (place self.old.cursor) (nat_lt (limit_of self.old.config) (opened_in self.old + 1))))) }
         ensures progress { OnOk result (unread self.new.cursor ≤ unread self.old.cursor) }
     {
