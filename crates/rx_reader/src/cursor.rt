@@ -77,7 +77,7 @@ impl Cursor {
     {
         match self.current() {
             Some(c) => c,
-            None => ' ',
+            None => unreachable!(),
         }
     }
 
