@@ -28,11 +28,7 @@ kind_view (Alternation branches) = alt (syntaxes branches.items)
 -- the counts of a repetition are in order
 abbrev pub IsWellFormed : AstKind → Type 0
 IsWellFormed (Repetition min max greedy sub) = IfSome max (λ m. min ≤ m)
-IsWellFormed (Group kind sub) = Unit {0}
-IsWellFormed (Literal flags c) = Unit {0}
-IsWellFormed (Atom flags piece a) = Unit {0}
-IsWellFormed (Concat items) = Unit {0}
-IsWellFormed (Alternation branches) = Unit {0}
+IsWellFormed _ = Unit {0}
 
 -- a character with its flags
 abbrev pub literal_of : Flags × ℕ → Syntax
