@@ -22,6 +22,7 @@ use Rattle.rx_reader.specs.Reading.{past_while}
 use Rattle.rx_reader.specs.Ahead.{past_n, blank_len}
 use Rattle.rx_reader.specs.Flags.{letters_after, read_flags}
 use Rattle.rx_reader.specs.Names.{read_name}
+use Rattle.rx_reader.specs.Groups.{number_after}
 use Rattle.rx_reader.specs.Openings.{named, flagged, opening}
 use Rattle.rx_reader.specs.Counts.{read_number, read_max, read_counts, operator}
 use Rattle.rx_reader.specs.Escapes.{digits, hex_digits, hex_in_braces, hex, octal_digits, property_in_braces, property, one_letter, boundary, lettered, escape}
@@ -69,8 +70,8 @@ refused kind start end = Err (record { kind = kind; start = start; end = end })
 items_rows :
     (read default (codes "") ≡ Ok (row [])) ×
     (read default (codes "a|") ≡ Ok (alt (cons (cat (syntaxes (plain 97 ∷ []))) (cons (cat (syntaxes [])) nil)))) ×
-    (read default (codes "(a)(?:b)") ≡ Ok (row (group (CaptureIndex 1) (row (plain 97 ∷ [])) ∷ group NonCapturing (row (plain 98 ∷ [])) ∷ []))) ×
-    (read default (codes "((a)b)(c)") ≡ Ok (row (group (CaptureIndex 1) (row (group (CaptureIndex 2) (row (plain 97 ∷ [])) ∷ plain 98 ∷ [])) ∷ group (CaptureIndex 3) (row (plain 99 ∷ [])) ∷ []))) ×
+    (read default (codes "(a)(?:b)") ≡ Ok (row (group (CaptureIndex (number_after 0)) (row (plain 97 ∷ [])) ∷ group NonCapturing (row (plain 98 ∷ [])) ∷ []))) ×
+    (read default (codes "((a)b)(c)") ≡ Ok (row (group (CaptureIndex (number_after 0)) (row (group (CaptureIndex (number_after 1)) (row (plain 97 ∷ [])) ∷ plain 98 ∷ [])) ∷ group (CaptureIndex (number_after 2)) (row (plain 99 ∷ [])) ∷ []))) ×
     (read default (codes "^.$") ≡ Ok (row (atom unicode_alone (piece 0 1) (Assertion StartLine) ∷ atom unicode_alone (piece 1 2) Dot ∷ atom unicode_alone (piece 2 3) (Assertion EndLine) ∷ [])))
 unfolding read branches repetitions token token_of opens escaped bracketed opening named flagged read_flags letters_after read_name operator read_counts read_number read_max past_n blank_len past_while escape lettered boundary one_letter property property_in_braces octal_digits hex hex_in_braces hex_digits digits class class_items class_item item_at class_range member posix posix_name
 items_rows = (refl, refl, refl, refl, refl)
@@ -111,7 +112,7 @@ atoms_rows = (refl, refl, refl, refl)
 -- Names.
 
 names_rows :
-    (read default (codes "(?P<a.b[0]>x)") ≡ Ok (row (group (CaptureName 1 (codes "a.b[0]")) (row (plain 120 ∷ [])) ∷ []))) ×
+    (read default (codes "(?P<a.b[0]>x)") ≡ Ok (row (group (CaptureName (number_after 0) (codes "a.b[0]")) (row (plain 120 ∷ [])) ∷ []))) ×
     (read default (codes "(?<_>a)(?<_>b)") ≡ refused GroupNameTwice 10 11) ×
     (read default (codes "(?P<_") ≡ refused GroupName 4 5)
 unfolding read branches repetitions token token_of opens escaped bracketed opening named flagged read_flags letters_after read_name operator read_counts read_number read_max past_n blank_len past_while escape lettered boundary one_letter property property_in_braces octal_digits hex hex_in_braces hex_digits digits class class_items class_item item_at class_range member posix posix_name ucd_derived
@@ -169,6 +170,6 @@ limit_rows :
     (read (limited 1) (codes "(a*)") ≡ refused NestLimit 3 4) ×
     (read (limited 1) (codes "a*{2}?") ≡ refused NestLimit 2 6) ×
     (read (limited 0) (codes "a(?i:b)") ≡ refused NestLimit 1 5) ×
-    (read (limited 1) (codes "(a)b*") ≡ Ok (row (group (CaptureIndex 1) (row (plain 97 ∷ [])) ∷ repeated 0 None true (plain 98) ∷ [])))
+    (read (limited 1) (codes "(a)b*") ≡ Ok (row (group (CaptureIndex (number_after 0)) (row (plain 97 ∷ [])) ∷ repeated 0 None true (plain 98) ∷ [])))
 unfolding read branches repetitions token token_of opens escaped bracketed opening named flagged read_flags letters_after read_name operator read_counts read_number read_max past_n blank_len past_while escape lettered boundary one_letter property property_in_braces octal_digits hex hex_in_braces hex_digits digits class class_items class_item item_at class_range member posix posix_name
 limit_rows = (refl, refl, refl, refl, refl)

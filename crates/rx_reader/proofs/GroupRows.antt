@@ -4,7 +4,7 @@ use Rattle.std.specs.Prelude.{codes}
 use Rattle.rx_reader.specs.declared.group_kind.GroupKind.TheVariants.{NonCapturing, CaptureIndex, CaptureName}
 use Rattle.rx_reader.specs.Config.{unicode_alone}
 use Rattle.rx_reader.specs.Syntax.{Syntax, literal, group, cat, alt, syntaxes, nil, cons}
-use Rattle.rx_reader.specs.Groups.{IsGroup, group_numbers}
+use Rattle.rx_reader.specs.Groups.{number_after, IsGroup, group_numbers}
 
 abbrev row : List Syntax → Syntax
 row items = alt (cons (cat (syntaxes items)) nil)
@@ -14,8 +14,8 @@ plain c = literal unicode_alone c
 
 abbrev pattern : Syntax
 pattern = row (
-    group (CaptureIndex 1) (row (group (CaptureIndex 2) (row (plain 97 ∷ [])) ∷ plain 98 ∷ []))
-    ∷ group (CaptureName 3 (codes "n")) (row (plain 99 ∷ []))
+    group (CaptureIndex (number_after 0)) (row (group (CaptureIndex (number_after 1)) (row (plain 97 ∷ [])) ∷ plain 98 ∷ []))
+    ∷ group (CaptureName (number_after 2) (codes "n")) (row (plain 99 ∷ []))
     ∷ group NonCapturing (row (plain 100 ∷ []))
     ∷ [])
 

@@ -19,6 +19,7 @@ pub mod GroupLemmas
 mod GroupRows
 pub mod ItemLemmas
 pub mod NamesLemmas
+pub mod NumberLemmas
 mod OpeningRows
 pub mod PartLemmas
 pub mod PlaceLemmas

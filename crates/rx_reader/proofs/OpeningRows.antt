@@ -14,6 +14,7 @@ use Rattle.rx_reader.specs.Names.{read_name}
 use Rattle.rx_reader.specs.declared.group_kind.GroupKind.TheVariants.{NonCapturing, CaptureIndex, CaptureName}
 use Rattle.rx_reader.specs.declared.opening.Opening.{Opening}
 use Rattle.rx_reader.specs.declared.opening.Opening.TheVariants.{Group, Directive}
+use Rattle.rx_reader.specs.Groups.{number_after}
 use Rattle.rx_reader.specs.Openings.{named, flagged, opening}
 
 unfoldable defaults : Flags
@@ -34,8 +35,8 @@ unfoldable refused : SyntaxErrorKind → ℕ → ℕ → Result (Opening × (ℕ
 refused kind start end = Err (record { kind = kind; start = start; end = end })
 
 openings_rows :
-    (found (codes "(a)") ≡ Ok (Group (CaptureIndex 5) defaults, (1, (5, [])))) ×
-    (found (codes "(") ≡ Ok (Group (CaptureIndex 5) defaults, (1, (5, [])))) ×
+    (found (codes "(a)") ≡ Ok (Group (CaptureIndex (number_after 4)) defaults, (1, (5, [])))) ×
+    (found (codes "(") ≡ Ok (Group (CaptureIndex (number_after 4)) defaults, (1, (5, [])))) ×
     (found (codes "(?:a)") ≡ Ok (Group NonCapturing defaults, (3, (4, [])))) ×
     (found (codes "(?i-s:a)") ≡ Ok (Group NonCapturing folding, (6, (4, [])))) ×
     (found (codes "(?i)a") ≡ Ok (Directive folding, (4, (4, []))))
@@ -64,13 +65,13 @@ unfolding defaults folding found_after found refused past_n letters_after read_f
 refused_openings_rows = (refl, refl, refl, refl, refl, refl)
 
 names_rows :
-    (found (codes "(?P<n>a)") ≡ Ok (Group (CaptureName 5 (codes "n")) defaults, (6, (5, codes "n" ∷ [])))) ×
-    (found (codes "(?<n1>a)") ≡ Ok (Group (CaptureName 5 (codes "n1")) defaults, (6, (5, codes "n1" ∷ [])))) ×
-    (found (codes "(?P<a.b[0]>x)") ≡ Ok (Group (CaptureName 5 (codes "a.b[0]")) defaults, (11, (5, codes "a.b[0]" ∷ [])))) ×
-    (found (codes "(?<_>x)") ≡ Ok (Group (CaptureName 5 (codes "_")) defaults, (5, (5, codes "_" ∷ [])))) ×
+    (found (codes "(?P<n>a)") ≡ Ok (Group (CaptureName (number_after 4) (codes "n")) defaults, (6, (5, codes "n" ∷ [])))) ×
+    (found (codes "(?<n1>a)") ≡ Ok (Group (CaptureName (number_after 4) (codes "n1")) defaults, (6, (5, codes "n1" ∷ [])))) ×
+    (found (codes "(?P<a.b[0]>x)") ≡ Ok (Group (CaptureName (number_after 4) (codes "a.b[0]")) defaults, (11, (5, codes "a.b[0]" ∷ [])))) ×
+    (found (codes "(?<_>x)") ≡ Ok (Group (CaptureName (number_after 4) (codes "_")) defaults, (5, (5, codes "_" ∷ [])))) ×
     -- `(?<é>x)`
-    (found (40 ∷ 63 ∷ 60 ∷ 233 ∷ 62 ∷ 120 ∷ 41 ∷ []) ≡ Ok (Group (CaptureName 5 (233 ∷ [])) defaults, (6, (5, (233 ∷ []) ∷ [])))) ×
-    (found_after (codes "b" ∷ []) (codes "(?<a>x)") ≡ Ok (Group (CaptureName 5 (codes "a")) defaults, (5, (5, codes "a" ∷ codes "b" ∷ []))))
+    (found (40 ∷ 63 ∷ 60 ∷ 233 ∷ 62 ∷ 120 ∷ 41 ∷ []) ≡ Ok (Group (CaptureName (number_after 4) (233 ∷ [])) defaults, (6, (5, (233 ∷ []) ∷ [])))) ×
+    (found_after (codes "b" ∷ []) (codes "(?<a>x)") ≡ Ok (Group (CaptureName (number_after 4) (codes "a")) defaults, (5, (5, codes "a" ∷ codes "b" ∷ []))))
 unfolding ucd_derived defaults folding found_after found refused past_n letters_after read_flags read_name named flagged opening
 names_rows = (refl, refl, refl, refl, refl, refl)
 

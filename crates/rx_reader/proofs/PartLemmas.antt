@@ -1,5 +1,5 @@
 -- What flags, names, counts and openings read as, case by case.
-use Rattle.std.proofs.Common.{◌≡◌, ℕ, ◌+◌, ◌==◌, Bool, true, false, not, ◌&&◌, ◌||◌, List, length, take, Option, Some, None, Ok, Err, refl, ◌∙◌, ap, sym}
+use Rattle.std.proofs.Common.{◌≡◌, ℕ, ◌==◌, Bool, true, false, not, ◌&&◌, ◌||◌, List, length, take, Option, Some, None, Ok, Err, refl, ◌∙◌, ap, sym}
 use Rattle.std.specs.Prelude.{if◌then◌else◌}
 use Rattle.std.specs.List.{take_while}
 use Rattle.std.specs.Char.{is_ascii_digit}
@@ -15,6 +15,7 @@ use Rattle.rx_reader.specs.Ahead.{past_n, skip}
 use Rattle.rx_reader.specs.Flags.{letters, ends_with_hyphen, may_end_at, changed, read_flags}
 use Rattle.rx_reader.specs.Names.{name_of, read_name}
 use Rattle.rx_reader.specs.Counts.{number_of, number_at, read_number, read_max, max_after, close_counts, read_counts, counts_of, with_greed, operator_of, operator}
+use Rattle.rx_reader.specs.Groups.{number_after}
 use Rattle.rx_reader.specs.Openings.{is_look_ahead, is_look_behind, is_reference, named, flagged, plain, opening}
 
 -- Flags, whose letters end at q.
@@ -138,7 +139,7 @@ pub named_refused : (p : Place) (flags : Flags) (e : SyntaxError) → read_name 
 unfolding named
 named_refused p flags e refused = rw refused refl
 
-pub named_read : (p q : Place) (flags : Flags) (name : List ℕ) → read_name p ≡ Ok (name, q) → named flags p ≡ Ok (Group (CaptureName (q.groups + 1) name) flags, count_group q)
+pub named_read : (p q : Place) (flags : Flags) (name : List ℕ) → read_name p ≡ Ok (name, q) → named flags p ≡ Ok (Group (CaptureName (number_after q.groups) name) flags, count_group q)
 unfolding named
 named_read p q flags name found = rw found refl
 

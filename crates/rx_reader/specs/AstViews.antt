@@ -1,10 +1,7 @@
 -- What the program's syntax stands for.
-use Rattle.std.specs.Prelude.{ℕ, ◌<◌, ◌≤◌, List, [], ◌∷◌, ◌++◌, map, IfSome}
-use Rattle.std.specs.Coded.{Unit-prop, le_prop}
+use Rattle.std.specs.Prelude.{ℕ, ◌≤◌, List, [], ◌∷◌, ◌++◌, map, IfSome}
 use Rattle.rx_reader.specs.Syntax.{Syntax, literal, atom, repeated, group, cat, alt, syntaxes}
 use Rattle.rx_reader.specs.declared.flags.Flags.{Flags}
-use Rattle.rx_reader.specs.declared.group_kind.GroupKind.{GroupKind}
-use Rattle.rx_reader.specs.declared.group_kind.GroupKind.TheVariants.{NonCapturing, CaptureIndex, CaptureName}
 use Rattle.rx_reader.specs.declared.ast.AstKind.{AstKind}
 use Rattle.rx_reader.specs.declared.ast.AstKind.TheVariants.{Literal, Atom, Repetition, Group, Concat, Alternation}
 use Rattle.rx_reader.specs.declared.ast.Item.{Item}
@@ -28,25 +25,10 @@ kind_view (Group kind sub) = group kind sub.value
 kind_view (Concat items) = cat (syntaxes (expanded items.items))
 kind_view (Alternation branches) = alt (syntaxes branches.items)
 
--- the number of a group that captures is above 0
-abbrev pub IsNumbered : GroupKind → Type 0
-IsNumbered NonCapturing = Unit {0}
-IsNumbered (CaptureIndex index) = 0 < index
-IsNumbered (CaptureName index name) = 0 < index
-
-pub IsNumbered-prop : (kind : GroupKind) → IsProp (IsNumbered kind)
-IsNumbered-prop NonCapturing = Unit-prop
-IsNumbered-prop (CaptureIndex index) = le_prop
-IsNumbered-prop (CaptureName index name) = le_prop
-
--- the counts of a repetition are in order, and the number of a group is above 0
+-- the counts of a repetition are in order
 abbrev pub IsWellFormed : AstKind → Type 0
 IsWellFormed (Repetition min max greedy sub) = IfSome max (λ m. min ≤ m)
-IsWellFormed (Group kind sub) = IsNumbered kind
-IsWellFormed (Literal flags c) = Unit {0}
-IsWellFormed (Atom flags piece a) = Unit {0}
-IsWellFormed (Concat items) = Unit {0}
-IsWellFormed (Alternation branches) = Unit {0}
+IsWellFormed _ = Unit {0}
 
 -- a character with its flags
 abbrev pub literal_of : Flags × ℕ → Syntax

@@ -1,14 +1,21 @@
 -- The capturing groups of a syntax.
-use Rattle.std.specs.Prelude.{ℕ, ◌≡◌, List, [], ◌∷◌, ◌++◌, Option, Some, None, ◌⊎◌}
+use Rattle.std.specs.Prelude.{ℕ, ◌≡◌, ◌+◌, List, [], ◌∷◌, ◌++◌, Option, Some, None, ◌⊎◌}
+use Rattle.std.specs.Int.NonZero.{non_zero_usize_get}
+use Rattle.std.specs.declared.num.NonZeroUsize.{NonZeroUsize}
+use Rattle.std.proofs.Math.Nat.{le-add_left}
 use Rattle.rx_reader.specs.declared.group_kind.GroupKind.{GroupKind}
 use Rattle.rx_reader.specs.declared.group_kind.GroupKind.TheVariants.{NonCapturing, CaptureIndex, CaptureName}
 use Rattle.rx_reader.specs.Syntax.{Syntax, Syntaxes, literal, atom, repeated, group, cat, alt, nil, cons}
 
+-- the number of the next capturing group, where so many were opened before
+abbrev pub number_after : (groups : ℕ) → NonZeroUsize
+number_after groups = record { value = groups + 1; ok = le-add_left 1 groups }
+
 -- a group of this kind captures under this number, with this name or without one
 abbrev pub Captures : (number : ℕ) (name : Option (List ℕ)) → GroupKind → Type 0
 Captures g n NonCapturing = ⊥
-Captures g n (CaptureIndex number) = (g ≡ number) × (n ≡ None)
-Captures g n (CaptureName number name) = (g ≡ number) × (n ≡ Some name)
+Captures g n (CaptureIndex number) = (g ≡ non_zero_usize_get number) × (n ≡ None)
+Captures g n (CaptureName number name) = (g ≡ non_zero_usize_get number) × (n ≡ Some name)
 
 -- a capturing group of this number stands, with this name or without one, in
 unfoldable mutual
@@ -29,8 +36,8 @@ unfoldable mutual
 -- the number of a group of this kind, if it captures
 abbrev pub own_number : GroupKind → List ℕ
 own_number NonCapturing = []
-own_number (CaptureIndex number) = number ∷ []
-own_number (CaptureName number name) = number ∷ []
+own_number (CaptureIndex number) = non_zero_usize_get number ∷ []
+own_number (CaptureName number name) = non_zero_usize_get number ∷ []
 
 -- the numbers of the capturing groups, in the order of their opening parentheses, of
 unfoldable mutual

@@ -1,12 +1,12 @@
 -- What an opening parenthesis begins.
-use Rattle.std.specs.Prelude.{◌+◌, Bool, ◌||◌, Ok, if◌then◌else◌}
+use Rattle.std.specs.Prelude.{Bool, ◌||◌, Ok, if◌then◌else◌}
 use Rattle.rx_reader.specs.declared.error.SyntaxErrorKind.TheVariants.{Unsupported}
 use Rattle.rx_reader.specs.declared.flags.Flags.{Flags}
 use Rattle.rx_reader.specs.declared.group_kind.GroupKind.TheVariants.{NonCapturing, CaptureIndex, CaptureName}
 use Rattle.rx_reader.specs.declared.opening.Opening.{Opening}
 use Rattle.rx_reader.specs.declared.opening.Opening.TheVariants.{Group, Directive}
 use Rattle.rx_reader.specs.Reading.{Place, Read, ◌>>=◌, refuse, past, is_at, begins, count_group}
-use Rattle.rx_reader.specs.AstViews.{IsNumbered}
+use Rattle.rx_reader.specs.Groups.{number_after}
 use Rattle.rx_reader.specs.Ahead.{past_n}
 use Rattle.rx_reader.specs.Flags.{read_flags}
 use Rattle.rx_reader.specs.Names.{read_name}
@@ -23,7 +23,7 @@ is_reference p = begins "(?P=" p || begins "(?P>" p
 
 -- a group with a name, which begins at p
 unfoldable pub named : Flags → (p : Place) → Read Opening
-named flags p = read_name p >>= λ (name, q). Ok (Group (CaptureName (q.groups + 1) name) flags, count_group q)
+named flags p = read_name p >>= λ (name, q). Ok (Group (CaptureName (number_after q.groups) name) flags, count_group q)
 
 -- a group that doesn't capture, or a directive
 unfoldable pub flagged : Flags → Place → Read Opening
@@ -32,7 +32,7 @@ flagged flags p =
 
 -- a group without anything else
 abbrev pub plain : Flags → Place → Opening × Place
-plain flags p = (Group (CaptureIndex (p.groups + 1)) flags, count_group (past p))
+plain flags p = (Group (CaptureIndex (number_after p.groups)) flags, count_group (past p))
 
 -- What the parenthesis at the place begins, and the place after it: a group, with its kind and the flags in its
 -- body, or a directive, with the flags up to the end of the group around.
@@ -45,8 +45,3 @@ opening flags p =
     else if begins "(?<" p then named flags (past_n 3 p)
     else if begins "(?" p then flagged flags p
     else Ok (plain flags p)
-
--- the number of a group that captures is above 0
-abbrev pub IsOpenedNumbered : Opening → Type 0
-IsOpenedNumbered (Group kind flags) = IsNumbered kind
-IsOpenedNumbered (Directive flags) = Unit {0}

@@ -1,5 +1,6 @@
 -- What the groups that are open, and what was gathered in them, make of what is read next.
-use Rattle.std.specs.Prelude.{ℕ, List, [], ◌∷◌, ◌++◌, length, Result, Ok, Err, if◌then◌else◌}
+use Rattle.std.specs.Prelude.{ℕ, ◌+◌, ◌≡◌, nat_lt, List, [], ◌∷◌, ◌++◌, length, Result, Ok, Err, MatchResult, if◌then◌else◌}
+use Rattle.rx_reader.specs.declared.error.ParseError.{ParseError}
 use Rattle.rx_reader.specs.declared.error.SyntaxError.{SyntaxError}
 use Rattle.rx_reader.specs.declared.error.SyntaxErrorKind.TheVariants.{UnclosedGroup, UnopenedGroup}
 use Rattle.rx_reader.specs.declared.config.Config.{Config}
@@ -9,8 +10,9 @@ use Rattle.rx_reader.specs.declared.parser.Frame.{Frame}
 use Rattle.rx_reader.specs.declared.parser.Parser.{Parser}
 use Rattle.rx_reader.specs.Reading.{Place, Read, ◌>>=◌, refuse, at_end, past}
 use Rattle.rx_reader.specs.Syntax.{Syntax, group, cat, alt, syntaxes}
-use Rattle.rx_reader.specs.Grammar.{Branches, within_limit, all_repetitions, token_then, all_branches}
-use Rattle.rx_reader.specs.Input.{place}
+use Rattle.rx_reader.specs.Grammar.{Branches, within_limit, all_repetitions, item_then, group_then, token_then, all_branches}
+use Rattle.rx_reader.specs.Config.{limit_of}
+use Rattle.rx_reader.specs.Input.{place, Refuses}
 pub use Rattle.rx_reader.specs.Gathered.{Gathered, nothing, push_item, push_branch, gathered_whole, gathered}
 
 -- what was gathered, and these after it
@@ -66,3 +68,16 @@ answer s = answer_with s (reads_on s s.flags (place s.cursor))
 -- the same, where the next token stands at the place
 abbrev pub answer_at_token : Parser → Place → Result Syntax SyntaxError
 answer_at_token s p = answer_with s (token_then s.config (all_branches s.config) s.flags (opened_in s) p)
+
+-- the same, where the item was read up to the place
+abbrev pub answer_at_item : Parser → Syntax → Place → Result Syntax SyntaxError
+answer_at_item s item p = answer_with s (item_then s.config (reads_on s s.flags) s.flags item p)
+
+-- the same, where the opening of a group at p was read up to q: its kind, and the flags in it
+abbrev pub answer_at_group : Parser → (p : Place) → GroupKind → (inside : Flags) → (q : Place) → Result Syntax SyntaxError
+answer_at_group s p kind inside q =
+    answer_with s (group_then s.config (all_branches s.config) s.flags (opened_in s) p kind inside q (nat_lt (limit_of s.config) (opened_in s + 1)))
+
+-- the parser is still to give this answer, or the error is its refusal
+abbrev pub Continues : {A : Type 0} → Result A ParseError → Parser → Result Syntax SyntaxError → Type 0
+Continues result s whole = MatchResult result (λ _. answer s ≡ whole) (λ e. Refuses e whole)

@@ -1,7 +1,7 @@
 //! A pattern as it is written: what the reader makes of a text, before it is translated.
 ghost use Rattle.std.specs.Prelude.{◌≡◌, ◌+◌, ◌<◌, ◌≤◌, ◌^◌, [], ◌∷◌, IfOk, IfSome};
 ghost use Rattle.rx_reader.specs.Syntax.{Syntax, literal, atom, repeated, group, cat, alt, syntaxes, depth, deepest};
-ghost use Rattle.rx_reader.specs.AstViews.{expanded, literal_of, IsNumbered};
+ghost use Rattle.rx_reader.specs.AstViews.{expanded, literal_of};
 
 use crate::atom::Atom;
 use crate::flags::Flags;
@@ -149,8 +149,7 @@ impl Ast {
     }
 
     pub(crate) fn group(alloc: Global, kind: GroupKind, sub: Ast) -> Result<Ast, AllocError>
-        requires shallow { depth sub + 1 < 2 ^ 32 }
-        requires numbered { IsNumbered kind }
+        requires { depth sub + 1 < 2 ^ 32 }
         ensures { IfOk result (λ a. a ≡ group kind sub) }
     {
         let nesting = sub.depth() + 1;

@@ -94,13 +94,11 @@ fn posix(cursor: &mut Cursor) -> Result<ClassItem, ParseError>
 {
     let bracket = cursor.here();
     if cursor.begins(&['[', ':', '^']) {
-        cursor.bump();
-        cursor.bump_by(2);
+        cursor.bump_by(3);
         return posix_name(cursor, bracket, true);
     }
     if cursor.begins(&['[', ':']) {
-        cursor.bump();
-        cursor.bump();
+        cursor.bump_by(2);
         return posix_name(cursor, bracket, false);
     }
     Err(bracket.refuse(SyntaxErrorKind::Unsupported))

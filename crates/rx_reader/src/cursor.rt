@@ -9,6 +9,7 @@ use crate::error::{ParseError, SyntaxError, SyntaxErrorKind};
 use crate::names::Names;
 use crate::piece::Piece;
 use std::alloc::{AllocError, Global};
+use std::num::NonZeroUsize;
 
 mod ahead;
 
@@ -31,6 +32,7 @@ pub(crate) struct Cursor {
 impl Cursor {
     ghost use Rattle.rx_reader.specs.Input.{place, unread, start_of, HasRoom, IsPieceAt};
     ghost use Rattle.rx_reader.specs.Classes.{next_text};
+    ghost use Rattle.rx_reader.specs.Groups.{number_after};
     ghost use Rattle.rx_reader.specs.Reading.{count_group, has_name, add_name, past_white, past_all};
 
     pub(crate) fn new(alloc: Global, pattern: &str) -> Result<Cursor, AllocError>
@@ -75,7 +77,7 @@ impl Cursor {
     {
         match self.current() {
             Some(c) => c,
-            None => ' ',
+            None => unreachable!(),
         }
     }
 
@@ -164,12 +166,15 @@ impl Cursor {
         }
     }
 
-    /// Counts a capturing group.
-    pub(crate) fn count_group(&mut self)
+    /// Counts a capturing group, and tells its number.
+    pub(crate) fn count_group(&mut self) -> NonZeroUsize
         requires { HasRoom self.old }
-        ensures { place self.new ≡ count_group (place self.old) }
+        ensures number { result ≡ number_after (place self.old).groups }
+        ensures place { place self.new ≡ count_group (place self.old) }
     {
-        self.groups += 1;
+        let number = NonZeroUsize::MIN.saturating_add(self.groups);
+        self.groups = number.get();
+        number
     }
 
     /// Adds the name of a group, and tells whether no group before has it.
@@ -180,13 +185,6 @@ impl Cursor {
     {
         let alloc = self.alloc();
         self.names.insert(alloc, name)
-    }
-
-    /// How many capturing groups were opened before the position.
-    pub(crate) fn groups(&self) -> usize
-        ensures { result ≡ (place self.now).groups }
-    {
-        self.groups
     }
 
     /// Refuses the piece from `start` to the position.

@@ -1,6 +1,7 @@
 //! Groups.
 
 use crate::text::Text;
+use std::num::NonZeroUsize;
 
 /// Whether a group captures, and how it is then called.
 #[derive(Drop)]
@@ -8,7 +9,7 @@ pub enum GroupKind {
     /// `(?:..)`, or with flags before the `:`.
     NonCapturing,
     /// `(..)`, with its number, counted from 1 by the openings.
-    CaptureIndex(usize),
+    CaptureIndex(NonZeroUsize),
     /// `(?P<name>..)` or `(?<name>..)`, with its number.
-    CaptureName { index: usize, name: Text },
+    CaptureName { index: NonZeroUsize, name: Text },
 }

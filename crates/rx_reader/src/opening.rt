@@ -1,10 +1,10 @@
 //! What an opening parenthesis begins.
-ghost use Rattle.std.specs.Prelude.{◌≡◌, ◌<◌, if◌then◌else◌, OnOk, IfOk};
+ghost use Rattle.std.specs.Prelude.{◌≡◌, ◌<◌, if◌then◌else◌, OnOk};
 ghost use Rattle.rx_reader.specs.declared.opening.Opening.TheVariants.{Group, Directive};
 ghost use Rattle.rx_reader.specs.declared.group_kind.GroupKind.TheVariants.{NonCapturing};
 ghost use Rattle.rx_reader.specs.Ahead.{past_n};
 ghost use Rattle.rx_reader.specs.Input.{place, unread, Reads, HasRoom};
-ghost use Rattle.rx_reader.specs.Openings.{is_look_ahead, is_look_behind, is_reference, named, flagged, opening, IsOpenedNumbered};
+ghost use Rattle.rx_reader.specs.Openings.{is_look_ahead, is_look_behind, is_reference, named, flagged, opening};
 
 use crate::cursor::Cursor;
 use crate::directive::read_flags;
@@ -58,17 +58,13 @@ fn named(cursor: &mut Cursor, flags: Flags, count: usize) -> Result<Opening, Par
     requires some { 0 < count }
     requires more { 0 < unread cursor.old }
     ensures value { Reads result (named flags (past_n count (place cursor.old))) (place cursor.new) }
-    ensures numbered { IfOk result IsOpenedNumbered }
     ensures progress { OnOk result (unread cursor.new < unread cursor.old) }
 {
     cursor.bump_by(count);
     let name = read_name(cursor)?;
-    cursor.count_group();
+    let index = cursor.count_group();
     Ok(Opening::Group {
-        kind: GroupKind::CaptureName {
-            index: cursor.groups(),
-            name,
-        },
+        kind: GroupKind::CaptureName { index, name },
         flags,
     })
 }
@@ -76,7 +72,6 @@ fn named(cursor: &mut Cursor, flags: Flags, count: usize) -> Result<Opening, Par
 /// Reads the flags of a group that doesn't capture, or those of a directive.
 fn flagged(cursor: &mut Cursor, flags: Flags) -> Result<Opening, ParseError>
     ensures value { Reads result (flagged flags (place cursor.old)) (place cursor.new) }
-    ensures numbered { IfOk result IsOpenedNumbered }
     ensures progress { OnOk result (unread cursor.new < unread cursor.old) }
 {
     let opening = cursor.here();
@@ -89,8 +84,7 @@ fn flagged(cursor: &mut Cursor, flags: Flags) -> Result<Opening, ParseError>
 
 /// A group that doesn't capture, or a directive.
 fn opening_of(is_group: bool, flags: Flags) -> Opening
-    ensures value { result ≡ (if is_group then Group NonCapturing flags else Directive flags) }
-    ensures numbered { IsOpenedNumbered result }
+    ensures { result ≡ (if is_group then Group NonCapturing flags else Directive flags) }
 {
     if is_group {
         Opening::Group {
@@ -107,7 +101,6 @@ fn opening_of(is_group: bool, flags: Flags) -> Opening
 pub(crate) fn read_opening(cursor: &mut Cursor, flags: Flags) -> Result<Opening, ParseError>
     requires { 0 < unread cursor.old }
     ensures value { Reads result (opening flags (place cursor.old)) (place cursor.new) }
-    ensures numbered { IfOk result IsOpenedNumbered }
     ensures progress { OnOk result (unread cursor.new < unread cursor.old) }
 {
     if is_look_ahead(cursor) {
@@ -129,9 +122,9 @@ pub(crate) fn read_opening(cursor: &mut Cursor, flags: Flags) -> Result<Opening,
         return flagged(cursor, flags);
     }
     cursor.bump();
-    cursor.count_group();
+    let index = cursor.count_group();
     Ok(Opening::Group {
-        kind: GroupKind::CaptureIndex(cursor.groups()),
+        kind: GroupKind::CaptureIndex(index),
         flags,
     })
 }

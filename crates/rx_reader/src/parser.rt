@@ -1,11 +1,8 @@
 //! Items, branches and groups.
-ghost use Rattle.std.specs.Prelude.{◌≡◌, ◌+◌, ◌<◌, ◌≤◌, ◌^◌, ◌⊎◌, true, false, length, nat_lt, chars, Ok, Err, OnOk, IfOk, MatchResult, IsTrue};
+ghost use Rattle.std.specs.Prelude.{◌≡◌, ◌<◌, ◌≤◌, ◌⊎◌, true, false, chars, Ok, Err, OnOk, IfOk, MatchResult, IsTrue};
 ghost use Rattle.rx_reader.specs.Reading.{Place, at_end, past};
-ghost use Rattle.rx_reader.specs.Syntax.{Syntax, depth};
-ghost use Rattle.rx_reader.specs.Config.{limit_of, flags_of};
-ghost use Rattle.rx_reader.specs.AstViews.{IsNumbered, IsNumbered-prop};
 ghost use Rattle.rx_reader.specs.Ahead.{skip};
-ghost use Rattle.rx_reader.specs.Grammar.{all_repetitions, item_then, group_then, all_branches, no_items, read};
+ghost use Rattle.rx_reader.specs.Grammar.{all_repetitions, no_items, read};
 ghost use Rattle.rx_reader.specs.Input.{place, unread, Reads, Refuses, IsPieceAt};
 
 use crate::ast::Ast;
@@ -31,7 +28,6 @@ pub(crate) struct Frame {
     opening: Piece,
     kind: GroupKind,
     flags: Flags,
-    ghost numbered: { IsNumbered kind } by { IsNumbered-prop kind },
 }
 
 #[derive(Drop)]
@@ -74,7 +70,7 @@ fn repetitions(
 }
 
 impl Parser {
-    ghost use Rattle.rx_reader.specs.Stack.{answer, answer_with, answer_at_token, reads_on, innermost, opened_in};
+    ghost use Rattle.rx_reader.specs.Stack.{answer, answer_with, answer_at_token, answer_at_item, answer_at_group, Continues};
 
     fn new(alloc: Global, pattern: &str, config: Config) -> Result<Parser, AllocError>
         ensures { IfOk result (λ s. answer s ≡ read config (chars pattern.now)) }
@@ -92,7 +88,7 @@ impl Parser {
 
     /// Takes an item, with the operators that follow it.
     fn take_item(&mut self, item: Ast) -> Result<(), ParseError>
-        ensures value { MatchResult result (λ _. answer self.new ≡ answer_with self.old (item_then self.old.config (reads_on self.old self.old.flags) self.old.flags item (place self.old.cursor))) (λ e. Refuses e (answer_with self.old (item_then self.old.config (reads_on self.old self.old.flags) self.old.flags item (place self.old.cursor)))) }
+        ensures value { Continues result self.new (answer_at_item self.old item (place self.old.cursor)) }
         ensures progress { OnOk result (unread self.new.cursor ≤ unread self.old.cursor) }
     {
         let item = repetitions(&mut self.cursor, self.config, self.flags, item)?;
@@ -107,8 +103,7 @@ impl Parser {
         kind: GroupKind,
         flags: Flags,
     ) -> Result<(), ParseError>
-        requires { IsNumbered kind }
-        ensures value { (p : Place) → IsPieceAt opening p → MatchResult result (λ _. answer self.new ≡ answer_with self.old (group_then self.old.config (all_branches self.old.config) self.old.flags (opened_in self.old) p kind flags (place self.old.cursor) (nat_lt (limit_of self.old.config) (opened_in self.old + 1)))) (λ e. Refuses e (answer_with self.old (group_then self.old.config (all_branches self.old.config) self.old.flags (opened_in self.old) p kind flags (place self.old.cursor) (nat_lt (limit_of self.old.config) (opened_in self.old + 1))))) }
+        ensures value { (p : Place) → IsPieceAt opening p → Continues result self.new (answer_at_group self.old p kind flags (place self.old.cursor)) }
         ensures progress { OnOk result (unread self.new.cursor ≤ unread self.old.cursor) }
     {
         if self.frames.len() >= self.config.get_nest_limit() as usize {
@@ -131,7 +126,7 @@ impl Parser {
 
     /// Closes a group, whose end was read.
     fn close_group(&mut self, start: usize) -> Result<(), ParseError>
-        ensures value { (p : Place) → start ≡ p.at → at_end p ≡ false → place self.old.cursor ≡ past p → MatchResult result (λ _. answer self.new ≡ answer_with self.old (Ok (no_items, p))) (λ e. Refuses e (answer_with self.old (Ok (no_items, p)))) }
+        ensures value { (p : Place) → start ≡ p.at → at_end p ≡ false → place self.old.cursor ≡ past p → Continues result self.new (answer_with self.old (Ok (no_items, p))) }
         ensures progress { OnOk result (unread self.new.cursor ≤ unread self.old.cursor) }
     {
         let frame = match self.frames.pop() {
@@ -161,7 +156,7 @@ impl Parser {
 
     /// Takes the token at the position, and what follows it as far as that belongs to it.
     fn take_token(&mut self) -> Result<(), ParseError>
-        ensures value { MatchResult result (λ _. answer self.new ≡ answer_at_token self.old (place self.old.cursor)) (λ e. Refuses e (answer_at_token self.old (place self.old.cursor))) }
+        ensures value { Continues result self.new (answer_at_token self.old (place self.old.cursor)) }
         ensures progress { OnOk result (IsTrue (at_end (place self.old.cursor)) ⊎ (unread self.new.cursor < unread self.old.cursor)) }
         ensures moves { OnOk result (unread self.new.cursor ≤ unread self.old.cursor) }
     {
@@ -182,7 +177,7 @@ impl Parser {
     /// Takes the next token, and what stands before it.
     fn step(&mut self) -> Result<(), ParseError>
         requires { 0 < unread self.old.cursor }
-        ensures value { MatchResult result (λ _. answer self.new ≡ answer self.old) (λ e. Refuses e (answer self.old)) }
+        ensures value { Continues result self.new (answer self.old) }
         ensures progress { OnOk result (unread self.new.cursor < unread self.old.cursor) }
     {
         self.cursor.skip(self.flags);

@@ -13,7 +13,8 @@ pub struct Piece {
 }
 
 impl Piece {
-    pub(crate) fn refuse(self, kind: SyntaxErrorKind) -> ParseError
+    /// The refusal of the piece.
+    pub fn refuse(self, kind: SyntaxErrorKind) -> ParseError
         ensures { result ≡ ParseError.Syntax (record { kind = kind; start = self.start; end = self.end }) }
     {
         ParseError::Syntax(SyntaxError {

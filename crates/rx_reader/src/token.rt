@@ -3,8 +3,7 @@ ghost use Rattle.std.specs.Prelude.{◌≡◌, ◌<◌, ◌≤◌, false, Ok, On
 ghost use Rattle.rx_reader.specs.Reading.{Place, first, at_end, past, is_at};
 ghost use Rattle.rx_reader.specs.Grammar.{opened, opens, escaped_atom, escaped, bracketed, single, stray_operator, token_of, token};
 ghost use Rattle.rx_reader.specs.Input.{place, unread, Reads, Refuses};
-ghost use Rattle.rx_reader.specs.Openings.{IsOpenedNumbered};
-ghost use Rattle.rx_reader.specs.Tokens.{is_end, is_close, IsOpening, IsOneMore};
+ghost use Rattle.rx_reader.specs.Tokens.{is_end, is_close, IsOneMore};
 
 use crate::assertion::AssertionKind;
 use crate::ast::Ast;
@@ -35,7 +34,7 @@ pub(crate) enum Token {
 /// What an opening parenthesis begins.
 fn opened(opening: Opening) -> Token
     ensures value { result ≡ opened opening }
-    ensures kind { IsOpenedNumbered opening → IsOneMore result }
+    ensures kind { IsOneMore result }
 {
     match opening {
         Opening::Group { kind, flags } => Token::Opens { kind, flags },
@@ -134,7 +133,6 @@ fn read_some_token(cursor: &mut Cursor, config: Config, flags: Flags) -> Result<
     requires { 0 < unread cursor.old }
     ensures value { Reads result (token_of config (first (place cursor.old)) flags (place cursor.old)) (place cursor.new) }
     ensures progress { OnOk result (unread cursor.new < unread cursor.old) }
-    ensures numbered { IfOk result IsOpening }
     ensures more { IfOk result (λ t. is_end t ≡ false) }
     ensures close { IfOk result (λ t. IsTrue (is_close t) → place cursor.new ≡ past (place cursor.old)) }
 {
@@ -170,7 +168,6 @@ pub(crate) fn read_token(
     ensures value { Reads result (token config flags (place cursor.old)) (place cursor.new) }
     ensures progress { IfOk result (λ t. IsTrue (is_end t) ⊎ (unread cursor.new < unread cursor.old)) }
     ensures moves { OnOk result (unread cursor.new ≤ unread cursor.old) }
-    ensures numbered { IfOk result IsOpening }
     ensures end { IfOk result (λ t. is_end t ≡ at_end (place cursor.old)) }
     ensures stays { IfOk result (λ t. IsTrue (is_end t) → place cursor.new ≡ place cursor.old) }
     ensures close { IfOk result (λ t. IsTrue (is_close t) → place cursor.new ≡ past (place cursor.old)) }

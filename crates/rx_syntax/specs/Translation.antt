@@ -1,5 +1,6 @@
 -- The expression that a pattern stands for, as it is written, or the first refusal from left to right.
 use Rattle.std.specs.Prelude.{List, [], ◌∷◌, Some, None, Result, Ok, if◌then◌else◌}
+use Rattle.std.specs.Int.NonZero.{non_zero_usize_get}
 use lib.Utf8.{encodes}
 use Rattle.rx_model.specs.Expression.{Expression, look, capture}
 use Rattle.rx_hir.specs.Normal.{repetition_of, concat_of, alternation_of}
@@ -29,8 +30,8 @@ atom_of config flags piece (Bracketed negated items) = bracketed config flags pi
 -- a group that captures has a number, and some have a name
 abbrev pub group_of : GroupKind → Expression → Expression
 group_of NonCapturing body = body
-group_of (CaptureIndex number) body = capture number None body
-group_of (CaptureName number name) body = capture number (Some (encodes name)) body
+group_of (CaptureIndex number) body = capture (non_zero_usize_get number) None body
+group_of (CaptureName number name) body = capture (non_zero_usize_get number) (Some (encodes name)) body
 
 abbrev mutual
   pub translated : Config → Syntax → Result Expression SyntaxError

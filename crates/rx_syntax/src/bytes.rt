@@ -8,7 +8,6 @@ ghost use Rattle.rx_syntax.specs.Answers.{Answers, AnswersAs};
 ghost use Rattle.rx_syntax.specs.Classes.{bytes_under, is_byte, item_bytes, all_bytes, byte_class, hex_byte};
 
 use crate::literal::byte;
-use crate::refusal::refuse;
 use rx_class::{Class, ClassBytes};
 use rx_hir::Hir;
 use rx_reader::{ClassCharacter, ClassItem, Config, Flags, ParseError, Piece, SyntaxErrorKind};
@@ -91,7 +90,7 @@ fn item_bytes(
     match item {
         ClassItem::Range { low, high } => match range_of(*low, *high) {
             Some(range) => Ok(Vec::from_slice(alloc, &[range])?),
-            None => Err(refuse(piece, SyntaxErrorKind::UnicodeOff)),
+            None => Err(piece.refuse(SyntaxErrorKind::UnicodeOff)),
         },
         ClassItem::Perl { kind, negated } => {
             let class = ascii_bytes(alloc, flags, kind.ascii(), *negated)?;
@@ -101,7 +100,7 @@ fn item_bytes(
             let class = ascii_bytes(alloc, flags, *kind, *negated)?;
             Ok(Vec::from_slice(alloc, class.ranges())?)
         }
-        ClassItem::Property { .. } => Err(refuse(piece, SyntaxErrorKind::UnicodeOff)),
+        ClassItem::Property { .. } => Err(piece.refuse(SyntaxErrorKind::UnicodeOff)),
     }
 }
 
@@ -132,7 +131,7 @@ pub(crate) fn byte_class(
     ensures { Answers result (byte_class config.now piece members) }
 {
     if config.get_utf8() && !members.is_ascii() {
-        return Err(refuse(piece, SyntaxErrorKind::Utf8));
+        return Err(piece.refuse(SyntaxErrorKind::Utf8));
     }
     Ok(Hir::class(alloc, Class::Bytes(members))?)
 }
@@ -152,6 +151,6 @@ pub(crate) fn hex_byte(
             let members = bytes_under(alloc, flags, false, byte(alloc, code)?)?;
             byte_class(alloc, config, piece, members)
         }
-        Err(_) => Err(refuse(piece, SyntaxErrorKind::UnicodeOff)),
+        Err(_) => Err(piece.refuse(SyntaxErrorKind::UnicodeOff)),
     }
 }

@@ -11,7 +11,6 @@ mod laws;
 mod literal;
 mod pattern;
 mod patterns;
-mod refusal;
 mod scalars;
 mod set;
 #[cfg(test)]

@@ -9,7 +9,6 @@ ghost use Rattle.rx_sets.specs.Property.{property};
 ghost use Rattle.rx_syntax.specs.Answers.{Answers, AnswersAs};
 ghost use Rattle.rx_syntax.specs.Classes.{scalars_under, scalars_named, item_scalars, all_scalars};
 
-use crate::refusal::refuse;
 use rx_class::ClassUnicode;
 use rx_reader::{ClassItem, Flags, ParseError, Piece, SyntaxErrorKind};
 use rx_search::Memory;
@@ -66,7 +65,7 @@ pub(crate) fn named_scalars(
 {
     match property(alloc, name)? {
         Some(members) => Ok(scalars_under(alloc, flags, negated, members)?),
-        None => Err(refuse(piece, SyntaxErrorKind::Property)),
+        None => Err(piece.refuse(SyntaxErrorKind::Property)),
     }
 }
 

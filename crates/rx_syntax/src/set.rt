@@ -4,7 +4,6 @@ ghost use Rattle.rx_syntax.specs.Answers.{Answers};
 ghost use Rattle.rx_syntax.specs.Classes.{scalar_class, perl_class, property_class, bracketed, line_ends, has_odd_terminator, dot};
 
 use crate::bytes::{all_bytes, ascii_bytes, byte_class, bytes_under};
-use crate::refusal::refuse;
 use crate::scalars::{all_scalars, class_of_bytes, named_scalars, perl_scalars, scalars_under};
 use rx_class::{Class, ClassBytes, ClassUnicode};
 use rx_hir::Hir;
@@ -49,7 +48,7 @@ pub(crate) fn property(
     ensures { Answers result (property_class flags piece name.now negated) }
 {
     if !flags.unicode {
-        return Err(refuse(piece, SyntaxErrorKind::UnicodeOff));
+        return Err(piece.refuse(SyntaxErrorKind::UnicodeOff));
     }
     let members = named_scalars(alloc, flags, piece, name, negated)?;
     Ok(scalar_class(alloc, members)?)
@@ -114,7 +113,7 @@ pub(crate) fn dot(
         return byte_class(alloc, config, piece, class);
     }
     if has_odd_terminator(config, flags) {
-        return Err(refuse(piece, SyntaxErrorKind::LineTerminator));
+        return Err(piece.refuse(SyntaxErrorKind::LineTerminator));
     }
     let class = class_of_bytes(alloc, &ends)?.complement(alloc)?;
     Ok(scalar_class(alloc, class)?)

@@ -1,8 +1,8 @@
 //! From a pattern as it is written to its expression.
-ghost use Rattle.std.specs.Prelude.{◌≡◌, ◌<◌, ◌≤◌, option_map, string_bytes, IfOk, IfSome};
+ghost use Rattle.std.specs.Prelude.{◌≡◌, ◌≤◌, option_map, string_bytes, IfOk, IfSome};
+ghost use Rattle.std.specs.Int.NonZero.{non_zero_usize_get};
 ghost use Rattle.rx_model.specs.Expression.{capture};
 ghost use Rattle.rx_hir.specs.Normal.{repetition_of};
-ghost use Rattle.rx_reader.specs.AstViews.{IsNumbered};
 ghost use Rattle.rx_syntax.specs.Answers.{Answers, AnswersAs};
 ghost use Rattle.rx_syntax.specs.Translation.{atom_of, group_of, translated};
 ghost use Rattle.rx_syntax.specs.ItemViews.{all_parts, branch_parts};
@@ -63,27 +63,25 @@ fn repetition(
 }
 
 /// The group of this number and name.
-fn capture(alloc: Global, number: usize, name: Option<String>, sub: Hir) -> Result<Hir, Memory>
-    requires { 0 < number }
-    ensures { IfOk result (λ h. h ≡ capture number (option_map string_bytes name) sub) }
+fn capture(
+    alloc: Global,
+    index: NonZeroUsize,
+    name: Option<String>,
+    sub: Hir,
+) -> Result<Hir, Memory>
+    ensures { IfOk result (λ h. h ≡ capture (non_zero_usize_get index) (option_map string_bytes name) sub) }
 {
-    match NonZeroUsize::new(number) {
-        None => Ok(sub),
-        Some(index) => {
-            let sub = Box::new(alloc, sub)?;
-            Ok(Hir::capture(Capture { index, name, sub }))
-        }
-    }
+    let sub = Box::new(alloc, sub)?;
+    Ok(Hir::capture(Capture { index, name, sub }))
 }
 
 /// The group, or its body alone where it does not capture.
 fn group(alloc: Global, kind: &GroupKind, sub: Hir) -> Result<Hir, Memory>
-    requires { IsNumbered kind.now }
     ensures { IfOk result (λ h. h ≡ group_of kind.now sub) }
 {
     match kind {
         GroupKind::NonCapturing => Ok(sub),
-        GroupKind::CaptureIndex(number) => capture(alloc, *number, None, sub),
+        GroupKind::CaptureIndex(index) => capture(alloc, *index, None, sub),
         GroupKind::CaptureName { index, name } => {
             let name = text(alloc, name.as_slice())?;
             capture(alloc, *index, Some(name), sub)

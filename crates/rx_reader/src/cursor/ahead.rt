@@ -65,6 +65,7 @@ impl Cursor {
     pub(crate) fn bump_by(&mut self, count: usize)
         ensures value { place self.new ≡ past_n count (place self.old) }
         ensures progress { unread self.new ≤ unread self.old }
+        ensures passed { 0 < count → 0 < unread self.old → unread self.new < unread self.old }
         ensures room { 0 < count → 0 < unread self.old → HasRoom self.new }
         ensures kept { HasRoom self.old → HasRoom self.new }
     {

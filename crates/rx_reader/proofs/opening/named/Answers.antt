@@ -1,9 +1,8 @@
-use Rattle.std.proofs.Common.{◌≡◌, ◌∙◌, ◌+◌, ap, sym, Ok}
+use Rattle.std.proofs.Common.{◌∙◌, ap, sym, Ok}
 use Rattle.std.proofs.lemmas.Result.{err_from_is_err_and}
 use Rattle.rx_reader.specs.declared.opening.Opening.TheVariants.{Group}
 use Rattle.rx_reader.specs.declared.group_kind.GroupKind.TheVariants.{CaptureName}
 use Rattle.rx_reader.specs.Input.{place}
-use Rattle.rx_reader.specs.Reading.{Place}
 use Rattle.rx_reader.specs.Names.{read_name}
 use Rattle.rx_reader.specs.Openings.{named}
 use Rattle.rx_reader.proofs.ReadsLemmas.{refuses_from, refuses}
@@ -22,6 +21,5 @@ pub returns-clause-value : goal.returns-clause-value
 returns-clause-value c =
     let p = place c.bump_by.new.self in
     let q = place c.read_name.new.cursor in
-    let index : c.groups.result ≡ q.groups + 1 = c.groups.ensures ∙ ap (λ (x : Place). x.groups) c.count_group.ensures in
     ap (named c.args.flags) (sym c.bump_by.ensures.value) ∙ named_read p q c.args.flags c.in_ok-name.name c.in_ok-name.ensures.value
-    ∙ (λ i. Ok (Group (CaptureName (sym index i) c.in_ok-name.name) c.args.flags, sym c.count_group.ensures i))
+    ∙ (λ i. Ok (Group (CaptureName (sym c.count_group-index.ensures.number i) c.in_ok-name.name) c.args.flags, sym c.count_group-index.ensures.place i))

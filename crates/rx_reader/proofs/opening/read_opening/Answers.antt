@@ -1,8 +1,9 @@
-use Rattle.std.proofs.Common.{◌≡◌, ◌∙◌, ◌+◌, ap, sym, subst, false, Ok}
+use Rattle.std.proofs.Common.{◌≡◌, ◌∙◌, ap, sym, subst, false, Ok}
 use Rattle.rx_reader.specs.declared.opening.Opening.TheVariants.{Group}
 use Rattle.rx_reader.specs.declared.group_kind.GroupKind.TheVariants.{CaptureIndex}
 use Rattle.rx_reader.specs.Input.{place, Reads}
 use Rattle.rx_reader.specs.Reading.{Place, begins, past, count_group}
+use Rattle.rx_reader.specs.Groups.{number_after}
 use Rattle.rx_reader.specs.Openings.{is_look_ahead, is_look_behind, is_reference}
 use Rattle.rx_reader.proofs.PartLemmas.{opens_ahead, opens_behind, opens_reference, opens_named, opens_short, opens_flagged, opens_plain}
 use Rattle.rx_reader.proofs.opening.read_opening.Goals as goal
@@ -63,6 +64,6 @@ returns-clause-value c =
     let long : begins "(?P<" p ≡ false = sym c.begins.ensures ∙ c.if-begins.false in
     let short : begins "(?<" p ≡ false = sym c.begins-2.ensures ∙ c.if-begins-2.false in
     let none : begins "(?" p ≡ false = sym c.begins-3.ensures ∙ c.if-begins-3.false in
-    let counted : place c.count_group.new.self ≡ count_group (past p) = c.count_group.ensures ∙ ap count_group c.bump.ensures.value in
-    let index : c.groups.result ≡ p.groups + 1 = c.groups.ensures ∙ ap (λ (x : Place). x.groups) counted in
+    let counted : place c.count_group-index.new.self ≡ count_group (past p) = c.count_group-index.ensures.place ∙ ap count_group c.bump.ensures.value in
+    let index : c.count_group-index.result ≡ number_after p.groups = c.count_group-index.ensures.number ∙ ap (λ (x : Place). number_after x.groups) c.bump.ensures.value in
     opens_plain p c.args.flags ahead behind back long short none ∙ (λ i. Ok (Group (CaptureIndex (sym index i)) c.args.flags, sym counted i))
