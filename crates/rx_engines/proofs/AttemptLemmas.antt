@@ -13,7 +13,7 @@ use Rattle.rx_engines.specs.Backtrack.{is_set, extent, passed_by, work, frames_l
 use Rattle.rx_engines.specs.declared.backtrack.search.Search.{Search}
 use Rattle.rx_engines.specs.declared.frame.Frame.{Frame}
 use Rattle.rx_engines.specs.declared.frame.Frame.TheVariants.{Explore}
-use Rattle.rx_engines.specs.Simulation.{cost}
+use Rattle.rx_engines.specs.Simulation.{frames_of_state}
 use Rattle.rx_engines.proofs.BitLemmas.{passed_in-set, passed_in-bit}
 use Rattle.rx_engines.proofs.CloseLemmas.{not-true, not-false}
 use Rattle.rx_engines.proofs.FrameLemmas.{frames_below-passed, frames_below-inserted}
@@ -107,7 +107,7 @@ module _ {s : Search} {words words' : List ℕ} {new : Bool} {q i : ℕ} (t : In
       omega arith
 
   -- the frames of the state do not come again
-  pub inserted-frames : new ≡ true → frames_left s words' + cost (state_at s.states.now q) ≡ frames_left s words
+  pub inserted-frames : new ≡ true → frames_left s words' + frames_of_state (state_at s.states.now q) ≡ frames_left s words
   inserted-frames unseen =
       let column : ((i - s.first) * length s.states.now + q) % length s.states.now ≡ q = mod-mul-add (i - s.first) (length s.states.now) q t.state in
       let less = frames_below-inserted s.states.now words words' ((i - s.first) * length s.states.now + q) t.after (not-true _ (sym unseen ∙ t.is_new)) (extent s) t.within in

@@ -10,7 +10,7 @@ use Rattle.rx_model.proofs.RunLemmas.{by_test}
 use Rattle.rx_model.proofs.FirstLemmas.{none-is-some, some-is}
 use Rattle.rx_model.proofs.WithinLemmas.{next-later}
 use Rattle.rx_search.specs.Matches.{match_value, MatchValue}
-use Rattle.rx_search.specs.Input.{InputValue}
+use Rattle.rx_search.specs.Input.{InputValue, next_in}
 use Rattle.rx_nfa.specs.Automaton.{at, automaton}
 use Rattle.rx_nfa.specs.Nfa.{Nfa, IsInRange}
 use Rattle.rx_nfa.specs.NextMatch.{start_of, first_from, next_match_of}
@@ -19,7 +19,7 @@ use Rattle.rx_engines.specs.Simulation.{first_of}
 use Rattle.rx_engines.specs.Search.{IsInside, next_until, next_of, first_place, stop_of, answer_of, triple}
 use Rattle.rx_engines.specs.declared.pikevm.search.Search.{Search}
 use Rattle.rx_engines.specs.Walk.{Slots}
-use Rattle.rx_engines.specs.Engine.{PikeVMValue, next_match_by, next_match_in, next_match_for, stop_in, answer_in, last_start, IsOf, IsMatchWith, IsSearchOf, HasSlots}
+use Rattle.rx_engines.specs.Engine.{PikeVMValue, next_match_by, next_match_within, stop_in, answer_in, last_start, IsNfaOf, IsMatchWith, IsSearchOf, HasSlots}
 use Rattle.rx_engines.proofs.OptionLemmas.{or-none_right}
 use Rattle.rx_engines.proofs.StartLemmas.{first_start-none, first_start-more, first_of-beyond}
 use Rattle.rx_engines.proofs.StageLemmas.{first_place-within, first_place-alike}
@@ -76,7 +76,7 @@ told-from tell None m e = none-is-some e
 told-from tell (Some n) m e = (n, refl, some-is e)
 
 module _ (vm : PikeVMValue) (v : InputValue) where
-  pub patterns-agree : v.end ≤ length v.haystack → (r : Patterns) → IsOf vm r → next_match_in vm v ≡ option_map (told_of r.which_captures) (next_match_for r v)
+  pub patterns-agree : v.end ≤ length v.haystack → (r : Patterns) → IsNfaOf vm.nfa r → next_match_within vm.nfa v ≡ option_map (told_of r.which_captures) (next_in r v)
   patterns-agree within r of = next_match_of-patterns vm.nfa r v.haystack v.end within of.runs vm.nfa.utf8 v.anchor v.start of.utf8
 
   -- where a search stops
@@ -96,12 +96,8 @@ module _ (vm : PikeVMValue) (v : InputValue) where
   pub answer_in-missing : start_of vm.nfa v.anchor ≡ None → answer_in vm v ≡ None
   answer_in-missing none = next_match_of-missing vm.nfa vm.nfa.utf8 v.haystack v.anchor (stop_in vm v) v.start none
 
-  -- without `earliest` the answer is the next match
-  pub answer_in-late : v.earliest ≡ false → answer_in vm v ≡ next_match_in vm v
-  answer_in-late late = ap (λ b. next_match_by vm v (if b then first_place (λ e. is_some (next_match_by vm v e)) v.end (v.end - v.start) v.start else v.end)) late
-
   -- what is found is a match
-  pub answer-is_match : v.end ≤ length v.haystack → v.start ≤ v.end → (r : Patterns) → IsOf vm r → (Holds : Match → Type 0) → (o : Option Match) → o ≡ answer_in vm v → IfSome o Holds → IfSome o (λ m. IsMatchWith r v Holds)
+  pub answer-is_match : v.end ≤ length v.haystack → v.start ≤ v.end → (r : Patterns) → IsNfaOf vm.nfa r → (Holds : Match → Type 0) → (o : Option Match) → o ≡ answer_in vm v → IfSome o Holds → IfSome o (λ m. IsMatchWith r v Holds)
   answer-is_match within le r of Holds None e holds = tt
   answer-is_match within le r of Holds (Some m) e holds =
       let stop = (stop-within le).1 in
@@ -110,7 +106,7 @@ module _ (vm : PikeVMValue) (v : InputValue) where
       (n.0, next-later r v.haystack v.anchor (stop_in vm v) v.end v.start n.0 n.1 stop, subst Holds (sym n.2) holds)
 
   -- what is reported is the answer, with its slots
-  pub reported-is_match : v.end ≤ length v.haystack → v.start ≤ v.end → (r : Patterns) → IsOf vm r → (slots : Slots) → (o : Option Match) → o ≡ answer_in vm v → (result : Option MatchValue) → result ≡ option_map match_value o → IfSome (answer_in vm v) (HasSlots slots)
+  pub reported-is_match : v.end ≤ length v.haystack → v.start ≤ v.end → (r : Patterns) → IsNfaOf vm.nfa r → (slots : Slots) → (o : Option Match) → o ≡ answer_in vm v → (result : Option MatchValue) → result ≡ option_map match_value o → IfSome (answer_in vm v) (HasSlots slots)
       → IfSome result (λ found. IsMatchWith r v (λ m. (found ≡ match_value m) × HasSlots slots m))
   reported-is_match within le r of slots None e result is told = rw is tt
   reported-is_match within le r of slots (Some m) e result is told =
@@ -136,7 +132,7 @@ module _ (vm : PikeVMValue) (v : InputValue) where
         (λ j. first_start (is_permitted (of.utf8 j) (of.text j)) (first_of (first_trace (automaton (of.matcher j) (of.states j) (of.text j) end)) (of.starts j)) (of.last j + 1 - v.start) v.start)
         ∙ next_match_of-until vm.nfa vm.nfa.utf8 v.haystack v.anchor end v.start v.end q low high is
 
-    pub next-is : {from : ℕ} → from ≡ v.start → next_of s from ≡ next_match_in vm v
+    pub next-is : {from : ℕ} → from ≡ v.start → next_of s from ≡ next_match_within vm.nfa v
     next-is same = (λ j. next_until s (same j) (of.end j)) ∙ until-is v.end le (omega arith)
 
     stop-is : stop_of s v.earliest v.start ≡ stop_in vm v

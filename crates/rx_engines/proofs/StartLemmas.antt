@@ -1,6 +1,6 @@
 -- The starts of a search that are still to come.
 use Rattle.std.proofs.Common.{◌≡◌, ℕ, zero, suc, ◌+◌, ◌-◌, ◌≤◌, ◌<◌, List, [], ◌∷◌, length, refl, sym, ◌∙◌, ap, arith, true≢false, inl, inr, get_or, drop}
-use Rattle.std.specs.Prelude.{nat_le, Bool, true, false, Option, Some, None, option_map, is_some, replicate, IfSome, IfNone, min, nat_lt, if◌then◌else◌}
+use Rattle.std.specs.Prelude.{Bool, true, false, Option, Some, None, option_map, is_some, replicate, IfSome, IfNone, min, nat_lt, if◌then◌else◌}
 use Rattle.std.proofs.lemmas.List.{length-replicate, get_or_past}
 use Rattle.std.proofs.lemmas.Bool.Decides.{nat_tests}
 use Rattle.std.specs.Option.{option_or}
@@ -98,21 +98,6 @@ module _ (terminator : ℕ) (states : List State) (text : List ℕ) (states_of_s
   pub starts-not_here : (p : Passed) (i : ℕ) → i ≤ last → is_permitted utf8_empty text i ≡ false → starts p i ≡ starts p (i + 1)
   unfolding first_start
   starts-not_here p i le forbidden = let e : last + 1 - i ≡ suc (last + 1 - (i + 1)) = omega arith in rw (e, forbidden) refl
-
-  none-here : (p : Passed) (i : ℕ) → first_of (found g p) states_of_start i ≡ None → starts p i ≡ starts p (i + 1)
-  none-here p i none =
-      by_test (nat_le i last)
-      (λ le. by_test (is_permitted utf8_empty text i)
-      (λ allowed. starts-here p i (grind (arith, nat_tests)) allowed ∙ ap (λ o. option_or (option_map (λ t. record { start = i; trace = t }) o) (starts p (i + 1))) none)
-      (λ forbidden. starts-not_here p i (grind (arith, nat_tests)) forbidden))
-      (λ past. let lt : last < i = grind (arith, nat_tests) in starts-over p i lt ∙ sym (starts-over p (i + 1) (omega arith)))
-
-  -- a search without threads and without a match may go on from a later place, where nothing starts before that
-  pub starts-skip : (p : Passed) (n i : ℕ) → ((k : ℕ) → i ≤ k → k < i + n → first_of (found g p) states_of_start k ≡ None) → starts p i ≡ starts p (i + n)
-  starts-skip p zero i none = let e : i ≡ i + 0 = omega arith in ap (starts p) e
-  starts-skip p (suc n) i none =
-      let e : i + 1 + n ≡ i + suc n = omega arith in
-      none-here p i (none i (omega arith) (omega arith)) ∙ starts-skip p n (i + 1) (λ k le lt. none k (omega arith) (omega arith)) ∙ ap (starts p) e
 
   -- nothing starts here: there is a match already,
   pub unseeded-matched : (best front goal : Option Hit) (p p' : Passed) (i : ℕ) → true ≡ is_some best → option_or front (later best i p) ≡ goal → option_or front (later best (i + 1) p') ≡ goal

@@ -14,7 +14,7 @@ use Rattle.rx_nfa.specs.Automaton.{automaton, route, read_byte, state_step, stat
 use Rattle.rx_nfa.specs.declared.state.Transition.{Transition}
 use Rattle.rx_nfa.specs.declared.state.State.TheVariants.{ByteRange, Sparse, Look, Union, Capture, Fail, Match as Accepts}
 use Rattle.rx_nfa.proofs.StateLemmas.{accepted-is, successors-is, written-is, state-known, names-known, read_byte-taken, read_byte-dead}
-use Rattle.rx_engines.specs.Simulation.{Acts, byte_at, onto, read_of, act_of}
+use Rattle.rx_engines.specs.Simulation.{byte_at, onto, read_of, act_of}
 use Rattle.rx_engines.specs.declared.pikevm.step.Action.{Action}
 use Rattle.rx_engines.specs.declared.pikevm.step.Action.TheVariants.{Accept, Read, Nothing}
 use Rattle.rx_nfa.proofs.AutomatonLemmas.{automaton-bounded}
@@ -129,6 +129,14 @@ unfolding among
 Stepping-begun e value = rw e (record { value = value })
 
 -- What a state does at a byte, as the machine says it.
+
+-- what the action tells of the state, in the graph
+abbrev Acts : List State → PriorityGraph → ℕ → ℕ → ℕ → Action → Type 0
+Acts states g end q i (Accept pattern) = (is_resting (state_at states q) ≡ true) × (g.accepted (at q i) ≡ Some pattern)
+Acts states g end q i (Read next) =
+    (is_resting (state_at states q) ≡ true) × (next < length states) × (i < end) × (g.accepted (at q i) ≡ None) × (g.written (at q i) ≡ None) × (g.successors (at q i) ≡ at next (i + 1) ∷ [])
+Acts states g end q i Nothing =
+    (is_resting (state_at states q) ≡ false) ⊎ ((g.accepted (at q i) ≡ None) × (g.successors (at q i) ≡ []))
 
 onto-names : (n : ℕ) (ts : List Transition) (b next : ℕ) → All (λ (t : Transition). t.next < n) ts → route ts b ≡ Some next → next < n
 onto-names n [] b next all goes = none-is-some goes

@@ -5,11 +5,12 @@ use Rattle.rx_model.specs.Runs.{Configuration, PriorityGraph, Passed, found, fir
 use Rattle.rx_model.specs.Search.{Match, is_permitted, first_start}
 use Rattle.rx_model.specs.Machine.{grid}
 use Rattle.rx_model.proofs.RunLemmas.{weight}
+use Rattle.rx_search.specs.Matches.{HalfMatchValue}
 use Rattle.rx_nfa.specs.Automaton.{at, automaton, state_at, route, NamesBelow}
 use Rattle.rx_nfa.specs.declared.state.State.{State}
 use Rattle.rx_nfa.specs.declared.state.Transition.{Transition}
-use Rattle.rx_engines.specs.Simulation.{cost, cost_below}
-use Rattle.rx_engines.specs.Walk.{Slots, Answer, pending, explore_all}
+use Rattle.rx_engines.specs.Simulation.{frames_of_state, frames_of_states}
+use Rattle.rx_engines.specs.Walk.{Slots, Answer, AllWithin, pending, explore_all}
 use Rattle.rx_engines.specs.declared.frame.Frame.{Frame}
 use Rattle.rx_engines.specs.declared.frame.Frame.TheVariants.{Explore, Restore}
 use Rattle.rx_engines.specs.declared.backtrack.search.Search.{Search}
@@ -35,7 +36,7 @@ pub record IsInside (s : Search) : Type 0 where
 
 -- how many frames these leave
 abbrev pub frames_of_span : Search → ℕ
-frames_of_span s = (s.end + 1 - s.first) * cost_below s.states.now (length s.states.now)
+frames_of_span s = (s.end + 1 - s.first) * frames_of_states s.states.now (length s.states.now)
 
 -- the graph whose runs are searched
 abbrev pub graph_for : Search → PriorityGraph
@@ -62,7 +63,7 @@ work s words = weight (λ c. length ((graph_for s).successors c) + 2) (grid (len
 -- set those that its state leaves. The numbers of a place are those of its states in order.
 unfoldable pub frames_below : List State → List ℕ → (n : ℕ) → ℕ
 frames_below states words zero = 0
-frames_below states words (suc n) = (if is_set words n then 0 else cost (state_at states (n % length states))) + frames_below states words n
+frames_below states words (suc n) = (if is_set words n then 0 else frames_of_state (state_at states (n % length states))) + frames_below states words n
 
 -- the same of the whole span
 abbrev pub frames_left : Search → List ℕ → ℕ
@@ -71,12 +72,6 @@ frames_left s words = frames_below s.states.now words (extent s)
 -- what was passed leads to nothing
 abbrev pub IsDead : PriorityGraph → Passed → Type 0
 IsDead g passed = (c : Configuration) → found g passed c ≡ first_trace g c
-
--- each frame to explore is a state below n at a place of the span
-abbrev pub AllWithin : (n first end : ℕ) → List Frame → Type 0
-AllWithin n first end [] = Unit {0}
-AllWithin n first end (Explore q i ∷ rest) = (q < n) × (first ≤ i) × (i ≤ end) × AllWithin n first end rest
-AllWithin n first end (Restore slot old ∷ rest) = AllWithin n first end rest
 
 abbrev pub AllInside : Search → List Frame → Type 0
 AllInside s frames = AllWithin (length s.states.now) s.first s.end frames
@@ -129,15 +124,11 @@ pub record Searching (g : PriorityGraph) (before passed : Passed) (goal : Option
   pub unwinds : undone frames slots ≡ base
 
 -- what a run led to, with the slots
-abbrev pub returned : Option (ℕ × ℕ) → Slots → Option Answer
+abbrev pub returned : Option HalfMatchValue → Slots → Option Answer
 returned None slots = None
-returned (Some r) slots = Some (record { pattern = r.0; end = r.1; slots = slots })
+returned (Some r) slots = Some (record { pattern = r.pattern; end = r.offset; slots = slots })
 
 -- the run that was followed reached the goal, or the search goes on with the stack
-abbrev pub Followed : Option (ℕ × ℕ) → PriorityGraph → (before passed : Passed) → Option Answer → (base : Slots) → List Frame → Slots → Type 0
+abbrev pub Followed : Option HalfMatchValue → PriorityGraph → (before passed : Passed) → Option Answer → (base : Slots) → List Frame → Slots → Type 0
 Followed None g before passed goal base frames slots = Searching g before passed goal base frames slots
 Followed (Some r) g before passed goal base frames slots = goal ≡ returned (Some r) slots
-
--- a match as pattern, start and end
-abbrev pub triple : Match → ℕ × ℕ × ℕ
-triple m = (m.trace.pattern, m.start, m.trace.end)

@@ -11,7 +11,7 @@ use crate::backtrack::visited::Visited;
 use crate::frame::Frame;
 use crate::slots::{Slot, write};
 use crate::stack::Stack;
-use rx_search::{PatternID, StateID};
+use rx_search::{HalfMatch, StateID};
 
 /// The pattern and the end of the first run that starts at the place `from`. The slots get what it wrote.
 pub fn attempt(
@@ -20,7 +20,7 @@ pub fn attempt(
     visited: &mut Visited,
     stack: &mut Stack,
     slots: &mut [Slot],
-) -> Option<(PatternID, usize)>
+) -> Option<HalfMatch>
     requires search { IsInside search.now }
     requires from { (search.now.first ≤ from) × (from ≤ search.now.end) }
     requires room { extent search.now ≤ 64 * length visited.old }
@@ -61,7 +61,7 @@ fn follow(
     visited: &mut Visited,
     stack: &mut Stack,
     slots: &mut [Slot],
-) -> Option<(PatternID, usize)>
+) -> Option<HalfMatch>
     requires search { IsInside search.now }
     requires start { start < length search.now.states.now }
     requires from { (search.now.first ≤ from) × (from ≤ search.now.end) }
@@ -86,7 +86,7 @@ fn follow(
     let mut place = from;
     while visited.insert(index(search, state, place)) {
         match step(search, state, place, stack, slots) {
-            Onward::Accept(pattern) => return Some((pattern, place)),
+            Onward::Accept(pattern) => return Some(HalfMatch::new(pattern, place)),
             Onward::To {
                 state: next,
                 place: at,

@@ -2,15 +2,15 @@ ghost use Rattle.std.specs.Prelude.{◌≡◌, ◌≤◌, length, None, replicat
 ghost use Rattle.std.specs.Result.{IfErr};
 ghost use Rattle.rx_model.specs.Search.{Patterns, told_of};
 ghost use Rattle.rx_search.specs.Anchored.{anchor_of};
+ghost use Rattle.rx_search.specs.Input.{next_in};
 ghost use Rattle.rx_search.specs.Matches.{match_value};
 ghost use Rattle.rx_nfa.specs.Nfa.{IsInRange};
 ghost use Rattle.rx_nfa.specs.NextMatch.{start_of};
-ghost use Rattle.rx_engines.specs.Engine.{next_match_for, HasSlots, AreWithin, accounted_memory};
-ghost use Rattle.rx_engines.specs.Bounded.{next_match_within, IsNfaOf, max_len, span_len, IsRefusal, Fits};
+ghost use Rattle.rx_engines.specs.Engine.{next_match_within, IsNfaOf, HasSlots, AreWithin, accounted_memory};
+ghost use Rattle.rx_engines.specs.Bounded.{max_len, span_len, IsRefusal, Fits};
 
 use crate::backtrack::cache::Cache;
 use crate::backtrack::search::Search;
-use crate::report::reported;
 use crate::slots::empty;
 use crate::starts::latest_start;
 use rx_nfa::NFA;
@@ -88,7 +88,7 @@ impl BoundedBacktracker {
         ensures short { IfOk result (λ _. span_len input.now ≤ max_len self.now) }
         ensures err { IfErr result (IsRefusal self.now input.now) }
         ensures patterns { (r : Patterns) → IsNfaOf self.now r
-            → next_match_within self.now input.now ≡ option_map (told_of r.which_captures) (next_match_for r input.now) }
+            → next_match_within self.now input.now ≡ option_map (told_of r.which_captures) (next_in r input.now) }
         ensures slots { IfOk result (λ _. IfSome (next_match_within self.now input.now) (HasSlots slots.new)) }
         ensures none { IfOk result (λ r. IfNone r (slots.new ≡ replicate (length slots.old) None)) }
         ensures refused { IfErr result (λ _. slots.new ≡ replicate (length slots.old) None) }
@@ -118,7 +118,7 @@ impl BoundedBacktracker {
         ensures short { IfOk result (λ _. span_len input.now ≤ max_len self.now) }
         ensures err { IfErr result (IsRefusal self.now input.now) }
         ensures patterns { (r : Patterns) → IsNfaOf self.now r
-            → next_match_within self.now input.now ≡ option_map (told_of r.which_captures) (next_match_for r input.now) }
+            → next_match_within self.now input.now ≡ option_map (told_of r.which_captures) (next_in r input.now) }
         ensures slots { IfOk result (λ _. IfSome (next_match_within self.now input.now) (HasSlots slots.new)) }
         ensures none { IfOk result (λ r. IfNone r (slots.new ≡ replicate (length slots.old) None)) }
         ensures refused { IfErr result (λ _. slots.new ≡ replicate (length slots.old) None) }
@@ -150,7 +150,7 @@ impl BoundedBacktracker {
             last: latest_start(input),
             end: input.end(),
         };
-        Ok(reported(cache.find(&search, slots)))
+        Ok(cache.find(&search, slots))
     }
 
     /// Where the runs start, if the pattern that is asked for is there.

@@ -3,7 +3,7 @@ ghost use Rattle.rx_model.specs.Look.{holds};
 ghost use Rattle.rx_search.specs.Look.{kind_of};
 ghost use Rattle.rx_nfa.specs.Automaton.{at, state_at};
 ghost use Rattle.rx_engines.specs.Walk.{explore_all};
-ghost use Rattle.rx_engines.specs.Simulation.{byte_at, cost};
+ghost use Rattle.rx_engines.specs.Simulation.{byte_at, frames_of_state};
 ghost use Rattle.rx_engines.specs.Backtrack.{IsInside, AllInside, graph_for, frames_of, target_of, onto, Saves, Stepped};
 
 use crate::backtrack::search::Search;
@@ -35,13 +35,13 @@ pub fn step(
     requires search { IsInside search.now }
     requires state { state < length search.now.states.now }
     requires place { (search.now.first ≤ place) × (place ≤ search.now.end) }
-    requires room { cost (state_at search.now.states.now state) + length stack.old.items ≤ stack.old.room }
+    requires room { frames_of_state (state_at search.now.states.now state) + length stack.old.items ≤ stack.old.room }
     requires inside { AllInside search.now stack.old.items }
     ensures stepped { Stepped (graph_for search.now) (at state place) result
         stack.old.items stack.new.items slots.old slots.new }
     ensures inside { AllInside search.now (frames_of result stack.new.items) }
     ensures frames { length stack.new.items
-        ≤ cost (state_at search.now.states.now state) + length stack.old.items }
+        ≤ frames_of_state (state_at search.now.states.now state) + length stack.old.items }
     ensures room { stack.new.room ≡ stack.old.room }
     ensures width { length slots.new ≡ length slots.old }
 {

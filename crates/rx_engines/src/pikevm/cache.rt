@@ -1,7 +1,7 @@
 ghost use Rattle.std.specs.Prelude.{◌≡◌, vec_len, ℕ, ◌^◌, ◌<◌, ◌≤◌, [], length, All, is_some, Some, None, IfOk, OnOk, OnErr, IfSome, IfNone, option_map, replicate, nat_lt, slice_index_or, if◌then◌else◌};
 ghost use Rattle.rx_model.specs.Search.{slot_value};
 ghost use Rattle.rx_engines.specs.Search.{IsInside, next_of, answer_of, triple};
-ghost use Rattle.rx_engines.specs.Simulation.{cost_below};
+ghost use Rattle.rx_engines.specs.Simulation.{frames_of_states};
 ghost use Rattle.rx_engines.specs.Room.{Room, room_code};
 ghost use Rattle.rx_engines.specs.Engine.{Fits, accounted_memory};
 
@@ -90,7 +90,7 @@ impl Cache {
     ) -> Result<Cache, Memory>
         requires { length states.now < 2 ^ 32 }
         ensures states { IfOk result (λ c. c.states ≡ length states.now) }
-        ensures stack { IfOk result (λ c. cost_below states.now (length states.now) < c.stack) }
+        ensures stack { IfOk result (λ c. frames_of_states states.now (length states.now) < c.stack) }
         ensures widest { IfOk result (λ c. c.widest ≡ widest) }
         ensures memory { IfOk result (λ c. c.memory ≡ memory) }
     {
@@ -154,7 +154,7 @@ impl Cache {
         requires search { IsInside search.now }
         requires from { from ≤ search.now.last }
         requires room { (self.old.states ≡ length search.now.states.now)
-            × (cost_below search.now.states.now (length search.now.states.now) < self.old.stack) }
+            × (frames_of_states search.now.states.now (length search.now.states.now) < self.old.stack) }
         ensures value { result ≡ option_map triple (answer_of search.now earliest from) }
         ensures any { is_some result ≡ is_some (next_of search.now from) }
         ensures slots { IfSome (answer_of search.now earliest from) (λ m. (k : ℕ) → k < length slots.new
@@ -186,7 +186,7 @@ impl Cache {
         requires search { IsInside search.now }
         requires from { from ≤ search.now.last }
         requires room { (self.old.states ≡ length search.now.states.now)
-            × (cost_below search.now.states.now (length search.now.states.now) < self.old.stack) }
+            × (frames_of_states search.now.states.now (length search.now.states.now) < self.old.stack) }
         ensures value { result ≡ is_some (next_of search.now from) }
         ensures room { self.new ≡ self.old }
     {

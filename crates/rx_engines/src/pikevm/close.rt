@@ -5,7 +5,8 @@ ghost use Rattle.rx_search.specs.Look.{kind_of};
 ghost use Rattle.rx_nfa.specs.Automaton.{automaton, state_at};
 ghost use Rattle.rx_engines.specs.declared.frame.Frame.TheVariants.{Explore};
 ghost use Rattle.rx_engines.specs.Search.{IsInside};
-ghost use Rattle.rx_engines.specs.Simulation.{cost, cost_below, frames_to_come, Hit, IsStable, Waits, Closed, Visited, move_of, rests, going_on, AllHere};
+ghost use Rattle.rx_engines.specs.Simulation.{frames_of_state, frames_of_states, frames_to_come, Hit, IsStable, Waits, Closed, Visited, move_of, rests, going_on};
+ghost use Rattle.rx_engines.specs.Walk.{AllWithin};
 
 use crate::frame::Frame;
 use crate::pikevm::search::Search;
@@ -37,13 +38,13 @@ pub fn visit(
     requires search { IsInside search.now }
     requires state { state < length search.now.states.now }
     requires place { place ≤ length search.now.text.now }
-    requires room { cost (state_at search.now.states.now state) + length stack.old.items ≤ stack.old.room }
-    requires inside { AllHere (length search.now.states.now) place stack.old.items }
+    requires room { frames_of_state (state_at search.now.states.now state) + length stack.old.items ≤ stack.old.room }
+    requires inside { AllWithin (length search.now.states.now) place place stack.old.items }
     ensures visited { Visited search.now.matcher search.now.states.now search.now.text.now state place (rests result) stack.old.items
         (going_on result place stack.new.items) slots.old slots.new }
     ensures frames { length (going_on result place stack.new.items)
-        ≤ cost (state_at search.now.states.now state) + length stack.old.items }
-    ensures inside { AllHere (length search.now.states.now) place (going_on result place stack.new.items) }
+        ≤ frames_of_state (state_at search.now.states.now state) + length stack.old.items }
+    ensures inside { AllWithin (length search.now.states.now) place place (going_on result place stack.new.items) }
     ensures room { stack.new.room ≡ stack.old.room }
     ensures width { length slots.new ≡ length slots.old }
 {
@@ -110,7 +111,7 @@ fn follow(
     requires table { length threads.old.table.items ≡ length search.now.states.now }
     requires width { length slots.old ≡ threads.old.table.width }
     requires frames { frames_to_come search.now.states.now place threads.old.set.items + length stack.old.items ≤ stack.old.room }
-    requires inside { AllHere (length search.now.states.now) place stack.old.items }
+    requires inside { AllWithin (length search.now.states.now) place place stack.old.items }
     ensures followed { (end : ℕ) (later : Passed → Option Hit) (goal : Option Hit)
         → place ≤ end
         → IsStable (automaton search.now.matcher search.now.states.now search.now.text.now end) later
@@ -118,7 +119,7 @@ fn follow(
         threads.old.set.items threads.old.table.items (Explore from place ∷ stack.old.items) slots.old goal
         → Waits search.now.states.now (automaton search.now.matcher search.now.states.now search.now.text.now end) place start later
         threads.new.set.items threads.new.table.items stack.new.items slots.new goal }
-    ensures inside { AllHere (length search.now.states.now) place stack.new.items }
+    ensures inside { AllWithin (length search.now.states.now) place place stack.new.items }
     ensures less { frames_to_come search.now.states.now place threads.new.set.items + length stack.new.items
         ≤ frames_to_come search.now.states.now place threads.old.set.items + length stack.old.items }
     ensures set { threads.new.set.room ≡ threads.old.set.room }
@@ -158,7 +159,7 @@ pub fn close(
     requires table { length threads.old.table.items ≡ length search.now.states.now }
     requires width { length slots.old ≡ threads.old.table.width }
     requires empty { stack.old.items ≡ [] }
-    requires stack { cost_below search.now.states.now (length search.now.states.now) < stack.old.room }
+    requires stack { frames_of_states search.now.states.now (length search.now.states.now) < stack.old.room }
     ensures closed { (end : ℕ) (later : Passed → Option Hit) (goal : Option Hit)
         → place ≤ end
         → IsStable (automaton search.now.matcher search.now.states.now search.now.text.now end) later

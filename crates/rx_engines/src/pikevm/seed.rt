@@ -2,7 +2,7 @@ ghost use Rattle.std.specs.Prelude.{◌≡◌, ℕ, ◌+◌, ◌<◌, ◌≤◌,
 ghost use Rattle.rx_model.specs.Runs.{Passed, nowhere};
 ghost use Rattle.std.specs.Option.{option_or};
 ghost use Rattle.rx_nfa.specs.Automaton.{automaton};
-ghost use Rattle.rx_engines.specs.Simulation.{cost_below, Hit, among, later_starts, passed_at};
+ghost use Rattle.rx_engines.specs.Simulation.{frames_of_states, Hit, among, later_starts, passed_at};
 ghost use Rattle.rx_engines.specs.Search.{IsInside};
 
 use crate::pikevm::close::close;
@@ -27,7 +27,7 @@ pub fn seed(
     requires table { length threads.old.table.items ≡ length search.now.states.now }
     requires width { length slots.old ≡ threads.old.table.width }
     requires empty { stack.old.items ≡ [] }
-    requires stack { cost_below search.now.states.now (length search.now.states.now) < stack.old.room }
+    requires stack { frames_of_states search.now.states.now (length search.now.states.now) < stack.old.room }
     ensures seeded { (end : ℕ) (best goal : Option Hit)
         → place ≤ end
         → matched ≡ is_some best

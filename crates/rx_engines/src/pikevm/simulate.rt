@@ -1,5 +1,5 @@
 ghost use Rattle.std.specs.Prelude.{◌≡◌, ℕ, ◌+◌, ◌<◌, ◌≤◌, List, [], length, take, All, Bool, ◌&&◌, is_some, Option, Some, None, IfSome, IfNone, option_map, replicate, slice_index_or};
-ghost use Rattle.rx_engines.specs.Simulation.{cost_below, best_hit, hit_of};
+ghost use Rattle.rx_engines.specs.Simulation.{frames_of_states, best_hit, hit_of};
 ghost use Rattle.rx_engines.specs.Search.{IsInside, next_of, answer_of};
 
 use crate::pikevm::search::Search;
@@ -37,7 +37,7 @@ pub fn simulate_slots(
         × (width ≤ length scratch.old) × (width ≤ length best.old)
         × (next.old.table.widest ≡ curr.old.table.widest) }
     requires empty { stack.old.items ≡ [] }
-    requires stack { cost_below search.now.states.now (length search.now.states.now) < stack.old.room }
+    requires stack { frames_of_states search.now.states.now (length search.now.states.now) < stack.old.room }
     ensures found { best_hit result (take width best.new)
         ≡ option_map (hit_of width) (answer_of search.now earliest from) }
     ensures any { is_some result ≡ is_some (next_of search.now from) }
@@ -90,7 +90,7 @@ fn simulate(
         × (next.old.table.width ≡ length slots.old) × (length row.old ≡ length slots.old)
         × (next.old.table.widest ≡ curr.old.table.widest) }
     requires empty { stack.old.items ≡ [] }
-    requires stack { cost_below search.now.states.now (length search.now.states.now) < stack.old.room }
+    requires stack { frames_of_states search.now.states.now (length search.now.states.now) < stack.old.room }
     ensures found { best_hit result slots.new
         ≡ option_map (hit_of (length slots.old)) (answer_of search.now earliest from) }
     ensures any { is_some result ≡ is_some (next_of search.now from) }

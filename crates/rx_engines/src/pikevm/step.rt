@@ -2,7 +2,7 @@ ghost use Rattle.std.specs.Prelude.{◌≡◌, ℕ, ◌+◌, ◌<◌, ◌≤◌,
 ghost use Rattle.rx_model.specs.Runs.{Passed, nowhere};
 ghost use Rattle.std.specs.Option.{option_or};
 ghost use Rattle.rx_nfa.specs.Automaton.{automaton};
-ghost use Rattle.rx_engines.specs.Simulation.{cost_below, Hit, among, accepted_hit, IsStable, Stepped, byte_at, act_of, read_of};
+ghost use Rattle.rx_engines.specs.Simulation.{frames_of_states, Hit, among, accepted_hit, IsStable, Stepped, byte_at, act_of, read_of};
 ghost use Rattle.rx_engines.specs.Search.{IsInside};
 
 use crate::pikevm::close::close;
@@ -80,7 +80,7 @@ pub fn step(
     requires width { (curr.now.table.width ≡ length best.old) × (next.old.table.width ≡ length best.old)
         × (length slots.old ≡ length best.old) }
     requires empty { stack.old.items ≡ [] }
-    requires stack { cost_below search.now.states.now (length search.now.states.now) < stack.old.room }
+    requires stack { frames_of_states search.now.states.now (length search.now.states.now) < stack.old.room }
     requires none { next.old.set.items ≡ [] }
     ensures stepped { (end : ℕ) (later : Passed → Option Hit) (goal : Option Hit)
         → place ≤ end

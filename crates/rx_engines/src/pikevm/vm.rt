@@ -1,10 +1,11 @@
 ghost use Rattle.std.specs.Prelude.{◌≡◌, ◌≤◌, length, None, replicate, is_some, IfOk, IfNone, IfSome, option_map};
 ghost use Rattle.rx_model.specs.Search.{Patterns, told_of};
 ghost use Rattle.rx_search.specs.Anchored.{anchor_of};
+ghost use Rattle.rx_search.specs.Input.{next_in};
 ghost use Rattle.rx_search.specs.Matches.{match_value};
 ghost use Rattle.rx_nfa.specs.Nfa.{IsInRange};
 ghost use Rattle.rx_nfa.specs.NextMatch.{start_of};
-ghost use Rattle.rx_engines.specs.Engine.{PikeVMValue, next_match_in, next_match_for, answer_in, IsOf, IsMatchWith, IsSearchOf, HasSlots, AreWithin, Fits, accounted_memory};
+ghost use Rattle.rx_engines.specs.Engine.{PikeVMValue, next_match_within, answer_in, IsNfaOf, IsMatchWith, IsSearchOf, HasSlots, AreWithin, Fits, accounted_memory};
 
 use crate::pikevm::cache::Cache;
 use crate::pikevm::search::Search;
@@ -61,9 +62,9 @@ impl PikeVM {
     /// Whether there is a match in the input's span, under each kind of match. It stops as soon as it knows.
     pub fn is_match(&self, cache: &mut Cache, input: &Input<'_>) -> bool
         requires { Fits self.now cache.old }
-        ensures value { result ≡ is_some (next_match_in self.now input.now) }
-        ensures patterns { (r : Patterns) → IsOf self.now r
-            → next_match_in self.now input.now ≡ option_map (told_of r.which_captures) (next_match_for r input.now) }
+        ensures value { result ≡ is_some (next_match_within self.now.nfa input.now) }
+        ensures patterns { (r : Patterns) → IsNfaOf self.now.nfa r
+            → next_match_within self.now.nfa input.now ≡ option_map (told_of r.which_captures) (next_in r input.now) }
         ensures cache { cache.new ≡ cache.old }
     {
         let from = input.start();
@@ -79,15 +80,15 @@ impl PikeVM {
     }
 
     /// The next match in the input's span. With `earliest` the search stops at the first place by which a match
-    /// ends, and answers the next match up to there. Under `All` it is the same
-    /// match for now: a later version may tell the kinds apart.
+    /// ends, and answers the next match up to there. Under `All` it answers the same match as under
+    /// `LeftmostFirst`.
     pub fn find(&self, cache: &mut Cache, input: &Input<'_>) -> Option<Match>
         requires { Fits self.now cache.old }
         ensures value { result ≡ option_map match_value (answer_in self.now input.now) }
-        ensures any { is_some result ≡ is_some (next_match_in self.now input.now) }
-        ensures patterns { (r : Patterns) → IsOf self.now r
-            → next_match_in self.now input.now ≡ option_map (told_of r.which_captures) (next_match_for r input.now) }
-        ensures is_match { (r : Patterns) → IsOf self.now r
+        ensures any { is_some result ≡ is_some (next_match_within self.now.nfa input.now) }
+        ensures patterns { (r : Patterns) → IsNfaOf self.now.nfa r
+            → next_match_within self.now.nfa input.now ≡ option_map (told_of r.which_captures) (next_in r input.now) }
+        ensures is_match { (r : Patterns) → IsNfaOf self.now.nfa r
             → IfSome result (λ found. IsMatchWith r input.now (λ m. found ≡ match_value m)) }
         ensures within { IfSome result (λ m. (input.now.start ≤ m.start) × (m.end ≤ input.now.end)) }
         ensures cache { cache.new ≡ cache.old }
@@ -105,10 +106,10 @@ impl PikeVM {
     ) -> Option<PatternID>
         requires { Fits self.now cache.old }
         ensures value { result ≡ option_map (λ m. m.trace.pattern) (answer_in self.now input.now) }
-        ensures any { is_some result ≡ is_some (next_match_in self.now input.now) }
-        ensures patterns { (r : Patterns) → IsOf self.now r
-            → next_match_in self.now input.now ≡ option_map (told_of r.which_captures) (next_match_for r input.now) }
-        ensures is_match { (r : Patterns) → IsOf self.now r
+        ensures any { is_some result ≡ is_some (next_match_within self.now.nfa input.now) }
+        ensures patterns { (r : Patterns) → IsNfaOf self.now.nfa r
+            → next_match_within self.now.nfa input.now ≡ option_map (told_of r.which_captures) (next_in r input.now) }
+        ensures is_match { (r : Patterns) → IsNfaOf self.now.nfa r
             → IfSome result (λ p. IsMatchWith r input.now (λ m. (p ≡ m.trace.pattern) × HasSlots slots.new m)) }
         ensures slots { IfSome (answer_in self.now input.now) (HasSlots slots.new) }
         ensures none { IfNone result (slots.new ≡ replicate (length slots.old) None) }
@@ -130,10 +131,10 @@ impl PikeVM {
     ) -> Option<Match>
         requires { Fits self.now cache.old }
         ensures value { result ≡ option_map match_value (answer_in self.now input.now) }
-        ensures any { is_some result ≡ is_some (next_match_in self.now input.now) }
-        ensures patterns { (r : Patterns) → IsOf self.now r
-            → next_match_in self.now input.now ≡ option_map (told_of r.which_captures) (next_match_for r input.now) }
-        ensures is_match { (r : Patterns) → IsOf self.now r
+        ensures any { is_some result ≡ is_some (next_match_within self.now.nfa input.now) }
+        ensures patterns { (r : Patterns) → IsNfaOf self.now.nfa r
+            → next_match_within self.now.nfa input.now ≡ option_map (told_of r.which_captures) (next_in r input.now) }
+        ensures is_match { (r : Patterns) → IsNfaOf self.now.nfa r
             → IfSome result (λ found. IsMatchWith r input.now (λ m. (found ≡ match_value m) × HasSlots slots.new m)) }
         ensures slots { IfSome (answer_in self.now input.now) (HasSlots slots.new) }
         ensures none { IfNone result (slots.new ≡ replicate (length slots.old) None) }

@@ -5,9 +5,8 @@ use Rattle.rx_search.specs.Matches.{match_value}
 use Rattle.rx_nfa.specs.Nfa.{Nfa}
 use Rattle.rx_nfa.specs.NextMatch.{start_of}
 use Rattle.rx_engines.specs.Engine.{HasSlots}
-use Rattle.rx_engines.specs.Backtrack.{triple}
 use Rattle.rx_engines.proofs.EngineLemmas.{next_match_of-done, next_match_of-missing, start-inside}
-use Rattle.rx_engines.proofs.BoundedLemmas.{patterns-met, found-within, found-in_order, found-in_span, slots-met, reported-triple, small-extent}
+use Rattle.rx_engines.proofs.BoundedLemmas.{patterns-met, found-within, found-in_span, slots-met, small-extent}
 use Rattle.rx_engines.proofs.SpanLemmas.{empty-within, told-within}
 use Rattle.rx_engines.proofs.backtrack.backtracker.BoundedBacktracker.try_find_slots.Goals as goal
 
@@ -71,19 +70,12 @@ find-requires-clause-search c =
       small = small-extent (max 1 c.args.self.now.accounted) c.max_haystack_len.result (c.end-2.result + 1 - c.start-2.result) (length c.states.result.now) c.max_haystack_len.ensures rows (omega arith);
     }
 
-pub reported-requires : goal.reported-requires
-reported-requires c =
-    let is = sym (c.start_state.ensures.value ∙ ap (start_of c.args.self.now) c.get_anchored-anchored.ensures) ∙ c.in-Some.is in
-    let m = found-within c.args.self.now c.args.input.now (c.look_matcher.ensures.value ∙ ap (λ (n : Nfa). n.terminator) c.self.view_is) (c.states.ensures.value ∙ ap (λ (n : Nfa). n.states) c.self.view_is) c.haystack.ensures.value (c.is_utf8.ensures.value ∙ ap (λ (n : Nfa). n.utf8) c.self.view_is)
-    c.latest_start.ensures.value c.start-2.ensures.value c.end-2.ensures.value (grind (arith, c.is_done.ensures, c.if-is_done.false)) is in
-    found-in_order c.args.self.now c.args.input.now _ m c.find.result c.find.ensures.value
-
 pub returns-clause-value : goal.returns-clause-value
 returns-clause-value c =
     let is = sym (c.start_state.ensures.value ∙ ap (start_of c.args.self.now) c.get_anchored-anchored.ensures) ∙ c.in-Some.is in
     let m = found-within c.args.self.now c.args.input.now (c.look_matcher.ensures.value ∙ ap (λ (n : Nfa). n.terminator) c.self.view_is) (c.states.ensures.value ∙ ap (λ (n : Nfa). n.states) c.self.view_is) c.haystack.ensures.value (c.is_utf8.ensures.value ∙ ap (λ (n : Nfa). n.utf8) c.self.view_is)
     c.latest_start.ensures.value c.start-2.ensures.value c.end-2.ensures.value (grind (arith, c.is_done.ensures, c.if-is_done.false)) is in
-    c.reported.ensures ∙ ap (option_map _) c.find.ensures.value ∙ reported-triple _ ∙ ap (option_map match_value) m
+    c.find.ensures.value ∙ ap (option_map match_value) m
 
 pub returns-clause-slots : goal.returns-clause-slots
 returns-clause-slots c =
@@ -97,7 +89,7 @@ returns-clause-within c =
     let is = sym (c.start_state.ensures.value ∙ ap (start_of c.args.self.now) c.get_anchored-anchored.ensures) ∙ c.in-Some.is in
     let m = found-within c.args.self.now c.args.input.now (c.look_matcher.ensures.value ∙ ap (λ (n : Nfa). n.terminator) c.self.view_is) (c.states.ensures.value ∙ ap (λ (n : Nfa). n.states) c.self.view_is) c.haystack.ensures.value (c.is_utf8.ensures.value ∙ ap (λ (n : Nfa). n.utf8) c.self.view_is)
     c.latest_start.ensures.value c.start-2.ensures.value c.end-2.ensures.value (grind (arith, c.is_done.ensures, c.if-is_done.false)) is in
-    found-in_span c.args.self.now c.args.input.now _ m c.reported.result (c.reported.ensures ∙ ap (option_map _) c.find.ensures.value ∙ reported-triple _)
+    found-in_span c.args.self.now c.args.input.now _ m c.find.result c.find.ensures.value
 
 -- the slots lie in the span
 
@@ -117,4 +109,4 @@ returns-clause-slots_within c =
     c.latest_start.ensures.value c.start-2.ensures.value c.end-2.ensures.value (grind (arith, c.is_done.ensures, c.if-is_done.false)) is in
     told-within c.args.self.now c.args.self.now.utf8 c.args.input.now c.args.input.now.end (omega arith) _ refl c.find.new.slots
     (slots-met c.args.self.now c.args.input.now c.start_state.ensures.in_range c.requires.slots _ m c.find.new.slots c.find.ensures.slots)
-    _ (λ none. rw (c.find.ensures.value ∙ ap (option_map triple) (m ∙ none)) at c.find.ensures.none)
+    _ (λ none. rw (c.find.ensures.value ∙ ap (option_map match_value) (m ∙ none)) at c.find.ensures.none)
