@@ -9,8 +9,9 @@ use Rattle.rx_model.proofs.RunLemmas.{by_test, same-true, weight, weight-less}
 use Rattle.rx_nfa.specs.Automaton.{at, state_at}
 use Rattle.rx_nfa.proofs.AutomatonLemmas.{automaton-bounded}
 use Rattle.rx_engines.specs.Walk.{Slots, Answer}
-use Rattle.rx_engines.specs.Backtrack.{is_set, extent, passed_by, work, frames_left, graph_for, Searching, Yields}
-use Rattle.rx_engines.specs.declared.backtrack.search.Search.{Search}
+use Rattle.rx_engines.specs.Backtrack.{is_set, extent, passed_by, work, frames_left, Searching, Yields}
+use Rattle.rx_engines.specs.Search.{graph_for}
+use Rattle.rx_engines.specs.declared.search.Search.{Search}
 use Rattle.rx_engines.specs.declared.frame.Frame.{Frame}
 use Rattle.rx_engines.specs.declared.frame.Frame.TheVariants.{Explore}
 use Rattle.rx_engines.specs.Simulation.{frames_of_state}

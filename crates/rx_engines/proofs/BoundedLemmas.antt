@@ -4,7 +4,7 @@ use Rattle.std.proofs.Math.Nat.{div-le_self}
 use Rattle.std.proofs.lemmas.Nat.{mul-le}
 use Rattle.std.proofs.lemmas.List.{length-replicate}
 use Rattle.std.proofs.lemmas.Bool.Decides.{nat_tests}
-use Rattle.std.specs.Prelude.{Bool, true, false, Option, Some, None, option_map, IfSome, replicate, nat_lt, if◌then◌else◌, ◌^◌}
+use Rattle.std.specs.Prelude.{max, Bool, true, false, Option, Some, None, option_map, IfSome, replicate, nat_lt, if◌then◌else◌, ◌^◌}
 use Rattle.rx_model.specs.Runs.{Trace, nowhere, first_trace}
 use Rattle.rx_model.specs.Search.{Patterns, told_of, Match, is_anchored, is_permitted, first_start, starts, slot_value}
 use Rattle.rx_model.proofs.RunLemmas.{by_test}
@@ -18,10 +18,13 @@ use Rattle.rx_nfa.specs.NextMatch.{start_of, first_from, next_match_of}
 use Rattle.rx_nfa.proofs.AutomatonLemmas.{automaton-bounded, automaton-rises, automaton-accepts-within}
 use Rattle.rx_nfa.proofs.NextMatchLemmas.{first_start-alike, next_match_of-patterns, next_match_of-slot, next_match_of-within}
 use Rattle.rx_nfa.specs.declared.state.State.{State}
-use Rattle.rx_engines.specs.Engine.{next_match_within, IsNfaOf, last_start, HasSlots}
+use Rattle.rx_engines.specs.Engine.{next_match_within, IsNfaOf, IsSearchOf, HasSlots}
 use Rattle.rx_engines.specs.Walk.{Slots, Answer, answer, write_all}
-use Rattle.rx_engines.specs.Backtrack.{graph_for, returned}
-use Rattle.rx_engines.specs.declared.backtrack.search.Search.{Search}
+use Rattle.rx_engines.specs.Backtrack.{extent, frames_of_span, returned}
+use Rattle.rx_engines.specs.Search.{graph_for}
+use Rattle.rx_engines.specs.Simulation.{frames_of_states}
+use Rattle.rx_engines.specs.Bounded.{max_len, span_len}
+use Rattle.rx_engines.specs.declared.search.Search.{Search}
 use Rattle.rx_engines.proofs.SlotLemmas.{slot-of_match, length-write_all}
 
 -- the next match that starts at place i or after it
@@ -97,29 +100,6 @@ module _ (nfa : Nfa) (v : InputValue) where
   pub patterns-met : v.end ≤ length v.haystack → (r : Patterns) → IsNfaOf nfa r → next_match_within nfa v ≡ option_map (told_of r.which_captures) (next_in r v)
   patterns-met within r of = next_match_of-patterns nfa r v.haystack v.end within of.runs nfa.utf8 v.anchor v.start of.utf8
 
-  -- how many starts there are
-  starts-is : v.start ≤ v.end → starts v.anchor v.start v.end ≡ last_start v + 1 - v.start
-  starts-is le =
-      let e : nat_lt v.end v.start ≡ false = grind (arith, nat_tests) in
-      by_test (is_anchored v.anchor) (λ a. rw (e, a) (omega arith)) (λ a. rw (e, a) refl)
-
-  start-is : (q last : ℕ) → v.start ≤ v.end → start_of nfa v.anchor ≡ Some q → last ≡ last_start v
-      → first_start (is_permitted nfa.utf8 v.haystack) (λ i. first_trace (automaton nfa.terminator nfa.states v.haystack v.end) (at q i)) (last + 1 - v.start) v.start ≡ next_match_within nfa v
-  unfolding next_match_of
-  start-is q last le is at_last =
-      first_start-alike (is_permitted nfa.utf8 v.haystack) (λ i. first_trace (automaton nfa.terminator nfa.states v.haystack v.end) (at q i)) (first_from nfa.terminator nfa.states v.haystack v.end (start_of nfa v.anchor)) (last + 1 - v.start) v.start
-      (λ j _. ap (λ o. first_from nfa.terminator nfa.states v.haystack v.end o j) (sym is))
-      ∙ ap (λ n. first_start (is_permitted nfa.utf8 v.haystack) (first_from nfa.terminator nfa.states v.haystack v.end (start_of nfa v.anchor)) n v.start)
-      (ap (λ l. l + 1 - v.start) at_last ∙ sym (starts-is le))
-
-  -- what the search of the states was given
-  pub found-within : {terminator : ℕ} {states : List State} {text : List ℕ} {q last first end : ℕ} {utf8 : Bool} → terminator ≡ nfa.terminator → states ≡ nfa.states → text ≡ v.haystack → utf8 ≡ nfa.utf8 → last ≡ last_start v → first ≡ v.start → end ≡ v.end
-      → v.start ≤ v.end → start_of nfa v.anchor ≡ Some q
-      → first_start (is_permitted utf8 text) (λ i. first_trace (automaton terminator states text end) (at q i)) (last + 1 - first) first ≡ next_match_within nfa v
-  found-within {q = q} {last = last} t a b c at_last d e le is =
-      (λ j. first_start (is_permitted (c j) (b j)) (λ i. first_trace (automaton (t j) (a j) (b j) (e j)) (at q i)) (last + 1 - d j) (d j))
-      ∙ start-is q last le is at_last
-
   pub found-in_span : (o : Option Match) → o ≡ next_match_within nfa v → (result : Option MatchValue) → result ≡ option_map match_value o → IfSome result (λ m. (v.start ≤ m.start) × (m.end ≤ v.end))
   found-in_span None e result is = rw is tt
   found-in_span (Some m) e result is = let within = next_match_of-within nfa nfa.utf8 v.haystack v.anchor v.end v.start m (sym e) in rw is (within.0, within.2)
@@ -134,9 +114,30 @@ module _ (nfa : Nfa) (v : InputValue) where
       (λ t. rw t at (told k lt))
       (λ t. (rw t at (told k lt)) ∙ sym (next_match_of-slot nfa range v.haystack v.end k (grind (arith, nat_tests)) nfa.utf8 v.anchor v.start m (sym e))))
 
--- there are few enough states at places
-pub small-extent : (accounted most rows n : ℕ) → most ≡ 2097152 / accounted - 1 → rows ≤ most + 1 → n ≤ 2147483647 → rows * n < 2 ^ 63
-small-extent accounted most rows n is few states =
-    let quotient = div-le_self 2097152 accounted in
-    let product = mul-le rows n 2097152 2147483647 (omega arith) states in
-    omega arith
+-- the search of a span that is not too long
+module _ (nfa : Nfa) (v : InputValue) (s : Search) (of : IsSearchOf nfa v s) (short : span_len v ≤ max_len nfa) where
+  rows : s.end + 1 - s.first ≤ max_len nfa + 1
+  rows = let end = of.end in let first = of.first in omega arith
+
+  -- there are few enough states at places
+  pub extent-small : length nfa.states ≤ 2147483647 → extent s < 2 ^ 63
+  extent-small few =
+      let quotient = div-le_self 2097152 (max 1 nfa.accounted) in
+      let count = ap length of.states in
+      let most = rows in
+      let product = mul-le (s.end + 1 - s.first) (length s.states.now) 2097152 2147483647 (omega arith) (omega arith) in
+      omega arith
+
+  -- and a cache that serves the engine has room for them,
+  pub extent-fits : {bits : ℕ} → (max_len nfa + 1) * length nfa.states ≤ bits → extent s ≤ bits
+  extent-fits fits =
+      let count = ap length of.states in
+      let product = mul-le (s.end + 1 - s.first) (length s.states.now) (max_len nfa + 1) (length nfa.states) rows (omega arith) in
+      omega arith
+
+  -- as for the frames that they leave
+  pub frames-fit : {room : ℕ} → (max_len nfa + 1) * frames_of_states nfa.states (length nfa.states) ≤ room → frames_of_span s ≤ room
+  frames-fit fits =
+      let count : frames_of_states s.states.now (length s.states.now) ≡ frames_of_states nfa.states (length nfa.states) = ap (λ states. frames_of_states states (length states)) of.states in
+      let product = mul-le (s.end + 1 - s.first) (frames_of_states s.states.now (length s.states.now)) (max_len nfa + 1) (frames_of_states nfa.states (length nfa.states)) rows (omega arith) in
+      omega arith

@@ -13,7 +13,8 @@ use Rattle.rx_engines.specs.Simulation.{frames_of_state, frames_of_states}
 use Rattle.rx_engines.specs.Walk.{Slots, Answer, AllWithin, pending, explore_all}
 use Rattle.rx_engines.specs.declared.frame.Frame.{Frame}
 use Rattle.rx_engines.specs.declared.frame.Frame.TheVariants.{Explore, Restore}
-use Rattle.rx_engines.specs.declared.backtrack.search.Search.{Search}
+use Rattle.rx_engines.specs.Search.{graph_for}
+use Rattle.rx_engines.specs.declared.search.Search.{Search}
 use Rattle.rx_engines.specs.declared.backtrack.step.Onward.{Onward}
 use Rattle.rx_engines.specs.declared.backtrack.step.Onward.TheVariants.{Accept, To, Back}
 
@@ -25,26 +26,9 @@ is_set words n = bit_at (slice_index words (n / 64)) (n % 64) == 1
 abbrev pub extent : Search → ℕ
 extent s = (s.end + 1 - s.first) * length s.states.now
 
--- the states that are named are there, the places are in order, and there are few enough of both
-pub record IsInside (s : Search) : Type 0 where
-  pub names : All (NamesBelow (length s.states.now)) s.states.now
-  pub start : s.start < length s.states.now
-  pub first : s.first ≤ s.last
-  pub last : s.last ≤ s.end
-  pub end : s.end ≤ length s.text.now
-  pub small : extent s < 2 ^ 63
-
 -- how many frames these leave
 abbrev pub frames_of_span : Search → ℕ
 frames_of_span s = (s.end + 1 - s.first) * frames_of_states s.states.now (length s.states.now)
-
--- the graph whose runs are searched
-abbrev pub graph_for : Search → PriorityGraph
-graph_for s = automaton s.matcher s.states.now s.text.now s.end
-
--- the next match in the span
-abbrev pub next_of : Search → Option Match
-next_of s = first_start (is_permitted s.utf8 s.text.now) (λ i. first_trace (graph_for s) (at s.start i)) (s.last + 1 - s.first) s.first
 
 -- the configurations of the span whose bit is set: a row of n states for each place
 unfoldable pub passed_in : (n first end : ℕ) → List ℕ → Passed
@@ -86,11 +70,6 @@ frames_of Back rest = rest
 abbrev pub onto : Option ℕ → ℕ → Onward
 onto None i = Back
 onto (Some q) i = To q i
-
--- where the byte leads to, if there is one
-abbrev pub target_of : List Transition → Option ℕ → Option ℕ
-target_of ts None = None
-target_of ts (Some byte) = route ts byte
 
 -- the place is in the slot, and its old value on the stack, where there is room for the slot
 abbrev pub Saves : (slot place : ℕ) → (frames frames' : List Frame) → (slots slots' : Slots) → Type 0

@@ -1,14 +1,15 @@
-ghost use Rattle.std.specs.Prelude.{◌≡◌, ◌+◌, ◌-◌, ◌*◌, ◌<◌, ◌≤◌, ◌∷◌, length, Option, IfNone};
+ghost use Rattle.std.specs.Prelude.{◌≡◌, ◌^◌, ◌+◌, ◌-◌, ◌*◌, ◌<◌, ◌≤◌, ◌∷◌, length, Option, IfNone};
 ghost use Rattle.rx_model.specs.Runs.{Passed, first_trace};
 ghost use Rattle.rx_nfa.specs.Automaton.{at};
 ghost use Rattle.rx_engines.specs.Walk.{Slots, Answer, answer};
 ghost use Rattle.rx_engines.specs.declared.frame.Frame.TheVariants.{Explore};
-ghost use Rattle.rx_engines.specs.Backtrack.{IsInside, AllInside, graph_for, extent, passed_by, work, frames_left, IsDead, Searching, Followed, returned};
+ghost use Rattle.rx_engines.specs.Search.{IsInside, graph_for};
+ghost use Rattle.rx_engines.specs.Backtrack.{AllInside, extent, passed_by, work, frames_left, IsDead, Searching, Followed, returned};
 
-use crate::backtrack::search::Search;
 use crate::backtrack::step::{Onward, step};
 use crate::backtrack::visited::Visited;
 use crate::frame::Frame;
+use crate::search::Search;
 use crate::slots::{Slot, write};
 use crate::stack::Stack;
 use rx_search::{HalfMatch, StateID};
@@ -22,6 +23,7 @@ pub fn attempt(
     slots: &mut [Slot],
 ) -> Option<HalfMatch>
     requires search { IsInside search.now }
+    requires small { extent search.now < 2 ^ 63 }
     requires from { (search.now.first ≤ from) × (from ≤ search.now.end) }
     requires room { extent search.now ≤ 64 * length visited.old }
     requires frames { frames_left search.now visited.old ≤ stack.old.room }
@@ -63,6 +65,7 @@ fn follow(
     slots: &mut [Slot],
 ) -> Option<HalfMatch>
     requires search { IsInside search.now }
+    requires small { extent search.now < 2 ^ 63 }
     requires start { start < length search.now.states.now }
     requires from { (search.now.first ≤ from) × (from ≤ search.now.end) }
     requires room { extent search.now ≤ 64 * length visited.old }
@@ -105,6 +108,7 @@ fn index(search: &Search<'_>, state: StateID, place: usize) -> usize
     requires state { state < length search.now.states.now }
     requires place { (search.now.first ≤ place) × (place ≤ search.now.end) }
     requires search { IsInside search.now }
+    requires small { extent search.now < 2 ^ 63 }
     ensures value { result ≡ (place - search.now.first) * length search.now.states.now + state }
     ensures within { result < extent search.now }
 {

@@ -1,16 +1,17 @@
-ghost use Rattle.std.specs.Prelude.{◌≡◌, vec_len, ℕ, ◌*◌, ◌+◌, ◌<◌, ◌≤◌, length, min, None, IfOk, OnOk, OnErr, IfSome, IfNone, option_map, replicate, nat_lt, slice_index_or, if◌then◌else◌};
+ghost use Rattle.std.specs.Prelude.{◌≡◌, ◌^◌, vec_len, ℕ, ◌*◌, ◌+◌, ◌<◌, ◌≤◌, length, min, None, IfOk, OnOk, OnErr, IfSome, IfNone, option_map, replicate, nat_lt, slice_index_or, if◌then◌else◌};
 ghost use Rattle.rx_model.specs.Search.{slot_value};
 ghost use Rattle.rx_search.specs.Matches.{match_value};
-ghost use Rattle.rx_engines.specs.Backtrack.{IsInside, extent, frames_of_span, next_of};
+ghost use Rattle.rx_engines.specs.Search.{IsInside, next_of};
+ghost use Rattle.rx_engines.specs.Backtrack.{extent, frames_of_span};
 ghost use Rattle.rx_engines.specs.Bounded.{Room, room_code, Fits};
 ghost use Rattle.rx_engines.specs.Engine.{accounted_memory};
 
 use crate::accounting::memory_of;
 use crate::backtrack::backtracker::BoundedBacktracker;
 use crate::backtrack::find::find;
-use crate::backtrack::search::Search;
 use crate::backtrack::visited::Visited;
 use crate::room::frames_of_all;
+use crate::search::Search;
 use crate::slots::{Slot, empty, report};
 use crate::stack::Stack;
 use rx_search::{Match, Memory, NonMaxUsize};
@@ -105,6 +106,7 @@ impl Cache {
         slots: &mut [Option<NonMaxUsize>],
     ) -> Option<Match>
         requires search { IsInside search.now }
+        requires small { extent search.now < 2 ^ 63 }
         requires room { extent search.now ≤ self.old.bits }
         requires frames { frames_of_span search.now ≤ self.old.stack }
         ensures value { result ≡ option_map match_value (next_of search.now) }
@@ -136,6 +138,7 @@ fn find_slots(
     slots: &mut [Option<NonMaxUsize>],
 ) -> Option<Match>
     requires search { IsInside search.now }
+    requires small { extent search.now < 2 ^ 63 }
     requires room { extent search.now ≤ 64 * length visited.old }
     requires frames { frames_of_span search.now ≤ stack.old.room }
     requires width { width ≡ min (length slots.old) (length scratch.old) }

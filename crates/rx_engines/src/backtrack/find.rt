@@ -1,11 +1,12 @@
-ghost use Rattle.std.specs.Prelude.{◌≡◌, ℕ, ◌*◌, ◌<◌, ◌≤◌, length, None, IfSome, IfNone, option_map, replicate, slice_index_or};
+ghost use Rattle.std.specs.Prelude.{◌≡◌, ◌^◌, ℕ, ◌*◌, ◌<◌, ◌≤◌, length, None, IfSome, IfNone, option_map, replicate, slice_index_or};
 ghost use Rattle.rx_model.specs.Search.{slot_value};
 ghost use Rattle.rx_search.specs.Matches.{match_value};
-ghost use Rattle.rx_engines.specs.Backtrack.{IsInside, extent, frames_of_span, next_of};
+ghost use Rattle.rx_engines.specs.Search.{IsInside, next_of};
+ghost use Rattle.rx_engines.specs.Backtrack.{extent, frames_of_span};
 
 use crate::backtrack::attempt::attempt;
-use crate::backtrack::search::Search;
 use crate::backtrack::visited::Visited;
+use crate::search::Search;
 use crate::slots::{Slot, clear};
 use crate::stack::Stack;
 use crate::starts::is_allowed;
@@ -19,6 +20,7 @@ pub fn find(
     slots: &mut [Slot],
 ) -> Option<Match>
     requires search { IsInside search.now }
+    requires small { extent search.now < 2 ^ 63 }
     requires room { extent search.now ≤ 64 * length visited.old }
     requires frames { frames_of_span search.now ≤ stack.old.room }
     ensures value { result ≡ option_map match_value (next_of search.now) }

@@ -1,19 +1,14 @@
 ghost use Rattle.std.specs.Prelude.{◌≡◌, ◌≤◌, length, None, replicate, is_some, IfOk, IfNone, IfSome, option_map};
 ghost use Rattle.rx_model.specs.Search.{Patterns, told_of};
-ghost use Rattle.rx_search.specs.Anchored.{anchor_of};
 ghost use Rattle.rx_search.specs.Input.{next_in};
 ghost use Rattle.rx_search.specs.Matches.{match_value};
-ghost use Rattle.rx_nfa.specs.Nfa.{IsInRange};
-ghost use Rattle.rx_nfa.specs.NextMatch.{start_of};
-ghost use Rattle.rx_engines.specs.Engine.{PikeVMValue, next_match_within, answer_in, IsNfaOf, IsMatchWith, IsSearchOf, HasSlots, AreWithin, Fits, accounted_memory};
+ghost use Rattle.rx_engines.specs.Engine.{PikeVMValue, next_match_within, answer_in, IsNfaOf, IsMatchWith, HasSlots, AreWithin, Fits, accounted_memory};
 
 use crate::pikevm::cache::Cache;
-use crate::pikevm::search::Search;
-use crate::report::reported;
+use crate::search::Search;
 use crate::slots::empty;
-use crate::starts::latest_start;
 use rx_nfa::NFA;
-use rx_search::{Anchored, Input, Match, MatchKind, Memory, NonMaxUsize, PatternID, StateID};
+use rx_search::{Input, Match, MatchKind, Memory, NonMaxUsize, PatternID};
 use std::alloc::Global;
 use std::marker::Model;
 
@@ -67,16 +62,10 @@ impl PikeVM {
             → next_match_within self.now.nfa input.now ≡ option_map (told_of r.which_captures) (next_in r input.now) }
         ensures cache { cache.new ≡ cache.old }
     {
-        let from = input.start();
-        let Some(start) = self.start(input.get_anchored()) else {
+        let Some(search) = Search::of(&self.nfa, input) else {
             return false;
         };
-        if input.is_done() {
-            return false;
-        }
-        let starts = [start];
-        let search = self.search_for(input, &starts);
-        cache.is_match(&search, from)
+        cache.is_match(&search)
     }
 
     /// The next match in the input's span. With `earliest` the search stops at the first place by which a match
@@ -142,45 +131,10 @@ impl PikeVM {
         ensures within { IfSome result (λ m. (input.now.start ≤ m.start) × (m.end ≤ input.now.end)) }
         ensures cache { cache.new ≡ cache.old }
     {
-        let from = input.start();
-        let Some(start) = self.start(input.get_anchored()) else {
+        let Some(search) = Search::of(&self.nfa, input) else {
             empty(slots);
             return None;
         };
-        if input.is_done() {
-            empty(slots);
-            return None;
-        }
-        let starts = [start];
-        let search = self.search_for(input, &starts);
-        let found = cache.find(&search, from, input.get_earliest(), slots);
-        reported(found)
-    }
-
-    /// The search of the input's span for the runs from these starts.
-    fn search_for<'a>(&'a self, input: &'a Input<'a>, starts: &'a [StateID]) -> Search<'a>
-        requires { input.now.start ≤ input.now.end }
-        ensures { IsSearchOf self.now input.now starts.now result }
-    {
-        Search {
-            states: self.nfa.states(),
-            starts,
-            text: input.haystack(),
-            matcher: *self.nfa.look_matcher(),
-            utf8_empty: self.nfa.is_utf8(),
-            last: latest_start(input),
-            end: input.end(),
-        }
-    }
-
-    /// Where the runs start, if the pattern that is asked for is there.
-    fn start(&self, anchored: Anchored) -> Option<StateID>
-        ensures value { result ≡ start_of self.now.nfa (anchor_of anchored) }
-        ensures in_range { IsInRange self.now.nfa }
-    {
-        match anchored {
-            Anchored::No | Anchored::Yes => Some(self.nfa.start_anchored()),
-            Anchored::Pattern(pattern) => self.nfa.start_pattern(pattern),
-        }
+        cache.find(&search, input.get_earliest(), slots)
     }
 }

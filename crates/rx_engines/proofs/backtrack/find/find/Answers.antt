@@ -1,6 +1,6 @@
 use Rattle.std.proofs.Common.{◌≤◌, ◌+◌, ◌-◌, length, refl, sym, ◌∙◌, ap, arith}
 use Rattle.rx_model.specs.Runs.{found}
-use Rattle.rx_engines.specs.Backtrack.{graph_for}
+use Rattle.rx_engines.specs.Search.{graph_for}
 use Rattle.rx_engines.proofs.BitLemmas.{passed_in-none}
 use Rattle.rx_engines.proofs.FrameLemmas.{frames_below-empty}
 use Rattle.rx_engines.proofs.BoundedLemmas.{next-none_here, next-not_allowed, next-over, returned-none, returned-in_order, match-answered}
