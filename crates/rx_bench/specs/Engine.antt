@@ -2,8 +2,7 @@
 use Rattle.std.specs.Prelude.{Option}
 use Rattle.rx_model.specs.Search.{Match}
 use Rattle.rx_search.specs.Input.{InputValue}
-use Rattle.rx_engines.specs.Engine.{answer_in}
-use Rattle.rx_engines.specs.Bounded.{next_match_within}
+use Rattle.rx_engines.specs.Engine.{next_match_within, answer_in}
 use Rattle.rx_bench.specs.declared.engine.Engine.{Engine}
 use Rattle.rx_bench.specs.declared.engine.Engine.TheVariants.{PikeVM, Backtrack}
 

@@ -1,6 +1,6 @@
 //! The engines as finders. Each search fills all slots, as a caller who wants the groups asks for.
-ghost use Rattle.rx_engines.specs.Engine.{answer_in, Fits as PikeVMFits};
-ghost use Rattle.rx_engines.specs.Bounded.{next_match_within, Fits as BacktrackFits};
+ghost use Rattle.rx_engines.specs.Engine.{next_match_within, answer_in, Fits as PikeVMFits};
+ghost use Rattle.rx_engines.specs.Bounded.{Fits as BacktrackFits};
 
 use rx_engines::{backtrack, pikevm};
 use rx_nfa::NFA;

@@ -9,11 +9,12 @@ use Rattle.rx_model.proofs.RunLemmas.{by_test, same-true, weight, weight-less}
 use Rattle.rx_nfa.specs.Automaton.{at, state_at}
 use Rattle.rx_nfa.proofs.AutomatonLemmas.{automaton-bounded}
 use Rattle.rx_engines.specs.Walk.{Slots, Answer}
-use Rattle.rx_engines.specs.Backtrack.{is_set, extent, passed_by, work, frames_left, graph_for, Searching, Yields}
-use Rattle.rx_engines.specs.declared.backtrack.search.Search.{Search}
+use Rattle.rx_engines.specs.Backtrack.{is_set, extent, passed_by, work, frames_left, Searching, Yields}
+use Rattle.rx_engines.specs.Search.{graph_for}
+use Rattle.rx_engines.specs.declared.search.Search.{Search}
 use Rattle.rx_engines.specs.declared.frame.Frame.{Frame}
 use Rattle.rx_engines.specs.declared.frame.Frame.TheVariants.{Explore}
-use Rattle.rx_engines.specs.Simulation.{cost}
+use Rattle.rx_engines.specs.Simulation.{frames_of_state}
 use Rattle.rx_engines.proofs.BitLemmas.{passed_in-set, passed_in-bit}
 use Rattle.rx_engines.proofs.CloseLemmas.{not-true, not-false}
 use Rattle.rx_engines.proofs.FrameLemmas.{frames_below-passed, frames_below-inserted}
@@ -107,7 +108,7 @@ module _ {s : Search} {words words' : List ℕ} {new : Bool} {q i : ℕ} (t : In
       omega arith
 
   -- the frames of the state do not come again
-  pub inserted-frames : new ≡ true → frames_left s words' + cost (state_at s.states.now q) ≡ frames_left s words
+  pub inserted-frames : new ≡ true → frames_left s words' + frames_of_state (state_at s.states.now q) ≡ frames_left s words
   inserted-frames unseen =
       let column : ((i - s.first) * length s.states.now + q) % length s.states.now ≡ q = mod-mul-add (i - s.first) (length s.states.now) q t.state in
       let less = frames_below-inserted s.states.now words words' ((i - s.first) * length s.states.now + q) t.after (not-true _ (sym unseen ∙ t.is_new)) (extent s) t.within in

@@ -4,23 +4,27 @@ use Rattle.std.proofs.Math.Nat.{div-le_self}
 use Rattle.std.proofs.lemmas.Nat.{mul-le}
 use Rattle.std.proofs.lemmas.List.{length-replicate}
 use Rattle.std.proofs.lemmas.Bool.Decides.{nat_tests}
-use Rattle.std.specs.Prelude.{Bool, true, false, Option, Some, None, option_map, IfSome, replicate, nat_lt, if◌then◌else◌, ◌^◌}
-use Rattle.rx_model.specs.Runs.{Trace, first_trace}
+use Rattle.std.specs.Prelude.{max, Bool, true, false, Option, Some, None, option_map, IfSome, replicate, nat_lt, if◌then◌else◌, ◌^◌}
+use Rattle.rx_model.specs.Runs.{Trace, nowhere, first_trace}
 use Rattle.rx_model.specs.Search.{Patterns, told_of, Match, is_anchored, is_permitted, first_start, starts, slot_value}
 use Rattle.rx_model.proofs.RunLemmas.{by_test}
 use Rattle.rx_model.proofs.FirstLemmas.{none-is-some, some-is}
-use Rattle.rx_search.specs.Input.{InputValue}
-use Rattle.rx_search.specs.Matches.{match_value, MatchValue}
+use Rattle.rx_model.proofs.RiseLemmas.{found-end}
+use Rattle.rx_search.specs.Input.{InputValue, next_in}
+use Rattle.rx_search.specs.Matches.{match_value, MatchValue, HalfMatchValue}
 use Rattle.rx_nfa.specs.Automaton.{at, automaton}
 use Rattle.rx_nfa.specs.Nfa.{Nfa, IsInRange}
 use Rattle.rx_nfa.specs.NextMatch.{start_of, first_from, next_match_of}
+use Rattle.rx_nfa.proofs.AutomatonLemmas.{automaton-bounded, automaton-rises, automaton-accepts-within}
 use Rattle.rx_nfa.proofs.NextMatchLemmas.{first_start-alike, next_match_of-patterns, next_match_of-slot, next_match_of-within}
 use Rattle.rx_nfa.specs.declared.state.State.{State}
-use Rattle.rx_engines.specs.Engine.{next_match_for, last_start, HasSlots}
+use Rattle.rx_engines.specs.Engine.{next_match_within, IsNfaOf, IsSearchOf, HasSlots}
 use Rattle.rx_engines.specs.Walk.{Slots, Answer, answer, write_all}
-use Rattle.rx_engines.specs.Backtrack.{graph_for, returned, triple}
-use Rattle.rx_engines.specs.Bounded.{next_match_within, IsNfaOf}
-use Rattle.rx_engines.specs.declared.backtrack.search.Search.{Search}
+use Rattle.rx_engines.specs.Backtrack.{extent, frames_of_span, returned}
+use Rattle.rx_engines.specs.Search.{graph_for}
+use Rattle.rx_engines.specs.Simulation.{frames_of_states}
+use Rattle.rx_engines.specs.Bounded.{max_len, span_len}
+use Rattle.rx_engines.specs.declared.search.Search.{Search}
 use Rattle.rx_engines.proofs.SlotLemmas.{slot-of_match, length-write_all}
 
 -- the next match that starts at place i or after it
@@ -55,26 +59,35 @@ pub returned-none : (slots slots' : Slots) (o : Option Trace) → returned None 
 returned-none slots slots' None h = refl
 returned-none slots slots' (Some t) h = none-is-some h
 
-returned-some : (r : ℕ × ℕ) (slots slots' : Slots) (o : Option Trace) → returned (Some r) slots' ≡ answer slots o
-    → (t : Trace) × (o ≡ Some t) × (r.0 ≡ t.pattern) × (r.1 ≡ t.end) × (slots' ≡ write_all t.writes slots)
+returned-some : (r : HalfMatchValue) (slots slots' : Slots) (o : Option Trace) → returned (Some r) slots' ≡ answer slots o
+    → (t : Trace) × (o ≡ Some t) × (r.pattern ≡ t.pattern) × (r.offset ≡ t.end) × (slots' ≡ write_all t.writes slots)
 returned-some r slots slots' None h = none-is-some (sym h)
 returned-some r slots slots' (Some t) h =
-    let e : record { pattern = r.0; end = r.1; slots = slots' } ≡ record { pattern = t.pattern; end = t.end; slots = write_all t.writes slots } = some-is h in
+    let e : record { pattern = r.pattern; end = r.offset; slots = slots' } ≡ record { pattern = t.pattern; end = t.end; slots = write_all t.writes slots } = some-is h in
     (t, refl, ap (λ (a : Answer). a.pattern) e, ap (λ (a : Answer). a.end) e, ap (λ (a : Answer). a.slots) e)
+
+-- it ends where it began or after it
+pub returned-in_order : (s : Search) (i : ℕ) (r : HalfMatchValue) (slots slots' : Slots) → returned (Some r) slots' ≡ answer slots (first_trace (graph_for s) (at s.start i)) → i ≤ r.offset
+returned-in_order s i r slots slots' is =
+    let x = returned-some r slots slots' (first_trace (graph_for s) (at s.start i)) is in
+    let ends = found-end (graph_for s) (automaton-bounded s.matcher s.states.now s.text.now s.end) (automaton-rises s.matcher s.states.now s.text.now s.end) s.end (automaton-accepts-within s.matcher s.states.now s.text.now s.end) nowhere (at s.start i) x.0 x.1 in
+    let up = ends.0 in
+    let same = x.3 in
+    omega arith
 
 -- what the search answers of a match
 pub record Answered (goal : Option Match) (pattern start end : ℕ) (slots : Slots) : Type 0 where
-  pub value : ◌≡◌ {A = Option (ℕ × ℕ × ℕ)} (Some (pattern, start, end)) (option_map triple goal)
+  pub value : ◌≡◌ {A = Option MatchValue} (Some (record { pattern = pattern; start = start; end = end })) (option_map match_value goal)
   pub slots_are : IfSome goal (λ m. (k : ℕ) → k < length slots → get_or slots k None ≡ slot_value m k)
 
-pub match-answered : (s : Search) (i n : ℕ) (r : ℕ × ℕ) (slots slots' : Slots) (goal : Option Match)
+pub match-answered : (s : Search) (i n : ℕ) (r : HalfMatchValue) (slots slots' : Slots) (goal : Option Match)
     → returned (Some r) slots' ≡ answer slots (first_trace (graph_for s) (at s.start i)) → i ≤ s.last → is_permitted s.utf8 s.text.now i ≡ true → slots ≡ replicate n None
-    → next_from s i ≡ goal → Answered goal r.0 i r.1 slots'
+    → next_from s i ≡ goal → Answered goal r.pattern i r.offset slots'
 match-answered s i n r slots slots' goal is le allowed empty next =
     let x = returned-some r slots slots' (first_trace (graph_for s) (at s.start i)) is in
     let found : Some (record { start = i; trace = x.0 }) ≡ goal = sym (next-here s i x.0 le allowed x.1) ∙ next in
-    subst (λ g. Answered g r.0 i r.1 slots') found (record {
-      value = (λ j. Some (x.2 j, i, x.3 j));
+    subst (λ g. Answered g r.pattern i r.offset slots') found (record {
+      value = (λ j. Some (record { pattern = x.2 j; start = i; end = x.3 j }));
       slots_are = λ k lt.
           (let same : slots' ≡ write_all x.0.writes (replicate n None) = x.4 ∙ ap (write_all x.0.writes) empty in
           let long : length slots' ≡ n = ap length same ∙ length-write_all x.0.writes (replicate n None) ∙ length-replicate n None in
@@ -84,35 +97,8 @@ match-answered s i n r slots slots' goal is le allowed empty next =
 -- What the search of an NFA finds.
 
 module _ (nfa : Nfa) (v : InputValue) where
-  pub patterns-met : v.end ≤ length v.haystack → (r : Patterns) → IsNfaOf nfa r → next_match_within nfa v ≡ option_map (told_of r.which_captures) (next_match_for r v)
+  pub patterns-met : v.end ≤ length v.haystack → (r : Patterns) → IsNfaOf nfa r → next_match_within nfa v ≡ option_map (told_of r.which_captures) (next_in r v)
   patterns-met within r of = next_match_of-patterns nfa r v.haystack v.end within of.runs nfa.utf8 v.anchor v.start of.utf8
-
-  -- how many starts there are
-  starts-is : v.start ≤ v.end → starts v.anchor v.start v.end ≡ last_start v + 1 - v.start
-  starts-is le =
-      let e : nat_lt v.end v.start ≡ false = grind (arith, nat_tests) in
-      by_test (is_anchored v.anchor) (λ a. rw (e, a) (omega arith)) (λ a. rw (e, a) refl)
-
-  start-is : (q last : ℕ) → v.start ≤ v.end → start_of nfa v.anchor ≡ Some q → last ≡ last_start v
-      → first_start (is_permitted nfa.utf8 v.haystack) (λ i. first_trace (automaton nfa.terminator nfa.states v.haystack v.end) (at q i)) (last + 1 - v.start) v.start ≡ next_match_within nfa v
-  unfolding next_match_of
-  start-is q last le is at_last =
-      first_start-alike (is_permitted nfa.utf8 v.haystack) (λ i. first_trace (automaton nfa.terminator nfa.states v.haystack v.end) (at q i)) (first_from nfa.terminator nfa.states v.haystack v.end (start_of nfa v.anchor)) (last + 1 - v.start) v.start
-      (λ j _. ap (λ o. first_from nfa.terminator nfa.states v.haystack v.end o j) (sym is))
-      ∙ ap (λ n. first_start (is_permitted nfa.utf8 v.haystack) (first_from nfa.terminator nfa.states v.haystack v.end (start_of nfa v.anchor)) n v.start)
-      (ap (λ l. l + 1 - v.start) at_last ∙ sym (starts-is le))
-
-  -- what the search of the states was given
-  pub found-within : {terminator : ℕ} {states : List State} {text : List ℕ} {q last first end : ℕ} {utf8 : Bool} → terminator ≡ nfa.terminator → states ≡ nfa.states → text ≡ v.haystack → utf8 ≡ nfa.utf8 → last ≡ last_start v → first ≡ v.start → end ≡ v.end
-      → v.start ≤ v.end → start_of nfa v.anchor ≡ Some q
-      → first_start (is_permitted utf8 text) (λ i. first_trace (automaton terminator states text end) (at q i)) (last + 1 - first) first ≡ next_match_within nfa v
-  found-within {q = q} {last = last} t a b c at_last d e le is =
-      (λ j. first_start (is_permitted (c j) (b j)) (λ i. first_trace (automaton (t j) (a j) (b j) (e j)) (at q i)) (last + 1 - d j) (d j))
-      ∙ start-is q last le is at_last
-
-  pub found-in_order : (o : Option Match) → o ≡ next_match_within nfa v → (found : Option (ℕ × ℕ × ℕ)) → found ≡ option_map triple o → IfSome found (λ f. f.1 ≤ f.2)
-  found-in_order None e found is = rw is tt
-  found-in_order (Some m) e found is = rw is (next_match_of-within nfa nfa.utf8 v.haystack v.anchor v.end v.start m (sym e)).1
 
   pub found-in_span : (o : Option Match) → o ≡ next_match_within nfa v → (result : Option MatchValue) → result ≡ option_map match_value o → IfSome result (λ m. (v.start ≤ m.start) × (m.end ≤ v.end))
   found-in_span None e result is = rw is tt
@@ -128,14 +114,30 @@ module _ (nfa : Nfa) (v : InputValue) where
       (λ t. rw t at (told k lt))
       (λ t. (rw t at (told k lt)) ∙ sym (next_match_of-slot nfa range v.haystack v.end k (grind (arith, nat_tests)) nfa.utf8 v.anchor v.start m (sym e))))
 
--- a match as the search reports it
-pub reported-triple : (o : Option Match) → option_map (λ (f : ℕ × ℕ × ℕ). let m : MatchValue = record { pattern = f.0; start = f.1; end = f.2 } in m) (option_map triple o) ≡ option_map match_value o
-reported-triple None = refl
-reported-triple (Some m) = refl
+-- the search of a span that is not too long
+module _ (nfa : Nfa) (v : InputValue) (s : Search) (of : IsSearchOf nfa v s) (short : span_len v ≤ max_len nfa) where
+  rows : s.end + 1 - s.first ≤ max_len nfa + 1
+  rows = let end = of.end in let first = of.first in omega arith
 
--- there are few enough states at places
-pub small-extent : (accounted most rows n : ℕ) → most ≡ 2097152 / accounted - 1 → rows ≤ most + 1 → n ≤ 2147483647 → rows * n < 2 ^ 63
-small-extent accounted most rows n is few states =
-    let quotient = div-le_self 2097152 accounted in
-    let product = mul-le rows n 2097152 2147483647 (omega arith) states in
-    omega arith
+  -- there are few enough states at places
+  pub extent-small : length nfa.states ≤ 2147483647 → extent s < 2 ^ 63
+  extent-small few =
+      let quotient = div-le_self 2097152 (max 1 nfa.accounted) in
+      let count = ap length of.states in
+      let most = rows in
+      let product = mul-le (s.end + 1 - s.first) (length s.states.now) 2097152 2147483647 (omega arith) (omega arith) in
+      omega arith
+
+  -- and a cache that serves the engine has room for them,
+  pub extent-fits : {bits : ℕ} → (max_len nfa + 1) * length nfa.states ≤ bits → extent s ≤ bits
+  extent-fits fits =
+      let count = ap length of.states in
+      let product = mul-le (s.end + 1 - s.first) (length s.states.now) (max_len nfa + 1) (length nfa.states) rows (omega arith) in
+      omega arith
+
+  -- as for the frames that they leave
+  pub frames-fit : {room : ℕ} → (max_len nfa + 1) * frames_of_states nfa.states (length nfa.states) ≤ room → frames_of_span s ≤ room
+  frames-fit fits =
+      let count : frames_of_states s.states.now (length s.states.now) ≡ frames_of_states nfa.states (length nfa.states) = ap (λ states. frames_of_states states (length states)) of.states in
+      let product = mul-le (s.end + 1 - s.first) (frames_of_states s.states.now (length s.states.now)) (max_len nfa + 1) (frames_of_states nfa.states (length nfa.states)) rows (omega arith) in
+      omega arith

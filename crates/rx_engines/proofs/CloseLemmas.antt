@@ -1,51 +1,38 @@
 -- The frames of a closure.
 use Rattle.std.proofs.Common.{◌≡◌, ℕ, ◌+◌, ◌<◌, ◌≤◌, List, [], ◌∷◌, ◌++◌, length, refl, sym, ◌∙◌, ap, subst, arith, true≢false}
-use Rattle.std.specs.Prelude.{map, All, Bool, true, false, not, Option, Some, None, if◌then◌else◌}
-use Rattle.rx_model.proofs.RunLemmas.{by_test}
-use Rattle.std.proofs.lemmas.List.Elements.{All-head, All-tail}
+use Rattle.std.specs.Prelude.{map, Bool, true, false, not, Option, Some, None, if◌then◌else◌}
 use Rattle.rx_nfa.specs.Automaton.{at, automaton}
-use Rattle.rx_model.specs.Look.{holds}
-use Rattle.rx_search.specs.Look.{kind_of}
-use Rattle.rx_search.specs.declared.look.Look.{Look}
-use Rattle.rx_engines.specs.Walk.{Slots, explore_all, looked, Expands}
+use Rattle.rx_engines.specs.Walk.{Slots, AllWithin, explore_all, Expands}
 use Rattle.rx_engines.specs.Backtrack.{frames_of, onto}
 use Rattle.rx_engines.specs.declared.frame.Frame.{Frame}
 use Rattle.rx_nfa.specs.Automaton.{state_at}
 use Rattle.rx_nfa.specs.declared.state.State.{State}
 use Rattle.rx_engines.specs.declared.frame.Frame.TheVariants.{Explore}
-use Rattle.rx_engines.specs.Threads.{has}
-use Rattle.rx_engines.specs.Simulation.{AllHere, cost, frames_to_come, Visited, move_of, rests, going_on, is_resting}
-use Rattle.rx_engines.proofs.LineLemmas.{line-less}
-
-pub AllHere-union : (n i : ℕ) (qs : List ℕ) (frames : List Frame) → All (λ q. q < n) qs → AllHere n i frames → AllHere n i (explore_all (map (λ q. at q i) qs) ++ frames)
-AllHere-union n i [] frames all here = here
-AllHere-union n i (q ∷ qs) frames all here =
-    (All-head (λ x. x < n) q qs all, refl, AllHere-union n i qs frames (All-tail (λ x. x < n) q qs all) here)
+use Rattle.rx_engines.specs.Simulation.{Visited, move_of, rests, going_on, is_resting}
 
 pub union-length : (qs : List ℕ) (i : ℕ) (frames : List Frame) → length (explore_all (map (λ q. at q i) qs) ++ frames) ≡ length qs + length frames
 union-length [] i frames = omega arith
 union-length (q ∷ qs) i frames = let h = union-length qs i frames in omega arith
 
-pub AllHere-looked : (n i terminator : ℕ) (text : List ℕ) (look : Look) (next : ℕ) (frames : List Frame) → next < n → AllHere n i frames → AllHere n i (explore_all (looked terminator text look next i) ++ frames)
-AllHere-looked n i terminator text look next frames lt here =
-    by_test (holds terminator text (kind_of look) i) (λ e. rw e (lt, refl, here)) (λ e. rw e here)
+-- on to the state where the test holds
+pub AllWithin-taken : (n i : ℕ) (b : Bool) (next : ℕ) (frames : List Frame) → next < n → AllWithin n i i frames → AllWithin n i i (explore_all (if b then at next i ∷ [] else []) ++ frames)
+AllWithin-taken n i true next frames lt here = (lt, omega arith, omega arith, here)
+AllWithin-taken n i false next frames lt here = here
 
-pub looked-length : (terminator : ℕ) (text : List ℕ) (look : Look) (next i : ℕ) (frames : List Frame) → length (explore_all (looked terminator text look next i) ++ frames) ≤ 1 + length frames
-looked-length terminator text look next i frames =
-    by_test (holds terminator text (kind_of look) i) (λ e. rw e (omega arith)) (λ e. rw e (omega arith))
+pub taken-length : (b : Bool) (next i : ℕ) (frames : List Frame) → length (explore_all (if b then at next i ∷ [] else []) ++ frames) ≤ 1 + length frames
+taken-length true next i frames = omega arith
+taken-length false next i frames = omega arith
 
 -- the frame that was taken off
-pub on_top : {n i : ℕ} {stack rest : List Frame} {frame : Frame} {q j : ℕ} → AllHere n i stack → stack ≡ frame ∷ rest → frame ≡ Explore q j
-    → (stack ≡ Explore q i ∷ rest) × (q < n) × AllHere n i rest
+pub on_top : {n i : ℕ} {stack rest : List Frame} {frame : Frame} {q j : ℕ} → AllWithin n i i stack → stack ≡ frame ∷ rest → frame ≡ Explore q j
+    → (stack ≡ Explore q i ∷ rest) × (q < n) × AllWithin n i i rest
 on_top {n} {i} {stack} {rest} {frame} {q} {j} here off is =
     let popped : stack ≡ Explore q j ∷ rest = off ∙ ap (λ f. f ∷ rest) is in
-    let all = subst (AllHere n i) popped here in
-    (popped ∙ ap (λ k. Explore q k ∷ rest) all.1, all.0, all.2)
-
--- what is left, with the frames, falls by one and the cost of the state
-pub top-less : (states : List State) (i q : ℕ) (items : List ℕ) (stack rest : List Frame) → stack ≡ Explore q i ∷ rest → q < length states → has items q ≡ false
-    → frames_to_come states i (items ++ q ∷ []) + cost (state_at states q) + length rest + 1 ≤ frames_to_come states i items + length stack
-top-less states i q items stack rest popped lt new = let h = line-less states (length states) i q items lt new in let size = ap length popped in omega arith
+    let all = subst (AllWithin n i i) popped here in
+    let above = all.1 in
+    let below = all.2 in
+    let same : j ≡ i = omega arith in
+    (popped ∙ ap (λ k. Explore q k ∷ rest) same, all.0, all.3)
 
 pub not-true : (b : Bool) → true ≡ not b → b ≡ false
 not-true true h = absurd (true≢false h)

@@ -1,27 +1,25 @@
 -- What the search of a list of states finds, for an NFA and an input.
 use Rattle.std.proofs.Common.{◌≡◌, ℕ, ◌+◌, ◌-◌, ◌≤◌, ◌<◌, List, [], ◌∷◌, length, get_or, refl, sym, ◌∙◌, ap, subst, arith}
 use Rattle.std.proofs.lemmas.Bool.Decides.{nat_tests}
-use Rattle.std.proofs.lemmas.List.Elements.{All-nil, All-cons, All-get_or}
+use Rattle.std.proofs.lemmas.List.Elements.{All-get_or}
 use Rattle.std.proofs.lemmas.Option.{get_or_from_slice_get, slice_get_within}
-use Rattle.std.specs.Prelude.{Bool, true, false, Option, Some, None, option_map, is_some, IfSome, All, nat_lt, if◌then◌else◌}
+use Rattle.std.specs.Prelude.{Bool, true, false, Option, Some, None, option_map, is_some, IfSome, All, nat_lt, nat_le, if◌then◌else◌}
 use Rattle.rx_model.specs.Runs.{Trace, first_trace}
 use Rattle.rx_model.specs.Search.{Patterns, told_of, Anchor, free, anchored, anchored_to, is_anchored, Match, is_permitted, first_start, starts, next_match, slot_value}
 use Rattle.rx_model.proofs.RunLemmas.{by_test}
 use Rattle.rx_model.proofs.FirstLemmas.{none-is-some, some-is}
 use Rattle.rx_model.proofs.WithinLemmas.{next-later}
 use Rattle.rx_search.specs.Matches.{match_value, MatchValue}
-use Rattle.rx_search.specs.Input.{InputValue}
+use Rattle.rx_search.specs.Input.{InputValue, next_in}
 use Rattle.rx_nfa.specs.Automaton.{at, automaton}
 use Rattle.rx_nfa.specs.Nfa.{Nfa, IsInRange}
 use Rattle.rx_nfa.specs.NextMatch.{start_of, first_from, next_match_of}
 use Rattle.rx_nfa.proofs.NextMatchLemmas.{first_start-alike, next_match_of-patterns, next_match_of-slot, next_match_of-within}
-use Rattle.rx_engines.specs.Simulation.{first_of}
-use Rattle.rx_engines.specs.Search.{IsInside, next_until, next_of, first_place, stop_of, answer_of, triple}
-use Rattle.rx_engines.specs.declared.pikevm.search.Search.{Search}
+use Rattle.rx_engines.specs.Search.{IsInside, next_until, next_of, first_place, stop_of, answer_of}
+use Rattle.rx_engines.specs.declared.search.Search.{Search}
 use Rattle.rx_engines.specs.Walk.{Slots}
-use Rattle.rx_engines.specs.Engine.{PikeVMValue, next_match_by, next_match_in, next_match_for, stop_in, answer_in, last_start, IsOf, IsMatchWith, IsSearchOf, HasSlots}
-use Rattle.rx_engines.proofs.OptionLemmas.{or-none_right}
-use Rattle.rx_engines.proofs.StartLemmas.{first_start-none, first_start-more, first_of-beyond}
+use Rattle.rx_engines.specs.Engine.{PikeVMValue, next_match_by, next_match_within, stop_in, answer_in, last_start, IsNfaOf, IsMatchWith, IsSearchOf, HasNoMatch, HasSlots}
+use Rattle.rx_engines.proofs.StartLemmas.{first_start-none, first_start-more, found-beyond}
 use Rattle.rx_engines.proofs.StageLemmas.{first_place-within, first_place-alike}
 
 module _ (nfa : Nfa) (utf8_empty : Bool) (text : List ℕ) (anchor : Anchor) (end start : ℕ) where
@@ -38,15 +36,15 @@ module _ (nfa : Nfa) (utf8_empty : Bool) (text : List ℕ) (anchor : Anchor) (en
 
   -- a search up to a later place looks at more starts, from which no run ends by here
   pub next_match_of-until : (top q : ℕ) → start ≤ end → end ≤ top → start_of nfa anchor ≡ Some q
-      → first_start (is_permitted utf8_empty text) (first_of (first_trace (automaton nfa.terminator nfa.states text end)) (q ∷ [])) ((if is_anchored anchor then start else top) + 1 - start) start ≡ next_match_of nfa utf8_empty text anchor end start
+      → first_start (is_permitted utf8_empty text) (λ i. first_trace (automaton nfa.terminator nfa.states text end) (at q i)) ((if is_anchored anchor then start else top) + 1 - start) start ≡ next_match_of nfa utf8_empty text anchor end start
   unfolding next_match_of
   next_match_of-until top q low high is =
       fewer
       ∙ first_start-alike (is_permitted utf8_empty text) from_start (first_from nfa.terminator nfa.states text end (start_of nfa anchor)) (starts anchor start end) start
-      (λ j _. or-none_right (first_trace (automaton nfa.terminator nfa.states text end) (at q j)) ∙ ap (λ s. first_from nfa.terminator nfa.states text end s j) (sym is))
+      (λ j _. ap (λ s. first_from nfa.terminator nfa.states text end s j) (sym is))
     where
       from_start : ℕ → Option Trace
-      from_start = first_of (first_trace (automaton nfa.terminator nfa.states text end)) (q ∷ [])
+      from_start i = first_trace (automaton nfa.terminator nfa.states text end) (at q i)
 
       in_order : nat_lt end start ≡ false
       in_order = grind (arith, nat_tests)
@@ -56,11 +54,11 @@ module _ (nfa : Nfa) (utf8_empty : Bool) (text : List ℕ) (anchor : Anchor) (en
           by_test (is_anchored anchor)
           (λ a. rw (in_order, a) (let one : start + 1 - start ≡ 1 = omega arith in ap (λ n. first_start (is_permitted utf8_empty text) from_start n start) one))
           (λ a. rw (in_order, a)
-          (first_start-more (is_permitted utf8_empty text) from_start (end + 1 - start) (top + 1 - start) start (omega arith) (λ j le. first_of-beyond nfa.terminator nfa.states text [] utf8_empty end 0 0 (q ∷ []) j (omega arith))))
+          (first_start-more (is_permitted utf8_empty text) from_start (end + 1 - start) (top + 1 - start) start (omega arith) (λ j le. found-beyond nfa.terminator nfa.states text end q j (omega arith))))
 
 -- the start is there
-pub start-inside : (nfa : Nfa) (anchor : Anchor) (q : ℕ) → IsInRange nfa → start_of nfa anchor ≡ Some q → All (λ s. s < length nfa.states) (q ∷ [])
-start-inside nfa anchor q range is = All-cons (λ s. s < length nfa.states) q [] (inside anchor is) (All-nil (λ s. s < length nfa.states))
+start-inside : (nfa : Nfa) (anchor : Anchor) (q : ℕ) → IsInRange nfa → start_of nfa anchor ≡ Some q → q < length nfa.states
+start-inside nfa anchor q range is = inside anchor is
   where
     inside : (a : Anchor) → start_of nfa a ≡ Some q → q < length nfa.states
     inside free e = let same = some-is e in let lt = range.start_anchored in omega arith
@@ -75,8 +73,43 @@ told-from : (tell : Match → Match) (o : Option Match) (m : Match) → option_m
 told-from tell None m e = none-is-some e
 told-from tell (Some n) m e = (n, refl, some-is e)
 
+-- there is nothing to search
+pub none-missing : (nfa : Nfa) (v : InputValue) → start_of nfa v.anchor ≡ None → HasNoMatch nfa v
+none-missing nfa v none end le = next_match_of-missing nfa nfa.utf8 v.haystack v.anchor end v.start none
+
+pub none-done : (nfa : Nfa) (v : InputValue) → v.end < v.start → HasNoMatch nfa v
+none-done nfa v past end le = next_match_of-done nfa nfa.utf8 v.haystack v.anchor end v.start (omega arith)
+
+-- the search of an input
+module _ (nfa : Nfa) (v : InputValue) (s : Search) (of : IsSearchOf nfa v s) where
+  pub search-inside : IsInRange nfa → v.end ≤ length v.haystack → IsInside s
+  search-inside range spanned =
+      let first = of.first in
+      let last = of.last in
+      let end = of.end in
+      let le = of.in_order in
+      let size = ap length of.text in
+      let at_last : (v.start ≤ last_start v) × (last_start v ≤ v.end) = by_test (is_anchored v.anchor) (λ a. rw a (omega arith, le)) (λ a. rw a (le, omega arith)) in
+      let low = at_last.0 in
+      let high = at_last.1 in
+      record {
+        names = rw of.states range.names;
+        start = rw of.states (start-inside nfa v.anchor s.start range of.start);
+        first = omega arith;
+        last = omega arith;
+        end = omega arith;
+      }
+
+  pub until-is : (end : ℕ) → v.start ≤ end → end ≤ v.end → next_until s end ≡ next_match_of nfa nfa.utf8 v.haystack v.anchor end v.start
+  until-is end low high =
+      (λ j. first_start (is_permitted (of.utf8 j) (of.text j)) (λ i. first_trace (automaton (of.matcher j) (of.states j) (of.text j) end) (at s.start i)) (of.last j + 1 - of.first j) (of.first j))
+      ∙ next_match_of-until nfa nfa.utf8 v.haystack v.anchor end v.start v.end s.start low high of.start
+
+  pub next-is : next_of s ≡ next_match_within nfa v
+  next-is = ap (next_until s) of.end ∙ until-is v.end of.in_order (omega arith)
+
 module _ (vm : PikeVMValue) (v : InputValue) where
-  pub patterns-agree : v.end ≤ length v.haystack → (r : Patterns) → IsOf vm r → next_match_in vm v ≡ option_map (told_of r.which_captures) (next_match_for r v)
+  pub patterns-agree : v.end ≤ length v.haystack → (r : Patterns) → IsNfaOf vm.nfa r → next_match_within vm.nfa v ≡ option_map (told_of r.which_captures) (next_in r v)
   patterns-agree within r of = next_match_of-patterns vm.nfa r v.haystack v.end within of.runs vm.nfa.utf8 v.anchor v.start of.utf8
 
   -- where a search stops
@@ -86,22 +119,21 @@ module _ (vm : PikeVMValue) (v : InputValue) where
       (λ e. rw e (first_place-within (λ e. is_some (next_match_by vm v e)) v.end (v.end - v.start) v.start (omega arith)))
       (λ e. rw e (le, omega arith))
 
-  pub answer_in-done : v.end < v.start → answer_in vm v ≡ None
+  stop-below : stop_in vm v ≤ v.end
   unfolding first_place
-  answer_in-done past =
-      let none = next_match_of-done vm.nfa vm.nfa.utf8 v.haystack v.anchor v.end v.start past in
+  stop-below =
+      by_test (nat_le v.start v.end)
+      (λ e. (stop-within (grind (arith, nat_tests))).1)
+      (λ e.
+      let past : v.end < v.start = grind (arith, nat_tests) in
       let no_places : v.end - v.start ≡ 0 = omega arith in
-      by_test v.earliest (λ e. rw (e, no_places) none) (λ e. rw e none)
+      by_test v.earliest (λ f. rw (f, no_places) (omega arith)) (λ f. rw f (omega arith)))
 
-  pub answer_in-missing : start_of vm.nfa v.anchor ≡ None → answer_in vm v ≡ None
-  answer_in-missing none = next_match_of-missing vm.nfa vm.nfa.utf8 v.haystack v.anchor (stop_in vm v) v.start none
-
-  -- without `earliest` the answer is the next match
-  pub answer_in-late : v.earliest ≡ false → answer_in vm v ≡ next_match_in vm v
-  answer_in-late late = ap (λ b. next_match_by vm v (if b then first_place (λ e. is_some (next_match_by vm v e)) v.end (v.end - v.start) v.start else v.end)) late
+  pub answer_in-none : HasNoMatch vm.nfa v → answer_in vm v ≡ None
+  answer_in-none none = none (stop_in vm v) stop-below
 
   -- what is found is a match
-  pub answer-is_match : v.end ≤ length v.haystack → v.start ≤ v.end → (r : Patterns) → IsOf vm r → (Holds : Match → Type 0) → (o : Option Match) → o ≡ answer_in vm v → IfSome o Holds → IfSome o (λ m. IsMatchWith r v Holds)
+  pub answer-is_match : v.end ≤ length v.haystack → v.start ≤ v.end → (r : Patterns) → IsNfaOf vm.nfa r → (Holds : Match → Type 0) → (o : Option Match) → o ≡ answer_in vm v → IfSome o Holds → IfSome o (λ m. IsMatchWith r v Holds)
   answer-is_match within le r of Holds None e holds = tt
   answer-is_match within le r of Holds (Some m) e holds =
       let stop = (stop-within le).1 in
@@ -110,51 +142,26 @@ module _ (vm : PikeVMValue) (v : InputValue) where
       (n.0, next-later r v.haystack v.anchor (stop_in vm v) v.end v.start n.0 n.1 stop, subst Holds (sym n.2) holds)
 
   -- what is reported is the answer, with its slots
-  pub reported-is_match : v.end ≤ length v.haystack → v.start ≤ v.end → (r : Patterns) → IsOf vm r → (slots : Slots) → (o : Option Match) → o ≡ answer_in vm v → (result : Option MatchValue) → result ≡ option_map match_value o → IfSome (answer_in vm v) (HasSlots slots)
+  pub reported-is_match : v.end ≤ length v.haystack → v.start ≤ v.end → (r : Patterns) → IsNfaOf vm.nfa r → (slots : Slots) → (o : Option Match) → o ≡ answer_in vm v → (result : Option MatchValue) → result ≡ option_map match_value o → IfSome (answer_in vm v) (HasSlots slots)
       → IfSome result (λ found. IsMatchWith r v (λ m. (found ≡ match_value m) × HasSlots slots m))
   reported-is_match within le r of slots None e result is told = rw is tt
   reported-is_match within le r of slots (Some m) e result is told =
       rw is (answer-is_match within le r of (λ n. (match_value m ≡ match_value n) × HasSlots slots n) (Some m) e (refl, subst (λ x. IfSome x (HasSlots slots)) (sym e) told))
 
-  module _ (q : ℕ) (s : Search) (of : IsSearchOf vm v (q ∷ []) s) (le : v.start ≤ v.end) (is : start_of vm.nfa v.anchor ≡ Some q) where
-    pub search-inside : IsInRange vm.nfa → IsInside s
-    search-inside range =
-        let last = of.last in
-        let end = of.end in
-        let spanned = of.spanned.end in
-        let size = ap length of.text in
-        let at_last : last_start v ≤ v.end = by_test (is_anchored v.anchor) (λ a. rw a le) (λ a. rw a (omega arith)) in
-        record {
-          names = rw of.states range.names;
-          starts = rw (of.states, of.starts) (start-inside vm.nfa v.anchor q range is);
-          last = omega arith;
-          end = omega arith;
-        }
-
-    pub until-is : (end : ℕ) → v.start ≤ end → end ≤ v.end → next_until s v.start end ≡ next_match_by vm v end
-    until-is end low high =
-        (λ j. first_start (is_permitted (of.utf8 j) (of.text j)) (first_of (first_trace (automaton (of.matcher j) (of.states j) (of.text j) end)) (of.starts j)) (of.last j + 1 - v.start) v.start)
-        ∙ next_match_of-until vm.nfa vm.nfa.utf8 v.haystack v.anchor end v.start v.end q low high is
-
-    pub next-is : {from : ℕ} → from ≡ v.start → next_of s from ≡ next_match_in vm v
-    next-is same = (λ j. next_until s (same j) (of.end j)) ∙ until-is v.end le (omega arith)
-
-    stop-is : stop_of s v.earliest v.start ≡ stop_in vm v
+  module _ (s : Search) (of : IsSearchOf vm.nfa v s) where
+    stop-is : stop_of s v.earliest ≡ stop_in vm v
     stop-is =
         by_test v.earliest
         (λ e. rw e
-        ((λ j. first_place (λ e. is_some (next_until s v.start e)) (of.end j) (of.end j - v.start) v.start)
-        ∙ first_place-alike (λ e. is_some (next_until s v.start e)) (λ e. is_some (next_match_by vm v e)) v.end (v.end - v.start) v.start (λ e low high. ap is_some (until-is e low (omega arith)))))
+        ((λ j. first_place (λ e. is_some (next_until s e)) (of.end j) (of.end j - of.first j) (of.first j))
+        ∙ first_place-alike (λ e. is_some (next_until s e)) (λ e. is_some (next_match_by vm v e)) v.end (v.end - v.start) v.start
+        (λ e low high. ap is_some (until-is vm.nfa v s of e low (let le = of.in_order in omega arith)))))
         (λ e. rw e of.end)
 
-    pub answer-is : {from : ℕ} {earliest : Bool} → from ≡ v.start → earliest ≡ v.earliest → answer_of s earliest from ≡ answer_in vm v
-    answer-is same flag =
-        let w = stop-within le in
-        (λ j. answer_of s (flag j) (same j)) ∙ ap (next_until s v.start) stop-is ∙ until-is (stop_in vm v) w.0 w.1
-
-  pub triple-in_order : (o : Option Match) → o ≡ answer_in vm v → (found : Option (ℕ × ℕ × ℕ)) → found ≡ option_map triple o → IfSome found (λ f. f.1 ≤ f.2)
-  triple-in_order None e found is = rw is tt
-  triple-in_order (Some m) e found is = rw is (next_match_of-within vm.nfa vm.nfa.utf8 v.haystack v.anchor (stop_in vm v) v.start m (sym e)).1
+    pub answer-is : {earliest : Bool} → earliest ≡ v.earliest → answer_of s earliest ≡ answer_in vm v
+    answer-is flag =
+        let w = stop-within of.in_order in
+        ap (answer_of s) flag ∙ ap (next_until s) stop-is ∙ until-is vm.nfa v s of (stop_in vm v) w.0 w.1
 
   pub value-within : v.start ≤ v.end → (o : Option Match) → o ≡ answer_in vm v → (result : Option MatchValue) → result ≡ option_map match_value o → IfSome result (λ m. (v.start ≤ m.start) × (m.end ≤ v.end))
   value-within le None e result is = rw is tt
@@ -173,12 +180,3 @@ module _ (vm : PikeVMValue) (v : InputValue) where
       (λ k lt. by_test (nat_lt k widest)
       (λ t. rw t at (told k lt))
       (λ t. (rw t at (told k lt)) ∙ sym (next_match_of-slot vm.nfa range v.haystack (stop_in vm v) k (grind (arith, nat_tests)) vm.nfa.utf8 v.anchor v.start m (sym e))))
-
--- a match as the search of the states reports it
-pub triple-value : (o : Option Match) → option_map (λ (f : ℕ × ℕ × ℕ). let m : MatchValue = record { pattern = f.0; start = f.1; end = f.2 } in m) (option_map triple o) ≡ option_map match_value o
-triple-value None = refl
-triple-value (Some m) = refl
-
-pub reported-any : (found : Option (ℕ × ℕ × ℕ)) (o : Option MatchValue) → o ≡ option_map (λ (f : ℕ × ℕ × ℕ). let m : MatchValue = record { pattern = f.0; start = f.1; end = f.2 } in m) found → is_some o ≡ is_some found
-reported-any None o h = ap is_some h
-reported-any (Some f) o h = ap is_some h

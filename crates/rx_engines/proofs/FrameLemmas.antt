@@ -7,7 +7,7 @@ use Rattle.rx_model.proofs.RunLemmas.{by_test}
 use Rattle.rx_nfa.specs.Automaton.{state_at}
 use Rattle.rx_nfa.specs.declared.state.State.{State}
 use Rattle.rx_engines.specs.Backtrack.{is_set, frames_below}
-use Rattle.rx_engines.specs.Simulation.{cost, cost_below}
+use Rattle.rx_engines.specs.Simulation.{frames_of_state, frames_of_states}
 
 module _ (states : List State) (words words' : List ℕ) where
   -- the same bits are set
@@ -37,14 +37,14 @@ module _ (states : List State) (words words' : List ℕ) where
         (λ e. after j ∙ ap (λ b. b || is_set words j) e))
 
     -- a bit that was not set takes the frames of its state off
-    pub frames_below-inserted : is_set words n ≡ false → (k : ℕ) → n < k → frames_below states words' k + cost (state_at states (n % length states)) ≡ frames_below states words k
+    pub frames_below-inserted : is_set words n ≡ false → (k : ℕ) → n < k → frames_below states words' k + frames_of_state (state_at states (n % length states)) ≡ frames_below states words k
     unfolding frames_below
     frames_below-inserted new zero lt = absurd (omega arith)
     frames_below-inserted new (suc k) lt =
         by_test (n == k)
         (λ e.
         let here : n ≡ k = (Decides-eqb n k).0 e in
-        subst (λ m. frames_below states words' (suc m) + cost (state_at states (n % length states)) ≡ frames_below states words (suc m)) here
+        subst (λ m. frames_below states words' (suc m) + frames_of_state (state_at states (n % length states)) ≡ frames_below states words (suc m)) here
         (rw (own, new, frames_below-alike n (λ j below. others j (λ same. absurd (omega arith)))) (omega arith)))
         (λ e.
         let differ : n ≢ k = λ clash. true≢false (sym ((Decides-eqb n k).1 clash) ∙ e) in
@@ -53,8 +53,8 @@ module _ (states : List State) (words words' : List ℕ) where
 
 module _ (states : List State) (words : List ℕ) (empty : (j : ℕ) → is_set words j ≡ false) where
   -- a part of a row of which nothing was passed
-  row-empty : (rows m : ℕ) → m ≤ length states → frames_below states words (rows * length states + m) ≡ cost_below states m + frames_below states words (rows * length states)
-  unfolding frames_below cost_below
+  row-empty : (rows m : ℕ) → m ≤ length states → frames_below states words (rows * length states + m) ≡ frames_of_states states m + frames_below states words (rows * length states)
+  unfolding frames_below frames_of_states
   row-empty rows zero le = let same : rows * length states + 0 ≡ rows * length states = omega arith in rw same (omega arith)
   row-empty rows (suc m) le =
       let h = row-empty rows m (omega arith) in
@@ -63,15 +63,15 @@ module _ (states : List State) (words : List ℕ) (empty : (j : ℕ) → is_set 
       rw (at, empty (rows * length states + m), column) (omega arith)
 
   -- nothing was passed
-  pub frames_below-empty : (rows : ℕ) → frames_below states words (rows * length states) ≡ rows * cost_below states (length states)
+  pub frames_below-empty : (rows : ℕ) → frames_below states words (rows * length states) ≡ rows * frames_of_states states (length states)
   unfolding frames_below
   frames_below-empty zero =
       let none : 0 * length states ≡ 0 = omega arith in
-      let free : 0 * cost_below states (length states) ≡ 0 = omega arith in
+      let free : 0 * frames_of_states states (length states) ≡ 0 = omega arith in
       rw (none, free) refl
   frames_below-empty (suc rows) =
       let h = frames_below-empty rows in
       let row = row-empty rows (length states) (omega arith) in
       let more : suc rows * length states ≡ rows * length states + length states = omega arith in
-      let sum : suc rows * cost_below states (length states) ≡ cost_below states (length states) + rows * cost_below states (length states) = omega arith in
-      rw (more, sum) (row ∙ ap (λ x. cost_below states (length states) + x) h)
+      let sum : suc rows * frames_of_states states (length states) ≡ frames_of_states states (length states) + rows * frames_of_states states (length states) = omega arith in
+      rw (more, sum) (row ∙ ap (λ x. frames_of_states states (length states) + x) h)

@@ -7,7 +7,7 @@ use Rattle.rx_model.proofs.RunLemmas.{by_test, weight, weight-less}
 use Rattle.rx_nfa.specs.Automaton.{at, state_at}
 use Rattle.rx_nfa.specs.declared.state.State.{State}
 use Rattle.rx_engines.specs.Threads.{has}
-use Rattle.rx_engines.specs.Simulation.{cost, cost_below, line, cost_at, passed_at}
+use Rattle.rx_engines.specs.Simulation.{frames_of_state, frames_of_states, line, frames_at, passed_at}
 use Rattle.rx_engines.proofs.SimulationLemmas.{passed_at-has, passed_at-push}
 
 pub line-has : (n i q : ℕ) → q < n → is_among (line n i) (at q i) ≡ true
@@ -27,18 +27,18 @@ line-count (suc n) i p =
     let h = line-count n i p in
     by_test (p (at n i)) (λ e. rw e (omega arith)) (λ e. rw e (omega arith))
 
-pub line-cost : (states : List State) (n i : ℕ) (p : Passed) → weight (cost_at states) (line n i) p ≤ cost_below states n
-unfolding weight cost_below
-line-cost states zero i p = omega arith
-line-cost states (suc n) i p =
-    let h = line-cost states n i p in
+pub line-frames : (states : List State) (n i : ℕ) (p : Passed) → weight (frames_at states) (line n i) p ≤ frames_of_states states n
+unfolding weight frames_of_states
+line-frames states zero i p = omega arith
+line-frames states (suc n) i p =
+    let h = line-frames states n i p in
     by_test (p (at n i)) (λ e. rw e (omega arith)) (λ e. rw e (omega arith))
 
--- a state that comes into the set takes its cost off
+-- a state that comes into the set takes its frames off
 pub line-less : (states : List State) (n i q : ℕ) (items : List ℕ) → q < n → has items q ≡ false
-    → weight (cost_at states) (line n i) (passed_at (items ++ q ∷ []) i) + cost (state_at states q) ≤ weight (cost_at states) (line n i) (passed_at items i)
+    → weight (frames_at states) (line n i) (passed_at (items ++ q ∷ []) i) + frames_of_state (state_at states q) ≤ weight (frames_at states) (line n i) (passed_at items i)
 line-less states n i q items lt new =
-    rw (passed_at-push items i q) (weight-less (cost_at states) (line n i) (at q i) (passed_at items i) (line-has n i q lt) (passed_at-has items i q ∙ new))
+    rw (passed_at-push items i q) (weight-less (frames_at states) (line n i) (at q i) (passed_at items i) (line-has n i q lt) (passed_at-has items i q ∙ new))
 
 -- and leaves fewer of them
 pub count-less : (n i q : ℕ) (items : List ℕ) → q < n → has items q ≡ false
@@ -46,6 +46,6 @@ pub count-less : (n i q : ℕ) (items : List ℕ) → q < n → has items q ≡ 
 count-less n i q items lt new =
     rw (passed_at-push items i q) (weight-less (λ c. 1) (line n i) (at q i) (passed_at items i) (line-has n i q lt) (passed_at-has items i q ∙ new))
 
-pub cost_below-more : (states : List State) (n : ℕ) → cost_below states (n + 1) ≡ cost (state_at states n) + cost_below states n
-unfolding cost_below
-cost_below-more states n = let e : n + 1 ≡ suc n = omega arith in ap (cost_below states) e
+pub frames_of_states-more : (states : List State) (n : ℕ) → frames_of_states states (n + 1) ≡ frames_of_state (state_at states n) + frames_of_states states n
+unfolding frames_of_states
+frames_of_states-more states n = let e : n + 1 ≡ suc n = omega arith in ap (frames_of_states states) e

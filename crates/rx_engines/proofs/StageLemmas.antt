@@ -4,15 +4,21 @@ use Rattle.std.proofs.Common.{◌≡◌, ℕ, zero, suc, ◌+◌, ◌-◌, ◌�
 use Rattle.std.specs.Prelude.{Bool, true, false, ◌&&◌, Option, Some, None, option_map, is_some, nat_lt, IfSome, IfNone}
 use Rattle.std.specs.Option.{option_or}
 use Rattle.std.proofs.lemmas.Bool.Decides.{nat_tests}
-use Rattle.rx_model.specs.Runs.{Passed, nowhere}
+use Rattle.rx_model.specs.Runs.{Passed, nowhere, first_trace}
+use Rattle.rx_model.specs.Search.{Match, is_permitted}
 use Rattle.rx_model.proofs.RunLemmas.{by_test}
-use Rattle.rx_model.proofs.FirstLemmas.{none-is-some}
-use Rattle.rx_nfa.specs.Automaton.{automaton}
+use Rattle.rx_model.proofs.FirstLemmas.{none-is-some, some-is}
+use Rattle.rx_model.proofs.RiseLemmas.{found-end}
+use Rattle.rx_search.specs.Matches.{MatchValue}
+use Rattle.rx_nfa.specs.Automaton.{at}
+use Rattle.rx_nfa.proofs.AutomatonLemmas.{automaton-bounded, automaton-rises, automaton-accepts-within}
+use Rattle.rx_nfa.proofs.NextMatchLemmas.{first_start-from}
 use Rattle.rx_engines.specs.Walk.{Slots}
 use Rattle.rx_engines.specs.Threads.{Row}
-use Rattle.rx_engines.specs.Simulation.{Hit, hit_of, best_hit, accepted_hit, among, later_starts, byte_at}
-use Rattle.rx_engines.specs.Search.{next_until, next_of, first_place, answer_of}
-use Rattle.rx_engines.specs.declared.pikevm.search.Search.{Search}
+use Rattle.rx_engines.specs.Simulation.{Hit, hit_of, best_hit, until, among, later_starts, byte_at}
+use Rattle.rx_engines.specs.Search.{graph_until, next_until, next_of, first_place, answer_of}
+use Rattle.rx_engines.specs.declared.search.Search.{Search}
+use Rattle.rx_engines.specs.declared.pikevm.step.Accepted.{Accepted}
 use Rattle.rx_engines.proofs.StartLemmas.{over-matched, over-past, over-end, starts-beyond}
 
 -- The first place at which a test holds.
@@ -68,79 +74,100 @@ and-true true b h = (refl, sym h)
 and-true false b h = absurd (true≢false h)
 
 -- what was found last is not better where nothing is known yet
-pub found-none : (f : Option (ℕ × ℕ)) (best : Option (ℕ × ℕ × ℕ)) (i : ℕ) → IfSome f (λ f. best ≡ Some (f.0, f.1, i)) → best ≡ None → f ≡ None
-found-none None best i some none = refl
-found-none (Some f) best i some none = none-is-some (sym none ∙ some)
+pub found-none : (f : Option Accepted) (best best' : Option MatchValue) (i : ℕ) → best' ≡ option_or (option_map (until i) f) best → best' ≡ None → f ≡ None
+found-none None best best' i better none = refl
+found-none (Some f) best best' i better none = none-is-some (sym none ∙ better)
 
-module _ (s : Search) (width from : ℕ) where
+-- a match ends where it began or after it
+until-in_order : (s : Search) (end : ℕ) (m : Match) → next_until s end ≡ Some m → m.start ≤ m.trace.end
+until-in_order s end m h =
+    let x = first_start-from (is_permitted s.utf8 s.text.now) (λ i. first_trace (graph_until s end) (at s.start i)) (s.last + 1 - s.first) s.first m h in
+    (found-end (graph_until s end) (automaton-bounded s.matcher s.states.now s.text.now end) (automaton-rises s.matcher s.states.now s.text.now end) end (automaton-accepts-within s.matcher s.states.now s.text.now end) nowhere (at s.start m.start) m.trace x.1).0
+
+module _ (s : Search) (width : ℕ) where
   abbrev pub Stage : (end : ℕ) → Option Hit → (place next : ℕ) → Passed → List Row → List ℕ → Type 0
   Stage end best place next p rows items =
-      option_or (among s.states.now (automaton s.matcher s.states.now s.text.now end) nowhere place rows items)
-      (later_starts s.matcher s.states.now s.text.now s.starts.now s.utf8_empty end width best s.last next p)
-      ≡ option_map (hit_of width) (next_until s from end)
+      option_or (among s.states.now (graph_until s end) nowhere place rows items)
+      (later_starts s end width best next p)
+      ≡ option_map (hit_of width) (next_until s end)
 
   -- threads were started, with rows of some width
   pub seed-fits : (end : ℕ) (best : Option Hit) (i : ℕ) (p : Passed) (rows rows' : List Row) (items items' : List ℕ) {n : ℕ} → n ≡ width
-      → (option_or (among s.states.now (automaton s.matcher s.states.now s.text.now end) nowhere i rows items) (later_starts s.matcher s.states.now s.text.now s.starts.now s.utf8_empty end n best s.last i p) ≡ option_map (hit_of width) (next_until s from end)
-      → option_or (among s.states.now (automaton s.matcher s.states.now s.text.now end) nowhere i rows' items') (later_starts s.matcher s.states.now s.text.now s.starts.now s.utf8_empty end n best s.last (i + 1) nowhere) ≡ option_map (hit_of width) (next_until s from end))
+      → (option_or (among s.states.now (graph_until s end) nowhere i rows items) (later_starts s end n best i p) ≡ option_map (hit_of width) (next_until s end)
+      → option_or (among s.states.now (graph_until s end) nowhere i rows' items') (later_starts s end n best (i + 1) nowhere) ≡ option_map (hit_of width) (next_until s end))
       → Stage end best i i p rows items → Stage end best i (i + 1) nowhere rows' items'
   seed-fits end best i p rows rows' items items' same seeds value =
-      (λ j. option_or (among s.states.now (automaton s.matcher s.states.now s.text.now end) nowhere i rows' items') (later_starts s.matcher s.states.now s.text.now s.starts.now s.utf8_empty end (sym same j) best s.last (i + 1) nowhere))
-      ∙ seeds ((λ j. option_or (among s.states.now (automaton s.matcher s.states.now s.text.now end) nowhere i rows items) (later_starts s.matcher s.states.now s.text.now s.starts.now s.utf8_empty end (same j) best s.last i p)) ∙ value)
+      (λ j. option_or (among s.states.now (graph_until s end) nowhere i rows' items') (later_starts s end (sym same j) best (i + 1) nowhere))
+      ∙ seeds ((λ j. option_or (among s.states.now (graph_until s end) nowhere i rows items) (later_starts s end (same j) best i p)) ∙ value)
 
   -- no thread is left, and there is a match
-  pub stage-matched : (end : ℕ) (best : Option (ℕ × ℕ × ℕ)) (slots : Slots) (items : List ℕ) (rows : List Row) (i : ℕ) → items ≡ [] → is_some best ≡ true
-      → Stage end (best_hit best slots) i (i + 1) nowhere rows items → best_hit best slots ≡ option_map (hit_of width) (next_until s from end)
+  pub stage-matched : (end : ℕ) (best : Option MatchValue) (slots : Slots) (items : List ℕ) (rows : List Row) (i : ℕ) → items ≡ [] → is_some best ≡ true
+      → Stage end (best_hit best slots) i (i + 1) nowhere rows items → best_hit best slots ≡ option_map (hit_of width) (next_until s end)
   stage-matched end best slots items rows i none h value =
-      over-matched s.matcher s.states.now s.text.now s.starts.now s.utf8_empty end width s.last best slots items rows i (option_map (hit_of width) (next_until s from end)) none h value
+      over-matched s end width best slots items rows i (option_map (hit_of width) (next_until s end)) none h value
 
   -- no thread is left, nor a start
-  pub stage-past : (end : ℕ) (best : Option (ℕ × ℕ × ℕ)) (slots : Slots) (items : List ℕ) (rows : List Row) (i : ℕ) → items ≡ [] → is_some best ≡ false → s.last ≤ i
-      → Stage end (best_hit best slots) i (i + 1) nowhere rows items → next_until s from end ≡ None
+  pub stage-past : (end : ℕ) (best : Option MatchValue) (slots : Slots) (items : List ℕ) (rows : List Row) (i : ℕ) → items ≡ [] → is_some best ≡ false → s.last ≤ i
+      → Stage end (best_hit best slots) i (i + 1) nowhere rows items → next_until s end ≡ None
   stage-past end best slots items rows i none h le value =
-      unmapped (hit_of width) (next_until s from end)
-      (sym (over-past s.matcher s.states.now s.text.now s.starts.now s.utf8_empty end width s.last best slots items rows i (option_map (hit_of width) (next_until s from end)) none h le value))
+      unmapped (hit_of width) (next_until s end)
+      (sym (over-past s end width best slots items rows i (option_map (hit_of width) (next_until s end)) none h le value))
 
   -- the end was passed
-  pub stage-over : (end : ℕ) (best : Option (ℕ × ℕ × ℕ)) (slots : Slots) (items : List ℕ) (rows : List Row) (p : Passed) (i : ℕ) → end < i → s.last < i
-      → Stage end (best_hit best slots) i i p rows items → best_hit best slots ≡ option_map (hit_of width) (next_until s from end)
+  pub stage-over : (end : ℕ) (best : Option MatchValue) (slots : Slots) (items : List ℕ) (rows : List Row) (p : Passed) (i : ℕ) → end < i → s.last < i
+      → Stage end (best_hit best slots) i i p rows items → best_hit best slots ≡ option_map (hit_of width) (next_until s end)
   stage-over end best slots items rows p i lt past value =
-      over-end s.matcher s.states.now s.text.now s.starts.now s.utf8_empty end width s.last best slots items rows p i (option_map (hit_of width) (next_until s from end)) lt past value
+      over-end s end width best slots items rows p i (option_map (hit_of width) (next_until s end)) lt past value
 
   -- at its end, the first thread that accepts has the match
-  pub stage-accepted : (f : Option (ℕ × ℕ)) (best best' : Option (ℕ × ℕ × ℕ)) (slots : Slots) (old : Option Hit) (items : List ℕ) (rows : List Row) (i : ℕ)
-      → among s.states.now (automaton s.matcher s.states.now s.text.now i) nowhere i rows items ≡ accepted_hit f i slots
-      → IfSome f (λ f. best' ≡ Some (f.0, f.1, i)) → IfNone f (best' ≡ best) → best ≡ None → is_some best' ≡ true
-      → Stage i old i (i + 1) nowhere rows items → best_hit best' slots ≡ option_map (hit_of width) (next_until s from i)
-  stage-accepted None best best' slots old items rows i accepts some same none h value = absurd (true≢false (sym h ∙ ap is_some (same ∙ none)))
-  stage-accepted (Some f) best best' slots old items rows i accepts some same none h value =
-      ap (λ b. best_hit b slots) some ∙ (rw accepts at value)
+  pub stage-accepted : (f : Option Accepted) (best best' : Option MatchValue) (slots : Slots) (old : Option Hit) (items : List ℕ) (rows : List Row) (i : ℕ)
+      → among s.states.now (graph_until s i) nowhere i rows items ≡ best_hit (option_map (until i) f) slots
+      → best' ≡ option_or (option_map (until i) f) best → best ≡ None → is_some best' ≡ true
+      → Stage i old i (i + 1) nowhere rows items → best_hit best' slots ≡ option_map (hit_of width) (next_until s i)
+  stage-accepted None best best' slots old items rows i accepts better none h value = absurd (true≢false (sym h ∙ ap is_some (better ∙ none)))
+  stage-accepted (Some f) best best' slots old items rows i accepts better none h value =
+      ap (λ b. best_hit b slots) better ∙ (rw accepts at value)
+
+  -- its match began here or before
+  pub stage-in_order : (f : Option Accepted) (slots : Slots) (old : Option Hit) (items : List ℕ) (rows : List Row) (i : ℕ)
+      → among s.states.now (graph_until s i) nowhere i rows items ≡ best_hit (option_map (until i) f) slots
+      → Stage i old i (i + 1) nowhere rows items → IfSome f (λ f. f.start ≤ i)
+  stage-in_order None slots old items rows i accepts value = tt
+  stage-in_order (Some f) slots old items rows i accepts value = in_order (next_until s i) refl (rw accepts at value)
+    where
+      in_order : (o : Option Match) → next_until s i ≡ o → best_hit (Some (until i f)) slots ≡ option_map (hit_of width) o → f.start ≤ i
+      in_order None e h = none-is-some (sym h)
+      in_order (Some m) e h =
+          let up = until-in_order s i m e in
+          let begins : f.start ≡ m.start = ap (λ (x : Hit). x.0) (some-is h) in
+          let ends : i ≡ m.trace.end = ap (λ (x : Hit). x.1.end) (some-is h) in
+          omega arith
 
   -- and where none accepts there is none
-  pub stage-silent : (f : Option (ℕ × ℕ)) (slots : Slots) (old : Option Hit) (items : List ℕ) (rows : List Row) (i : ℕ)
-      → among s.states.now (automaton s.matcher s.states.now s.text.now i) nowhere i rows items ≡ accepted_hit f i slots
-      → f ≡ None → old ≡ None → Stage i old i (i + 1) nowhere rows items → next_until s from i ≡ None
+  pub stage-silent : (f : Option Accepted) (slots : Slots) (old : Option Hit) (items : List ℕ) (rows : List Row) (i : ℕ)
+      → among s.states.now (graph_until s i) nowhere i rows items ≡ best_hit (option_map (until i) f) slots
+      → f ≡ None → old ≡ None → Stage i old i (i + 1) nowhere rows items → next_until s i ≡ None
   stage-silent f slots old items rows i accepts none unmatched value =
-      unmapped (hit_of width) (next_until s from i)
-      (sym (sym (ap (λ o. option_or o (later_starts s.matcher s.states.now s.text.now s.starts.now s.utf8_empty i width None s.last (i + 1) nowhere)) (accepts ∙ ap (λ o. accepted_hit o i slots) none)
-      ∙ ap (option_map (hit_of width)) (starts-beyond s.matcher s.states.now s.text.now s.starts.now s.utf8_empty i width s.last (i + 1) (omega arith)))
+      unmapped (hit_of width) (next_until s i)
+      (sym (sym (ap (λ o. option_or o (later_starts s i width None (i + 1) nowhere)) (accepts ∙ ap (λ o. best_hit (option_map (until i) o) slots) none)
+      ∙ ap (option_map (hit_of width)) (starts-beyond s i width (i + 1) (omega arith)))
       ∙ (rw unmatched at value)))
 
 -- the search stops at the first place by which a match ends
-pub answer-stopped : (s : Search) (from place : ℕ) (earliest : Bool) → earliest ≡ true → from ≤ place → place ≤ s.end → ((e : ℕ) → from ≤ e → e < place → next_until s from e ≡ None)
-    → is_some (next_until s from place) ≡ true → next_until s from place ≡ answer_of s earliest from
-answer-stopped s from place earliest on low high none here =
-    ap (next_until s from) (sym (first_place-is (λ e. is_some (next_until s from e)) s.end (s.end - from) from place low (omega arith) (omega arith) (λ e le lt. ap is_some (none e le lt)) here))
-    ∙ ap (λ b. answer_of s b from) (sym on)
+pub answer-stopped : (s : Search) (place : ℕ) (earliest : Bool) → earliest ≡ true → s.first ≤ place → place ≤ s.end → ((e : ℕ) → s.first ≤ e → e < place → next_until s e ≡ None)
+    → is_some (next_until s place) ≡ true → next_until s place ≡ answer_of s earliest
+answer-stopped s place earliest on low high none here =
+    ap (next_until s) (sym (first_place-is (λ e. is_some (next_until s e)) s.end (s.end - s.first) s.first place low (omega arith) (omega arith) (λ e le lt. ap is_some (none e le lt)) here))
+    ∙ ap (λ b. answer_of s b) (sym on)
 
 -- where no match ends at all, it finds none
-pub answer-none : (s : Search) (from : ℕ) (earliest : Bool) → earliest ≡ true → from ≤ s.end → ((e : ℕ) → from ≤ e → e ≤ s.end → next_until s from e ≡ None) → answer_of s earliest from ≡ None
-answer-none s from earliest on le none =
-    let w = first_place-within (λ e. is_some (next_until s from e)) s.end (s.end - from) from (omega arith) in
+pub answer-none : (s : Search) (earliest : Bool) → earliest ≡ true → s.first ≤ s.end → ((e : ℕ) → s.first ≤ e → e ≤ s.end → next_until s e ≡ None) → answer_of s earliest ≡ None
+answer-none s earliest on le none =
+    let w = first_place-within (λ e. is_some (next_until s e)) s.end (s.end - s.first) s.first (omega arith) in
     let low = w.0 in
     let high = w.1 in
-    ap (λ b. answer_of s b from) on ∙ none (first_place (λ e. is_some (next_until s from e)) s.end (s.end - from) from) low (omega arith)
+    ap (λ b. answer_of s b) on ∙ none (first_place (λ e. is_some (next_until s e)) s.end (s.end - s.first) s.first) low (omega arith)
 
 -- without `earliest` it answers the next match
-pub answer-late : (s : Search) (from : ℕ) (earliest : Bool) → earliest ≡ false → next_of s from ≡ answer_of s earliest from
-answer-late s from earliest off = ap (λ b. answer_of s b from) (sym off)
+pub answer-late : (s : Search) (earliest : Bool) → earliest ≡ false → next_of s ≡ answer_of s earliest
+answer-late s earliest off = ap (λ b. answer_of s b) (sym off)

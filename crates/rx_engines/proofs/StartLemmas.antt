@@ -1,6 +1,6 @@
 -- The starts of a search that are still to come.
 use Rattle.std.proofs.Common.{◌≡◌, ℕ, zero, suc, ◌+◌, ◌-◌, ◌≤◌, ◌<◌, List, [], ◌∷◌, length, refl, sym, ◌∙◌, ap, arith, true≢false, inl, inr, get_or, drop}
-use Rattle.std.specs.Prelude.{nat_le, Bool, true, false, Option, Some, None, option_map, is_some, replicate, IfSome, IfNone, min, nat_lt, if◌then◌else◌}
+use Rattle.std.specs.Prelude.{Bool, true, false, Option, Some, None, option_map, is_some, replicate, IfSome, IfNone, min, nat_lt, if◌then◌else◌}
 use Rattle.std.proofs.lemmas.List.{length-replicate, get_or_past}
 use Rattle.std.proofs.lemmas.Bool.Decides.{nat_tests}
 use Rattle.std.specs.Option.{option_or}
@@ -11,9 +11,10 @@ use Rattle.rx_model.proofs.FirstLemmas.{none-is-some, some-is}
 use Rattle.rx_model.proofs.RiseLemmas.{found-end}
 use Rattle.rx_model.proofs.FoundLemmas.{found-prune, found-forget, option_map-or}
 use Rattle.rx_nfa.proofs.NextMatchLemmas.{first_start-alike}
+use Rattle.rx_search.specs.Matches.{MatchValue, match_value}
 use Rattle.rx_nfa.specs.Automaton.{at, automaton, state_at}
 use Rattle.rx_engines.specs.Walk.{Slots, answer, pending}
-use Rattle.rx_engines.specs.Search.{triple}
+use Rattle.rx_engines.specs.Search.{graph_until}
 use Rattle.rx_nfa.specs.declared.state.State.{State}
 use Rattle.rx_engines.specs.declared.frame.Frame.TheVariants.{Explore}
 use Rattle.rx_nfa.proofs.AutomatonLemmas.{automaton-rises, automaton-accepts-within}
@@ -23,8 +24,9 @@ use Rattle.rx_engines.proofs.OptionLemmas.{or-none_right, tells, or-assoc}
 use Rattle.std.proofs.Math.Seq.{drop-cons}
 use Rattle.std.proofs.lemmas.List.{drop_all}
 use Rattle.rx_engines.specs.Threads.{Row}
-use Rattle.rx_engines.specs.Simulation.{is_resting, Closed, passed_at, Hit, hit, hit_of, best_hit, among, IsStable, Waits, Stepped, from_starts, later_starts}
-use Rattle.rx_engines.specs.Simulation.{first_of}
+use Rattle.rx_engines.specs.declared.search.Search.{Search}
+use Rattle.rx_engines.specs.declared.pikevm.step.Accepted.{Accepted}
+use Rattle.rx_engines.specs.Simulation.{is_resting, Closed, passed_at, Hit, hit, hit_of, best_hit, until, among, IsStable, Waits, Stepped, from_starts, later_starts}
 use Rattle.rx_engines.proofs.SimulationLemmas.{passed_at-elsewhere}
 
 -- where no start tells anything
@@ -48,14 +50,6 @@ pub start-hit : (width i : ℕ) (o : Option Trace) → option_map (hit_of width)
 start-hit width i None = refl
 start-hit width i (Some t) = refl
 
-first_of-alike : (f h : Configuration → Option Trace) (ss : List ℕ) (i : ℕ) → ((q : ℕ) → f (at q i) ≡ h (at q i)) → first_of f ss i ≡ first_of h ss i
-first_of-alike f h [] i alike = refl
-first_of-alike f h (q ∷ qs) i alike = rw (alike q, first_of-alike f h qs i alike) refl
-
-hit-or : (i width : ℕ) (a b : Option Trace) → hit i (answer (replicate width None) (option_or a b)) ≡ option_or (hit i (answer (replicate width None) a)) (hit i (answer (replicate width None) b))
-hit-or i width None b = refl
-hit-or i width (Some t) b = refl
-
 pub no_best : {A : Type 0} (best : Option A) → false ≡ is_some best → best ≡ None
 no_best None h = refl
 no_best (Some x) h = absurd (true≢false (sym h))
@@ -64,206 +58,157 @@ pub some_best : {A : Type 0} (best : Option A) → true ≡ is_some best → (x 
 some_best None h = absurd (true≢false h)
 some_best (Some x) h = (x, refl)
 
-module _ (terminator : ℕ) (states : List State) (text : List ℕ) (states_of_start : List ℕ) (utf8_empty : Bool) (end width last : ℕ) where
+-- no run that is found starts past the end
+pub found-beyond : (terminator : ℕ) (states : List State) (text : List ℕ) (end q i : ℕ) → end < i → found (automaton terminator states text end) nowhere (at q i) ≡ None
+found-beyond terminator states text end q i lt =
+    elim (tells (found (automaton terminator states text end) nowhere (at q i))) [
+      | inl none ↦ none
+      | inr some ↦
+          let ends = found-end (automaton terminator states text end) (automaton-bounded terminator states text end) (automaton-rises terminator states text end) end (automaton-accepts-within terminator states text end) nowhere (at q i) some.0 some.1 in
+          absurd (let a = ends.0 in let b = ends.1 in omega arith)
+    ]
+
+module _ (s : Search) (end width : ℕ) where
   abbrev g : PriorityGraph
-  g = automaton terminator states text end
+  g = graph_until s end
+
+  abbrev threads : ℕ → List Row → List ℕ → Option Hit
+  threads i rows items = among s.states.now g nowhere i rows items
 
   abbrev starts : Passed → ℕ → Option Match
-  starts p i = from_starts terminator states text states_of_start utf8_empty end p last i
+  starts p i = from_starts s end p i
 
   abbrev later : Option Hit → ℕ → Passed → Option Hit
-  later best i p = later_starts terminator states text states_of_start utf8_empty end width best last i p
+  later best i p = later_starts s end width best i p
 
   pub later-stable : (best : Option Hit) (i : ℕ) → IsStable g (later best i)
   later-stable best i p x nothing =
       ap (λ m. option_or best (option_map (hit_of width) m))
-      (first_start-alike (is_permitted utf8_empty text) (first_of (found g p) states_of_start) (first_of (found g (and_at x p)) states_of_start) (last + 1 - i) i (λ j le. first_of-alike (found g p) (found g (and_at x p)) states_of_start j (λ q. found-prune g p x (at q j) nothing)))
+      (first_start-alike (is_permitted s.utf8 s.text.now) (λ j. found g p (at s.start j)) (λ j. found g (and_at x p) (at s.start j)) (s.last + 1 - i) i (λ j le. found-prune g p x (at s.start j) nothing))
 
   -- what was passed before a start doesn't matter
   pub later-forget : (best : Option Hit) (items : List ℕ) (i : ℕ) → later best (i + 1) (passed_at items i) ≡ later best (i + 1) nowhere
   later-forget best items i =
       ap (λ m. option_or best (option_map (hit_of width) m))
-      (first_start-alike (is_permitted utf8_empty text) (first_of (found g (passed_at items i)) states_of_start) (first_of (found g nowhere) states_of_start) (last + 1 - (i + 1)) (i + 1)
-      (λ j le. first_of-alike (found g (passed_at items i)) (found g nowhere) states_of_start j
-      (λ q. found-forget g (automaton-rises terminator states text end) (passed_at items i) nowhere (at q j) (λ d above. passed_at-elsewhere items i d (omega arith)))))
+      (first_start-alike (is_permitted s.utf8 s.text.now) (λ j. found g (passed_at items i) (at s.start j)) (λ j. found g nowhere (at s.start j)) (s.last + 1 - (i + 1)) (i + 1)
+      (λ j le. found-forget g (automaton-rises s.matcher s.states.now s.text.now end) (passed_at items i) nowhere (at s.start j) (λ d above. passed_at-elsewhere items i d (omega arith))))
 
-  pub starts-over : (p : Passed) (i : ℕ) → last < i → starts p i ≡ None
+  pub starts-over : (p : Passed) (i : ℕ) → s.last < i → starts p i ≡ None
   unfolding first_start
-  starts-over p i lt = let e : last + 1 - i ≡ 0 = omega arith in rw e refl
+  starts-over p i lt = let e : s.last + 1 - i ≡ 0 = omega arith in rw e refl
 
-  pub starts-here : (p : Passed) (i : ℕ) → i ≤ last → is_permitted utf8_empty text i ≡ true → starts p i ≡ option_or (option_map (λ t. record { start = i; trace = t }) (first_of (found g p) states_of_start i)) (starts p (i + 1))
+  starts-here : (p : Passed) (i : ℕ) → i ≤ s.last → is_permitted s.utf8 s.text.now i ≡ true → starts p i ≡ option_or (option_map (λ t. record { start = i; trace = t }) (found g p (at s.start i))) (starts p (i + 1))
   unfolding first_start
-  starts-here p i le allowed = let e : last + 1 - i ≡ suc (last + 1 - (i + 1)) = omega arith in rw (e, allowed) refl
+  starts-here p i le allowed = let e : s.last + 1 - i ≡ suc (s.last + 1 - (i + 1)) = omega arith in rw (e, allowed) refl
 
-  pub starts-not_here : (p : Passed) (i : ℕ) → i ≤ last → is_permitted utf8_empty text i ≡ false → starts p i ≡ starts p (i + 1)
+  starts-not_here : (p : Passed) (i : ℕ) → i ≤ s.last → is_permitted s.utf8 s.text.now i ≡ false → starts p i ≡ starts p (i + 1)
   unfolding first_start
-  starts-not_here p i le forbidden = let e : last + 1 - i ≡ suc (last + 1 - (i + 1)) = omega arith in rw (e, forbidden) refl
-
-  none-here : (p : Passed) (i : ℕ) → first_of (found g p) states_of_start i ≡ None → starts p i ≡ starts p (i + 1)
-  none-here p i none =
-      by_test (nat_le i last)
-      (λ le. by_test (is_permitted utf8_empty text i)
-      (λ allowed. starts-here p i (grind (arith, nat_tests)) allowed ∙ ap (λ o. option_or (option_map (λ t. record { start = i; trace = t }) o) (starts p (i + 1))) none)
-      (λ forbidden. starts-not_here p i (grind (arith, nat_tests)) forbidden))
-      (λ past. let lt : last < i = grind (arith, nat_tests) in starts-over p i lt ∙ sym (starts-over p (i + 1) (omega arith)))
-
-  -- a search without threads and without a match may go on from a later place, where nothing starts before that
-  pub starts-skip : (p : Passed) (n i : ℕ) → ((k : ℕ) → i ≤ k → k < i + n → first_of (found g p) states_of_start k ≡ None) → starts p i ≡ starts p (i + n)
-  starts-skip p zero i none = let e : i ≡ i + 0 = omega arith in ap (starts p) e
-  starts-skip p (suc n) i none =
-      let e : i + 1 + n ≡ i + suc n = omega arith in
-      none-here p i (none i (omega arith) (omega arith)) ∙ starts-skip p n (i + 1) (λ k le lt. none k (omega arith) (omega arith)) ∙ ap (starts p) e
+  starts-not_here p i le forbidden = let e : s.last + 1 - i ≡ suc (s.last + 1 - (i + 1)) = omega arith in rw (e, forbidden) refl
 
   -- nothing starts here: there is a match already,
   pub unseeded-matched : (best front goal : Option Hit) (p p' : Passed) (i : ℕ) → true ≡ is_some best → option_or front (later best i p) ≡ goal → option_or front (later best (i + 1) p') ≡ goal
   unseeded-matched best front goal p p' i matched value = let b = some_best best matched in rw b.1 (rw b.1 at value)
 
   -- or no start is left,
-  pub unseeded-past : (best front goal : Option Hit) (p p' : Passed) (i : ℕ) → last < i → option_or front (later best i p) ≡ goal → option_or front (later best (i + 1) p') ≡ goal
+  pub unseeded-past : (best front goal : Option Hit) (p p' : Passed) (i : ℕ) → s.last < i → option_or front (later best i p) ≡ goal → option_or front (later best (i + 1) p') ≡ goal
   unseeded-past best front goal p p' i lt value = rw (starts-over p' (i + 1) (omega arith)) (rw (starts-over p i lt) at value)
 
   -- or none may be here
-  pub unseeded-forbidden : (best front goal : Option Hit) (items : List ℕ) (i : ℕ) → i ≤ last → is_permitted utf8_empty text i ≡ false → option_or front (later best i (passed_at items i)) ≡ goal → option_or front (later best (i + 1) nowhere) ≡ goal
+  pub unseeded-forbidden : (best front goal : Option Hit) (items : List ℕ) (i : ℕ) → i ≤ s.last → is_permitted s.utf8 s.text.now i ≡ false → option_or front (later best i (passed_at items i)) ≡ goal → option_or front (later best (i + 1) nowhere) ≡ goal
   unseeded-forbidden best front goal items i le forbidden value =
       ap (option_or front) (sym (later-forget best items i)) ∙ rw (starts-not_here (passed_at items i) i le forbidden) at value
 
-  -- what the starts that are left lead to from place i, and then what comes later
-  abbrev seeds : ℕ → List ℕ → Passed → Option Hit
-  seeds i ss p = hit i (answer (replicate width None) (first_of (found g p) ss i))
-
-  abbrev pub after_seeds : Option Hit → ℕ → List ℕ → Passed → Option Hit
-  after_seeds best i ss p = option_or (seeds i ss p) (later best (i + 1) p)
-
-  pub after_seeds-stable : (best : Option Hit) (i : ℕ) (ss : List ℕ) → IsStable g (after_seeds best i ss)
-  after_seeds-stable best i ss p x nothing j =
-      option_or (hit i (answer (replicate width None) (first_of-alike (found g p) (found g (and_at x p)) ss i (λ q. found-prune g p x (at q i) nothing) j))) (later-stable best (i + 1) p x nothing j)
-
-  -- threads start here
-  pub seeding : (best goal : Option Hit) (items : List ℕ) (rows : List Row) (i : ℕ) → false ≡ is_some best → i ≤ last → is_permitted utf8_empty text i ≡ true
-      → option_or (among states g nowhere i rows items) (later best i (passed_at items i)) ≡ goal
-      → Closed states g i (after_seeds best i states_of_start) items rows goal
+  -- a thread starts here
+  pub seeding : (best goal : Option Hit) (items : List ℕ) (rows : List Row) (i : ℕ) → false ≡ is_some best → i ≤ s.last → is_permitted s.utf8 s.text.now i ≡ true
+      → option_or (threads i rows items) (later best i (passed_at items i)) ≡ goal
+      → Waits s.states.now g i i (later best (i + 1)) items rows (Explore s.start i ∷ []) (replicate width None) goal
+  unfolding pending
   seeding best goal items rows i unmatched le allowed value =
       let none = no_best best unmatched in
       let p = passed_at items i in
       record {
         value =
-            (λ j. option_or (among states g nowhere i rows items) (after_seeds (none j) i states_of_start p))
-            ∙ ap (option_or (among states g nowhere i rows items))
-            ((λ j. option_or (sym (start-hit width i (first_of (found g p) states_of_start i)) j) (option_map (hit_of width) (starts p (i + 1))))
-            ∙ sym (option_map-or (hit_of width) (option_map (λ t. record { start = i; trace = t }) (first_of (found g p) states_of_start i)) (starts p (i + 1)))
+            (λ j. option_or (threads i rows items) (option_or (hit i (or-none_right (answer (replicate width None) (found g p (at s.start i))) j)) (later (none j) (i + 1) p)))
+            ∙ ap (option_or (threads i rows items))
+            ((λ j. option_or (sym (start-hit width i (found g p (at s.start i))) j) (option_map (hit_of width) (starts p (i + 1))))
+            ∙ sym (option_map-or (hit_of width) (option_map (λ t. record { start = i; trace = t }) (found g p (at s.start i))) (starts p (i + 1)))
             ∙ ap (option_map (hit_of width)) (sym (starts-here p i le allowed)))
-            ∙ (λ j. option_or (among states g nowhere i rows items) (later (sym none j) i p))
+            ∙ (λ j. option_or (threads i rows items) (later (sym none j) i p))
             ∙ value;
       }
 
-  -- the first of the starts
-  pub seeding-first : (best goal : Option Hit) (items : List ℕ) (rows : List Row) (i k q : ℕ) → k < length states_of_start → q ≡ get_or states_of_start k 0
-      → Closed states g i (after_seeds best i (drop k states_of_start)) items rows goal
-      → Waits states g i i (after_seeds best i (drop (k + 1) states_of_start)) items rows (Explore q i ∷ []) (replicate width None) goal
-  unfolding pending
-  seeding-first best goal items rows i k q lt is c =
-      let p = passed_at items i in
-      let more : suc k ≡ k + 1 = omega arith in
-      let left : drop k states_of_start ≡ q ∷ drop (k + 1) states_of_start = drop-cons states_of_start k 0 lt ∙ (λ j. sym is j ∷ drop (more j) states_of_start) in
-      record {
-        value =
-            (λ j. option_or (among states g nowhere i rows items) (option_or (hit i (or-none_right (answer (replicate width None) (found g p (at q i))) j)) (after_seeds best i (drop (k + 1) states_of_start) p)))
-            ∙ ap (option_or (among states g nowhere i rows items))
-            (sym (or-assoc (hit i (answer (replicate width None) (found g p (at q i)))) (seeds i (drop (k + 1) states_of_start) p) (later best (i + 1) p))
-            ∙ ap (λ o. option_or o (later best (i + 1) p)) (sym (hit-or i width (found g p (at q i)) (first_of (found g p) (drop (k + 1) states_of_start) i))))
-            ∙ (λ j. option_or (among states g nowhere i rows items) (after_seeds best i (sym left j) p))
-            ∙ c.value;
-      }
-
-  -- no start is left
-  pub seeding-over : (best goal : Option Hit) (items : List ℕ) (rows : List Row) (i k : ℕ) → length states_of_start ≤ k
-      → Closed states g i (after_seeds best i (drop k states_of_start)) items rows goal
-      → option_or (among states g nowhere i rows items) (later best (i + 1) nowhere) ≡ goal
-  seeding-over best goal items rows i k le c =
-      ap (option_or (among states g nowhere i rows items)) (sym (later-forget best items i))
-      ∙ (λ j. option_or (among states g nowhere i rows items) (after_seeds best i (sym (drop_all k states_of_start le) j) (passed_at items i)))
-      ∙ c.value
+  -- it has started
+  pub seeded : (best goal : Option Hit) (items : List ℕ) (rows : List Row) (i : ℕ) → Closed s.states.now g i (later best (i + 1)) items rows goal
+      → option_or (threads i rows items) (later best (i + 1) nowhere) ≡ goal
+  seeded best goal items rows i c = ap (option_or (threads i rows items)) (sym (later-forget best items i)) ∙ c.value
 
   -- a step is done
-  pub after-step : (found : Option (ℕ × ℕ)) (best best' : Option (ℕ × ℕ × ℕ)) (slots slots' : Slots) (items : List ℕ) (rows : List Row) (i : ℕ) (goal : Option Hit)
-      → Stepped found states g i (later (best_hit best slots) (i + 1)) items rows slots' goal
-      → IfSome found (λ f. best' ≡ Some (f.0, f.1, i)) → IfNone found (best' ≡ best) → IfNone found (slots' ≡ slots)
-      → option_or (among states g nowhere (i + 1) rows items) (later (best_hit best' slots') (i + 1) (passed_at items (i + 1))) ≡ goal
-  after-step None best best' slots slots' items rows i goal stepped some none kept = rw (none, kept) stepped.value
-  after-step (Some f) best best' slots slots' items rows i goal stepped some none kept = rw some stepped
+  pub after-step : (found : Option Accepted) (best best' : Option MatchValue) (slots slots' : Slots) (items : List ℕ) (rows : List Row) (i : ℕ) (goal : Option Hit)
+      → Stepped found s.states.now g i (later (best_hit best slots) (i + 1)) items rows slots' goal
+      → best' ≡ option_or (option_map (until i) found) best → IfNone found (slots' ≡ slots)
+      → option_or (threads (i + 1) rows items) (later (best_hit best' slots') (i + 1) (passed_at items (i + 1))) ≡ goal
+  after-step None best best' slots slots' items rows i goal stepped better kept = rw (better, kept) stepped.value
+  after-step (Some f) best best' slots slots' items rows i goal stepped better kept = rw better stepped
 
   -- the search is over: no thread is alive,
-  pub over-matched : (best : Option (ℕ × ℕ × ℕ)) (slots : Slots) (items : List ℕ) (rows : List Row) (i : ℕ) (goal : Option Hit) → items ≡ [] → is_some best ≡ true
-      → option_or (among states g nowhere i rows items) (later (best_hit best slots) (i + 1) nowhere) ≡ goal → best_hit best slots ≡ goal
+  pub over-matched : (best : Option MatchValue) (slots : Slots) (items : List ℕ) (rows : List Row) (i : ℕ) (goal : Option Hit) → items ≡ [] → is_some best ≡ true
+      → option_or (threads i rows items) (later (best_hit best slots) (i + 1) nowhere) ≡ goal → best_hit best slots ≡ goal
   unfolding among
   over-matched None slots items rows i goal none h value = absurd (true≢false (sym h))
   over-matched (Some b) slots items rows i goal none h value = rw none at value
 
-  pub over-past : (best : Option (ℕ × ℕ × ℕ)) (slots : Slots) (items : List ℕ) (rows : List Row) (i : ℕ) (goal : Option Hit) → items ≡ [] → is_some best ≡ false → last ≤ i
-      → option_or (among states g nowhere i rows items) (later (best_hit best slots) (i + 1) nowhere) ≡ goal → None ≡ goal
+  pub over-past : (best : Option MatchValue) (slots : Slots) (items : List ℕ) (rows : List Row) (i : ℕ) (goal : Option Hit) → items ≡ [] → is_some best ≡ false → s.last ≤ i
+      → option_or (threads i rows items) (later (best_hit best slots) (i + 1) nowhere) ≡ goal → None ≡ goal
   unfolding among
   over-past (Some b) slots items rows i goal none h le value = absurd (true≢false h)
   over-past None slots items rows i goal none h le value = rw (starts-over nowhere (i + 1) (omega arith)) at (rw none at value)
 
-  beyond : (q i : ℕ) → end < i → found g nowhere (at q i) ≡ None
-  beyond q i lt =
-      elim (tells (found g nowhere (at q i))) [
-        | inl none ↦ none
-        | inr some ↦
-            let ends = found-end g (automaton-bounded terminator states text end) (automaton-rises terminator states text end) end (automaton-accepts-within terminator states text end) nowhere (at q i) some.0 some.1 in
-            absurd (let a = ends.0 in let b = ends.1 in omega arith)
-      ]
-
-  among-beyond : (i : ℕ) (rows : List Row) (qs : List ℕ) → end < i → among states g nowhere i rows qs ≡ None
+  among-beyond : (i : ℕ) (rows : List Row) (qs : List ℕ) → end < i → threads i rows qs ≡ None
   unfolding among
   among-beyond i rows [] lt = refl
   among-beyond i rows (q ∷ qs) lt =
-      rw (beyond q i lt, among-beyond i rows qs lt) (by_test (is_resting (state_at states q)) (λ e. rw e refl) (λ e. rw e refl))
-
-  pub first_of-beyond : (ss : List ℕ) (i : ℕ) → end < i → first_of (found g nowhere) ss i ≡ None
-  first_of-beyond [] i lt = refl
-  first_of-beyond (q ∷ qs) i lt = rw (beyond q i lt, first_of-beyond qs i lt) refl
+      rw (found-beyond s.matcher s.states.now s.text.now end q i lt, among-beyond i rows qs lt) (by_test (is_resting (state_at s.states.now q)) (λ e. rw e refl) (λ e. rw e refl))
 
   -- nothing starts past the end
   pub starts-beyond : (i : ℕ) → end < i → starts nowhere i ≡ None
-  starts-beyond i lt = first_start-none (is_permitted utf8_empty text) (first_of (found g nowhere) states_of_start) (last + 1 - i) i (λ j le. first_of-beyond states_of_start j (omega arith))
+  starts-beyond i lt = first_start-none (is_permitted s.utf8 s.text.now) (λ j. found g nowhere (at s.start j)) (s.last + 1 - i) i (λ j le. found-beyond s.matcher s.states.now s.text.now end s.start j (omega arith))
 
   -- or the span is over
-  pub over-end : (best : Option (ℕ × ℕ × ℕ)) (slots : Slots) (items : List ℕ) (rows : List Row) (p : Passed) (i : ℕ) (goal : Option Hit) → end < i → last < i
-      → option_or (among states g nowhere i rows items) (later (best_hit best slots) i p) ≡ goal → best_hit best slots ≡ goal
+  pub over-end : (best : Option MatchValue) (slots : Slots) (items : List ℕ) (rows : List Row) (p : Passed) (i : ℕ) (goal : Option Hit) → end < i → s.last < i
+      → option_or (threads i rows items) (later (best_hit best slots) i p) ≡ goal → best_hit best slots ≡ goal
   over-end best slots items rows p i goal lt past value =
       sym (or-none_right (best_hit best slots)) ∙ rw (starts-over p i past) at (rw (among-beyond i rows items lt) at value)
 
-pub best-some : (best : Option (ℕ × ℕ × ℕ)) (slots : Slots) → is_some (best_hit best slots) ≡ is_some best
+pub best-some : (best : Option MatchValue) (slots : Slots) → is_some (best_hit best slots) ≡ is_some best
 best-some None slots = refl
 best-some (Some b) slots = refl
 
-pub cleared-after : {A : Type 0} (found : Option (ℕ × ℕ)) (best best' : Option (ℕ × ℕ × ℕ)) (i : ℕ) (slots slots' none : A) → IfSome found (λ f. best' ≡ Some (f.0, f.1, i)) → IfNone found (best' ≡ best) → IfNone found (slots' ≡ slots)
+pub cleared-after : {A : Type 0} (found : Option Accepted) (best best' : Option MatchValue) (i : ℕ) (slots slots' none : A) → best' ≡ option_or (option_map (until i) found) best → IfNone found (slots' ≡ slots)
     → IfNone best (slots ≡ none) → IfNone best' (slots' ≡ none)
-cleared-after None best best' i slots slots' none some same kept cleared = rw (same, kept) cleared
-cleared-after (Some f) best best' i slots slots' none some same kept cleared = rw some tt
+cleared-after None best best' i slots slots' none better kept cleared = rw (better, kept) cleared
+cleared-after (Some f) best best' i slots slots' none better kept cleared = rw better tt
 
 -- what was reported is the match
-pub reported-value : (best : Option (ℕ × ℕ × ℕ)) (slots : Slots) (width : ℕ) (m : Option Match) → best_hit best slots ≡ option_map (hit_of width) m → best ≡ option_map triple m
+pub reported-value : (best : Option MatchValue) (slots : Slots) (width : ℕ) (m : Option Match) → best_hit best slots ≡ option_map (hit_of width) m → best ≡ option_map match_value m
 reported-value None slots width None h = refl
 reported-value None slots width (Some m) h = none-is-some h
 reported-value (Some b) slots width None h = none-is-some (sym h)
 reported-value (Some b) slots width (Some m) h =
     let e = some-is h in
-    let pattern : b.0 ≡ m.trace.pattern = ap (λ (x : Hit). x.1.pattern) e in
-    let first : b.1 ≡ m.start = ap (λ (x : Hit). x.0) e in
-    let stop : b.2 ≡ m.trace.end = ap (λ (x : Hit). x.1.end) e in
-    λ j. Some (pattern j, first j, stop j)
+    let pattern : b.pattern ≡ m.trace.pattern = ap (λ (x : Hit). x.1.pattern) e in
+    let first : b.start ≡ m.start = ap (λ (x : Hit). x.0) e in
+    let stop : b.end ≡ m.trace.end = ap (λ (x : Hit). x.1.end) e in
+    λ j. Some (record { pattern = pattern j; start = first j; end = stop j })
 
-row-length : (b : ℕ × ℕ × ℕ) (row : Slots) (width : ℕ) (m : Match) → best_hit (Some b) row ≡ Some (hit_of width m) → length row ≡ width
+row-length : (b : MatchValue) (row : Slots) (width : ℕ) (m : Match) → best_hit (Some b) row ≡ Some (hit_of width m) → length row ≡ width
 row-length b row width m h =
     ap (λ (x : Hit). length x.1.slots) (some-is h) ∙ length-write_all m.trace.writes (replicate width None) ∙ length-replicate width None
 
-row-slots : (b : ℕ × ℕ × ℕ) (row : Slots) (width : ℕ) (m : Match) → best_hit (Some b) row ≡ Some (hit_of width m) → (k : ℕ) → k < width → get_or row k None ≡ slot_value m k
+row-slots : (b : MatchValue) (row : Slots) (width : ℕ) (m : Match) → best_hit (Some b) row ≡ Some (hit_of width m) → (k : ℕ) → k < width → get_or row k None ≡ slot_value m k
 row-slots b row width m h k lt = ap (λ (x : Hit). get_or x.1.slots k None) (some-is h) ∙ slot-of_match width k m.trace.writes lt
 
 -- the slots that were given, of which so many fit
-pub reported-slots : (best : Option (ℕ × ℕ × ℕ)) (row slots : Slots) (width widest : ℕ) (m : Option Match) → best_hit best row ≡ option_map (hit_of width) m → width ≡ min (length slots) widest
+pub reported-slots : (best : Option MatchValue) (row slots : Slots) (width widest : ℕ) (m : Option Match) → best_hit best row ≡ option_map (hit_of width) m → width ≡ min (length slots) widest
     → ((k : ℕ) → k < length slots → get_or slots k None ≡ get_or row k None) → IfSome m (λ m. (k : ℕ) → k < length slots → get_or slots k None ≡ (if nat_lt k widest then slot_value m k else None))
 reported-slots best row slots width widest None h fits each = tt
 reported-slots None row slots width widest (Some m) h fits each = none-is-some h
@@ -272,7 +217,7 @@ reported-slots (Some b) row slots width widest (Some m) h fits each = λ k lt.
     (λ e. let below : k < widest = grind (arith, nat_tests) in rw e (each k lt ∙ row-slots b row width m h k (omega arith)))
     (λ e. let above : widest ≤ k = grind (arith, nat_tests) in let long = row-length b row width m h in rw e (each k lt ∙ get_or_past row k None (omega arith)))
 
-pub reported-none : (best : Option (ℕ × ℕ × ℕ)) (row slots : Slots) (width n : ℕ) → IfNone best (row ≡ replicate width None) → length slots ≡ n
+pub reported-none : (best : Option MatchValue) (row slots : Slots) (width n : ℕ) → IfNone best (row ≡ replicate width None) → length slots ≡ n
     → ((k : ℕ) → k < length slots → get_or slots k None ≡ get_or row k None) → IfNone best (slots ≡ replicate n None)
 reported-none (Some b) row slots width n cleared long each = tt
 reported-none None row slots width n cleared long each =
@@ -282,14 +227,14 @@ pub none-left : (xs : List ℕ) → length xs ≡ 0 → xs ≡ []
 none-left [] h = refl
 none-left (x ∷ xs) h = absurd (omega arith)
 
-pub reported-some : (best : Option (ℕ × ℕ × ℕ)) (slots : Slots) (width : ℕ) (m : Option Match) → best_hit best slots ≡ option_map (hit_of width) m → is_some best ≡ is_some m
+pub reported-some : (best : Option MatchValue) (slots : Slots) (width : ℕ) (m : Option Match) → best_hit best slots ≡ option_map (hit_of width) m → is_some best ≡ is_some m
 reported-some None slots width None h = refl
 reported-some None slots width (Some m) h = none-is-some h
 reported-some (Some b) slots width None h = none-is-some (sym h)
 reported-some (Some b) slots width (Some m) h = refl
 
 -- a match is known, so there is one
-pub known-some : (front : Option Hit) (best : Option (ℕ × ℕ × ℕ)) (slots : Slots) (more : Option Hit) (width : ℕ) (m : Option Match) → is_some best ≡ true
+pub known-some : (front : Option Hit) (best : Option MatchValue) (slots : Slots) (more : Option Hit) (width : ℕ) (m : Option Match) → is_some best ≡ true
     → option_or front (option_or (best_hit best slots) more) ≡ option_map (hit_of width) m → is_some best ≡ is_some m
 known-some front None slots more width m h value = absurd (true≢false (sym h))
 known-some front (Some b) slots more width (Some m) h value = refl

@@ -14,7 +14,7 @@ use Rattle.rx_nfa.specs.Automaton.{automaton, route, read_byte, state_step, stat
 use Rattle.rx_nfa.specs.declared.state.Transition.{Transition}
 use Rattle.rx_nfa.specs.declared.state.State.TheVariants.{ByteRange, Sparse, Look, Union, Capture, Fail, Match as Accepts}
 use Rattle.rx_nfa.proofs.StateLemmas.{accepted-is, successors-is, written-is, state-known, names-known, read_byte-taken, read_byte-dead}
-use Rattle.rx_engines.specs.Simulation.{Acts, byte_at, onto, read_of, act_of}
+use Rattle.rx_engines.specs.Simulation.{byte_at, target_of, onto, act_of}
 use Rattle.rx_engines.specs.declared.pikevm.step.Action.{Action}
 use Rattle.rx_engines.specs.declared.pikevm.step.Action.TheVariants.{Accept, Read, Nothing}
 use Rattle.rx_nfa.proofs.AutomatonLemmas.{automaton-bounded}
@@ -130,6 +130,14 @@ Stepping-begun e value = rw e (record { value = value })
 
 -- What a state does at a byte, as the machine says it.
 
+-- what the action tells of the state, in the graph
+abbrev Acts : List State → PriorityGraph → ℕ → ℕ → ℕ → Action → Type 0
+Acts states g end q i (Accept pattern) = (is_resting (state_at states q) ≡ true) × (g.accepted (at q i) ≡ Some pattern)
+Acts states g end q i (Read next) =
+    (is_resting (state_at states q) ≡ true) × (next < length states) × (i < end) × (g.accepted (at q i) ≡ None) × (g.written (at q i) ≡ None) × (g.successors (at q i) ≡ at next (i + 1) ∷ [])
+Acts states g end q i Nothing =
+    (is_resting (state_at states q) ≡ false) ⊎ ((g.accepted (at q i) ≡ None) × (g.successors (at q i) ≡ []))
+
 onto-names : (n : ℕ) (ts : List Transition) (b next : ℕ) → All (λ (t : Transition). t.next < n) ts → route ts b ≡ Some next → next < n
 onto-names n [] b next all goes = none-is-some goes
 onto-names n (t ∷ ts) b next all goes =
@@ -140,7 +148,7 @@ onto-names n (t ∷ ts) b next all goes =
 module _ (terminator : ℕ) (states : List State) (text : List ℕ) (end q i : ℕ) (names : All (NamesBelow (length states)) states) (state : q < length states) (place : i ≤ end) where
   -- a state that reads a byte by these transitions
   acts-read : (s : State) (ts : List Transition) → state_at states q ≡ s → is_resting s ≡ true → state_accepts s ≡ None → state_writes s ≡ None → state_step terminator text end s i ≡ read_byte text end ts i
-      → All (λ (t : Transition). t.next < length states) ts → Acts states (automaton terminator states text end) end q i (read_of ts (byte_at text end i))
+      → All (λ (t : Transition). t.next < length states) ts → Acts states (automaton terminator states text end) end q i (onto (target_of ts (byte_at text end i)))
   acts-read s ts is rests none unwritten steps all =
       by_test (nat_lt i end)
       (λ e. rw e (at_byte (grind (arith, nat_tests)) (route ts (get_or text i 0)) refl))
@@ -182,7 +190,7 @@ idle (Accept pattern) = Accept pattern
 idle (Read next) = Nothing
 idle Nothing = Nothing
 
-idle-read : (ts : List Transition) (b : Option ℕ) → Nothing ≡ idle (read_of ts b)
+idle-read : (ts : List Transition) (b : Option ℕ) → Nothing ≡ idle (onto (target_of ts b))
 idle-read ts None = refl
 idle-read ts (Some byte) = each (route ts byte)
   where

@@ -10,9 +10,9 @@ use Rattle.rx_nfa.specs.Automaton.{at, automaton, state_at, state_step, state_ac
 use Rattle.rx_nfa.specs.declared.state.Transition.{Transition}
 use Rattle.rx_nfa.specs.declared.state.State.{State}
 use Rattle.rx_nfa.proofs.StateLemmas.{accepted-is, successors-is, written-is}
-use Rattle.rx_engines.specs.Walk.{Slots, explore_all}
-use Rattle.rx_engines.specs.Simulation.{byte_at}
-use Rattle.rx_engines.specs.Backtrack.{frames_of, target_of, onto, Saves, Yields, Stepped, AllWithin}
+use Rattle.rx_engines.specs.Walk.{Slots, AllWithin, explore_all}
+use Rattle.rx_engines.specs.Simulation.{byte_at, target_of}
+use Rattle.rx_engines.specs.Backtrack.{frames_of, onto, Saves, Yields, Stepped}
 use Rattle.rx_engines.specs.declared.frame.Frame.{Frame}
 use Rattle.rx_engines.specs.declared.frame.Frame.TheVariants.{Explore, Restore}
 

@@ -5,14 +5,16 @@ use Rattle.rx_model.specs.Runs.{Configuration, PriorityGraph, Passed, found, fir
 use Rattle.rx_model.specs.Search.{Match, is_permitted, first_start}
 use Rattle.rx_model.specs.Machine.{grid}
 use Rattle.rx_model.proofs.RunLemmas.{weight}
+use Rattle.rx_search.specs.Matches.{HalfMatchValue}
 use Rattle.rx_nfa.specs.Automaton.{at, automaton, state_at, route, NamesBelow}
 use Rattle.rx_nfa.specs.declared.state.State.{State}
 use Rattle.rx_nfa.specs.declared.state.Transition.{Transition}
-use Rattle.rx_engines.specs.Simulation.{cost, cost_below}
-use Rattle.rx_engines.specs.Walk.{Slots, Answer, pending, explore_all}
+use Rattle.rx_engines.specs.Simulation.{frames_of_state, frames_of_states}
+use Rattle.rx_engines.specs.Walk.{Slots, Answer, AllWithin, pending, explore_all}
 use Rattle.rx_engines.specs.declared.frame.Frame.{Frame}
 use Rattle.rx_engines.specs.declared.frame.Frame.TheVariants.{Explore, Restore}
-use Rattle.rx_engines.specs.declared.backtrack.search.Search.{Search}
+use Rattle.rx_engines.specs.Search.{graph_for}
+use Rattle.rx_engines.specs.declared.search.Search.{Search}
 use Rattle.rx_engines.specs.declared.backtrack.step.Onward.{Onward}
 use Rattle.rx_engines.specs.declared.backtrack.step.Onward.TheVariants.{Accept, To, Back}
 
@@ -24,26 +26,9 @@ is_set words n = bit_at (slice_index words (n / 64)) (n % 64) == 1
 abbrev pub extent : Search → ℕ
 extent s = (s.end + 1 - s.first) * length s.states.now
 
--- the states that are named are there, the places are in order, and there are few enough of both
-pub record IsInside (s : Search) : Type 0 where
-  pub names : All (NamesBelow (length s.states.now)) s.states.now
-  pub start : s.start < length s.states.now
-  pub first : s.first ≤ s.last
-  pub last : s.last ≤ s.end
-  pub end : s.end ≤ length s.text.now
-  pub small : extent s < 2 ^ 63
-
 -- how many frames these leave
 abbrev pub frames_of_span : Search → ℕ
-frames_of_span s = (s.end + 1 - s.first) * cost_below s.states.now (length s.states.now)
-
--- the graph whose runs are searched
-abbrev pub graph_for : Search → PriorityGraph
-graph_for s = automaton s.matcher s.states.now s.text.now s.end
-
--- the next match in the span
-abbrev pub next_of : Search → Option Match
-next_of s = first_start (is_permitted s.utf8 s.text.now) (λ i. first_trace (graph_for s) (at s.start i)) (s.last + 1 - s.first) s.first
+frames_of_span s = (s.end + 1 - s.first) * frames_of_states s.states.now (length s.states.now)
 
 -- the configurations of the span whose bit is set: a row of n states for each place
 unfoldable pub passed_in : (n first end : ℕ) → List ℕ → Passed
@@ -62,7 +47,7 @@ work s words = weight (λ c. length ((graph_for s).successors c) + 2) (grid (len
 -- set those that its state leaves. The numbers of a place are those of its states in order.
 unfoldable pub frames_below : List State → List ℕ → (n : ℕ) → ℕ
 frames_below states words zero = 0
-frames_below states words (suc n) = (if is_set words n then 0 else cost (state_at states (n % length states))) + frames_below states words n
+frames_below states words (suc n) = (if is_set words n then 0 else frames_of_state (state_at states (n % length states))) + frames_below states words n
 
 -- the same of the whole span
 abbrev pub frames_left : Search → List ℕ → ℕ
@@ -71,12 +56,6 @@ frames_left s words = frames_below s.states.now words (extent s)
 -- what was passed leads to nothing
 abbrev pub IsDead : PriorityGraph → Passed → Type 0
 IsDead g passed = (c : Configuration) → found g passed c ≡ first_trace g c
-
--- each frame to explore is a state below n at a place of the span
-abbrev pub AllWithin : (n first end : ℕ) → List Frame → Type 0
-AllWithin n first end [] = Unit {0}
-AllWithin n first end (Explore q i ∷ rest) = (q < n) × (first ≤ i) × (i ≤ end) × AllWithin n first end rest
-AllWithin n first end (Restore slot old ∷ rest) = AllWithin n first end rest
 
 abbrev pub AllInside : Search → List Frame → Type 0
 AllInside s frames = AllWithin (length s.states.now) s.first s.end frames
@@ -91,11 +70,6 @@ frames_of Back rest = rest
 abbrev pub onto : Option ℕ → ℕ → Onward
 onto None i = Back
 onto (Some q) i = To q i
-
--- where the byte leads to, if there is one
-abbrev pub target_of : List Transition → Option ℕ → Option ℕ
-target_of ts None = None
-target_of ts (Some byte) = route ts byte
 
 -- the place is in the slot, and its old value on the stack, where there is room for the slot
 abbrev pub Saves : (slot place : ℕ) → (frames frames' : List Frame) → (slots slots' : Slots) → Type 0
@@ -129,15 +103,11 @@ pub record Searching (g : PriorityGraph) (before passed : Passed) (goal : Option
   pub unwinds : undone frames slots ≡ base
 
 -- what a run led to, with the slots
-abbrev pub returned : Option (ℕ × ℕ) → Slots → Option Answer
+abbrev pub returned : Option HalfMatchValue → Slots → Option Answer
 returned None slots = None
-returned (Some r) slots = Some (record { pattern = r.0; end = r.1; slots = slots })
+returned (Some r) slots = Some (record { pattern = r.pattern; end = r.offset; slots = slots })
 
 -- the run that was followed reached the goal, or the search goes on with the stack
-abbrev pub Followed : Option (ℕ × ℕ) → PriorityGraph → (before passed : Passed) → Option Answer → (base : Slots) → List Frame → Slots → Type 0
+abbrev pub Followed : Option HalfMatchValue → PriorityGraph → (before passed : Passed) → Option Answer → (base : Slots) → List Frame → Slots → Type 0
 Followed None g before passed goal base frames slots = Searching g before passed goal base frames slots
 Followed (Some r) g before passed goal base frames slots = goal ≡ returned (Some r) slots
-
--- a match as pattern, start and end
-abbrev pub triple : Match → ℕ × ℕ × ℕ
-triple m = (m.trace.pattern, m.start, m.trace.end)

@@ -1,22 +1,11 @@
 -- What a bounded backtracker is to a contract, and what its searches answer.
-use Rattle.std.specs.Prelude.{◌≡◌, ℕ, ◌+◌, ◌-◌, ◌*◌, ◌/◌, ◌<◌, ◌≤◌, length, max, Option, refl}
+use Rattle.std.specs.Prelude.{◌≡◌, ℕ, ◌+◌, ◌-◌, ◌*◌, ◌/◌, ◌<◌, ◌≤◌, length, max, refl}
 use Rattle.std.specs.Coded.{Coded, code_by, coded×, coded_ℕ}
-use Rattle.rx_model.specs.Search.{Patterns, Match}
 use Rattle.rx_search.specs.Input.{InputValue}
 use Rattle.rx_search.specs.declared.match_error.MatchError.{MatchError}
 use Rattle.rx_search.specs.declared.match_error.MatchError.TheVariants.{Quit, GaveUp, HaystackTooLong, UnsupportedAnchored, Memory}
-use Rattle.rx_nfa.specs.Nfa.{Nfa, HasFirstRuns}
-use Rattle.rx_nfa.specs.NextMatch.{next_match_of}
-use Rattle.rx_engines.specs.Simulation.{cost_below}
-
--- the next match of the NFA in the input's span
-abbrev pub next_match_within : Nfa → InputValue → Option Match
-next_match_within nfa v = next_match_of nfa nfa.utf8 v.haystack v.anchor v.end v.start
-
--- the NFA has the first runs of these patterns
-pub record IsNfaOf (nfa : Nfa) (r : Patterns) : Type 0 where
-  pub runs : HasFirstRuns nfa r
-  pub utf8 : r.utf8_empty ≡ nfa.utf8
+use Rattle.rx_nfa.specs.Nfa.{Nfa}
+use Rattle.rx_engines.specs.Simulation.{frames_of_states}
 
 -- The length of the longest span that is searched: 2097152 bits have one for each accounted state at each place, of
 -- which there is one more than bytes.
@@ -45,7 +34,7 @@ room_code =
 -- a cache with this room serves the engine
 pub record Fits (nfa : Nfa) (room : Room) : Type 0 where
   pub bits : (max_len nfa + 1) * length nfa.states ≤ room.bits
-  pub stack : (max_len nfa + 1) * cost_below nfa.states (length nfa.states) ≤ room.stack
+  pub stack : (max_len nfa + 1) * frames_of_states nfa.states (length nfa.states) ≤ room.stack
   pub slots : room.slots ≡ nfa.slots
 
 -- Why a search has no answer: the span is too long.

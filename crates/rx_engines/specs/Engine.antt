@@ -1,15 +1,15 @@
 -- What an engine is to a contract, and what its searches answer.
 use Rattle.std.specs.Prelude.{◌≡◌, ℕ, ◌-◌, ◌*◌, ◌^◌, ◌<◌, ◌≤◌, min, List, length, Option, Some, None, is_some, slice_index_or, if◌then◌else◌}
-use Rattle.rx_model.specs.Search.{Patterns, Match, told_of, is_anchored, next_match, slot_value}
+use Rattle.rx_model.specs.Search.{Patterns, Match, told_of, is_anchored, slot_value}
 use Rattle.rx_model.specs.Matches.{IsMatch}
-use Rattle.rx_search.specs.Input.{InputValue, IsSpanned}
+use Rattle.rx_search.specs.Input.{InputValue}
 use Rattle.rx_search.specs.declared.anchored.MatchKind.{MatchKind}
 use Rattle.rx_nfa.specs.Nfa.{Nfa, HasFirstRuns}
-use Rattle.rx_nfa.specs.NextMatch.{next_match_of}
+use Rattle.rx_nfa.specs.NextMatch.{start_of, next_match_of}
 use Rattle.rx_engines.specs.Room.{Room}
-use Rattle.rx_engines.specs.Simulation.{cost_below}
+use Rattle.rx_engines.specs.Simulation.{frames_of_states}
 use Rattle.rx_engines.specs.Search.{first_place}
-use Rattle.rx_engines.specs.declared.pikevm.search.Search.{Search}
+use Rattle.rx_engines.specs.declared.search.Search.{Search}
 
 pub record PikeVMValue : Type 0 where
   pub nfa : Nfa
@@ -20,9 +20,9 @@ pub record PikeVMValue : Type 0 where
 abbrev pub next_match_by : PikeVMValue → InputValue → (end : ℕ) → Option Match
 next_match_by vm v end = next_match_of vm.nfa vm.nfa.utf8 v.haystack v.anchor end v.start
 
--- the next match of the engine's NFA in the input's span
-abbrev pub next_match_in : PikeVMValue → InputValue → Option Match
-next_match_in vm v = next_match_by vm v v.end
+-- the next match of the NFA in the input's span
+abbrev pub next_match_within : Nfa → InputValue → Option Match
+next_match_within nfa v = next_match_of nfa nfa.utf8 v.haystack v.anchor v.end v.start
 
 -- Where a search stops: at the end of the span, or with `earliest` at the first place by which a match ends.
 abbrev pub stop_in : PikeVMValue → InputValue → ℕ
@@ -37,14 +37,10 @@ answer_in vm v = next_match_by vm v (stop_in vm v)
 abbrev pub last_start : InputValue → ℕ
 last_start v = if is_anchored v.anchor then v.start else v.end
 
--- the engine's NFA has the first runs of these patterns
-pub record IsOf (vm : PikeVMValue) (r : Patterns) : Type 0 where
-  pub runs : HasFirstRuns vm.nfa r
-  pub utf8 : r.utf8_empty ≡ vm.nfa.utf8
-
--- the next match of the patterns in the input's span
-abbrev pub next_match_for : Patterns → InputValue → Option Match
-next_match_for r v = next_match r v.haystack v.anchor v.end v.start
+-- the NFA has the first runs of these patterns
+pub record IsNfaOf (nfa : Nfa) (r : Patterns) : Type 0 where
+  pub runs : HasFirstRuns nfa r
+  pub utf8 : r.utf8_empty ≡ nfa.utf8
 
 -- the slots are those of the match
 abbrev pub HasSlots : List (Option ℕ) → Match → Type 0
@@ -59,15 +55,20 @@ abbrev pub IsMatchWith : Patterns → InputValue → (Match → Type 0) → Type
 IsMatchWith r v Holds = (m : Match) × IsMatch r v.haystack v.anchor v.end v.start m × Holds (told_of r.which_captures m)
 
 -- the search that an engine makes of an input
-pub record IsSearchOf (vm : PikeVMValue) (v : InputValue) (qs : List ℕ) (s : Search) : Type 0 where
-  pub states : s.states.now ≡ vm.nfa.states
-  pub starts : s.starts.now ≡ qs
+pub record IsSearchOf (nfa : Nfa) (v : InputValue) (s : Search) : Type 0 where
+  pub states : s.states.now ≡ nfa.states
+  pub start : start_of nfa v.anchor ≡ Some s.start
   pub text : s.text.now ≡ v.haystack
-  pub matcher : s.matcher ≡ vm.nfa.terminator
-  pub utf8 : s.utf8_empty ≡ vm.nfa.utf8
+  pub matcher : s.matcher ≡ nfa.terminator
+  pub utf8 : s.utf8 ≡ nfa.utf8
+  pub first : s.first ≡ v.start
   pub last : s.last ≡ last_start v
   pub end : s.end ≡ v.end
-  pub spanned : IsSpanned v
+  pub in_order : v.start ≤ v.end
+
+-- the NFA has no match in the input's span, up to whichever end
+abbrev pub HasNoMatch : Nfa → InputValue → Type 0
+HasNoMatch nfa v = (end : ℕ) → end ≤ v.end → next_match_of nfa nfa.utf8 v.haystack v.anchor end v.start ≡ None
 
 -- The bytes that are accounted for a cache: 16 for each slot of each accounted state, up to the greatest number of
 -- 64 bits.
@@ -77,5 +78,5 @@ accounted_memory nfa = min (2 ^ 64 - 1) (16 * nfa.accounted * nfa.slots)
 -- a cache with this room serves the engine
 pub record Fits (vm : PikeVMValue) (room : Room) : Type 0 where
   pub states : room.states ≡ length vm.nfa.states
-  pub stack : cost_below vm.nfa.states (length vm.nfa.states) < room.stack
+  pub stack : frames_of_states vm.nfa.states (length vm.nfa.states) < room.stack
   pub widest : room.widest ≡ vm.nfa.slots

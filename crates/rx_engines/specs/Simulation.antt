@@ -1,36 +1,40 @@
 -- A simulation by ordered threads: what the threads at a place lead to, and what a step keeps true.
-use Rattle.std.specs.Prelude.{◌≡◌, ◌⊎◌, ℕ, zero, suc, ◌+◌, ◌-◌, ◌<◌, ◌≤◌, Bool, true, false, List, [], ◌∷◌, length, map, replicate, Option, Some, None, option_map, nat_lt, slice_index, if◌then◌else◌}
+use Rattle.std.specs.Prelude.{◌≡◌, ℕ, zero, suc, ◌+◌, ◌-◌, ◌≤◌, Bool, true, false, List, [], ◌∷◌, length, map, replicate, Option, Some, None, option_map, nat_lt, slice_index, if◌then◌else◌}
 use Rattle.std.specs.Option.{option_or}
 use Rattle.rx_model.specs.Runs.{Trace, Configuration, PriorityGraph, Passed, nowhere, and_at, found, is_among}
 use Rattle.rx_model.specs.Search.{Match, is_permitted, first_start}
 use Rattle.rx_model.proofs.RunLemmas.{weight}
+use Rattle.rx_search.specs.Matches.{MatchValue}
 use Rattle.rx_nfa.specs.Automaton.{at, automaton, state_at, route}
 use Rattle.rx_nfa.specs.declared.state.Transition.{Transition}
 use Rattle.rx_engines.specs.Walk.{Slots, Answer, answer, pending, write_all, Expands}
 use Rattle.rx_nfa.specs.declared.state.State.{State}
 use Rattle.rx_nfa.specs.declared.state.State.TheVariants.{ByteRange, Sparse, Look, Union, Capture, Fail, Match as Accepts}
 use Rattle.rx_engines.specs.declared.frame.Frame.{Frame}
-use Rattle.rx_engines.specs.declared.frame.Frame.TheVariants.{Explore, Restore}
+use Rattle.rx_engines.specs.declared.frame.Frame.TheVariants.{Explore}
 use Rattle.rx_engines.specs.Threads.{Row, row_at}
 use Rattle.rx_engines.specs.declared.pikevm.close.Move.{Move}
 use Rattle.rx_engines.specs.declared.pikevm.close.Move.TheVariants.{Rest, On, Back}
+use Rattle.rx_engines.specs.Search.{graph_until}
+use Rattle.rx_engines.specs.declared.search.Search.{Search}
+use Rattle.rx_engines.specs.declared.pikevm.step.Accepted.{Accepted}
 use Rattle.rx_engines.specs.declared.pikevm.step.Action.{Action}
 use Rattle.rx_engines.specs.declared.pikevm.step.Action.TheVariants.{Accept, Read, Nothing}
 
 -- how many frames a state leaves on the stack
-abbrev pub cost : State → ℕ
-cost (ByteRange low high next) = 0
-cost (Sparse transitions) = 0
-cost (Look look next) = 1
-cost (Union alternates) = length alternates
-cost (Capture next pattern slot) = 2
-cost Fail = 0
-cost (Accepts pattern) = 0
+abbrev pub frames_of_state : State → ℕ
+frames_of_state (ByteRange low high next) = 0
+frames_of_state (Sparse transitions) = 0
+frames_of_state (Look look next) = 1
+frames_of_state (Union alternates) = length alternates
+frames_of_state (Capture next pattern slot) = 2
+frames_of_state Fail = 0
+frames_of_state (Accepts pattern) = 0
 
 -- the same of the first n states in all
-unfoldable pub cost_below : List State → ℕ → ℕ
-cost_below states zero = 0
-cost_below states (suc n) = cost (state_at states n) + cost_below states n
+unfoldable pub frames_of_states : List State → ℕ → ℕ
+frames_of_states states zero = 0
+frames_of_states states (suc n) = frames_of_state (state_at states n) + frames_of_states states n
 
 -- a thread stays at this state until a byte is read
 abbrev pub is_resting : State → Bool
@@ -47,8 +51,8 @@ abbrev pub line : ℕ → ℕ → List Configuration
 line zero i = []
 line (suc n) i = at n i ∷ line n i
 
-abbrev pub cost_at : List State → Configuration → ℕ
-cost_at states c = cost (state_at states c.state)
+abbrev pub frames_at : List State → Configuration → ℕ
+frames_at states c = frames_of_state (state_at states c.state)
 
 -- the states of the list, at place i
 abbrev pub passed_at : List ℕ → ℕ → Passed
@@ -56,7 +60,7 @@ passed_at items i c = is_among (map (λ q. at q i) items) c
 
 -- how many frames the states that are not in the list will leave at place i
 abbrev pub frames_to_come : List State → (i : ℕ) → List ℕ → ℕ
-frames_to_come states i items = weight (cost_at states) (line (length states) i) (passed_at items i)
+frames_to_come states i items = weight (frames_at states) (line (length states) i) (passed_at items i)
 
 -- an answer with the start of its match
 abbrev pub Hit : Type 0
@@ -86,12 +90,6 @@ pub record Waits (states : List State) (g : PriorityGraph) (i start : ℕ) (late
 -- the threads at place i, and then what comes later
 pub record Closed (states : List State) (g : PriorityGraph) (i : ℕ) (later : Passed → Option Hit) (items : List ℕ) (rows : List Row) (goal : Option Hit) : Type 0 where
   pub value : option_or (among states g nowhere i rows items) (later (passed_at items i)) ≡ goal
-
--- each frame to explore is a state below n at place i
-abbrev pub AllHere : ℕ → ℕ → List Frame → Type 0
-AllHere n i [] = Unit {0}
-AllHere n i (Explore q j ∷ rest) = (q < n) × (j ≡ i) × AllHere n i rest
-AllHere n i (Restore slot old ∷ rest) = AllHere n i rest
 
 -- the state rests, or gives way to others
 abbrev pub Visited : (terminator : ℕ) → List State → List ℕ → ℕ → ℕ → Bool → List Frame → List Frame → Slots → Slots → Type 0
@@ -125,57 +123,44 @@ abbrev pub onto : Option ℕ → Action
 onto None = Nothing
 onto (Some next) = Read next
 
-abbrev pub read_of : List Transition → Option ℕ → Action
-read_of transitions None = Nothing
-read_of transitions (Some byte) = onto (route transitions byte)
+-- where the byte leads to, if there is one
+abbrev pub target_of : List Transition → Option ℕ → Option ℕ
+target_of transitions None = None
+target_of transitions (Some byte) = route transitions byte
 
 abbrev pub act_of : State → Option ℕ → Action
-act_of (ByteRange low high next) byte = read_of (record { start = low; end = high; next = next } ∷ []) byte
-act_of (Sparse transitions) byte = read_of transitions byte
+act_of (ByteRange low high next) byte = onto (target_of (record { start = low; end = high; next = next } ∷ []) byte)
+act_of (Sparse transitions) byte = onto (target_of transitions byte)
 act_of (Look look next) byte = Nothing
 act_of (Union alternates) byte = Nothing
 act_of (Capture next pattern slot) byte = Nothing
 act_of Fail byte = Nothing
 act_of (Accepts pattern) byte = Accept pattern
 
--- what the action tells of the state, in the graph
-abbrev pub Acts : List State → PriorityGraph → ℕ → ℕ → ℕ → Action → Type 0
-Acts states g end q i (Accept pattern) = (is_resting (state_at states q) ≡ true) × (g.accepted (at q i) ≡ Some pattern)
-Acts states g end q i (Read next) =
-    (is_resting (state_at states q) ≡ true) × (next < length states) × (i < end) × (g.accepted (at q i) ≡ None) × (g.written (at q i) ≡ None) × (g.successors (at q i) ≡ at next (i + 1) ∷ [])
-Acts states g end q i Nothing =
-    (is_resting (state_at states q) ≡ false) ⊎ ((g.accepted (at q i) ≡ None) × (g.successors (at q i) ≡ []))
+-- a match with its slots, as a hit
+abbrev pub best_hit : Option MatchValue → Slots → Option Hit
+best_hit None slots = None
+best_hit (Some b) slots = Some (b.start, record { pattern = b.pattern; end = b.end; slots = slots })
+
+-- the match of a thread that accepts at the place
+abbrev pub until : (place : ℕ) → Accepted → MatchValue
+until place a = record { pattern = a.pattern; start = a.start; end = place }
 
 -- what a step over a byte leaves: the threads at the next place, and then a match or what comes later
-abbrev pub Stepped : Option (ℕ × ℕ) → List State → PriorityGraph → ℕ → (Passed → Option Hit) → List ℕ → List Row → Slots → Option Hit → Type 0
+abbrev pub Stepped : Option Accepted → List State → PriorityGraph → ℕ → (Passed → Option Hit) → List ℕ → List Row → Slots → Option Hit → Type 0
 Stepped None states g i later items rows slots goal = Closed states g (i + 1) later items rows goal
 Stepped (Some r) states g i later items rows slots goal =
-    option_or (among states g nowhere (i + 1) rows items) (Some (r.1, record { pattern = r.0; end = i; slots = slots })) ≡ goal
-
--- what a thread that accepts at place i tells
-abbrev pub accepted_hit : Option (ℕ × ℕ) → ℕ → Slots → Option Hit
-accepted_hit None i slots = None
-accepted_hit (Some r) i slots = Some (r.1, record { pattern = r.0; end = i; slots = slots })
+    option_or (among states g nowhere (i + 1) rows items) (best_hit (Some (until i r)) slots) ≡ goal
 
 -- a match as a hit, with so many slots
 abbrev pub hit_of : ℕ → Match → Hit
 hit_of width m = (m.start, record { pattern = m.trace.pattern; end = m.trace.end; slots = write_all m.trace.writes (replicate width None) })
 
--- the best match so far
-abbrev pub best_hit : Option (ℕ × ℕ × ℕ) → Slots → Option Hit
-best_hit None slots = None
-best_hit (Some b) slots = Some (b.1, record { pattern = b.0; end = b.2; slots = slots })
-
--- what the first of these states that leads to anything tells, at place i
-abbrev pub first_of : (Configuration → Option Trace) → List ℕ → ℕ → Option Trace
-first_of go [] i = None
-first_of go (q ∷ qs) i = option_or (go (at q i)) (first_of go qs i)
-
-module _ (terminator : ℕ) (states : List State) (text : List ℕ) (starts : List ℕ) (utf8_empty : Bool) (end : ℕ) where
-  -- the first match that starts in i..=last, past what was passed
-  abbrev pub from_starts : Passed → (last i : ℕ) → Option Match
-  from_starts p last i = first_start (is_permitted utf8_empty text) (first_of (found (automaton terminator states text end) p) starts) (last + 1 - i) i
+module _ (s : Search) (end : ℕ) where
+  -- the first match that starts at i or after it, past what was passed
+  abbrev pub from_starts : Passed → (i : ℕ) → Option Match
+  from_starts p i = first_start (is_permitted s.utf8 s.text.now) (λ j. found (graph_until s end) p (at s.start j)) (s.last + 1 - i) i
 
   -- the best match so far, and else the starts to come
-  abbrev pub later_starts : (width : ℕ) → Option Hit → (last i : ℕ) → Passed → Option Hit
-  later_starts width best last i p = option_or best (option_map (hit_of width) (from_starts p last i))
+  abbrev pub later_starts : (width : ℕ) → Option Hit → (i : ℕ) → Passed → Option Hit
+  later_starts width best i p = option_or best (option_map (hit_of width) (from_starts p i))

@@ -1,11 +1,7 @@
 -- A walk over the states, depth first: what its frames lead to.
-use Rattle.std.specs.Prelude.{◌≡◌, ℕ, ◌⊎◌, List, [], ◌∷◌, ◌++◌, Option, Some, None, slice_set, slice_index_or, if◌then◌else◌}
+use Rattle.std.specs.Prelude.{◌≡◌, ◌<◌, ◌≤◌, ℕ, ◌⊎◌, List, [], ◌∷◌, ◌++◌, Option, Some, None, slice_set, slice_index_or}
 use Rattle.std.specs.Option.{option_or}
-use Rattle.rx_model.specs.Look.{holds}
 use Rattle.rx_model.specs.Runs.{Configuration, PriorityGraph, Trace}
-use Rattle.rx_search.specs.Look.{kind_of}
-use Rattle.rx_search.specs.declared.look.Look.{Look}
-use Rattle.rx_nfa.specs.Automaton.{at}
 use Rattle.rx_engines.specs.declared.frame.Frame.{Frame}
 use Rattle.rx_engines.specs.declared.frame.Frame.TheVariants.{Explore, Restore}
 
@@ -39,9 +35,11 @@ abbrev pub explore_all : List Configuration → List Frame
 explore_all [] = []
 explore_all (d ∷ ds) = Explore d.state d.place ∷ explore_all ds
 
--- on to the state where the look-around holds at the place of the text
-abbrev pub looked : (terminator : ℕ) → List ℕ → Look → (next place : ℕ) → List Configuration
-looked terminator text look next place = if holds terminator text (kind_of look) place then at next place ∷ [] else []
+-- each frame to explore is a state below n at a place from first to end
+abbrev pub AllWithin : (n first end : ℕ) → List Frame → Type 0
+AllWithin n first end [] = Unit {0}
+AllWithin n first end (Explore q i ∷ rest) = (q < n) × (first ≤ i) × (i ≤ end) × AllWithin n first end rest
+AllWithin n first end (Restore slot old ∷ rest) = AllWithin n first end rest
 
 -- c, which doesn't accept, gives way to its successors: the frames and the slots before and after
 pub record Expands (g : PriorityGraph) (c : Configuration) (frames frames' : List Frame) (slots slots' : Slots) : Type 0 where

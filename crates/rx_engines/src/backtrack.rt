@@ -6,7 +6,6 @@ mod attempt;
 mod backtracker;
 mod cache;
 mod find;
-mod search;
 mod step;
 mod visited;
 

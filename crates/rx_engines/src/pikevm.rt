@@ -3,7 +3,6 @@
 
 mod cache;
 mod close;
-mod search;
 mod seed;
 mod set;
 mod simulate;

@@ -1,13 +1,13 @@
 //! The room that the frames of a walk need.
 ghost use Rattle.std.specs.Prelude.{◌≡◌, length, IfOk};
-ghost use Rattle.rx_engines.specs.Simulation.{cost, cost_below};
+ghost use Rattle.rx_engines.specs.Simulation.{frames_of_state, frames_of_states};
 
 use rx_nfa::State;
 use rx_search::Memory;
 
 /// How many frames the states leave on a stack, each state once.
 pub fn frames_of_all(states: &[State]) -> Result<usize, Memory>
-    ensures { IfOk result (λ n. n ≡ cost_below states.now (length states.now)) }
+    ensures { IfOk result (λ n. n ≡ frames_of_states states.now (length states.now)) }
 {
     let mut frames: usize = 0;
     for q in 0..states.len() {
@@ -21,7 +21,7 @@ pub fn frames_of_all(states: &[State]) -> Result<usize, Memory>
 
 /// How many frames the state leaves on a stack.
 fn frames_of(state: &State) -> usize
-    ensures { result ≡ cost state.now }
+    ensures { result ≡ frames_of_state state.now }
 {
     match state {
         State::Capture { .. } => 2,

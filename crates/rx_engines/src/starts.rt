@@ -1,8 +1,23 @@
 ghost use Rattle.std.specs.Prelude.{◌≡◌, ◌≤◌, length};
 ghost use Rattle.rx_model.specs.Search.{is_permitted};
+ghost use Rattle.rx_search.specs.Anchored.{anchor_of};
+ghost use Rattle.rx_nfa.specs.Nfa.{IsInRange};
+ghost use Rattle.rx_nfa.specs.NextMatch.{start_of};
 ghost use Rattle.rx_engines.specs.Engine.{last_start};
 
-use rx_search::Input;
+use rx_nfa::NFA;
+use rx_search::{Anchored, Input, StateID};
+
+/// Where the runs start, if the pattern that is asked for is there.
+pub fn start_state(nfa: &NFA, anchored: Anchored) -> Option<StateID>
+    ensures value { result ≡ start_of nfa.now (anchor_of anchored) }
+    ensures in_range { IsInRange nfa.now }
+{
+    match anchored {
+        Anchored::No | Anchored::Yes => Some(nfa.start_anchored()),
+        Anchored::Pattern(pattern) => nfa.start_pattern(pattern),
+    }
+}
 
 /// The place at which a match may start at the latest.
 pub fn latest_start(input: &Input<'_>) -> usize

@@ -3,8 +3,8 @@ ghost use Rattle.std.specs.Prelude.{◌≡◌, ◌≤◌, true, false, length, N
 ghost use Rattle.rx_model.specs.Search.{Patterns, told_of};
 ghost use Rattle.rx_search.specs.Input.{next_in};
 ghost use Rattle.rx_search.specs.Matches.{match_value};
-ghost use Rattle.rx_engines.specs.Engine.{HasSlots, AreWithin, IsMatchWith as IsToldMatchWith};
-ghost use Rattle.rx_engines.specs.Bounded.{Fits as FitsBounded, IsNfaOf, next_match_within};
+ghost use Rattle.rx_engines.specs.Engine.{next_match_within, IsNfaOf, HasSlots, AreWithin, IsMatchWith as IsToldMatchWith};
+ghost use Rattle.rx_engines.specs.Bounded.{Fits as FitsBounded};
 ghost use Rattle.rx_strategy.specs.Config.{kind_of, captures_of, has_backtracker};
 ghost use Rattle.rx_strategy.specs.Strategy.{IsOf, tells, told_in, told_for, next_match_in, IsMatchWith};
 ghost use Rattle.rx_strategy.specs.Cache.{Fits, FitsBacktracker, backtrack_memory, memory_of, accounted_backtrack, accounted_for};

@@ -1,17 +1,18 @@
-ghost use Rattle.std.specs.Prelude.{◌≡◌, ◌+◌, ◌-◌, ◌*◌, ◌<◌, ◌≤◌, ◌∷◌, length, Option, IfNone};
+ghost use Rattle.std.specs.Prelude.{◌≡◌, ◌^◌, ◌+◌, ◌-◌, ◌*◌, ◌<◌, ◌≤◌, ◌∷◌, length, Option, IfNone};
 ghost use Rattle.rx_model.specs.Runs.{Passed, first_trace};
 ghost use Rattle.rx_nfa.specs.Automaton.{at};
 ghost use Rattle.rx_engines.specs.Walk.{Slots, Answer, answer};
 ghost use Rattle.rx_engines.specs.declared.frame.Frame.TheVariants.{Explore};
-ghost use Rattle.rx_engines.specs.Backtrack.{IsInside, AllInside, graph_for, extent, passed_by, work, frames_left, IsDead, Searching, Followed, returned};
+ghost use Rattle.rx_engines.specs.Search.{IsInside, graph_for};
+ghost use Rattle.rx_engines.specs.Backtrack.{AllInside, extent, passed_by, work, frames_left, IsDead, Searching, Followed, returned};
 
-use crate::backtrack::search::Search;
 use crate::backtrack::step::{Onward, step};
 use crate::backtrack::visited::Visited;
 use crate::frame::Frame;
+use crate::search::Search;
 use crate::slots::{Slot, write};
 use crate::stack::Stack;
-use rx_search::{PatternID, StateID};
+use rx_search::{HalfMatch, StateID};
 
 /// The pattern and the end of the first run that starts at the place `from`. The slots get what it wrote.
 pub fn attempt(
@@ -20,8 +21,9 @@ pub fn attempt(
     visited: &mut Visited,
     stack: &mut Stack,
     slots: &mut [Slot],
-) -> Option<(PatternID, usize)>
+) -> Option<HalfMatch>
     requires search { IsInside search.now }
+    requires small { extent search.now < 2 ^ 63 }
     requires from { (search.now.first ≤ from) × (from ≤ search.now.end) }
     requires room { extent search.now ≤ 64 * length visited.old }
     requires frames { frames_left search.now visited.old ≤ stack.old.room }
@@ -61,8 +63,9 @@ fn follow(
     visited: &mut Visited,
     stack: &mut Stack,
     slots: &mut [Slot],
-) -> Option<(PatternID, usize)>
+) -> Option<HalfMatch>
     requires search { IsInside search.now }
+    requires small { extent search.now < 2 ^ 63 }
     requires start { start < length search.now.states.now }
     requires from { (search.now.first ≤ from) × (from ≤ search.now.end) }
     requires room { extent search.now ≤ 64 * length visited.old }
@@ -86,7 +89,7 @@ fn follow(
     let mut place = from;
     while visited.insert(index(search, state, place)) {
         match step(search, state, place, stack, slots) {
-            Onward::Accept(pattern) => return Some((pattern, place)),
+            Onward::Accept(pattern) => return Some(HalfMatch::new(pattern, place)),
             Onward::To {
                 state: next,
                 place: at,
@@ -105,6 +108,7 @@ fn index(search: &Search<'_>, state: StateID, place: usize) -> usize
     requires state { state < length search.now.states.now }
     requires place { (search.now.first ≤ place) × (place ≤ search.now.end) }
     requires search { IsInside search.now }
+    requires small { extent search.now < 2 ^ 63 }
     ensures value { result ≡ (place - search.now.first) * length search.now.states.now + state }
     ensures within { result < extent search.now }
 {

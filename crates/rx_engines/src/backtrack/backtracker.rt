@@ -1,20 +1,16 @@
 ghost use Rattle.std.specs.Prelude.{◌≡◌, ◌≤◌, length, None, replicate, IfOk, IfNone, IfSome, option_map};
 ghost use Rattle.std.specs.Result.{IfErr};
 ghost use Rattle.rx_model.specs.Search.{Patterns, told_of};
-ghost use Rattle.rx_search.specs.Anchored.{anchor_of};
+ghost use Rattle.rx_search.specs.Input.{next_in};
 ghost use Rattle.rx_search.specs.Matches.{match_value};
-ghost use Rattle.rx_nfa.specs.Nfa.{IsInRange};
-ghost use Rattle.rx_nfa.specs.NextMatch.{start_of};
-ghost use Rattle.rx_engines.specs.Engine.{next_match_for, HasSlots, AreWithin, accounted_memory};
-ghost use Rattle.rx_engines.specs.Bounded.{next_match_within, IsNfaOf, max_len, span_len, IsRefusal, Fits};
+ghost use Rattle.rx_engines.specs.Engine.{next_match_within, IsNfaOf, HasSlots, AreWithin, accounted_memory};
+ghost use Rattle.rx_engines.specs.Bounded.{max_len, span_len, IsRefusal, Fits};
 
 use crate::backtrack::cache::Cache;
-use crate::backtrack::search::Search;
-use crate::report::reported;
+use crate::search::Search;
 use crate::slots::empty;
-use crate::starts::latest_start;
 use rx_nfa::NFA;
-use rx_search::{Anchored, Input, Match, MatchError, Memory, NonMaxUsize, PatternID, StateID};
+use rx_search::{Input, Match, MatchError, Memory, NonMaxUsize, PatternID};
 use std::alloc::Global;
 use std::marker::Model;
 
@@ -88,7 +84,7 @@ impl BoundedBacktracker {
         ensures short { IfOk result (λ _. span_len input.now ≤ max_len self.now) }
         ensures err { IfErr result (IsRefusal self.now input.now) }
         ensures patterns { (r : Patterns) → IsNfaOf self.now r
-            → next_match_within self.now input.now ≡ option_map (told_of r.which_captures) (next_match_for r input.now) }
+            → next_match_within self.now input.now ≡ option_map (told_of r.which_captures) (next_in r input.now) }
         ensures slots { IfOk result (λ _. IfSome (next_match_within self.now input.now) (HasSlots slots.new)) }
         ensures none { IfOk result (λ r. IfNone r (slots.new ≡ replicate (length slots.old) None)) }
         ensures refused { IfErr result (λ _. slots.new ≡ replicate (length slots.old) None) }
@@ -118,7 +114,7 @@ impl BoundedBacktracker {
         ensures short { IfOk result (λ _. span_len input.now ≤ max_len self.now) }
         ensures err { IfErr result (IsRefusal self.now input.now) }
         ensures patterns { (r : Patterns) → IsNfaOf self.now r
-            → next_match_within self.now input.now ≡ option_map (told_of r.which_captures) (next_match_for r input.now) }
+            → next_match_within self.now input.now ≡ option_map (told_of r.which_captures) (next_in r input.now) }
         ensures slots { IfOk result (λ _. IfSome (next_match_within self.now input.now) (HasSlots slots.new)) }
         ensures none { IfOk result (λ r. IfNone r (slots.new ≡ replicate (length slots.old) None)) }
         ensures refused { IfErr result (λ _. slots.new ≡ replicate (length slots.old) None) }
@@ -131,36 +127,10 @@ impl BoundedBacktracker {
             empty(slots);
             return Err(MatchError::HaystackTooLong { len });
         }
-        let anchored = input.get_anchored();
-        let Some(start) = self.start_state(anchored) else {
+        let Some(search) = Search::of(&self.nfa, input) else {
             empty(slots);
             return Ok(None);
         };
-        if input.is_done() {
-            empty(slots);
-            return Ok(None);
-        }
-        let search = Search {
-            states: self.nfa.states(),
-            start,
-            text: input.haystack(),
-            matcher: *self.nfa.look_matcher(),
-            utf8: self.nfa.is_utf8(),
-            first: input.start(),
-            last: latest_start(input),
-            end: input.end(),
-        };
-        Ok(reported(cache.find(&search, slots)))
-    }
-
-    /// Where the runs start, if the pattern that is asked for is there.
-    fn start_state(&self, anchored: Anchored) -> Option<StateID>
-        ensures value { result ≡ start_of self.now (anchor_of anchored) }
-        ensures in_range { IsInRange self.now }
-    {
-        match anchored {
-            Anchored::No | Anchored::Yes => Some(self.nfa.start_anchored()),
-            Anchored::Pattern(pattern) => self.nfa.start_pattern(pattern),
-        }
+        Ok(cache.find(&search, slots))
     }
 }

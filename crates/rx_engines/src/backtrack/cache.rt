@@ -1,18 +1,20 @@
-ghost use Rattle.std.specs.Prelude.{◌≡◌, vec_len, ℕ, ◌*◌, ◌+◌, ◌<◌, ◌≤◌, length, min, None, IfOk, OnOk, OnErr, IfSome, IfNone, option_map, replicate, nat_lt, slice_index_or, if◌then◌else◌};
+ghost use Rattle.std.specs.Prelude.{◌≡◌, ◌^◌, vec_len, ℕ, ◌*◌, ◌+◌, ◌<◌, ◌≤◌, length, min, None, IfOk, OnOk, OnErr, IfSome, IfNone, option_map, replicate, nat_lt, slice_index_or, if◌then◌else◌};
 ghost use Rattle.rx_model.specs.Search.{slot_value};
-ghost use Rattle.rx_engines.specs.Backtrack.{IsInside, extent, frames_of_span, next_of, triple};
+ghost use Rattle.rx_search.specs.Matches.{match_value};
+ghost use Rattle.rx_engines.specs.Search.{IsInside, next_of};
+ghost use Rattle.rx_engines.specs.Backtrack.{extent, frames_of_span};
 ghost use Rattle.rx_engines.specs.Bounded.{Room, room_code, Fits};
 ghost use Rattle.rx_engines.specs.Engine.{accounted_memory};
 
 use crate::accounting::memory_of;
 use crate::backtrack::backtracker::BoundedBacktracker;
 use crate::backtrack::find::find;
-use crate::backtrack::search::Search;
 use crate::backtrack::visited::Visited;
 use crate::room::frames_of_all;
+use crate::search::Search;
 use crate::slots::{Slot, empty, report};
 use crate::stack::Stack;
-use rx_search::{Memory, NonMaxUsize, PatternID};
+use rx_search::{Match, Memory, NonMaxUsize};
 use std::alloc::Global;
 use std::marker::Model;
 
@@ -97,16 +99,17 @@ impl Cache {
         })
     }
 
-    /// The pattern, the start and the end of the next match in the span. The slots get what it leaves in them.
+    /// The next match in the span. The slots get what it leaves in them.
     pub(crate) fn find(
         &mut self,
         search: &Search<'_>,
         slots: &mut [Option<NonMaxUsize>],
-    ) -> Option<(PatternID, usize, usize)>
+    ) -> Option<Match>
         requires search { IsInside search.now }
+        requires small { extent search.now < 2 ^ 63 }
         requires room { extent search.now ≤ self.old.bits }
         requires frames { frames_of_span search.now ≤ self.old.stack }
-        ensures value { result ≡ option_map triple (next_of search.now) }
+        ensures value { result ≡ option_map match_value (next_of search.now) }
         ensures slots { IfSome (next_of search.now)
             (λ m. (k : ℕ) → k < length slots.new → slice_index_or slots.new k None
             ≡ (if nat_lt k self.old.slots then slot_value m k else None)) }
@@ -133,12 +136,13 @@ fn find_slots(
     stack: &mut Stack,
     scratch: &mut [Slot],
     slots: &mut [Option<NonMaxUsize>],
-) -> Option<(PatternID, usize, usize)>
+) -> Option<Match>
     requires search { IsInside search.now }
+    requires small { extent search.now < 2 ^ 63 }
     requires room { extent search.now ≤ 64 * length visited.old }
     requires frames { frames_of_span search.now ≤ stack.old.room }
     requires width { width ≡ min (length slots.old) (length scratch.old) }
-    ensures value { result ≡ option_map triple (next_of search.now) }
+    ensures value { result ≡ option_map match_value (next_of search.now) }
     ensures slots { IfSome (next_of search.now)
         (λ m. (k : ℕ) → k < length slots.new → slice_index_or slots.new k None
         ≡ (if nat_lt k (length scratch.old) then slot_value m k else None)) }

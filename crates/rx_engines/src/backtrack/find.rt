@@ -1,26 +1,29 @@
-ghost use Rattle.std.specs.Prelude.{◌≡◌, ℕ, ◌*◌, ◌<◌, ◌≤◌, length, None, IfSome, IfNone, option_map, replicate, slice_index_or};
+ghost use Rattle.std.specs.Prelude.{◌≡◌, ◌^◌, ℕ, ◌*◌, ◌<◌, ◌≤◌, length, None, IfSome, IfNone, option_map, replicate, slice_index_or};
 ghost use Rattle.rx_model.specs.Search.{slot_value};
-ghost use Rattle.rx_engines.specs.Backtrack.{IsInside, extent, frames_of_span, next_of, triple};
+ghost use Rattle.rx_search.specs.Matches.{match_value};
+ghost use Rattle.rx_engines.specs.Search.{IsInside, next_of};
+ghost use Rattle.rx_engines.specs.Backtrack.{extent, frames_of_span};
 
 use crate::backtrack::attempt::attempt;
-use crate::backtrack::search::Search;
 use crate::backtrack::visited::Visited;
+use crate::search::Search;
 use crate::slots::{Slot, clear};
 use crate::stack::Stack;
 use crate::starts::is_allowed;
-use rx_search::PatternID;
+use rx_search::{Match, Span};
 
-/// The pattern, the start and the end of the next match in the span. The slots get what it leaves in them.
+/// The next match in the span. The slots get what it leaves in them.
 pub fn find(
     search: &Search<'_>,
     visited: &mut Visited,
     stack: &mut Stack,
     slots: &mut [Slot],
-) -> Option<(PatternID, usize, usize)>
+) -> Option<Match>
     requires search { IsInside search.now }
+    requires small { extent search.now < 2 ^ 63 }
     requires room { extent search.now ≤ 64 * length visited.old }
     requires frames { frames_of_span search.now ≤ stack.old.room }
-    ensures value { result ≡ option_map triple (next_of search.now) }
+    ensures value { result ≡ option_map match_value (next_of search.now) }
     ensures slots { IfSome (next_of search.now)
         (λ m. (k : ℕ) → k < length slots.new → slice_index_or slots.new k None ≡ slot_value m k) }
     ensures room { length visited.new ≡ length visited.old }
@@ -32,7 +35,11 @@ pub fn find(
     for place in search.first..search.last + 1 {
         if is_allowed(search.text, search.utf8, place) {
             if let Some(found) = attempt(search, place, visited, stack, slots) {
-                return Some((found.0, place, found.1));
+                let span = Span {
+                    start: place,
+                    end: found.offset(),
+                };
+                return Some(Match::new(found.pattern(), span));
             }
         }
     }

@@ -1,17 +1,16 @@
-ghost use Rattle.std.specs.Prelude.{◌≡◌, ◌+◌, ◌<◌, ◌≤◌, ◌∷◌, [], ◌++◌, length, map, Some, None, if◌then◌else◌};
-ghost use Rattle.rx_model.specs.Look.{holds};
-ghost use Rattle.rx_search.specs.Look.{kind_of};
+ghost use Rattle.std.specs.Prelude.{◌≡◌, ◌+◌, ◌<◌, ◌≤◌, ◌∷◌, ◌++◌, length, map, Some};
 ghost use Rattle.rx_nfa.specs.Automaton.{at, state_at};
 ghost use Rattle.rx_engines.specs.Walk.{explore_all};
-ghost use Rattle.rx_engines.specs.Simulation.{byte_at, cost};
-ghost use Rattle.rx_engines.specs.Backtrack.{IsInside, AllInside, graph_for, frames_of, target_of, onto, Saves, Stepped};
+ghost use Rattle.rx_engines.specs.Simulation.{frames_of_state};
+ghost use Rattle.rx_engines.specs.Backtrack.{AllInside, frames_of, onto, Saves, Stepped};
+ghost use Rattle.rx_engines.specs.Search.{IsInside, graph_for};
 
-use crate::backtrack::search::Search;
 use crate::frame::Frame;
+use crate::search::{Search, in_any, in_range};
 use crate::slots::Slot;
 use crate::stack::{Stack, choose};
-use rx_nfa::{State, Transition, matches_byte};
-use rx_search::{Look, PatternID, StateID};
+use rx_nfa::State;
+use rx_search::{PatternID, StateID};
 
 /// What a search does next.
 #[derive(Clone, Copy)]
@@ -35,28 +34,28 @@ pub fn step(
     requires search { IsInside search.now }
     requires state { state < length search.now.states.now }
     requires place { (search.now.first ≤ place) × (place ≤ search.now.end) }
-    requires room { cost (state_at search.now.states.now state) + length stack.old.items ≤ stack.old.room }
+    requires room { frames_of_state (state_at search.now.states.now state) + length stack.old.items ≤ stack.old.room }
     requires inside { AllInside search.now stack.old.items }
     ensures stepped { Stepped (graph_for search.now) (at state place) result
         stack.old.items stack.new.items slots.old slots.new }
     ensures inside { AllInside search.now (frames_of result stack.new.items) }
     ensures frames { length stack.new.items
-        ≤ cost (state_at search.now.states.now state) + length stack.old.items }
+        ≤ frames_of_state (state_at search.now.states.now state) + length stack.old.items }
     ensures room { stack.new.room ≡ stack.old.room }
     ensures width { length slots.new ≡ length slots.old }
 {
     let states = search.states;
     match &states[state.as_usize()] {
         State::ByteRange { start, end, next } => {
-            let byte = byte_before(search.text, search.end, place);
+            let byte = search.byte_at(place);
             toward(in_range(*start, *end, *next, byte), place + 1)
         }
         State::Sparse { transitions } => {
-            let byte = byte_before(search.text, search.end, place);
+            let byte = search.byte_at(place);
             toward(in_any(transitions.as_slice(), byte), place + 1)
         }
         State::Look { look, next } => {
-            let next = look_on(search, *look, *next, place);
+            let next = search.look_on(*look, *next, place);
             toward(next, place)
         }
         State::Union { alternates } => {
@@ -72,46 +71,6 @@ pub fn step(
         }
         State::Fail => Onward::Back,
         State::Match { pattern } => Onward::Accept(*pattern),
-    }
-}
-
-/// The byte at the place, if it lies before the end.
-fn byte_before(text: &[u8], end: usize, place: usize) -> Option<u8>
-    requires { end ≤ length text.now }
-    ensures { result ≡ byte_at text.now end place }
-{
-    if place < end { Some(text[place]) } else { None }
-}
-
-/// Where the byte leads to, if it is in the range.
-fn in_range(start: u8, end: u8, next: StateID, byte: Option<u8>) -> Option<StateID>
-    ensures { result ≡ target_of (record { start = start; end = end; next = next } ∷ []) byte }
-{
-    match byte {
-        Some(byte) if start <= byte && byte <= end => Some(next),
-        _ => None,
-    }
-}
-
-/// Where the byte leads to, if a transition has it.
-fn in_any(transitions: &[Transition], byte: Option<u8>) -> Option<StateID>
-    ensures { result ≡ target_of transitions.now byte }
-{
-    match byte {
-        Some(byte) => matches_byte(transitions, byte),
-        None => None,
-    }
-}
-
-/// The state, where the look-around holds at the place in the whole text.
-fn look_on(search: &Search<'_>, look: Look, next: StateID, place: usize) -> Option<StateID>
-    requires { place ≤ length search.now.text.now }
-    ensures { result ≡ (if holds search.now.matcher search.now.text.now (kind_of look) place then Some next else None) }
-{
-    if search.matcher.matches(look, search.text, place) {
-        Some(next)
-    } else {
-        None
     }
 }
 

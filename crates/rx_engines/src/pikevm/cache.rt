@@ -1,22 +1,23 @@
 ghost use Rattle.std.specs.Prelude.{◌≡◌, vec_len, ℕ, ◌^◌, ◌<◌, ◌≤◌, [], length, All, is_some, Some, None, IfOk, OnOk, OnErr, IfSome, IfNone, option_map, replicate, nat_lt, slice_index_or, if◌then◌else◌};
 ghost use Rattle.rx_model.specs.Search.{slot_value};
-ghost use Rattle.rx_engines.specs.Search.{IsInside, next_of, answer_of, triple};
-ghost use Rattle.rx_engines.specs.Simulation.{cost_below};
+ghost use Rattle.rx_search.specs.Matches.{match_value};
+ghost use Rattle.rx_engines.specs.Search.{IsInside, next_of, answer_of};
+ghost use Rattle.rx_engines.specs.Simulation.{frames_of_states};
 ghost use Rattle.rx_engines.specs.Room.{Room, room_code};
 ghost use Rattle.rx_engines.specs.Engine.{Fits, accounted_memory};
 
 use crate::accounting::memory_of;
-use crate::pikevm::search::Search;
 use crate::pikevm::set::SparseSet;
 use crate::pikevm::simulate::simulate_slots;
 use crate::pikevm::table::Table;
 use crate::pikevm::threads::Threads;
 use crate::pikevm::vm::PikeVM;
 use crate::room::frames_of_all;
+use crate::search::Search;
 use crate::slots::Slot;
 use crate::stack::Stack;
 use rx_nfa::State;
-use rx_search::{Memory, NonMaxUsize, PatternID};
+use rx_search::{Match, Memory, NonMaxUsize};
 use std::alloc::Global;
 use std::marker::Model;
 
@@ -90,7 +91,7 @@ impl Cache {
     ) -> Result<Cache, Memory>
         requires { length states.now < 2 ^ 32 }
         ensures states { IfOk result (λ c. c.states ≡ length states.now) }
-        ensures stack { IfOk result (λ c. cost_below states.now (length states.now) < c.stack) }
+        ensures stack { IfOk result (λ c. frames_of_states states.now (length states.now) < c.stack) }
         ensures widest { IfOk result (λ c. c.widest ≡ widest) }
         ensures memory { IfOk result (λ c. c.memory ≡ memory) }
     {
@@ -142,22 +143,20 @@ impl Cache {
         Cache::of_room(alloc, states, stack, self.best.len(), self.memory)
     }
 
-    /// The pattern, the start and the end of the next match that starts at `from` or after it. The slots get what
-    /// it leaves in them. With `earliest` the search stops at the first place by which a match ends.
+    /// The next match in the span. The slots get what it leaves in them. With `earliest` the search stops at the
+    /// first place by which a match ends.
     pub(crate) fn find(
         &mut self,
         search: &Search<'_>,
-        from: usize,
         earliest: bool,
         slots: &mut [Option<NonMaxUsize>],
-    ) -> Option<(PatternID, usize, usize)>
+    ) -> Option<Match>
         requires search { IsInside search.now }
-        requires from { from ≤ search.now.last }
         requires room { (self.old.states ≡ length search.now.states.now)
-            × (cost_below search.now.states.now (length search.now.states.now) < self.old.stack) }
-        ensures value { result ≡ option_map triple (answer_of search.now earliest from) }
-        ensures any { is_some result ≡ is_some (next_of search.now from) }
-        ensures slots { IfSome (answer_of search.now earliest from) (λ m. (k : ℕ) → k < length slots.new
+            × (frames_of_states search.now.states.now (length search.now.states.now) < self.old.stack) }
+        ensures value { result ≡ option_map match_value (answer_of search.now earliest) }
+        ensures any { is_some result ≡ is_some (next_of search.now) }
+        ensures slots { IfSome (answer_of search.now earliest) (λ m. (k : ℕ) → k < length slots.new
             → slice_index_or slots.new k None
             ≡ (if nat_lt k self.old.widest then slot_value m k else None)) }
         ensures cleared { IfNone result (slots.new ≡ replicate (length slots.old) None) }
@@ -169,7 +168,6 @@ impl Cache {
         self.curr.set.clear();
         simulate_slots(
             search,
-            from,
             earliest,
             width,
             &mut self.curr,
@@ -182,12 +180,11 @@ impl Cache {
     }
 
     /// Whether `find` would find a match. It stops as soon as it knows.
-    pub(crate) fn is_match(&mut self, search: &Search<'_>, from: usize) -> bool
+    pub(crate) fn is_match(&mut self, search: &Search<'_>) -> bool
         requires search { IsInside search.now }
-        requires from { from ≤ search.now.last }
         requires room { (self.old.states ≡ length search.now.states.now)
-            × (cost_below search.now.states.now (length search.now.states.now) < self.old.stack) }
-        ensures value { result ≡ is_some (next_of search.now from) }
+            × (frames_of_states search.now.states.now (length search.now.states.now) < self.old.stack) }
+        ensures value { result ≡ is_some (next_of search.now) }
         ensures room { self.new ≡ self.old }
     {
         self.curr.table.reset(0);
@@ -195,7 +192,6 @@ impl Cache {
         self.curr.set.clear();
         simulate_slots(
             search,
-            from,
             true,
             0,
             &mut self.curr,

@@ -1,19 +1,18 @@
-ghost use Rattle.std.specs.Prelude.{◌≡◌, ℕ, ◌+◌, ◌<◌, ◌≤◌, List, [], ◌∷◌, length, Option, Some, None, if◌then◌else◌};
-ghost use Rattle.rx_model.specs.Look.{holds};
+ghost use Rattle.std.specs.Prelude.{◌≡◌, ℕ, ◌+◌, ◌<◌, ◌≤◌, List, [], ◌∷◌, length, Option};
 ghost use Rattle.rx_model.specs.Runs.{Passed};
-ghost use Rattle.rx_search.specs.Look.{kind_of};
-ghost use Rattle.rx_nfa.specs.Automaton.{automaton, state_at};
+ghost use Rattle.rx_nfa.specs.Automaton.{state_at};
 ghost use Rattle.rx_engines.specs.declared.frame.Frame.TheVariants.{Explore};
-ghost use Rattle.rx_engines.specs.Search.{IsInside};
-ghost use Rattle.rx_engines.specs.Simulation.{cost, cost_below, frames_to_come, Hit, IsStable, Waits, Closed, Visited, move_of, rests, going_on, AllHere};
+ghost use Rattle.rx_engines.specs.Search.{IsInside, graph_until};
+ghost use Rattle.rx_engines.specs.Simulation.{frames_of_state, frames_of_states, frames_to_come, Hit, IsStable, Waits, Closed, Visited, move_of, rests, going_on};
+ghost use Rattle.rx_engines.specs.Walk.{AllWithin};
 
 use crate::frame::Frame;
-use crate::pikevm::search::Search;
 use crate::pikevm::threads::Threads;
+use crate::search::Search;
 use crate::slots::{Slot, read, write};
 use crate::stack::{Stack, choose};
 use rx_nfa::State;
-use rx_search::{Look, StateID};
+use rx_search::StateID;
 
 /// What a walk does after a look at a state.
 #[derive(Clone, Copy)]
@@ -37,13 +36,13 @@ pub fn visit(
     requires search { IsInside search.now }
     requires state { state < length search.now.states.now }
     requires place { place ≤ length search.now.text.now }
-    requires room { cost (state_at search.now.states.now state) + length stack.old.items ≤ stack.old.room }
-    requires inside { AllHere (length search.now.states.now) place stack.old.items }
+    requires room { frames_of_state (state_at search.now.states.now state) + length stack.old.items ≤ stack.old.room }
+    requires inside { AllWithin (length search.now.states.now) place place stack.old.items }
     ensures visited { Visited search.now.matcher search.now.states.now search.now.text.now state place (rests result) stack.old.items
         (going_on result place stack.new.items) slots.old slots.new }
     ensures frames { length (going_on result place stack.new.items)
-        ≤ cost (state_at search.now.states.now state) + length stack.old.items }
-    ensures inside { AllHere (length search.now.states.now) place (going_on result place stack.new.items) }
+        ≤ frames_of_state (state_at search.now.states.now state) + length stack.old.items }
+    ensures inside { AllWithin (length search.now.states.now) place place (going_on result place stack.new.items) }
     ensures room { stack.new.room ≡ stack.old.room }
     ensures width { length slots.new ≡ length slots.old }
 {
@@ -58,7 +57,7 @@ pub fn visit(
             Move::On(*next)
         }
         State::Look { look, next } => {
-            let next = look_on(search, *look, *next, place);
+            let next = search.look_on(*look, *next, place);
             onward(next)
         }
         State::Union { alternates } => {
@@ -67,18 +66,6 @@ pub fn visit(
         }
         State::Fail => Move::Back,
         State::ByteRange { .. } | State::Sparse { .. } | State::Match { .. } => Move::Rest,
-    }
-}
-
-/// The state, where the look-around holds at the place in the whole text.
-fn look_on(search: &Search<'_>, look: Look, next: StateID, place: usize) -> Option<StateID>
-    requires { place ≤ length search.now.text.now }
-    ensures { result ≡ (if holds search.now.matcher search.now.text.now (kind_of look) place then Some next else None) }
-{
-    if search.matcher.matches(look, search.text, place) {
-        Some(next)
-    } else {
-        None
     }
 }
 
@@ -110,15 +97,15 @@ fn follow(
     requires table { length threads.old.table.items ≡ length search.now.states.now }
     requires width { length slots.old ≡ threads.old.table.width }
     requires frames { frames_to_come search.now.states.now place threads.old.set.items + length stack.old.items ≤ stack.old.room }
-    requires inside { AllHere (length search.now.states.now) place stack.old.items }
+    requires inside { AllWithin (length search.now.states.now) place place stack.old.items }
     ensures followed { (end : ℕ) (later : Passed → Option Hit) (goal : Option Hit)
         → place ≤ end
-        → IsStable (automaton search.now.matcher search.now.states.now search.now.text.now end) later
-        → Waits search.now.states.now (automaton search.now.matcher search.now.states.now search.now.text.now end) place start later
+        → IsStable (graph_until search.now end) later
+        → Waits search.now.states.now (graph_until search.now end) place start later
         threads.old.set.items threads.old.table.items (Explore from place ∷ stack.old.items) slots.old goal
-        → Waits search.now.states.now (automaton search.now.matcher search.now.states.now search.now.text.now end) place start later
+        → Waits search.now.states.now (graph_until search.now end) place start later
         threads.new.set.items threads.new.table.items stack.new.items slots.new goal }
-    ensures inside { AllHere (length search.now.states.now) place stack.new.items }
+    ensures inside { AllWithin (length search.now.states.now) place place stack.new.items }
     ensures less { frames_to_come search.now.states.now place threads.new.set.items + length stack.new.items
         ≤ frames_to_come search.now.states.now place threads.old.set.items + length stack.old.items }
     ensures set { threads.new.set.room ≡ threads.old.set.room }
@@ -158,13 +145,13 @@ pub fn close(
     requires table { length threads.old.table.items ≡ length search.now.states.now }
     requires width { length slots.old ≡ threads.old.table.width }
     requires empty { stack.old.items ≡ [] }
-    requires stack { cost_below search.now.states.now (length search.now.states.now) < stack.old.room }
+    requires stack { frames_of_states search.now.states.now (length search.now.states.now) < stack.old.room }
     ensures closed { (end : ℕ) (later : Passed → Option Hit) (goal : Option Hit)
         → place ≤ end
-        → IsStable (automaton search.now.matcher search.now.states.now search.now.text.now end) later
-        → Waits search.now.states.now (automaton search.now.matcher search.now.states.now search.now.text.now end) place start later
+        → IsStable (graph_until search.now end) later
+        → Waits search.now.states.now (graph_until search.now end) place start later
         threads.old.set.items threads.old.table.items (Explore state place ∷ []) slots.old goal
-        → Closed search.now.states.now (automaton search.now.matcher search.now.states.now search.now.text.now end) place later
+        → Closed search.now.states.now (graph_until search.now end) place later
         threads.new.set.items threads.new.table.items goal }
     ensures set { threads.new.set.room ≡ threads.old.set.room }
     ensures table { length threads.new.table.items ≡ length threads.old.table.items }

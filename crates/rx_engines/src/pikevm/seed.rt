@@ -1,18 +1,17 @@
 ghost use Rattle.std.specs.Prelude.{◌≡◌, ℕ, ◌+◌, ◌<◌, ◌≤◌, List, [], length, All, Bool, true, Option, is_some};
 ghost use Rattle.rx_model.specs.Runs.{Passed, nowhere};
 ghost use Rattle.std.specs.Option.{option_or};
-ghost use Rattle.rx_nfa.specs.Automaton.{automaton};
-ghost use Rattle.rx_engines.specs.Simulation.{cost_below, Hit, among, later_starts, passed_at};
-ghost use Rattle.rx_engines.specs.Search.{IsInside};
+ghost use Rattle.rx_engines.specs.Simulation.{frames_of_states, Hit, among, later_starts, passed_at};
+ghost use Rattle.rx_engines.specs.Search.{IsInside, graph_until};
 
 use crate::pikevm::close::close;
-use crate::pikevm::search::Search;
 use crate::pikevm::threads::Threads;
+use crate::search::Search;
 use crate::slots::{Slot, clear};
 use crate::stack::Stack;
 use crate::starts::is_allowed;
 
-/// Starts a thread at each start, after the others, unless there is a match already or none may start here.
+/// Starts a thread here, after the others, unless there is a match already or none may start here.
 pub fn seed(
     search: &Search<'_>,
     place: usize,
@@ -27,17 +26,15 @@ pub fn seed(
     requires table { length threads.old.table.items ≡ length search.now.states.now }
     requires width { length slots.old ≡ threads.old.table.width }
     requires empty { stack.old.items ≡ [] }
-    requires stack { cost_below search.now.states.now (length search.now.states.now) < stack.old.room }
+    requires stack { frames_of_states search.now.states.now (length search.now.states.now) < stack.old.room }
     ensures seeded { (end : ℕ) (best goal : Option Hit)
         → place ≤ end
         → matched ≡ is_some best
-        → option_or (among search.now.states.now (automaton search.now.matcher search.now.states.now search.now.text.now end) nowhere place
-        threads.old.table.items threads.old.set.items)
-        (later_starts search.now.matcher search.now.states.now search.now.text.now search.now.starts.now search.now.utf8_empty end (length slots.old) best search.now.last place (passed_at threads.old.set.items place))
+        → option_or (among search.now.states.now (graph_until search.now end) nowhere place threads.old.table.items threads.old.set.items)
+        (later_starts search.now end (length slots.old) best place (passed_at threads.old.set.items place))
         ≡ goal
-        → option_or (among search.now.states.now (automaton search.now.matcher search.now.states.now search.now.text.now end) nowhere place
-        threads.new.table.items threads.new.set.items)
-        (later_starts search.now.matcher search.now.states.now search.now.text.now search.now.starts.now search.now.utf8_empty end (length slots.old) best search.now.last (place + 1) nowhere)
+        → option_or (among search.now.states.now (graph_until search.now end) nowhere place threads.new.table.items threads.new.set.items)
+        (later_starts search.now end (length slots.old) best (place + 1) nowhere)
         ≡ goal }
     ensures set { threads.new.set.room ≡ threads.old.set.room }
     ensures table { length threads.new.table.items ≡ length threads.old.table.items }
@@ -47,12 +44,9 @@ pub fn seed(
     ensures empty { stack.new.items ≡ [] }
     ensures stack { stack.new.room ≡ stack.old.room }
 {
-    if matched || search.last < place || !is_allowed(search.text, search.utf8_empty, place) {
+    if matched || search.last < place || !is_allowed(search.text, search.utf8, place) {
         return;
     }
-    let starts = search.starts;
-    for k in 0..starts.len() {
-        clear(slots);
-        close(search, starts[k], place, place, threads, stack, slots);
-    }
+    clear(slots);
+    close(search, search.start, place, place, threads, stack, slots);
 }

@@ -1,22 +1,21 @@
 ghost use Rattle.std.specs.Prelude.{◌≡◌, ℕ, ◌+◌, ◌<◌, ◌≤◌, List, [], length, take, All, Bool, ◌&&◌, is_some, Option, Some, None, IfSome, IfNone, option_map, replicate, slice_index_or};
-ghost use Rattle.rx_engines.specs.Simulation.{cost_below, best_hit, hit_of};
+ghost use Rattle.std.specs.Option.{option_or};
+ghost use Rattle.rx_engines.specs.Simulation.{frames_of_states, best_hit, hit_of, until};
 ghost use Rattle.rx_engines.specs.Search.{IsInside, next_of, answer_of};
 
-use crate::pikevm::search::Search;
 use crate::pikevm::seed::seed;
-use crate::pikevm::step::step;
+use crate::pikevm::step::{Accepted, step};
 use crate::pikevm::threads::Threads;
+use crate::search::Search;
 use crate::slots::{Slot, clear, report};
 use crate::stack::Stack;
-use rx_search::{NonMaxUsize, PatternID};
+use rx_search::{Match, NonMaxUsize};
 use std::mem;
 
-/// The search for a match that starts at `from` or after it, with so many slots to a thread. `slots`
-/// gets those of the match, as far as they go. With `earliest` it stops at the first
-/// place by which a match ends.
+/// The search for a match, with so many slots to a thread. `slots` gets those of the match, as far as they go. With
+/// `earliest` it stops at the first place by which a match ends.
 pub fn simulate_slots(
     search: &Search<'_>,
-    from: usize,
     earliest: bool,
     width: usize,
     curr: &mut Threads,
@@ -25,9 +24,8 @@ pub fn simulate_slots(
     scratch: &mut [Slot],
     best: &mut [Slot],
     slots: &mut [Option<NonMaxUsize>],
-) -> Option<(PatternID, usize, usize)>
+) -> Option<Match>
     requires search { IsInside search.now }
-    requires from { from ≤ search.now.last }
     requires none { curr.old.set.items ≡ [] }
     requires set { (curr.old.set.room ≡ length search.now.states.now)
         × (next.old.set.room ≡ length search.now.states.now) }
@@ -37,10 +35,10 @@ pub fn simulate_slots(
         × (width ≤ length scratch.old) × (width ≤ length best.old)
         × (next.old.table.widest ≡ curr.old.table.widest) }
     requires empty { stack.old.items ≡ [] }
-    requires stack { cost_below search.now.states.now (length search.now.states.now) < stack.old.room }
+    requires stack { frames_of_states search.now.states.now (length search.now.states.now) < stack.old.room }
     ensures found { best_hit result (take width best.new)
-        ≡ option_map (hit_of width) (answer_of search.now earliest from) }
-    ensures any { is_some result ≡ is_some (next_of search.now from) }
+        ≡ option_map (hit_of width) (answer_of search.now earliest) }
+    ensures any { is_some result ≡ is_some (next_of search.now) }
     ensures cleared { IfNone result (take width best.new ≡ replicate width None) }
     ensures reported { (k : ℕ) → k < length slots.new
         → slice_index_or slots.new k None ≡ slice_index_or (take width best.new) k None }
@@ -55,7 +53,6 @@ pub fn simulate_slots(
 {
     let found = simulate(
         search,
-        from,
         earliest,
         curr,
         next,
@@ -67,20 +64,17 @@ pub fn simulate_slots(
     found
 }
 
-/// The search for a match that starts at `from` or after it. `slots` gets its slots. With `earliest`
-/// it stops at the first place by which a match ends.
+/// The search for a match. `slots` gets its slots. With `earliest` it stops at the first place by which a match ends.
 fn simulate(
     search: &Search<'_>,
-    from: usize,
     earliest: bool,
     curr: &mut Threads,
     next: &mut Threads,
     stack: &mut Stack,
     row: &mut [Slot],
     slots: &mut [Slot],
-) -> Option<(PatternID, usize, usize)>
+) -> Option<Match>
     requires search { IsInside search.now }
-    requires from { from ≤ search.now.last }
     requires none { curr.old.set.items ≡ [] }
     requires set { (curr.old.set.room ≡ length search.now.states.now)
         × (next.old.set.room ≡ length search.now.states.now) }
@@ -90,10 +84,10 @@ fn simulate(
         × (next.old.table.width ≡ length slots.old) × (length row.old ≡ length slots.old)
         × (next.old.table.widest ≡ curr.old.table.widest) }
     requires empty { stack.old.items ≡ [] }
-    requires stack { cost_below search.now.states.now (length search.now.states.now) < stack.old.room }
+    requires stack { frames_of_states search.now.states.now (length search.now.states.now) < stack.old.room }
     ensures found { best_hit result slots.new
-        ≡ option_map (hit_of (length slots.old)) (answer_of search.now earliest from) }
-    ensures any { is_some result ≡ is_some (next_of search.now from) }
+        ≡ option_map (hit_of (length slots.old)) (answer_of search.now earliest) }
+    ensures any { is_some result ≡ is_some (next_of search.now) }
     ensures cleared { IfNone result (slots.new ≡ replicate (length slots.old) None) }
     ensures set { (curr.new.set.room ≡ length search.now.states.now)
         × (next.new.set.room ≡ length search.now.states.now) }
@@ -106,7 +100,7 @@ fn simulate(
 {
     clear(slots);
     let mut best = None;
-    for place in from..search.end + 1 {
+    for place in search.first..search.end + 1 {
         seed(search, place, best.is_some(), curr, stack, row);
         if curr.set.len() == 0 {
             if best.is_some() {
@@ -128,7 +122,7 @@ fn simulate(
 }
 
 /// Whether the search may stop at the first match that was found, and there is one.
-fn is_enough(earliest: bool, best: &Option<(PatternID, usize, usize)>) -> bool
+fn is_enough(earliest: bool, best: &Option<Match>) -> bool
     ensures { result ≡ (earliest && is_some best.now) }
 {
     earliest && best.is_some()
@@ -136,15 +130,15 @@ fn is_enough(earliest: bool, best: &Option<(PatternID, usize, usize)>) -> bool
 
 /// A match that ends at the place comes before the best one so far.
 fn better(
-    best: Option<(PatternID, usize, usize)>,
-    found: Option<(PatternID, usize)>,
+    best: Option<Match>,
+    found: Option<Accepted>,
     place: usize,
-) -> Option<(PatternID, usize, usize)>
-    ensures some { IfSome found (λ f. result ≡ Some (f.0, f.1, place)) }
-    ensures none { IfNone found (result ≡ best) }
+) -> Option<Match>
+    requires { IfSome found (λ f. f.start ≤ place) }
+    ensures { result ≡ option_or (option_map (until place) found) best }
 {
     match found {
-        Some((pattern, start)) => Some((pattern, start, place)),
+        Some(accepted) => Some(accepted.until(place)),
         None => best,
     }
 }

@@ -1,17 +1,16 @@
-ghost use Rattle.std.specs.Prelude.{◌≡◌, ℕ, ◌+◌, ◌<◌, ◌≤◌, List, [], length, All, Option, IfNone};
+ghost use Rattle.std.specs.Prelude.{◌≡◌, ℕ, ◌+◌, ◌<◌, ◌≤◌, List, [], length, All, Option, IfNone, option_map};
 ghost use Rattle.rx_model.specs.Runs.{Passed, nowhere};
 ghost use Rattle.std.specs.Option.{option_or};
-ghost use Rattle.rx_nfa.specs.Automaton.{automaton};
-ghost use Rattle.rx_engines.specs.Simulation.{cost_below, Hit, among, accepted_hit, IsStable, Stepped, byte_at, act_of, read_of};
-ghost use Rattle.rx_engines.specs.Search.{IsInside};
+ghost use Rattle.rx_engines.specs.Simulation.{frames_of_states, Hit, among, best_hit, until, IsStable, Stepped, byte_at, act_of, onto};
+ghost use Rattle.rx_engines.specs.Search.{IsInside, graph_until};
 
 use crate::pikevm::close::close;
-use crate::pikevm::search::Search;
 use crate::pikevm::threads::Threads;
+use crate::search::{Search, in_any, in_range};
 use crate::slots::Slot;
 use crate::stack::Stack;
-use rx_nfa::{State, Transition, matches_byte};
-use rx_search::{PatternID, StateID};
+use rx_nfa::State;
+use rx_search::{Match, PatternID, Span, StateID};
 
 /// What a state does at a byte.
 #[derive(Clone, Copy)]
@@ -23,16 +22,34 @@ pub enum Action {
     Nothing,
 }
 
+/// What a thread that accepts tells: the pattern, and where the match began.
+#[derive(Clone, Copy)]
+pub struct Accepted {
+    pub pattern: PatternID,
+    pub start: usize,
+}
+
+impl Accepted {
+    /// The match that ends at this place.
+    pub fn until(self, end: usize) -> Match
+        requires { self.start ≤ end }
+        ensures { result ≡ until end self }
+    {
+        let span = Span {
+            start: self.start,
+            end,
+        };
+        Match::new(self.pattern, span)
+    }
+}
+
 /// What the state does where this byte stands; None at the end.
 fn act(state: &State, byte: Option<u8>) -> Action
     ensures { result ≡ act_of state.now byte }
 {
     match state {
-        State::ByteRange { start, end, next } => match byte {
-            Some(byte) if *start <= byte && byte <= *end => Action::Read(*next),
-            _ => Action::Nothing,
-        },
-        State::Sparse { transitions } => read(transitions.as_slice(), byte),
+        State::ByteRange { start, end, next } => onward(in_range(*start, *end, *next, byte)),
+        State::Sparse { transitions } => onward(in_any(transitions.as_slice(), byte)),
         State::Match { pattern } => Action::Accept(*pattern),
         State::Look { .. } | State::Union { .. } | State::Capture { .. } | State::Fail => {
             Action::Nothing
@@ -40,29 +57,17 @@ fn act(state: &State, byte: Option<u8>) -> Action
     }
 }
 
-/// Reads the byte by these transitions.
-fn read(transitions: &[Transition], byte: Option<u8>) -> Action
-    ensures { result ≡ read_of transitions.now byte }
+/// Reads the byte and goes on to the state, if there is one.
+fn onward(next: Option<StateID>) -> Action
+    ensures { result ≡ onto next }
 {
-    match byte {
-        Some(byte) => match matches_byte(transitions, byte) {
-            Some(next) => Action::Read(next),
-            None => Action::Nothing,
-        },
+    match next {
+        Some(state) => Action::Read(state),
         None => Action::Nothing,
     }
 }
 
-/// The byte at the place, if it lies before the end.
-fn byte_before(text: &[u8], end: usize, place: usize) -> Option<u8>
-    requires { end ≤ length text.now }
-    ensures { result ≡ byte_at text.now end place }
-{
-    if place < end { Some(text[place]) } else { None }
-}
-
-/// Moves the threads over the byte at the place, up to the first one that accepts: its pattern and start,
-/// and `best` gets its slots. What it leaves is right for each end of the search before which that byte stands.
+/// Moves the threads over the byte at the place, up to the first one that accepts, of which `best` gets the slots. What it leaves is right for each end of the search before which that byte stands.
 pub fn step(
     search: &Search<'_>,
     place: usize,
@@ -71,7 +76,7 @@ pub fn step(
     stack: &mut Stack,
     slots: &mut [Slot],
     best: &mut [Slot],
-) -> Option<(PatternID, usize)>
+) -> Option<Accepted>
     requires search { IsInside search.now }
     requires place { place ≤ search.now.end }
     requires set { (curr.now.set.room ≡ length search.now.states.now) × (next.old.set.room ≡ length search.now.states.now) }
@@ -80,18 +85,18 @@ pub fn step(
     requires width { (curr.now.table.width ≡ length best.old) × (next.old.table.width ≡ length best.old)
         × (length slots.old ≡ length best.old) }
     requires empty { stack.old.items ≡ [] }
-    requires stack { cost_below search.now.states.now (length search.now.states.now) < stack.old.room }
+    requires stack { frames_of_states search.now.states.now (length search.now.states.now) < stack.old.room }
     requires none { next.old.set.items ≡ [] }
     ensures stepped { (end : ℕ) (later : Passed → Option Hit) (goal : Option Hit)
         → place ≤ end
         → byte_at search.now.text.now end place ≡ byte_at search.now.text.now search.now.end place
-        → IsStable (automaton search.now.matcher search.now.states.now search.now.text.now end) later
-        → option_or (among search.now.states.now (automaton search.now.matcher search.now.states.now search.now.text.now end) nowhere place
+        → IsStable (graph_until search.now end) later
+        → option_or (among search.now.states.now (graph_until search.now end) nowhere place
         curr.now.table.items curr.now.set.items) (later nowhere) ≡ goal
-        → Stepped result search.now.states.now (automaton search.now.matcher search.now.states.now search.now.text.now end) place later
+        → Stepped result search.now.states.now (graph_until search.now end) place later
         next.new.set.items next.new.table.items best.new goal }
-    ensures accepted { among search.now.states.now (automaton search.now.matcher search.now.states.now search.now.text.now place) nowhere place
-        curr.now.table.items curr.now.set.items ≡ accepted_hit result place best.new }
+    ensures accepted { among search.now.states.now (graph_until search.now place) nowhere place
+        curr.now.table.items curr.now.set.items ≡ best_hit (option_map (until place) result) best.new }
     ensures kept { IfNone result (best.new ≡ best.old) }
     ensures set { next.new.set.room ≡ next.old.set.room }
     ensures table { length next.new.table.items ≡ length next.old.table.items }
@@ -103,13 +108,14 @@ pub fn step(
     ensures stack { stack.new.room ≡ stack.old.room }
 {
     let states = search.states;
-    let byte = byte_before(search.text, search.end, place);
+    let byte = search.byte_at(place);
     for k in 0..curr.set.len() {
         let state = curr.set.get(k);
         match act(&states[state.as_usize()], byte) {
             Action::Accept(pattern) => {
                 best.copy_from_slice(curr.table.slots(state));
-                return Some((pattern, curr.table.start(state)));
+                let start = curr.table.start(state);
+                return Some(Accepted { pattern, start });
             }
             Action::Read(target) => {
                 slots.copy_from_slice(curr.table.slots(state));

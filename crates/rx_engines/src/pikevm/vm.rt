@@ -1,18 +1,14 @@
 ghost use Rattle.std.specs.Prelude.{◌≡◌, ◌≤◌, length, None, replicate, is_some, IfOk, IfNone, IfSome, option_map};
 ghost use Rattle.rx_model.specs.Search.{Patterns, told_of};
-ghost use Rattle.rx_search.specs.Anchored.{anchor_of};
+ghost use Rattle.rx_search.specs.Input.{next_in};
 ghost use Rattle.rx_search.specs.Matches.{match_value};
-ghost use Rattle.rx_nfa.specs.Nfa.{IsInRange};
-ghost use Rattle.rx_nfa.specs.NextMatch.{start_of};
-ghost use Rattle.rx_engines.specs.Engine.{PikeVMValue, next_match_in, next_match_for, answer_in, IsOf, IsMatchWith, IsSearchOf, HasSlots, AreWithin, Fits, accounted_memory};
+ghost use Rattle.rx_engines.specs.Engine.{PikeVMValue, next_match_within, answer_in, IsNfaOf, IsMatchWith, HasSlots, AreWithin, Fits, accounted_memory};
 
 use crate::pikevm::cache::Cache;
-use crate::pikevm::search::Search;
-use crate::report::reported;
+use crate::search::Search;
 use crate::slots::empty;
-use crate::starts::latest_start;
 use rx_nfa::NFA;
-use rx_search::{Anchored, Input, Match, MatchKind, Memory, NonMaxUsize, PatternID, StateID};
+use rx_search::{Input, Match, MatchKind, Memory, NonMaxUsize, PatternID};
 use std::alloc::Global;
 use std::marker::Model;
 
@@ -61,33 +57,27 @@ impl PikeVM {
     /// Whether there is a match in the input's span, under each kind of match. It stops as soon as it knows.
     pub fn is_match(&self, cache: &mut Cache, input: &Input<'_>) -> bool
         requires { Fits self.now cache.old }
-        ensures value { result ≡ is_some (next_match_in self.now input.now) }
-        ensures patterns { (r : Patterns) → IsOf self.now r
-            → next_match_in self.now input.now ≡ option_map (told_of r.which_captures) (next_match_for r input.now) }
+        ensures value { result ≡ is_some (next_match_within self.now.nfa input.now) }
+        ensures patterns { (r : Patterns) → IsNfaOf self.now.nfa r
+            → next_match_within self.now.nfa input.now ≡ option_map (told_of r.which_captures) (next_in r input.now) }
         ensures cache { cache.new ≡ cache.old }
     {
-        let from = input.start();
-        let Some(start) = self.start(input.get_anchored()) else {
+        let Some(search) = Search::of(&self.nfa, input) else {
             return false;
         };
-        if input.is_done() {
-            return false;
-        }
-        let starts = [start];
-        let search = self.search_for(input, &starts);
-        cache.is_match(&search, from)
+        cache.is_match(&search)
     }
 
     /// The next match in the input's span. With `earliest` the search stops at the first place by which a match
-    /// ends, and answers the next match up to there. Under `All` it is the same
-    /// match for now: a later version may tell the kinds apart.
+    /// ends, and answers the next match up to there. Under `All` it answers the same match as under
+    /// `LeftmostFirst`.
     pub fn find(&self, cache: &mut Cache, input: &Input<'_>) -> Option<Match>
         requires { Fits self.now cache.old }
         ensures value { result ≡ option_map match_value (answer_in self.now input.now) }
-        ensures any { is_some result ≡ is_some (next_match_in self.now input.now) }
-        ensures patterns { (r : Patterns) → IsOf self.now r
-            → next_match_in self.now input.now ≡ option_map (told_of r.which_captures) (next_match_for r input.now) }
-        ensures is_match { (r : Patterns) → IsOf self.now r
+        ensures any { is_some result ≡ is_some (next_match_within self.now.nfa input.now) }
+        ensures patterns { (r : Patterns) → IsNfaOf self.now.nfa r
+            → next_match_within self.now.nfa input.now ≡ option_map (told_of r.which_captures) (next_in r input.now) }
+        ensures is_match { (r : Patterns) → IsNfaOf self.now.nfa r
             → IfSome result (λ found. IsMatchWith r input.now (λ m. found ≡ match_value m)) }
         ensures within { IfSome result (λ m. (input.now.start ≤ m.start) × (m.end ≤ input.now.end)) }
         ensures cache { cache.new ≡ cache.old }
@@ -105,10 +95,10 @@ impl PikeVM {
     ) -> Option<PatternID>
         requires { Fits self.now cache.old }
         ensures value { result ≡ option_map (λ m. m.trace.pattern) (answer_in self.now input.now) }
-        ensures any { is_some result ≡ is_some (next_match_in self.now input.now) }
-        ensures patterns { (r : Patterns) → IsOf self.now r
-            → next_match_in self.now input.now ≡ option_map (told_of r.which_captures) (next_match_for r input.now) }
-        ensures is_match { (r : Patterns) → IsOf self.now r
+        ensures any { is_some result ≡ is_some (next_match_within self.now.nfa input.now) }
+        ensures patterns { (r : Patterns) → IsNfaOf self.now.nfa r
+            → next_match_within self.now.nfa input.now ≡ option_map (told_of r.which_captures) (next_in r input.now) }
+        ensures is_match { (r : Patterns) → IsNfaOf self.now.nfa r
             → IfSome result (λ p. IsMatchWith r input.now (λ m. (p ≡ m.trace.pattern) × HasSlots slots.new m)) }
         ensures slots { IfSome (answer_in self.now input.now) (HasSlots slots.new) }
         ensures none { IfNone result (slots.new ≡ replicate (length slots.old) None) }
@@ -130,10 +120,10 @@ impl PikeVM {
     ) -> Option<Match>
         requires { Fits self.now cache.old }
         ensures value { result ≡ option_map match_value (answer_in self.now input.now) }
-        ensures any { is_some result ≡ is_some (next_match_in self.now input.now) }
-        ensures patterns { (r : Patterns) → IsOf self.now r
-            → next_match_in self.now input.now ≡ option_map (told_of r.which_captures) (next_match_for r input.now) }
-        ensures is_match { (r : Patterns) → IsOf self.now r
+        ensures any { is_some result ≡ is_some (next_match_within self.now.nfa input.now) }
+        ensures patterns { (r : Patterns) → IsNfaOf self.now.nfa r
+            → next_match_within self.now.nfa input.now ≡ option_map (told_of r.which_captures) (next_in r input.now) }
+        ensures is_match { (r : Patterns) → IsNfaOf self.now.nfa r
             → IfSome result (λ found. IsMatchWith r input.now (λ m. (found ≡ match_value m) × HasSlots slots.new m)) }
         ensures slots { IfSome (answer_in self.now input.now) (HasSlots slots.new) }
         ensures none { IfNone result (slots.new ≡ replicate (length slots.old) None) }
@@ -141,45 +131,10 @@ impl PikeVM {
         ensures within { IfSome result (λ m. (input.now.start ≤ m.start) × (m.end ≤ input.now.end)) }
         ensures cache { cache.new ≡ cache.old }
     {
-        let from = input.start();
-        let Some(start) = self.start(input.get_anchored()) else {
+        let Some(search) = Search::of(&self.nfa, input) else {
             empty(slots);
             return None;
         };
-        if input.is_done() {
-            empty(slots);
-            return None;
-        }
-        let starts = [start];
-        let search = self.search_for(input, &starts);
-        let found = cache.find(&search, from, input.get_earliest(), slots);
-        reported(found)
-    }
-
-    /// The search of the input's span for the runs from these starts.
-    fn search_for<'a>(&'a self, input: &'a Input<'a>, starts: &'a [StateID]) -> Search<'a>
-        requires { input.now.start ≤ input.now.end }
-        ensures { IsSearchOf self.now input.now starts.now result }
-    {
-        Search {
-            states: self.nfa.states(),
-            starts,
-            text: input.haystack(),
-            matcher: *self.nfa.look_matcher(),
-            utf8_empty: self.nfa.is_utf8(),
-            last: latest_start(input),
-            end: input.end(),
-        }
-    }
-
-    /// Where the runs start, if the pattern that is asked for is there.
-    fn start(&self, anchored: Anchored) -> Option<StateID>
-        ensures value { result ≡ start_of self.now.nfa (anchor_of anchored) }
-        ensures in_range { IsInRange self.now.nfa }
-    {
-        match anchored {
-            Anchored::No | Anchored::Yes => Some(self.nfa.start_anchored()),
-            Anchored::Pattern(pattern) => self.nfa.start_pattern(pattern),
-        }
+        cache.find(&search, input.get_earliest(), slots)
     }
 }

@@ -1,7 +1,8 @@
 use Rattle.std.proofs.Common.{◌∷◌, sym, ◌∙◌, ap, arith}
 use Rattle.std.proofs.lemmas.List.{length-set}
 use Rattle.rx_nfa.specs.Automaton.{at}
-use Rattle.rx_engines.specs.Backtrack.{graph_for, passed_by}
+use Rattle.rx_engines.specs.Search.{graph_for}
+use Rattle.rx_engines.specs.Backtrack.{passed_by}
 use Rattle.rx_engines.specs.Threads.{Frames}
 use Rattle.rx_engines.proofs.SearchingLemmas.{Searching-begun, Searching-restored, Searching-over}
 use Rattle.rx_engines.proofs.backtrack.attempt.attempt.Goals as goal

@@ -2,7 +2,8 @@ use Rattle.std.proofs.Common.{◌≡◌, ◌+◌, ◌≤◌, length}
 use Rattle.rx_model.specs.Runs.{first_trace}
 use Rattle.rx_nfa.specs.Automaton.{at}
 use Rattle.rx_engines.specs.Walk.{answer}
-use Rattle.rx_engines.specs.Backtrack.{graph_for, passed_by, work, frames_left, AllInside, Searching}
+use Rattle.rx_engines.specs.Search.{graph_for}
+use Rattle.rx_engines.specs.Backtrack.{passed_by, work, frames_left, AllInside, Searching}
 use Rattle.rx_engines.proofs.backtrack.attempt.attempt.Given as goal
 
 abbrev pub invariant-loop-frame : goal.invariant-loop-frame

@@ -3,7 +3,8 @@ use Rattle.std.specs.Prelude.{Option}
 use Rattle.rx_model.specs.Runs.{Passed}
 use Rattle.rx_engines.specs.Walk.{Slots, Answer}
 use Rattle.rx_engines.specs.declared.frame.Frame.TheVariants.{Explore}
-use Rattle.rx_engines.specs.Backtrack.{graph_for, passed_by, work, frames_left, AllInside, Searching}
+use Rattle.rx_engines.specs.Search.{graph_for}
+use Rattle.rx_engines.specs.Backtrack.{passed_by, work, frames_left, AllInside, Searching}
 use Rattle.rx_engines.proofs.backtrack.attempt.follow.Given as goal
 
 abbrev pub invariant-loop-state : goal.invariant-loop-state

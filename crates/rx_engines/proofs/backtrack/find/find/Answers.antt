@@ -1,9 +1,9 @@
 use Rattle.std.proofs.Common.{◌≤◌, ◌+◌, ◌-◌, length, refl, sym, ◌∙◌, ap, arith}
 use Rattle.rx_model.specs.Runs.{found}
-use Rattle.rx_engines.specs.Backtrack.{graph_for}
+use Rattle.rx_engines.specs.Search.{graph_for}
 use Rattle.rx_engines.proofs.BitLemmas.{passed_in-none}
 use Rattle.rx_engines.proofs.FrameLemmas.{frames_below-empty}
-use Rattle.rx_engines.proofs.BoundedLemmas.{next-none_here, next-not_allowed, next-over, returned-none, match-answered}
+use Rattle.rx_engines.proofs.BoundedLemmas.{next-none_here, next-not_allowed, next-over, returned-none, returned-in_order, match-answered}
 use Rattle.rx_engines.proofs.backtrack.find.find.Goals as goal
 use Rattle.rx_engines.proofs.backtrack.find.find.Goals.{then-is_allowed+in_default, else-is_allowed}
 
@@ -17,8 +17,15 @@ loop-place-init c = record {
   room = c.clear.ensures.room;
 }
 
+pub new-requires : goal.new-requires
+new-requires c =
+    let order = returned-in_order c.args.search.now c.loop-place.place c.in-Some.found _ _ (rw c.in-Some.is at c.attempt.ensures.value) in
+    let end = c.offset.ensures in
+    omega arith
+
 pub returns-in-Some-clause-value : goal.returns-in-Some-clause-value
 returns-in-Some-clause-value c =
+    rw (c.new.ensures, c.pattern.ensures, c.offset.ensures)
     (match-answered c.args.search.now c.loop-place.place (length c.args.slots.now) c.in-Some.found _ _ _
     (rw c.in-Some.is at c.attempt.ensures.value) (omega arith) (sym c.is_allowed.ensures ∙ c.if-is_allowed.true) c.loop-place.invariant.empty c.loop-place.invariant.none_yet).value
 

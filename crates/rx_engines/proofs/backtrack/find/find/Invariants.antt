@@ -3,7 +3,8 @@ use Rattle.std.specs.Prelude.{replicate, None}
 use Rattle.rx_model.specs.Runs.{first_trace}
 use Rattle.rx_model.specs.Search.{is_permitted, first_start}
 use Rattle.rx_nfa.specs.Automaton.{at}
-use Rattle.rx_engines.specs.Backtrack.{graph_for, passed_by, frames_left, IsDead, next_of}
+use Rattle.rx_engines.specs.Search.{graph_for, next_of}
+use Rattle.rx_engines.specs.Backtrack.{passed_by, frames_left, IsDead}
 use Rattle.rx_engines.proofs.backtrack.find.find.Given as goal
 
 abbrev pub invariant-loop-place : goal.invariant-loop-place

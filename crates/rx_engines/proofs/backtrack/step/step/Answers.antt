@@ -5,8 +5,9 @@ use Rattle.rx_search.specs.Look.{kind_of}
 use Rattle.rx_nfa.specs.Automaton.{at}
 use Rattle.rx_nfa.specs.declared.state.Transition.{Transition}
 use Rattle.rx_nfa.proofs.StateLemmas.{accepted-is, state-known, names-known}
-use Rattle.rx_engines.specs.Simulation.{byte_at}
-use Rattle.rx_engines.specs.Backtrack.{graph_for, target_of, onto}
+use Rattle.rx_engines.specs.Search.{graph_for}
+use Rattle.rx_engines.specs.Simulation.{byte_at, target_of}
+use Rattle.rx_engines.specs.Backtrack.{onto}
 use Rattle.rx_engines.proofs.YieldLemmas.{reads-onto, looks-onto, Stepped-onto, Yields-unwritten, Yields-saved, AllWithin-read, AllWithin-looked, AllWithin-union}
 use Rattle.rx_engines.proofs.backtrack.step.step.Goals as goal
 
@@ -16,7 +17,7 @@ returns-in-ByteRange-clause-stepped c =
     let is = state-known s.states.now _ c.args.state _ _ c.as_usize.ensures.value c.requires.state c.index-states-as_usize.is c.in-ByteRange.is in
     let read : Transition = record { start = c.in-ByteRange.start; end = c.in-ByteRange.end; next = c.in-ByteRange.next } in
     let goes : c.toward.result ≡ onto (target_of (read ∷ []) (byte_at s.text.now s.end c.args.place)) (c.args.place + 1) =
-    c.toward.ensures ∙ ap (λ o. onto o (c.args.place + 1)) (c.in_range.ensures ∙ ap (target_of (read ∷ [])) c.byte_before-byte.ensures) in
+    c.toward.ensures ∙ ap (λ o. onto o (c.args.place + 1)) (c.in_range.ensures ∙ ap (target_of (read ∷ [])) c.byte_at-byte.ensures) in
     rw goes
     (Stepped-onto (graph_for s) (at c.args.state c.args.place) (target_of (read ∷ []) (byte_at s.text.now s.end c.args.place)) (c.args.place + 1) _ _ _ _
     (Yields-unwritten s.matcher s.states.now s.text.now s.end c.args.state c.args.place c.requires.state c.requires.place.1 _ is refl refl _ _ _
@@ -27,7 +28,7 @@ returns-in-Sparse-clause-stepped c =
     let s = c.args.search.now in
     let is = state-known s.states.now _ c.args.state _ _ c.as_usize.ensures.value c.requires.state c.index-states-as_usize.is c.in-Sparse.is in
     let goes : c.toward-in-Sparse.result ≡ onto (target_of c.in-Sparse.transitions (byte_at s.text.now s.end c.args.place)) (c.args.place + 1) =
-    c.toward-in-Sparse.ensures ∙ ap (λ o. onto o (c.args.place + 1)) (c.in_any.ensures ∙ (λ j. target_of (c.as_slice.ensures j) (c.byte_before-byte-in-Sparse.ensures j))) in
+    c.toward-in-Sparse.ensures ∙ ap (λ o. onto o (c.args.place + 1)) (c.in_any.ensures ∙ (λ j. target_of (c.as_slice.ensures j) (c.byte_at-byte-in-Sparse.ensures j))) in
     rw goes
     (Stepped-onto (graph_for s) (at c.args.state c.args.place) (target_of c.in-Sparse.transitions (byte_at s.text.now s.end c.args.place)) (c.args.place + 1) _ _ _ _
     (Yields-unwritten s.matcher s.states.now s.text.now s.end c.args.state c.args.place c.requires.state c.requires.place.1 _ is refl refl _ _ _
@@ -38,7 +39,7 @@ returns-in-Sparse-clause-inside c =
     let s = c.args.search.now in
     let is = state-known s.states.now _ c.args.state _ _ c.as_usize.ensures.value c.requires.state c.index-states-as_usize.is c.in-Sparse.is in
     let goes : c.toward-in-Sparse.result ≡ onto (target_of c.in-Sparse.transitions (byte_at s.text.now s.end c.args.place)) (c.args.place + 1) =
-    c.toward-in-Sparse.ensures ∙ ap (λ o. onto o (c.args.place + 1)) (c.in_any.ensures ∙ (λ j. target_of (c.as_slice.ensures j) (c.byte_before-byte-in-Sparse.ensures j))) in
+    c.toward-in-Sparse.ensures ∙ ap (λ o. onto o (c.args.place + 1)) (c.in_any.ensures ∙ (λ j. target_of (c.as_slice.ensures j) (c.byte_at-byte-in-Sparse.ensures j))) in
     rw goes
     (AllWithin-read (length s.states.now) s.first s.end s.text.now c.in-Sparse.transitions c.args.place c.args.stack.now.items c.requires.place.0
     (names-known s.states.now c.args.state _ c.requires.search.names c.requires.state is) c.requires.inside)

@@ -2,14 +2,14 @@ use Rattle.std.proofs.Common.{◌∷◌, length, length-set, ◌∙◌, ap, arit
 use Rattle.rx_engines.specs.Threads.{Frames}
 use Rattle.rx_engines.specs.Simulation.{passed_at}
 use Rattle.rx_engines.proofs.CloseLemmas.{on_top}
-use Rattle.rx_engines.proofs.LineLemmas.{line-cost}
+use Rattle.rx_engines.proofs.LineLemmas.{line-frames}
 use Rattle.rx_engines.proofs.SimulationLemmas.{Waits-restored, Waits-over}
 use Rattle.rx_engines.proofs.pikevm.close.close.Goals as goal
 
 pub follow-requires-clause-frames : goal.follow-requires-clause-frames
 follow-requires-clause-frames c =
     let states = c.args.search.now.states.now in
-    let cost = line-cost states (length states) c.args.place (passed_at c.args.threads.now.set.items c.args.place) in
+    let left = line-frames states (length states) c.args.place (passed_at c.args.threads.now.set.items c.args.place) in
     let none = ap length c.requires.empty in
     let room = c.requires.stack in
     omega arith
@@ -17,7 +17,7 @@ follow-requires-clause-frames c =
 pub loop-frame-init : goal.loop-frame-init
 loop-frame-init c =
     let states = c.args.search.now.states.now in
-    let cost = line-cost states (length states) c.args.place (passed_at c.args.threads.now.set.items c.args.place) in
+    let left = line-frames states (length states) c.args.place (passed_at c.args.threads.now.set.items c.args.place) in
     let none = ap length c.requires.empty in
     let room = c.requires.stack in
     let less = c.follow.ensures.less in

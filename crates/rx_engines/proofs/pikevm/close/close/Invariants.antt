@@ -1,17 +1,18 @@
 use Rattle.std.proofs.Common.{◌≡◌, ◌+◌, ◌∷◌, ◌≤◌, [], length, ℕ}
 use Rattle.std.specs.Prelude.{Option}
 use Rattle.rx_model.specs.Runs.{Passed}
-use Rattle.rx_nfa.specs.Automaton.{automaton}
+use Rattle.rx_engines.specs.Search.{graph_until}
 use Rattle.rx_engines.specs.declared.frame.Frame.TheVariants.{Explore}
-use Rattle.rx_engines.specs.Simulation.{Hit, Waits, IsStable, AllHere, frames_to_come}
+use Rattle.rx_engines.specs.Walk.{AllWithin}
+use Rattle.rx_engines.specs.Simulation.{Hit, Waits, IsStable, frames_to_come}
 use Rattle.rx_engines.proofs.pikevm.close.close.Given as goal
 
 abbrev pub invariant-loop-frame : goal.invariant-loop-frame
 invariant-loop-frame l = record {
-  waits : (end : ℕ) (later : Passed → Option Hit) (goal : Option Hit) → l.place ≤ end → IsStable (automaton l.search.matcher l.search.states.now l.search.text.now end) later
-      → Waits l.search.states.now (automaton l.search.matcher l.search.states.now l.search.text.now end) l.place l.start later l.fn.threads.set.items l.fn.threads.table.items (Explore l.fn.state l.place ∷ []) l.fn.slots goal
-      → Waits l.search.states.now (automaton l.search.matcher l.search.states.now l.search.text.now end) l.place l.start later l.threads.set.items l.threads.table.items l.stack.items l.slots goal;
-  here : AllHere (length l.search.states.now) l.place l.stack.items;
+  waits : (end : ℕ) (later : Passed → Option Hit) (goal : Option Hit) → l.place ≤ end → IsStable (graph_until l.search end) later
+      → Waits l.search.states.now (graph_until l.search end) l.place l.start later l.fn.threads.set.items l.fn.threads.table.items (Explore l.fn.state l.place ∷ []) l.fn.slots goal
+      → Waits l.search.states.now (graph_until l.search end) l.place l.start later l.threads.set.items l.threads.table.items l.stack.items l.slots goal;
+  here : AllWithin (length l.search.states.now) l.place l.place l.stack.items;
   few : frames_to_come l.search.states.now l.place l.threads.set.items + length l.stack.items ≤ l.stack.room;
   room : l.threads.set.room ≡ length l.search.states.now;
   rows : length l.threads.table.items ≡ length l.search.states.now;

@@ -1,10 +1,13 @@
 use Rattle.std.proofs.Common.{◌∷◌, refl, ◌∙◌, ap, arith, length}
+use Rattle.rx_model.specs.Look.{holds}
+use Rattle.rx_search.specs.Look.{kind_of}
 use Rattle.rx_nfa.proofs.StateLemmas.{state-known, names-known}
 use Rattle.rx_engines.specs.declared.frame.Frame.TheVariants.{Explore}
 use Rattle.rx_engines.specs.Threads.{Frames}
-use Rattle.rx_engines.specs.Simulation.{is_resting, cost}
+use Rattle.rx_engines.specs.Simulation.{is_resting, frames_of_state}
 use Rattle.rx_engines.proofs.WalkLemmas.{Expands-unwritten, Expands-written}
-use Rattle.rx_engines.proofs.CloseLemmas.{AllHere-union, union-length, AllHere-looked, looked-length, going-onto, going-looked, Visited-onward}
+use Rattle.rx_engines.proofs.CloseLemmas.{union-length, AllWithin-taken, taken-length, going-onto, going-looked, Visited-onward}
+use Rattle.rx_engines.proofs.YieldLemmas.{AllWithin-union}
 use Rattle.rx_engines.proofs.pikevm.close.visit.Goals as goal
 
 pub returns-in-Capture-clause-visited : goal.returns-in-Capture-clause-visited
@@ -27,7 +30,7 @@ returns-in-Union-clause-visited c =
 pub returns-in-Union-clause-frames : goal.returns-in-Union-clause-frames
 returns-in-Union-clause-frames c =
     let is = state-known c.args.search.now.states.now _ c.args.state _ _ c.as_usize.ensures.value c.requires.state c.index-states-as_usize.is c.in-Union.is in
-    let size = ap cost is in
+    let size = ap frames_of_state is in
     let now = ap length (going-onto c.choose-first.result c.args.place c.choose-first.new.stack.items ∙ rw c.as_slice.ensures at c.choose-first.ensures.chosen) in
     let many = union-length c.in-Union.alternates c.args.place c.args.stack.now.items in
     rw c.onward-in-Union.ensures (omega arith)
@@ -36,7 +39,7 @@ pub returns-in-Union-clause-inside : goal.returns-in-Union-clause-inside
 returns-in-Union-clause-inside c =
     let is = state-known c.args.search.now.states.now _ c.args.state _ _ c.as_usize.ensures.value c.requires.state c.index-states-as_usize.is c.in-Union.is in
     rw (c.onward-in-Union.ensures, going-onto c.choose-first.result c.args.place c.choose-first.new.stack.items, c.choose-first.ensures.chosen, c.as_slice.ensures)
-    (AllHere-union _ _ _ _ (names-known c.args.search.now.states.now c.args.state _ c.requires.search.names c.requires.state is) c.requires.inside)
+    (AllWithin-union (length c.args.search.now.states.now) c.args.place c.args.place c.args.place c.in-Union.alternates c.args.stack.now.items (omega arith) (omega arith) (names-known c.args.search.now.states.now c.args.state _ c.requires.search.names c.requires.state is) c.requires.inside)
 
 pub returns-in-Fail-clause-visited : goal.returns-in-Fail-clause-visited
 returns-in-Fail-clause-visited c =
@@ -58,8 +61,8 @@ pub returns-in-Look-clause-frames : goal.returns-in-Look-clause-frames
 returns-in-Look-clause-frames c =
     let is = state-known c.args.search.now.states.now _ c.args.state _ _ c.as_usize.ensures.value c.requires.state c.index-states-as_usize.is c.in-Look.is in
     let goes = rw c.look_on-next.ensures at c.onward.ensures in
-    let size = ap cost is in
-    let one = looked-length c.args.search.now.matcher c.args.search.now.text.now c.in-Look.look c.in-Look.next c.args.place c.args.stack.now.items in
+    let size = ap frames_of_state is in
+    let one = taken-length (holds c.args.search.now.matcher c.args.search.now.text.now (kind_of c.in-Look.look) c.args.place) c.in-Look.next c.args.place c.args.stack.now.items in
     rw (goes, going-looked _ c.in-Look.next c.args.place c.args.stack.now.items) (omega arith)
 
 pub returns-in-Look-clause-inside : goal.returns-in-Look-clause-inside
@@ -67,4 +70,4 @@ returns-in-Look-clause-inside c =
     let is = state-known c.args.search.now.states.now _ c.args.state _ _ c.as_usize.ensures.value c.requires.state c.index-states-as_usize.is c.in-Look.is in
     let goes = rw c.look_on-next.ensures at c.onward.ensures in
     rw (goes, going-looked _ c.in-Look.next c.args.place c.args.stack.now.items)
-    (AllHere-looked _ _ _ _ _ _ _ (names-known c.args.search.now.states.now c.args.state _ c.requires.search.names c.requires.state is) c.requires.inside)
+    (AllWithin-taken (length c.args.search.now.states.now) c.args.place (holds c.args.search.now.matcher c.args.search.now.text.now (kind_of c.in-Look.look) c.args.place) c.in-Look.next c.args.stack.now.items (names-known c.args.search.now.states.now c.args.state _ c.requires.search.names c.requires.state is) c.requires.inside)

@@ -7,11 +7,11 @@ use Rattle.rx_engines.proofs.pikevm.simulate.simulate.Given as goal
 
 abbrev pub invariant-loop-place : goal.invariant-loop-place
 invariant-loop-place l = record {
-  value : Stage l.search (length l.fn.slots) l.from l.search.end (best_hit l.best l.slots) l.place l.place (passed_at l.curr.set.items l.place) l.curr.table.items l.curr.set.items;
-  values : l.earliest ≡ true → (e : ℕ) → l.place ≤ e → e ≤ l.search.end
-      → Stage l.search (length l.fn.slots) l.from e (best_hit l.best l.slots) l.place l.place (passed_at l.curr.set.items l.place) l.curr.table.items l.curr.set.items;
+  value : Stage l.search (length l.fn.slots) l.search.end (best_hit l.best l.slots) l.place l.place (passed_at l.curr.set.items l.place) l.curr.table.items l.curr.set.items;
+  values : (e : ℕ) → l.place ≤ e → e ≤ l.search.end
+      → Stage l.search (length l.fn.slots) e (best_hit l.best l.slots) l.place l.place (passed_at l.curr.set.items l.place) l.curr.table.items l.curr.set.items;
   unmatched : l.earliest ≡ true → l.best ≡ None;
-  none_before : l.earliest ≡ true → (e : ℕ) → l.from ≤ e → e < l.place → next_until l.search l.from e ≡ None;
+  none_before : l.earliest ≡ true → (e : ℕ) → l.search.first ≤ e → e < l.place → next_until l.search e ≡ None;
   cleared : IfNone l.best (l.slots ≡ replicate (length l.fn.slots) None);
   slots_len : length l.slots ≡ length l.fn.slots;
   row_len : length l.row ≡ length l.fn.slots;

@@ -23,14 +23,14 @@ loop-k-init c = record {
 
 pub returns-in-Accept-clause-stepped : goal.returns-in-Accept-clause-stepped
 returns-in-Accept-clause-stepped c end later goal le byte stable value =
-    let acts = acts-known c.args.search.now.matcher c.args.search.now.states.now c.args.search.now.text.now end c.get-state.result c.args.place c.requires.search.names (omega arith) le _ _ _ _ c.as_usize.ensures.value c.index-states-as_usize.is (c.byte_before-byte.ensures ∙ sym byte) c.in-Accept.ensures in
-    rw (c.start.ensures, c.copy_from_slice.ensures.after, c.slots.ensures.value)
+    let acts = acts-known c.args.search.now.matcher c.args.search.now.states.now c.args.search.now.text.now end c.get-state.result c.args.place c.requires.search.names (omega arith) le _ _ _ _ c.as_usize.ensures.value c.index-states-as_usize.is (c.byte_at-byte.ensures ∙ sym byte) c.in-Accept.ensures in
+    rw (c.start-start.ensures, c.copy_from_slice.ensures.after, c.slots.ensures.value)
     (Stepping-accepts (automaton-bounded c.args.search.now.matcher c.args.search.now.states.now c.args.search.now.text.now end) c.args.curr.now.set.items c.loop-k.k c.get-state.result (omega arith) c.get-state.ensures.value
     (c.loop-k.invariant.stepping end later goal le byte stable value) c.in-Accept.pattern acts.0 acts.1)
 
 pub returns-in-Accept-clause-accepted : goal.returns-in-Accept-clause-accepted
 returns-in-Accept-clause-accepted c =
-    rw (c.start.ensures, c.copy_from_slice.ensures.after, c.slots.ensures.value)
+    rw (c.start-start.ensures, c.copy_from_slice.ensures.after, c.slots.ensures.value)
     (c.loop-k.invariant.accepting
     ∙ idle-accepts c.args.search.now.matcher c.args.search.now.states.now c.args.search.now.text.now c.get-state.result c.args.place c.requires.search.names (omega arith) c.args.curr.now.table.items c.args.curr.now.set.items c.loop-k.k c.in-Accept.pattern (omega arith) c.get-state.ensures.value
     (idle-known c.args.search.now.matcher c.args.search.now.states.now c.args.search.now.text.now c.get-state.result c.args.place c.requires.search.names (omega arith) c.args.curr.now.table.items _ _ _ _ c.as_usize.ensures.value c.index-states-as_usize.is c.in-Accept.ensures))
@@ -42,13 +42,13 @@ loop-k-preserved c =
           rw (w.next-is, w.stack-is, w.slots-is)
           (record {
             stepping = λ end later goal le byte stable value.
-                (let acts = acts-known c.args.search.now.matcher c.args.search.now.states.now c.args.search.now.text.now end c.get-state.result c.args.place c.requires.search.names (omega arith) le _ _ _ _ c.as_usize.ensures.value c.index-states-as_usize.is (c.byte_before-byte.ensures ∙ sym byte) w.in-Read.ensures in
+                (let acts = acts-known c.args.search.now.matcher c.args.search.now.states.now c.args.search.now.text.now end c.get-state.result c.args.place c.requires.search.names (omega arith) le _ _ _ _ c.as_usize.ensures.value c.index-states-as_usize.is (c.byte_at-byte.ensures ∙ sym byte) w.in-Read.ensures in
                 let waits = Stepping-reads (automaton-bounded c.args.search.now.matcher c.args.search.now.states.now c.args.search.now.text.now end) c.args.curr.now.set.items c.loop-k.k c.get-state.result (omega arith) c.get-state.ensures.value
                 (c.loop-k.invariant.stepping end later goal le byte stable value) (automaton-rises c.args.search.now.matcher c.args.search.now.states.now c.args.search.now.text.now end) w.in-Read.target acts.0 acts.3 acts.4 acts.5 in
                 let closed = w.close.ensures.closed end (onward c.args.search.now.states.now (automaton c.args.search.now.matcher c.args.search.now.states.now c.args.search.now.text.now end) c.args.place c.args.curr.now.table.items (drop (c.loop-k.k + 1) c.args.curr.now.set.items) later) goal
                 (let lt = acts.2 in omega arith)
                 (onward-stable c.args.search.now.states.now (automaton c.args.search.now.matcher c.args.search.now.states.now c.args.search.now.text.now end) c.args.place c.args.curr.now.table.items (drop (c.loop-k.k + 1) c.args.curr.now.set.items) later stable)
-                (rw (w.start-in-Read.ensures, w.copy_from_slice-in-Read.ensures.after, w.slots-in-Read.ensures.value) waits) in
+                (rw (w.start.ensures, w.copy_from_slice-in-Read.ensures.after, w.slots-in-Read.ensures.value) waits) in
                 record { value = closed.value });
             accepting =
                 c.loop-k.invariant.accepting
@@ -67,7 +67,7 @@ loop-k-preserved c =
           rw (w.next-is, w.stack-is, w.slots-is)
           (record {
             stepping = λ end later goal le byte stable value.
-                (let acts = acts-known c.args.search.now.matcher c.args.search.now.states.now c.args.search.now.text.now end c.get-state.result c.args.place c.requires.search.names (omega arith) le _ _ _ _ c.as_usize.ensures.value c.index-states-as_usize.is (c.byte_before-byte.ensures ∙ sym byte) w.in-Nothing.ensures in
+                (let acts = acts-known c.args.search.now.matcher c.args.search.now.states.now c.args.search.now.text.now end c.get-state.result c.args.place c.requires.search.names (omega arith) le _ _ _ _ c.as_usize.ensures.value c.index-states-as_usize.is (c.byte_at-byte.ensures ∙ sym byte) w.in-Nothing.ensures in
                 Stepping-ends (automaton-bounded c.args.search.now.matcher c.args.search.now.states.now c.args.search.now.text.now end) c.args.curr.now.set.items c.loop-k.k c.get-state.result (omega arith) c.get-state.ensures.value
                 (c.loop-k.invariant.stepping end later goal le byte stable value) acts);
             accepting =
@@ -96,10 +96,10 @@ returns-clause-accepted c =
 
 pub close-requires-clause-state : goal.close-requires-clause-state
 close-requires-clause-state c =
-    (acts-known c.args.search.now.matcher c.args.search.now.states.now c.args.search.now.text.now c.args.search.now.end c.get-state.result c.args.place c.requires.search.names (omega arith) c.requires.place _ _ _ _ c.as_usize.ensures.value c.index-states-as_usize.is c.byte_before-byte.ensures c.in-Read.ensures).1
+    (acts-known c.args.search.now.matcher c.args.search.now.states.now c.args.search.now.text.now c.args.search.now.end c.get-state.result c.args.place c.requires.search.names (omega arith) c.requires.place _ _ _ _ c.as_usize.ensures.value c.index-states-as_usize.is c.byte_at-byte.ensures c.in-Read.ensures).1
 
 pub close-requires-clause-place : goal.close-requires-clause-place
 close-requires-clause-place c =
-    let lt = (acts-known c.args.search.now.matcher c.args.search.now.states.now c.args.search.now.text.now c.args.search.now.end c.get-state.result c.args.place c.requires.search.names (omega arith) c.requires.place _ _ _ _ c.as_usize.ensures.value c.index-states-as_usize.is c.byte_before-byte.ensures c.in-Read.ensures).2 in
+    let lt = (acts-known c.args.search.now.matcher c.args.search.now.states.now c.args.search.now.text.now c.args.search.now.end c.get-state.result c.args.place c.requires.search.names (omega arith) c.requires.place _ _ _ _ c.as_usize.ensures.value c.index-states-as_usize.is c.byte_at-byte.ensures c.in-Read.ensures).2 in
     let within = c.requires.search.end in
     omega arith

@@ -2,7 +2,7 @@ use Rattle.std.proofs.Common.{◌≡◌, ◌≤◌, ℕ, [], length, drop}
 use Rattle.std.specs.Prelude.{Option}
 use Rattle.std.specs.Option.{option_or}
 use Rattle.rx_model.specs.Runs.{Passed, nowhere}
-use Rattle.rx_nfa.specs.Automaton.{automaton}
+use Rattle.rx_engines.specs.Search.{graph_until}
 use Rattle.rx_engines.specs.Simulation.{Hit, IsStable, among, byte_at}
 use Rattle.rx_engines.proofs.StepLemmas.{Stepping}
 use Rattle.rx_engines.proofs.pikevm.step.step.Given as goal
@@ -10,11 +10,11 @@ use Rattle.rx_engines.proofs.pikevm.step.step.Given as goal
 abbrev pub invariant-loop-k : goal.invariant-loop-k
 invariant-loop-k l = record {
   stepping : (end : ℕ) (later : Passed → Option Hit) (goal : Option Hit) → l.place ≤ end
-      → byte_at l.search.text.now end l.place ≡ byte_at l.search.text.now l.search.end l.place → IsStable (automaton l.search.matcher l.search.states.now l.search.text.now end) later
-      → option_or (among l.search.states.now (automaton l.search.matcher l.search.states.now l.search.text.now end) nowhere l.place l.curr.table.items l.curr.set.items) (later nowhere) ≡ goal
-      → Stepping l.search.states.now (automaton l.search.matcher l.search.states.now l.search.text.now end) l.place later l.curr.table.items (drop l.k l.curr.set.items) l.next.set.items l.next.table.items goal;
-  accepting : among l.search.states.now (automaton l.search.matcher l.search.states.now l.search.text.now l.place) nowhere l.place l.curr.table.items l.curr.set.items
-      ≡ among l.search.states.now (automaton l.search.matcher l.search.states.now l.search.text.now l.place) nowhere l.place l.curr.table.items (drop l.k l.curr.set.items);
+      → byte_at l.search.text.now end l.place ≡ byte_at l.search.text.now l.search.end l.place → IsStable (graph_until l.search end) later
+      → option_or (among l.search.states.now (graph_until l.search end) nowhere l.place l.curr.table.items l.curr.set.items) (later nowhere) ≡ goal
+      → Stepping l.search.states.now (graph_until l.search end) l.place later l.curr.table.items (drop l.k l.curr.set.items) l.next.set.items l.next.table.items goal;
+  accepting : among l.search.states.now (graph_until l.search l.place) nowhere l.place l.curr.table.items l.curr.set.items
+      ≡ among l.search.states.now (graph_until l.search l.place) nowhere l.place l.curr.table.items (drop l.k l.curr.set.items);
   room : l.next.set.room ≡ length l.search.states.now;
   rows : length l.next.table.items ≡ length l.search.states.now;
   width : l.next.table.width ≡ l.fn.next.table.width;
