@@ -1,5 +1,5 @@
 -- From what the compiler and the strategy give to a regex.
-use Rattle.std.proofs.Common.{◌≡◌, ℕ, ◌≤◌, List, length, Result, Ok, refl, sym, ap, ◌∙◌, subst, arith}
+use Rattle.std.proofs.Common.{◌≡◌, ℕ, ◌≤◌, List, length, Ok, refl, sym, ap, ◌∙◌, subst, arith}
 use Rattle.std.proofs.lemmas.List.{take_all}
 use Rattle.rx_model.specs.Expression.{Expression, alternation}
 use Rattle.rx_hir.specs.Normal.{expressions}

@@ -1,12 +1,12 @@
 -- Where the patterns are known to have no match, they have none.
-use Rattle.std.proofs.Common.{◌≡◌, ℕ, zero, suc, ◌+◌, ◌<◌, ◌≤◌, true, List, [], ◌∷◌, length, Option, Some, None, slice_get, sym, subst, inl, inr, arith, true≢false, refl}
+use Rattle.std.proofs.Common.{◌≡◌, ℕ, zero, suc, ◌<◌, ◌≤◌, true, List, [], ◌∷◌, length, Option, Some, None, slice_get, sym, subst, inl, inr, arith, true≢false, refl}
 use Rattle.std.specs.Prelude.{◌==◌, ◌&&◌, ◌||◌, nat_lt}
 use Rattle.std.proofs.lemmas.Bool.{or_cases, and_parts}
 use Rattle.std.proofs.lemmas.Bool.Decides.{nat_tests}
 use Rattle.rx_model.specs.Look.{start_text, end_text, holds}
 use Rattle.rx_model.specs.Expression.{Expression, alternation, AreOrdered}
 use Rattle.rx_model.specs.Length.{minimum_len}
-use Rattle.rx_model.specs.Meaning.{Means, MeansOne}
+use Rattle.rx_model.specs.Meaning.{Means}
 use Rattle.rx_model.specs.Search.{Patterns, Anchor, free, anchored, anchored_to, is_anchored, Match}
 use Rattle.rx_model.specs.Matches.{IsStart, IsMatch}
 use Rattle.rx_model.proofs.FirstLemmas.{some-is, none-is-some, tells}

@@ -1,5 +1,5 @@
 -- Of which patterns a regex is built.
-use Rattle.std.proofs.Common.{◌≡◌, ℕ, ◌≤◌, min, List, Bor, Result, Err, length, take, map, sym, ap, subst, arith}
+use Rattle.std.proofs.Common.{◌≡◌, ℕ, ◌≤◌, min, List, Bor, Result, length, take, sym, ap, subst, arith}
 use Rattle.std.proofs.lemmas.List.{length-take}
 use Rattle.rx_model.specs.Expression.{Expression}
 use Rattle.rx_reader.specs.declared.config.Config.{Config as Grammar}

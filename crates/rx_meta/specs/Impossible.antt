@@ -58,6 +58,10 @@ is_impossible hs v =
     let h : Expression = alternation (expressions hs) in
     begins_too_late h v || ends_too_early h v || is_too_short h v || is_too_long h v
 
+-- the properties are those of some patterns together, of which it is known that none has a match in the input's span
+abbrev pub IsKnownImpossible : Properties → InputValue → Type 0
+IsKnownImpossible p v = (hs : List Expression) × AreOf (alternation (expressions hs)) p × (is_impossible hs v ≡ true)
+
 -- The properties are those of some patterns together, of which the strategy finds no match where none is possible.
 pub record AreKnownOf (p : Properties) (s : StrategyValue) : Type 0 where
   pub patterns : List Expression

@@ -41,7 +41,10 @@ impl Cache {
         Ok(())
     }
 
-    /// The bytes that are accounted for the caches of its engines, or the greatest `usize` where they are more.
+    /// The bytes that are accounted for the caches of its engines, or the greatest `usize` where they are more. This is not
+    /// what they reserve: the backtracker's cache also has room for each frame that a search can leave, which is some 24
+    /// bytes for each place of the longest span times the frames of all states. It is reserved when the cache is made, and
+    /// touched only as far as searches come.
     pub fn memory_usage(&self) -> usize
         ensures { result ≡ memory_of self.now }
     {

@@ -1,19 +1,20 @@
 //! The public face: build once, search from anywhere.
-ghost use Rattle.std.specs.Prelude.{◌≡◌, ◌≤◌, ◌∷◌, [], true, false, List, length, None, replicate, is_some, map, option_map, IfOk, IfErr, IfNone, IfSome, IsTrue, OnErr, IsOk};
+ghost use Rattle.std.specs.Prelude.{◌≡◌, ◌∷◌, [], List, length, None, replicate, is_some, map, IfOk, IfErr, IfNone, IfSome, IsTrue, OnErr, IsOk};
 ghost use Rattle.rx_model.specs.Expression.{Expression, alternation};
 ghost use Rattle.rx_model.specs.Search.{Patterns};
 ghost use Rattle.rx_search.specs.Input.{next_in};
 ghost use Rattle.rx_search.specs.Matches.{match_value, half_match_value};
 ghost use Rattle.rx_hir.specs.Normal.{expressions};
 ghost use Rattle.rx_hir.specs.PropertiesViews.{AreOf};
-ghost use Rattle.rx_engines.specs.Engine.{HasSlots, AreWithin};
+ghost use Rattle.rx_engines.specs.Engine.{AreWithin};
 ghost use Rattle.rx_reader.specs.Config.{default};
 ghost use Rattle.rx_strategy.specs.Config.{nothing_set};
 ghost use Rattle.rx_strategy.specs.Cache.{Fits, memory_of, accounted_for};
-ghost use Rattle.rx_strategy.specs.Strategy.{told_in, told_for, next_match_in, IsMatchWith};
+ghost use Rattle.rx_strategy.specs.Strategy.{told_in, next_match_in};
 ghost use Rattle.rx_meta.specs.Build.{IsBuiltOf, IsRefusedFor};
-ghost use Rattle.rx_meta.specs.Impossible.{AreKnownOf, is_impossible};
+ghost use Rattle.rx_meta.specs.Impossible.{AreKnownOf, IsKnownImpossible, is_impossible};
 ghost use Rattle.rx_meta.specs.Regex.{IsOf, regex_memory};
+ghost use Rattle.rx_meta.specs.Search.{IsAnswer, AreSlotsOfAnswer, TellsItsPatterns, LiesIn, HalfLiesIn, matched_pattern};
 
 use crate::builder::Builder;
 use crate::cache::Cache;
@@ -111,7 +112,7 @@ impl Regex {
         ensures value { IfOk result (λ yes. yes ≡ is_some (next_match_in self.now.strategy input.now)) }
         ensures patterns { (r : Patterns) → IsOf self.now r
             → is_some (next_match_in self.now.strategy input.now) ≡ is_some (next_in r input.now) }
-        ensures sure { (hs : List Expression) → AreOf (alternation (expressions hs)) self.now.properties → is_impossible hs input.now ≡ true → IsOk result }
+        ensures sure { IsKnownImpossible self.now.properties input.now → IsOk result }
     {
         if self.is_impossible(input) {
             return Ok(false);
@@ -127,15 +128,10 @@ impl Regex {
         alloc: Global,
         input: &Input<'_>,
     ) -> Result<Option<Match>, Memory>
-        ensures value { input.now.earliest ≡ false → IfOk result (λ found. found ≡ option_map match_value (told_in self.now.strategy input.now)) }
-        ensures exists { IfOk result (λ found. is_some found ≡ is_some (told_in self.now.strategy input.now)) }
-        ensures patterns { (r : Patterns) → IsOf self.now r → told_in self.now.strategy input.now ≡ told_for r input.now }
-        ensures next { (r : Patterns) → IsOf self.now r → input.now.earliest ≡ false
-            → IfOk result (λ found. found ≡ option_map match_value (told_for r input.now)) }
-        ensures is_match { (r : Patterns) → IsOf self.now r
-            → IfOk result (λ o. IfSome o (λ found. IsMatchWith r input.now (λ m. found ≡ match_value m))) }
-        ensures within { IfOk result (λ o. IfSome o (λ m. (input.now.start ≤ m.start) × (m.end ≤ input.now.end))) }
-        ensures sure { (hs : List Expression) → AreOf (alternation (expressions hs)) self.now.properties → is_impossible hs input.now ≡ true → IsOk result }
+        ensures answer { IfOk result (IsAnswer self.now input.now match_value) }
+        ensures patterns { TellsItsPatterns self.now input.now }
+        ensures within { IfOk result (λ o. IfSome o (LiesIn input.now)) }
+        ensures sure { IsKnownImpossible self.now.properties input.now → IsOk result }
     {
         self.search(rt, alloc, input)
     }
@@ -150,21 +146,16 @@ impl Regex {
         alloc: Global,
         input: &Input<'_>,
     ) -> Result<Option<Match>, Memory>
-        ensures value { input.now.earliest ≡ false → IfOk result (λ found. found ≡ option_map match_value (told_in self.now.strategy input.now)) }
-        ensures exists { IfOk result (λ found. is_some found ≡ is_some (told_in self.now.strategy input.now)) }
-        ensures patterns { (r : Patterns) → IsOf self.now r → told_in self.now.strategy input.now ≡ told_for r input.now }
-        ensures next { (r : Patterns) → IsOf self.now r → input.now.earliest ≡ false
-            → IfOk result (λ found. found ≡ option_map match_value (told_for r input.now)) }
-        ensures is_match { (r : Patterns) → IsOf self.now r
-            → IfOk result (λ o. IfSome o (λ found. IsMatchWith r input.now (λ m. found ≡ match_value m))) }
-        ensures within { IfOk result (λ o. IfSome o (λ m. (input.now.start ≤ m.start) × (m.end ≤ input.now.end))) }
-        ensures sure { (hs : List Expression) → AreOf (alternation (expressions hs)) self.now.properties → is_impossible hs input.now ≡ true → IsOk result }
+        ensures answer { IfOk result (IsAnswer self.now input.now match_value) }
+        ensures patterns { TellsItsPatterns self.now input.now }
+        ensures within { IfOk result (λ o. IfSome o (LiesIn input.now)) }
+        ensures sure { IsKnownImpossible self.now.properties input.now → IsOk result }
     {
         if self.is_impossible(input) {
             return Ok(None);
         }
         let mut cache = self.create_cache(alloc)?;
-        self.search_with(&mut cache, input)
+        Ok(self.search_core(&mut cache, input, &mut []))
     }
 
     /// The pattern and the end of the match that `search` answers.
@@ -172,25 +163,17 @@ impl Regex {
     /// `Memory`: there was no memory for a cache.
     pub fn search_half<R: Wait>(
         &self,
-        _rt: &R,
+        rt: &R,
         alloc: Global,
         input: &Input<'_>,
     ) -> Result<Option<HalfMatch>, Memory>
-        ensures value { input.now.earliest ≡ false → IfOk result (λ found. found ≡ option_map half_match_value (told_in self.now.strategy input.now)) }
-        ensures exists { IfOk result (λ found. is_some found ≡ is_some (told_in self.now.strategy input.now)) }
-        ensures patterns { (r : Patterns) → IsOf self.now r → told_in self.now.strategy input.now ≡ told_for r input.now }
-        ensures next { (r : Patterns) → IsOf self.now r → input.now.earliest ≡ false
-            → IfOk result (λ found. found ≡ option_map half_match_value (told_for r input.now)) }
-        ensures is_match { (r : Patterns) → IsOf self.now r
-            → IfOk result (λ o. IfSome o (λ found. IsMatchWith r input.now (λ m. found ≡ half_match_value m))) }
-        ensures within { IfOk result (λ o. IfSome o (λ h. (input.now.start ≤ h.offset) × (h.offset ≤ input.now.end))) }
-        ensures sure { (hs : List Expression) → AreOf (alternation (expressions hs)) self.now.properties → is_impossible hs input.now ≡ true → IsOk result }
+        ensures answer { IfOk result (IsAnswer self.now input.now half_match_value) }
+        ensures patterns { TellsItsPatterns self.now input.now }
+        ensures within { IfOk result (λ o. IfSome o (HalfLiesIn input.now)) }
+        ensures sure { IsKnownImpossible self.now.properties input.now → IsOk result }
     {
-        if self.is_impossible(input) {
-            return Ok(None);
-        }
-        let mut cache = self.create_cache(alloc)?;
-        self.search_half_with(&mut cache, input)
+        let found = self.search(rt, alloc, input)?;
+        Ok(half_match(found))
     }
 
     /// The pattern of the match that `search` answers. Each slot gets the place that the match leaves in it, and None where
@@ -204,38 +187,29 @@ impl Regex {
         input: &Input<'_>,
         slots: &mut [Option<NonMaxUsize>],
     ) -> Result<Option<PatternID>, Memory>
-        ensures value { input.now.earliest ≡ false → IfOk result (λ found. found ≡ option_map (λ m. m.trace.pattern) (told_in self.now.strategy input.now)) }
-        ensures exists { IfOk result (λ found. is_some found ≡ is_some (told_in self.now.strategy input.now)) }
-        ensures patterns { (r : Patterns) → IsOf self.now r → told_in self.now.strategy input.now ≡ told_for r input.now }
-        ensures next { (r : Patterns) → IsOf self.now r → input.now.earliest ≡ false
-            → IfOk result (λ found. found ≡ option_map (λ m. m.trace.pattern) (told_for r input.now)) }
-        ensures is_match { (r : Patterns) → IsOf self.now r
-            → IfOk result (λ o. IfSome o (λ found. IsMatchWith r input.now (λ m. (found ≡ m.trace.pattern) × HasSlots slots.new m))) }
-        ensures slots { input.now.earliest ≡ false → IfOk result (λ _. IfSome (told_in self.now.strategy input.now) (HasSlots slots.new)) }
+        ensures answer { IfOk result (IsAnswer self.now input.now matched_pattern) }
+        ensures patterns { TellsItsPatterns self.now input.now }
+        ensures slots { IfOk result (AreSlotsOfAnswer self.now input.now matched_pattern slots.new) }
         ensures none { IfOk result (λ o. IfNone o (slots.new ≡ replicate (length slots.old) None)) }
         ensures slots_within { AreWithin input.now slots.new }
         ensures err { OnErr result (slots.new ≡ replicate (length slots.old) None) }
-        ensures sure { (hs : List Expression) → AreOf (alternation (expressions hs)) self.now.properties → is_impossible hs input.now ≡ true → IsOk result }
+        ensures sure { IsKnownImpossible self.now.properties input.now → IsOk result }
     {
         empty(slots);
         if self.is_impossible(input) {
             return Ok(None);
         }
         let mut cache = self.create_cache(alloc)?;
-        self.search_slots_with(&mut cache, input, slots)
+        let found = self.search_core(&mut cache, input, slots);
+        Ok(pattern(found))
     }
 
     /// As `search`, with a cache that serves this regex.
     pub fn search_with(&self, cache: &mut Cache, input: &Input<'_>) -> Result<Option<Match>, Memory>
         requires { Fits self.now.strategy cache.old }
-        ensures value { input.now.earliest ≡ false → IfOk result (λ found. found ≡ option_map match_value (told_in self.now.strategy input.now)) }
-        ensures exists { IfOk result (λ found. is_some found ≡ is_some (told_in self.now.strategy input.now)) }
-        ensures patterns { (r : Patterns) → IsOf self.now r → told_in self.now.strategy input.now ≡ told_for r input.now }
-        ensures next { (r : Patterns) → IsOf self.now r → input.now.earliest ≡ false
-            → IfOk result (λ found. found ≡ option_map match_value (told_for r input.now)) }
-        ensures is_match { (r : Patterns) → IsOf self.now r
-            → IfOk result (λ o. IfSome o (λ found. IsMatchWith r input.now (λ m. found ≡ match_value m))) }
-        ensures within { IfOk result (λ o. IfSome o (λ m. (input.now.start ≤ m.start) × (m.end ≤ input.now.end))) }
+        ensures answer { IfOk result (IsAnswer self.now input.now match_value) }
+        ensures patterns { TellsItsPatterns self.now input.now }
+        ensures within { IfOk result (λ o. IfSome o (LiesIn input.now)) }
         ensures cache { cache.new ≡ cache.old }
         ensures sure { IsOk result }
     {
@@ -249,14 +223,9 @@ impl Regex {
         input: &Input<'_>,
     ) -> Result<Option<HalfMatch>, Memory>
         requires { Fits self.now.strategy cache.old }
-        ensures value { input.now.earliest ≡ false → IfOk result (λ found. found ≡ option_map half_match_value (told_in self.now.strategy input.now)) }
-        ensures exists { IfOk result (λ found. is_some found ≡ is_some (told_in self.now.strategy input.now)) }
-        ensures patterns { (r : Patterns) → IsOf self.now r → told_in self.now.strategy input.now ≡ told_for r input.now }
-        ensures next { (r : Patterns) → IsOf self.now r → input.now.earliest ≡ false
-            → IfOk result (λ found. found ≡ option_map half_match_value (told_for r input.now)) }
-        ensures is_match { (r : Patterns) → IsOf self.now r
-            → IfOk result (λ o. IfSome o (λ found. IsMatchWith r input.now (λ m. found ≡ half_match_value m))) }
-        ensures within { IfOk result (λ o. IfSome o (λ h. (input.now.start ≤ h.offset) × (h.offset ≤ input.now.end))) }
+        ensures answer { IfOk result (IsAnswer self.now input.now half_match_value) }
+        ensures patterns { TellsItsPatterns self.now input.now }
+        ensures within { IfOk result (λ o. IfSome o (HalfLiesIn input.now)) }
         ensures cache { cache.new ≡ cache.old }
         ensures sure { IsOk result }
     {
@@ -272,14 +241,9 @@ impl Regex {
         slots: &mut [Option<NonMaxUsize>],
     ) -> Result<Option<PatternID>, Memory>
         requires { Fits self.now.strategy cache.old }
-        ensures value { input.now.earliest ≡ false → IfOk result (λ found. found ≡ option_map (λ m. m.trace.pattern) (told_in self.now.strategy input.now)) }
-        ensures exists { IfOk result (λ found. is_some found ≡ is_some (told_in self.now.strategy input.now)) }
-        ensures patterns { (r : Patterns) → IsOf self.now r → told_in self.now.strategy input.now ≡ told_for r input.now }
-        ensures next { (r : Patterns) → IsOf self.now r → input.now.earliest ≡ false
-            → IfOk result (λ found. found ≡ option_map (λ m. m.trace.pattern) (told_for r input.now)) }
-        ensures is_match { (r : Patterns) → IsOf self.now r
-            → IfOk result (λ o. IfSome o (λ found. IsMatchWith r input.now (λ m. (found ≡ m.trace.pattern) × HasSlots slots.new m))) }
-        ensures slots { input.now.earliest ≡ false → IfOk result (λ _. IfSome (told_in self.now.strategy input.now) (HasSlots slots.new)) }
+        ensures answer { IfOk result (IsAnswer self.now input.now matched_pattern) }
+        ensures patterns { TellsItsPatterns self.now input.now }
+        ensures slots { IfOk result (AreSlotsOfAnswer self.now input.now matched_pattern slots.new) }
         ensures none { IfOk result (λ o. IfNone o (slots.new ≡ replicate (length slots.old) None)) }
         ensures slots_within { AreWithin input.now slots.new }
         ensures cache { cache.new ≡ cache.old }
@@ -297,15 +261,10 @@ impl Regex {
         slots: &mut [Option<NonMaxUsize>],
     ) -> Result<Option<Match>, Memory>
         requires { Fits self.now.strategy cache.old }
-        ensures value { input.now.earliest ≡ false → IfOk result (λ found. found ≡ option_map match_value (told_in self.now.strategy input.now)) }
-        ensures exists { IfOk result (λ found. is_some found ≡ is_some (told_in self.now.strategy input.now)) }
-        ensures patterns { (r : Patterns) → IsOf self.now r → told_in self.now.strategy input.now ≡ told_for r input.now }
-        ensures next { (r : Patterns) → IsOf self.now r → input.now.earliest ≡ false
-            → IfOk result (λ found. found ≡ option_map match_value (told_for r input.now)) }
-        ensures is_match { (r : Patterns) → IsOf self.now r
-            → IfOk result (λ o. IfSome o (λ found. IsMatchWith r input.now (λ m. (found ≡ match_value m) × HasSlots slots.new m))) }
-        ensures within { IfOk result (λ o. IfSome o (λ m. (input.now.start ≤ m.start) × (m.end ≤ input.now.end))) }
-        ensures slots { input.now.earliest ≡ false → IfOk result (λ _. IfSome (told_in self.now.strategy input.now) (HasSlots slots.new)) }
+        ensures answer { IfOk result (IsAnswer self.now input.now match_value) }
+        ensures patterns { TellsItsPatterns self.now input.now }
+        ensures within { IfOk result (λ o. IfSome o (LiesIn input.now)) }
+        ensures slots { IfOk result (AreSlotsOfAnswer self.now input.now match_value slots.new) }
         ensures none { IfOk result (λ o. IfNone o (slots.new ≡ replicate (length slots.old) None)) }
         ensures slots_within { AreWithin input.now slots.new }
         ensures cache { cache.new ≡ cache.old }
@@ -315,7 +274,25 @@ impl Regex {
             empty(slots);
             return Ok(None);
         }
-        Ok(self.core.search(&mut cache.engines, input, slots))
+        Ok(self.search_core(cache, input, slots))
+    }
+
+    /// As `search_match_with`, by the strategy even where it is known that there is no match.
+    fn search_core(
+        &self,
+        cache: &mut Cache,
+        input: &Input<'_>,
+        slots: &mut [Option<NonMaxUsize>],
+    ) -> Option<Match>
+        requires { Fits self.now.strategy cache.old }
+        ensures answer { IsAnswer self.now input.now match_value result }
+        ensures within { IfSome result (LiesIn input.now) }
+        ensures slots { AreSlotsOfAnswer self.now input.now match_value slots.new result }
+        ensures none { IfNone result (slots.new ≡ replicate (length slots.old) None) }
+        ensures slots_within { AreWithin input.now slots.new }
+        ensures cache { cache.new ≡ cache.old }
+    {
+        self.core.search(&mut cache.engines, input, slots)
     }
 
     /// A cache that serves this regex.
@@ -333,7 +310,7 @@ impl Regex {
         ensures value { (hs : List Expression) → AreOf (alternation (expressions hs)) self.now.properties → result ≡ is_impossible hs input.now }
         ensures none { IsTrue result → next_match_in self.now.strategy input.now ≡ None }
         ensures untold { IsTrue result → told_in self.now.strategy input.now ≡ None }
-        ensures patterns { (r : Patterns) → IsOf self.now r → told_in self.now.strategy input.now ≡ told_for r input.now }
+        ensures patterns { TellsItsPatterns self.now input.now }
         ensures exists { (r : Patterns) → IsOf self.now r
             → is_some (next_match_in self.now.strategy input.now) ≡ is_some (next_in r input.now) }
     {

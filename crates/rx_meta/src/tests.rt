@@ -1,4 +1,3 @@
-ghost use Rattle.std.specs.Prelude.{◌≡◌};
 ghost use Rattle.rx_strategy.specs.Cache.{Fits};
 
 use crate::{BuildError, Builder, Cache, Config, Regex};

@@ -1,7 +1,7 @@
 //! Sources and sinks in memory.
 ghost use Rattle.std.specs.Prelude.{◌≡◌, ◌<◌, ◌≤◌, ◌↔◌, [], min, length, take, Some, None, Contains, IfOk, IsErr, OnOk, OnErr};
 ghost use Rattle.std.specs.Option.{option_map};
-ghost use Rattle.rx_scan.specs.Ends.{HasRisen, Reads, Writes, CountsCall, counted, raised};
+ghost use Rattle.rx_scan.specs.Ends.{HasRisen, Reads, Writes, Gains, CountsCall, counted, raised};
 
 use crate::ends::{Failed, Sink, Source};
 use crate::reading::read_at_most;
@@ -150,6 +150,15 @@ impl KeptSure {
         }
     }
 
+    /// Holds these bytes too, or stops telling.
+    fn keep(&mut self, piece: &[u8])
+        ensures { Gains self.old self.new piece.now }
+    {
+        if self.is_whole && self.held.extend_from_slice(piece).is_err() {
+            self.is_whole = false;
+        }
+    }
+
     /// What it holds; None where memory ran out.
     pub fn held(&self) -> Option<&[u8]>
         ensures { self.now ≡ option_map (λ held. held.now) result }
@@ -167,15 +176,8 @@ impl Sink for KeptSure {
 
     ghost faults = { λ _. 0 };
 
-    fn write(&mut self, piece: &[u8]) -> Result<usize, Failed>
-        ensures bytes { Writes self.old self.new piece.now result }
-        ensures counts { 0 ≤ 0 }
-        ensures failed { OnErr result (HasRisen 0 0) }
-        ensures takes { result ≡ Ok (length piece.now) }
-    {
-        if self.is_whole && self.held.extend_from_slice(piece).is_err() {
-            self.is_whole = false;
-        }
+    fn write(&mut self, piece: &[u8]) -> Result<usize, Failed> {
+        self.keep(piece);
         Ok(piece.len())
     }
 }
@@ -246,6 +248,7 @@ impl Sink for Kept {
             return Err(Failed);
         }
         let n = piece.len().min(self.most);
-        self.kept.write(&piece[..n])
+        self.kept.keep(&piece[..n]);
+        Ok(n)
     }
 }

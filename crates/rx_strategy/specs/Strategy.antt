@@ -1,11 +1,12 @@
 -- What a strategy is to a contract, and what its searches answer.
-use Rattle.std.specs.Prelude.{◌≡◌, Bool, true, false, Option, None, if◌then◌else◌}
+use Rattle.std.specs.Prelude.{◌≡◌, Bool, true, false, ◌&&◌, Option, None, nat_le, if◌then◌else◌}
 use Rattle.rx_model.specs.Search.{Patterns, WhichCaptures, all, implicit, none, Match}
 use Rattle.rx_model.specs.Matches.{IsMatch}
 use Rattle.rx_search.specs.Input.{InputValue, next_in}
 use Rattle.rx_search.specs.declared.anchored.MatchKind.{MatchKind}
 use Rattle.rx_nfa.specs.Nfa.{Nfa, HasFirstRuns}
 use Rattle.rx_nfa.specs.NextMatch.{next_match_of}
+use Rattle.rx_engines.specs.Bounded.{max_len, span_len}
 use Rattle.rx_engines.specs.Engine.{PikeVMValue}
 
 pub record StrategyValue : Type 0 where
@@ -20,6 +21,10 @@ pub record StrategyValue : Type 0 where
 -- the strategy's PikeVM
 abbrev pub pikevm_of : StrategyValue → PikeVMValue
 pikevm_of s = record { nfa = s.nfa; kind = s.kind }
+
+-- the strategy's backtracker serves this input: the span is not too long for it
+abbrev pub backtracker_serves : StrategyValue → InputValue → Bool
+backtracker_serves s v = s.backtracks && nat_le (span_len v) (max_len s.nfa)
 
 -- the strategy is for these patterns
 pub record IsOf (s : StrategyValue) (r : Patterns) : Type 0 where

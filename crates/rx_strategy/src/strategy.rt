@@ -1,12 +1,12 @@
 //! The strategy that runs the engines.
-ghost use Rattle.std.specs.Prelude.{◌≡◌, ◌≤◌, true, false, length, None, replicate, is_some, IfOk, IfNone, IfSome, MatchOption, option_map};
+ghost use Rattle.std.specs.Prelude.{◌≡◌, ◌≤◌, true, false, length, None, replicate, is_some, IfOk, IfNone, IfSome, IsSomeAnd, MatchOption, option_map};
 ghost use Rattle.rx_model.specs.Search.{Patterns, told_of};
 ghost use Rattle.rx_search.specs.Input.{next_in};
 ghost use Rattle.rx_search.specs.Matches.{match_value};
 ghost use Rattle.rx_engines.specs.Engine.{next_match_within, IsNfaOf, HasSlots, AreWithin, IsMatchWith as IsToldMatchWith};
-ghost use Rattle.rx_engines.specs.Bounded.{Fits as FitsBounded};
+ghost use Rattle.rx_engines.specs.Bounded.{Fits as FitsBounded, max_len, span_len};
 ghost use Rattle.rx_strategy.specs.Config.{kind_of, captures_of, has_backtracker};
-ghost use Rattle.rx_strategy.specs.Strategy.{IsOf, tells, told_in, told_for, next_match_in, IsMatchWith};
+ghost use Rattle.rx_strategy.specs.Strategy.{IsOf, tells, told_in, told_for, next_match_in, IsMatchWith, backtracker_serves};
 ghost use Rattle.rx_strategy.specs.Cache.{Fits, FitsBacktracker, backtrack_memory, memory_of, accounted_backtrack, accounted_for};
 
 use crate::cache::Cache;
@@ -162,34 +162,22 @@ impl Core {
         ensures within { IfSome result (λ m. (input.now.start ≤ m.start) × (m.end ≤ input.now.end)) }
         ensures cache { cache.new ≡ cache.old }
     {
-        match self.try_backtrack(&mut cache.backtrack, input, slots) {
-            Some(found) => found,
+        match self.backtracker_for(input) {
+            Some(engine) => find_by_backtracking(engine, &mut cache.backtrack, input, slots),
             None => self.pikevm.find_slots(&mut cache.pikevm, input, slots),
         }
     }
 
-    /// What the backtracker answers. None where it does not serve this search: there is none, or the span is too long
-    /// for it.
-    fn try_backtrack(
-        &self,
-        cache: &mut Option<backtrack::Cache>,
-        input: &Input<'_>,
-        slots: &mut [Option<NonMaxUsize>],
-    ) -> Option<Option<Match>>
-        requires { FitsBacktracker self.now cache.old }
-        ensures value { IfSome result (λ found. found ≡ option_map match_value (next_match_in self.now input.now)) }
-        ensures patterns { IfSome result (λ _. (r : Patterns) → IsOf self.now r
-            → next_match_in self.now input.now ≡ option_map (told_of r.which_captures) (next_in r input.now)) }
-        ensures slots { IfSome result (λ _. IfSome (next_match_in self.now input.now) (HasSlots slots.new)) }
-        ensures none { IfSome result (λ found. IfNone found (slots.new ≡ replicate (length slots.old) None)) }
-        ensures slots_within { IfSome result (λ _. AreWithin input.now slots.new) }
-        ensures within { IfSome result (λ found. IfSome found (λ m. (input.now.start ≤ m.start) × (m.end ≤ input.now.end))) }
-        ensures cache { cache.new ≡ cache.old }
+    /// The backtracker where it serves this input: there is one, and the span is not too long for it.
+    fn backtracker_for(&self, input: &Input<'_>) -> Option<&BoundedBacktracker>
+        ensures serves { is_some result ≡ backtracker_serves self.now input.now }
+        ensures engine { IfSome result (λ engine. engine.now ≡ self.now.nfa) }
     {
-        match &self.backtrack {
-            Some(engine) => try_search(engine, cache, input, slots),
-            None => None,
+        let engine = self.backtrack.as_ref()?;
+        if input.get_span().len() > engine.max_haystack_len() {
+            return None;
         }
+        Some(engine)
     }
 }
 
@@ -203,28 +191,32 @@ fn backtracker(config: &Config, nfa: &NFA) -> Result<Option<BoundedBacktracker>,
     Ok(Some(BoundedBacktracker::build_from_nfa(nfa.clone()?)))
 }
 
-/// What the engine answers, where there is a cache for it and it has an answer.
-fn try_search(
+/// What the backtracker answers in a span that is not too long for it.
+fn find_by_backtracking(
     engine: &BoundedBacktracker,
     cache: &mut Option<backtrack::Cache>,
     input: &Input<'_>,
     slots: &mut [Option<NonMaxUsize>],
-) -> Option<Option<Match>>
-    requires { IfSome cache.old (FitsBounded engine.now) }
-    ensures value { IfSome result (λ found. found ≡ option_map match_value (next_match_within engine.now input.now)) }
-    ensures patterns { IfSome result (λ _. (r : Patterns) → IsNfaOf engine.now r
-        → next_match_within engine.now input.now ≡ option_map (told_of r.which_captures) (next_in r input.now)) }
-    ensures slots { IfSome result (λ _. IfSome (next_match_within engine.now input.now) (HasSlots slots.new)) }
-    ensures none { IfSome result (λ found. IfNone found (slots.new ≡ replicate (length slots.old) None)) }
-    ensures slots_within { IfSome result (λ _. AreWithin input.now slots.new) }
-    ensures within { IfSome result (λ found. IfSome found (λ m. (input.now.start ≤ m.start) × (m.end ≤ input.now.end))) }
+) -> Option<Match>
+    requires fits { IsSomeAnd cache.old (FitsBounded engine.now) }
+    requires short { span_len input.now ≤ max_len engine.now }
+    ensures value { result ≡ option_map match_value (next_match_within engine.now input.now) }
+    ensures patterns { (r : Patterns) → IsNfaOf engine.now r
+        → next_match_within engine.now input.now ≡ option_map (told_of r.which_captures) (next_in r input.now) }
+    ensures is_match { (r : Patterns) → IsNfaOf engine.now r
+        → IfSome result (λ found. IsToldMatchWith r input.now (λ m. (found ≡ match_value m) × HasSlots slots.new m)) }
+    ensures slots { IfSome (next_match_within engine.now input.now) (HasSlots slots.new) }
+    ensures none { IfNone result (slots.new ≡ replicate (length slots.old) None) }
+    ensures slots_within { AreWithin input.now slots.new }
+    ensures within { IfSome result (λ m. (input.now.start ≤ m.start) × (m.end ≤ input.now.end)) }
     ensures cache { cache.new ≡ cache.old }
 {
-    match cache {
-        Some(cache) => match engine.try_find_slots(cache, input, slots) {
-            Ok(found) => Some(found),
-            Err(_) => None,
-        },
-        None => None,
+    let Some(cache) = cache else {
+        unreachable!();
+    };
+    match engine.try_find_slots(cache, input, slots) {
+        Ok(found) => found,
+        // Its only error is that the span is too long.
+        Err(_) => unreachable!(),
     }
 }

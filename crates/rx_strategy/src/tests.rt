@@ -1,17 +1,35 @@
 ghost use Rattle.rx_strategy.specs.Cache.{Fits};
 
 use crate::{Cache, Config, Core};
+use rx_hir::Hir;
 use rx_nfa::{Compiler, WhichCaptures};
-use rx_search::{Input, Match, MatchKind, NonMaxUsize};
-use rx_syntax::parse;
+use rx_search::{Input, Match, MatchKind, Memory, NonMaxUsize};
 use std::alloc::Global;
 use std::process::Abort;
 use std::test::Fail;
 
-/// The strategy of the pattern under the configuration.
-fn strategy(rt: &impl Abort, alloc: Global, config: &Config, pattern: &str) -> Result<Core, Fail> {
+/// The expression of these bytes.
+fn text(alloc: Global, bytes: &[u8]) -> Result<Hir, Memory> {
+    Ok(Hir::literal(Vec::from_slice(alloc, bytes)?))
+}
+
+/// The expression `a|ab`.
+fn a_or_ab(alloc: Global) -> Result<Hir, Memory> {
+    let mut alternatives = Vec::new(alloc);
+    alternatives.push(text(alloc, b"a")?)?;
+    alternatives.push(text(alloc, b"ab")?)?;
+    Hir::alternation(alloc, alternatives)
+}
+
+/// The strategy of the expression under the configuration.
+fn strategy(
+    rt: &impl Abort,
+    alloc: Global,
+    config: &Config,
+    expression: Hir,
+) -> Result<Core, Fail> {
     let mut expressions = Vec::new(alloc);
-    expressions.push(parse(alloc, pattern).ok().expect(rt, "a pattern"))?;
+    expressions.push(expression)?;
     let mut compiler = Compiler::new();
     compiler.configure(config.compiler());
     let nfa = compiler.build_many_from_hir(alloc, &expressions);
@@ -94,7 +112,7 @@ fn found_in(
     haystack: &[u8],
 ) -> Result<(Option<(usize, usize)>, [Option<usize>; 2]), Fail> {
     let config = Config::new().backtrack(backtrack);
-    let core = strategy(rt, alloc, &config, "a|ab")?;
+    let core = strategy(rt, alloc, &config, a_or_ab(alloc)?)?;
     let mut cache = cache_of(rt, alloc, &core);
     let mut slots = [None; 2];
     let found = core.search(&mut cache, &Input::new(haystack), &mut slots);
@@ -116,7 +134,7 @@ fn both_engines_prefer_the_first_alternative(rt: HostRuntime) -> Result<(), Fail
 #[test]
 fn a_cache_is_cloned(rt: HostRuntime) -> Result<(), Fail> {
     let alloc = rt.alloc();
-    let core = strategy(&rt, alloc, &Config::new(), "a|ab")?;
+    let core = strategy(&rt, alloc, &Config::new(), a_or_ab(alloc)?)?;
     let cache = cache_of(&rt, alloc, &core);
     let again = cache.clone(alloc).ok().expect(&rt, "a cache");
     assert_eq!(rt; again.memory_usage(), cache.memory_usage());
@@ -127,7 +145,7 @@ fn a_cache_is_cloned(rt: HostRuntime) -> Result<(), Fail> {
 fn nothing_is_told_without_captures(rt: HostRuntime) -> Result<(), Fail> {
     let alloc = rt.alloc();
     let config = Config::new().which_captures(WhichCaptures::None);
-    let core = strategy(&rt, alloc, &config, "a|ab")?;
+    let core = strategy(&rt, alloc, &config, a_or_ab(alloc)?)?;
     let mut cache = cache_of(&rt, alloc, &core);
     let mut slots = [None; 2];
     let input = Input::new(b"ab");
@@ -145,7 +163,7 @@ fn crosses_threads<T: Send + Sync>(_value: &T) {}
 #[test]
 fn a_strategy_crosses_threads(rt: HostRuntime) -> Result<(), Fail> {
     let alloc = rt.alloc();
-    let core = strategy(&rt, alloc, &Config::new(), "a")?;
+    let core = strategy(&rt, alloc, &Config::new(), text(alloc, b"a")?)?;
     crosses_threads(&core);
     goes_to_threads(&cache_of(&rt, alloc, &core));
     Ok(())

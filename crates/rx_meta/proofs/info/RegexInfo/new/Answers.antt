@@ -1,8 +1,7 @@
-use Rattle.std.proofs.Common.{◌≡◌, ◌+◌, ◌++◌, ◌∷◌, [], List, take, sym, ap, ◌∙◌, subst, arith}
+use Rattle.std.proofs.Common.{◌≡◌, ◌+◌, ◌++◌, ◌∷◌, [], List, take, sym, ap, ◌∙◌, subst}
 use Rattle.std.proofs.lemmas.List.{take_more}
 use Rattle.rx_model.specs.Expression.{Expression}
 use Rattle.rx_hir.specs.PropertiesViews.{AreOfEach}
-use Rattle.rx_hir.specs.declared.hir.properties.Properties.{Properties}
 use Rattle.rx_meta.proofs.InfoLemmas.{AreOfEach-more}
 use Rattle.rx_meta.proofs.info.RegexInfo.new.Goals as goal
 

@@ -1,5 +1,5 @@
-use Rattle.std.proofs.Common.{◌≡◌, None, sym, ap, ◌∙◌, subst}
-use Rattle.rx_strategy.specs.Strategy.{StrategyValue, next_match_in}
+use Rattle.std.proofs.Common.{◌≡◌, None, sym, ◌∙◌, subst}
+use Rattle.rx_strategy.specs.Strategy.{next_match_in}
 use Rattle.rx_meta.specs.Regex.{RegexValue}
 use Rattle.rx_meta.proofs.RegexLemmas.{patterns-told, exists-alike, untold}
 use Rattle.rx_meta.proofs.regex.Regex.is_impossible.Goals as goal
