@@ -1,23 +1,21 @@
 -- The starts of a bounded search, and what it reports.
-use Rattle.std.proofs.Common.{◌≡◌, ℕ, suc, ◌+◌, ◌-◌, ◌*◌, ◌/◌, ◌≤◌, ◌<◌, List, length, get_or, refl, sym, ◌∙◌, ap, subst, arith}
+use Rattle.std.proofs.Common.{◌≡◌, ℕ, suc, ◌+◌, ◌-◌, ◌*◌, ◌≤◌, ◌<◌, length, get_or, refl, sym, ◌∙◌, ap, subst, arith}
 use Rattle.std.proofs.Math.Nat.{div-le_self}
 use Rattle.std.proofs.lemmas.Nat.{mul-le}
 use Rattle.std.proofs.lemmas.List.{length-replicate}
 use Rattle.std.proofs.lemmas.Bool.Decides.{nat_tests}
-use Rattle.std.specs.Prelude.{max, Bool, true, false, Option, Some, None, option_map, IfSome, replicate, nat_lt, if◌then◌else◌, ◌^◌}
+use Rattle.std.specs.Prelude.{max, true, false, Option, Some, None, option_map, IfSome, replicate, nat_lt, if◌then◌else◌, ◌^◌}
 use Rattle.rx_model.specs.Runs.{Trace, nowhere, first_trace}
-use Rattle.rx_model.specs.Search.{Patterns, told_of, Match, is_anchored, is_permitted, first_start, starts, slot_value}
+use Rattle.rx_model.specs.Search.{Patterns, told_of, Match, is_permitted, first_start, slot_value}
 use Rattle.rx_model.proofs.RunLemmas.{by_test}
 use Rattle.rx_model.proofs.FirstLemmas.{none-is-some, some-is}
 use Rattle.rx_model.proofs.RiseLemmas.{found-end}
 use Rattle.rx_search.specs.Input.{InputValue, next_in}
 use Rattle.rx_search.specs.Matches.{match_value, MatchValue, HalfMatchValue}
-use Rattle.rx_nfa.specs.Automaton.{at, automaton}
+use Rattle.rx_nfa.specs.Automaton.{at}
 use Rattle.rx_nfa.specs.Nfa.{Nfa, IsInRange}
-use Rattle.rx_nfa.specs.NextMatch.{start_of, first_from, next_match_of}
 use Rattle.rx_nfa.proofs.AutomatonLemmas.{automaton-bounded, automaton-rises, automaton-accepts-within}
-use Rattle.rx_nfa.proofs.NextMatchLemmas.{first_start-alike, next_match_of-patterns, next_match_of-slot, next_match_of-within}
-use Rattle.rx_nfa.specs.declared.state.State.{State}
+use Rattle.rx_nfa.proofs.NextMatchLemmas.{next_match_of-patterns, next_match_of-slot, next_match_of-within}
 use Rattle.rx_engines.specs.Engine.{next_match_within, IsNfaOf, IsSearchOf, HasSlots}
 use Rattle.rx_engines.specs.Walk.{Slots, Answer, answer, write_all}
 use Rattle.rx_engines.specs.Backtrack.{extent, frames_of_span, returned}

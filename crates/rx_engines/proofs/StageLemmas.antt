@@ -1,7 +1,7 @@
 -- The stages of a search, for each end that it might have: what the threads at a place and the starts to come
 -- lead to is the next match that ends by there.
 use Rattle.std.proofs.Common.{◌≡◌, ℕ, zero, suc, ◌+◌, ◌-◌, ◌≤◌, ◌<◌, List, [], refl, sym, ◌∙◌, ap, arith, true≢false}
-use Rattle.std.specs.Prelude.{Bool, true, false, ◌&&◌, Option, Some, None, option_map, is_some, nat_lt, IfSome, IfNone}
+use Rattle.std.specs.Prelude.{Bool, true, false, ◌&&◌, Option, Some, None, option_map, is_some, nat_lt, IfSome}
 use Rattle.std.specs.Option.{option_or}
 use Rattle.std.proofs.lemmas.Bool.Decides.{nat_tests}
 use Rattle.rx_model.specs.Runs.{Passed, nowhere, first_trace}

@@ -1,10 +1,10 @@
 -- The starts of a search that are still to come.
-use Rattle.std.proofs.Common.{◌≡◌, ℕ, zero, suc, ◌+◌, ◌-◌, ◌≤◌, ◌<◌, List, [], ◌∷◌, length, refl, sym, ◌∙◌, ap, arith, true≢false, inl, inr, get_or, drop}
+use Rattle.std.proofs.Common.{◌≡◌, ℕ, zero, suc, ◌+◌, ◌-◌, ◌≤◌, ◌<◌, List, [], ◌∷◌, length, refl, sym, ◌∙◌, ap, arith, true≢false, inl, inr, get_or}
 use Rattle.std.specs.Prelude.{Bool, true, false, Option, Some, None, option_map, is_some, replicate, IfSome, IfNone, min, nat_lt, if◌then◌else◌}
 use Rattle.std.proofs.lemmas.List.{length-replicate, get_or_past}
 use Rattle.std.proofs.lemmas.Bool.Decides.{nat_tests}
 use Rattle.std.specs.Option.{option_or}
-use Rattle.rx_model.specs.Runs.{Configuration, PriorityGraph, Passed, nowhere, and_at, Trace, found}
+use Rattle.rx_model.specs.Runs.{PriorityGraph, Passed, nowhere, and_at, Trace, found}
 use Rattle.rx_model.specs.Search.{Match, is_permitted, first_start, slot_value}
 use Rattle.rx_model.proofs.RunLemmas.{by_test}
 use Rattle.rx_model.proofs.FirstLemmas.{none-is-some, some-is}
@@ -20,9 +20,7 @@ use Rattle.rx_engines.specs.declared.frame.Frame.TheVariants.{Explore}
 use Rattle.rx_nfa.proofs.AutomatonLemmas.{automaton-rises, automaton-accepts-within}
 use Rattle.rx_nfa.proofs.AutomatonLemmas.{automaton-bounded}
 use Rattle.rx_engines.proofs.SlotLemmas.{slot-of_match, length-write_all, empty-slot, all-empty}
-use Rattle.rx_engines.proofs.OptionLemmas.{or-none_right, tells, or-assoc}
-use Rattle.std.proofs.Math.Seq.{drop-cons}
-use Rattle.std.proofs.lemmas.List.{drop_all}
+use Rattle.rx_engines.proofs.OptionLemmas.{or-none_right, tells}
 use Rattle.rx_engines.specs.Threads.{Row}
 use Rattle.rx_engines.specs.declared.search.Search.{Search}
 use Rattle.rx_engines.specs.declared.pikevm.step.Accepted.{Accepted}

@@ -1,14 +1,12 @@
 -- A depth-first search that tries each state at each place of a span once.
-use Rattle.std.specs.Prelude.{◌≡◌, ◌⊎◌, ℕ, zero, suc, ◌+◌, ◌-◌, ◌*◌, ◌/◌, ◌%◌, ◌<◌, ◌≤◌, Bool, ◌&&◌, ◌==◌, List, [], ◌∷◌, ◌++◌, length, All, Option, Some, None, nat_lt, nat_le, slice_index, slice_index_or, slice_set, ◌^◌, if◌then◌else◌}
+use Rattle.std.specs.Prelude.{◌≡◌, ◌⊎◌, ℕ, zero, suc, ◌+◌, ◌-◌, ◌*◌, ◌/◌, ◌%◌, ◌≤◌, Bool, ◌&&◌, ◌==◌, List, [], ◌∷◌, ◌++◌, length, Option, Some, None, nat_lt, nat_le, slice_index, slice_index_or, slice_set, if◌then◌else◌}
 use Rattle.std.specs.Int.{bit_at}
 use Rattle.rx_model.specs.Runs.{Configuration, PriorityGraph, Passed, found, first_trace}
-use Rattle.rx_model.specs.Search.{Match, is_permitted, first_start}
 use Rattle.rx_model.specs.Machine.{grid}
 use Rattle.rx_model.proofs.RunLemmas.{weight}
 use Rattle.rx_search.specs.Matches.{HalfMatchValue}
-use Rattle.rx_nfa.specs.Automaton.{at, automaton, state_at, route, NamesBelow}
+use Rattle.rx_nfa.specs.Automaton.{state_at}
 use Rattle.rx_nfa.specs.declared.state.State.{State}
-use Rattle.rx_nfa.specs.declared.state.Transition.{Transition}
 use Rattle.rx_engines.specs.Simulation.{frames_of_state, frames_of_states}
 use Rattle.rx_engines.specs.Walk.{Slots, Answer, AllWithin, pending, explore_all}
 use Rattle.rx_engines.specs.declared.frame.Frame.{Frame}

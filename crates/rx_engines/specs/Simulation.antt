@@ -1,7 +1,7 @@
 -- A simulation by ordered threads: what the threads at a place lead to, and what a step keeps true.
 use Rattle.std.specs.Prelude.{◌≡◌, ℕ, zero, suc, ◌+◌, ◌-◌, ◌≤◌, Bool, true, false, List, [], ◌∷◌, length, map, replicate, Option, Some, None, option_map, nat_lt, slice_index, if◌then◌else◌}
 use Rattle.std.specs.Option.{option_or}
-use Rattle.rx_model.specs.Runs.{Trace, Configuration, PriorityGraph, Passed, nowhere, and_at, found, is_among}
+use Rattle.rx_model.specs.Runs.{Configuration, PriorityGraph, Passed, nowhere, and_at, found, is_among}
 use Rattle.rx_model.specs.Search.{Match, is_permitted, first_start}
 use Rattle.rx_model.proofs.RunLemmas.{weight}
 use Rattle.rx_search.specs.Matches.{MatchValue}

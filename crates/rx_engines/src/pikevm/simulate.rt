@@ -129,11 +129,7 @@ fn is_enough(earliest: bool, best: &Option<Match>) -> bool
 }
 
 /// A match that ends at the place comes before the best one so far.
-fn better(
-    best: Option<Match>,
-    found: Option<Accepted>,
-    place: usize,
-) -> Option<Match>
+fn better(best: Option<Match>, found: Option<Accepted>, place: usize) -> Option<Match>
     requires { IfSome found (λ f. f.start ≤ place) }
     ensures { result ≡ option_or (option_map (until place) found) best }
 {
