@@ -307,7 +307,8 @@ impl Regex {
 
     /// Whether it is known that there is no match in the input's span.
     fn is_impossible(&self, input: &Input<'_>) -> bool
-        ensures value { (hs : List Expression) → AreOf (alternation (expressions hs)) self.now.properties → result ≡ is_impossible hs input.now }
+        ensures value { (hs : List Expression) → AreOf (alternation (expressions hs)) self.now.properties
+            → result ≡ is_impossible hs input.now }
         ensures none { IsTrue result → next_match_in self.now.strategy input.now ≡ None }
         ensures untold { IsTrue result → told_in self.now.strategy input.now ≡ None }
         ensures patterns { TellsItsPatterns self.now input.now }
