@@ -1,7 +1,8 @@
-ghost use Rattle.std.specs.Prelude.{◌≡◌, length, IfOk};
+ghost use Rattle.std.specs.Prelude.{◌≡◌, length, IfOk, IfErr};
 ghost use Rattle.rx_search.specs.Input.{whole};
 ghost use Rattle.rx_search.specs.Searcher.{successive};
 ghost use Rattle.rx_bench.specs.Engine.{answer_of};
+ghost use Rattle.rx_bench.specs.Failure.{IsOfSearch};
 
 use crate::compile::compile;
 use crate::failure::Failure;
@@ -41,7 +42,9 @@ impl Engine {
     /// # Errors
     ///
     /// `Line` where the engine searches no line of some length; else only `Memory`.
-    pub fn count_in_lines(&mut self, text: &str) -> Result<usize, Failure> {
+    pub fn count_in_lines(&mut self, text: &str) -> Result<usize, Failure>
+        ensures err { IfErr result IsOfSearch }
+    {
         let mut count = 0usize;
         for line in text.split('\n') {
             count = count.saturating_add(self.count_in(line.as_bytes())?);
@@ -51,7 +54,8 @@ impl Engine {
 
     /// The number of the successive matches in a line.
     fn count_in(&mut self, line: &[u8]) -> Result<usize, Failure>
-        ensures { IfOk result (λ n. n ≡ length (successive (answer_of self.old) (whole line.now))) }
+        ensures value { IfOk result (λ n. n ≡ length (successive (answer_of self.old) (whole line.now))) }
+        ensures err { IfErr result IsOfSearch }
     {
         match Searcher::new(Input::new(line)).count(self) {
             Ok(count) => Ok(count),

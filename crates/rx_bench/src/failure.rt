@@ -1,3 +1,7 @@
+ghost use Rattle.std.specs.Prelude.{◌≡◌};
+ghost use Rattle.rx_bench.specs.Failure.{code_of};
+ghost use Rattle.rx_bench.specs.declared.failure.Failure.TheVariants.{Memory as OutOfMemory, System};
+
 use rx_search::Memory;
 use std::{fmt, io};
 
@@ -17,6 +21,11 @@ pub enum Failure {
 }
 
 impl fmt::Display for Failure {
+    ghost use Rattle.std.specs.Prelude.{Some};
+    ghost use Rattle.rx_bench.specs.Failure.{text_of};
+
+    ghost output = { λ e. Some (text_of e) };
+
     fn fmt<W: fmt::Write>(&self, f: &mut fmt::Formatter<W>) -> fmt::Result {
         match self {
             Failure::Usage => write!(f, "usage: rx_bench pikevm|backtrack PATTERN"),
@@ -30,7 +39,9 @@ impl fmt::Display for Failure {
 
 impl Failure {
     /// The status with which the program ends.
-    pub fn status(self) -> u8 {
+    pub fn status(self) -> u8
+        ensures { result ≡ code_of self }
+    {
         match self {
             Failure::Usage => 2,
             _ => 1,
@@ -39,12 +50,16 @@ impl Failure {
 }
 
 impl From<Memory> for Failure {
+    ghost from_gives = { λ _ e. e ≡ OutOfMemory };
+
     fn from(_error: Memory) -> Failure {
         Failure::Memory
     }
 }
 
 impl From<io::Error> for Failure {
+    ghost from_gives = { λ _ e. e ≡ System };
+
     fn from(_error: io::Error) -> Failure {
         Failure::System
     }
