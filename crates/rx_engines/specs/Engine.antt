@@ -4,7 +4,7 @@ use Rattle.rx_model.specs.Search.{Patterns, Match, told_of, is_anchored, slot_va
 use Rattle.rx_model.specs.Matches.{IsMatch}
 use Rattle.rx_search.specs.Input.{InputValue}
 use Rattle.rx_search.specs.declared.anchored.MatchKind.{MatchKind}
-use Rattle.rx_nfa.specs.Nfa.{Nfa, HasFirstRuns}
+use Rattle.rx_nfa.specs.Nfa.{Nfa, HasRuns}
 use Rattle.rx_nfa.specs.NextMatch.{start_of, next_match_of}
 use Rattle.rx_engines.specs.Room.{Room}
 use Rattle.rx_engines.specs.Simulation.{frames_of_states}
@@ -37,9 +37,9 @@ answer_in vm v = next_match_by vm v (stop_in vm v)
 abbrev pub last_start : InputValue → ℕ
 last_start v = if is_anchored v.anchor then v.start else v.end
 
--- the NFA has the first runs of these patterns
+-- the NFA has the runs of these patterns
 pub record IsNfaOf (nfa : Nfa) (r : Patterns) : Type 0 where
-  pub runs : HasFirstRuns nfa r
+  pub runs : HasRuns nfa r
   pub utf8 : r.utf8_empty ≡ nfa.utf8
 
 -- the slots are those of the match

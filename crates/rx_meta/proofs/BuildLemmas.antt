@@ -31,7 +31,7 @@ built c hs nfa core p regex compiled allowed is of made =
       backtracks = refl;
       compiled = compiled;
       allowed = allowed;
-      is_of = record { runs = compiled.first_runs (utf8_of c); utf8 = sym compiled.utf8; which_captures = refl };
+      is_of = record { runs = compiled.runs (utf8_of c); utf8 = sym compiled.utf8; which_captures = refl };
       properties = of;
     })
 

@@ -45,6 +45,6 @@ known-of c hs nfa core p compiled is of =
       patterns = hs;
       properties = of;
       none = λ v within e.
-          patterns-agree (pikevm_of (strategy_of c nfa)) v within r (record { runs = compiled.first_runs (utf8_of c); utf8 = sym compiled.utf8 })
+          patterns-agree (pikevm_of (strategy_of c nfa)) v within r (record { runs = compiled.runs (utf8_of c); utf8 = sym compiled.utf8 })
           ∙ ap (option_map (told_of r.which_captures)) (no-next r v compiled.ordered within e);
     })

@@ -114,7 +114,7 @@ module _ (slots : ℕ → Option ℕ) where
         silent-append f.states (build_each slots subs next (base + length f.states)).states (build-silent sub next base) (each-silent subs next (base + length f.states))
 
 -- the states of a pattern accept that pattern alone
-pattern-accepts : (slots : ℕ → Option ℕ) (p : ℕ) (h : Expression) (k q : ℕ) → state_accepts (get_or (build_pattern slots p h).states k (choice [])) ≡ Some q → q ≡ p
+pub pattern-accepts : (slots : ℕ → Option ℕ) (p : ℕ) (h : Expression) (k q : ℕ) → state_accepts (get_or (build_pattern slots p h).states k (choice [])) ≡ Some q → q ≡ p
 unfolding build_pattern
 pattern-accepts slots p h zero q e = sym (some-is e)
 pattern-accepts slots p h (suc k) q e =
@@ -170,7 +170,7 @@ module _ (terminator : ℕ) (hay : List ℕ) (end : ℕ) where
         (λ e. rw e at h)
         (λ e. none-is-some (rw e at h))
 
-trace-pattern : (g : PriorityGraph) (c : Configuration) (run : List Configuration) → (trace g c run).pattern ≡ unwrap_or (g.accepted (last_of c run)) 0
+pub trace-pattern : (g : PriorityGraph) (c : Configuration) (run : List Configuration) → (trace g c run).pattern ≡ unwrap_or (g.accepted (last_of c run)) 0
 trace-pattern g c [] = refl
 trace-pattern g c (d ∷ run) = kept (g.written c) ∙ trace-pattern g d run
   where

@@ -46,7 +46,7 @@ module _ (terminator : ℕ) (hay : List ℕ) (states : List State) (end later : 
   step-later (choice qs) i d m = m
   step-later (accept pattern) i d m = m
 
-  successor-later : (c d : Configuration) → Contains (near.successors c) d → Contains (far.successors c) d
+  pub successor-later : (c d : Configuration) → Contains (near.successors c) d → Contains (far.successors c) d
   unfolding runs_of graph_of
   successor-later c d m =
       by_test (is_inside (machine_of terminator hay end states) end c)
@@ -60,7 +60,7 @@ module _ (terminator : ℕ) (hay : List ℕ) (states : List State) (end later : 
       (λ e. rw (inside-later c e, e) refl)
       (λ e. absurd (true≢false (sym (rw e at accepts))))
 
-  written-later : (c : Configuration) → near.written c ≡ far.written c
+  pub written-later : (c : Configuration) → near.written c ≡ far.written c
   unfolding runs_of graph_of
   written-later c = refl
 

@@ -1,6 +1,7 @@
--- Refinement: a graph whose states do what those of another do, some of them over several states.
-use Rattle.std.specs.Prelude.{◌≡◌, ℕ, ◌<◌, ◌⊎◌, false, [], ◌∷◌, None, Contains, map}
-use Rattle.rx_model.specs.Runs.{Configuration, PriorityGraph, Passed, found}
+-- Refinement: a graph whose states do what those of another do, some of them over several states, wherever acceptance is
+-- permitted.
+use Rattle.std.specs.Prelude.{◌≡◌, ℕ, ◌<◌, ◌⊎◌, true, false, [], ◌∷◌, None, Contains, map, is_some}
+use Rattle.rx_model.specs.Runs.{Configuration, PriorityGraph, Passed, Sieve, sieved, found}
 
 -- the same place in the state's image
 abbrev pub moved : (ℕ → ℕ) → Configuration → Configuration
@@ -30,12 +31,12 @@ module _ (g m : PriorityGraph) (f : ℕ → ℕ) where
     pub written : g.written c ≡ None
     pub successors : g.successors c ≡ target ∷ []
     pub later : c.place < target.place
-    pub reads : (p : Passed) → IsFresh p (moved f c) → found m p (moved f c) ≡ found m p (moved f target)
+    pub reads : (ok : Sieve) (p : Passed) → IsFresh p (moved f c) → found (sieved ok m) p (moved f c) ≡ found (sieved ok m) p (moved f target)
 
   -- c goes nowhere in either
   pub record Fails (c : Configuration) : Type 0 where
     pub successors : g.successors c ≡ []
-    pub fails : (p : Passed) → IsFresh p (moved f c) → found m p (moved f c) ≡ None
+    pub fails : (ok : Sieve) (p : Passed) → IsFresh p (moved f c) → found (sieved ok m) p (moved f c) ≡ None
 
   -- f is the image of the states that are live
   pub record Refines (IsLive : ℕ → Type 0) : Type 0 where
@@ -45,5 +46,7 @@ module _ (g m : PriorityGraph) (f : ℕ → ℕ) where
     pub stays_live : (c d : Configuration) → IsLive c.state → Contains (g.successors c) d → IsLive d.state
     -- a state accepts what its image accepts
     pub accepted : (c : Configuration) → IsLive c.state → m.accepted (moved f c) ≡ g.accepted c
-    -- and goes on as its image does
+    -- and neither goes on where it accepts
+    pub ends : (c : Configuration) → IsLive c.state → is_some (g.accepted c) ≡ true → (g.successors c ≡ []) × (m.successors (moved f c) ≡ [])
+    -- elsewhere it goes on as its image does
     pub goes_on : (c : Configuration) → IsLive c.state → g.accepted c ≡ None → Stays c ⊎ Reads c ⊎ Fails c

@@ -3,9 +3,29 @@
 ghost use Rattle.std.specs.Prelude.{◌≡◌, ◌≢◌, ℕ, ◌+◌, ◌-◌, ◌*◌, ◌<◌, ◌≤◌, List, length, slice_get, Some, None, All, AllPairs};
 ghost use Rattle.rx_model.specs.Expression.{Expression, AreOrdered};
 ghost use Rattle.rx_model.specs.Meaning.{Means};
-ghost use Rattle.rx_model.specs.Runs.{Trace};
-ghost use Rattle.rx_model.specs.Search.{Patterns, Anchor, Match, next_match, matches, matches_from, slot_value};
+ghost use Rattle.rx_model.specs.Runs.{Trace, Sieve};
+ghost use Rattle.rx_model.specs.Search.{Patterns, first_where, first_of_patterns_where, Anchor, free, anchored_to, Match, starting_at, next_match, matches, matches_from, slot_value};
 ghost use Rattle.rx_model.specs.Matches.{MayStart, HasFirstRun, IsNextMatch, IsMatch, IsSlotOf, AreSuccessive};
+
+/// A first run that ends by an earlier end is the first run within that end, with all that it tells: of a pattern, and
+/// over the patterns in order, wherever acceptance is permitted. So a next match, searched for anchored to its pattern
+/// over exactly its own span, is itself.
+pub fn a_first_run_is_the_first_within_an_earlier_end()
+    ensures pattern { (ok : Sieve) (r : Patterns) (text : List ℕ) (end later p : ℕ) (h : Expression) (i : ℕ) (t : Trace) → end ≤ later
+        → first_where ok r text later p h i ≡ Some t → t.end ≤ end → first_where ok r text end p h i ≡ Some t }
+    ensures patterns { (ok : Sieve) (r : Patterns) (text : List ℕ) (end later : ℕ) (i : ℕ) (t : Trace) → end ≤ later
+        → first_of_patterns_where ok r text later 0 r.expressions i ≡ Some t → t.end ≤ end
+        → first_of_patterns_where ok r text end 0 r.expressions i ≡ Some t }
+    ensures next { (r : Patterns) (text : List ℕ) (anchor : Anchor) (b a : ℕ) (m : Match)
+        → next_match r text anchor b a ≡ Some m → next_match r text (anchored_to m.trace.pattern) m.trace.end m.start ≡ Some m }
+{}
+
+/// Starts from which no pattern has a run may be skipped: the next match is that of the search that starts after them.
+pub fn starts_without_a_run_may_be_skipped()
+    ensures { (r : Patterns) (text : List ℕ) (b a n : ℕ)
+        → ((j : ℕ) → a ≤ j → j < a + n → starting_at r text b free j ≡ None)
+        → next_match r text free b a ≡ next_match r text free b (a + n) }
+{}
 
 /// The search finds the next match: at the least permitted start from which a pattern has a run, the first
 /// run of the least such pattern. It finds none only where there is none.

@@ -5,11 +5,11 @@ ghost use Rattle.std.specs.Char.{IsScalar, len_utf8};
 ghost use Rattle.rx_model.specs.Text.{scalar_ranges, byte_ranges, is_member, member_len};
 ghost use Rattle.rx_model.specs.Empty.{can_be_empty};
 ghost use Rattle.rx_model.specs.Length.{minimum_len, shortest_member};
-ghost use Rattle.rx_model.specs.Runs.{Configuration, IsRun, nowhere, last_of, Trace};
+ghost use Rattle.rx_model.specs.Runs.{Configuration, IsRun, nowhere, last_of, Trace, Sieve};
 ghost use Rattle.rx_model.specs.Expression.{Expression, AreOrdered};
 ghost use Rattle.rx_model.specs.Meaning.{Means};
 ghost use Rattle.rx_model.specs.Graph.{at, build_pattern, runs_of};
-ghost use Rattle.rx_model.specs.Search.{Patterns, first};
+ghost use Rattle.rx_model.specs.Search.{Patterns, first, first_where};
 
 /// The accepting runs of a pattern's graph from a place end exactly where a part that the expression
 /// means ends, within the end of the search.
@@ -32,6 +32,17 @@ pub fn the_first_run_is_meant()
         → first r text end p h i ≡ Some t → (t.pattern ≡ p) × (t.end ≤ end) × Means r.terminator text h i t.end }
     ensures none { (r : Patterns) (text : List ℕ) (end p : ℕ) (h : Expression) → AreOrdered h → (i : ℕ)
         → first r text end p h i ≡ None → (j : ℕ) → j ≤ end → Means r.terminator text h i j → ⊥ }
+{}
+
+/// Where acceptance is permitted only so, the first run of a pattern ends where that permits and the expression
+/// means a part of the text, within the span, and there is none only where it means none that ends so.
+pub fn the_first_permitted_run_is_meant()
+    ensures some { (ok : Sieve) (r : Patterns) (text : List ℕ) (end p : ℕ) (h : Expression) → AreOrdered h → (i : ℕ) (t : Trace)
+        → first_where ok r text end p h i ≡ Some t
+        → (t.pattern ≡ p) × IsTrue (ok p t.end) × (t.end ≤ end) × Means r.terminator text h i t.end }
+    ensures none { (ok : Sieve) (r : Patterns) (text : List ℕ) (end p : ℕ) (h : Expression) → AreOrdered h → (i : ℕ)
+        → first_where ok r text end p h i ≡ None
+        → (j : ℕ) → j ≤ end → IsTrue (ok p j) → Means r.terminator text h i j → ⊥ }
 {}
 
 /// What an expression means has at least its least length, where one is known.

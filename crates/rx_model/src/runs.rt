@@ -1,8 +1,9 @@
 //! Laws of the runs of a priority graph.
 
 ghost use Rattle.std.specs.Prelude.{◌≡◌, ℕ, ◌≤◌, Bool, List, Some, None, option_map, IsTrue, IsFalse};
-ghost use Rattle.rx_model.specs.Runs.{Configuration, PriorityGraph, Passed, IsBounded, NeverFalls, IsClosed, IsRun, IsFirst, nowhere, and_at, first_run, first_trace, found};
-ghost use Rattle.rx_model.specs.Search.{told, none};
+ghost use Rattle.rx_model.specs.Runs.{Configuration, PriorityGraph, Passed, Sieve, everywhere, sieved, IsBounded, NeverFalls, IsClosed, IsRun, IsFirst, nowhere, and_at, first_run, first_trace, found};
+ghost use Rattle.rx_model.specs.Expression.{Expression};
+ghost use Rattle.rx_model.specs.Search.{Patterns, told, none, first, first_where, first_of_patterns, first_of_patterns_where};
 ghost use Rattle.rx_model.specs.Refinement.{Refines, moved, AgreesButForWrites};
 
 /// The search in order of preference finds the least accepting run, that one alone, and none only where
@@ -36,11 +37,24 @@ pub fn the_unreachable_may_count_as_passed()
         → (passed : Passed) (c : Configuration) → IsTrue (reached c.state) → found g (and_at u passed) c ≡ found g passed c }
 {}
 
-/// A graph that refines another has the same first runs, with pattern, end and slots.
+/// A graph that refines another has the same first runs, with pattern, end and slots, wherever acceptance
+/// is permitted: the sieved graphs are a refinement too.
 pub fn refined_graphs_have_equal_first_runs()
-    ensures { (g m : PriorityGraph) → IsBounded g → IsBounded m → (image : ℕ → ℕ) (live : ℕ → Bool)
-        → Refines g m image (λ q. IsTrue (live q)) → (c : Configuration) → IsTrue (live c.state)
-        → first_trace m (moved image c) ≡ first_trace g c }
+    ensures runs { (g m : PriorityGraph) → IsBounded g → IsBounded m → (image : ℕ → ℕ) (live : ℕ → Bool)
+        → Refines g m image (λ q. IsTrue (live q)) → (ok : Sieve) (c : Configuration) → IsTrue (live c.state)
+        → first_trace (sieved ok m) (moved image c) ≡ first_trace (sieved ok g) c }
+    ensures sieved { (g m : PriorityGraph) → IsBounded g → IsBounded m → (image : ℕ → ℕ) (live : ℕ → Bool)
+        → Refines g m image (λ q. IsTrue (live q)) → (ok : Sieve)
+        → Refines (sieved ok g) (sieved ok m) image (λ q. IsTrue (live q)) }
+{}
+
+/// Where each pattern may be accepted at each place, the first runs are those of the graph.
+pub fn the_sieve_that_lets_all_through_changes_no_run()
+    ensures graph { (g : PriorityGraph) (c : Configuration) → first_trace (sieved everywhere g) c ≡ first_trace g c }
+    ensures pattern { (r : Patterns) (text : List ℕ) (end p : ℕ) (h : Expression) (i : ℕ)
+        → first_where everywhere r text end p h i ≡ first r text end p h i }
+    ensures patterns { (r : Patterns) (text : List ℕ) (end p : ℕ) (hs : List Expression) (i : ℕ)
+        → first_of_patterns_where everywhere r text end p hs i ≡ first_of_patterns r text end p hs i }
 {}
 
 /// What a graph writes has no part in which run is first: graphs that agree but for their writes have the

@@ -4,9 +4,10 @@ use Rattle.std.specs.Prelude.{Bool, true, false, ◌&&◌, if◌then◌else◌, 
 use Rattle.std.specs.Option.{option_or}
 use Rattle.std.proofs.lemmas.Bool.Decides.{nat_tests}
 use Rattle.rx_model.specs.Text.{stands_at}
-use Rattle.rx_model.specs.Runs.{Configuration, PriorityGraph, Passed, and_at, same, Trace, with_write, found, first_some}
+use Rattle.rx_model.specs.Runs.{Configuration, PriorityGraph, Passed, Sieve, sifted, sieved, and_at, same, Trace, with_write, found, first_some}
 use Rattle.rx_model.proofs.RunLemmas.{by_test, same-true}
 use Rattle.rx_model.proofs.FoundLemmas.{found-step, found-forget}
+use Rattle.rx_model.proofs.SieveLemmas.{sieved-bounded, sieved-rises}
 use Rattle.rx_nfa.specs.Automaton.{at, state_step, state_accepts, state_writes, automaton}
 use Rattle.rx_nfa.specs.States.{Stands}
 use Rattle.rx_nfa.specs.Built.{IsChain}
@@ -22,9 +23,9 @@ pub stands-cons : (text : List ℕ) (i b : ℕ) (bytes : List ℕ) → i < lengt
 unfolding stands_at
 stands-cons text i b bytes lt = rw (drop-cons text i 0) refl
 
-module _ (terminator : ℕ) (whole : List State) (text : List ℕ) (end : ℕ) (inside : end ≤ length text) (low : ℕ) where
+module _ (ok : Sieve) (terminator : ℕ) (whole : List State) (text : List ℕ) (end : ℕ) (inside : end ≤ length text) (low : ℕ) where
   abbrev pub m : PriorityGraph
-  m = automaton terminator whole text end
+  m = sieved ok (automaton terminator whole text end)
 
   -- what is found from state r, after n bytes from i on
   abbrev pub after : Passed → (r i : ℕ) → Bool → ℕ → Option Trace
@@ -48,13 +49,13 @@ module _ (terminator : ℕ) (whole : List State) (text : List ℕ) (end : ℕ) (
   byte-found : (p : Passed) (q i b next : ℕ) → i ≤ end → Stands low whole q (ByteRange b b next) → p (at q i) ≡ false
       → found m p (at q i) ≡ (if nat_lt i end && nat_eq b (slice_index text i) then found m p (at next (i + 1)) else None)
   byte-found p q i b next le s new =
-      found-step m p (automaton-bounded terminator whole text end) (at q i) new (automaton-accepted terminator whole text end q i s.inside le ∙ ap state_accepts s.is)
+      found-step m p (sieved-bounded ok (automaton terminator whole text end) (automaton-bounded terminator whole text end)) (at q i) new (ap (sifted ok i) (automaton-accepted terminator whole text end q i s.inside le ∙ ap state_accepts s.is))
       ∙ (λ j. option_map (with_write (written j) i) (first_some (found m (and_at (at q i) p)) (successors j)))
       ∙ by_test (nat_lt i end)
       (λ e. rw e (by_test (nat_eq b (slice_index text i))
       (λ k. let hit : (nat_le b (slice_index text i) && nat_le (slice_index text i) b) ≡ true = grind (arith, nat_tests) in
       rw (hit, k) (single i (found m (and_at (at q i) p) (at next (i + 1)))
-      ∙ found-forget m (automaton-rises terminator whole text end) (and_at (at q i) p) p (at next (i + 1)) (λ d later. not_here q i p d later)))
+      ∙ found-forget m (sieved-rises ok (automaton terminator whole text end) (automaton-rises terminator whole text end)) (and_at (at q i) p) p (at next (i + 1)) (λ d later. not_here q i p d later)))
       (λ k. let miss : (nat_le b (slice_index text i) && nat_le (slice_index text i) b) ≡ false = grind (arith, nat_tests) in rw (miss, k) refl)))
       (λ e. rw e refl)
     where

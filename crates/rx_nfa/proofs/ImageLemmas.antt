@@ -1,6 +1,6 @@
--- Where the states of a graph have their images in an NFA, the first runs are alike.
-use Rattle.std.proofs.Common.{◌≡◌, ℕ, zero, suc, ◌+◌, ◌≤◌, ◌<◌, ◌⊎◌, List, [], ◌∷◌, length, refl, sym, ◌∙◌, ap, subst, inl, inr, ⊎_elim, arith}
-use Rattle.std.specs.Prelude.{true, false, if◌then◌else◌, nat_le, None, Contains, map, ⊤}
+-- Where the states of a graph have their images in an NFA, the first runs are alike, wherever acceptance is permitted.
+use Rattle.std.proofs.Common.{◌≡◌, ℕ, zero, suc, ◌+◌, ◌≤◌, ◌<◌, ◌⊎◌, List, [], ◌∷◌, length, refl, sym, ◌∙◌, ap, subst, inl, inr, ⊎_elim, arith, true≢false}
+use Rattle.std.specs.Prelude.{true, false, if◌then◌else◌, nat_le, is_some, None, Contains, map, ⊤}
 use Rattle.std.specs.List.{AllZip}
 use Rattle.std.proofs.lemmas.Bool.{cases_lt}
 use Rattle.std.proofs.lemmas.Bool.Decides.{nat_tests}
@@ -8,7 +8,7 @@ use Rattle.std.proofs.lemmas.List.{get_or_past}
 use Rattle.rx_model.specs.Text.{stands_at, scalar_ranges, byte_ranges}
 use Rattle.rx_model.specs.Look.{holds}
 use Rattle.rx_model.specs.Graph as graph
-use Rattle.rx_model.specs.Runs.{Configuration, PriorityGraph, Passed, IsBounded, found, nowhere}
+use Rattle.rx_model.specs.Runs.{Configuration, PriorityGraph, Passed, Sieve, sieved, IsBounded, found, nowhere}
 use Rattle.rx_model.specs.Machine.{is_inside, graph_of}
 use Rattle.rx_model.proofs.RunLemmas.{by_test}
 use Rattle.rx_model.proofs.MachineLemmas.{graph_of-bounded}
@@ -224,8 +224,8 @@ module _ (t : ℕ) (text : List ℕ) (end : ℕ) (inside : end ≤ length text) 
           let to : graph.state_step t text end (graph.text [] next) c.place ≡ at next c.place ∷ [] = rw (stands-none text c.place, fits) (ap (λ i. at next i ∷ []) none) in
           inl (stays c (next ∷ []) (in_g ∙ to) (in_m (Union (f next ∷ [])) h.is))
       kinds (graph.text (b ∷ bytes) next) h w in_g in_m =
-          let reads : (p : Passed) → IsFresh p (moved f c) → found m p (moved f c) ≡ after t whole text end inside low p (f next) c.place (stands_at text c.place (b ∷ bytes)) (suc (length bytes)) =
-          λ p fresh. chain-found t whole text end inside low p (f c.state) (b ∷ bytes) (f next) c.place le h fresh.new fresh.ahead in
+          let reads : (ok : Sieve) (p : Passed) → IsFresh p (moved f c) → found (sieved ok m) p (moved f c) ≡ after ok t whole text end inside low p (f next) c.place (stands_at text c.place (b ∷ bytes)) (suc (length bytes)) =
+          λ ok p fresh. chain-found ok t whole text end inside low p (f c.state) (b ∷ bytes) (f next) c.place le h fresh.new fresh.ahead in
           by_test (stands_at text c.place (b ∷ bytes))
           (λ stands. by_test (nat_le (c.place + suc (length bytes)) end)
           (λ fits. inr (inl (record {
@@ -233,14 +233,14 @@ module _ (t : ℕ) (text : List ℕ) (end : ℕ) (inside : end ≤ length text) 
             written = w;
             successors = in_g ∙ rw (stands, fits) refl;
             later = omega arith;
-            reads = λ p fresh. reads p fresh ∙ rw (stands, fits) refl;
+            reads = λ ok p fresh. reads ok p fresh ∙ rw (stands, fits) refl;
           })))
-          (λ short. inr (inr (record { successors = in_g ∙ rw (stands, short) refl; fails = λ p fresh. reads p fresh ∙ rw (stands, short) refl }))))
-          (λ gone. inr (inr (record { successors = in_g ∙ rw gone refl; fails = λ p fresh. reads p fresh ∙ rw gone refl })))
+          (λ short. inr (inr (record { successors = in_g ∙ rw (stands, short) refl; fails = λ ok p fresh. reads ok p fresh ∙ rw (stands, short) refl }))))
+          (λ gone. inr (inr (record { successors = in_g ∙ rw gone refl; fails = λ ok p fresh. reads ok p fresh ∙ rw gone refl })))
       kinds (graph.set (scalar_ranges ranges) next) h w in_g in_m =
-          inr (set-refined g m f t text end c.state next c.place (scalar_ranges ranges) (λ n e. member_len-scalar text ranges c.place n e) w in_g (IsClass-reads t whole text end low (f next) (f c.state) ranges inside h))
+          inr (set-refined g m f t text end c.state next c.place (scalar_ranges ranges) (λ n e. member_len-scalar text ranges c.place n e) w in_g (λ ok. IsClass-reads ok t whole text end low (f next) (f c.state) ranges inside h))
       kinds (graph.set (byte_ranges ranges) next) h w in_g in_m =
-          inr (set-refined g m f t text end c.state next c.place (byte_ranges ranges) (λ n e. member_len-byte text ranges c.place n e) w in_g (IsByteClass-reads t whole text end low (f next) (f c.state) ranges inside h.0 h.1))
+          inr (set-refined g m f t text end c.state next c.place (byte_ranges ranges) (λ n e. member_len-byte text ranges c.place n e) w in_g (λ ok. IsByteClass-reads ok t whole text end low (f next) (f c.state) ranges inside h.0 h.1))
       kinds (graph.assertion kind next) h w in_g in_m =
           let goes = in_m (Look h.0 (f next)) h.2.is ∙ ap (λ k. if holds t text k c.place then at (f next) c.place ∷ [] else []) h.1 in
           by_test (holds t text kind c.place)
@@ -255,17 +255,37 @@ module _ (t : ℕ) (text : List ℕ) (end : ℕ) (inside : end ≤ length text) 
     apart = λ j k lt lt' e. image-apart images low (length whole) j k (Rises-up rises) e;
     stays_live = λ c d live member. tt;
     accepted = λ c live. accepted c;
+    ends = λ c live accepts. ends c accepts;
     goes_on = λ c live none.
         by_place c
         (λ lt le. goes_on c lt le (graph.state_at states c.state) refl (is_image c.state lt))
         (λ out. inl (stays c [] (g-outside c out).0 (m-outside c out).0));
   }
     where
+      -- what accepts goes nowhere
+      ends : (c : Configuration) → is_some (g.accepted c) ≡ true → (g.successors c ≡ []) × (m.successors (moved f c) ≡ [])
+      ends c accepts =
+          by_place c
+          (λ lt le. kinds lt le (graph.state_at states c.state) refl (is_image c.state lt) (sym (ap is_some (g-accepted c lt le)) ∙ accepts))
+          (λ out. ((g-outside c out).0, (m-outside c out).0))
+        where
+          kinds : c.state < length states → c.place ≤ end → (s : graph.State) → graph.state_at states c.state ≡ s → IsImage (Stands low whole) f s (f c.state)
+              → is_some (graph.state_accepts (graph.state_at states c.state)) ≡ true → (g.successors c ≡ []) × (m.successors (moved f c) ≡ [])
+          kinds lt le (graph.accept pattern) is h accepts = (
+            g-successors c lt le ∙ ap (λ x. graph.state_step t text end x c.place) is,
+            automaton-successors t whole text end (f c.state) c.place h.inside le ∙ ap (λ x. state_step t text end x c.place) h.is,
+          )
+          kinds lt le (graph.text bytes next) is h accepts = absurd (true≢false (sym accepts ∙ ap (λ x. is_some (graph.state_accepts x)) is))
+          kinds lt le (graph.set members next) is h accepts = absurd (true≢false (sym accepts ∙ ap (λ x. is_some (graph.state_accepts x)) is))
+          kinds lt le (graph.assertion kind next) is h accepts = absurd (true≢false (sym accepts ∙ ap (λ x. is_some (graph.state_accepts x)) is))
+          kinds lt le (graph.slot number next) is h accepts = absurd (true≢false (sym accepts ∙ ap (λ x. is_some (graph.state_accepts x)) is))
+          kinds lt le (graph.choice qs) is h accepts = absurd (true≢false (sym accepts ∙ ap (λ x. is_some (graph.state_accepts x)) is))
+
       Rises-up : Rises low high images → Rises low (length whole) images
       Rises-up r = Rises-to low high (length whole) images within r
 
   -- whatever the automaton has passed of states that are no images
-  pub image-found : (q : Passed) (k i : ℕ) → ((j i : ℕ) → q (at (f j) i) ≡ false) → ((d : Configuration) → i < d.place → q d ≡ false)
-      → found m q (at (f k) i) ≡ found g nowhere (at k i)
-  image-found q k i apart ahead =
-      Refines-found-past g m f (λ k. ⊤) refines g-bounded (automaton-bounded t whole text end) q (at k i) tt (λ a j live. apart a j) ahead
+  pub image-found : (ok : Sieve) (q : Passed) (k i : ℕ) → ((j i : ℕ) → q (at (f j) i) ≡ false) → ((d : Configuration) → i < d.place → q d ≡ false)
+      → found (sieved ok m) q (at (f k) i) ≡ found (sieved ok g) nowhere (at k i)
+  image-found ok q k i apart ahead =
+      Refines-found-past g m f (λ k. ⊤) refines g-bounded (automaton-bounded t whole text end) ok q (at k i) tt (λ a j live. apart a j) ahead

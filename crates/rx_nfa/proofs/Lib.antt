@@ -13,6 +13,8 @@ pub mod SlotLemmas
 pub mod ChoiceLemmas
 pub mod CompileLemmas
 pub mod PatternLemmas
+pub mod SpanLemmas
+pub mod HingeRows
 pub mod StateLemmas
 pub mod RowLemmas
 pub mod RangesLemmas

@@ -13,10 +13,11 @@ use Rattle.rx_model.proofs.RunLemmas.{by_test}
 use Rattle.rx_model.proofs.FirstLemmas.{none-is-some, some-is}
 use Rattle.rx_model.proofs.RiseLemmas.{found-end}
 use Rattle.rx_nfa.specs.Automaton.{at, automaton, state_at, state_writes, IsWithin}
-use Rattle.rx_nfa.specs.Nfa.{Nfa, IsInRange, HasFirstRuns}
+use Rattle.rx_nfa.specs.Nfa.{Nfa, IsInRange, HasRuns, HasFirstRuns}
 use Rattle.rx_nfa.specs.NextMatch.{start_of, first_from, next_match_of}
 use Rattle.rx_nfa.specs.declared.state.State.{State}
 use Rattle.rx_nfa.specs.declared.state.State.TheVariants.{ByteRange, Sparse, Look, Union, Capture, Fail, Match as Accepts}
+use Rattle.rx_nfa.proofs.PatternLemmas.{HasRuns-first}
 use Rattle.rx_nfa.proofs.AutomatonLemmas.{automaton-bounded, automaton-rises, automaton-accepts-within, automaton-written}
 
 -- where each start tells the same
@@ -62,7 +63,10 @@ first_start-told which permitted from (suc n) i =
     told-pick true None rest = refl
     told-pick false o rest = refl
 
-module _ (nfa : Nfa) (r : Patterns) (text : List ℕ) (end : ℕ) (within : end ≤ length text) (runs : HasFirstRuns nfa r) where
+module _ (nfa : Nfa) (r : Patterns) (text : List ℕ) (end : ℕ) (within : end ≤ length text) (has : HasRuns nfa r) where
+  runs : HasFirstRuns nfa r
+  runs = HasRuns-first nfa r has
+
   -- what a start tells is what is told of the patterns there
   starting-alike : (anchor : Anchor) (i : ℕ) → first_from nfa.terminator nfa.states text end (start_of nfa anchor) i ≡ option_map (told r.which_captures) (starting_at r text end anchor i)
   unfolding starting_at

@@ -1,4 +1,4 @@
--- The patterns of an NFA, and their first runs.
+-- The patterns of an NFA, and their first runs, wherever acceptance is permitted.
 use Rattle.std.proofs.Common.{◌≡◌, ◌≢◌, ℕ, zero, suc, ◌+◌, ◌≤◌, ◌<◌, ◌⊎◌, List, [], ◌∷◌, refl, sym, ◌∙◌, ap, subst, inl, inr, ⊎_elim, arith, length, ◌++◌, get_or, ◌-◌}
 use Rattle.std.specs.Prelude.{false, Option, Some, None, map, option_map, slice_get, slice_index}
 use Rattle.std.specs.Option.{option_or}
@@ -7,14 +7,15 @@ use Rattle.std.proofs.lemmas.Option.{none-some, same_Some, slice_get-get_or}
 use Rattle.std.proofs.lemmas.List.{get_or_append_left, get_or-append_right}
 use Rattle.rx_model.specs.Expression.{Expression}
 use Rattle.rx_model.specs.Graph as graph
-use Rattle.rx_model.specs.Runs.{Configuration, PriorityGraph, Passed, Trace, with_write, nowhere, and_at, same, found, first_some, first_trace}
-use Rattle.rx_model.specs.Search.{Patterns, WhichCaptures, all as every_group, implicit as whole_alone, none as no_group, told, slot_of, first, first_of_patterns}
+use Rattle.rx_model.specs.Runs.{Configuration, PriorityGraph, Passed, Sieve, everywhere, sifted, sieved, Trace, with_write, nowhere, and_at, same, found, first_some, first_trace}
+use Rattle.rx_model.specs.Search.{Patterns, WhichCaptures, all as every_group, implicit as whole_alone, none as no_group, told, slot_of, first_where, first_of_patterns_where}
 use Rattle.rx_model.proofs.WriteLemmas.{told-or, told-all, told-implicit, found-silent}
 use Rattle.rx_model.proofs.RunLemmas.{by_test, same-true}
 use Rattle.rx_model.proofs.FoundLemmas.{found-step, found-passed}
+use Rattle.rx_model.proofs.SieveLemmas.{sieved-bounded, sieved-everywhere, first-everywhere, first_of_patterns-everywhere}
 use Rattle.rx_hir.specs.Sound.{IsSound}
 use Rattle.rx_nfa.specs.Automaton.{at, automaton, state_accepts, state_writes, state_step}
-use Rattle.rx_nfa.specs.Nfa.{Nfa, HasFirstRuns}
+use Rattle.rx_nfa.specs.Nfa.{Nfa, HasRuns, HasFirstRuns}
 use Rattle.rx_nfa.specs.Draft.{Draft, Extends, pushed}
 use Rattle.rx_nfa.specs.States.{Stands}
 use Rattle.rx_nfa.specs.Built.{Sends, Mirrors, Built, build_bounds, compiled_pattern, part_of, HasPart, HasPatterns, StartsAll}
@@ -56,18 +57,18 @@ HasPart-pattern whole slot p h old mid new start is b' = record {
         }
 
 -- what is found past the end is nothing
-found-far : (terminator : ℕ) (states : List State) (text : List ℕ) (end : ℕ) (q : Passed) (s i : ℕ) → end < i → found (automaton terminator states text end) q (at s i) ≡ None
-found-far terminator states text end q s i far =
+found-far : (ok : Sieve) (terminator : ℕ) (states : List State) (text : List ℕ) (end : ℕ) (q : Passed) (s i : ℕ) → end < i → found (sieved ok (automaton terminator states text end)) q (at s i) ≡ None
+found-far ok terminator states text end q s i far =
     by_test (q (at s i))
-    (λ seen. found-passed (automaton terminator states text end) q (at s i) seen)
-    (λ new. found-step (automaton terminator states text end) q (automaton-bounded terminator states text end) (at s i) new (automaton-accepted-past terminator states text end s i far)
-    ∙ ap (λ ds. option_map (with_write ((automaton terminator states text end).written (at s i)) i) (first_some (found (automaton terminator states text end) (and_at (at s i) q)) ds)) (automaton-successors-past terminator states text end s i far))
+    (λ seen. found-passed (sieved ok (automaton terminator states text end)) q (at s i) seen)
+    (λ new. found-step (sieved ok (automaton terminator states text end)) q (sieved-bounded ok (automaton terminator states text end) (automaton-bounded terminator states text end)) (at s i) new (ap (sifted ok i) (automaton-accepted-past terminator states text end s i far))
+    ∙ ap (λ ds. option_map (with_write ((automaton terminator states text end).written (at s i)) i) (first_some (found (sieved ok (automaton terminator states text end)) (and_at (at s i) q)) ds)) (automaton-successors-past terminator states text end s i far))
 
 -- In a later draft, whatever was passed of states that were added since.
-module _ (r : Patterns) (text : List ℕ) (end : ℕ) (inside : end ≤ length text) (old new : Draft) (e : Extends old new)
+module _ (ok : Sieve) (r : Patterns) (text : List ℕ) (end : ℕ) (inside : end ≤ length text) (old new : Draft) (e : Extends old new)
     (silent : r.which_captures ≡ no_group → (c : Configuration) → (automaton r.terminator new.states text end).written c ≡ None) where
   abbrev m : PriorityGraph
-  m = automaton r.terminator new.states text end
+  m = sieved ok (automaton r.terminator new.states text end)
 
   -- it has passed none of the states of `old`, and none that are not there
   abbrev IsClear : Passed → Type 0
@@ -83,8 +84,8 @@ module _ (r : Patterns) (text : List ℕ) (end : ℕ) (inside : end ≤ length t
   told-found no_group unwritten q c = found-silent m (unwritten refl) q c
 
   HasPart-found : (p : ℕ) (h : Expression) (start : ℕ) → HasPart old.states (part_of r p h) start → (q : Passed) (i : ℕ) → IsClear q → IsAhead q i
-      → found m q (at start i) ≡ option_map (told r.which_captures) (first r text end p h i)
-  unfolding first IsAhead
+      → found m q (at start i) ≡ option_map (told r.which_captures) (first_where ok r text end p h i)
+  unfolding first_where IsAhead
   HasPart-found p h start has q i clear ahead =
       let part = part_of r p h in
       let n = length new.states in
@@ -94,15 +95,15 @@ module _ (r : Patterns) (text : List ℕ) (end : ℕ) (inside : end ≤ length t
       sym (told-found r.which_captures silent q (at start i))
       ∙ ap (option_map (told r.which_captures))
       (ap (λ s. found m q (at s i)) (sym kept.start_is)
-      ∙ image-found r.terminator text end inside (part_of r p h).states new.states 0 (length old.states) has.images e.longer has.rises kept.each q (part_of r p h).start i
+      ∙ image-found r.terminator text end inside (part_of r p h).states new.states 0 (length old.states) has.images e.longer has.rises kept.each ok q (part_of r p h).start i
       (λ j k. clear (image has.images (length new.states) j) k (image-either has.images 0 (length old.states) (length new.states) j has.rises)) ahead)
-      ∙ told-part r.terminator text end r.which_captures (slot_of r p) p h i
+      ∙ told-part r.terminator text end ok r.which_captures (slot_of r p) p h i
 
   -- what is found from each start in turn
   starts-found : (p : ℕ) (hs : List Expression) (starts : List ℕ) → length starts ≡ length hs
       → ((k : ℕ) (h : Expression) → slice_get hs k ≡ Some h → HasPart old.states (part_of r (p + k) h) (slice_index starts k))
-      → (q : Passed) (i : ℕ) → IsClear q → IsAhead q i → first_some (found m q) (map (λ s. at s i) starts) ≡ option_map (told r.which_captures) (first_of_patterns r text end p hs i)
-  unfolding first_of_patterns
+      → (q : Passed) (i : ℕ) → IsClear q → IsAhead q i → first_some (found m q) (map (λ s. at s i) starts) ≡ option_map (told r.which_captures) (first_of_patterns_where ok r text end p hs i)
+  unfolding first_of_patterns_where
   starts-found p [] [] long has q i clear ahead = refl
   starts-found p [] (s ∷ starts) long has q i clear ahead = absurd (omega arith)
   starts-found p (h ∷ hs) [] long has q i clear ahead = absurd (omega arith)
@@ -113,7 +114,7 @@ module _ (r : Patterns) (text : List ℕ) (end : ℕ) (inside : end ≤ length t
       (starts-found (suc p) hs starts (omega arith)
       (λ k x is. (let more : p + suc k ≡ suc p + k = omega arith in subst (λ n. HasPart old.states (part_of r n x) (slice_index starts k)) more (has (suc k) x is)))
       q i clear ahead j))
-      ∙ sym (told-or r.which_captures (first r text end p h i) (first_of_patterns r text end (suc p) hs i))
+      ∙ sym (told-or r.which_captures (first_where ok r text end p h i) (first_of_patterns_where ok r text end (suc p) hs i))
 
   module _ (starts : List ℕ) (long : length starts ≡ length r.expressions) (has : HasPatterns old.states r (length r.expressions) starts) where
     has-all : (k : ℕ) (h : Expression) → slice_get r.expressions k ≡ Some h → HasPart old.states (part_of r (0 + k) h) (slice_index starts k)
@@ -126,17 +127,17 @@ module _ (r : Patterns) (text : List ℕ) (end : ℕ) (inside : end ≤ length t
         slice_get-below (x ∷ hs) zero h is = omega arith
         slice_get-below (x ∷ hs) (suc k) h is = let later = slice_get-below hs k h is in omega arith
 
-    all-found : (q : Passed) (i : ℕ) → IsClear q → IsAhead q i → first_some (found m q) (map (λ s. at s i) starts) ≡ option_map (told r.which_captures) (first_of_patterns r text end 0 r.expressions i)
+    all-found : (q : Passed) (i : ℕ) → IsClear q → IsAhead q i → first_some (found m q) (map (λ s. at s i) starts) ≡ option_map (told r.which_captures) (first_of_patterns_where ok r text end 0 r.expressions i)
     all-found q i clear ahead = starts-found 0 r.expressions starts long has-all q i clear ahead
 
-    pub each-found : (p i : ℕ) (h : Expression) → slice_get r.expressions p ≡ Some h → first_trace m (at (slice_index starts p) i) ≡ option_map (told r.which_captures) (first r text end p h i)
+    pub each-found : (p i : ℕ) (h : Expression) → slice_get r.expressions p ≡ Some h → first_trace m (at (slice_index starts p) i) ≡ option_map (told r.which_captures) (first_where ok r text end p h i)
     unfolding IsAhead
     each-found p i h is =
         let none : 0 + p ≡ p = omega arith in
         HasPart-found p h (slice_index starts p) (subst (λ n. HasPart old.states (part_of r n h) (slice_index starts p)) none (has-all p h is)) nowhere i (λ u j out. refl) (λ d lt. refl)
 
     -- from the only start
-    pub only-found : (s i : ℕ) → starts ≡ s ∷ [] → first_trace m (at s i) ≡ option_map (told r.which_captures) (first_of_patterns r text end 0 r.expressions i)
+    pub only-found : (s i : ℕ) → starts ≡ s ∷ [] → first_trace m (at s i) ≡ option_map (told r.which_captures) (first_of_patterns_where ok r text end 0 r.expressions i)
     unfolding IsAhead
     only-found s i only =
         single (first_trace m (at s i)) ∙ ap (λ qs. first_some (found m nowhere) (map (λ x. at x i) qs)) (sym only) ∙ all-found nowhere i (λ u j out. refl) (λ d lt. refl)
@@ -146,13 +147,13 @@ module _ (r : Patterns) (text : List ℕ) (end : ℕ) (inside : end ≤ length t
         single (Some t) = refl
 
     -- from the choice between them
-    pub choice-found : (i : ℕ) → new ≡ pushed old (Union starts) → first_trace m (at (length old.states) i) ≡ option_map (told r.which_captures) (first_of_patterns r text end 0 r.expressions i)
+    pub choice-found : (i : ℕ) → new ≡ pushed old (Union starts) → first_trace m (at (length old.states) i) ≡ option_map (told r.which_captures) (first_of_patterns_where ok r text end 0 r.expressions i)
     unfolding IsAhead
     choice-found i is =
         ⊎_elim
-        (λ far. found-far r.terminator new.states text end nowhere (length old.states) i far ∙ sym (all-far far starts) ∙ all-found nowhere i (λ u j out. refl) (λ d lt. refl))
+        (λ far. found-far ok r.terminator new.states text end nowhere (length old.states) i far ∙ sym (all-far far starts) ∙ all-found nowhere i (λ u j out. refl) (λ d lt. refl))
         (λ le.
-        found-step m nowhere (automaton-bounded r.terminator new.states text end) (at (length old.states) i) refl (automaton-accepted r.terminator new.states text end (length old.states) i stands.inside le ∙ ap state_accepts stands.is)
+        found-step m nowhere (sieved-bounded ok (automaton r.terminator new.states text end) (automaton-bounded r.terminator new.states text end)) (at (length old.states) i) refl (ap (sifted ok i) (automaton-accepted r.terminator new.states text end (length old.states) i stands.inside le ∙ ap state_accepts stands.is))
         ∙ (λ j. option_map (with_write (written j) i) (first_some (found m (and_at (at (length old.states) i) nowhere)) (successors le j)))
         ∙ unwritten (first_some (found m (and_at (at (length old.states) i) nowhere)) (map (λ s. at s i) starts))
         ∙ all-found (and_at (at (length old.states) i) nowhere) i
@@ -185,7 +186,7 @@ module _ (r : Patterns) (text : List ℕ) (end : ℕ) (inside : end ≤ length t
 
         all-far : end < i → (qs : List ℕ) → first_some (found m nowhere) (map (λ s. at s i) qs) ≡ None
         all-far far [] = refl
-        all-far far (s ∷ qs) = rw (found-far r.terminator new.states text end nowhere s i far) (all-far far qs)
+        all-far far (s ∷ qs) = rw (found-far ok r.terminator new.states text end nowhere s i far) (all-far far qs)
 
 -- one pattern more
 pub HasPatterns-more : (r : Patterns) (n : ℕ) (old new : Draft) (starts starts' : List ℕ) (q : ℕ) (h : Expression) → Extends old new → length starts ≡ n → starts' ≡ starts ++ q ∷ []
@@ -219,30 +220,44 @@ sound-more hs n h inside is sound before p x lt here =
     subst IsSound (sym this) sound)
     (cases_lt p n)
 
--- the first runs of an NFA that has the patterns
-pub HasFirstRuns-from : (r : Patterns) (nfa : Nfa) (old new : Draft) → HasPatterns old.states r (length r.expressions) nfa.starts → length nfa.starts ≡ length r.expressions → nfa.terminator ≡ r.terminator
+-- the runs of an NFA that has the patterns
+pub HasRuns-from : (r : Patterns) (nfa : Nfa) (old new : Draft) → HasPatterns old.states r (length r.expressions) nfa.starts → length nfa.starts ≡ length r.expressions → nfa.terminator ≡ r.terminator
     → nfa.states ≡ new.states
     → StartsAll old new nfa.starts nfa.start_anchored
-    → (r.which_captures ≡ no_group → (text : List ℕ) (end : ℕ) (c : Configuration) → (automaton r.terminator new.states text end).written c ≡ None) → HasFirstRuns nfa r
-HasFirstRuns-from r nfa old new has long ends kept starting silent = ⊎_elim only choice starting
+    → (r.which_captures ≡ no_group → (text : List ℕ) (end : ℕ) (c : Configuration) → (automaton r.terminator new.states text end).written c ≡ None) → HasRuns nfa r
+HasRuns-from r nfa old new has long ends kept starting silent = ⊎_elim only choice starting
   where
-    made : (e : Extends old new) → ((text : List ℕ) (end i : ℕ) → end ≤ length text → first_trace (automaton r.terminator new.states text end) (at nfa.start_anchored i) ≡ option_map (told r.which_captures) (first_of_patterns r text end 0 r.expressions i)) → HasFirstRuns nfa r
+    made : (e : Extends old new) → ((ok : Sieve) (text : List ℕ) (end i : ℕ) → end ≤ length text → first_trace (sieved ok (automaton r.terminator new.states text end)) (at nfa.start_anchored i) ≡ option_map (told r.which_captures) (first_of_patterns_where ok r text end 0 r.expressions i)) → HasRuns nfa r
     made e from_all = record {
       patterns = long;
-      each = λ text end p i h le is.
-          (λ k. first_trace (automaton (ends k) (kept k) text end) (at (slice_index nfa.starts p) i)) ∙ each-found r text end le old new e (λ w c. silent w text end c) nfa.starts long has p i h is;
-      all = λ text end i le. (λ k. first_trace (automaton (ends k) (kept k) text end) (at nfa.start_anchored i)) ∙ from_all text end i le;
+      each = λ ok text end p i h le is.
+          (λ k. first_trace (sieved ok (automaton (ends k) (kept k) text end)) (at (slice_index nfa.starts p) i)) ∙ each-found ok r text end le old new e (λ w c. silent w text end c) nfa.starts long has p i h is;
+      all = λ ok text end i le. (λ k. first_trace (sieved ok (automaton (ends k) (kept k) text end)) (at nfa.start_anchored i)) ∙ from_all ok text end i le;
     }
 
-    only : (nfa.starts ≡ nfa.start_anchored ∷ []) × (new ≡ old) → HasFirstRuns nfa r
+    only : (nfa.starts ≡ nfa.start_anchored ∷ []) × (new ≡ old) → HasRuns nfa r
     only h =
         let e : Extends old new = subst (Extends old) (sym h.1) (Extends-same old) in
-        made e (λ text end i le. only-found r text end le old new e (λ w c. silent w text end c) nfa.starts long has nfa.start_anchored i h.0)
+        made e (λ ok text end i le. only-found ok r text end le old new e (λ w c. silent w text end c) nfa.starts long has nfa.start_anchored i h.0)
 
-    choice : (nfa.start_anchored ≡ length old.states) × (new ≡ pushed old (Union nfa.starts)) → HasFirstRuns nfa r
+    choice : (nfa.start_anchored ≡ length old.states) × (new ≡ pushed old (Union nfa.starts)) → HasRuns nfa r
     choice h =
         let e : Extends old new = subst (Extends old) (sym h.1) (Extends-pushed old (Union nfa.starts)) in
-        made e (λ text end i le. ap (λ q. first_trace (automaton r.terminator new.states text end) (at q i)) h.0 ∙ choice-found r text end le old new e (λ w c. silent w text end c) nfa.starts long has i h.1)
+        made e (λ ok text end i le. ap (λ q. first_trace (sieved ok (automaton r.terminator new.states text end)) (at q i)) h.0 ∙ choice-found ok r text end le old new e (λ w c. silent w text end c) nfa.starts long has i h.1)
+
+-- with the sieve that lets all through, they are the first runs
+pub HasRuns-first : (nfa : Nfa) (r : Patterns) → HasRuns nfa r → HasFirstRuns nfa r
+HasRuns-first nfa r runs = record {
+  patterns = runs.patterns;
+  each = λ text end p i h le is.
+      (ap (λ g. first_trace g (at (slice_index nfa.starts p) i)) (sym (sieved-everywhere (automaton nfa.terminator nfa.states text end)))
+      ∙ runs.each everywhere text end p i h le is
+      ∙ ap (option_map (told r.which_captures)) (first-everywhere r text end p h i));
+  all = λ text end i le.
+      (ap (λ g. first_trace g (at nfa.start_anchored i)) (sym (sieved-everywhere (automaton nfa.terminator nfa.states text end)))
+      ∙ runs.all everywhere text end i le
+      ∙ ap (option_map (told r.which_captures)) (first_of_patterns-everywhere r text end 0 r.expressions i));
+}
 
 pub StartsAll-slots : (old new : Draft) (starts : List ℕ) (q : ℕ) → StartsAll old new starts q → new.slots ≡ old.slots
 StartsAll-slots old new starts q all = ⊎_elim (λ h. ap (λ (d : Draft). d.slots) h.1) (λ h. ap (λ (d : Draft). d.slots) h.1) all

@@ -7,11 +7,12 @@ use Rattle.std.proofs.lemmas.Option.{none-some, same_Some}
 use Rattle.std.proofs.lemmas.Str.{len_utf8_bounds}
 use Rattle.std.specs.Char.{len_utf8}
 use Rattle.rx_model.specs.Text.{is_member, char_at, scalar_ranges, byte_ranges, member_len, Class}
-use Rattle.rx_model.specs.Runs.{Configuration, PriorityGraph, Passed}
+use Rattle.rx_model.specs.Runs.{Configuration, PriorityGraph, Passed, Sieve, sifted, sieved}
 use Rattle.rx_model.specs.Machine.{graph_of, is_inside}
 use Rattle.rx_model.specs.Refinement.{IsFresh, Reads, Fails}
 use Rattle.rx_model.specs.Graph as graph
 use Rattle.rx_model.proofs.RunLemmas.{by_test}
+use Rattle.rx_model.proofs.SieveLemmas.{sieved-bounded, sieved-rises}
 use Rattle.rx_model.proofs.CharLemmas.{member_len-some, member_len-none, byte_len-within, byte_len-past}
 use Rattle.rx_nfa.specs.Ranges.{StaysBelow}
 use Rattle.rx_nfa.specs.Row.{reading, IsReader}
@@ -61,13 +62,15 @@ reads-writes (Match pattern) ts e = refl
 pub IsReader-reading : (base : ℕ) (states : List State) (q : ℕ) (ts : List Transition) → IsReader base states q ts → reading (state_at states q) ≡ Some ts
 IsReader-reading base states q ts r = ap reading r.stands.is ∙ r.reads
 
--- a state that reads a byte does so in the automaton
-pub IsReader-reads : (terminator : ℕ) (states : List State) (text : List ℕ) (end base q : ℕ) (ts : List Transition) → IsReader base states q ts → ReadsByte (automaton terminator states text end) text end q ts
+-- a state that reads a byte does so in the automaton, and accepts nothing
+pub IsReader-reads : (ok : Sieve) (terminator : ℕ) (states : List State) (text : List ℕ) (end base q : ℕ) (ts : List Transition) → IsReader base states q ts → ReadsByte (sieved ok (automaton terminator states text end)) text end q ts
 unfolding automaton graph_of
-IsReader-reads terminator states text end base q ts r =
+IsReader-reads ok terminator states text end base q ts r =
     let reads = IsReader-reading base states q ts r in
+    let none : (i : ℕ) → (automaton terminator states text end).accepted (at q i) ≡ None =
+    λ i. by_test (is_inside (machine terminator states text end) end (at q i)) (λ e. rw e (reads-accepts (state_at states q) ts reads)) (λ e. rw e refl) in
     record {
-      accepted = λ i. by_test (is_inside (machine terminator states text end) end (at q i)) (λ e. rw e (reads-accepts (state_at states q) ts reads)) (λ e. rw e refl);
+      accepted = λ i. ap (sifted ok i) (none i);
       written = λ i. reads-writes (state_at states q) ts reads;
       successors = λ i.
           by_test (is_inside (machine terminator states text end) end (at q i))
@@ -76,11 +79,12 @@ IsReader-reads terminator states text end base q ts r =
     }
 
 -- the block that `compile_class` appends reads the class in the automaton
-pub IsClass-reads : (terminator : ℕ) (states : List State) (text : List ℕ) (end base next q : ℕ) (rs : List (ℕ × ℕ)) → end ≤ length text
-    → IsClass (IsReader base states) next rs q → ReadsClass (automaton terminator states text end) text end next q (scalar_ranges rs)
-IsClass-reads terminator states text end base next q rs inside k =
-    class-found text end inside (automaton terminator states text end) (automaton-bounded terminator states text end) (automaton-rises terminator states text end) next rs q
-    (IsClass-map (IsReader base states) (ReadsByte (automaton terminator states text end) text end) next (IsReader-reads terminator states text end base) rs q k)
+pub IsClass-reads : (ok : Sieve) (terminator : ℕ) (states : List State) (text : List ℕ) (end base next q : ℕ) (rs : List (ℕ × ℕ)) → end ≤ length text
+    → IsClass (IsReader base states) next rs q → ReadsClass (sieved ok (automaton terminator states text end)) text end next q (scalar_ranges rs)
+IsClass-reads ok terminator states text end base next q rs inside k =
+    class-found text end inside (sieved ok (automaton terminator states text end)) (sieved-bounded ok (automaton terminator states text end) (automaton-bounded terminator states text end))
+    (sieved-rises ok (automaton terminator states text end) (automaton-rises terminator states text end)) next rs q
+    (IsClass-map (IsReader base states) (ReadsByte (sieved ok (automaton terminator states text end)) text end) next (IsReader-reads ok terminator states text end base) rs q k)
 
 -- a member takes a byte at least
 pub member_len-scalar : (text : List ℕ) (rs : List (ℕ × ℕ)) (i n : ℕ) → member_len text (scalar_ranges rs) i ≡ Some n → 0 < n
@@ -98,12 +102,12 @@ member_len-scalar text rs i n e =
 pub set-refined : (g m : PriorityGraph) (f : ℕ → ℕ) (t : ℕ) (text : List ℕ) (end s next i : ℕ) (members : Class)
     → ((n : ℕ) → member_len text members i ≡ Some n → 0 < n)
     → g.written (at s i) ≡ None → g.successors (at s i) ≡ graph.state_step t text end (graph.set members next) i
-    → ReadsClass m text end (f next) (f s) members → Reads g m f (at s i) ⊎ Fails g m f (at s i)
+    → ((ok : Sieve) → ReadsClass (sieved ok m) text end (f next) (f s) members) → Reads g m f (at s i) ⊎ Fails g m f (at s i)
 set-refined g m f t text end s next i members positive unwritten goes reads =
     some_or_none (member_len text members i)
     (λ none. inr (record {
       successors = goes ∙ rw none refl;
-      fails = λ p fresh. reads p i fresh.new (ahead p fresh) ∙ ap (found_after m p end (f next) i) none;
+      fails = λ ok p fresh. reads ok p i fresh.new (ahead p fresh) ∙ ap (found_after (sieved ok m) p end (f next) i) none;
     }))
     (λ n some. by_test (nat_le (i + n) end)
     (λ fits. inl (record {
@@ -111,11 +115,11 @@ set-refined g m f t text end s next i members positive unwritten goes reads =
       written = unwritten;
       successors = goes ∙ rw (some, fits) refl;
       later = (let long = positive n some in omega arith);
-      reads = λ p fresh. reads p i fresh.new (ahead p fresh) ∙ ap (found_after m p end (f next) i) some ∙ rw fits refl;
+      reads = λ ok p fresh. reads ok p i fresh.new (ahead p fresh) ∙ ap (found_after (sieved ok m) p end (f next) i) some ∙ rw fits refl;
     }))
     (λ short. inr (record {
       successors = goes ∙ rw (some, short) refl;
-      fails = λ p fresh. reads p i fresh.new (ahead p fresh) ∙ ap (found_after m p end (f next) i) some ∙ rw short refl;
+      fails = λ ok p fresh. reads ok p i fresh.new (ahead p fresh) ∙ ap (found_after (sieved ok m) p end (f next) i) some ∙ rw short refl;
     })))
   where
     ahead : (p : Passed) → IsFresh p (at (f s) i) → IsClean p (i + 1)
@@ -133,8 +137,9 @@ member_len-byte text rs i n e =
     takes true h = let is = same_Some _ _ h in omega arith
     takes false h = absurd (none-some n h)
 
-pub IsByteClass-reads : (terminator : ℕ) (states : List State) (text : List ℕ) (end base next q : ℕ) (rs : List (ℕ × ℕ)) → end ≤ length text → StaysBelow 255 rs
-    → IsByteClass (IsReader base states) next rs q → ReadsClass (automaton terminator states text end) text end next q (byte_ranges rs)
-IsByteClass-reads terminator states text end base next q rs inside below k =
-    byte_class-found text end inside (automaton terminator states text end) (automaton-bounded terminator states text end) (automaton-rises terminator states text end) next rs below q
-    (IsByteClass-map (IsReader base states) (ReadsByte (automaton terminator states text end) text end) next (IsReader-reads terminator states text end base) rs q k)
+pub IsByteClass-reads : (ok : Sieve) (terminator : ℕ) (states : List State) (text : List ℕ) (end base next q : ℕ) (rs : List (ℕ × ℕ)) → end ≤ length text → StaysBelow 255 rs
+    → IsByteClass (IsReader base states) next rs q → ReadsClass (sieved ok (automaton terminator states text end)) text end next q (byte_ranges rs)
+IsByteClass-reads ok terminator states text end base next q rs inside below k =
+    byte_class-found text end inside (sieved ok (automaton terminator states text end)) (sieved-bounded ok (automaton terminator states text end) (automaton-bounded terminator states text end))
+    (sieved-rises ok (automaton terminator states text end) (automaton-rises terminator states text end)) next rs below q
+    (IsByteClass-map (IsReader base states) (ReadsByte (sieved ok (automaton terminator states text end)) text end) next (IsReader-reads ok terminator states text end base) rs q k)

@@ -5,8 +5,9 @@ use Rattle.rx_model.specs.Expression.{Expression}
 use Rattle.rx_model.specs.Graph as graph
 use Rattle.rx_model.specs.Machine.{graph_of, grid}
 use Rattle.rx_model.specs.Refinement.{AgreesButForWrites}
-use Rattle.rx_model.specs.Runs.{Configuration, first_trace, nowhere}
+use Rattle.rx_model.specs.Runs.{Configuration, Sieve, sieved, first_trace, nowhere}
 use Rattle.rx_model.specs.Search.{WhichCaptures, all, implicit, none, told}
+use Rattle.rx_model.proofs.SieveLemmas.{AgreesButForWrites-sieved}
 use Rattle.rx_model.proofs.WriteLemmas.{found-alike}
 use Rattle.rx_nfa.specs.Built.{compiled_pattern, whole_slot}
 
@@ -61,25 +62,25 @@ module _ (t : ℕ) (text : List ℕ) (end : ℕ) where
   }
 
   -- parts that differ in slots alone
-  told-erased : (xs ys : List graph.State) → map erased xs ≡ map erased ys → (c : Configuration)
-      → option_map (told none) (first_trace (graph.runs_of t text end xs) c) ≡ option_map (told none) (first_trace (graph.runs_of t text end ys) c)
-  told-erased xs ys same c =
-      found-alike (graph.runs_of t text end (map erased xs)) (graph.runs_of t text end xs) (agrees-erased xs) nowhere c
-      ∙ ap (λ zs. option_map (told none) (first_trace (graph.runs_of t text end zs) c)) same
-      ∙ sym (found-alike (graph.runs_of t text end (map erased ys)) (graph.runs_of t text end ys) (agrees-erased ys) nowhere c)
+  told-erased : (ok : Sieve) (xs ys : List graph.State) → map erased xs ≡ map erased ys → (c : Configuration)
+      → option_map (told none) (first_trace (sieved ok (graph.runs_of t text end xs)) c) ≡ option_map (told none) (first_trace (sieved ok (graph.runs_of t text end ys)) c)
+  told-erased ok xs ys same c =
+      found-alike (sieved ok (graph.runs_of t text end (map erased xs))) (sieved ok (graph.runs_of t text end xs)) (AgreesButForWrites-sieved ok _ _ (agrees-erased xs)) nowhere c
+      ∙ ap (λ zs. option_map (told none) (first_trace (sieved ok (graph.runs_of t text end zs)) c)) same
+      ∙ sym (found-alike (sieved ok (graph.runs_of t text end (map erased ys))) (sieved ok (graph.runs_of t text end ys)) (AgreesButForWrites-sieved ok _ _ (agrees-erased ys)) nowhere c)
 
   last-erased : (xs : List graph.State) (n next : ℕ) → map erased (xs ++ graph.choice (next ∷ []) ∷ []) ≡ map erased (xs ++ graph.slot n next ∷ [])
   last-erased [] n next = refl
   last-erased (x ∷ xs) n next = ap (λ zs. erased x ∷ zs) (last-erased xs n next)
 
   -- what is told of the part of a pattern is told of its graph
-  pub told-part : (which : WhichCaptures) (slot : ℕ → Option ℕ) (p : ℕ) (h : Expression) (i : ℕ)
-      → option_map (told which) (first_trace (graph.runs_of t text end (compiled_pattern (whole_slot which p) slot p h).states) (graph.at (compiled_pattern (whole_slot which p) slot p h).start i))
-      ≡ option_map (told which) (first_trace (graph.runs_of t text end (graph.build_pattern slot p h).states) (graph.at (graph.build_pattern slot p h).start i))
+  pub told-part : (ok : Sieve) (which : WhichCaptures) (slot : ℕ → Option ℕ) (p : ℕ) (h : Expression) (i : ℕ)
+      → option_map (told which) (first_trace (sieved ok (graph.runs_of t text end (compiled_pattern (whole_slot which p) slot p h).states)) (graph.at (compiled_pattern (whole_slot which p) slot p h).start i))
+      ≡ option_map (told which) (first_trace (sieved ok (graph.runs_of t text end (graph.build_pattern slot p h).states)) (graph.at (graph.build_pattern slot p h).start i))
   unfolding compiled_pattern graph.build_pattern
-  told-part all slot p h i = refl
-  told-part implicit slot p h i = refl
-  told-part none slot p h i =
-      told-erased (compiled_pattern None slot p h).states (graph.build_pattern slot p h).states
+  told-part ok all slot p h i = refl
+  told-part ok implicit slot p h i = refl
+  told-part ok none slot p h i =
+      told-erased ok (compiled_pattern None slot p h).states (graph.build_pattern slot p h).states
       (ap (λ zs. graph.accept p ∷ graph.choice (0 ∷ []) ∷ zs) (last-erased (graph.build slot h 1 2).states (2 * p) (graph.build slot h 1 2).start))
       (graph.at (graph.build_pattern slot p h).start i)

@@ -11,7 +11,7 @@ use Rattle.rx_hir.specs.Names.{group_names}
 use Rattle.rx_hir.specs.Properties.{looks_first}
 use Rattle.rx_nfa.specs.Config.{utf8_of, size_limit_of, terminator_of, captures_of}
 use Rattle.rx_nfa.specs.declared.compiler.config.Config.{Config}
-use Rattle.rx_nfa.specs.Nfa.{Nfa, IsInRange, HasFirstRuns}
+use Rattle.rx_nfa.specs.Nfa.{Nfa, IsInRange, HasRuns}
 use Rattle.rx_nfa.specs.declared.error.BuildError.{BuildError}
 use Rattle.rx_nfa.specs.declared.error.BuildError.TheVariants.{TooManyPatterns, TooManyGroups, TooManyStates, ExceededSizeLimit, Memory}
 
@@ -72,7 +72,7 @@ pub record IsCompiled (config : Config) (hs : List Expression) (nfa : Nfa) : Typ
   -- the counts of each expression are in order, as the laws on its meaning ask
   pub ordered : (p : ℕ) (h : Expression) → slice_get hs p ≡ Some h → AreOrdered h
   -- a first run does not look at where a match may start
-  pub first_runs : (utf8_empty : Bool) → HasFirstRuns nfa (patterns_of hs utf8_empty (terminator_of config) (captures_of config))
+  pub runs : (utf8_empty : Bool) → HasRuns nfa (patterns_of hs utf8_empty (terminator_of config) (captures_of config))
 
 -- Why there is no NFA. Numbers are told up to the greatest of 64 bits.
 abbrev pub IsRefusal : (config : Config) → List Expression → BuildError → Type 0

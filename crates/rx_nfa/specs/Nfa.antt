@@ -3,8 +3,8 @@ use Rattle.std.specs.Prelude.{◌≡◌, ℕ, ◌<◌, ◌≤◌, Bool, List, le
 use Rattle.std.specs.List.{list_any}
 use Rattle.rx_model.specs.Expression.{Expression}
 use Rattle.rx_model.specs.Look.{Look}
-use Rattle.rx_model.specs.Runs.{first_trace}
-use Rattle.rx_model.specs.Search.{Patterns, told, first, first_of_patterns}
+use Rattle.rx_model.specs.Runs.{Sieve, sieved, first_trace}
+use Rattle.rx_model.specs.Search.{Patterns, told, first, first_where, first_of_patterns, first_of_patterns_where}
 use Rattle.rx_search.specs.GroupInfo.{slot_count}
 use Rattle.rx_search.specs.LookSet.{has}
 use Rattle.rx_nfa.specs.Automaton.{at, automaton, asks_for, NamesBelow, IsWithin}
@@ -45,6 +45,17 @@ pub record IsInRange (nfa : Nfa) : Type 0 where
   pub few_states : length nfa.states ≤ 2147483647
   pub few_patterns : length nfa.starts ≤ 2147483647
   pub few_accounted : nfa.accounted ≤ 2147483647
+
+-- Wherever acceptance is permitted, by pattern and place, the first runs of the states are those of the patterns' graphs
+-- where it is permitted so, with pattern and end, and with slots where captures are asked for.
+pub record HasRuns (nfa : Nfa) (r : Patterns) : Type 0 where
+  pub patterns : length nfa.starts ≡ length r.expressions
+  -- from the start of each pattern
+  pub each : (ok : Sieve) (text : List ℕ) (end p i : ℕ) (h : Expression) → end ≤ length text → slice_get r.expressions p ≡ Some h
+      → first_trace (sieved ok (automaton nfa.terminator nfa.states text end)) (at (slice_index nfa.starts p) i) ≡ option_map (told r.which_captures) (first_where ok r text end p h i)
+  -- from the common start, the first over the patterns in order
+  pub all : (ok : Sieve) (text : List ℕ) (end i : ℕ) → end ≤ length text
+      → first_trace (sieved ok (automaton nfa.terminator nfa.states text end)) (at nfa.start_anchored i) ≡ option_map (told r.which_captures) (first_of_patterns_where ok r text end 0 r.expressions i)
 
 -- The first runs of the states are those of the patterns' graphs, with pattern and end, and with slots where captures are
 -- asked for.

@@ -1,6 +1,7 @@
 //! The states of a class: its members' encodings, which share their first bytes.
 ghost use Rattle.std.specs.Prelude.{List, ◌≡◌, ◌<◌, ◌≤◌, ◌+◌, ◌*◌, ◌%◌, ℕ, length, IfOk, OnOk, []};
 ghost use Rattle.rx_model.specs.Text.{is_member, scalar_ranges, byte_ranges};
+ghost use Rattle.rx_model.specs.Runs.{Sieve, sieved};
 ghost use Rattle.rx_class.specs.Ranges.{AreScalarRanges, AreByteRanges};
 ghost use Rattle.rx_nfa.specs.Automaton.{automaton};
 ghost use Rattle.rx_nfa.specs.Ranges.{RisesFrom, StaysBelow, size_of_block, clip, cost_of_parts, cost_of_class};
@@ -217,14 +218,15 @@ fn add_band(
 }
 
 /// In each automaton that has the states of a class, they read the class: what is found from their
-/// entry is what is found from `next` after the member that stands there, and nothing where none does.
+/// entry is what is found from `next` after the member that stands there, and nothing where none does,
+/// wherever acceptance is permitted.
 pub fn the_states_read_the_class()
-    ensures scalars { (terminator : ℕ) (states : List State) (text : List ℕ) (end base next q : ℕ) (ranges : List (ℕ × ℕ)) → end ≤ length text
+    ensures scalars { (ok : Sieve) (terminator : ℕ) (states : List State) (text : List ℕ) (end base next q : ℕ) (ranges : List (ℕ × ℕ)) → end ≤ length text
         → IsClass (IsReader base states) next ranges q
-        → ReadsClass (automaton terminator states text end) text end next q (scalar_ranges ranges) }
-    ensures bytes { (terminator : ℕ) (states : List State) (text : List ℕ) (end base next q : ℕ) (ranges : List (ℕ × ℕ)) → end ≤ length text
+        → ReadsClass (sieved ok (automaton terminator states text end)) text end next q (scalar_ranges ranges) }
+    ensures bytes { (ok : Sieve) (terminator : ℕ) (states : List State) (text : List ℕ) (end base next q : ℕ) (ranges : List (ℕ × ℕ)) → end ≤ length text
         → StaysBelow 255 ranges → IsByteClass (IsReader base states) next ranges q
-        → ReadsClass (automaton terminator states text end) text end next q (byte_ranges ranges) }
+        → ReadsClass (sieved ok (automaton terminator states text end)) text end next q (byte_ranges ranges) }
 {}
 
 #[cfg(test)]

@@ -86,9 +86,12 @@ impl Compiler {
     /// whole match, and after these two for each group that a pattern names. Groups that the configuration leaves out
     /// have no slots. The NFA has no more states than are accounted for the expressions.
     ///
-    /// The NFA's first runs are those of the patterns' graphs, and the runs of each pattern's graph cover exactly the
-    /// spans that its expression means: the laws `runs_cover_the_meaning` and `the_first_run_is_meant` of rx_model say
-    /// so, and the clause `compiled` gives their premise, that the counts of the expression are in order.
+    /// The NFA's first runs are those of the patterns' graphs, wherever acceptance is permitted, by pattern and place, and
+    /// the runs of each pattern's graph cover exactly the spans that its expression means: the laws
+    /// `runs_cover_the_meaning` and `the_first_permitted_run_is_meant` of rx_model say so, and the clause `compiled` gives
+    /// their premise, that the counts of the expression are in order. So an NFA has a run over exactly the spans that are
+    /// meant, from each pattern's start and from that of all: `the_runs_of_one_span_are_meant`,
+    /// `the_common_start_has_the_runs_of_each_pattern`.
     ///
     /// Refused before anything is built, in this order: more than 2147483647 patterns, more than 2147483646 slots under
     /// the configuration, more than 2147483647 states accounted, more bytes accounted than the configured limit. Want of

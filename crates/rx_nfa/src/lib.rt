@@ -2,7 +2,8 @@
 //!
 //! An `NFA` is a list of states. A priority graph gives it its meaning: the runs of its states over
 //! the places of a text. The compiler's contract says that its first runs are those of the graphs
-//! of the expressions, with pattern, end and slots. It stands on rx_hir.
+//! of the expressions, with pattern, end and slots, wherever acceptance is permitted. It stands on
+//! rx_hir.
 #![tactic(auto)]
 
 mod builder;
@@ -11,6 +12,7 @@ mod compiler;
 mod error;
 mod looks;
 mod nfa;
+mod runs;
 mod sparse;
 mod state;
 
@@ -18,5 +20,9 @@ pub use class::the_states_read_the_class;
 pub use compiler::{Compiler, Config, WhichCaptures};
 pub use error::BuildError;
 pub use nfa::NFA;
+pub use runs::{
+    the_common_start_has_the_runs_of_each_pattern, the_runs_of_one_span_are_meant,
+    what_has_the_runs_has_the_first_runs,
+};
 pub use sparse::matches_byte;
 pub use state::{Alternates, State, Transition, Transitions};

@@ -4,7 +4,7 @@ use Rattle.rx_model.specs.Search.{Patterns, WhichCaptures, all, implicit, none, 
 use Rattle.rx_model.specs.Matches.{IsMatch}
 use Rattle.rx_search.specs.Input.{InputValue, next_in}
 use Rattle.rx_search.specs.declared.anchored.MatchKind.{MatchKind}
-use Rattle.rx_nfa.specs.Nfa.{Nfa, HasFirstRuns}
+use Rattle.rx_nfa.specs.Nfa.{Nfa, HasRuns}
 use Rattle.rx_nfa.specs.NextMatch.{next_match_of}
 use Rattle.rx_engines.specs.Bounded.{max_len, span_len}
 use Rattle.rx_engines.specs.Engine.{PikeVMValue}
@@ -28,7 +28,7 @@ backtracker_serves s v = s.backtracks && nat_le (span_len v) (max_len s.nfa)
 
 -- the strategy is for these patterns
 pub record IsOf (s : StrategyValue) (r : Patterns) : Type 0 where
-  pub runs : HasFirstRuns s.nfa r
+  pub runs : HasRuns s.nfa r
   pub utf8 : r.utf8_empty ≡ s.nfa.utf8
   pub which_captures : r.which_captures ≡ s.which_captures
 

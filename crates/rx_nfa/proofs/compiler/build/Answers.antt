@@ -5,12 +5,12 @@ use Rattle.rx_nfa.specs.Built.{StartsAll, HasPatterns}
 use Rattle.rx_nfa.specs.Compiled.{patterns_of, slots_of, groups_of}
 use Rattle.rx_nfa.specs.Config.{terminator_of, captures_of, captures_kind}
 use Rattle.rx_nfa.specs.Draft.{Draft}
-use Rattle.rx_nfa.specs.Nfa.{Nfa, HasFirstRuns}
+use Rattle.rx_nfa.specs.Nfa.{Nfa, HasRuns}
 use Rattle.rx_search.specs.GroupInfo.{slot_count}
 use Rattle.rx_hir.proofs.SoundLemmas.{IsSound-ordered}
 use Rattle.rx_nfa.proofs.GroupLemmas.{slots-counted}
 use Rattle.rx_nfa.proofs.NextMatchLemmas.{written-none}
-use Rattle.rx_nfa.proofs.PatternLemmas.{HasFirstRuns-from, StartsAll-slots}
+use Rattle.rx_nfa.proofs.PatternLemmas.{HasRuns-from, StartsAll-slots}
 use Rattle.rx_nfa.proofs.compiler.build.Goals as goal
 
 pub finish-requires-clause-slots : goal.finish-requires-clause-slots
@@ -60,9 +60,9 @@ returns c =
       has_empty = ap (λ (n : Nfa). n.has_empty) is ∙ c.one_can_be_empty.ensures;
       accounted = ap (λ (n : Nfa). n.accounted) is ∙ c.requires.states;
       ordered = λ p h at. IsSound-ordered h (c.in_ok-starts.ensures.sound p h at);
-      first_runs = λ utf8_empty.
-          subst (λ n. HasFirstRuns n (patterns_of exprs utf8_empty (terminator_of c.args.config) which)) (sym is)
-          (HasFirstRuns-from (patterns_of exprs utf8_empty (terminator_of c.args.config) which)
+      runs = λ utf8_empty.
+          subst (λ n. HasRuns n (patterns_of exprs utf8_empty (terminator_of c.args.config) which)) (sym is)
+          (HasRuns-from (patterns_of exprs utf8_empty (terminator_of c.args.config) which)
           (record {
             states = new.states;
             start_anchored = c.in_ok-start.start;

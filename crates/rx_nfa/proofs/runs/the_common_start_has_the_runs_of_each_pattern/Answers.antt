@@ -1,0 +1,5 @@
+use Rattle.rx_nfa.proofs.SpanLemmas.{common-start}
+use Rattle.rx_nfa.proofs.runs.the_common_start_has_the_runs_of_each_pattern.Goals as goal
+
+pub returns : goal.returns
+returns c = λ nfa r runs text end p i h within is may. common-start nfa r runs text end p i h within is may
