@@ -1,10 +1,10 @@
--- Which expressions can mean the empty string.
+-- Which expressions can mean the empty string, as far as their form tells.
 use Rattle.std.specs.Prelude.{ℕ, Bool, true, false, ◌&&◌, ◌||◌, ◌==◌, List, [], ◌∷◌, length}
 use Rattle.rx_model.specs.Expression.{Expression, Expressions, empty, literal, class, look, repetition, capture, concat, alternation, nil, cons}
 
 unfoldable mutual
-  -- The expression can mean the empty string in some text. Where it has a look-around, whether it does depends
-  -- on the text.
+  -- The expression can mean the empty string, if each look-around in it is taken to hold. So it need not mean it in any
+  -- text: look-arounds that exclude each other count as well. A class never means it.
   pub can_be_empty : Expression → Bool
   can_be_empty empty = true
   can_be_empty (literal bytes) = length bytes == 0

@@ -1,8 +1,10 @@
 //! Laws of the runs of a priority graph.
 
 ghost use Rattle.std.specs.Prelude.{◌≡◌, ℕ, ◌≤◌, Bool, List, Some, None, option_map, IsTrue, IsFalse};
-ghost use Rattle.rx_model.specs.Runs.{Configuration, PriorityGraph, Passed, Sieve, everywhere, sieved, IsBounded, NeverFalls, IsClosed, IsRun, IsFirst, nowhere, and_at, first_run, first_trace, found};
+ghost use Rattle.rx_model.specs.Runs.{Configuration, PriorityGraph, Passed, Sieve, everywhere, sieved, IsBounded, NeverFalls, IsClosed, IsRun, IsFirst, nowhere, and_at, first_run, Trace, trace, first_trace, found};
 ghost use Rattle.rx_model.specs.Expression.{Expression};
+ghost use Rattle.rx_model.specs.Graph.{at};
+ghost use Rattle.rx_model.specs.Matches.{part_of, runs_of_pattern};
 ghost use Rattle.rx_model.specs.Search.{Patterns, told, none, first, first_where, first_of_patterns, first_of_patterns_where};
 ghost use Rattle.rx_model.specs.Refinement.{Refines, moved, AgreesButForWrites};
 
@@ -15,6 +17,31 @@ pub fn the_first_run_is_least()
         → IsFirst g nowhere c run → first_run g c ≡ Some run }
     ensures none { (g : PriorityGraph) → IsBounded g → (c : Configuration)
         → first_run g c ≡ None → (run : List Configuration) → IsRun g nowhere c run → ⊥ }
+{}
+
+/// What the first run of a pattern tells is what the least accepting run of its graph tells, and there is none only
+/// where the graph has no accepting run. The same holds of the sieved graph, where acceptance is permitted only so.
+pub fn the_first_run_of_a_pattern_is_least()
+    ensures some { (r : Patterns) (text : List ℕ) (end p : ℕ) (h : Expression) (i : ℕ) (t : Trace)
+        → first r text end p h i ≡ Some t → (run : List Configuration)
+        × IsFirst (runs_of_pattern r text end p h) nowhere (at (part_of r p h).start i) run
+        × (t ≡ trace (runs_of_pattern r text end p h) (at (part_of r p h).start i) run) }
+    ensures only { (r : Patterns) (text : List ℕ) (end p : ℕ) (h : Expression) (i : ℕ) (run : List Configuration)
+        → IsFirst (runs_of_pattern r text end p h) nowhere (at (part_of r p h).start i) run
+        → first r text end p h i ≡ Some (trace (runs_of_pattern r text end p h) (at (part_of r p h).start i) run) }
+    ensures none { (r : Patterns) (text : List ℕ) (end p : ℕ) (h : Expression) (i : ℕ)
+        → first r text end p h i ≡ None → (run : List Configuration)
+        → IsRun (runs_of_pattern r text end p h) nowhere (at (part_of r p h).start i) run → ⊥ }
+    ensures some_where { (ok : Sieve) (r : Patterns) (text : List ℕ) (end p : ℕ) (h : Expression) (i : ℕ) (t : Trace)
+        → first_where ok r text end p h i ≡ Some t → (run : List Configuration)
+        × IsFirst (sieved ok (runs_of_pattern r text end p h)) nowhere (at (part_of r p h).start i) run
+        × (t ≡ trace (sieved ok (runs_of_pattern r text end p h)) (at (part_of r p h).start i) run) }
+    ensures only_where { (ok : Sieve) (r : Patterns) (text : List ℕ) (end p : ℕ) (h : Expression) (i : ℕ) (run : List Configuration)
+        → IsFirst (sieved ok (runs_of_pattern r text end p h)) nowhere (at (part_of r p h).start i) run
+        → first_where ok r text end p h i ≡ Some (trace (sieved ok (runs_of_pattern r text end p h)) (at (part_of r p h).start i) run) }
+    ensures none_where { (ok : Sieve) (r : Patterns) (text : List ℕ) (end p : ℕ) (h : Expression) (i : ℕ)
+        → first_where ok r text end p h i ≡ None → (run : List Configuration)
+        → IsRun (sieved ok (runs_of_pattern r text end p h)) nowhere (at (part_of r p h).start i) run → ⊥ }
 {}
 
 /// What was passed in vain may count as passed: where nothing is found from `x`, no other answer changes.
