@@ -1,14 +1,13 @@
 -- What means the empty string can be empty, and what can be empty means it, where there is no look-around.
-use Rattle.std.proofs.Common.{◌≡◌, ℕ, zero, suc, ◌+◌, ◌≤◌, ◌⊎◌, Bool, true, false, List, length, subst, Option, Some, None, refl, sym, ap, ◌∙◌, inl, inr, arith}
-use Rattle.std.specs.Prelude.{nat_lt, IfSome, ◌==◌, ◌||◌, ◌&&◌}
+use Rattle.std.proofs.Common.{◌≡◌, ℕ, zero, suc, ◌≤◌, Bool, true, List, subst, Some, refl, inl, inr, arith}
+use Rattle.std.specs.Prelude.{◌==◌, ◌||◌}
 use Rattle.std.proofs.lemmas.Bool.Decides.{nat_tests}
-use Rattle.std.proofs.lemmas.Bool.{or_left, or_right, or_cases}
+use Rattle.std.proofs.lemmas.Bool.{or_left, or_right}
 use Rattle.std.specs.Char.{len_utf8}
-use Rattle.rx_model.specs.Text.{Class, scalar_ranges, byte_ranges, member_len, stands_at}
-use Rattle.rx_model.specs.Expression.{Expression, Expressions, empty, literal, class, look, repetition, capture, concat, alternation, nil, cons, AreOrdered, AllOrdered}
+use Rattle.rx_model.specs.Text.{Class, scalar_ranges, byte_ranges, member_len}
+use Rattle.rx_model.specs.Expression.{Expression, Expressions, empty, literal, class, look, repetition, capture, concat, alternation, nil, cons}
 use Rattle.rx_model.specs.Meaning.{Pieces, Means, MeansInTurn, MeansOne}
 use Rattle.rx_model.specs.Empty.{can_be_empty, all_can_be_empty, one_can_be_empty}
-use Rattle.rx_model.proofs.RunLemmas.{by_test}
 use Rattle.rx_model.proofs.CharLemmas.{member_len-is, byte_len-is}
 
 -- a member takes a byte

@@ -1,6 +1,6 @@
 -- What a graph writes has no part in which run is first.
 use Rattle.std.proofs.Common.{◌≡◌, ℕ, zero, suc, List, [], ◌∷◌, length, Option, Some, None, refl, sym, ap, ◌∙◌}
-use Rattle.std.specs.Prelude.{Bool, if◌then◌else◌, option_map, is_some, unwrap_or}
+use Rattle.std.specs.Prelude.{if◌then◌else◌, option_map, is_some, unwrap_or}
 use Rattle.std.specs.Option.{option_or}
 use Rattle.rx_model.specs.Runs.{Configuration, PriorityGraph, Passed, Trace, and_at, first_some, first_within, first_past, with_write, trace, found}
 use Rattle.rx_model.specs.Refinement.{AgreesButForWrites}
