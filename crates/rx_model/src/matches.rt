@@ -1,11 +1,12 @@
 //! Laws of the next match and of successive matches.
 
-ghost use Rattle.std.specs.Prelude.{◌≡◌, ◌≢◌, ℕ, ◌+◌, ◌-◌, ◌*◌, ◌<◌, ◌≤◌, List, length, slice_get, Some, None, All, AllPairs};
+ghost use Rattle.std.specs.Prelude.{◌≡◌, ◌≢◌, ℕ, ◌+◌, ◌-◌, ◌*◌, ◌<◌, ◌≤◌, true, List, length, slice_get, Some, None, All, AllPairs, IsTrue, IsFalse};
 ghost use Rattle.rx_model.specs.Expression.{Expression, AreOrdered};
 ghost use Rattle.rx_model.specs.Meaning.{Means};
 ghost use Rattle.rx_model.specs.Runs.{Trace, Sieve};
-ghost use Rattle.rx_model.specs.Search.{Patterns, first_where, first_of_patterns_where, Anchor, free, anchored_to, Match, starting_at, next_match, matches, matches_from, slot_value};
+ghost use Rattle.rx_model.specs.Search.{Patterns, first_where, first_of_patterns_where, is_permitted, Anchor, free, anchored_to, is_anchored, Match, starting_at, next_match, matches, matches_from, slot_value};
 ghost use Rattle.rx_model.specs.Matches.{MayStart, HasFirstRun, IsNextMatch, IsMatch, IsSlotOf, AreSuccessive};
+ghost use Rattle.rx_model.specs.Utf8.{anywhere, between_characters, MeansUtf8};
 
 /// A first run that ends by an earlier end is the first run within that end, with all that it tells: of a pattern, and
 /// over the patterns in order, wherever acceptance is permitted. So a next match, searched for anchored to its pattern
@@ -43,6 +44,26 @@ pub fn the_search_finds_the_next_match()
 pub fn matches_lie_in_the_span()
     ensures { (r : Patterns) (text : List ℕ) (anchor : Anchor) (b a : ℕ) (m : Match)
         → next_match r text anchor b a ≡ Some m → (a ≤ m.start) × (m.start ≤ m.trace.end) × (m.trace.end ≤ b) }
+{}
+
+/// The next match where no match may start inside a character, in terms of the next match where one may, over a text
+/// that is UTF-8 with patterns that mean UTF-8. Where there is no match without the rule, there is none with it. A match
+/// that ends between characters is the next one with the rule too. One that ends inside a character is empty: an
+/// unanchored search goes on behind it, and an anchored one has no match.
+pub fn the_next_match_between_characters()
+    ensures none { (r : Patterns) (text : List ℕ) (anchor : Anchor) (b a : ℕ)
+        → next_match (anywhere r) text anchor b a ≡ None → next_match (between_characters r) text anchor b a ≡ None }
+    ensures some { (r : Patterns) (text : List ℕ) → MeansUtf8 r text → (anchor : Anchor) (b a : ℕ) (m : Match)
+        → next_match (anywhere r) text anchor b a ≡ Some m → IsTrue (is_permitted true text m.trace.end)
+        → next_match (between_characters r) text anchor b a ≡ Some m }
+    ensures empty { (r : Patterns) (text : List ℕ) → MeansUtf8 r text → (anchor : Anchor) (b a : ℕ) (m : Match)
+        → next_match (anywhere r) text anchor b a ≡ Some m → IsFalse (is_permitted true text m.trace.end) → m.start ≡ m.trace.end }
+    ensures free { (r : Patterns) (text : List ℕ) → MeansUtf8 r text → (b a : ℕ) (m : Match)
+        → next_match (anywhere r) text free b a ≡ Some m → IsFalse (is_permitted true text m.trace.end)
+        → next_match (between_characters r) text free b a ≡ next_match (between_characters r) text free b (m.start + 1) }
+    ensures anchored { (r : Patterns) (text : List ℕ) → MeansUtf8 r text → (anchor : Anchor) → IsTrue (is_anchored anchor)
+        → (b a : ℕ) (m : Match) → next_match (anywhere r) text anchor b a ≡ Some m → IsFalse (is_permitted true text m.trace.end)
+        → next_match (between_characters r) text anchor b a ≡ None }
 {}
 
 /// Successive matches go on until there is no match, whatever greater bound is put on their number. Each
