@@ -35,7 +35,9 @@ module _ (text : List ℕ) where
     starts =
         by_test (i == 0)
         (λ e. rw e refl)
-        (λ e. let there : slice_get text (i - 1) ≡ Some (slice_index text (i - 1)) = slice_get-get_or text (i - 1) 0 (grind (arith, nat_tests)) in rw (e, there) refl)
+        (λ e.
+        let there : slice_get text (i - 1) ≡ Some (slice_index text (i - 1)) = slice_get-get_or text (i - 1) 0 (grind (arith, nat_tests)) in
+        rw (e, there) refl)
 
     ends : (i == length text) ≡ not (is_some (byte_after text i))
     ends =
@@ -87,14 +89,17 @@ module _ (text other : List ℕ) (i j : ℕ) (within : i ≤ length text) (withi
   chars_after : IsAsciiOrNone (byte_after text i) → char_after text i ≡ char_after other j
   chars_after ascii = char_after-ascii text i within ascii ∙ after ∙ sym (char_after-ascii other j within' (subst IsAsciiOrNone after ascii))
 
-  pub holds-alike : (terminator : ℕ) (kind : Look) → IsTold kind (byte_before text i) (byte_after text i) → holds terminator text kind i ≡ holds terminator other kind j
+  pub holds-alike : (terminator : ℕ) (kind : Look) → IsTold kind (byte_before text i) (byte_after text i)
+      → holds terminator text kind i ≡ holds terminator other kind j
   unfolding holds
   holds-alike terminator start_text told = start
   holds-alike terminator end_text told = end
   holds-alike terminator start_lf told = λ k. start k || is_some_and (before k) (λ x. x == terminator)
   holds-alike terminator end_lf told = λ k. end k || is_some_and (after k) (λ x. x == terminator)
-  holds-alike terminator start_crlf told = λ k. start k || is_some_and (before k) (λ x. x == 10) || (is_some_and (before k) (λ x. x == 13) && not (is_some_and (after k) (λ x. x == 10)))
-  holds-alike terminator end_crlf told = λ k. end k || is_some_and (after k) (λ x. x == 13) || (is_some_and (after k) (λ x. x == 10) && not (is_some_and (before k) (λ x. x == 13)))
+  holds-alike terminator start_crlf told = λ k.
+      start k || is_some_and (before k) (λ x. x == 10) || (is_some_and (before k) (λ x. x == 13) && not (is_some_and (after k) (λ x. x == 10)))
+  holds-alike terminator end_crlf told = λ k.
+      end k || is_some_and (after k) (λ x. x == 13) || (is_some_and (after k) (λ x. x == 10) && not (is_some_and (before k) (λ x. x == 13)))
   holds-alike terminator word_ascii told = λ k. not (beq (is_some_and (before k) is_word_byte) (is_some_and (after k) is_word_byte))
   holds-alike terminator word_ascii_negate told = λ k. beq (is_some_and (before k) is_word_byte) (is_some_and (after k) is_word_byte)
   holds-alike terminator word_unicode told =

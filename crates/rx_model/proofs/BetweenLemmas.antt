@@ -32,12 +32,14 @@ module _ (r : Patterns) (text : List ℕ) (anchor : Anchor) (b : ℕ) where
         | inl e ↦ e
         | inr some ↦
             let m = some.0 in
+            let p = m.trace.pattern in
             let is = next-is (between_characters r) text anchor b a m some.1 in
-            absurd (next-none (anywhere r) text anchor b a none m.start m.trace.pattern m.trace (may-anywhere a m.start is.start) (run-anywhere m.start m.trace.pattern m.trace is.run))
+            absurd (next-none (anywhere r) text anchor b a none m.start p m.trace (may-anywhere a m.start is.start) (run-anywhere m.start p m.trace is.run))
       ]
 
   -- one that may start where it does is the next match with the rule
-  between-some : (a : ℕ) (m : Match) → next_match (anywhere r) text anchor b a ≡ Some m → is_permitted true text m.start ≡ true → next_match (between_characters r) text anchor b a ≡ Some m
+  between-some : (a : ℕ) (m : Match) → next_match (anywhere r) text anchor b a ≡ Some m → is_permitted true text m.start ≡ true
+      → next_match (between_characters r) text anchor b a ≡ Some m
   between-some a m e permitted =
       let is = next-is (anywhere r) text anchor b a m e in
       is-next (between_characters r) text anchor b a m (record {
@@ -54,8 +56,8 @@ module _ (r : Patterns) (text : List ℕ) where
   only-start anchored is b a i start = start.0
   only-start (anchored_to p) is b a i start = start.0
 
-  anchored-refused : (anchor : Anchor) → is_anchored anchor ≡ true → (b a : ℕ) (m : Match) → next_match (anywhere r) text anchor b a ≡ Some m → is_permitted true text m.start ≡ false
-      → next_match (between_characters r) text anchor b a ≡ None
+  anchored-refused : (anchor : Anchor) → is_anchored anchor ≡ true → (b a : ℕ) (m : Match) → next_match (anywhere r) text anchor b a ≡ Some m
+      → is_permitted true text m.start ≡ false → next_match (between_characters r) text anchor b a ≡ None
   anchored-refused anchor is b a m e refused =
       elim (tells (next_match (between_characters r) text anchor b a)) [
         | inl none ↦ none
@@ -99,7 +101,8 @@ module _ (r : Patterns) (text : List ℕ) where
                     let n = some.0 in
                     let is = next-is (between_characters r) text free b (m.start + 1) n some.1 in
                     let low = is.start.0.0 in
-                    absurd (next-none (between_characters r) text free b a none n.start n.trace.pattern n.trace ((omega arith, is.start.0.1), is.start.1) is.run)
+                    let start : MayStart (between_characters r) text free b a n.start = ((omega arith, is.start.0.1), is.start.1) in
+                    absurd (next-none (between_characters r) text free b a none n.start n.trace.pattern n.trace start is.run)
               ]
         ]
 

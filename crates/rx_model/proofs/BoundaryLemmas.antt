@@ -15,7 +15,10 @@ permitted-boundary text i boundary =
     let lt : i < length text = grind (arith, nat_tests) in
     let inside : (nat_le 0x80 (slice_index text i) && nat_le (slice_index text i) 0xBF) ≡ false =
     by_test (nat_le 0x80 (slice_index text i))
-    (λ low. let high = boundary.1 lt (grind (arith, nat_tests)) in let over : nat_le (slice_index text i) 0xBF ≡ false = grind (arith, nat_tests) in rw (low, over) refl)
+    (λ low.
+    let high = boundary.1 lt (grind (arith, nat_tests)) in
+    let over : nat_le (slice_index text i) 0xBF ≡ false = grind (arith, nat_tests) in
+    rw (low, over) refl)
     (λ low. rw low refl) in
     rw (e, inside) refl)
     (λ e. rw e refl)
@@ -29,7 +32,8 @@ module _ (text : List ℕ) (whole : IsUtf8 text) (i j : ℕ) (lt : i < j) (part 
       let span = take (j - i) (drop i text) in
       let here : i + 0 ≡ i = omega arith in
       let some : 0 < length span = omega (arith, length-take (j - i) (drop i text), length-drop i text) in
-      let first : slice_index span 0 ≡ slice_index text i = get_or-take (j - i) (drop i text) 0 0 (omega arith) ∙ get_or-drop i text 0 0 ∙ ap (slice_index text) here in
+      let first : slice_index span 0 ≡ slice_index text i =
+      get_or-take (j - i) (drop i text) 0 0 (omega arith) ∙ get_or-drop i text 0 0 ∙ ap (slice_index text) here in
       let start = IsCharBoundary-start span part in
       (omega arith, λ _ high. subst (λ b. 192 ≤ b) first (start.1 some (subst (λ b. 128 ≤ b) (sym first) high)))
 
@@ -43,6 +47,10 @@ module _ (text : List ℕ) (whole : IsUtf8 text) (i j : ℕ) (lt : i < j) (part 
   -- so a match may start at both its ends
   pub part-permitted : (is_permitted true text i ≡ true) × (is_permitted true text j ≡ true)
   part-permitted = (
-    by_test (nat_lt i (length text)) (λ e. permitted-boundary text i (begins (grind (arith, nat_tests)))) (λ e. permitted-past text i (grind (arith, nat_tests))),
-    by_test (nat_le j (length text)) (λ e. permitted-boundary text j (ends (grind (arith, nat_tests)))) (λ e. permitted-past text j (grind (arith, nat_tests))),
+    by_test (nat_lt i (length text))
+        (λ e. permitted-boundary text i (begins (grind (arith, nat_tests))))
+        (λ e. permitted-past text i (grind (arith, nat_tests))),
+    by_test (nat_le j (length text))
+        (λ e. permitted-boundary text j (ends (grind (arith, nat_tests))))
+        (λ e. permitted-past text j (grind (arith, nat_tests))),
   )

@@ -53,7 +53,8 @@ module _ (r : Patterns) (text : List ℕ) (end p : ℕ) (h : Expression) (i : �
     abbrev sifting : PriorityGraph
     sifting = sieved ok graph
 
-    pub where-some : (t : Trace) → first_where ok r text end p h i ≡ Some t → (run : List Configuration) × IsFirst sifting nowhere from run × (t ≡ trace sifting from run)
+    pub where-some : (t : Trace) → first_where ok r text end p h i ≡ Some t
+        → (run : List Configuration) × IsFirst sifting nowhere from run × (t ≡ trace sifting from run)
     unfolding first_where
     where-some t e = least-some sifting (sieved-bounded ok graph bounded) from t e
 
