@@ -1,4 +1,4 @@
--- Patterns over a text that is UTF-8: where a match may start, and what keeps its ends between characters.
+-- Patterns that mean UTF-8, and where their matches may start.
 use Rattle.std.specs.Prelude.{◌≡◌, ℕ, ◌-◌, ◌<◌, true, false, List, take, drop, Some, slice_get, IsUtf8}
 use Rattle.rx_model.specs.Expression.{Expression, AreOrdered}
 use Rattle.rx_model.specs.Meaning.{Means}
@@ -12,8 +12,8 @@ anywhere r = record r { utf8_empty = false }
 abbrev pub between_characters : Patterns → Patterns
 between_characters r = record r { utf8_empty = true }
 
--- The text is UTF-8, and so is each part of it that is not empty and that one of the patterns means. What a pattern
--- means is asked where its counts are in order, as all laws of meaning do.
+-- The text is UTF-8, and so is each part of it that is not empty and that one of the patterns means. The counts of each
+-- repetition are in order, as the laws that tie runs to meaning ask.
 pub record MeansUtf8 (r : Patterns) (text : List ℕ) : Type 0 where
   pub whole : IsUtf8 text
   pub ordered : (p : ℕ) (h : Expression) → slice_get r.expressions p ≡ Some h → AreOrdered h

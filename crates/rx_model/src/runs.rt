@@ -20,7 +20,7 @@ pub fn the_first_run_is_least()
 {}
 
 /// What the first run of a pattern tells is what the least accepting run of its graph tells, and there is none only
-/// where the graph has no accepting run. The same holds of the sieved graph, where acceptance is permitted only so.
+/// where the graph has no accepting run. Where acceptance is permitted only so, the sieved graph takes its place.
 pub fn the_first_run_of_a_pattern_is_least()
     ensures some { (r : Patterns) (text : List ℕ) (end p : ℕ) (h : Expression) (i : ℕ) (t : Trace)
         → first r text end p h i ≡ Some t → (run : List Configuration)
