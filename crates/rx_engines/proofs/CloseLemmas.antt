@@ -8,7 +8,8 @@ use Rattle.rx_engines.specs.declared.frame.Frame.{Frame}
 use Rattle.rx_nfa.specs.Automaton.{state_at}
 use Rattle.rx_nfa.specs.declared.state.State.{State}
 use Rattle.rx_engines.specs.declared.frame.Frame.TheVariants.{Explore}
-use Rattle.rx_engines.specs.Simulation.{Visited, move_of, rests, going_on, is_resting}
+use Rattle.rx_nfa.specs.Ordered.{is_resting}
+use Rattle.rx_engines.specs.Simulation.{Visited, move_of, rests, going_on}
 
 pub union-length : (qs : List ℕ) (i : ℕ) (frames : List Frame) → length (explore_all (map (λ q. at q i) qs) ++ frames) ≡ length qs + length frames
 union-length [] i frames = omega arith

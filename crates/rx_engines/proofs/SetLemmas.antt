@@ -3,10 +3,10 @@ use Rattle.std.proofs.Common.{◌≡◌, ◌≢◌, ℕ, zero, suc, ◌+◌, ◌
 use Rattle.std.proofs.lemmas.List.{get_or-set_same, get_or-set_other, take_more, get_or-take, take_all, length-take, get_or-append_right, get_or_append_left}
 use Rattle.std.proofs.lemmas.Bool.Decides.{nat_tests, Decides-eqb}
 use Rattle.std.specs.Prelude.{true, false, ◌==◌}
-use Rattle.rx_model.proofs.RunLemmas.{by_test, weight}
-use Rattle.rx_engines.specs.Threads.{has, IsSparse}
-use Rattle.rx_engines.specs.Simulation.{line, passed_at}
-use Rattle.rx_engines.proofs.LineLemmas.{line-count, count-less}
+use Rattle.rx_model.proofs.RunLemmas.{by_test}
+use Rattle.rx_nfa.specs.Ordered.{has, passed_at}
+use Rattle.rx_engines.specs.Threads.{IsSparse}
+use Rattle.rx_nfa.proofs.PlaceLemmas.{left_at, left-most, left-less}
 
 pub has-get : (xs : List ℕ) (k q : ℕ) → k < length xs → get_or xs k 0 ≡ q → has xs q ≡ true
 has-get [] k q lt e = absurd (omega arith)
@@ -43,13 +43,13 @@ module _ (dense sparse : List ℕ) (ok : IsSparse dense sparse) (q : ℕ) where
       (λ h. sym h)
 
 -- distinct numbers below n are at most n
-few : (dense sparse : List ℕ) → IsSparse dense sparse → (k : ℕ) → k ≤ length dense → weight (λ c. 1) (line (length sparse) 0) (passed_at (take k dense) 0) + k ≤ length sparse
-few dense sparse ok zero le = let h = line-count (length sparse) 0 (passed_at (take 0 dense) 0) in omega arith
+few : (dense sparse : List ℕ) → IsSparse dense sparse → (k : ℕ) → k ≤ length dense → left_at (length sparse) 0 (passed_at (take k dense) 0) + k ≤ length sparse
+few dense sparse ok zero le = let h = left-most (length sparse) 0 (passed_at (take 0 dense) 0) in omega arith
 few dense sparse ok (suc k) le =
     let before = few dense sparse ok k (omega arith) in
     let here = ok k (omega arith) in
     let new : has (take k dense) (get_or dense k 0) ≡ false = by_test (has (take k dense) (get_or dense k 0)) (λ h. absurd (clash (has-where (take k dense) (get_or dense k 0) h))) (λ h. h) in
-    let less = count-less (length sparse) 0 (get_or dense k 0) (take k dense) here.0 new in
+    let less = left-less (length sparse) 0 (get_or dense k 0) (take k dense) here.0 new in
     let one : suc k ≡ k + 1 = omega arith in
     let longer : take (suc k) dense ≡ take k dense ++ get_or dense k 0 ∷ [] = ap (λ n. take n dense) one ∙ take_more dense k 0 (omega arith) in
     rw longer (omega arith)
@@ -67,8 +67,8 @@ pub sparse-room : (dense sparse : List ℕ) → IsSparse dense sparse → (q : �
 sparse-room dense sparse ok q lt new =
     let all = few dense sparse ok (length dense) (omega arith) in
     let whole : take (length dense) dense ≡ dense = take_all (length dense) dense (omega arith) in
-    let less = count-less (length sparse) 0 q dense lt new in
-    let same = ap (λ (xs : List ℕ). weight (λ c. 1) (line (length sparse) 0) (passed_at xs 0)) whole in
+    let less = left-less (length sparse) 0 q dense lt new in
+    let same = ap (λ (xs : List ℕ). left_at (length sparse) 0 (passed_at xs 0)) whole in
     omega arith
 
 pub sparse-push : (dense sparse : List ℕ) → IsSparse dense sparse → (q : ℕ) → q < length sparse → has dense q ≡ false → IsSparse (dense ++ q ∷ []) (set sparse q (length dense))

@@ -6,7 +6,7 @@ use Rattle.std.specs.Prelude.{Bool, Option, Some, None, IfSome, replicate, nat_l
 use Rattle.rx_model.specs.Runs.{Configuration, PriorityGraph, Passed, nowhere, and_at, IsRun, IsBounded, NeverFalls, Trace, trace, with_write, last_write, first_past, first_trace}
 use Rattle.rx_model.specs.Search.{Anchor, Match, is_permitted, starts, slot_value}
 use Rattle.rx_model.proofs.RunLemmas.{by_test}
-use Rattle.rx_model.proofs.FirstLemmas.{found-is_run, none-is-some, some-is}
+use Rattle.rx_model.proofs.FirstLemmas.{found-is_run, none-is-some, some-is, tells}
 use Rattle.rx_model.proofs.RiseLemmas.{trace-end, run-rises, mapped-some}
 use Rattle.rx_search.specs.Input.{InputValue}
 use Rattle.rx_nfa.specs.Automaton.{at, automaton}
@@ -17,7 +17,6 @@ use Rattle.rx_nfa.proofs.AutomatonLemmas.{automaton-bounded, automaton-rises}
 use Rattle.rx_nfa.proofs.NextMatchLemmas.{first_start-from, next_match_of-within}
 use Rattle.rx_engines.specs.Engine.{HasSlots, AreWithin}
 use Rattle.rx_engines.specs.Walk.{Slots}
-use Rattle.rx_engines.proofs.OptionLemmas.{tells}
 
 -- a write before the others
 written-place : (o : Option ℕ) (i : ℕ) (t : Trace) (k place : ℕ) → last_write (with_write o i t).writes k ≡ Some place → (last_write t.writes k ≡ Some place) ⊎ (place ≡ i)

@@ -7,7 +7,7 @@ use Rattle.std.specs.Option.{option_or}
 use Rattle.rx_model.specs.Runs.{PriorityGraph, Passed, nowhere, and_at, Trace, found}
 use Rattle.rx_model.specs.Search.{Match, is_permitted, first_start, slot_value}
 use Rattle.rx_model.proofs.RunLemmas.{by_test}
-use Rattle.rx_model.proofs.FirstLemmas.{none-is-some, some-is}
+use Rattle.rx_model.proofs.FirstLemmas.{none-is-some, some-is, tells}
 use Rattle.rx_model.proofs.RiseLemmas.{found-end}
 use Rattle.rx_model.proofs.FoundLemmas.{found-prune, found-forget, option_map-or}
 use Rattle.rx_nfa.proofs.NextMatchLemmas.{first_start-alike}
@@ -20,12 +20,13 @@ use Rattle.rx_engines.specs.declared.frame.Frame.TheVariants.{Explore}
 use Rattle.rx_nfa.proofs.AutomatonLemmas.{automaton-rises, automaton-accepts-within}
 use Rattle.rx_nfa.proofs.AutomatonLemmas.{automaton-bounded}
 use Rattle.rx_engines.proofs.SlotLemmas.{slot-of_match, length-write_all, empty-slot, all-empty}
-use Rattle.rx_engines.proofs.OptionLemmas.{or-none_right, tells}
+use Rattle.rx_model.proofs.OptionLemmas.{or-none_right}
 use Rattle.rx_engines.specs.Threads.{Row}
 use Rattle.rx_engines.specs.declared.search.Search.{Search}
 use Rattle.rx_engines.specs.declared.pikevm.step.Accepted.{Accepted}
-use Rattle.rx_engines.specs.Simulation.{is_resting, Closed, passed_at, Hit, hit, hit_of, best_hit, until, among, IsStable, Waits, Stepped, from_starts, later_starts}
-use Rattle.rx_engines.proofs.SimulationLemmas.{passed_at-elsewhere}
+use Rattle.rx_nfa.specs.Ordered.{is_resting, passed_at, IsStable, first_of_starts}
+use Rattle.rx_engines.specs.Simulation.{Closed, Hit, hit, hit_of, best_hit, until, among, Waits, Stepped, from_starts, later_starts}
+use Rattle.rx_nfa.proofs.LaterLemmas.{first_of_starts-stable, first_of_starts-forget, first_of_starts-here, first_of_starts-not_here}
 
 -- where no start tells anything
 pub first_start-none : (permitted : ℕ → Bool) (f : ℕ → Option Trace) (n i : ℕ) → ((j : ℕ) → i ≤ j → f j ≡ None) → first_start permitted f n i ≡ None
@@ -82,26 +83,30 @@ module _ (s : Search) (end width : ℕ) where
   pub later-stable : (best : Option Hit) (i : ℕ) → IsStable g (later best i)
   later-stable best i p x nothing =
       ap (λ m. option_or best (option_map (hit_of width) m))
-      (first_start-alike (is_permitted s.utf8 s.text.now) (λ j. found g p (at s.start j)) (λ j. found g (and_at x p) (at s.start j)) (s.last + 1 - i) i (λ j le. found-prune g p x (at s.start j) nothing))
+      (first_of_starts-stable g (is_permitted s.utf8 s.text.now) s.start (s.last + 1 - i) i p x nothing)
 
   -- what was passed before a start doesn't matter
   pub later-forget : (best : Option Hit) (items : List ℕ) (i : ℕ) → later best (i + 1) (passed_at items i) ≡ later best (i + 1) nowhere
   later-forget best items i =
       ap (λ m. option_or best (option_map (hit_of width) m))
-      (first_start-alike (is_permitted s.utf8 s.text.now) (λ j. found g (passed_at items i) (at s.start j)) (λ j. found g nowhere (at s.start j)) (s.last + 1 - (i + 1)) (i + 1)
-      (λ j le. found-forget g (automaton-rises s.matcher s.states.now s.text.now end) (passed_at items i) nowhere (at s.start j) (λ d above. passed_at-elsewhere items i d (omega arith))))
+      (first_of_starts-forget g (is_permitted s.utf8 s.text.now) s.start (automaton-rises s.matcher s.states.now s.text.now end) items (s.last + 1 - (i + 1)) i)
 
   pub starts-over : (p : Passed) (i : ℕ) → s.last < i → starts p i ≡ None
   unfolding first_start
   starts-over p i lt = let e : s.last + 1 - i ≡ 0 = omega arith in rw e refl
 
+  one-more : (i : ℕ) → i ≤ s.last → s.last + 1 - i ≡ suc (s.last + 1 - (i + 1))
+  one-more i le = omega arith
+
   starts-here : (p : Passed) (i : ℕ) → i ≤ s.last → is_permitted s.utf8 s.text.now i ≡ true → starts p i ≡ option_or (option_map (λ t. record { start = i; trace = t }) (found g p (at s.start i))) (starts p (i + 1))
-  unfolding first_start
-  starts-here p i le allowed = let e : s.last + 1 - i ≡ suc (s.last + 1 - (i + 1)) = omega arith in rw (e, allowed) refl
+  starts-here p i le allowed =
+      ap (λ n. first_of_starts g (is_permitted s.utf8 s.text.now) s.start n i p) (one-more i le)
+      ∙ first_of_starts-here g (is_permitted s.utf8 s.text.now) s.start (s.last + 1 - (i + 1)) i p allowed
 
   starts-not_here : (p : Passed) (i : ℕ) → i ≤ s.last → is_permitted s.utf8 s.text.now i ≡ false → starts p i ≡ starts p (i + 1)
-  unfolding first_start
-  starts-not_here p i le forbidden = let e : s.last + 1 - i ≡ suc (s.last + 1 - (i + 1)) = omega arith in rw (e, forbidden) refl
+  starts-not_here p i le forbidden =
+      ap (λ n. first_of_starts g (is_permitted s.utf8 s.text.now) s.start n i p) (one-more i le)
+      ∙ first_of_starts-not_here g (is_permitted s.utf8 s.text.now) s.start (s.last + 1 - (i + 1)) i p forbidden
 
   -- nothing starts here: there is a match already,
   pub unseeded-matched : (best front goal : Option Hit) (p p' : Passed) (i : ℕ) → true ≡ is_some best → option_or front (later best i p) ≡ goal → option_or front (later best (i + 1) p') ≡ goal
@@ -151,18 +156,15 @@ module _ (s : Search) (end width : ℕ) where
   -- the search is over: no thread is alive,
   pub over-matched : (best : Option MatchValue) (slots : Slots) (items : List ℕ) (rows : List Row) (i : ℕ) (goal : Option Hit) → items ≡ [] → is_some best ≡ true
       → option_or (threads i rows items) (later (best_hit best slots) (i + 1) nowhere) ≡ goal → best_hit best slots ≡ goal
-  unfolding among
   over-matched None slots items rows i goal none h value = absurd (true≢false (sym h))
   over-matched (Some b) slots items rows i goal none h value = rw none at value
 
   pub over-past : (best : Option MatchValue) (slots : Slots) (items : List ℕ) (rows : List Row) (i : ℕ) (goal : Option Hit) → items ≡ [] → is_some best ≡ false → s.last ≤ i
       → option_or (threads i rows items) (later (best_hit best slots) (i + 1) nowhere) ≡ goal → None ≡ goal
-  unfolding among
   over-past (Some b) slots items rows i goal none h le value = absurd (true≢false h)
   over-past None slots items rows i goal none h le value = rw (starts-over nowhere (i + 1) (omega arith)) at (rw none at value)
 
   among-beyond : (i : ℕ) (rows : List Row) (qs : List ℕ) → end < i → threads i rows qs ≡ None
-  unfolding among
   among-beyond i rows [] lt = refl
   among-beyond i rows (q ∷ qs) lt =
       rw (found-beyond s.matcher s.states.now s.text.now end q i lt, among-beyond i rows qs lt) (by_test (is_resting (state_at s.states.now q)) (λ e. rw e refl) (λ e. rw e refl))

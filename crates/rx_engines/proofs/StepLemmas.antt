@@ -22,10 +22,13 @@ use Rattle.rx_nfa.specs.Automaton.{at, state_at}
 use Rattle.rx_engines.specs.Walk.{answer, pending}
 use Rattle.rx_nfa.specs.declared.state.State.{State}
 use Rattle.rx_engines.specs.declared.frame.Frame.TheVariants.{Explore}
-use Rattle.rx_engines.proofs.OptionLemmas.{or-none_right, or-assoc}
+use Rattle.rx_model.proofs.OptionLemmas.{or-none_right, or-assoc}
 use Rattle.rx_engines.specs.Threads.{Row, row_at}
-use Rattle.rx_engines.specs.Simulation.{is_resting, passed_at, Hit, hit, thread, among, IsStable, Waits, Closed}
-use Rattle.rx_engines.proofs.SimulationLemmas.{passed_at-elsewhere, among-alike}
+use Rattle.rx_nfa.specs.Ordered.{is_resting, passed_at, IsStable}
+use Rattle.rx_engines.specs.Simulation.{Hit, hit, thread, among, Waits, Closed}
+use Rattle.rx_nfa.proofs.PlaceLemmas.{passed_at-elsewhere}
+use Rattle.rx_nfa.proofs.TargetLemmas.{route-below, found-dead, found-reads}
+use Rattle.rx_engines.proofs.SimulationLemmas.{among-alike}
 
 -- The threads put aside at the next place, then those that are left at this one, then what comes later.
 pub record Stepping (states : List State) (g : PriorityGraph) (i : ℕ) (later : Passed → Option Hit) (rows : List Row) (left : List ℕ) (items : List ℕ) (rows' : List Row) (goal : Option Hit) : Type 0 where
@@ -38,17 +41,14 @@ onward states g i rows left later p = option_or (among states g p i rows left) (
 module _ (states : List State) (g : PriorityGraph) where
   pub among-left : (p : Passed) (i : ℕ) (rows : List Row) (qs : List ℕ) (k q : ℕ) → k < length qs → q ≡ get_or qs k 0
       → among states g p i rows (drop k qs) ≡ option_or (thread states g p i rows q) (among states g p i rows (drop (k + 1) qs))
-  unfolding among
   among-left p i rows qs k q lt is =
       let more : suc k ≡ k + 1 = omega arith in
       ap (among states g p i rows) (drop-cons qs k 0 lt ∙ (λ j. sym is j ∷ drop (more j) qs))
 
   pub among-over : (p : Passed) (i : ℕ) (rows : List Row) (qs : List ℕ) (k : ℕ) → length qs ≤ k → among states g p i rows (drop k qs) ≡ None
-  unfolding among
   among-over p i rows qs k le = ap (among states g p i rows) (drop_all k qs le)
 
   pub among-empty : (p : Passed) (i : ℕ) (rows : List Row) (qs : List ℕ) → qs ≡ [] → among states g p i rows qs ≡ None
-  unfolding among
   among-empty p i rows qs e = ap (among states g p i rows) e
 
   pub onward-stable : (i : ℕ) (rows : List Row) (left : List ℕ) (later : Passed → Option Hit) → IsStable g later → IsStable g (onward states g i rows left later)
@@ -63,30 +63,20 @@ module _ (states : List State) (g : PriorityGraph) (i : ℕ) (rows : List Row) (
   pub thread-reads : NeverFalls g → (next : ℕ) → is_resting (state_at states q) ≡ true → g.accepted (at q i) ≡ None → g.written (at q i) ≡ None → g.successors (at q i) ≡ at next (i + 1) ∷ []
       → thread states g p i rows q ≡ hit (row_at rows q).0 (answer (row_at rows q).1 (found g p (at next (i + 1))))
   thread-reads rises next rests none unwritten goes =
-      rw rests (ap (λ o. hit (row_at rows q).0 (answer (row_at rows q).1 o)) is)
+      rw rests (ap (λ o. hit (row_at rows q).0 (answer (row_at rows q).1 o))
+      (found-reads g bounded rises p (at q i) (at next (i + 1)) new none goes (omega arith)
+      ∙ ap (λ w. option_map (with_write w i) (found g p (at next (i + 1)))) unwritten
+      ∙ unchanged (found g p (at next (i + 1)))))
     where
-      single : (o : Option Trace) → option_map (with_write None i) (option_or o None) ≡ o
-      single None = refl
-      single (Some t) = refl
-
-      elsewhere : (e : Configuration) → i + 1 ≤ e.place → and_at (at q i) p e ≡ p e
-      elsewhere e le =
-          by_test (same (at q i) e)
-          (λ h. let equal : i ≡ e.place = ap (λ (x : Configuration). x.place) (same-true (at q i) e h) in absurd (omega arith))
-          (λ h. rw h refl)
-
-      is : found g p (at q i) ≡ found g p (at next (i + 1))
-      is =
-          found-step g p bounded (at q i) new none
-          ∙ (λ k. option_map (with_write (unwritten k) i) (first_some (found g (and_at (at q i) p)) (goes k)))
-          ∙ single (found g (and_at (at q i) p) (at next (i + 1)))
-          ∙ found-forget g rises (and_at (at q i) p) p (at next (i + 1)) elsewhere
+      unchanged : (o : Option Trace) → option_map (with_write None i) o ≡ o
+      unchanged None = refl
+      unchanged (Some t) = refl
 
   pub thread-ends : (is_resting (state_at states q) ≡ false) ⊎ ((g.accepted (at q i) ≡ None) × (g.successors (at q i) ≡ [])) → thread states g p i rows q ≡ None
   thread-ends (inl moves) = rw moves refl
   thread-ends (inr dead) =
       by_test (is_resting (state_at states q))
-      (λ e. rw e (ap (λ o. hit (row_at rows q).0 (answer (row_at rows q).1 o)) (found-step g p bounded (at q i) new dead.0 ∙ ap (λ ds. option_map (with_write (g.written (at q i)) i) (first_some (found g (and_at (at q i) p)) ds)) dead.1)))
+      (λ e. rw e (ap (λ o. hit (row_at rows q).0 (answer (row_at rows q).1 o)) (found-dead g bounded p (at q i) new dead.0 dead.1)))
       (λ e. rw e refl)
 
 not-here : (items : List ℕ) (q i : ℕ) → passed_at items (i + 1) (at q i) ≡ false
@@ -125,7 +115,6 @@ Stepping-over {states} {g} {i} {later} {rows} {items} {rows'} {goal} qs k le s =
 
 pub Stepping-begun : {states : List State} {g : PriorityGraph} {i : ℕ} {later : Passed → Option Hit} {rows : List Row} {qs : List ℕ} {items : List ℕ} {rows' : List Row} {goal : Option Hit}
     → items ≡ [] → option_or (among states g nowhere i rows qs) (later nowhere) ≡ goal → Stepping states g i later rows qs items rows' goal
-unfolding among
 Stepping-begun e value = rw e (record { value = value })
 
 -- What a state does at a byte, as the machine says it.
@@ -137,13 +126,6 @@ Acts states g end q i (Read next) =
     (is_resting (state_at states q) ≡ true) × (next < length states) × (i < end) × (g.accepted (at q i) ≡ None) × (g.written (at q i) ≡ None) × (g.successors (at q i) ≡ at next (i + 1) ∷ [])
 Acts states g end q i Nothing =
     (is_resting (state_at states q) ≡ false) ⊎ ((g.accepted (at q i) ≡ None) × (g.successors (at q i) ≡ []))
-
-onto-names : (n : ℕ) (ts : List Transition) (b next : ℕ) → All (λ (t : Transition). t.next < n) ts → route ts b ≡ Some next → next < n
-onto-names n [] b next all goes = none-is-some goes
-onto-names n (t ∷ ts) b next all goes =
-    by_test (nat_le t.start b && nat_le b t.end)
-    (λ e. let is : t.next ≡ next = some-is (rw e at goes) in let lt = All-head (λ (t : Transition). t.next < n) t ts all in omega arith)
-    (λ e. onto-names n ts b next (All-tail (λ (t : Transition). t.next < n) t ts all) (rw e at goes))
 
 module _ (terminator : ℕ) (states : List State) (text : List ℕ) (end q i : ℕ) (names : All (NamesBelow (length states)) states) (state : q < length states) (place : i ≤ end) where
   -- a state that reads a byte by these transitions
@@ -163,7 +145,7 @@ module _ (terminator : ℕ) (states : List State) (text : List ℕ) (end q i : �
       at_byte : i < end → (o : Option ℕ) → route ts (get_or text i 0) ≡ o → Acts states (automaton terminator states text end) end q i (onto o)
       at_byte lt None e = inr (accepts, goes ∙ read_byte-dead text end ts i (λ _. e))
       at_byte lt (Some next) e =
-          (ap is_resting is ∙ rests, onto-names (length states) ts (get_or text i 0) next all e, lt, accepts, written-is terminator states text end q i state place s is ∙ unwritten, goes ∙ read_byte-taken text end ts next i lt e)
+          (ap is_resting is ∙ rests, route-below (length states) ts (get_or text i 0) next all e, lt, accepts, written-is terminator states text end q i state place s is ∙ unwritten, goes ∙ read_byte-taken text end ts next i lt e)
 
   acts : (s : State) → state_at states q ≡ s → Acts states (automaton terminator states text end) end q i (act_of s (byte_at text end i))
   acts (ByteRange low high next) is =

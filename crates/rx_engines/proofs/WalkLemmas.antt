@@ -9,7 +9,7 @@ use Rattle.rx_nfa.proofs.StateLemmas.{accepted-is, successors-is, written-is}
 use Rattle.rx_engines.specs.Walk.{Slots, answer, pending, explore_all, Expands}
 use Rattle.rx_engines.specs.declared.frame.Frame.{Frame}
 use Rattle.rx_engines.specs.declared.frame.Frame.TheVariants.{Explore, Restore}
-use Rattle.rx_engines.proofs.OptionLemmas.{or-assoc}
+use Rattle.rx_model.proofs.OptionLemmas.{or-assoc}
 
 answer-or : (slots : Slots) (a b : Option Trace) → answer slots (option_or a b) ≡ option_or (answer slots a) (answer slots b)
 answer-or slots None b = refl

@@ -1,11 +1,12 @@
 -- A simulation by ordered threads: what the threads at a place lead to, and what a step keeps true.
 use Rattle.std.specs.Prelude.{◌≡◌, ℕ, zero, suc, ◌+◌, ◌-◌, ◌≤◌, Bool, true, false, List, [], ◌∷◌, length, map, replicate, Option, Some, None, option_map, nat_lt, slice_index, if◌then◌else◌}
 use Rattle.std.specs.Option.{option_or}
-use Rattle.rx_model.specs.Runs.{Configuration, PriorityGraph, Passed, nowhere, and_at, found, is_among}
-use Rattle.rx_model.specs.Search.{Match, is_permitted, first_start}
+use Rattle.rx_model.specs.Runs.{Configuration, PriorityGraph, Passed, nowhere, found}
+use Rattle.rx_model.specs.Search.{Match, is_permitted}
 use Rattle.rx_model.proofs.RunLemmas.{weight}
 use Rattle.rx_search.specs.Matches.{MatchValue}
 use Rattle.rx_nfa.specs.Automaton.{at, automaton, state_at, route}
+use Rattle.rx_nfa.specs.Ordered.{is_resting, line, passed_at, first_told, first_then, at_rest, first_of_starts}
 use Rattle.rx_nfa.specs.declared.state.Transition.{Transition}
 use Rattle.rx_engines.specs.Walk.{Slots, Answer, answer, pending, write_all, Expands}
 use Rattle.rx_nfa.specs.declared.state.State.{State}
@@ -36,27 +37,8 @@ unfoldable pub frames_of_states : List State → ℕ → ℕ
 frames_of_states states zero = 0
 frames_of_states states (suc n) = frames_of_state (state_at states n) + frames_of_states states n
 
--- a thread stays at this state until a byte is read
-abbrev pub is_resting : State → Bool
-is_resting (ByteRange low high next) = true
-is_resting (Sparse transitions) = true
-is_resting (Look look next) = false
-is_resting (Union alternates) = false
-is_resting (Capture next pattern slot) = false
-is_resting Fail = false
-is_resting (Accepts pattern) = true
-
--- the states below n, at place i
-abbrev pub line : ℕ → ℕ → List Configuration
-line zero i = []
-line (suc n) i = at n i ∷ line n i
-
 abbrev pub frames_at : List State → Configuration → ℕ
 frames_at states c = frames_of_state (state_at states c.state)
-
--- the states of the list, at place i
-abbrev pub passed_at : List ℕ → ℕ → Passed
-passed_at items i c = is_among (map (λ q. at q i) items) c
 
 -- how many frames the states that are not in the list will leave at place i
 abbrev pub frames_to_come : List State → (i : ℕ) → List ℕ → ℕ
@@ -69,27 +51,25 @@ Hit = ℕ × Answer
 abbrev pub hit : ℕ → Option Answer → Option Hit
 hit start o = option_map (λ a. (start, a)) o
 
--- what the thread that rests at q leads to
+-- what the thread in state q leads to, by its row
+abbrev pub resumed : PriorityGraph → Passed → ℕ → List Row → ℕ → Option Hit
+resumed g p i rows q = hit (row_at rows q).0 (answer (row_at rows q).1 (found g p (at q i)))
+
+-- the same if a thread rests there
 abbrev pub thread : List State → PriorityGraph → Passed → ℕ → List Row → ℕ → Option Hit
-thread states g p i rows q =
-    if is_resting (state_at states q) then hit (row_at rows q).0 (answer (row_at rows q).1 (found g p (at q i))) else None
+thread states g p i rows = at_rest states (resumed g p i rows)
 
 -- the first hit of the threads at place i, in order
-unfoldable pub among : List State → PriorityGraph → Passed → ℕ → List Row → List ℕ → Option Hit
-among states g p i rows [] = None
-among states g p i rows (q ∷ qs) = option_or (thread states g p i rows q) (among states g p i rows qs)
-
--- what comes later stays the same where a configuration that leads to nothing counts as passed
-abbrev pub IsStable : PriorityGraph → (Passed → Option Hit) → Type 0
-IsStable g later = (p : Passed) (x : Configuration) → found g p x ≡ None → later p ≡ later (and_at x p)
+abbrev pub among : List State → PriorityGraph → Passed → ℕ → List Row → List ℕ → Option Hit
+among states g p i rows qs = first_told (thread states g p i rows) qs
 
 -- the threads at place i, then what the frames lead to, then what comes later
 pub record Waits (states : List State) (g : PriorityGraph) (i start : ℕ) (later : Passed → Option Hit) (items : List ℕ) (rows : List Row) (frames : List Frame) (slots : Slots) (goal : Option Hit) : Type 0 where
-  pub value : option_or (among states g nowhere i rows items) (option_or (hit start (pending (found g (passed_at items i)) frames slots)) (later (passed_at items i))) ≡ goal
+  pub value : first_then (thread states g nowhere i rows) items i (λ p. option_or (hit start (pending (found g p) frames slots)) (later p)) ≡ goal
 
 -- the threads at place i, and then what comes later
 pub record Closed (states : List State) (g : PriorityGraph) (i : ℕ) (later : Passed → Option Hit) (items : List ℕ) (rows : List Row) (goal : Option Hit) : Type 0 where
-  pub value : option_or (among states g nowhere i rows items) (later (passed_at items i)) ≡ goal
+  pub value : first_then (thread states g nowhere i rows) items i later ≡ goal
 
 -- the state rests, or gives way to others
 abbrev pub Visited : (terminator : ℕ) → List State → List ℕ → ℕ → ℕ → Bool → List Frame → List Frame → Slots → Slots → Type 0
@@ -159,7 +139,7 @@ hit_of width m = (m.start, record { pattern = m.trace.pattern; end = m.trace.end
 module _ (s : Search) (end : ℕ) where
   -- the first match that starts at i or after it, past what was passed
   abbrev pub from_starts : Passed → (i : ℕ) → Option Match
-  from_starts p i = first_start (is_permitted s.utf8 s.text.now) (λ j. found (graph_until s end) p (at s.start j)) (s.last + 1 - i) i
+  from_starts p i = first_of_starts (graph_until s end) (is_permitted s.utf8 s.text.now) s.start (s.last + 1 - i) i p
 
   -- the best match so far, and else the starts to come
   abbrev pub later_starts : (width : ℕ) → Option Hit → (i : ℕ) → Passed → Option Hit

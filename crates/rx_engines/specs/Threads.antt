@@ -16,10 +16,6 @@ state_set_code =
     code_by (List ℕ × ℕ) (coded× (coded_list coded_ℕ) coded_ℕ) (λ s. (s.items, s.room))
     (λ p. record { items = p.0; room = p.1 }) (λ _. refl)
 
-abbrev pub has : List ℕ → ℕ → Bool
-has [] q = false
-has (x ∷ xs) q = (x == q) || has xs q
-
 -- each item is in range, and its place stands at it
 abbrev pub IsSparse : List ℕ → List ℕ → Type 0
 IsSparse dense sparse = (k : ℕ) → k < length dense → (slice_index dense k < length sparse) × (slice_index sparse (slice_index dense k) ≡ k)

@@ -6,7 +6,7 @@ ghost use Rattle.rx_nfa.specs.NextMatch.{start_of};
 ghost use Rattle.rx_engines.specs.Engine.{last_start};
 
 use rx_nfa::NFA;
-use rx_search::{Anchored, Input, StateID};
+use rx_search::{Anchored, Input, StateID, is_character_boundary};
 
 /// Where the runs start, if the pattern that is asked for is there.
 pub fn start_state(nfa: &NFA, anchored: Anchored) -> Option<StateID>
@@ -37,9 +37,5 @@ pub fn is_allowed(text: &[u8], utf8: bool, place: usize) -> bool
     requires { place ≤ length text.now }
     ensures { result ≡ is_permitted utf8 text.now place }
 {
-    if utf8 && place < text.len() {
-        !(0x80 <= text[place] && text[place] <= 0xBF)
-    } else {
-        true
-    }
+    !utf8 || is_character_boundary(text, place)
 }

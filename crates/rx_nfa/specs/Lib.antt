@@ -13,3 +13,5 @@ pub mod Built
 pub mod Repeated
 pub mod Room
 pub mod Compiled
+pub mod Around
+pub mod Ordered

@@ -10,6 +10,7 @@ mod builder;
 mod class;
 mod compiler;
 mod error;
+mod lists;
 mod looks;
 mod nfa;
 mod runs;
@@ -19,6 +20,10 @@ mod state;
 pub use class::the_states_read_the_class;
 pub use compiler::{Compiler, Config, WhichCaptures};
 pub use error::BuildError;
+pub use lists::{
+    a_step_keeps_the_first_success, the_closure_keeps_the_first_success,
+    the_first_success_on_the_list_and_then_later_starts,
+};
 pub use nfa::NFA;
 pub use runs::{
     the_common_start_has_the_runs_of_each_pattern, the_runs_of_one_span_are_meant,

@@ -10,6 +10,7 @@ use Rattle.std.specs.Cmp.Lexicographic.{slice_cmp}
 use Rattle.std.specs.Ordering.{nat_cmp}
 use Rattle.std.specs.List.{list_any}
 use Rattle.std.specs.Option.{option_or}
+use Rattle.rx_model.proofs.OptionLemmas.{or-assoc, or-none_right}
 use Rattle.rx_search.specs.declared.group_error.GroupInfoError.{GroupInfoError}
 use Rattle.rx_search.specs.declared.group_error.GroupInfoError.TheVariants.{TooMany}
 use Rattle.rx_search.specs.GroupInfo.{group_count, slot_count, is_named, has_duplicate, fault_of, first_fault, refusal, id_limit, groups_of, names_of, IsFault, IsRefusal}
@@ -28,22 +29,13 @@ group_count-front zero gs = omega arith
 group_count-front (suc i) [] = omega arith
 group_count-front (suc i) (g ∷ gs) = omega (arith, group_count-front i gs)
 
--- refusals in a row
-pub option_or_assoc : {A : Type 0} (a b c : Option A) → option_or a (option_or b c) ≡ option_or (option_or a b) c
-option_or_assoc None b c = refl
-option_or_assoc (Some x) b c = refl
-
-pub option_or_none : {A : Type 0} (a : Option A) → option_or a None ≡ a
-option_or_none None = refl
-option_or_none (Some x) = refl
-
 -- the first fault of a list that goes on
 pub first_fault-append : (p : ℕ) (xs ys : List (List (Option (List ℕ)))) → first_fault p (xs ++ ys) ≡ option_or (first_fault p xs) (first_fault (p + length xs) ys)
 first_fault-append p [] ys = ap (λ (n : ℕ). first_fault n ys) (omega arith)
 first_fault-append p (x ∷ xs) ys =
     let place : p + 1 + length xs ≡ p + length (x ∷ xs) = omega arith in
     ap (option_or (fault_of p x)) (first_fault-append (p + 1) xs ys ∙ ap (λ (n : ℕ). option_or (first_fault (p + 1) xs) (first_fault n ys)) place)
-    ∙ option_or_assoc (fault_of p x) (first_fault (p + 1) xs) (first_fault (p + length (x ∷ xs)) ys)
+    ∙ sym (or-assoc (fault_of p x) (first_fault (p + 1) xs) (first_fault (p + length (x ∷ xs)) ys))
 
 -- one pattern more
 pub first_fault-more : (gs : List (List (Option (List ℕ)))) (i : ℕ) (d : List (Option (List ℕ))) → i < length gs → first_fault 0 (take (i + 1) gs) ≡ option_or (first_fault 0 (take i gs)) (fault_of i (get_or gs i d))
@@ -53,7 +45,7 @@ first_fault-more gs i d below =
     ap (first_fault 0) (take_more gs i d below)
     ∙ first_fault-append 0 (take i gs) (get_or gs i d ∷ [])
     ∙ ap (λ (n : ℕ). option_or (first_fault 0 (take i gs)) (option_or (fault_of n (get_or gs i d)) None)) place
-    ∙ ap (option_or (first_fault 0 (take i gs))) (option_or_none (fault_of i (get_or gs i d)))
+    ∙ ap (option_or (first_fault 0 (take i gs))) (or-none_right (fault_of i (get_or gs i d)))
 
 -- the fault of a front is the fault of a longer one
 pub first_fault-stays : (gs : List (List (Option (List ℕ)))) (i n : ℕ) (e : GroupInfoError) → i ≤ n → first_fault 0 (take i gs) ≡ Some e → first_fault 0 (take n gs) ≡ Some e

@@ -200,10 +200,7 @@ impl<'h> Input<'h> {
     pub fn is_char_boundary(&self, at: usize) -> bool
         ensures { result ≡ is_char_boundary self.now.haystack at }
     {
-        match self.haystack.get(at) {
-            Some(byte) => *byte < 0x80 || 0xBF < *byte,
-            None => at == self.haystack.len(),
-        }
+        is_character_boundary(self.haystack, at)
     }
 
     /// The same input again. The haystack is not copied.
@@ -217,5 +214,15 @@ impl<'h> Input<'h> {
             anchored: self.anchored,
             earliest: self.earliest,
         }
+    }
+}
+
+/// Whether `at` is the text's length, or a place in it at which no byte from 0x80 to 0xBF lies.
+pub fn is_character_boundary(text: &[u8], at: usize) -> bool
+    ensures { result ≡ is_char_boundary text.now at }
+{
+    match text.get(at) {
+        Some(byte) => *byte < 0x80 || 0xBF < *byte,
+        None => at == text.len(),
     }
 }

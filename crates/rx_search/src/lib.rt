@@ -29,7 +29,7 @@ pub use anchored::{Anchored, MatchKind};
 pub use gate::{Gate, Open};
 pub use group_error::GroupInfoError;
 pub use group_info::{GroupInfo, slots_are_written};
-pub use input::Input;
+pub use input::{Input, is_character_boundary};
 pub use look::Look;
 pub use look_matcher::LookMatcher;
 pub use look_set::{LookSet, LookSetIter};

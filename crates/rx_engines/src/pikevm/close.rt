@@ -3,7 +3,8 @@ ghost use Rattle.rx_model.specs.Runs.{Passed};
 ghost use Rattle.rx_nfa.specs.Automaton.{state_at};
 ghost use Rattle.rx_engines.specs.declared.frame.Frame.TheVariants.{Explore};
 ghost use Rattle.rx_engines.specs.Search.{IsInside, graph_until};
-ghost use Rattle.rx_engines.specs.Simulation.{frames_of_state, frames_of_states, frames_to_come, Hit, IsStable, Waits, Closed, Visited, move_of, rests, going_on};
+ghost use Rattle.rx_nfa.specs.Ordered.{IsStable};
+ghost use Rattle.rx_engines.specs.Simulation.{frames_of_state, frames_of_states, frames_to_come, Hit, Waits, Closed, Visited, move_of, rests, going_on};
 ghost use Rattle.rx_engines.specs.Walk.{AllWithin};
 
 use crate::frame::Frame;

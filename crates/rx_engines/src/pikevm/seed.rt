@@ -1,7 +1,8 @@
 ghost use Rattle.std.specs.Prelude.{◌≡◌, ℕ, ◌+◌, ◌<◌, ◌≤◌, List, [], length, All, Bool, true, Option, is_some};
 ghost use Rattle.rx_model.specs.Runs.{Passed, nowhere};
 ghost use Rattle.std.specs.Option.{option_or};
-ghost use Rattle.rx_engines.specs.Simulation.{frames_of_states, Hit, among, later_starts, passed_at};
+ghost use Rattle.rx_nfa.specs.Ordered.{passed_at};
+ghost use Rattle.rx_engines.specs.Simulation.{frames_of_states, Hit, among, later_starts};
 ghost use Rattle.rx_engines.specs.Search.{IsInside, graph_until};
 
 use crate::pikevm::close::close;

@@ -1,6 +1,7 @@
 ghost use Rattle.std.specs.Prelude.{◌≡◌, ◌^◌, ◌<◌, ◌≤◌, vec_capacity, [], ◌∷◌, ◌++◌, not, length, IfOk, slice_index};
 ghost use Rattle.std.specs.Bool.{MatchBool};
-ghost use Rattle.rx_engines.specs.Threads.{StateSet, state_set_code, has, IsSparse};
+ghost use Rattle.rx_nfa.specs.Ordered.{has};
+ghost use Rattle.rx_engines.specs.Threads.{StateSet, state_set_code, IsSparse};
 
 use rx_search::{Memory, StateID};
 use std::alloc::Global;

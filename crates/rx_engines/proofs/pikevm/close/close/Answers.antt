@@ -1,6 +1,6 @@
 use Rattle.std.proofs.Common.{◌∷◌, length, length-set, ◌∙◌, ap, arith}
 use Rattle.rx_engines.specs.Threads.{Frames}
-use Rattle.rx_engines.specs.Simulation.{passed_at}
+use Rattle.rx_nfa.specs.Ordered.{passed_at}
 use Rattle.rx_engines.proofs.CloseLemmas.{on_top}
 use Rattle.rx_engines.proofs.LineLemmas.{line-frames}
 use Rattle.rx_engines.proofs.SimulationLemmas.{Waits-restored, Waits-over}

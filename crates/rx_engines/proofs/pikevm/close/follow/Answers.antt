@@ -1,11 +1,14 @@
 use Rattle.std.proofs.Common.{◌≡◌, ◌<◌, length, refl, sym, ◌∙◌, arith}
 use Rattle.std.specs.Prelude.{false}
 use Rattle.rx_nfa.proofs.AutomatonLemmas.{automaton-bounded}
-use Rattle.rx_engines.specs.Threads.{has}
-use Rattle.rx_engines.specs.Simulation.{passed_at}
+use Rattle.rx_nfa.specs.Ordered.{has, passed_at}
 use Rattle.rx_engines.proofs.CloseLemmas.{not-true, not-false}
-use Rattle.rx_engines.proofs.LineLemmas.{line-less}
-use Rattle.rx_engines.proofs.SimulationLemmas.{passed_at-has, passed_at-elsewhere, found-rests, Waits-passed, Waits-moves, Waits-rests}
+use Rattle.rx_engines.proofs.LineLemmas.{frames-less}
+use Rattle.rx_nfa.specs.Around.{forwards}
+use Rattle.rx_nfa.proofs.ClosureLemmas.{found-rests}
+use Rattle.rx_nfa.proofs.LaterLemmas.{automaton-steps}
+use Rattle.rx_nfa.proofs.PlaceLemmas.{passed_at-has, passed_at-elsewhere}
+use Rattle.rx_engines.proofs.SimulationLemmas.{Waits-passed, Waits-moves, Waits-rests}
 use Rattle.rx_engines.proofs.pikevm.close.follow.Goals as goal
 
 pub loop-state-init : goal.loop-state-init
@@ -27,7 +30,7 @@ visit-requires-clause-room c =
     let v = c.loop-state.invariant in
     let states = c.args.search.now.states.now in
     let new : has c.loop-state.threads.set.items c.loop-state.state ≡ false = not-true _ (sym c.loop-state-test.true ∙ c.insert.ensures.new) in
-    let left = line-less states (length states) c.args.place c.loop-state.state c.loop-state.threads.set.items v.state new in
+    let left = frames-less states (length states) c.args.place c.loop-state.state c.loop-state.threads.set.items v.state new in
     let less = v.less in
     let frames = c.requires.frames in
     let room = v.stack_room in
@@ -47,7 +50,7 @@ returns-in-Rest-clause-followed c end later goal le stable w =
     let lt : q < length c.loop-state.threads.table.items = omega arith in
     rw (more, c.set.ensures, seen.1, seen.2)
     (Waits-rests stable (v.followed end later goal le stable w) new lt seen.0
-    (found-rests c.args.search.now.matcher c.args.search.now.states.now c.args.search.now.text.now end q c.args.place (passed_at items c.args.place) v.state le seen.0 (passed_at-has items c.args.place q ∙ new)
+    (found-rests (forwards c.args.search.now.matcher c.args.search.now.text.now) c.args.search.now.states.now end _ (automaton-steps c.args.search.now.matcher c.args.search.now.states.now c.args.search.now.text.now end) (passed_at items c.args.place) q c.args.place v.state le seen.0 (passed_at-has items c.args.place q ∙ new)
     (λ d lt. passed_at-elsewhere items c.args.place d (omega arith))))
 
 pub returns-in-Rest-clause-less : goal.returns-in-Rest-clause-less
@@ -55,7 +58,7 @@ returns-in-Rest-clause-less c =
     let v = c.loop-state.invariant in
     let states = c.args.search.now.states.now in
     let new : has c.loop-state.threads.set.items c.loop-state.state ≡ false = not-true _ (sym c.loop-state-test.true ∙ c.insert.ensures.new) in
-    let left = line-less states (length states) c.args.place c.loop-state.state c.loop-state.threads.set.items v.state new in
+    let left = frames-less states (length states) c.args.place c.loop-state.state c.loop-state.threads.set.items v.state new in
     let more = rw c.loop-state-test.true at c.insert.ensures.after in
     let frames = rw c.in-Rest.is at c.visit.ensures.frames in
     let less = v.less in
@@ -66,7 +69,7 @@ loop-state-smaller c =
     let v = c.loop-state.invariant in
     let states = c.args.search.now.states.now in
     let new : has c.loop-state.threads.set.items c.loop-state.state ≡ false = not-true _ (sym c.loop-state-test.true ∙ c.insert.ensures.new) in
-    let left = line-less states (length states) c.args.place c.loop-state.state c.loop-state.threads.set.items v.state new in
+    let left = frames-less states (length states) c.args.place c.loop-state.state c.loop-state.threads.set.items v.state new in
     let more = rw c.loop-state-test.true at c.insert.ensures.after in
     let frames = rw c.in-On.is at c.visit.ensures.frames in
     rw more (omega arith)
@@ -77,7 +80,7 @@ loop-state-preserved c =
     let states = c.args.search.now.states.now in
     let items = c.loop-state.threads.set.items in
     let new : has items c.loop-state.state ≡ false = not-true _ (sym c.loop-state-test.true ∙ c.insert.ensures.new) in
-    let left = line-less states (length states) c.args.place c.loop-state.state items v.state new in
+    let left = frames-less states (length states) c.args.place c.loop-state.state items v.state new in
     let more = rw c.loop-state-test.true at c.insert.ensures.after in
     let frames = rw c.in-On.is at c.visit.ensures.frames in
     let inside = rw c.in-On.is at c.visit.ensures.inside in
@@ -112,7 +115,7 @@ returns-in-Back-clause-less c =
     let v = c.loop-state.invariant in
     let states = c.args.search.now.states.now in
     let new : has c.loop-state.threads.set.items c.loop-state.state ≡ false = not-true _ (sym c.loop-state-test.true ∙ c.insert.ensures.new) in
-    let left = line-less states (length states) c.args.place c.loop-state.state c.loop-state.threads.set.items v.state new in
+    let left = frames-less states (length states) c.args.place c.loop-state.state c.loop-state.threads.set.items v.state new in
     let more = rw c.loop-state-test.true at c.insert.ensures.after in
     let frames = rw c.in-Back.is at c.visit.ensures.frames in
     let less = v.less in

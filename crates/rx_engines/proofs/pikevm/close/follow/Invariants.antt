@@ -4,7 +4,8 @@ use Rattle.rx_model.specs.Runs.{Passed}
 use Rattle.rx_engines.specs.Search.{graph_until}
 use Rattle.rx_engines.specs.declared.frame.Frame.TheVariants.{Explore}
 use Rattle.rx_engines.specs.Walk.{AllWithin}
-use Rattle.rx_engines.specs.Simulation.{Hit, Waits, IsStable, frames_to_come}
+use Rattle.rx_nfa.specs.Ordered.{IsStable}
+use Rattle.rx_engines.specs.Simulation.{Hit, Waits, frames_to_come}
 use Rattle.rx_engines.proofs.pikevm.close.follow.Given as goal
 
 abbrev pub invariant-loop-state : goal.invariant-loop-state

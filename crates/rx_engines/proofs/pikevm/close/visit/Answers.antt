@@ -4,7 +4,8 @@ use Rattle.rx_search.specs.Look.{kind_of}
 use Rattle.rx_nfa.proofs.StateLemmas.{state-known, names-known}
 use Rattle.rx_engines.specs.declared.frame.Frame.TheVariants.{Explore}
 use Rattle.rx_engines.specs.Threads.{Frames}
-use Rattle.rx_engines.specs.Simulation.{is_resting, frames_of_state}
+use Rattle.rx_nfa.specs.Ordered.{is_resting}
+use Rattle.rx_engines.specs.Simulation.{frames_of_state}
 use Rattle.rx_engines.proofs.WalkLemmas.{Expands-unwritten, Expands-written}
 use Rattle.rx_engines.proofs.CloseLemmas.{union-length, AllWithin-taken, taken-length, going-onto, going-looked, Visited-onward}
 use Rattle.rx_engines.proofs.YieldLemmas.{AllWithin-union}

@@ -1,7 +1,8 @@
 use Rattle.std.proofs.Common.{◌+◌, length, sym, ◌∙◌}
 use Rattle.rx_model.specs.Runs.{nowhere}
 use Rattle.rx_engines.specs.Search.{graph_until}
-use Rattle.rx_engines.specs.Simulation.{among, later_starts, passed_at}
+use Rattle.rx_nfa.specs.Ordered.{passed_at}
+use Rattle.rx_engines.specs.Simulation.{among, later_starts}
 use Rattle.rx_engines.proofs.StartLemmas.{unseeded-matched, unseeded-past, unseeded-forbidden, later-stable, seeding, seeded}
 use Rattle.rx_engines.proofs.pikevm.seed.seed.Goals as goal
 use Rattle.rx_engines.proofs.pikevm.seed.seed.Goals.{then-matched-via-then-matched, then-matched-via-else-matched+then-search-place, then-matched-via-else-matched+else-search-place+then-not-is_allowed}

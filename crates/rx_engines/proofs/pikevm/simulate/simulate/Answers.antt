@@ -5,13 +5,13 @@ use Rattle.rx_model.specs.Runs.{nowhere}
 use Rattle.rx_model.proofs.RunLemmas.{by_test}
 use Rattle.rx_engines.specs.Threads.{StateSet}
 use Rattle.rx_engines.specs.Search.{graph_until, next_until}
-use Rattle.rx_engines.specs.Simulation.{among, later_starts, best_hit, hit_of, passed_at}
+use Rattle.rx_nfa.specs.Ordered.{passed_at}
+use Rattle.rx_engines.specs.Simulation.{among, later_starts, best_hit, hit_of}
 use Rattle.rx_engines.proofs.StartLemmas.{later-stable, after-step, best-some, cleared-after, none-left, reported-some, known-some}
 use Rattle.rx_engines.proofs.StageLemmas.{Stage, byte-same, not-some, and-false, and-true, found-none, seed-fits, stage-matched, stage-past, stage-over, stage-accepted, stage-in_order, stage-silent, answer-stopped, answer-none, answer-late}
 use Rattle.rx_engines.proofs.pikevm.simulate.simulate.Goals as goal
 
 pub loop-place-init : goal.loop-place-init
-unfolding among
 loop-place-init c = record {
   value = rw c.requires.none refl;
   values = λ e low high. rw c.requires.none refl;

@@ -1,7 +1,8 @@
 use Rattle.std.proofs.Common.{◌≡◌, ◌≤◌, ◌<◌, ℕ, [], length}
 use Rattle.std.specs.Prelude.{true, None, replicate, IfNone}
 use Rattle.rx_engines.specs.Search.{next_until}
-use Rattle.rx_engines.specs.Simulation.{best_hit, passed_at}
+use Rattle.rx_nfa.specs.Ordered.{passed_at}
+use Rattle.rx_engines.specs.Simulation.{best_hit}
 use Rattle.rx_engines.proofs.StageLemmas.{Stage}
 use Rattle.rx_engines.proofs.pikevm.simulate.simulate.Given as goal
 

@@ -2,7 +2,8 @@ use Rattle.std.proofs.Common.{◌≡◌, ◌<◌, ◌∙◌, ap, arith, length, 
 use Rattle.std.specs.Prelude.{false}
 use Rattle.std.proofs.lemmas.List.{get_or_default}
 use Rattle.std.proofs.lemmas.Bool.Decides.{nat_tests}
-use Rattle.rx_engines.specs.Threads.{StateSet, has}
+use Rattle.rx_nfa.specs.Ordered.{has}
+use Rattle.rx_engines.specs.Threads.{StateSet}
 use Rattle.rx_engines.proofs.SetLemmas.{contains-inside, contains-outside}
 use Rattle.rx_engines.proofs.pikevm.set.SparseSet.contains.Goals as goal
 
