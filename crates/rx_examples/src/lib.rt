@@ -4,6 +4,8 @@
 #[cfg(test)]
 mod building;
 #[cfg(test)]
+mod grammar;
+#[cfg(test)]
 mod places;
 #[cfg(test)]
 mod readme;
