@@ -2,11 +2,11 @@
 
 use rx_search::{Match, NonMaxUsize};
 
-/// The place that a slot holds.
-pub fn place(slot: Option<NonMaxUsize>) -> Option<usize> {
-    match slot {
-        Some(place) => Some(place.get()),
-        None => None,
+/// The place that a slot holds, if there is such a slot and it holds one.
+pub fn place(slots: &[Option<NonMaxUsize>], slot: usize) -> Option<usize> {
+    match slots.get(slot) {
+        Some(Some(place)) => Some(place.get()),
+        _ => None,
     }
 }
 

@@ -12,14 +12,16 @@ fn pairs(rt: HostRuntime) -> Result<(), Fail> {
     let line: &[u8] = b"ab=12 c=";
 
     // One search. It may fail for want of memory alone.
-    let found = regex.find(&rt, alloc, &Input::new(line))?;
-    assert!(rt; found.is_some_and(|m| m.start() == 0 && m.end() == 5));
+    if let Some(found) = regex.find(&rt, alloc, &Input::new(line))? {
+        println!(rt; "match {}..{}", found.start(), found.end())?;
+    }
 
     // All matches of each haystack, with their groups: two slots for each, and None where a group took no part.
-    let rows = scan(&rt, alloc, &regex, &[line], 1, &Open)?;
-    for row in rows.iter().flatten() {
-        if let [_, _, Some(start), Some(end), ..] = row.slots.as_slice() {
-            println!(rt; "key {}..{}", start.get(), end.get())?;
+    for rows in &scan(&rt, alloc, &regex, &[line], 1, &Open)? {
+        for row in rows {
+            if let [_, _, Some(start), Some(end), ..] = row.slots.as_slice() {
+                println!(rt; "key {}..{}", start.get(), end.get())?;
+            }
         }
     }
 

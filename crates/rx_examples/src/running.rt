@@ -7,7 +7,8 @@ use std::test::Fail;
 #[test]
 fn a_run_in_memory(rt: HostRuntime) -> Result<(), Fail> {
     let alloc = rt.alloc();
-    let words = vec![in alloc; String::from_str(alloc, "scan")?; 1]?;
+    let mut words = Vec::new(alloc);
+    words.push(String::from_str(alloc, "scan")?)?;
     let mut source = BytesSure::new(Vec::from_slice(alloc, b"a(b)?\n\nxab\na\n")?);
     let mut sink = KeptSure::new(alloc);
     let status = run(&rt, alloc, &words, &mut source, &mut sink, &Open);

@@ -19,11 +19,10 @@ fn a_match(rt: HostRuntime) -> Result<(), Fail> {
 fn in_a_part_of_a_haystack(rt: HostRuntime) -> Result<(), Fail> {
     let alloc = rt.alloc();
     let regex = Regex::new(alloc, r"\bb+")?;
-    let haystack = b"abb bb";
     // Bytes 1 to 3. The word boundary sees the whole haystack, and there is none before byte 1.
-    let part = Input::new(haystack).range(1..3);
+    let part = Input::new(b"abb bb").range(1..3);
     assert_eq!(rt; whole(regex.find(&rt, alloc, &part)?), None);
-    let later = Input::new(haystack).range(4..6).anchored(Anchored::Yes);
+    let later = Input::new(b"abb bb").range(4..6).anchored(Anchored::Yes);
     assert_eq!(rt; whole(regex.find(&rt, alloc, &later)?), Some((0, 4, 6)));
     Ok(())
 }
@@ -50,10 +49,8 @@ fn groups_by_name(rt: HostRuntime) -> Result<(), Fail> {
     let pattern = found.ok_or("no match")?;
     let group = groups.to_index(pattern, "value").ok_or("no such name")?;
     let (start, end) = groups.slots(pattern, group).ok_or("no such group")?;
-    assert_eq!(rt;
-        (place(slots[start]), place(slots[end])),
-        (Some(2), Some(4))
-    );
+    assert_eq!(rt; place(&slots, start), Some(2));
+    assert_eq!(rt; place(&slots, end), Some(4));
     Ok(())
 }
 
@@ -62,16 +59,10 @@ fn one_cache_for_many_searches(rt: HostRuntime) -> Result<(), Fail> {
     let alloc = rt.alloc();
     let regex = Regex::new(alloc, "(?i)error")?;
     let mut cache = regex.create_cache(alloc)?;
-    let mut count = 0u64;
-    for line in ["Error: 1", "ok", "an ERROR"] {
-        // A search with a cache takes no memory.
-        if regex
-            .search_with(&mut cache, &Input::new(line.as_bytes()))?
-            .is_some()
-        {
-            count = count.saturating_add(1);
-        }
-    }
-    assert_eq!(rt; count, 2);
+    // A search with a cache takes no memory.
+    let first = regex.search_with(&mut cache, &Input::new(b"Error: 1"))?;
+    let second = regex.search_with(&mut cache, &Input::new(b"an ERROR"))?;
+    assert_eq!(rt; whole(first), Some((0, 0, 5)));
+    assert_eq!(rt; whole(second), Some((0, 3, 8)));
     Ok(())
 }
