@@ -2,6 +2,9 @@ ghost use Rattle.std.specs.Prelude.{◌≡◌, ◌≤◌, ◌<◌, IfSome, IfNon
 
 use std::marker::Model;
 
+/// The greatest number that an identifier has.
+const GREATEST: u32 = 2147483646;
+
 /// The number of a pattern, at most 2147483646. Patterns are numbered from 0, in the order in which
 /// they were given.
 #[derive(Clone, Copy, Debug, PartialEq, Eq, PartialOrd, Ord, Hash)]
@@ -26,13 +29,16 @@ impl PatternID {
     pub const ZERO: PatternID = PatternID { id: 0 };
 
     /// The greatest number of a pattern.
-    pub const MAX: PatternID = PatternID { id: 2147483646 };
+    pub const MAX: PatternID = PatternID { id: GREATEST };
+
+    /// How many patterns there can be: one more than the greatest number.
+    pub const LIMIT: usize = GREATEST as usize + 1;
 
     /// The identifier of this number; None exactly above 2147483646.
     pub fn new(value: usize) -> Option<PatternID>
         ensures { MatchOption result (2147483646 < value) (λ p. (p ≡ value) × (value ≤ 2147483646)) }
     {
-        if value <= 2147483646 {
+        if value < PatternID::LIMIT {
             Some(PatternID { id: value as u32 })
         } else {
             None
@@ -71,13 +77,16 @@ impl StateID {
     pub const ZERO: StateID = StateID { id: 0 };
 
     /// The greatest number of a state.
-    pub const MAX: StateID = StateID { id: 2147483646 };
+    pub const MAX: StateID = StateID { id: GREATEST };
+
+    /// How many states there can be: one more than the greatest number.
+    pub const LIMIT: usize = GREATEST as usize + 1;
 
     /// The identifier of this number; None exactly above 2147483646.
     pub fn new(value: usize) -> Option<StateID>
         ensures { MatchOption result (2147483646 < value) (λ p. (p ≡ value) × (value ≤ 2147483646)) }
     {
-        if value <= 2147483646 {
+        if value < StateID::LIMIT {
             Some(StateID { id: value as u32 })
         } else {
             None

@@ -216,6 +216,11 @@ fn identifiers(rt: HostRuntime) {
         (Some(PatternID::MAX), None)
     );
     assert_eq!(rt; StateID::new(7).map_or(0, |id| id.as_usize()), 7);
+    assert_eq!(rt;
+        (StateID::MAX.as_usize(), StateID::LIMIT),
+        (2147483646, 2147483647)
+    );
+    assert_eq!(rt; StateID::new(StateID::LIMIT), None);
     assert_eq!(rt; NonMaxUsize::new(usize::MAX), None);
     assert_eq!(rt; NonMaxUsize::new(7).map_or(0, |place| place.get()), 7);
     Open.reached(0);
