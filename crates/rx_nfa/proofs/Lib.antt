@@ -16,6 +16,7 @@ pub mod PatternLemmas
 pub mod SpanLemmas
 pub mod HingeRows
 pub mod StateLemmas
+pub mod StepLemmas
 pub mod RowLemmas
 pub mod RangesLemmas
 pub mod BlockLemmas

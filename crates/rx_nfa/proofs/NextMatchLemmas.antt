@@ -12,7 +12,7 @@ use Rattle.rx_model.specs.Search.{Patterns, WhichCaptures, all as every_group, t
 use Rattle.rx_model.proofs.RunLemmas.{by_test}
 use Rattle.rx_model.proofs.FirstLemmas.{none-is-some, some-is}
 use Rattle.rx_model.proofs.RiseLemmas.{found-end}
-use Rattle.rx_nfa.specs.Automaton.{at, automaton, state_at, state_writes, IsWithin}
+use Rattle.rx_nfa.specs.Automaton.{at, forwards, automaton, state_at, state_writes, IsWithin}
 use Rattle.rx_nfa.specs.Nfa.{Nfa, IsInRange, HasRuns, HasFirstRuns}
 use Rattle.rx_nfa.specs.NextMatch.{start_of, first_from, next_match_of}
 use Rattle.rx_nfa.specs.declared.state.State.{State}
@@ -125,7 +125,7 @@ writes-none patterns slots (Accepts pattern) empty within = refl
 pub written-none : (patterns slots : ℕ) (states : List State) → slots ≡ 0 → All (IsWithin patterns slots) states
     → (terminator : ℕ) (text : List ℕ) (end : ℕ) (c : Configuration) → (automaton terminator states text end).written c ≡ None
 written-none patterns slots states empty within terminator text end c =
-    automaton-written terminator states text end c.state c.place
+    automaton-written (forwards terminator text) states end c.state c.place
     ∙ by_test (nat_lt c.state (length states))
     (λ e.
     let lt : c.state < length states = grind (arith, nat_tests) in
@@ -138,7 +138,7 @@ module _ (nfa : Nfa) (range : IsInRange nfa) (text : List ℕ) (end slot : ℕ) 
 
   written-within : (c : Configuration) (k : ℕ) → graph.written c ≡ Some k → k ≢ slot
   written-within c k h same =
-      let writes : state_writes (state_at nfa.states c.state) ≡ Some k = sym (automaton-written nfa.terminator nfa.states text end c.state c.place) ∙ h in
+      let writes : state_writes (state_at nfa.states c.state) ≡ Some k = sym (automaton-written (forwards nfa.terminator text) nfa.states end c.state c.place) ∙ h in
       by_test (nat_lt c.state (length nfa.states))
       (λ e.
       let lt : c.state < length nfa.states = grind (arith, nat_tests) in
@@ -181,7 +181,7 @@ module _ (nfa : Nfa) (range : IsInRange nfa) (text : List ℕ) (end slot : ℕ) 
 first_from-within : (terminator : ℕ) (states : List State) (text : List ℕ) (end : ℕ) (start : Option ℕ) (i : ℕ) (t : Trace) → first_from terminator states text end start i ≡ Some t → (i ≤ t.end) × (t.end ≤ end)
 first_from-within terminator states text end None i t h = none-is-some h
 first_from-within terminator states text end (Some q) i t h =
-    let ends = found-end (automaton terminator states text end) (automaton-bounded terminator states text end) (automaton-rises terminator states text end) end (automaton-accepts-within terminator states text end) nowhere (at q i) t h in
+    let ends = found-end (automaton terminator states text end) (automaton-bounded (forwards terminator text) states end) (automaton-rises (forwards terminator text) states end) end (automaton-accepts-within (forwards terminator text) states end) nowhere (at q i) t h in
     (ends.0, ends.1)
 
 pub next_match_of-within : (nfa : Nfa) (utf8_empty : Bool) (text : List ℕ) (anchor : Anchor) (end start : ℕ) (m : Match) → next_match_of nfa utf8_empty text anchor end start ≡ Some m

@@ -67,6 +67,12 @@ whole-inside all hs k lt = omega arith
 whole-inside implicit hs k lt = omega arith
 whole-inside none hs k lt = tt
 
+-- which come first
+pub whole-is : (which : WhichCaptures) (p : ℕ) → IfSome (whole_slot which p) (λ slot. slot ≡ 2 * p)
+whole-is all p = refl
+whole-is implicit p = refl
+whole-is none p = tt
+
 -- no more slots are written than there are
 pub written-within : (which : WhichCaptures) (hs : List Expression) → slots_written which hs ≤ slots_of hs
 written-within all hs = omega arith

@@ -1,4 +1,5 @@
 pub mod Automaton
+pub mod Slots
 pub mod Nfa
 pub mod Inner
 pub mod Config

@@ -7,9 +7,10 @@ ghost use Rattle.rx_hir.specs.Cost.{accounted_states};
 ghost use Rattle.rx_hir.specs.Sound.{IsSound};
 ghost use Rattle.rx_nfa.specs.Built.{Built, slot_from, bound, compiled_pattern, HasPart, HasPatterns, StartsAll};
 ghost use Rattle.rx_nfa.specs.Config.{captures_kind, captures_of, overwritten, nothing_set};
-ghost use Rattle.rx_nfa.specs.Compiled.{patterns_of, slots_of, slots_written, nfa_states, AreFew, AreAllowed, IsCompiled, IsRefusal};
+ghost use Rattle.rx_nfa.specs.Compiled.{patterns_of, groups_of, slots_of, slots_written, nfa_states, AreFew, AreAllowed, IsCompiled, IsRefusal};
 ghost use Rattle.rx_nfa.specs.Draft.{Extends};
 ghost use Rattle.rx_nfa.specs.Room.{HasRoom};
+ghost use Rattle.rx_nfa.specs.Slots.{IsSlotOf};
 
 mod accounting;
 mod anchors;
@@ -24,7 +25,7 @@ mod tests;
 
 use crate::builder::{Builder, Facts};
 use crate::error::BuildError;
-use crate::nfa::NFA;
+use crate::nfa::{NFA, STATE_SIZE};
 use crate::state::{Alternates, State};
 use accounting::{nfa_states, slot_len};
 use anchors::all_start_anchored;
@@ -39,16 +40,13 @@ use std::alloc::Global;
 use std::slice;
 
 /// The most patterns that an NFA may have.
-const PATTERN_LIMIT: usize = 2147483647;
+pub const PATTERN_LIMIT: usize = 2147483647;
 
 /// The most slots that a match may have.
 const SLOT_LIMIT: usize = 2147483646;
 
 /// The most states that an NFA may have.
 const STATE_LIMIT: usize = 2147483647;
-
-/// The bytes that are accounted for a state.
-const STATE_SIZE: usize = 32;
 
 /// Makes NFAs of expressions.
 #[derive(Clone, Copy)]
@@ -156,11 +154,10 @@ fn build(
 {
     let which = config.get_which_captures();
     let group_info = group_info(alloc, exprs)?;
-    let mut builder = Builder::new(alloc, exprs.len(), slots_written(which, exprs, slots));
+    let mut builder = Builder::new(alloc, group_info, slots_written(which, exprs, slots));
     let starts = compile_patterns(alloc, &mut builder, which, exprs)?;
     let start = start_of_all(alloc, &mut builder, &starts)?;
     let facts = Facts {
-        group_info,
         utf8: config.get_utf8(),
         look_matcher: config.get_look_matcher(),
         always_start_anchored: all_start_anchored(exprs),
@@ -179,7 +176,7 @@ fn compile_patterns(
     exprs: &[Hir],
 ) -> Result<Vec<StateID>, Memory>
     requires few { AreFew exprs.now }
-    requires patterns { builder.old.patterns ≡ length exprs.now }
+    requires groups { builder.old.groups ≡ groups_of exprs.now }
     requires slots { builder.old.slots ≡ slots_written (captures_kind which) exprs.now }
     requires fits { length builder.old.states + nfa_states exprs.now ≤ 2147483647 }
     ensures extends { OnOk result (Extends builder.old builder.new) }
@@ -214,6 +211,7 @@ fn compile_pattern(
 ) -> Result<StateID, Memory>
     requires room { HasRoom builder.old groups.now (greatest_group hir.now) }
     requires whole { IfSome groups.now.whole_slot (λ slot. slot + 1 < builder.old.slots) }
+    requires own { IfSome groups.now.whole_slot (λ slot. slot ≡ 2 * groups.now.pattern) }
     requires fits { length builder.old.states + (accounted_states hir.now + 3) ≤ 2147483647 }
     ensures extends { OnOk result (Extends builder.old builder.new) }
     ensures has { IfOk result (λ start. HasPart builder.new.states
@@ -240,8 +238,9 @@ fn push_bound(
     next: StateID,
 ) -> Result<StateID, Memory>
     requires next { next < length builder.old.states }
-    requires pattern { pattern < builder.old.patterns }
+    requires pattern { pattern < length builder.old.groups }
     requires slot { IfSome slot (λ number. number < builder.old.slots) }
+    requires own { IfSome slot (λ number. IsSlotOf builder.old.groups pattern number) }
     requires fits { length builder.old.states < 2147483647 }
     ensures built { IfOk result (λ start. Built (build_state (bound slot)) next builder.old builder.new start) }
     ensures inside { IfOk result (λ start. start < length builder.new.states) }

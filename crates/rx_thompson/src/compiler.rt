@@ -7,13 +7,10 @@ ghost use Rattle.rx_thompson.specs.Build.{IsBuiltOf, IsRefused, IsRefusedOf, IsR
 
 use crate::error::BuildError;
 use rx_hir::Hir;
-use rx_nfa::{Config, NFA};
+use rx_nfa::{Config, NFA, PATTERN_LIMIT};
 use rx_syntax::parse_each;
 use std::alloc::Global;
 use std::slice;
-
-/// The most patterns that an NFA may have.
-pub const PATTERN_LIMIT: usize = 2147483647;
 
 /// Makes NFAs of patterns and of expressions, under one configuration and one grammar.
 #[derive(Clone, Copy)]
