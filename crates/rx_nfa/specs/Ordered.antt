@@ -174,13 +174,15 @@ begun start false = []
 -- A search by lists, along the n bytes from place i on. These states were come to over the last byte; behind them a thread
 -- begins at each place where a match may start, while the starts to come count (`loops`). Where a thread accepts, those
 -- behind it and the starts to come are given up: its match is better than the best before.
-unfoldable pub list_search : Around → List State → (accepts : (place state : ℕ) → Option ℕ) → (may : ℕ → Bool) → (start n i : ℕ) → (loops : Bool) → List ℕ → Option HalfMatchValue → Option HalfMatchValue
+unfoldable pub list_search : Around → List State → (accepts : (place state : ℕ) → Option ℕ) → (may : ℕ → Bool) → (start n i : ℕ)
+    → (loops : Bool) → List ℕ → (best : Option HalfMatchValue) → Option HalfMatchValue
 list_search around states accepts may start zero i loops qs best =
     option_or (match_here (accepts i) i (threads_from states (λ kind. around.looks kind i) (qs ++ begun start (loops && may i)))) best
 list_search around states accepts may start (suc n) i loops qs best =
     let threads = threads_from states (λ kind. around.looks kind i) (qs ++ begun start (loops && may i)) in
     let found = match_here (accepts i) i threads in
-    list_search around states accepts may start n (i + 1) (loops && not (is_some found)) (targets states (around.byte i) (cut (accepts i) threads)) (option_or found best)
+    let goes_on = targets states (around.byte i) (cut (accepts i) threads) in
+    list_search around states accepts may start n (i + 1) (loops && not (is_some found)) goes_on (option_or found best)
 
 -- the same for an NFA whose runs start at this state, in a..b
 abbrev pub list_search_of : Nfa → (utf8_empty : Bool) → List ℕ → Anchor → (b a start : ℕ) → Option HalfMatchValue
