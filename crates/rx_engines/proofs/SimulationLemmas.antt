@@ -81,15 +81,15 @@ module _ {states : List State} {g : PriorityGraph} {i start : ℕ} {later : Pass
   parted None a l = refl
   parted (Some t) a l = refl
 
-  top : first_then (thread states g nowhere i rows) items i (λ p. option_or (option_map reached (found g p (at q i))) (below p)) ≡ goal
+  looked : first_then (thread states g nowhere i rows) items i (λ p. option_or (option_map reached (found g p (at q i))) (below p)) ≡ goal
   unfolding pending
-  top =
+  looked =
       ap (option_or (first_told (thread states g nowhere i rows) items)) (sym (parted (found g p (at q i)) (pending (found g p) rest slots) (later p)))
       ∙ s.value
 
   -- the state was passed before
   pub Waits-passed : has items q ≡ true → Waits states g i start later items rows rest slots goal
-  Waits-passed seen = record { value = sym (first_then-seen states g (resumed g nowhere i rows) items i q reached below seen) ∙ top }
+  Waits-passed seen = record { value = sym (first_then-seen states g (resumed g nowhere i rows) items i q reached below seen) ∙ looked }
 
   -- it gives way to others
   pub Waits-moves : IsBounded g → has items q ≡ false → is_resting (state_at states q) ≡ false → (frames : List Frame) (slots' : Slots) → Expands g (at q i) rest frames slots slots'
@@ -99,7 +99,7 @@ module _ {states : List State} {g : PriorityGraph} {i start : ℕ} {later : Pass
         first_then-moves states g (resumed g nowhere i rows) items i q reached below below-stable moves (λ p. option_or (hit start (pending (found g p) frames slots')) (later p))
         (ap (λ o. option_or (hit start o) (later (and_at (at q i) p))) (pending-expanded g bounded p q i rest slots (passed_at-has items i q ∙ new) frames slots' e)
         ∙ parted (found g p (at q i)) (pending (found g (and_at (at q i) p)) rest slots) (later (and_at (at q i) p)))
-        ∙ top;
+        ∙ looked;
   }
 
   -- it rests
@@ -108,7 +108,7 @@ module _ {states : List State} {g : PriorityGraph} {i start : ℕ} {later : Pass
   Waits-rests new lt rests is = record {
     value =
         first_then-rests states g (resumed g nowhere i rows) items i q reached below below-stable rests (resumed g nowhere i (set rows q (start, slots))) kept here
-        ∙ top;
+        ∙ looked;
   }
     where
       kept : (x : ℕ) → has items x ≡ true → resumed g nowhere i (set rows q (start, slots)) x ≡ resumed g nowhere i rows x

@@ -1,6 +1,6 @@
 -- temporary
-use Rattle.std.proofs.Common.{◌≡◌, ℕ, ◌+◌, ◌<◌, ◌≤◌, List, [], ◌∷◌, ◌∙◌, ap, arith, length, refl}
-use Rattle.std.specs.Prelude.{Option, Some, None, Contains, nat_lt, slice_index}
+use Rattle.std.proofs.Common.{◌≡◌, ℕ, ◌+◌, List, ap, refl}
+use Rattle.std.specs.Prelude.{Option, Some, None, Contains, nat_lt}
 use Rattle.rx_model.specs.Runs.{Configuration}
 use Rattle.rx_model.proofs.RunLemmas.{by_test}
 use Rattle.rx_nfa.specs.Around.{Around, forwards, step_over, read_byte_over}

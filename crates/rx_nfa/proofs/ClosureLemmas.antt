@@ -1,12 +1,12 @@
 -- The closure of an ordered list of states keeps its first success.
-use Rattle.std.proofs.Common.{◌≡◌, ℕ, zero, suc, ◌+◌, ◌≤◌, ◌<◌, List, [], ◌∷◌, ◌++◌, length, refl, sym, ◌∙◌, ap, subst, inl, inr, arith, true≢false}
-use Rattle.std.specs.Prelude.{Bool, true, false, ◌||◌, ◌==◌, Option, Some, None, option_map, Contains, All, map, nat_lt, if◌then◌else◌}
+use Rattle.std.proofs.Common.{◌≡◌, ℕ, zero, suc, ◌≤◌, ◌<◌, List, [], ◌∷◌, ◌++◌, length, refl, sym, ◌∙◌, ap, subst, inl, inr, arith, true≢false}
+use Rattle.std.specs.Prelude.{Bool, true, false, ◌||◌, Option, Some, None, option_map, Contains, All, map, nat_lt, if◌then◌else◌}
 use Rattle.std.specs.Option.{option_or}
 use Rattle.std.proofs.lemmas.List.{get_or_past}
 use Rattle.std.proofs.lemmas.List.Elements.{All-get_or, All-nil, All-cons, All-head, All-tail, All-append}
 use Rattle.std.proofs.lemmas.Bool.Decides.{nat_tests}
 use Rattle.rx_model.specs.Look as model
-use Rattle.rx_model.specs.Runs.{Configuration, PriorityGraph, Passed, nowhere, and_at, same, Trace, with_write, found, first_some, IsBounded}
+use Rattle.rx_model.specs.Runs.{Configuration, PriorityGraph, Passed, nowhere, and_at, same, Trace, with_write, found, first_some}
 use Rattle.rx_model.proofs.RunLemmas.{by_test, first_some-alike_at}
 use Rattle.rx_model.proofs.FirstLemmas.{tells}
 use Rattle.rx_model.proofs.FoundLemmas.{found-accepted, found-prune, found-step, found-forget, option_map-or}
@@ -14,9 +14,9 @@ use Rattle.rx_model.proofs.OptionLemmas.{or-assoc, or-none_right}
 use Rattle.rx_search.specs.Look.{kind_of}
 use Rattle.rx_search.specs.Matches.{HalfMatchValue}
 use Rattle.rx_search.specs.declared.look.Look.{Look as LookKind}
-use Rattle.rx_nfa.specs.Around.{Around, step_over, read_byte_over}
+use Rattle.rx_nfa.specs.Around.{Around, step_over}
 use Rattle.rx_nfa.specs.Automaton.{at, state_at, state_accepts, NamesBelow}
-use Rattle.rx_nfa.specs.Ordered.{has, passed_at, AreBelow, first_told, first_then, IsStable, half, tell, first_on, is_resting, at_rest, resting, onward, close, threads_from, HoldsAt, HasSteps}
+use Rattle.rx_nfa.specs.Ordered.{has, passed_at, AreBelow, first_told, first_then, IsStable, half, tell, first_on, is_resting, at_rest, resting, epsilon_successors, close, threads_from, HoldsAt, HasSteps}
 use Rattle.rx_nfa.specs.declared.state.State.{State}
 use Rattle.rx_nfa.specs.declared.state.State.TheVariants.{ByteRange, Sparse, Look, Union, Capture, Fail, Match}
 use Rattle.rx_nfa.proofs.ListLemmas.{first_told-append, first_told-alike, first_told-resting, first_then-seen, first_then-moves, first_then-rests}
@@ -33,14 +33,14 @@ half-written (Some slot) place (Some t) = refl
 
 -- What states do at their place.
 
-pub resting-onward : (holding : model.Look → Bool) (s : State) → is_resting s ≡ true → onward holding s ≡ []
-resting-onward holding (ByteRange low high next) h = refl
-resting-onward holding (Sparse transitions) h = refl
-resting-onward holding (Look look next) h = absurd (true≢false (sym h))
-resting-onward holding (Union alternates) h = absurd (true≢false (sym h))
-resting-onward holding (Capture next pattern slot) h = absurd (true≢false (sym h))
-resting-onward holding Fail h = refl
-resting-onward holding (Match pattern) h = refl
+pub resting-epsilon : (holding : model.Look → Bool) (s : State) → is_resting s ≡ true → epsilon_successors holding s ≡ []
+resting-epsilon holding (ByteRange low high next) h = refl
+resting-epsilon holding (Sparse transitions) h = refl
+resting-epsilon holding (Look look next) h = absurd (true≢false (sym h))
+resting-epsilon holding (Union alternates) h = absurd (true≢false (sym h))
+resting-epsilon holding (Capture next pattern slot) h = absurd (true≢false (sym h))
+resting-epsilon holding Fail h = refl
+resting-epsilon holding (Match pattern) h = refl
 
 moving-accepts : (s : State) → is_resting s ≡ false → state_accepts s ≡ None
 moving-accepts (ByteRange low high next) h = refl
@@ -58,30 +58,30 @@ taken-below : (n next : ℕ) (b : Bool) → next < n → AreBelow n (if b then n
 taken-below n next true lt = AreBelow-one n next lt
 taken-below n next false lt = All-nil (λ q. q < n)
 
-pub onward-below : (n : ℕ) (holding : model.Look → Bool) (s : State) → NamesBelow n s → AreBelow n (onward holding s)
-onward-below n holding (ByteRange low high next) names = All-nil (λ q. q < n)
-onward-below n holding (Sparse transitions) names = All-nil (λ q. q < n)
-onward-below n holding (Look look next) names = taken-below n next (holding (kind_of look)) names
-onward-below n holding (Union alternates) names = names
-onward-below n holding (Capture next pattern slot) names = AreBelow-one n next names
-onward-below n holding Fail names = All-nil (λ q. q < n)
-onward-below n holding (Match pattern) names = All-nil (λ q. q < n)
+pub epsilon_successors-below : (n : ℕ) (holding : model.Look → Bool) (s : State) → NamesBelow n s → AreBelow n (epsilon_successors holding s)
+epsilon_successors-below n holding (ByteRange low high next) names = All-nil (λ q. q < n)
+epsilon_successors-below n holding (Sparse transitions) names = All-nil (λ q. q < n)
+epsilon_successors-below n holding (Look look next) names = taken-below n next (holding (kind_of look)) names
+epsilon_successors-below n holding (Union alternates) names = names
+epsilon_successors-below n holding (Capture next pattern slot) names = AreBelow-one n next names
+epsilon_successors-below n holding Fail names = All-nil (λ q. q < n)
+epsilon_successors-below n holding (Match pattern) names = All-nil (λ q. q < n)
 
 taken-step : (i next : ℕ) (b : Bool) → (if b then at next i ∷ [] else []) ≡ map (λ q. at q i) (if b then next ∷ [] else [])
 taken-step i next true = refl
 taken-step i next false = refl
 
-step-onward : (around : Around) (end : ℕ) (holding : model.Look → Bool) (s : State) (i : ℕ)
+step-epsilon : (around : Around) (end : ℕ) (holding : model.Look → Bool) (s : State) (i : ℕ)
     → ((look : LookKind) (next : ℕ) → s ≡ Look look next → holding (kind_of look) ≡ around.looks (kind_of look) i)
-    → is_resting s ≡ false → step_over around end s i ≡ map (λ q. at q i) (onward holding s)
-step-onward around end holding (ByteRange low high next) i sees h = absurd (true≢false h)
-step-onward around end holding (Sparse transitions) i sees h = absurd (true≢false h)
-step-onward around end holding (Look look next) i sees h =
+    → is_resting s ≡ false → step_over around end s i ≡ map (λ q. at q i) (epsilon_successors holding s)
+step-epsilon around end holding (ByteRange low high next) i sees h = absurd (true≢false h)
+step-epsilon around end holding (Sparse transitions) i sees h = absurd (true≢false h)
+step-epsilon around end holding (Look look next) i sees h =
     ap (λ b. if b then at next i ∷ [] else []) (sym (sees look next refl)) ∙ taken-step i next (holding (kind_of look))
-step-onward around end holding (Union alternates) i sees h = refl
-step-onward around end holding (Capture next pattern slot) i sees h = refl
-step-onward around end holding Fail i sees h = refl
-step-onward around end holding (Match pattern) i sees h = absurd (true≢false h)
+step-epsilon around end holding (Union alternates) i sees h = refl
+step-epsilon around end holding (Capture next pattern slot) i sees h = refl
+step-epsilon around end holding Fail i sees h = refl
+step-epsilon around end holding (Match pattern) i sees h = absurd (true≢false h)
 
 rests-later : (around : Around) (end : ℕ) (s : State) (i : ℕ) → is_resting s ≡ true → (d : Configuration) → Contains (step_over around end s i) d → i < d.place
 rests-later around end (ByteRange low high next) i h d m =
@@ -104,10 +104,10 @@ rests-inside states q h =
 
 module _ (states : List State) (names : All (NamesBelow (length states)) states) (holding : model.Look → Bool) where
   -- what a state and the stack go on to
-  stack-below : (q : ℕ) (stack : List ℕ) → AreBelow (length states) (q ∷ stack) → AreBelow (length states) (onward holding (state_at states q) ++ stack)
+  stack-below : (q : ℕ) (stack : List ℕ) → AreBelow (length states) (q ∷ stack) → AreBelow (length states) (epsilon_successors holding (state_at states q) ++ stack)
   stack-below q stack h =
-      All-append (λ q. q < length states) (onward holding (state_at states q)) stack
-      (onward-below (length states) holding (state_at states q) (All-get_or (NamesBelow (length states)) states q _ (All-head (λ q. q < length states) q stack h) names))
+      All-append (λ q. q < length states) (epsilon_successors holding (state_at states q)) stack
+      (epsilon_successors-below (length states) holding (state_at states q) (All-get_or (NamesBelow (length states)) states q _ (All-head (λ q. q < length states) q stack h) names))
       (All-tail (λ q. q < length states) q stack h)
 
   pub close-below : (room : ℕ) (stack seen : List ℕ)
@@ -118,7 +118,7 @@ module _ (states : List State) (names : All (NamesBelow (length states)) states)
   close-below (suc room) (q ∷ stack) seen h k =
       by_test (has seen q)
       (λ e. rw e (close-below (suc room) stack seen (All-tail (λ q. q < length states) q stack h) k))
-      (λ e. rw e (close-below room (onward holding (state_at states q) ++ stack) (seen ++ q ∷ []) (stack-below q stack h)
+      (λ e. rw e (close-below room (epsilon_successors holding (state_at states q) ++ stack) (seen ++ q ∷ []) (stack-below q stack h)
       (All-append (λ q. q < length states) seen (q ∷ []) k (AreBelow-one (length states) q (All-head (λ q. q < length states) q stack h)))))
 
 pub resting-below : (n : ℕ) (states : List State) (qs : List ℕ) → AreBelow n qs → AreBelow n (resting states qs)
@@ -158,13 +158,13 @@ module _ (around : Around) (states : List State) (end : ℕ) (g : PriorityGraph)
   module _ (names : All (NamesBelow (length states)) states) (holding : model.Look → Bool) (i : ℕ) (place : i ≤ end) (holds : HoldsAt around states holding i) where
     -- a state that doesn't rest gives way to others
     pub tell-moves : (p : Passed) (q : ℕ) → q < length states → p (at q i) ≡ false → is_resting (state_at states q) ≡ false
-        → tell g p i q ≡ first_on g (and_at (at q i) p) i (onward holding (state_at states q))
+        → tell g p i q ≡ first_on g (and_at (at q i) p) i (epsilon_successors holding (state_at states q))
     tell-moves p q lt new moves =
         ap (option_map half) (found-step g p has_steps.bounded (at q i) new (has_steps.accepts q i lt place (moving-accepts (state_at states q) moves)))
         ∙ half-written (g.written (at q i)) i (first_some (found g (and_at (at q i) p)) (g.successors (at q i)))
         ∙ ap (λ ds. option_map half (first_some (found g (and_at (at q i) p)) ds))
-        (has_steps.steps q i lt place ∙ step-onward around end holding (state_at states q) i (λ look next is. holds q next look is) moves)
-        ∙ first_on-map g (and_at (at q i) p) i (onward holding (state_at states q))
+        (has_steps.steps q i lt place ∙ step-epsilon around end holding (state_at states q) i (λ look next is. holds q next look is) moves)
+        ∙ first_on-map g (and_at (at q i) p) i (epsilon_successors holding (state_at states q))
 
     module _ (later : Passed → Option HalfMatchValue) (stable : IsStable g later) where
       -- what the stack leads to, and then what comes later
@@ -189,12 +189,12 @@ module _ (around : Around) (states : List State) (end : ℕ) (g : PriorityGraph)
 
       -- what a state goes on to
       abbrev onto : ℕ → List ℕ
-      onto q = onward holding (state_at states q)
+      onto q = epsilon_successors holding (state_at states q)
 
       closing-rests : (q : ℕ) (stack seen : List ℕ) → has seen q ≡ false → q < length states → is_resting (state_at states q) ≡ true
           → closing (onto q ++ stack) (seen ++ q ∷ []) ≡ first_then (at_rest states (tell g nowhere i)) seen i (λ p. option_or (tell g p i q) (below stack p))
       closing-rests q stack seen new lt rests =
-          ap (λ qs. closing (qs ++ stack) (seen ++ q ∷ [])) (resting-onward holding (state_at states q) rests)
+          ap (λ qs. closing (qs ++ stack) (seen ++ q ∷ [])) (resting-epsilon holding (state_at states q) rests)
           ∙ first_then-rests states g (tell g nowhere i) seen i q half (below stack) (below-stable stack) rests (tell g nowhere i) (λ x h. refl)
           (ap (option_map half) (sym (found-rests (passed_at seen i) q i lt place rests (passed_at-has seen i q ∙ new) (λ d up. passed_at-elsewhere seen i d (λ same. omega arith)))))
 
@@ -227,7 +227,7 @@ module _ (around : Around) (states : List State) (end : ℕ) (g : PriorityGraph)
           let lt = All-head (λ q. q < length states) q stack inside in
           let less = left-less (length states) i q seen lt e in
           closing-new q stack seen e lt
-          ∙ close-first room (onward holding (state_at states q) ++ stack) (seen ++ q ∷ []) (stack-below states names holding q stack inside) (omega arith)
+          ∙ close-first room (epsilon_successors holding (state_at states q) ++ stack) (seen ++ q ∷ []) (stack-below states names holding q stack inside) (omega arith)
           ∙ rw e refl)
 
     -- the threads that begin in these states have their first success

@@ -1,5 +1,5 @@
 -- The starts to come, and the search by ordered lists: it finds the next match.
-use Rattle.std.proofs.Common.{◌≡◌, ℕ, zero, suc, ◌+◌, ◌-◌, ◌≤◌, ◌<◌, List, [], ◌∷◌, ◌++◌, length, refl, sym, ◌∙◌, ap, subst, arith}
+use Rattle.std.proofs.Common.{◌≡◌, ℕ, zero, suc, ◌+◌, ◌-◌, ◌≤◌, ◌<◌, List, [], ◌++◌, length, refl, sym, ◌∙◌, ap, subst, arith}
 use Rattle.std.specs.Prelude.{Bool, true, false, not, ◌&&◌, Option, Some, None, option_map, is_some, All, nat_lt, if◌then◌else◌, slice_index_or}
 use Rattle.std.specs.Option.{option_or}
 use Rattle.std.proofs.lemmas.Bool.Decides.{nat_tests}
@@ -7,8 +7,8 @@ use Rattle.std.proofs.lemmas.List.{get_or_past}
 use Rattle.std.proofs.lemmas.List.Elements.{All-get_or, All-nil, All-cons, All-append}
 use Rattle.std.proofs.lemmas.Option.{get_or_from_slice_get, slice_get_within}
 use Rattle.rx_model.specs.Look as model
-use Rattle.rx_model.specs.Runs.{PriorityGraph, Passed, nowhere, and_at, Trace, found, IsBounded, NeverFalls}
-use Rattle.rx_model.specs.Search.{Anchor, free, anchored, anchored_to, Match, is_anchored, is_permitted, first_start, starts}
+use Rattle.rx_model.specs.Runs.{PriorityGraph, Passed, nowhere, and_at, Trace, found, NeverFalls}
+use Rattle.rx_model.specs.Search.{Anchor, free, anchored, anchored_to, is_anchored, is_permitted, first_start, starts}
 use Rattle.rx_model.proofs.RunLemmas.{by_test}
 use Rattle.rx_model.proofs.FirstLemmas.{some-is}
 use Rattle.rx_model.proofs.FoundLemmas.{found-prune, found-forget, option_map-or}
@@ -18,7 +18,7 @@ use Rattle.rx_nfa.specs.Around.{Around, forwards}
 use Rattle.rx_nfa.specs.Automaton.{at, automaton, state_at, state_accepts, NamesBelow}
 use Rattle.rx_nfa.specs.Nfa.{Nfa, IsInRange}
 use Rattle.rx_nfa.specs.NextMatch.{start_of, first_from, next_match_of}
-use Rattle.rx_nfa.specs.Ordered.{passed_at, AreBelow, first_told, IsStable, half, tell, first_on, threads_from, close, resting, targets, accepts_at, cut, match_here, HasSteps, first_of_starts, where_there, begun, list_search, list_search_of}
+use Rattle.rx_nfa.specs.Ordered.{passed_at, AreBelow, IsStable, half, tell, first_on, threads_from, close, targets, accepts_at, cut, match_here, HasSteps, first_of_starts, where_there, begun, list_search, list_search_of}
 use Rattle.rx_nfa.specs.declared.state.State.{State}
 use Rattle.rx_nfa.specs.declared.state.State.TheVariants.{Fail}
 use Rattle.rx_nfa.proofs.AroundLemmas.{step_over-forwards}
@@ -28,7 +28,7 @@ use Rattle.rx_nfa.proofs.ListLemmas.{first_told-append}
 use Rattle.rx_nfa.proofs.NextMatchLemmas.{first_start-alike}
 use Rattle.rx_nfa.proofs.PlaceLemmas.{passed_at-elsewhere}
 use Rattle.rx_nfa.proofs.StateLemmas.{accepted-is}
-use Rattle.rx_nfa.proofs.TargetLemmas.{targets-below, cut-below, step-first, end-first, cut-first}
+use Rattle.rx_nfa.proofs.TargetLemmas.{targets-below, cut-below, step-first, end-first}
 
 -- The starts to come.
 

@@ -12,7 +12,7 @@ use Rattle.rx_model.proofs.OptionLemmas.{or-assoc, or-none_right}
 use Rattle.rx_search.specs.Matches.{HalfMatchValue}
 use Rattle.rx_nfa.specs.Around.{Around, step_over}
 use Rattle.rx_nfa.specs.Automaton.{at, go_on, state_at, state_accepts, route, NamesBelow}
-use Rattle.rx_nfa.specs.Ordered.{AreBelow, first_told, half, tell, first_on, is_resting, resting, target, with_target, targets, accepts_at, cut, match_here, where_there, HasSteps}
+use Rattle.rx_nfa.specs.Ordered.{AreBelow, half, tell, first_on, is_resting, resting, target, with_target, targets, accepts_at, cut, match_here, where_there, HasSteps}
 use Rattle.rx_nfa.specs.declared.state.Transition.{Transition}
 use Rattle.rx_nfa.specs.declared.state.State.{State}
 use Rattle.rx_nfa.specs.declared.state.State.TheVariants.{ByteRange, Sparse, Look, Union, Capture, Fail, Match}

@@ -6,10 +6,10 @@
 use Rattle.std.specs.Prelude.{◌≡◌, ℕ, zero, suc, ◌+◌, ◌-◌, ◌<◌, ◌≤◌, Bool, true, false, not, ◌&&◌, ◌||◌, List, [], ◌∷◌, ◌++◌, length, map, All, Option, Some, None, option_map, is_some, if◌then◌else◌, ◌==◌}
 use Rattle.std.specs.Option.{option_or}
 use Rattle.rx_model.specs.Look as model
-use Rattle.rx_model.specs.Runs.{Configuration, PriorityGraph, Passed, nowhere, and_at, Trace, found, is_among, IsBounded, NeverFalls}
+use Rattle.rx_model.specs.Runs.{Configuration, PriorityGraph, Passed, and_at, Trace, found, is_among, IsBounded, NeverFalls}
 use Rattle.rx_model.specs.Search.{Anchor, Match as Found, is_anchored, is_permitted, first_start}
 use Rattle.rx_search.specs.Look.{kind_of}
-use Rattle.rx_search.specs.Matches.{HalfMatchValue, half_match_value}
+use Rattle.rx_search.specs.Matches.{HalfMatchValue}
 use Rattle.rx_search.specs.declared.look.Look.{Look as LookKind}
 use Rattle.rx_nfa.specs.Around.{Around, forwards, step_over}
 use Rattle.rx_nfa.specs.Automaton.{at, route, state_at, state_accepts}
@@ -86,14 +86,14 @@ resting states [] = []
 resting states (q ∷ qs) = if is_resting (state_at states q) then q ∷ resting states qs else resting states qs
 
 -- Where a state goes on to at its place, where this look-around holds, the preferred one first.
-abbrev pub onward : (model.Look → Bool) → State → List ℕ
-onward holding (ByteRange low high next) = []
-onward holding (Sparse transitions) = []
-onward holding (Look look next) = if holding (kind_of look) then next ∷ [] else []
-onward holding (Union alternates) = alternates
-onward holding (Capture next pattern slot) = next ∷ []
-onward holding Fail = []
-onward holding (Match pattern) = []
+abbrev pub epsilon_successors : (model.Look → Bool) → State → List ℕ
+epsilon_successors holding (ByteRange low high next) = []
+epsilon_successors holding (Sparse transitions) = []
+epsilon_successors holding (Look look next) = if holding (kind_of look) then next ∷ [] else []
+epsilon_successors holding (Union alternates) = alternates
+epsilon_successors holding (Capture next pattern slot) = next ∷ []
+epsilon_successors holding Fail = []
+epsilon_successors holding (Match pattern) = []
 
 -- Depth first, in order of preference, each state once: the states that were `seen` before, and then those that the stack
 -- leads to at its place. At most `room` states are new.
@@ -102,7 +102,7 @@ close states holding zero stack seen = seen
 close states holding (suc room) [] seen = seen
 close states holding (suc room) (q ∷ stack) seen =
     if has seen q then close states holding (suc room) stack seen
-    else close states holding room (onward holding (state_at states q) ++ stack) (seen ++ q ∷ [])
+    else close states holding room (epsilon_successors holding (state_at states q) ++ stack) (seen ++ q ∷ [])
 
 -- The states at which the threads stay that begin in these states: those of their closure, where this look-around holds.
 abbrev pub threads_from : List State → (model.Look → Bool) → List ℕ → List ℕ
@@ -174,13 +174,15 @@ begun start false = []
 -- A search by lists, along the n bytes from place i on. These states were come to over the last byte; behind them a thread
 -- begins at each place where a match may start, while the starts to come count (`loops`). Where a thread accepts, those
 -- behind it and the starts to come are given up: its match is better than the best before.
-unfoldable pub list_search : Around → List State → (accepts : (place state : ℕ) → Option ℕ) → (may : ℕ → Bool) → (start n i : ℕ) → (loops : Bool) → List ℕ → Option HalfMatchValue → Option HalfMatchValue
+unfoldable pub list_search : Around → List State → (accepts : (place state : ℕ) → Option ℕ) → (may : ℕ → Bool) → (start n i : ℕ)
+    → (loops : Bool) → List ℕ → (best : Option HalfMatchValue) → Option HalfMatchValue
 list_search around states accepts may start zero i loops qs best =
     option_or (match_here (accepts i) i (threads_from states (λ kind. around.looks kind i) (qs ++ begun start (loops && may i)))) best
 list_search around states accepts may start (suc n) i loops qs best =
     let threads = threads_from states (λ kind. around.looks kind i) (qs ++ begun start (loops && may i)) in
     let found = match_here (accepts i) i threads in
-    list_search around states accepts may start n (i + 1) (loops && not (is_some found)) (targets states (around.byte i) (cut (accepts i) threads)) (option_or found best)
+    let goes_on = targets states (around.byte i) (cut (accepts i) threads) in
+    list_search around states accepts may start n (i + 1) (loops && not (is_some found)) goes_on (option_or found best)
 
 -- the same for an NFA whose runs start at this state, in a..b
 abbrev pub list_search_of : Nfa → (utf8_empty : Bool) → List ℕ → Anchor → (b a start : ℕ) → Option HalfMatchValue

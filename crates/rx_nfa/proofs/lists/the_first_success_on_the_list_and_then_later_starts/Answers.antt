@@ -1,4 +1,4 @@
-use Rattle.std.proofs.Common.{ℕ, suc, ◌+◌, ◌≡◌, ◌∙◌, ap, sym, arith}
+use Rattle.std.proofs.Common.{suc, ◌+◌, ◌≡◌, ◌∙◌, ap, arith}
 use Rattle.std.specs.Prelude.{option_map}
 use Rattle.std.specs.Option.{option_or}
 use Rattle.rx_model.specs.Runs.{nowhere}
