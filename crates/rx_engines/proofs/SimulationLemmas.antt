@@ -7,7 +7,7 @@ use Rattle.std.specs.Option.{option_or}
 use Rattle.rx_model.specs.Runs.{Configuration, PriorityGraph, Passed, nowhere, and_at, same, Trace, with_write, found, first_some, IsBounded}
 use Rattle.rx_model.proofs.RunLemmas.{by_test, same-true, first_some-alike_at}
 use Rattle.rx_model.proofs.FoundLemmas.{found-passed, found-accepted, found-prune, found-step, found-forget, option_map-or}
-use Rattle.rx_nfa.specs.Automaton.{at, automaton, state_at, state_step}
+use Rattle.rx_nfa.specs.Automaton.{at, automaton, state_at, state_step, forwards, byte_of}
 use Rattle.rx_engines.specs.Walk.{Slots, answer, pending, explore_all, Expands}
 use Rattle.rx_nfa.specs.declared.state.State.{State}
 use Rattle.rx_nfa.specs.declared.state.State.TheVariants.{ByteRange, Sparse, Look, Union, Capture, Fail, Match as Accepts}
@@ -88,10 +88,10 @@ among-moves states g p i rows qs q moves = among-push states g p i rows qs q ∙
 
 -- What a state at rest leads to doesn't depend on what was passed at its place.
 
-rests-later : (terminator : ℕ) (text : List ℕ) (end : ℕ) (s : State) (i : ℕ) → is_resting s ≡ true → (d : Configuration) → Contains (state_step terminator text end s i) d → i < d.place
+rests-later : (terminator : ℕ) (text : List ℕ) (end : ℕ) (s : State) (i : ℕ) → is_resting s ≡ true → (d : Configuration) → Contains (state_step (forwards terminator text) end s i) d → i < d.place
 rests-later terminator text end (ByteRange low high next) i h d m =
-    let up = read_byte-place text end (record { start = low; end = high; next = next } ∷ []) i d m in omega arith
-rests-later terminator text end (Sparse transitions) i h d m = let up = read_byte-place text end transitions i d m in omega arith
+    let up = read_byte-place (byte_of text) end (record { start = low; end = high; next = next } ∷ []) i d m in omega arith
+rests-later terminator text end (Sparse transitions) i h d m = let up = read_byte-place (byte_of text) end transitions i d m in omega arith
 rests-later terminator text end (Look look next) i h d m = absurd (true≢false (sym h))
 rests-later terminator text end (Union alternates) i h d m = absurd (true≢false (sym h))
 rests-later terminator text end (Capture next pattern slot) i h d m = absurd (true≢false (sym h))
@@ -108,13 +108,13 @@ module _ (terminator : ℕ) (states : List State) (text : List ℕ) (end q i : �
   pub found-rests : (p : Passed) → q < length states → i ≤ end → is_resting (state_at states q) ≡ true → p spot ≡ false → ((d : Configuration) → i < d.place → p d ≡ false)
       → found the_graph p spot ≡ found the_graph nowhere spot
   found-rests p lt le rests new level =
-      let bounded = automaton-bounded terminator states text end in
+      let bounded = automaton-bounded (forwards terminator text) states end in
       elim (tells (the_graph.accepted spot)) [
         | inl none ↦
             found-step the_graph p bounded spot new none
             ∙ ap (option_map (with_write (the_graph.written spot) i)) (first_some-alike_at (found the_graph (and_at spot p)) (found the_graph (and_at spot nowhere)) (the_graph.successors spot)
-            (λ d m. (let up = rests-later terminator text end (state_at states q) i rests d (subst (λ ds. Contains ds d) (successors-is terminator states text end q i lt le (state_at states q) refl) m) in
-            found-forget the_graph (automaton-rises terminator states text end) (and_at spot p) (and_at spot nowhere) d (λ e above. ap (λ b. same spot e || b) (level e (omega arith))))))
+            (λ d m. (let up = rests-later terminator text end (state_at states q) i rests d (subst (λ ds. Contains ds d) (successors-is (forwards terminator text) states end q i lt le (state_at states q) refl) m) in
+            found-forget the_graph (automaton-rises (forwards terminator text) states end) (and_at spot p) (and_at spot nowhere) d (λ e above. ap (λ b. same spot e || b) (level e (omega arith))))))
             ∙ sym (found-step the_graph nowhere bounded spot refl none)
         | inr some ↦ found-accepted the_graph p bounded spot some.0 new some.1 ∙ sym (found-accepted the_graph nowhere bounded spot some.0 refl some.1)
       ]

@@ -1,5 +1,6 @@
 use Rattle.std.proofs.Common.{◌≡◌, ◌<◌, length, refl, sym, ◌∙◌, arith}
 use Rattle.std.specs.Prelude.{false}
+use Rattle.rx_nfa.specs.Automaton.{forwards}
 use Rattle.rx_nfa.proofs.AutomatonLemmas.{automaton-bounded}
 use Rattle.rx_engines.specs.Threads.{has}
 use Rattle.rx_engines.specs.Simulation.{passed_at}
@@ -86,7 +87,7 @@ loop-state-preserved c =
     rw more
     (record {
       followed = λ end later goal le stable w.
-          Waits-moves stable (v.followed end later goal le stable w) (automaton-bounded c.args.search.now.matcher states c.args.search.now.text.now end) new seen.0 _ _ (seen.1 end le);
+          Waits-moves stable (v.followed end later goal le stable w) (automaton-bounded (forwards c.args.search.now.matcher c.args.search.now.text.now) states end) new seen.0 _ _ (seen.1 end le);
       state = inside.0;
       inside = inside.3;
       less = omega arith;
@@ -105,7 +106,7 @@ returns-in-Back-clause-followed c end later goal le stable w =
     let more = rw c.loop-state-test.true at c.insert.ensures.after in
     let seen = rw c.in-Back.is at c.visit.ensures.visited in
     rw more
-    (Waits-moves stable (v.followed end later goal le stable w) (automaton-bounded c.args.search.now.matcher c.args.search.now.states.now c.args.search.now.text.now end) new seen.0 _ _ (seen.1 end le))
+    (Waits-moves stable (v.followed end later goal le stable w) (automaton-bounded (forwards c.args.search.now.matcher c.args.search.now.text.now) c.args.search.now.states.now end) new seen.0 _ _ (seen.1 end le))
 
 pub returns-in-Back-clause-less : goal.returns-in-Back-clause-less
 returns-in-Back-clause-less c =

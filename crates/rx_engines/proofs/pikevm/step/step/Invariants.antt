@@ -3,7 +3,8 @@ use Rattle.std.specs.Prelude.{Option}
 use Rattle.std.specs.Option.{option_or}
 use Rattle.rx_model.specs.Runs.{Passed, nowhere}
 use Rattle.rx_engines.specs.Search.{graph_until}
-use Rattle.rx_engines.specs.Simulation.{Hit, IsStable, among, byte_at}
+use Rattle.rx_nfa.specs.Automaton.{byte_at}
+use Rattle.rx_engines.specs.Simulation.{Hit, IsStable, among}
 use Rattle.rx_engines.proofs.StepLemmas.{Stepping}
 use Rattle.rx_engines.proofs.pikevm.step.step.Given as goal
 
