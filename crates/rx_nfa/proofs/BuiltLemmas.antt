@@ -103,11 +103,11 @@ pub Keeps-extends : (base : ℕ) (old new : Draft) → Extends old new → Keeps
 Keeps-extends base old new e = record { longer = e.longer; kept = λ q above inside. e.kept q inside }
 
 pub Extends-same : (d : Draft) → Extends d d
-Extends-same d = record { patterns = refl; slots = refl; longer = omega arith; kept = λ q inside. refl }
+Extends-same d = record { groups = refl; slots = refl; longer = omega arith; kept = λ q inside. refl }
 
 pub Extends-trans : (a b c : Draft) → Extends a b → Extends b c → Extends a c
 Extends-trans a b c x y = record {
-  patterns = y.patterns ∙ x.patterns;
+  groups = y.groups ∙ x.groups;
   slots = y.slots ∙ x.slots;
   longer = (let p = x.longer in let q = y.longer in omega arith);
   kept = λ q inside. (let p = x.longer in y.kept q (omega arith) ∙ x.kept q inside);
@@ -118,7 +118,7 @@ pushed-length d state = let l = length-append d.states (state ∷ []) in omega a
 
 pub Extends-pushed : (d : Draft) (state : State) → Extends d (pushed d state)
 Extends-pushed d state = record {
-  patterns = refl;
+  groups = refl;
   slots = refl;
   longer = (let l = pushed-length d state in omega arith);
   kept = λ q inside. get_or_append_left d.states (state ∷ []) Fail q inside;

@@ -10,6 +10,7 @@ use Rattle.rx_model.specs.Graph as graph
 use Rattle.rx_model.specs.Length.{is_positive}
 use Rattle.rx_model.specs.Search.{greatest_group, greatest_in}
 use Rattle.rx_model.proofs.RunLemmas.{by_test}
+use Rattle.rx_search.specs.GroupInfo.{groups_at, slot_of_group}
 use Rattle.rx_search.specs.declared.memory.Memory.{Memory}
 use Rattle.rx_hir.specs.Length.{saturated}
 use Rattle.rx_hir.specs.Normal.{expressions}
@@ -28,10 +29,19 @@ use Rattle.rx_nfa.proofs.ChoiceLemmas.{BuiltEach, BuiltEach-more}
 pub Built-same : (a b : graph.Builder) (next : ℕ) (old new : Draft) (r : Result ℕ Memory) → a ≡ b → IfOk r (λ start. Built a next old new start) → IfOk r (λ start. Built b next old new start)
 Built-same a b next old new r e h = subst (λ part. IfOk r (λ start. Built part next old new start)) e h
 
--- there is room for fewer groups, and in a draft of the same patterns and slots
-pub HasRoom-kept : (old new : Draft) (groups : Groups) (m n : ℕ) → new.patterns ≡ old.patterns → new.slots ≡ old.slots → n ≤ m → HasRoom old groups m → HasRoom new groups n
-HasRoom-kept old new groups m n patterns slots le h =
-    let a = h.pattern in let d = h.few in record { pattern = omega arith; slots = room groups.first_slot h.slots; few = omega arith }
+-- there is room for fewer groups, and in a draft of the same groups and slots
+pub HasRoom-kept : (old new : Draft) (groups : Groups) (m n : ℕ) → new.groups ≡ old.groups → new.slots ≡ old.slots → n ≤ m → HasRoom old groups m → HasRoom new groups n
+HasRoom-kept old new groups m n same slots le h =
+    let d = h.few in
+    let more = h.enough in
+    let less : n < length (groups_at old.groups groups.pattern) = omega arith in
+    record {
+      pattern = subst (λ gs. groups.pattern < length gs) (sym same) h.pattern;
+      enough = subst (λ gs. n < length (groups_at gs groups.pattern)) (sym same) less;
+      first = subst (λ gs. IfSome groups.first_slot (λ first. first ≡ slot_of_group gs groups.pattern 1)) (sym same) h.first;
+      slots = room groups.first_slot h.slots;
+      few = omega arith;
+    }
   where
     room : (o : Option ℕ) → IfSome o (λ first. first + 2 * m ≤ old.slots) → IfSome o (λ first. first + 2 * n ≤ new.slots)
     room None fits = tt

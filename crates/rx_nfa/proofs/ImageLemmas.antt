@@ -13,7 +13,7 @@ use Rattle.rx_model.specs.Machine.{is_inside, graph_of}
 use Rattle.rx_model.proofs.RunLemmas.{by_test}
 use Rattle.rx_model.proofs.MachineLemmas.{graph_of-bounded}
 use Rattle.rx_model.proofs.RefineLemmas.{moved, IsFresh, Stays, Reads, Fails, Refines, Refines-found-past}
-use Rattle.rx_nfa.specs.Automaton.{at, state_at, state_step, state_accepts, state_writes, automaton}
+use Rattle.rx_nfa.specs.Automaton.{at, state_at, state_step, state_accepts, state_writes, forwards, automaton}
 use Rattle.rx_nfa.specs.States.{Stands}
 use Rattle.rx_nfa.specs.Built.{IsImage, Rises, Sends}
 use Rattle.rx_nfa.specs.declared.state.State.{State}
@@ -135,10 +135,10 @@ module _ (t : ℕ) (text : List ℕ) (end : ℕ) (inside : end ≤ length text) 
 
   -- and what the automaton does
   m-outside : (c : Configuration) → (end < c.place) ⊎ (length states ≤ c.state) → (m.successors (moved f c) ≡ []) × (m.accepted (moved f c) ≡ None)
-  m-outside c (inl past) = (automaton-successors-past t whole text end (f c.state) c.place past, automaton-accepted-past t whole text end (f c.state) c.place past)
+  m-outside c (inl past) = (automaton-successors-past (forwards t text) whole end (f c.state) c.place past, automaton-accepted-past (forwards t text) whole end (f c.state) c.place past)
   m-outside c (inr past) =
       let le = beyond c.state past in
-      (automaton-successors-beyond t whole text end (f c.state) c.place le, automaton-accepted-beyond t whole text end (f c.state) c.place le)
+      (automaton-successors-beyond (forwards t text) whole end (f c.state) c.place le, automaton-accepted-beyond (forwards t text) whole end (f c.state) c.place le)
 
   -- its image is there
   image-inside : (s : graph.State) (q : ℕ) → IsImage (Stands low whole) f s q → q < length whole
@@ -184,14 +184,14 @@ module _ (t : ℕ) (text : List ℕ) (end : ℕ) (inside : end ≤ length text) 
       by_place c
       (λ lt le.
       let h = is_image c.state lt in
-      automaton-accepted t whole text end (f c.state) c.place (image-inside (graph.state_at states c.state) (f c.state) h) le
+      automaton-accepted (forwards t text) whole end (f c.state) c.place (image-inside (graph.state_at states c.state) (f c.state) h) le
       ∙ image-accepts (graph.state_at states c.state) (f c.state) h
       ∙ sym (g-accepted c lt le))
       (λ out. (m-outside c out).1 ∙ sym (g-outside c out).1)
 
   written : (c : Configuration) → m.written (moved f c) ≡ g.written c
   written c =
-      automaton-written t whole text end (f c.state) c.place
+      automaton-written (forwards t text) whole end (f c.state) c.place
       ∙ ⊎_elim
       (λ lt. image-writes (graph.state_at states c.state) (f c.state) (is_image c.state lt))
       (λ past. (λ i. state_writes (get_or_past whole (f c.state) Fail (beyond c.state past) i)) ∙ sym (λ i. graph.state_writes (get_or_past states c.state (graph.choice []) past i)))
@@ -213,10 +213,10 @@ module _ (t : ℕ) (text : List ℕ) (end : ℕ) (inside : end ≤ length text) 
   goes_on : (c : Configuration) → c.state < length states → c.place ≤ end → (s : graph.State) → graph.state_at states c.state ≡ s → IsImage (Stands low whole) f s (f c.state)
       → Stays g m f c ⊎ Reads g m f c ⊎ Fails g m f c
   goes_on c lt le s is h = kinds s h (g-written c ∙ ap graph.state_writes is) (g-successors c lt le ∙ ap (λ x. graph.state_step t text end x c.place) is)
-      (λ state at_image. automaton-successors t whole text end (f c.state) c.place (image-inside s (f c.state) h) le ∙ ap (λ x. state_step t text end x c.place) at_image)
+      (λ state at_image. automaton-successors (forwards t text) whole end (f c.state) c.place (image-inside s (f c.state) h) le ∙ ap (λ x. state_step (forwards t text) end x c.place) at_image)
     where
       kinds : (s : graph.State) → IsImage (Stands low whole) f s (f c.state) → g.written c ≡ graph.state_writes s → g.successors c ≡ graph.state_step t text end s c.place
-          → ((state : State) → state_at whole (f c.state) ≡ state → m.successors (moved f c) ≡ state_step t text end state c.place)
+          → ((state : State) → state_at whole (f c.state) ≡ state → m.successors (moved f c) ≡ state_step (forwards t text) end state c.place)
           → Stays g m f c ⊎ Reads g m f c ⊎ Fails g m f c
       kinds (graph.text [] next) h w in_g in_m =
           let none : c.place + 0 ≡ c.place = omega arith in
@@ -224,7 +224,7 @@ module _ (t : ℕ) (text : List ℕ) (end : ℕ) (inside : end ≤ length text) 
           let to : graph.state_step t text end (graph.text [] next) c.place ≡ at next c.place ∷ [] = rw (stands-none text c.place, fits) (ap (λ i. at next i ∷ []) none) in
           inl (stays c (next ∷ []) (in_g ∙ to) (in_m (Union (f next ∷ [])) h.is))
       kinds (graph.text (b ∷ bytes) next) h w in_g in_m =
-          let reads : (ok : Sieve) (p : Passed) → IsFresh p (moved f c) → found (sieved ok m) p (moved f c) ≡ after ok t whole text end inside low p (f next) c.place (stands_at text c.place (b ∷ bytes)) (suc (length bytes)) =
+          let reads : (ok : Sieve) (p : Passed) → IsFresh p (moved f c) → found (sieved ok m) p (moved f c) ≡ after ok (forwards t text) whole end low p (f next) c.place (stands_at text c.place (b ∷ bytes)) (suc (length bytes)) =
           λ ok p fresh. chain-found ok t whole text end inside low p (f c.state) (b ∷ bytes) (f next) c.place le h fresh.new fresh.ahead in
           by_test (stands_at text c.place (b ∷ bytes))
           (λ stands. by_test (nat_le (c.place + suc (length bytes)) end)
@@ -273,7 +273,7 @@ module _ (t : ℕ) (text : List ℕ) (end : ℕ) (inside : end ≤ length text) 
               → is_some (graph.state_accepts (graph.state_at states c.state)) ≡ true → (g.successors c ≡ []) × (m.successors (moved f c) ≡ [])
           kinds lt le (graph.accept pattern) is h accepts = (
             g-successors c lt le ∙ ap (λ x. graph.state_step t text end x c.place) is,
-            automaton-successors t whole text end (f c.state) c.place h.inside le ∙ ap (λ x. state_step t text end x c.place) h.is,
+            automaton-successors (forwards t text) whole end (f c.state) c.place h.inside le ∙ ap (λ x. state_step (forwards t text) end x c.place) h.is,
           )
           kinds lt le (graph.text bytes next) is h accepts = absurd (true≢false (sym accepts ∙ ap (λ x. is_some (graph.state_accepts x)) is))
           kinds lt le (graph.set members next) is h accepts = absurd (true≢false (sym accepts ∙ ap (λ x. is_some (graph.state_accepts x)) is))
@@ -288,4 +288,4 @@ module _ (t : ℕ) (text : List ℕ) (end : ℕ) (inside : end ≤ length text) 
   pub image-found : (ok : Sieve) (q : Passed) (k i : ℕ) → ((j i : ℕ) → q (at (f j) i) ≡ false) → ((d : Configuration) → i < d.place → q d ≡ false)
       → found (sieved ok m) q (at (f k) i) ≡ found (sieved ok g) nowhere (at k i)
   image-found ok q k i apart ahead =
-      Refines-found-past g m f (λ k. ⊤) refines g-bounded (automaton-bounded t whole text end) ok q (at k i) tt (λ a j live. apart a j) ahead
+      Refines-found-past g m f (λ k. ⊤) refines g-bounded (automaton-bounded (forwards t text) whole end) ok q (at k i) tt (λ a j live. apart a j) ahead

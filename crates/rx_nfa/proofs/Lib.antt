@@ -16,6 +16,7 @@ pub mod PatternLemmas
 pub mod SpanLemmas
 pub mod HingeRows
 pub mod StateLemmas
+pub mod StepLemmas
 pub mod RowLemmas
 pub mod RangesLemmas
 pub mod BlockLemmas
@@ -27,7 +28,6 @@ pub mod RefinedLemmas
 pub mod NextMatchLemmas
 pub mod SetLemmas
 pub mod LookLemmas
-pub mod AroundLemmas
 pub mod PlaceLemmas
 pub mod ListLemmas
 pub mod ClosureLemmas

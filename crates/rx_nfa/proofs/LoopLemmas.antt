@@ -32,7 +32,7 @@ module _ (greedy : Bool) (body : graph.Builder) (next onward start : ℕ) (old a
 
   pub written-extends : Extends old written
   written-extends = record {
-    patterns = b.extends.patterns;
+    groups = b.extends.groups;
     slots = b.extends.slots;
     longer = (let l = same-length in let t = there in omega arith);
     kept = λ q inside.

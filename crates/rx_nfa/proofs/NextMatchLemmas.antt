@@ -4,7 +4,7 @@ use Rattle.std.proofs.lemmas.List.{get_or_past}
 use Rattle.std.proofs.lemmas.List.Elements.{All-get_or}
 use Rattle.std.proofs.lemmas.Option.{slice_get-get_or, slice_get_within, slice_get_past, slice_get_cases}
 use Rattle.std.proofs.lemmas.Bool.Decides.{nat_tests, Decides-eqb}
-use Rattle.std.specs.Prelude.{Bool, true, false, Option, Some, None, option_map, nat_lt, ◌==◌, if◌then◌else◌, slice_get}
+use Rattle.std.specs.Prelude.{All, Bool, true, false, Option, Some, None, option_map, nat_lt, ◌==◌, if◌then◌else◌, slice_get}
 use Rattle.std.specs.Option.{option_or}
 use Rattle.rx_model.specs.Expression.{Expression}
 use Rattle.rx_model.specs.Runs.{Configuration, PriorityGraph, Trace, trace, with_write, last_write, first_trace, first_past, nowhere}
@@ -12,7 +12,7 @@ use Rattle.rx_model.specs.Search.{Patterns, WhichCaptures, all as every_group, t
 use Rattle.rx_model.proofs.RunLemmas.{by_test}
 use Rattle.rx_model.proofs.FirstLemmas.{none-is-some, some-is}
 use Rattle.rx_model.proofs.RiseLemmas.{found-end}
-use Rattle.rx_nfa.specs.Automaton.{at, automaton, state_at, state_writes, IsWithin}
+use Rattle.rx_nfa.specs.Automaton.{at, forwards, automaton, state_at, state_writes, IsWithin}
 use Rattle.rx_nfa.specs.Nfa.{Nfa, IsInRange, HasRuns, HasFirstRuns}
 use Rattle.rx_nfa.specs.NextMatch.{start_of, first_from, next_match_of}
 use Rattle.rx_nfa.specs.declared.state.State.{State}
@@ -121,15 +121,16 @@ writes-none patterns slots (Capture next pattern number) empty within = let lt =
 writes-none patterns slots Fail empty within = refl
 writes-none patterns slots (Accepts pattern) empty within = refl
 
--- where there are no slots nothing is written
-pub written-none : (nfa : Nfa) → IsInRange nfa → nfa.slots ≡ 0 → (text : List ℕ) (end : ℕ) (c : Configuration) → (automaton nfa.terminator nfa.states text end).written c ≡ None
-written-none nfa range empty text end c =
-    automaton-written nfa.terminator nfa.states text end c.state c.place
-    ∙ by_test (nat_lt c.state (length nfa.states))
+-- where the states may write no slots nothing is written
+pub written-none : (patterns slots : ℕ) (states : List State) → slots ≡ 0 → All (IsWithin patterns slots) states
+    → (terminator : ℕ) (text : List ℕ) (end : ℕ) (c : Configuration) → (automaton terminator states text end).written c ≡ None
+written-none patterns slots states empty within terminator text end c =
+    automaton-written (forwards terminator text) states end c.state c.place
+    ∙ by_test (nat_lt c.state (length states))
     (λ e.
-    let lt : c.state < length nfa.states = grind (arith, nat_tests) in
-    writes-none (length nfa.starts) nfa.slots (state_at nfa.states c.state) empty (All-get_or (IsWithin (length nfa.starts) nfa.slots) nfa.states c.state _ lt range.within))
-    (λ e. let fails : state_at nfa.states c.state ≡ Fail = get_or_past nfa.states c.state Fail (grind (arith, nat_tests)) in ap state_writes fails)
+    let lt : c.state < length states = grind (arith, nat_tests) in
+    writes-none patterns slots (state_at states c.state) empty (All-get_or (IsWithin patterns slots) states c.state _ lt within))
+    (λ e. let fails : state_at states c.state ≡ Fail = get_or_past states c.state Fail (grind (arith, nat_tests)) in ap state_writes fails)
 
 module _ (nfa : Nfa) (range : IsInRange nfa) (text : List ℕ) (end slot : ℕ) (past : nfa.slots ≤ slot) where
   abbrev graph : PriorityGraph
@@ -137,7 +138,7 @@ module _ (nfa : Nfa) (range : IsInRange nfa) (text : List ℕ) (end slot : ℕ) 
 
   written-within : (c : Configuration) (k : ℕ) → graph.written c ≡ Some k → k ≢ slot
   written-within c k h same =
-      let writes : state_writes (state_at nfa.states c.state) ≡ Some k = sym (automaton-written nfa.terminator nfa.states text end c.state c.place) ∙ h in
+      let writes : state_writes (state_at nfa.states c.state) ≡ Some k = sym (automaton-written (forwards nfa.terminator text) nfa.states end c.state c.place) ∙ h in
       by_test (nat_lt c.state (length nfa.states))
       (λ e.
       let lt : c.state < length nfa.states = grind (arith, nat_tests) in
@@ -180,7 +181,7 @@ module _ (nfa : Nfa) (range : IsInRange nfa) (text : List ℕ) (end slot : ℕ) 
 first_from-within : (terminator : ℕ) (states : List State) (text : List ℕ) (end : ℕ) (start : Option ℕ) (i : ℕ) (t : Trace) → first_from terminator states text end start i ≡ Some t → (i ≤ t.end) × (t.end ≤ end)
 first_from-within terminator states text end None i t h = none-is-some h
 first_from-within terminator states text end (Some q) i t h =
-    let ends = found-end (automaton terminator states text end) (automaton-bounded terminator states text end) (automaton-rises terminator states text end) end (automaton-accepts-within terminator states text end) nowhere (at q i) t h in
+    let ends = found-end (automaton terminator states text end) (automaton-bounded (forwards terminator text) states end) (automaton-rises (forwards terminator text) states end) end (automaton-accepts-within (forwards terminator text) states end) nowhere (at q i) t h in
     (ends.0, ends.1)
 
 pub next_match_of-within : (nfa : Nfa) (utf8_empty : Bool) (text : List ℕ) (anchor : Anchor) (end start : ℕ) (m : Match) → next_match_of nfa utf8_empty text anchor end start ≡ Some m

@@ -14,7 +14,7 @@ use Rattle.rx_model.proofs.RunLemmas.{by_test, same-true}
 use Rattle.rx_model.proofs.FoundLemmas.{found-step, found-passed}
 use Rattle.rx_model.proofs.SieveLemmas.{sieved-bounded, sieved-everywhere, first-everywhere, first_of_patterns-everywhere}
 use Rattle.rx_hir.specs.Sound.{IsSound}
-use Rattle.rx_nfa.specs.Automaton.{at, automaton, state_accepts, state_writes, state_step}
+use Rattle.rx_nfa.specs.Automaton.{at, forwards, automaton, state_accepts, state_writes, state_step}
 use Rattle.rx_nfa.specs.Nfa.{Nfa, HasRuns, HasFirstRuns}
 use Rattle.rx_nfa.specs.Draft.{Draft, Extends, pushed}
 use Rattle.rx_nfa.specs.States.{Stands}
@@ -61,8 +61,8 @@ found-far : (ok : Sieve) (terminator : ℕ) (states : List State) (text : List �
 found-far ok terminator states text end q s i far =
     by_test (q (at s i))
     (λ seen. found-passed (sieved ok (automaton terminator states text end)) q (at s i) seen)
-    (λ new. found-step (sieved ok (automaton terminator states text end)) q (sieved-bounded ok (automaton terminator states text end) (automaton-bounded terminator states text end)) (at s i) new (ap (sifted ok i) (automaton-accepted-past terminator states text end s i far))
-    ∙ ap (λ ds. option_map (with_write ((automaton terminator states text end).written (at s i)) i) (first_some (found (sieved ok (automaton terminator states text end)) (and_at (at s i) q)) ds)) (automaton-successors-past terminator states text end s i far))
+    (λ new. found-step (sieved ok (automaton terminator states text end)) q (sieved-bounded ok (automaton terminator states text end) (automaton-bounded (forwards terminator text) states end)) (at s i) new (ap (sifted ok i) (automaton-accepted-past (forwards terminator text) states end s i far))
+    ∙ ap (λ ds. option_map (with_write ((automaton terminator states text end).written (at s i)) i) (first_some (found (sieved ok (automaton terminator states text end)) (and_at (at s i) q)) ds)) (automaton-successors-past (forwards terminator text) states end s i far))
 
 -- In a later draft, whatever was passed of states that were added since.
 module _ (ok : Sieve) (r : Patterns) (text : List ℕ) (end : ℕ) (inside : end ≤ length text) (old new : Draft) (e : Extends old new)
@@ -153,7 +153,7 @@ module _ (ok : Sieve) (r : Patterns) (text : List ℕ) (end : ℕ) (inside : end
         ⊎_elim
         (λ far. found-far ok r.terminator new.states text end nowhere (length old.states) i far ∙ sym (all-far far starts) ∙ all-found nowhere i (λ u j out. refl) (λ d lt. refl))
         (λ le.
-        found-step m nowhere (sieved-bounded ok (automaton r.terminator new.states text end) (automaton-bounded r.terminator new.states text end)) (at (length old.states) i) refl (ap (sifted ok i) (automaton-accepted r.terminator new.states text end (length old.states) i stands.inside le ∙ ap state_accepts stands.is))
+        found-step m nowhere (sieved-bounded ok (automaton r.terminator new.states text end) (automaton-bounded (forwards r.terminator text) new.states end)) (at (length old.states) i) refl (ap (sifted ok i) (automaton-accepted (forwards r.terminator text) new.states end (length old.states) i stands.inside le ∙ ap state_accepts stands.is))
         ∙ (λ j. option_map (with_write (written j) i) (first_some (found m (and_at (at (length old.states) i) nowhere)) (successors le j)))
         ∙ unwritten (first_some (found m (and_at (at (length old.states) i) nowhere)) (map (λ s. at s i) starts))
         ∙ all-found (and_at (at (length old.states) i) nowhere) i
@@ -172,10 +172,10 @@ module _ (ok : Sieve) (r : Patterns) (text : List ℕ) (end : ℕ) (inside : end
         elsewhere u (inr le) same = let l = longer in omega arith
 
         written : m.written (at (length old.states) i) ≡ None
-        written = automaton-written r.terminator new.states text end (length old.states) i ∙ ap state_writes stands.is
+        written = automaton-written (forwards r.terminator text) new.states end (length old.states) i ∙ ap state_writes stands.is
 
         successors : i ≤ end → m.successors (at (length old.states) i) ≡ map (λ s. at s i) starts
-        successors le = automaton-successors r.terminator new.states text end (length old.states) i stands.inside le ∙ ap (λ x. state_step r.terminator text end x i) stands.is
+        successors le = automaton-successors (forwards r.terminator text) new.states end (length old.states) i stands.inside le ∙ ap (λ x. state_step (forwards r.terminator text) end x i) stands.is
 
         unwritten : (o : Option Trace) → option_map (with_write None i) o ≡ o
         unwritten None = refl
@@ -259,5 +259,9 @@ HasRuns-first nfa r runs = record {
       ∙ ap (option_map (told r.which_captures)) (first_of_patterns-everywhere r text end 0 r.expressions i));
 }
 
-pub StartsAll-slots : (old new : Draft) (starts : List ℕ) (q : ℕ) → StartsAll old new starts q → new.slots ≡ old.slots
-StartsAll-slots old new starts q all = ⊎_elim (λ h. ap (λ (d : Draft). d.slots) h.1) (λ h. ap (λ (d : Draft). d.slots) h.1) all
+pub StartsAll-kept : (old new : Draft) (starts : List ℕ) (q : ℕ) → StartsAll old new starts q → (new.groups ≡ old.groups) × (new.slots ≡ old.slots)
+StartsAll-kept old new starts q all =
+    ⊎_elim
+    (λ h. (ap (λ (d : Draft). d.groups) h.1, ap (λ (d : Draft). d.slots) h.1))
+    (λ h. (ap (λ (d : Draft). d.groups) h.1, ap (λ (d : Draft). d.slots) h.1))
+    all

@@ -13,7 +13,7 @@ use Rattle.rx_model.proofs.FoundLemmas.{found-step, found-forget}
 use Rattle.rx_model.proofs.CharLemmas.{member_len-some, member_len-none, byte_len-within, byte_len-past}
 use Rattle.std.specs.Char.{InScalarRange, len_utf8}
 use Rattle.rx_nfa.specs.Ranges.{size_of_block, clip, StaysBelow}
-use Rattle.rx_nfa.specs.Automaton.{at, route, go_on}
+use Rattle.rx_nfa.specs.Automaton.{at, route, go_on, byte_of}
 use Rattle.rx_nfa.specs.Trie.{IsBlock, IsClass, IsByteClass}
 use Rattle.rx_nfa.specs.Reading.{ReadsByte, IsClean, found_after, ReadsClass}
 use Rattle.rx_nfa.specs.declared.state.Transition.{Transition}
@@ -25,11 +25,11 @@ pub some_or_none : {P : Type 0} (o : Option ℕ) → (o ≡ None → P) → ((x 
 some_or_none None none some = none refl
 some_or_none (Some x) none some = some x refl
 
-module _ (text : List ℕ) (end : ℕ) where
+module _ (byte : ℕ → ℕ) (end : ℕ) where
   -- the six bits of a continuation byte at i
   continuation : ℕ → Option ℕ
   continuation i =
-      let b = slice_index text i in
+      let b = byte i in
       if nat_lt i end && nat_le 0x80 b && nat_lt b 0xC0 then Some (b - 0x80) else None
 
   -- the number that `depth` continuation bytes at i pick
@@ -37,42 +37,42 @@ module _ (text : List ℕ) (end : ℕ) where
   picked zero start i = Some start
   picked (suc depth) start i = option_and_then (λ bits. picked depth (start + bits * size_of_block depth) (i + 1)) (continuation i)
 
-  continuation-is : (i : ℕ) → i < end → 0x80 ≤ slice_index text i → slice_index text i < 0xC0 → continuation i ≡ Some (slice_index text i - 0x80)
+  continuation-is : (i : ℕ) → i < end → 0x80 ≤ byte i → byte i < 0xC0 → continuation i ≡ Some (byte i - 0x80)
   unfolding continuation
   continuation-is i lt low high =
-      let x : (nat_lt i end && nat_le 0x80 (slice_index text i) && nat_lt (slice_index text i) 0xC0) ≡ true = grind (arith, nat_tests) in
+      let x : (nat_lt i end && nat_le 0x80 (byte i) && nat_lt (byte i) 0xC0) ≡ true = grind (arith, nat_tests) in
       rw x refl
 
-  continuation-none : (i : ℕ) → (end ≤ i) ⊎ ((slice_index text i < 0x80) ⊎ (0xC0 ≤ slice_index text i)) → continuation i ≡ None
+  continuation-none : (i : ℕ) → (end ≤ i) ⊎ ((byte i < 0x80) ⊎ (0xC0 ≤ byte i)) → continuation i ≡ None
   unfolding continuation
   continuation-none i out =
-      let x : (nat_lt i end && nat_le 0x80 (slice_index text i) && nat_lt (slice_index text i) 0xC0) ≡ false = fails out in
+      let x : (nat_lt i end && nat_le 0x80 (byte i) && nat_lt (byte i) 0xC0) ≡ false = fails out in
       rw x refl
     where
-      fails : (end ≤ i) ⊎ ((slice_index text i < 0x80) ⊎ (0xC0 ≤ slice_index text i)) → (nat_lt i end && nat_le 0x80 (slice_index text i) && nat_lt (slice_index text i) 0xC0) ≡ false
+      fails : (end ≤ i) ⊎ ((byte i < 0x80) ⊎ (0xC0 ≤ byte i)) → (nat_lt i end && nat_le 0x80 (byte i) && nat_lt (byte i) 0xC0) ≡ false
       fails (inl h) = grind (arith, nat_tests)
       fails (inr (inl h)) = grind (arith, nat_tests)
       fails (inr (inr h)) = grind (arith, nat_tests)
 
   -- a continuation byte stands at i, or none
-  continuation_cases : {P : Type 0} (i : ℕ) → (i < end → 0x80 ≤ slice_index text i → slice_index text i < 0xC0 → P)
-      → ((end ≤ i) ⊎ ((slice_index text i < 0x80) ⊎ (0xC0 ≤ slice_index text i)) → P) → P
+  continuation_cases : {P : Type 0} (i : ℕ) → (i < end → 0x80 ≤ byte i → byte i < 0xC0 → P)
+      → ((end ≤ i) ⊎ ((byte i < 0x80) ⊎ (0xC0 ≤ byte i)) → P) → P
   continuation_cases i is isnt =
       by_test (nat_lt i end)
-      (λ a. by_test (nat_le 0x80 (slice_index text i))
-      (λ b. by_test (nat_lt (slice_index text i) 0xC0)
+      (λ a. by_test (nat_le 0x80 (byte i))
+      (λ b. by_test (nat_lt (byte i) 0xC0)
       (λ c. is (grind (arith, nat_tests)) (grind (arith, nat_tests)) (grind (arith, nat_tests)))
       (λ c. isnt (inr (inr (grind (arith, nat_tests))))))
       (λ b. isnt (inr (inl (grind (arith, nat_tests))))))
       (λ a. isnt (inl (grind (arith, nat_tests))))
 
   -- one byte more
-  picked-step : (depth start i : ℕ) → i < end → 0x80 ≤ slice_index text i → slice_index text i < 0xC0
-      → picked (suc depth) start i ≡ picked depth (start + (slice_index text i - 0x80) * size_of_block depth) (i + 1)
+  picked-step : (depth start i : ℕ) → i < end → 0x80 ≤ byte i → byte i < 0xC0
+      → picked (suc depth) start i ≡ picked depth (start + (byte i - 0x80) * size_of_block depth) (i + 1)
   unfolding picked
   picked-step depth start i lt low high = rw (continuation-is i lt low high) refl
 
-  picked-none : (depth start i : ℕ) → (end ≤ i) ⊎ ((slice_index text i < 0x80) ⊎ (0xC0 ≤ slice_index text i)) → picked (suc depth) start i ≡ None
+  picked-none : (depth start i : ℕ) → (end ≤ i) ⊎ ((byte i < 0x80) ⊎ (0xC0 ≤ byte i)) → picked (suc depth) start i ≡ None
   unfolding picked
   picked-none depth start i out = rw (continuation-none i out) refl
 
@@ -82,7 +82,7 @@ module _ (text : List ℕ) (end : ℕ) where
 
   -- what was picked comes from a continuation byte
   picked-parts : (depth start i c : ℕ) → picked (suc depth) start i ≡ Some c
-      → (i < end) × (0x80 ≤ slice_index text i) × (slice_index text i < 0xC0) × (picked depth (start + (slice_index text i - 0x80) * size_of_block depth) (i + 1) ≡ Some c)
+      → (i < end) × (0x80 ≤ byte i) × (byte i < 0xC0) × (picked depth (start + (byte i - 0x80) * size_of_block depth) (i + 1) ≡ Some c)
   picked-parts depth start i c e =
       continuation_cases i
       (λ lt low high. (lt, low, high, sym (picked-step depth start i lt low high) ∙ e))
@@ -95,10 +95,10 @@ module _ (text : List ℕ) (end : ℕ) where
       let parts = picked-parts depth start i c e in
       let low = parts.1 in
       let high = parts.2 in
-      let later = picked-within depth (start + (slice_index text i - 0x80) * size_of_block depth) (i + 1) c parts.3 in
+      let later = picked-within depth (start + (byte i - 0x80) * size_of_block depth) (i + 1) c parts.3 in
       let a = later.0 in
       let b = later.1 in
-      let most = mul-le-mul_right (size_of_block depth) (let m : slice_index text i - 0x80 ≤ 63 = omega arith in m) in
+      let most = mul-le-mul_right (size_of_block depth) (let m : byte i - 0x80 ≤ 63 = omega arith in m) in
       (omega arith, omega arith)
 
   module _ (m : PriorityGraph) (bounded : IsBounded m) (rises : NeverFalls m) (next : ℕ) where
@@ -119,14 +119,14 @@ module _ (text : List ℕ) (end : ℕ) where
         (λ e. rw e refl)
 
     -- a state that reads a byte
-    reader-found : (p : Passed) (q i : ℕ) (ts : List Transition) → ReadsByte m text end q ts → p (at q i) ≡ false
-        → found m p (at q i) ≡ (if nat_lt i end then found_target p (route ts (slice_index text i)) (i + 1) else None)
+    reader-found : (p : Passed) (q i : ℕ) (ts : List Transition) → ReadsByte m byte end q ts → p (at q i) ≡ false
+        → found m p (at q i) ≡ (if nat_lt i end then found_target p (route ts (byte i)) (i + 1) else None)
     unfolding found_target
     reader-found p q i ts r new =
         found-step m p bounded (at q i) new (r.accepted i)
         ∙ (λ j. option_map (with_write (r.written i j) i) (first_some (found m (and_at (at q i) p)) (r.successors i j)))
         ∙ by_test (nat_lt i end)
-        (λ e. rw e (targets (route ts (slice_index text i))))
+        (λ e. rw e (targets (route ts (byte i))))
         (λ e. rw e refl)
       where
         targets : (o : Option ℕ) → option_map (with_write None i) (first_some (found m (and_at (at q i) p)) (go_on o (i + 1))) ≡ found_target p o (i + 1)
@@ -146,7 +146,7 @@ module _ (text : List ℕ) (end : ℕ) where
         (λ c e. let within = picked-within depth start i c e in let fails = none c within.0 within.1 in rw (e, fails) refl)
 
     -- a block finds what is found from `next` after the number that the bytes pick, if that is a member
-    block-found : (p : Passed) (member : ℕ → Bool) (depth start i : ℕ) (target : Option ℕ) → IsBlock (ReadsByte m text end) next member depth start target → IsClean p i
+    block-found : (p : Passed) (member : ℕ → Bool) (depth start i : ℕ) (target : Option ℕ) → IsBlock (ReadsByte m byte end) next member depth start target → IsClean p i
         → found_target p target i ≡ outcome p member (i + depth) (picked depth start i)
     unfolding IsBlock found_target outcome size_of_block
     block-found p member zero start i target block clean = ap (λ o. found_target p o i) block ∙ rw (picked-zero start i) (chosen (member start))
@@ -160,8 +160,8 @@ module _ (text : List ℕ) (end : ℕ) where
         ∙ continuation_cases i
         (λ lt low high.
         let inside : nat_lt i end ≡ true = grind (arith, nat_tests) in
-        let k = slice_index text i - 0x80 in
-        let is : 0x80 + k ≡ slice_index text i = omega arith in
+        let k = byte i - 0x80 in
+        let is : 0x80 + k ≡ byte i = omega arith in
         let place : i + 1 + depth ≡ i + suc depth = omega arith in
         rw inside (ap (λ b. found_target p (route block.0 b) (i + 1)) (sym is)
         ∙ block-found p member depth (start + k * size_of_block depth) (i + 1) (route block.0 (0x80 + k)) (block.3 k (omega arith)) (λ d le. clean d (omega arith))
@@ -169,23 +169,23 @@ module _ (text : List ℕ) (end : ℕ) where
         ∙ ap (outcome p member (i + suc depth)) (sym (picked-step depth start i lt low high))))
         (λ out. dead block.0 block.2 out ∙ ap (outcome p member (i + suc depth)) (sym (picked-none depth start i out)))
       where
-        dead : (ts : List Transition) → ((b : ℕ) → (b < 0x80) ⊎ (0xC0 ≤ b) → route ts b ≡ None) → (end ≤ i) ⊎ ((slice_index text i < 0x80) ⊎ (0xC0 ≤ slice_index text i))
-            → (if nat_lt i end then found_target p (route ts (slice_index text i)) (i + 1) else None) ≡ None
+        dead : (ts : List Transition) → ((b : ℕ) → (b < 0x80) ⊎ (0xC0 ≤ b) → route ts b ≡ None) → (end ≤ i) ⊎ ((byte i < 0x80) ⊎ (0xC0 ≤ byte i))
+            → (if nat_lt i end then found_target p (route ts (byte i)) (i + 1) else None) ≡ None
         dead ts none (inl past) = let e : nat_lt i end ≡ false = grind (arith, nat_tests) in rw e refl
-        dead ts none (inr out) = by_test (nat_lt i end) (λ e. rw e (ap (λ o. found_target p o (i + 1)) (none (slice_index text i) out))) (λ e. rw e refl)
+        dead ts none (inr out) = by_test (nat_lt i end) (λ e. rw e (ap (λ o. found_target p o (i + 1)) (none (byte i) out))) (λ e. rw e refl)
 
   -- as above, with the places as they come
-  step-to : (depth start i j next c : ℕ) → j ≡ i + 1 → i < end → 0x80 ≤ slice_index text i → slice_index text i < 0xC0
-      → next ≡ start + (slice_index text i - 0x80) * size_of_block depth → picked depth next j ≡ Some c → picked (suc depth) start i ≡ Some c
+  step-to : (depth start i j next c : ℕ) → j ≡ i + 1 → i < end → 0x80 ≤ byte i → byte i < 0xC0
+      → next ≡ start + (byte i - 0x80) * size_of_block depth → picked depth next j ≡ Some c → picked (suc depth) start i ≡ Some c
   step-to depth start i j next c place lt low high value later =
       picked-step depth start i lt low high
       ∙ ap (λ s. picked depth s (i + 1)) (sym value) ∙ ap (λ n. picked depth next n) (sym place) ∙ later
 
   parts-to : (depth start i j c : ℕ) → j ≡ i + 1 → picked (suc depth) start i ≡ Some c
-      → (i < end) × (0x80 ≤ slice_index text i) × (slice_index text i < 0xC0) × (picked depth (start + (slice_index text i - 0x80) * size_of_block depth) j ≡ Some c)
+      → (i < end) × (0x80 ≤ byte i) × (byte i < 0xC0) × (picked depth (start + (byte i - 0x80) * size_of_block depth) j ≡ Some c)
   parts-to depth start i j c place e =
       let parts = picked-parts depth start i c e in
-      (parts.0, parts.1, parts.2, ap (λ n. picked depth (start + (slice_index text i - 0x80) * size_of_block depth) n) place ∙ parts.3)
+      (parts.0, parts.1, parts.2, ap (λ n. picked depth (start + (byte i - 0x80) * size_of_block depth) n) place ∙ parts.3)
 
   zero-to : (start i c : ℕ) → start ≡ c → picked 0 start i ≡ Some c
   zero-to start i c e = picked-zero start i ∙ ap Some e
@@ -212,7 +212,7 @@ module _ (text : List ℕ) (end : ℕ) (inside : end ≤ length text) (m : Prior
   same_outcome : (p : Passed) (i place : ℕ) (member : ℕ → Bool) (pick : Option ℕ)
       → ((c : ℕ) → char_at text i ≡ Some c → i + len_utf8 c ≤ end → (pick ≡ Some c) × (member c ≡ is_member rs c) × (place ≡ i + len_utf8 c))
       → ((c : ℕ) → pick ≡ Some c → member c ≡ true → (char_at text i ≡ Some c) × (i + len_utf8 c ≤ end))
-      → outcome text end m bounded rises next p member place pick ≡ found_after m p end next i (member_len text (scalar_ranges rs) i)
+      → outcome (byte_of text) end m bounded rises next p member place pick ≡ found_after m p end next i (member_len text (scalar_ranges rs) i)
   unfolding outcome
   same_outcome p i place member pick complete sound =
       some_or_none (char_at text i)
@@ -220,7 +220,7 @@ module _ (text : List ℕ) (end : ℕ) (inside : end ≤ length text) (m : Prior
       (λ c some. ap (λ o. o) (by_test (nat_le (i + len_utf8 c) end)
       (λ fits.
       let h = complete c some (grind (arith, nat_tests)) in
-      ap (outcome text end m bounded rises next p member place) h.0
+      ap (outcome (byte_of text) end m bounded rises next p member place) h.0
       ∙ (λ j. if h.1 j then found m p (at next (h.2 j)) else None)
       ∙ sym (ap (found_after m p end next i) (member_len-some text rs i c some) ∙ lands c fits (is_member rs c)))
       (λ short.
@@ -233,7 +233,7 @@ module _ (text : List ℕ) (end : ℕ) (inside : end ≤ length text) (m : Prior
       omega arith)
       ∙ sym (ap (found_after m p end next i) (member_len-some text rs i c some) ∙ misses c short (is_member rs c)))))
     where
-      dead : ((c : ℕ) → pick ≡ Some c → member c ≡ true → ⊥) → outcome text end m bounded rises next p member place pick ≡ None
+      dead : ((c : ℕ) → pick ≡ Some c → member c ≡ true → ⊥) → outcome (byte_of text) end m bounded rises next p member place pick ≡ None
       dead none =
           some_or_none pick
           (λ e. rw e refl)
@@ -266,32 +266,32 @@ module _ (text : List ℕ) (end : ℕ) (inside : end ≤ length text) (m : Prior
         (char_at_cases text i c found_c).1
 
   Outcome : Passed → ℕ → ℕ → (ℕ → Bool) → Option ℕ → Type 0
-  Outcome p i place member pick = outcome text end m bounded rises next p member place pick ≡ found_after m p end next i (member_len text (scalar_ranges rs) i)
+  Outcome p i place member pick = outcome (byte_of text) end m bounded rises next p member place pick ≡ found_after m p end next i (member_len text (scalar_ranges rs) i)
 
   module _ (p : Passed) (i k : ℕ) (lt : i < end) where
-    after_one : k < 0x80 → slice_index text i ≡ 0 + k → Outcome p i (i + 1 + 0) (is_member (clip 0 0x7F rs)) (picked text end 0 (0 + k * size_of_block 0) (i + 1))
+    after_one : k < 0x80 → slice_index text i ≡ 0 + k → Outcome p i (i + 1 + 0) (is_member (clip 0 0x7F rs)) (picked (byte_of text) end 0 (0 + k * size_of_block 0) (i + 1))
     unfolding Outcome size_of_block
     after_one small lead =
         same_outcome p i (i + 1 + 0) (is_member (clip 0 0x7F rs)) _
         (λ c found_c fits. let h = one_byte i c found_c (omega arith) in
         let a = h.0 in let b = h.2 in
         let n = len_is c 1 (inl (h.0, refl)) in
-        (zero-to text end _ (i + 1) c (omega arith), clip-same 0 0x7F rs c (omega arith) (omega arith) (omega arith), omega arith))
+        (zero-to (byte_of text) end _ (i + 1) c (omega arith), clip-same 0 0x7F rs c (omega arith) (omega arith) (omega arith), omega arith))
         (λ c chosen passes.
         let range = clip-bounds 0 0x7F rs c (omega arith) passes in
         let top = range.1 in
-        let value = zero-from text end _ (i + 1) c chosen in
+        let value = zero-from (byte_of text) end _ (i + 1) c chosen in
         let n = len_is c 1 (inl (omega arith, refl)) in
         (char_at_one text i c (omega arith, omega arith, omega arith), omega arith))
 
-    after_two : k < 30 → slice_index text i ≡ 0xC2 + k → Outcome p i (i + 1 + 1) (is_member (clip 0x80 0x7FF rs)) (picked text end 1 (0x80 + k * size_of_block 1) (i + 1))
+    after_two : k < 30 → slice_index text i ≡ 0xC2 + k → Outcome p i (i + 1 + 1) (is_member (clip 0x80 0x7FF rs)) (picked (byte_of text) end 1 (0x80 + k * size_of_block 1) (i + 1))
     unfolding Outcome size_of_block
     after_two small lead =
         same_outcome p i (i + 1 + 1) (is_member (clip 0x80 0x7FF rs)) _
         (λ c found_c fits. let h = two_bytes i c found_c (omega arith) (omega arith) in
         let low = h.0 in let high = h.1 in let first = h.3 in let second = h.4 in
         let n = len_is c 2 (inr (inl (h.0, h.1, refl))) in (
-          step-to text end 0 _ (i + 1) (i + 2) c c (omega arith) (omega arith) (omega arith) (omega arith) (omega arith) (zero-to text end c (i + 2) c refl),
+          step-to (byte_of text) end 0 _ (i + 1) (i + 2) c c (omega arith) (omega arith) (omega arith) (omega arith) (omega arith) (zero-to (byte_of text) end c (i + 2) c refl),
           clip-same 0x80 0x7FF rs c (omega arith) (omega arith) (omega arith),
           omega arith,
         ))
@@ -299,15 +299,15 @@ module _ (text : List ℕ) (end : ℕ) (inside : end ≤ length text) (m : Prior
         let range = clip-bounds 0x80 0x7FF rs c (omega arith) passes in
         let bottom = range.0 in
         let top = range.1 in
-        let x = parts-to text end 0 _ (i + 1) (i + 2) c (omega arith) chosen in
+        let x = parts-to (byte_of text) end 0 _ (i + 1) (i + 2) c (omega arith) chosen in
         let x0 = x.0 in let x1 = x.1 in let x2 = x.2 in
-        let value = zero-from text end _ (i + 2) c x.3 in
+        let value = zero-from (byte_of text) end _ (i + 2) c x.3 in
         let n = len_is c 2 (inr (inl (omega arith, omega arith, refl))) in
         (char_at_two text i c (omega arith, omega arith, omega arith, omega arith, omega arith), omega arith))
 
     three : (first start low high : ℕ) → low ≤ high → 0x800 ≤ low → high < 0x1_0000 → 0xE0 ≤ first → (high < 0xD800) ⊎ (0xE000 ≤ low) → start ≡ (first - 0xE0) * 4096 → slice_index text i ≡ first + k → slice_index text i < 0xF0
         → ((c : ℕ) → InScalarRange c → 0x800 ≤ c → c < 0x1_0000 → slice_index text i ≡ 224 + c / 4096 → (low ≤ c) × (c ≤ high))
-        → Outcome p i (i + 1 + 2) (is_member (clip low high rs)) (picked text end 2 (start + k * size_of_block 2) (i + 1))
+        → Outcome p i (i + 1 + 2) (is_member (clip low high rs)) (picked (byte_of text) end 2 (start + k * size_of_block 2) (i + 1))
     unfolding Outcome size_of_block
     three first start low high ordered least most above scalars base_is lead below in_band =
         same_outcome p i (i + 1 + 2) (is_member (clip low high rs)) _
@@ -315,8 +315,8 @@ module _ (text : List ℕ) (end : ℕ) (inside : end ≤ length text) (m : Prior
         let a = h.0 in let b = h.1 in let b0 = h.3 in let b1 = h.4 in let b2 = h.5 in
         let n = len_is c 3 (inr (inr (inl (h.0, h.1, refl)))) in
         let band = in_band c (char_at_cases text i c found_c).0 h.0 h.1 h.3 in (
-          step-to text end 1 _ (i + 1) (i + 2) (c / 64 * 64) c (omega arith) (omega arith) (omega arith) (omega arith) (omega arith)
-              (step-to text end 0 _ (i + 2) (i + 3) c c (omega arith) (omega arith) (omega arith) (omega arith) (omega arith) (zero-to text end c (i + 3) c refl)),
+          step-to (byte_of text) end 1 _ (i + 1) (i + 2) (c / 64 * 64) c (omega arith) (omega arith) (omega arith) (omega arith) (omega arith)
+              (step-to (byte_of text) end 0 _ (i + 2) (i + 3) c c (omega arith) (omega arith) (omega arith) (omega arith) (omega arith) (zero-to (byte_of text) end c (i + 3) c refl)),
           clip-same low high rs c ordered band.0 band.1,
           omega arith,
         ))
@@ -324,11 +324,11 @@ module _ (text : List ℕ) (end : ℕ) (inside : end ≤ length text) (m : Prior
         let range = clip-bounds low high rs c ordered passes in
         let bottom = range.0 in
         let top = range.1 in
-        let x = parts-to text end 1 _ (i + 1) (i + 2) c (omega arith) chosen in
+        let x = parts-to (byte_of text) end 1 _ (i + 1) (i + 2) c (omega arith) chosen in
         let x0 = x.0 in let x1 = x.1 in let x2 = x.2 in
-        let y = parts-to text end 0 _ (i + 2) (i + 3) c (omega arith) x.3 in
+        let y = parts-to (byte_of text) end 0 _ (i + 2) (i + 3) c (omega arith) x.3 in
         let y0 = y.0 in let y1 = y.1 in let y2 = y.2 in
-        let value = zero-from text end _ (i + 3) c y.3 in
+        let value = zero-from (byte_of text) end _ (i + 3) c y.3 in
         let n = len_is c 3 (inr (inr (inl (omega arith, omega arith, refl)))) in
         let scalar : InScalarRange c = scalar_is c range.0 range.1 scalars in
         (char_at_three text i c scalar (omega arith, omega arith, omega arith, omega arith, omega arith, omega arith), omega arith))
@@ -337,7 +337,7 @@ module _ (text : List ℕ) (end : ℕ) (inside : end ≤ length text) (m : Prior
         scalar_is c bottom top (inl x) = inl (omega arith)
         scalar_is c bottom top (inr x) = inr (omega arith, omega arith)
 
-    after_four : k < 5 → slice_index text i ≡ 0xF0 + k → Outcome p i (i + 1 + 3) (is_member (clip 0x1_0000 0x10_FFFF rs)) (picked text end 3 (0 + k * size_of_block 3) (i + 1))
+    after_four : k < 5 → slice_index text i ≡ 0xF0 + k → Outcome p i (i + 1 + 3) (is_member (clip 0x1_0000 0x10_FFFF rs)) (picked (byte_of text) end 3 (0 + k * size_of_block 3) (i + 1))
     unfolding Outcome size_of_block
     after_four small lead =
         same_outcome p i (i + 1 + 3) (is_member (clip 0x1_0000 0x10_FFFF rs)) _
@@ -345,9 +345,9 @@ module _ (text : List ℕ) (end : ℕ) (inside : end ≤ length text) (m : Prior
         let a = h.0 in let b0 = h.2 in let b1 = h.3 in let b2 = h.4 in let b3 = h.5 in
         let n = len_is c 4 (inr (inr (inr (h.0, refl)))) in
         let top : c ≤ 0x10_FFFF = top_of c (char_at_cases text i c found_c).0 in (
-          step-to text end 2 _ (i + 1) (i + 2) (c / 4096 * 4096) c (omega arith) (omega arith) (omega arith) (omega arith) (omega arith)
-              (step-to text end 1 _ (i + 2) (i + 3) (c / 64 * 64) c (omega arith) (omega arith) (omega arith) (omega arith) (omega arith)
-              (step-to text end 0 _ (i + 3) (i + 4) c c (omega arith) (omega arith) (omega arith) (omega arith) (omega arith) (zero-to text end c (i + 4) c refl))),
+          step-to (byte_of text) end 2 _ (i + 1) (i + 2) (c / 4096 * 4096) c (omega arith) (omega arith) (omega arith) (omega arith) (omega arith)
+              (step-to (byte_of text) end 1 _ (i + 2) (i + 3) (c / 64 * 64) c (omega arith) (omega arith) (omega arith) (omega arith) (omega arith)
+              (step-to (byte_of text) end 0 _ (i + 3) (i + 4) c c (omega arith) (omega arith) (omega arith) (omega arith) (omega arith) (zero-to (byte_of text) end c (i + 4) c refl))),
           clip-same 0x1_0000 0x10_FFFF rs c (omega arith) (omega arith) (omega arith),
           omega arith,
         ))
@@ -355,13 +355,13 @@ module _ (text : List ℕ) (end : ℕ) (inside : end ≤ length text) (m : Prior
         let range = clip-bounds 0x1_0000 0x10_FFFF rs c (omega arith) passes in
         let bottom = range.0 in
         let top = range.1 in
-        let x = parts-to text end 2 _ (i + 1) (i + 2) c (omega arith) chosen in
+        let x = parts-to (byte_of text) end 2 _ (i + 1) (i + 2) c (omega arith) chosen in
         let x0 = x.0 in let x1 = x.1 in let x2 = x.2 in
-        let y = parts-to text end 1 _ (i + 2) (i + 3) c (omega arith) x.3 in
+        let y = parts-to (byte_of text) end 1 _ (i + 2) (i + 3) c (omega arith) x.3 in
         let y0 = y.0 in let y1 = y.1 in let y2 = y.2 in
-        let z = parts-to text end 0 _ (i + 3) (i + 4) c (omega arith) y.3 in
+        let z = parts-to (byte_of text) end 0 _ (i + 3) (i + 4) c (omega arith) y.3 in
         let z0 = z.0 in let z1 = z.1 in let z2 = z.2 in
-        let value = zero-from text end _ (i + 4) c z.3 in
+        let value = zero-from (byte_of text) end _ (i + 4) c z.3 in
         let n = len_is c 4 (inr (inr (inr (omega arith, refl)))) in
         (char_at_four text i c range.1 (omega arith, omega arith, omega arith, omega arith, omega arith, omega arith), omega arith))
       where
@@ -369,7 +369,7 @@ module _ (text : List ℕ) (end : ℕ) (inside : end ≤ length text) (m : Prior
         top_of c (inl x) = omega arith
         top_of c (inr x) = omega (arith, x.1)
 
-    after_three : k < 14 → slice_index text i ≡ 0xE0 + k → Outcome p i (i + 1 + 2) (is_member (clip 0x800 0xD7FF rs)) (picked text end 2 (0 + k * size_of_block 2) (i + 1))
+    after_three : k < 14 → slice_index text i ≡ 0xE0 + k → Outcome p i (i + 1 + 2) (is_member (clip 0x800 0xD7FF rs)) (picked (byte_of text) end 2 (0 + k * size_of_block 2) (i + 1))
     after_three small lead =
         three 0xE0 0 0x800 0xD7FF (omega arith) (omega arith) (omega arith) (omega arith) (inl (omega arith)) refl lead (omega arith)
         (λ c scalar low high first. (low, below_surrogates c scalar (omega arith)))
@@ -378,7 +378,7 @@ module _ (text : List ℕ) (end : ℕ) (inside : end ≤ length text) (m : Prior
         below_surrogates c (inl x) lt' = omega arith
         below_surrogates c (inr x) lt' = absurd (omega (arith, x.0))
 
-    after_three_high : k < 2 → slice_index text i ≡ 0xEE + k → Outcome p i (i + 1 + 2) (is_member (clip 0xE000 0xFFFF rs)) (picked text end 2 (0xE000 + k * size_of_block 2) (i + 1))
+    after_three_high : k < 2 → slice_index text i ≡ 0xEE + k → Outcome p i (i + 1 + 2) (is_member (clip 0xE000 0xFFFF rs)) (picked (byte_of text) end 2 (0xE000 + k * size_of_block 2) (i + 1))
     after_three_high small lead =
         three 0xEE 0xE000 0xE000 0xFFFF (omega arith) (omega arith) (omega arith) (omega arith) (inr (omega arith)) refl lead (omega arith)
         (λ c scalar low high first. (omega arith, omega arith))
@@ -425,38 +425,38 @@ module _ (text : List ℕ) (end : ℕ) (inside : end ≤ length text) (m : Prior
       (cases_lt b 0x80)
 
   -- the block of a class reads the class
-  pub class-found : (q : ℕ) → IsClass (ReadsByte m text end) next rs q → ReadsClass m text end next q (scalar_ranges rs)
+  pub class-found : (q : ℕ) → IsClass (ReadsByte m (byte_of text) end) next rs q → ReadsClass m text end next q (scalar_ranges rs)
   unfolding found_target Outcome
   class-found q k p i new clean =
-      reader-found text end m bounded rises next p q i k.row k.reads new
+      reader-found (byte_of text) end m bounded rises next p q i k.row k.reads new
       ∙ by_test (nat_lt i end)
       (λ e. let lt : i < end = grind (arith, nat_tests) in rw e (by_lead lt))
       (λ e. let past : end ≤ i = grind (arith, nat_tests) in rw e (after_end p i past))
     where
-      by_lead : i < end → found_target text end m bounded rises next p (route k.row (slice_index text i)) (i + 1) ≡ found_after m p end next i (member_len text (scalar_ranges rs) i)
+      by_lead : i < end → found_target (byte_of text) end m bounded rises next p (route k.row (slice_index text i)) (i + 1) ≡ found_after m p end next i (member_len text (scalar_ranges rs) i)
       by_lead lt =
           lead_cases (slice_index text i)
           (λ small. let is : slice_index text i ≡ 0 + slice_index text i = omega arith in
-          ap (λ b. found_target text end m bounded rises next p (route k.row b) (i + 1)) is
-          ∙ block-found text end m bounded rises next p (is_member (clip 0 0x7F rs)) 0 _ (i + 1) _ (k.of_one (slice_index text i) small) clean
+          ap (λ b. found_target (byte_of text) end m bounded rises next p (route k.row b) (i + 1)) is
+          ∙ block-found (byte_of text) end m bounded rises next p (is_member (clip 0 0x7F rs)) 0 _ (i + 1) _ (k.of_one (slice_index text i) small) clean
           ∙ after_one p i (slice_index text i) lt small is)
           (λ n small is.
-          ap (λ b. found_target text end m bounded rises next p (route k.row b) (i + 1)) is
-          ∙ block-found text end m bounded rises next p (is_member (clip 0x80 0x7FF rs)) 1 _ (i + 1) _ (k.of_two n small) clean
+          ap (λ b. found_target (byte_of text) end m bounded rises next p (route k.row b) (i + 1)) is
+          ∙ block-found (byte_of text) end m bounded rises next p (is_member (clip 0x80 0x7FF rs)) 1 _ (i + 1) _ (k.of_two n small) clean
           ∙ after_two p i n lt small is)
           (λ n small is.
-          ap (λ b. found_target text end m bounded rises next p (route k.row b) (i + 1)) is
-          ∙ block-found text end m bounded rises next p (is_member (clip 0x800 0xD7FF rs)) 2 _ (i + 1) _ (k.of_three n small) clean
+          ap (λ b. found_target (byte_of text) end m bounded rises next p (route k.row b) (i + 1)) is
+          ∙ block-found (byte_of text) end m bounded rises next p (is_member (clip 0x800 0xD7FF rs)) 2 _ (i + 1) _ (k.of_three n small) clean
           ∙ after_three p i n lt small is)
           (λ n small is.
-          ap (λ b. found_target text end m bounded rises next p (route k.row b) (i + 1)) is
-          ∙ block-found text end m bounded rises next p (is_member (clip 0xE000 0xFFFF rs)) 2 _ (i + 1) _ (k.of_three_high n small) clean
+          ap (λ b. found_target (byte_of text) end m bounded rises next p (route k.row b) (i + 1)) is
+          ∙ block-found (byte_of text) end m bounded rises next p (is_member (clip 0xE000 0xFFFF rs)) 2 _ (i + 1) _ (k.of_three_high n small) clean
           ∙ after_three_high p i n lt small is)
           (λ n small is.
-          ap (λ b. found_target text end m bounded rises next p (route k.row b) (i + 1)) is
-          ∙ block-found text end m bounded rises next p (is_member (clip 0x1_0000 0x10_FFFF rs)) 3 _ (i + 1) _ (k.of_four n small) clean
+          ap (λ b. found_target (byte_of text) end m bounded rises next p (route k.row b) (i + 1)) is
+          ∙ block-found (byte_of text) end m bounded rises next p (is_member (clip 0x1_0000 0x10_FFFF rs)) 3 _ (i + 1) _ (k.of_four n small) clean
           ∙ after_four p i n lt small is)
-          (λ out. ap (λ o. found_target text end m bounded rises next p o (i + 1)) (k.of_none (slice_index text i) out) ∙ after_none p i (slice_index text i) lt out)
+          (λ out. ap (λ o. found_target (byte_of text) end m bounded rises next p o (i + 1)) (k.of_none (slice_index text i) out) ∙ after_none p i (slice_index text i) lt out)
 
 member-above : (rs : List (ℕ × ℕ)) (n c : ℕ) → StaysBelow n rs → n < c → is_member rs c ≡ false
 member-above [] n c h lt = refl
@@ -467,14 +467,14 @@ member-above (r ∷ rs) n c h lt =
 
 -- the state of a class of bytes reads the class
 pub byte_class-found : (text : List ℕ) (end : ℕ) → end ≤ length text → (m : PriorityGraph) → IsBounded m → NeverFalls m → (next : ℕ) (rs : List (ℕ × ℕ)) → StaysBelow 255 rs
-    → (q : ℕ) → IsByteClass (ReadsByte m text end) next rs q → ReadsClass m text end next q (byte_ranges rs)
+    → (q : ℕ) → IsByteClass (ReadsByte m (byte_of text) end) next rs q → ReadsClass m text end next q (byte_ranges rs)
 unfolding found_target
 byte_class-found text end inside m bounded rises next rs below q k p i new clean =
-    reader-found text end m bounded rises next p q i k.row k.reads new
+    reader-found (byte_of text) end m bounded rises next p q i k.row k.reads new
     ∙ by_test (nat_lt i end)
     (λ e. let lt : i < length text = grind (arith, nat_tests) in
     let fits : nat_le (i + 1) end ≡ true = grind (arith, nat_tests) in
-    rw e (ap (λ o. found_target text end m bounded rises next p o (i + 1)) (routes (slice_index text i))
+    rw e (ap (λ o. found_target (byte_of text) end m bounded rises next p o (i + 1)) (routes (slice_index text i))
     ∙ lands fits (is_member rs (slice_index text i))
     ∙ ap (found_after m p end next i) (sym (byte_len-within text rs i lt))))
     (λ e. let short : nat_le (i + 1) end ≡ false = grind (arith, nat_tests) in
@@ -486,7 +486,7 @@ byte_class-found text end inside m bounded rises next rs below q k p i new clean
     routes : (b : ℕ) → route k.row b ≡ (if is_member rs b then Some next else None)
     routes b = ⊎_elim (k.each b) (λ past. k.of_none b past ∙ sym (ap (λ x. if x then Some next else None) (member-above rs 255 b below (omega arith)))) (cases_lt b 256)
 
-    lands : nat_le (i + 1) end ≡ true → (b : Bool) → found_target text end m bounded rises next p (if b then Some next else None) (i + 1) ≡ found_after m p end next i (if b then Some 1 else None)
+    lands : nat_le (i + 1) end ≡ true → (b : Bool) → found_target (byte_of text) end m bounded rises next p (if b then Some next else None) (i + 1) ≡ found_after m p end next i (if b then Some 1 else None)
     lands fits true = rw fits refl
     lands fits false = refl
 

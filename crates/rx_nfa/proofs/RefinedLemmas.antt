@@ -18,7 +18,7 @@ use Rattle.rx_nfa.specs.Ranges.{StaysBelow}
 use Rattle.rx_nfa.specs.Row.{reading, IsReader}
 use Rattle.rx_nfa.specs.Trie.{IsClass, IsByteClass}
 use Rattle.rx_nfa.specs.Reading.{ReadsByte, IsClean, found_after, ReadsClass}
-use Rattle.rx_nfa.specs.Automaton.{at, read_byte, state_step, state_accepts, state_writes, state_at, machine, automaton}
+use Rattle.rx_nfa.specs.Automaton.{at, read_byte, state_step, state_accepts, state_writes, state_at, byte_of, Surroundings, forwards, machine, automaton, automaton_over}
 use Rattle.rx_nfa.specs.declared.state.Transition.{Transition}
 use Rattle.rx_nfa.specs.declared.state.State.{State}
 use Rattle.rx_nfa.specs.declared.state.State.TheVariants.{ByteRange, Sparse, Look, Union, Capture, Fail, Match}
@@ -27,18 +27,18 @@ use Rattle.rx_nfa.proofs.RowLemmas.{same_transitions, no_transitions}
 use Rattle.rx_nfa.proofs.ClassLemmas.{IsClass-map, IsByteClass-map}
 use Rattle.rx_nfa.proofs.ReadLemmas.{class-found, byte_class-found, some_or_none}
 
-reads-step : (terminator : ℕ) (text : List ℕ) (end : ℕ) (s : State) (ts : List Transition) → reading s ≡ Some ts → (i : ℕ) → state_step terminator text end s i ≡ read_byte text end ts i
-reads-step terminator text end (ByteRange low high next) ts e i = ap (λ xs. read_byte text end xs i) (same_transitions (record { start = low; end = high; next = next } ∷ []) ts e)
-reads-step terminator text end (Sparse transitions) ts e i = ap (λ xs. read_byte text end xs i) (same_transitions transitions ts e)
-reads-step terminator text end (Look look next) ts e i = absurd (no_transitions ts e)
-reads-step terminator text end (Union alternates) ts e i = absurd (no_transitions ts e)
-reads-step terminator text end (Capture next pattern slot) ts e i = absurd (no_transitions ts e)
-reads-step terminator text end Fail ts e i = nowhere (nat_lt i end) ∙ ap (λ xs. read_byte text end xs i) (same_transitions [] ts e)
+pub reads-step : (around : Surroundings) (end : ℕ) (s : State) (ts : List Transition) → reading s ≡ Some ts → (i : ℕ) → state_step around end s i ≡ read_byte around.byte end ts i
+reads-step around end (ByteRange low high next) ts e i = ap (λ xs. read_byte around.byte end xs i) (same_transitions (record { start = low; end = high; next = next } ∷ []) ts e)
+reads-step around end (Sparse transitions) ts e i = ap (λ xs. read_byte around.byte end xs i) (same_transitions transitions ts e)
+reads-step around end (Look look next) ts e i = absurd (no_transitions ts e)
+reads-step around end (Union alternates) ts e i = absurd (no_transitions ts e)
+reads-step around end (Capture next pattern slot) ts e i = absurd (no_transitions ts e)
+reads-step around end Fail ts e i = nowhere (nat_lt i end) ∙ ap (λ xs. read_byte around.byte end xs i) (same_transitions [] ts e)
   where
     nowhere : (b : Bool) → ◌≡◌ {A = List Configuration} [] (if b then [] else [])
     nowhere true = refl
     nowhere false = refl
-reads-step terminator text end (Match pattern) ts e i = absurd (no_transitions ts e)
+reads-step around end (Match pattern) ts e i = absurd (no_transitions ts e)
 
 pub reads-accepts : (s : State) (ts : List Transition) → reading s ≡ Some ts → state_accepts s ≡ None
 reads-accepts (ByteRange low high next) ts e = refl
@@ -63,18 +63,18 @@ pub IsReader-reading : (base : ℕ) (states : List State) (q : ℕ) (ts : List T
 IsReader-reading base states q ts r = ap reading r.stands.is ∙ r.reads
 
 -- a state that reads a byte does so in the automaton, and accepts nothing
-pub IsReader-reads : (ok : Sieve) (terminator : ℕ) (states : List State) (text : List ℕ) (end base q : ℕ) (ts : List Transition) → IsReader base states q ts → ReadsByte (sieved ok (automaton terminator states text end)) text end q ts
-unfolding automaton graph_of
-IsReader-reads ok terminator states text end base q ts r =
+pub IsReader-reads : (ok : Sieve) (around : Surroundings) (states : List State) (end base q : ℕ) (ts : List Transition) → IsReader base states q ts → ReadsByte (sieved ok (automaton_over around states end)) around.byte end q ts
+unfolding automaton_over graph_of
+IsReader-reads ok around states end base q ts r =
     let reads = IsReader-reading base states q ts r in
-    let none : (i : ℕ) → (automaton terminator states text end).accepted (at q i) ≡ None =
-    λ i. by_test (is_inside (machine terminator states text end) end (at q i)) (λ e. rw e (reads-accepts (state_at states q) ts reads)) (λ e. rw e refl) in
+    let none : (i : ℕ) → (automaton_over around states end).accepted (at q i) ≡ None =
+    λ i. by_test (is_inside (machine around states end) end (at q i)) (λ e. rw e (reads-accepts (state_at states q) ts reads)) (λ e. rw e refl) in
     record {
       accepted = λ i. ap (sifted ok i) (none i);
       written = λ i. reads-writes (state_at states q) ts reads;
       successors = λ i.
-          by_test (is_inside (machine terminator states text end) end (at q i))
-          (λ e. rw e (reads-step terminator text end (state_at states q) ts reads i))
+          by_test (is_inside (machine around states end) end (at q i))
+          (λ e. rw e (reads-step around end (state_at states q) ts reads i))
           (λ e. let inside = r.stands.inside in let past : nat_lt i end ≡ false = grind (arith, nat_tests) in rw (e, past) refl);
     }
 
@@ -82,9 +82,9 @@ IsReader-reads ok terminator states text end base q ts r =
 pub IsClass-reads : (ok : Sieve) (terminator : ℕ) (states : List State) (text : List ℕ) (end base next q : ℕ) (rs : List (ℕ × ℕ)) → end ≤ length text
     → IsClass (IsReader base states) next rs q → ReadsClass (sieved ok (automaton terminator states text end)) text end next q (scalar_ranges rs)
 IsClass-reads ok terminator states text end base next q rs inside k =
-    class-found text end inside (sieved ok (automaton terminator states text end)) (sieved-bounded ok (automaton terminator states text end) (automaton-bounded terminator states text end))
-    (sieved-rises ok (automaton terminator states text end) (automaton-rises terminator states text end)) next rs q
-    (IsClass-map (IsReader base states) (ReadsByte (sieved ok (automaton terminator states text end)) text end) next (IsReader-reads ok terminator states text end base) rs q k)
+    class-found text end inside (sieved ok (automaton terminator states text end)) (sieved-bounded ok (automaton terminator states text end) (automaton-bounded (forwards terminator text) states end))
+    (sieved-rises ok (automaton terminator states text end) (automaton-rises (forwards terminator text) states end)) next rs q
+    (IsClass-map (IsReader base states) (ReadsByte (sieved ok (automaton terminator states text end)) (byte_of text) end) next (IsReader-reads ok (forwards terminator text) states end base) rs q k)
 
 -- a member takes a byte at least
 pub member_len-scalar : (text : List ℕ) (rs : List (ℕ × ℕ)) (i n : ℕ) → member_len text (scalar_ranges rs) i ≡ Some n → 0 < n
@@ -140,6 +140,6 @@ member_len-byte text rs i n e =
 pub IsByteClass-reads : (ok : Sieve) (terminator : ℕ) (states : List State) (text : List ℕ) (end base next q : ℕ) (rs : List (ℕ × ℕ)) → end ≤ length text → StaysBelow 255 rs
     → IsByteClass (IsReader base states) next rs q → ReadsClass (sieved ok (automaton terminator states text end)) text end next q (byte_ranges rs)
 IsByteClass-reads ok terminator states text end base next q rs inside below k =
-    byte_class-found text end inside (sieved ok (automaton terminator states text end)) (sieved-bounded ok (automaton terminator states text end) (automaton-bounded terminator states text end))
-    (sieved-rises ok (automaton terminator states text end) (automaton-rises terminator states text end)) next rs below q
-    (IsByteClass-map (IsReader base states) (ReadsByte (sieved ok (automaton terminator states text end)) text end) next (IsReader-reads ok terminator states text end base) rs q k)
+    byte_class-found text end inside (sieved ok (automaton terminator states text end)) (sieved-bounded ok (automaton terminator states text end) (automaton-bounded (forwards terminator text) states end))
+    (sieved-rises ok (automaton terminator states text end) (automaton-rises (forwards terminator text) states end)) next rs below q
+    (IsByteClass-map (IsReader base states) (ReadsByte (sieved ok (automaton terminator states text end)) (byte_of text) end) next (IsReader-reads ok (forwards terminator text) states end base) rs q k)

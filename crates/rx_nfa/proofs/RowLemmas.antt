@@ -7,7 +7,8 @@ use Rattle.std.proofs.lemmas.List.Elements.{All-append, All-nil, All-cons, All-h
 use Rattle.rx_model.proofs.RunLemmas.{by_test}
 use Rattle.std.proofs.lemmas.Option.{none-some, same_Some}
 use Rattle.rx_nfa.specs.Automaton.{route, state_at, NamesBelow, IsWithin}
-use Rattle.rx_nfa.specs.Row.{Ascends, transition_to, reading, HasReader, IsReader, RoutesBelow, AddsReaders}
+use Rattle.rx_nfa.specs.Row.{Ascends, HasSortedTransitions, transition_to, reading, HasReader, IsReader, RoutesBelow, AddsReaders}
+use Rattle.rx_nfa.specs.Slots.{WritesOwnSlots}
 use Rattle.rx_nfa.specs.States.{AreClosed}
 use Rattle.rx_nfa.specs.declared.state.Transition.{Transition}
 use Rattle.rx_nfa.specs.declared.state.State.{State}
@@ -140,7 +141,7 @@ AddsReaders-trans xs ys zs a b = record {
       by_test (nat_lt q (length ys))
       (λ e. let inside : q < length ys = grind (arith, nat_tests) in
       let r = a.readers q le inside in
-      (r.0, ap reading (b.kept q inside) ∙ r.1))
+      (r.0, ap reading (b.kept q inside) ∙ r.1, r.2))
       (λ e. b.readers q (grind (arith, nat_tests)) lt);
 }
 
@@ -149,14 +150,14 @@ last-is xs s =
     let z : length xs - length xs ≡ 0 = omega arith in
     get_or-append_right xs (s ∷ []) (length xs) (length xs) Fail refl (omega arith) ∙ ap (λ n. get_or (s ∷ []) n Fail) z
 
-pub AddsReaders-push : (xs : List State) (s : State) (ts : List Transition) → reading s ≡ Some ts → AddsReaders xs (xs ++ s ∷ [])
-AddsReaders-push xs s ts is = record {
+pub AddsReaders-push : (xs : List State) (s : State) (ts : List Transition) → reading s ≡ Some ts → Ascends 0 256 ts → AddsReaders xs (xs ++ s ∷ [])
+AddsReaders-push xs s ts is ascends = record {
   longer = (let l = length-append xs (s ∷ []) in omega arith);
   kept = λ q lt. get_or_append_left xs (s ∷ []) Fail q lt;
   readers = λ q le lt.
       (let l = length-append xs (s ∷ []) in
       let last : q ≡ length xs = omega arith in
-      (ts, ap (λ n. reading (state_at (xs ++ s ∷ []) n)) last ∙ ap reading (last-is xs s) ∙ is));
+      (ts, ap (λ n. reading (state_at (xs ++ s ∷ []) n)) last ∙ ap reading (last-is xs s) ∙ is, ascends));
 }
 
 pub IsReader-push : (xs : List State) (s : State) (ts : List Transition) → reading s ≡ Some ts → Ascends 0 256 ts → IsReader (length xs) (xs ++ s ∷ []) (length xs) ts
@@ -266,7 +267,7 @@ AreClosed-reader xs s ts is ascends below closed =
     closed
 
 -- a state that only reads bytes names no pattern and no slot
-reader-within : (patterns slots : ℕ) (s : State) (ts : List Transition) → reading s ≡ Some ts → IsWithin patterns slots s
+pub reader-within : (patterns slots : ℕ) (s : State) (ts : List Transition) → reading s ≡ Some ts → IsWithin patterns slots s
 reader-within patterns slots (ByteRange low high next) ts is = tt
 reader-within patterns slots (Sparse transitions) ts is = tt
 reader-within patterns slots (Look look next) ts is = tt
@@ -275,9 +276,28 @@ reader-within patterns slots (Capture next pattern slot) ts is = absurd (no_tran
 reader-within patterns slots Fail ts is = tt
 reader-within patterns slots (Match pattern) ts is = absurd (no_transitions ts is)
 
-pub AddsReaders-within : (patterns slots : ℕ) (old new : List State) → AddsReaders old new → All (IsWithin patterns slots) old → All (IsWithin patterns slots) new
-AddsReaders-within patterns slots old new g h = All-from_get_or (IsWithin patterns slots) new Fail (λ q lt.
+pub reader-own : (groups : List (List (Option (List ℕ)))) (s : State) (ts : List Transition) → reading s ≡ Some ts → WritesOwnSlots groups s
+reader-own groups (ByteRange low high next) ts is = tt
+reader-own groups (Sparse transitions) ts is = tt
+reader-own groups (Look look next) ts is = tt
+reader-own groups (Union alternates) ts is = tt
+reader-own groups (Capture next pattern slot) ts is = absurd (no_transitions ts is)
+reader-own groups Fail ts is = tt
+reader-own groups (Match pattern) ts is = tt
+
+pub reader-sorted : (s : State) (ts : List Transition) → reading s ≡ Some ts → Ascends 0 256 ts → HasSortedTransitions s
+reader-sorted (ByteRange low high next) ts is a = subst (Ascends 0 256) (sym (same_transitions (record { start = low; end = high; next = next } ∷ []) ts is)) a
+reader-sorted (Sparse transitions) ts is a = subst (Ascends 0 256) (sym (same_transitions transitions ts is)) a
+reader-sorted (Look look next) ts is a = tt
+reader-sorted (Union alternates) ts is a = tt
+reader-sorted (Capture next pattern slot) ts is a = tt
+reader-sorted Fail ts is a = tt
+reader-sorted (Match pattern) ts is a = tt
+
+-- what holds of each state that only reads bytes
+pub AddsReaders-all : (P : State → Type 0) → ((s : State) (ts : List Transition) → reading s ≡ Some ts → Ascends 0 256 ts → P s) → (old new : List State) → AddsReaders old new → All P old → All P new
+AddsReaders-all P each old new g h = All-from_get_or P new Fail (λ q lt.
     by_test (nat_lt q (length old))
     (λ e. let inside : q < length old = grind (arith, nat_tests) in
-    subst (IsWithin patterns slots) (sym (g.kept q inside)) (h q Fail inside))
-    (λ e. let r = g.readers q (grind (arith, nat_tests)) lt in reader-within patterns slots (state_at new q) r.0 r.1))
+    subst P (sym (g.kept q inside)) (h q Fail inside))
+    (λ e. let r = g.readers q (grind (arith, nat_tests)) lt in each (state_at new q) r.0 r.1 r.2))

@@ -1,5 +1,5 @@
--- The states of an NFA as a machine over the places of a text.
-use Rattle.std.specs.Prelude.{ℕ, ◌+◌, ◌<◌, Bool, false, ◌&&◌, List, [], ◌∷◌, length, map, All, ⊤, Option, Some, None, if◌then◌else◌, nat_lt, nat_le, slice_index, slice_index_or}
+-- The states of an NFA as a machine over the places of a text, which is read forwards or backwards.
+use Rattle.std.specs.Prelude.{ℕ, suc, ◌+◌, ◌-◌, ◌<◌, Bool, false, ◌&&◌, List, [], ◌∷◌, length, map, All, ⊤, Option, Some, None, if◌then◌else◌, nat_lt, nat_le, slice_index, slice_index_or}
 use Rattle.rx_model.specs.Look as model
 use Rattle.rx_model.specs.Look.{holds}
 use Rattle.rx_model.specs.Runs.{Configuration, PriorityGraph}
@@ -22,20 +22,59 @@ abbrev pub go_on : Option ℕ → ℕ → List Configuration
 go_on None place = []
 go_on (Some target) place = at target place ∷ []
 
--- by these transitions, within the first `end` bytes of the text
-abbrev pub read_byte : List ℕ → ℕ → List Transition → ℕ → List Configuration
-read_byte text end ts i = if nat_lt i end then go_on (route ts (slice_index text i)) (i + 1) else []
+-- the byte at a place of the text
+abbrev pub byte_of : List ℕ → (place : ℕ) → ℕ
+byte_of text place = slice_index text place
 
--- Where a state goes on to from place i, within the first `end` bytes of the text. A look-around holds by the whole text,
--- where the terminator ends lines.
-abbrev pub state_step : (terminator : ℕ) → List ℕ → ℕ → State → ℕ → List Configuration
-state_step terminator text end (ByteRange low high next) i = read_byte text end (record { start = low; end = high; next = next } ∷ []) i
-state_step terminator text end (Sparse transitions) i = read_byte text end transitions i
-state_step terminator text end (Look look next) i = if holds terminator text (kind_of look) i then at next i ∷ [] else []
-state_step terminator text end (Union alternates) i = map (λ q. at q i) alternates
-state_step terminator text end (Capture next pattern slot) i = at next i ∷ []
-state_step terminator text end Fail i = []
-state_step terminator text end (Match pattern) i = []
+-- What stands at a place: the byte that is read there, and whether a look-around holds there.
+pub record Surroundings : Type 0 where
+  pub byte : (place : ℕ) → ℕ
+  pub looks : (kind : model.Look) (place : ℕ) → Bool
+
+-- A place is the distance from the start of the text. A look-around holds by the whole text, where the terminator ends lines.
+abbrev pub forwards : (terminator : ℕ) → List ℕ → Surroundings
+forwards terminator text = record {
+  byte = byte_of text;
+  looks = λ kind place. holds terminator text kind place;
+}
+
+-- A place is the distance from the end of the text. The byte that is read there is the one before it.
+abbrev pub backwards : (terminator : ℕ) → List ℕ → Surroundings
+backwards terminator text = record {
+  byte = λ place. byte_of text (length text - suc place);
+  looks = λ kind place. holds terminator text kind (length text - place);
+}
+
+-- the byte at the place, if it lies before the end
+abbrev pub byte_before : (byte : ℕ → ℕ) → (end place : ℕ) → Option ℕ
+byte_before byte end place = if nat_lt place end then Some (byte place) else None
+
+-- the same in a text that is read forwards
+abbrev pub byte_at : List ℕ → (end place : ℕ) → Option ℕ
+byte_at text end place = byte_before (byte_of text) end place
+
+-- where the byte leads to, if there is one
+abbrev pub target_of : List Transition → Option ℕ → Option ℕ
+target_of transitions None = None
+target_of transitions (Some byte) = route transitions byte
+
+-- where a configuration stands that was reached from this place: its state, and how many places on
+abbrev pub onward : (place : ℕ) → Configuration → ℕ × ℕ
+onward place c = (c.state, c.place - place)
+
+-- by these transitions, before the place `end`
+abbrev pub read_byte : (byte : ℕ → ℕ) → (end : ℕ) → List Transition → (place : ℕ) → List Configuration
+read_byte byte end ts i = if nat_lt i end then go_on (route ts (byte i)) (i + 1) else []
+
+-- where a state goes on to from place i, up to the place `end`
+abbrev pub state_step : Surroundings → (end : ℕ) → State → (place : ℕ) → List Configuration
+state_step around end (ByteRange low high next) i = read_byte around.byte end (record { start = low; end = high; next = next } ∷ []) i
+state_step around end (Sparse transitions) i = read_byte around.byte end transitions i
+state_step around end (Look look next) i = if around.looks (kind_of look) i then at next i ∷ [] else []
+state_step around end (Union alternates) i = map (λ q. at q i) alternates
+state_step around end (Capture next pattern slot) i = at next i ∷ []
+state_step around end Fail i = []
+state_step around end (Match pattern) i = []
 
 abbrev pub state_accepts : State → Option ℕ
 state_accepts (ByteRange low high next) = None
@@ -59,17 +98,21 @@ state_writes (Match pattern) = None
 abbrev pub state_at : List State → ℕ → State
 state_at states q = slice_index_or states q Fail
 
-abbrev pub machine : (terminator : ℕ) → List State → List ℕ → ℕ → Machine
-machine terminator states text end = record {
+abbrev pub machine : Surroundings → List State → (end : ℕ) → Machine
+machine around states end = record {
   states = length states;
-  step = λ q. state_step terminator text end (state_at states q);
+  step = λ q. state_step around end (state_at states q);
   accepts = λ q. state_accepts (state_at states q);
   writes = λ q. state_writes (state_at states q);
 }
 
--- the runs of the states over the first `end` bytes of the text, where the terminator ends lines
-unfoldable pub automaton : (terminator : ℕ) → List State → List ℕ → ℕ → PriorityGraph
-automaton terminator states text end = graph_of (machine terminator states text end) end
+-- the runs of the states over the places up to `end`
+unfoldable pub automaton_over : Surroundings → List State → (end : ℕ) → PriorityGraph
+automaton_over around states end = graph_of (machine around states end) end
+
+-- the same over the first `end` bytes of a text that is read forwards, where the terminator ends lines
+abbrev pub automaton : (terminator : ℕ) → List State → List ℕ → (end : ℕ) → PriorityGraph
+automaton terminator states text end = automaton_over (forwards terminator text) states end
 
 -- each state that this one goes on to is below n
 abbrev pub NamesBelow : ℕ → State → Type 0

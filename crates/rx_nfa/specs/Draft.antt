@@ -1,18 +1,22 @@
 -- An NFA in the making.
-use Rattle.std.specs.Prelude.{◌≡◌, ℕ, ◌<◌, ◌≤◌, List, [], ◌∷◌, ◌++◌, length, All, slice_set}
+use Rattle.std.specs.Prelude.{◌≡◌, ℕ, ◌<◌, ◌≤◌, List, [], ◌∷◌, ◌++◌, length, All, Option, slice_set}
 use Rattle.rx_nfa.specs.Automaton.{state_at, NamesBelow, IsWithin}
+use Rattle.rx_nfa.specs.Row.{HasSortedTransitions}
+use Rattle.rx_nfa.specs.Slots.{WritesOwnSlots}
 use Rattle.rx_nfa.specs.declared.state.State.{State}
 
 pub record Draft : Type 0 where
   pub states : List State
-  -- how many patterns there are, and how many slots
-  pub patterns : ℕ
+  -- the groups of each pattern, by their names, and how many of the first slots may be written
+  pub groups : List (List (Option (List ℕ)))
   pub slots : ℕ
 
--- every state, pattern and slot that is named is there
+-- every state, pattern and slot that is named is there, each slot with its pattern, and transitions are sorted
 pub record AreInRange (d : Draft) : Type 0 where
   pub names : All (NamesBelow (length d.states)) d.states
-  pub within : All (IsWithin d.patterns d.slots) d.states
+  pub within : All (IsWithin (length d.groups) d.slots) d.states
+  pub own : All (WritesOwnSlots d.groups) d.states
+  pub sorted : All HasSortedTransitions d.states
   pub few : length d.states ≤ 2147483647
 
 -- one more state
@@ -25,7 +29,7 @@ patched d q state = record d { states = slice_set d.states q state }
 
 -- states were added, and none was changed
 pub record Extends (old new : Draft) : Type 0 where
-  pub patterns : new.patterns ≡ old.patterns
+  pub groups : new.groups ≡ old.groups
   pub slots : new.slots ≡ old.slots
   pub longer : length old.states ≤ length new.states
   pub kept : (q : ℕ) → q < length old.states → state_at new.states q ≡ state_at old.states q

@@ -1,4 +1,5 @@
 pub mod Automaton
+pub mod Slots
 pub mod Nfa
 pub mod Inner
 pub mod Config
@@ -13,5 +14,4 @@ pub mod Built
 pub mod Repeated
 pub mod Room
 pub mod Compiled
-pub mod Around
 pub mod Ordered

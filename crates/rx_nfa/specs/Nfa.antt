@@ -8,6 +8,8 @@ use Rattle.rx_model.specs.Search.{Patterns, told, first, first_where, first_of_p
 use Rattle.rx_search.specs.GroupInfo.{slot_count}
 use Rattle.rx_search.specs.LookSet.{has}
 use Rattle.rx_nfa.specs.Automaton.{at, automaton, asks_for, NamesBelow, IsWithin}
+use Rattle.rx_nfa.specs.Row.{HasSortedTransitions}
+use Rattle.rx_nfa.specs.Slots.{WritesOwnSlots}
 use Rattle.rx_nfa.specs.declared.state.State.{State}
 
 pub record Nfa : Type 0 where
@@ -18,7 +20,7 @@ pub record Nfa : Type 0 where
   pub starts : List ℕ
   -- how many slots there are
   pub slots : ℕ
-  -- the groups of each pattern that have slots, by their names
+  -- the groups of each pattern, by their names
   pub groups : List (List (Option (List ℕ)))
   -- no match is to start inside a character
   pub utf8 : Bool
@@ -33,14 +35,16 @@ pub record Nfa : Type 0 where
   -- how many states were accounted for the patterns
   pub accounted : ℕ
 
--- every state, pattern and slot that is named is there, the slots are those of the groups, and the look-arounds those of
--- the states
+-- every state, pattern and slot that is named is there, the slots are those of the groups, and each that is written is one
+-- of its pattern; transitions are sorted, and the look-arounds are those of the states
 pub record IsInRange (nfa : Nfa) : Type 0 where
   pub start_anchored : nfa.start_anchored < length nfa.states
   pub starts : All (λ q. q < length nfa.states) nfa.starts
   pub names : All (NamesBelow (length nfa.states)) nfa.states
   pub within : All (IsWithin (length nfa.starts) nfa.slots) nfa.states
   pub slots : nfa.slots ≡ slot_count nfa.groups
+  pub own : All (WritesOwnSlots nfa.groups) nfa.states
+  pub sorted : All HasSortedTransitions nfa.states
   pub looks : (kind : Look) → has nfa.looks kind ≡ list_any (asks_for kind) nfa.states
   pub few_states : length nfa.states ≤ 2147483647
   pub few_patterns : length nfa.starts ≤ 2147483647

@@ -1,15 +1,15 @@
 -- What a class's block is to do in a priority graph.
-use Rattle.std.specs.Prelude.{◌≡◌, ℕ, ◌+◌, ◌≤◌, false, List, [], Option, Some, None, if◌then◌else◌, nat_le, nat_lt, slice_index}
+use Rattle.std.specs.Prelude.{◌≡◌, ℕ, ◌+◌, ◌≤◌, false, List, Option, Some, None, if◌then◌else◌, nat_le}
 use Rattle.rx_model.specs.Text.{Class, member_len}
 use Rattle.rx_model.specs.Runs.{Configuration, PriorityGraph, Passed, Trace, found}
-use Rattle.rx_nfa.specs.Automaton.{at, route, go_on}
+use Rattle.rx_nfa.specs.Automaton.{at, read_byte}
 use Rattle.rx_nfa.specs.declared.state.Transition.{Transition}
 
--- In the graph m, state q reads a byte of the text, within its first `end` bytes, by these transitions.
-pub record ReadsByte (m : PriorityGraph) (text : List ℕ) (end : ℕ) (q : ℕ) (ts : List Transition) : Type 0 where
+-- In the graph m, state q reads the byte at its place, before the place `end`, by these transitions.
+pub record ReadsByte (m : PriorityGraph) (byte : ℕ → ℕ) (end : ℕ) (q : ℕ) (ts : List Transition) : Type 0 where
   pub accepted : (i : ℕ) → m.accepted (at q i) ≡ None
   pub written : (i : ℕ) → m.written (at q i) ≡ None
-  pub successors : (i : ℕ) → m.successors (at q i) ≡ (if nat_lt i end then go_on (route ts (slice_index text i)) (i + 1) else [])
+  pub successors : (i : ℕ) → m.successors (at q i) ≡ read_byte byte end ts i
 
 -- what is found after so many bytes from i on, within `end`
 abbrev pub found_after : PriorityGraph → Passed → (end next i : ℕ) → Option ℕ → Option Trace

@@ -1,5 +1,5 @@
 -- States that read bytes, and their rows of transitions.
-use Rattle.std.specs.Prelude.{◌≡◌, ℕ, ◌+◌, ◌<◌, ◌≤◌, List, [], ◌∷◌, length, Option, Some, None}
+use Rattle.std.specs.Prelude.{◌≡◌, ℕ, ◌+◌, ◌<◌, ◌≤◌, List, [], ◌∷◌, length, Option, Some, None, ⊤}
 use Rattle.rx_nfa.specs.Automaton.{route, state_at}
 use Rattle.rx_nfa.specs.States.{Stands}
 use Rattle.rx_nfa.specs.declared.state.Transition.{Transition}
@@ -10,6 +10,16 @@ use Rattle.rx_nfa.specs.declared.state.State.TheVariants.{ByteRange, Sparse, Loo
 abbrev pub Ascends : (low high : ℕ) → List Transition → Type 0
 Ascends low high [] = low ≤ high
 Ascends low high (t ∷ ts) = (low ≤ t.start) × (t.start ≤ t.end) × Ascends (t.end + 1) high ts
+
+-- the byte ranges of the state ascend and share no byte
+abbrev pub HasSortedTransitions : State → Type 0
+HasSortedTransitions (ByteRange low high next) = Ascends 0 256 (record { start = low; end = high; next = next } ∷ [])
+HasSortedTransitions (Sparse transitions) = Ascends 0 256 transitions
+HasSortedTransitions (Look look next) = ⊤
+HasSortedTransitions (Union alternates) = ⊤
+HasSortedTransitions (Capture next pattern slot) = ⊤
+HasSortedTransitions Fail = ⊤
+HasSortedTransitions (Match pattern) = ⊤
 
 -- on the bytes of the range, to the state `next`
 abbrev pub transition_to : (next : ℕ) → ℕ × ℕ → Transition
@@ -40,7 +50,7 @@ IsReader base states = HasReader (Stands base states)
 pub record AddsReaders (old new : List State) : Type 0 where
   pub longer : length old ≤ length new
   pub kept : (q : ℕ) → q < length old → state_at new q ≡ state_at old q
-  pub readers : (q : ℕ) → length old ≤ q → q < length new → (ts : List Transition) × (reading (state_at new q) ≡ Some ts)
+  pub readers : (q : ℕ) → length old ≤ q → q < length new → (ts : List Transition) × (reading (state_at new q) ≡ Some ts) × Ascends 0 256 ts
 
 -- each state that a byte leads to is below n
 unfoldable pub RoutesBelow : ℕ → List Transition → Type 0

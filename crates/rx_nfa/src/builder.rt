@@ -8,6 +8,8 @@ ghost use Rattle.rx_class.specs.ClassViews.{class_view};
 ghost use Rattle.rx_hir.specs.Cost.{states_of_class};
 ghost use Rattle.rx_nfa.specs.Built.{Built};
 ghost use Rattle.rx_nfa.specs.Draft.{pushed, patched};
+ghost use Rattle.rx_nfa.specs.Row.{HasSortedTransitions};
+ghost use Rattle.rx_nfa.specs.Slots.{WritesOwnSlots};
 ghost use Rattle.rx_nfa.specs.Nfa.{IsInRange};
 
 use crate::State;
@@ -24,7 +26,6 @@ use std::mem;
 /// What an NFA tells beside its states.
 #[derive(Drop)]
 pub struct Facts {
-    pub group_info: GroupInfo,
     pub utf8: bool,
     pub look_matcher: LookMatcher,
     pub always_start_anchored: bool,
@@ -32,12 +33,13 @@ pub struct Facts {
     pub accounted_states: usize,
 }
 
-/// The states so far. Every state, pattern and slot that they name is there.
+/// The states so far. Every state and pattern that they name is there. They write slots of the groups of the patterns
+/// that they name, and of these the first `written_len` alone. Their transitions are sorted.
 #[derive(Drop)]
 pub struct Builder {
     states: Vec<State>,
-    pattern_len: usize,
-    slot_len: usize,
+    group_info: GroupInfo,
+    written_len: usize,
 }
 
 impl Model for Builder {
@@ -47,26 +49,26 @@ impl Model for Builder {
 
     ghost view = { λ b. record {
       states = b.states.items;
-      patterns = b.pattern_len;
-      slots = b.slot_len;
+      groups = b.group_info;
+      slots = b.written_len;
     } };
 
     ghost invariant = { λ b. AreInRange (record {
       states = b.states.items;
-      patterns = b.pattern_len;
-      slots = b.slot_len;
+      groups = b.group_info;
+      slots = b.written_len;
     }) };
 }
 
 impl Builder {
-    /// No states yet, for so many patterns and slots.
-    pub fn new(alloc: Global, pattern_len: usize, slot_len: usize) -> Builder
-        ensures { result ≡ record { states = []; patterns = pattern_len; slots = slot_len } }
+    /// No states yet, for patterns with these groups, and so many slots that may be written.
+    pub fn new(alloc: Global, group_info: GroupInfo, written_len: usize) -> Builder
+        ensures { result ≡ record { states = []; groups = group_info; slots = written_len } }
     {
         Builder {
             states: Vec::new(alloc),
-            pattern_len,
-            slot_len,
+            group_info,
+            written_len,
         }
     }
 
@@ -74,7 +76,9 @@ impl Builder {
     pub fn push(&mut self, state: State) -> Result<StateID, Memory>
         requires room { length self.old.states < 2147483647 }
         requires names { NamesBelow (length self.old.states) state }
-        requires within { IsWithin self.old.patterns self.old.slots state }
+        requires within { IsWithin (length self.old.groups) self.old.slots state }
+        requires own { WritesOwnSlots self.old.groups state }
+        requires sorted { HasSortedTransitions state }
         ensures id { IfOk result (λ id. id ≡ length self.old.states) }
         ensures states { IfOk result (λ id. self.new ≡ pushed self.old state) }
     {
@@ -147,7 +151,9 @@ impl Builder {
     pub fn patch(&mut self, id: StateID, state: State)
         requires inside { id < length self.old.states }
         requires names { NamesBelow (length self.old.states) state }
-        requires within { IsWithin self.old.patterns self.old.slots state }
+        requires within { IsWithin (length self.old.groups) self.old.slots state }
+        requires own { WritesOwnSlots self.old.groups state }
+        requires sorted { HasSortedTransitions state }
         ensures { self.new ≡ patched self.old id state }
     {
         self.states[id.as_usize()] = state;
@@ -163,16 +169,16 @@ impl Builder {
     ) -> Result<NFA, Memory>
         requires start { start_anchored < length self.states }
         requires starts { All (λ q. q < length self.states) starts.items }
-        requires patterns { length starts.items ≡ self.patterns }
-        requires few { self.patterns ≤ 2147483647 }
-        requires slots { self.slots ≡ slot_count facts.group_info }
+        requires patterns { length starts.items ≡ length self.groups }
+        requires few { length self.groups ≤ 2147483647 }
+        requires slots { self.slots ≤ slot_count self.groups }
         requires accounted { facts.accounted_states ≤ 2147483647 }
         ensures value { IfOk result (λ nfa. nfa ≡ record {
           states = self.states;
           start_anchored = start_anchored;
           starts = starts.items;
-          slots = self.slots;
-          groups = facts.group_info;
+          slots = slot_count self.groups;
+          groups = self.groups;
           utf8 = facts.utf8;
           terminator = facts.look_matcher;
           looks = nfa.looks;
@@ -181,8 +187,9 @@ impl Builder {
           accounted = facts.accounted_states;
         }) }
         ensures in_range { IfOk result IsInRange }
+        ensures within { OnOk result (All (IsWithin (length self.groups) self.slots) self.states) }
     {
-        let slot_len = self.slot_len;
+        let slot_len = self.group_info.slot_len();
         let look_set_any = looks_of(&self.states);
         let nfa = NFA::new(
             alloc,
@@ -191,7 +198,7 @@ impl Builder {
                 start_anchored,
                 starts,
                 slot_len,
-                group_info: facts.group_info,
+                group_info: self.group_info,
                 utf8: facts.utf8,
                 look_matcher: facts.look_matcher,
                 look_set_any,

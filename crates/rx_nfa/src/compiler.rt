@@ -7,9 +7,10 @@ ghost use Rattle.rx_hir.specs.Cost.{accounted_states};
 ghost use Rattle.rx_hir.specs.Sound.{IsSound};
 ghost use Rattle.rx_nfa.specs.Built.{Built, slot_from, bound, compiled_pattern, HasPart, HasPatterns, StartsAll};
 ghost use Rattle.rx_nfa.specs.Config.{captures_kind, captures_of, overwritten, nothing_set};
-ghost use Rattle.rx_nfa.specs.Compiled.{patterns_of, slots_of, nfa_states, AreFew, AreAllowed, IsCompiled, IsRefusal};
+ghost use Rattle.rx_nfa.specs.Compiled.{patterns_of, groups_of, slots_of, slots_written, nfa_states, AreFew, AreAllowed, IsCompiled, IsRefusal};
 ghost use Rattle.rx_nfa.specs.Draft.{Extends};
 ghost use Rattle.rx_nfa.specs.Room.{HasRoom};
+ghost use Rattle.rx_nfa.specs.Slots.{IsSlotOf};
 
 mod accounting;
 mod anchors;
@@ -24,7 +25,7 @@ mod tests;
 
 use crate::builder::{Builder, Facts};
 use crate::error::BuildError;
-use crate::nfa::NFA;
+use crate::nfa::{NFA, STATE_SIZE};
 use crate::state::{Alternates, State};
 use accounting::{nfa_states, slot_len};
 use anchors::all_start_anchored;
@@ -34,21 +35,18 @@ use grouping::group_info;
 use groups::Groups;
 use rx_hir::{Hir, one_can_be_empty};
 use rx_search::{Memory, PatternID, StateID};
-use slots::{first_slot, second_slot, slot_after, whole_slot};
+use slots::{first_slot, second_slot, slot_after, slots_written, whole_slot};
 use std::alloc::Global;
 use std::slice;
 
 /// The most patterns that an NFA may have.
-const PATTERN_LIMIT: usize = 2147483647;
+pub const PATTERN_LIMIT: usize = 2147483647;
 
 /// The most slots that a match may have.
 const SLOT_LIMIT: usize = 2147483646;
 
 /// The most states that an NFA may have.
 const STATE_LIMIT: usize = 2147483647;
-
-/// The bytes that are accounted for a state.
-const STATE_SIZE: usize = 32;
 
 /// Makes NFAs of expressions.
 #[derive(Clone, Copy)]
@@ -84,7 +82,7 @@ impl Compiler {
 
     /// The NFA of these expressions, one pattern each. A match's slots come in the order of the patterns: two for each
     /// whole match, and after these two for each group that a pattern names. Groups that the configuration leaves out
-    /// have no slots. The NFA has no more states than are accounted for the expressions.
+    /// have slots that stay empty. The NFA has no more states than are accounted for the expressions.
     ///
     /// The NFA's first runs are those of the patterns' graphs, wherever acceptance is permitted, by pattern and place, and
     /// the runs of each pattern's graph cover exactly the spans that its expression means: the laws
@@ -93,8 +91,8 @@ impl Compiler {
     /// meant, from each pattern's start and from that of all: `the_runs_of_one_span_are_meant`,
     /// `the_common_start_has_the_runs_of_each_pattern`.
     ///
-    /// Refused before anything is built, in this order: more than 2147483647 patterns, more than 2147483646 slots under
-    /// the configuration, more than 2147483647 states accounted, more bytes accounted than the configured limit. Want of
+    /// Refused before anything is built, in this order: more than 2147483647 patterns, more than 2147483646 slots,
+    /// more than 2147483647 states accounted, more bytes accounted than the configured limit. Want of
     /// memory comes last, and is then the only reason left.
     pub fn build_many_from_hir(&self, alloc: Global, exprs: &[Hir]) -> Result<NFA, BuildError>
         ensures compiled { IfOk result (IsCompiled self.now.config exprs.now) }
@@ -107,7 +105,7 @@ impl Compiler {
                 limit: PATTERN_LIMIT,
             });
         }
-        let slots = slot_len(self.config.get_which_captures(), exprs);
+        let slots = slot_len(exprs);
         if slots > SLOT_LIMIT {
             return Err(BuildError::TooManyGroups {
                 given: slots,
@@ -148,19 +146,18 @@ fn build(
     slots: usize,
     states: usize,
 ) -> Result<NFA, Memory>
-    requires few { AreFew (captures_of config) exprs.now }
-    requires slots { slots ≡ slots_of (captures_of config) exprs.now }
+    requires few { AreFew exprs.now }
+    requires slots { slots ≡ slots_of exprs.now }
     requires states { states ≡ nfa_states exprs.now }
     requires few_states { states ≤ 2147483647 }
     ensures { IfOk result (IsCompiled config exprs.now) }
 {
     let which = config.get_which_captures();
-    let group_info = group_info(alloc, which, exprs)?;
-    let mut builder = Builder::new(alloc, exprs.len(), slots);
+    let group_info = group_info(alloc, exprs)?;
+    let mut builder = Builder::new(alloc, group_info, slots_written(which, exprs, slots));
     let starts = compile_patterns(alloc, &mut builder, which, exprs)?;
     let start = start_of_all(alloc, &mut builder, &starts)?;
     let facts = Facts {
-        group_info,
         utf8: config.get_utf8(),
         look_matcher: config.get_look_matcher(),
         always_start_anchored: all_start_anchored(exprs),
@@ -178,9 +175,9 @@ fn compile_patterns(
     which: WhichCaptures,
     exprs: &[Hir],
 ) -> Result<Vec<StateID>, Memory>
-    requires few { AreFew (captures_kind which) exprs.now }
-    requires patterns { builder.old.patterns ≡ length exprs.now }
-    requires slots { builder.old.slots ≡ slots_of (captures_kind which) exprs.now }
+    requires few { AreFew exprs.now }
+    requires groups { builder.old.groups ≡ groups_of exprs.now }
+    requires slots { builder.old.slots ≡ slots_written (captures_kind which) exprs.now }
     requires fits { length builder.old.states + nfa_states exprs.now ≤ 2147483647 }
     ensures extends { OnOk result (Extends builder.old builder.new) }
     ensures len { IfOk result (λ starts. length starts.items ≡ length exprs.now) }
@@ -214,6 +211,7 @@ fn compile_pattern(
 ) -> Result<StateID, Memory>
     requires room { HasRoom builder.old groups.now (greatest_group hir.now) }
     requires whole { IfSome groups.now.whole_slot (λ slot. slot + 1 < builder.old.slots) }
+    requires own { IfSome groups.now.whole_slot (λ slot. slot ≡ 2 * groups.now.pattern) }
     requires fits { length builder.old.states + (accounted_states hir.now + 3) ≤ 2147483647 }
     ensures extends { OnOk result (Extends builder.old builder.new) }
     ensures has { IfOk result (λ start. HasPart builder.new.states
@@ -240,8 +238,9 @@ fn push_bound(
     next: StateID,
 ) -> Result<StateID, Memory>
     requires next { next < length builder.old.states }
-    requires pattern { pattern < builder.old.patterns }
+    requires pattern { pattern < length builder.old.groups }
     requires slot { IfSome slot (λ number. number < builder.old.slots) }
+    requires own { IfSome slot (λ number. IsSlotOf builder.old.groups pattern number) }
     requires fits { length builder.old.states < 2147483647 }
     ensures built { IfOk result (λ start. Built (build_state (bound slot)) next builder.old builder.new start) }
     ensures inside { IfOk result (λ start. start < length builder.new.states) }

@@ -18,7 +18,7 @@ mod sparse;
 mod state;
 
 pub use class::the_states_read_the_class;
-pub use compiler::{Compiler, Config, WhichCaptures};
+pub use compiler::{Compiler, Config, PATTERN_LIMIT, WhichCaptures};
 pub use error::BuildError;
 pub use lists::{
     a_step_keeps_the_first_success, the_closure_keeps_the_first_success,
@@ -26,6 +26,7 @@ pub use lists::{
 };
 pub use nfa::NFA;
 pub use runs::{
+    a_byte_leads_to_its_target, a_step_depends_on_the_byte_and_the_look_arounds,
     the_common_start_has_the_runs_of_each_pattern, the_runs_of_one_span_are_meant,
     what_has_the_runs_has_the_first_runs,
 };

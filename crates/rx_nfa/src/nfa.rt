@@ -16,10 +16,11 @@ use std::marker::Model;
 use std::sync::Arc;
 
 /// The bytes that are accounted for a state.
-const STATE_SIZE: usize = 32;
+pub(crate) const STATE_SIZE: usize = 32;
 
 /// An automaton that reads bytes: its states, where the runs of its patterns start, and how many
-/// slots a match has. Every state, pattern and slot that is named is there. Clones share their states.
+/// slots a match has. Every state, pattern and slot that is named is there. A slot that a state writes is one of a group
+/// of the pattern that the state names, and the transitions of a state ascend and share no byte. Clones share their states.
 #[derive(Drop)]
 pub struct NFA {
     inner: Arc<Inner, Global>,
@@ -122,7 +123,7 @@ impl NFA {
         self.inner.slot_len
     }
 
-    /// The groups of the patterns that have slots. Under `WhichCaptures::None` it is that of no patterns.
+    /// The groups of the patterns, with their names. Those that the configuration leaves out have slots that stay empty.
     pub fn group_info(&self) -> &GroupInfo
         ensures value { result.now ≡ self.now.groups }
         ensures in_range { IsInRange self.now }

@@ -1,12 +1,16 @@
-//! Laws of the runs of an NFA.
+//! Laws of the steps and the runs of an NFA.
 
-ghost use Rattle.std.specs.Prelude.{◌≡◌, ℕ, ◌≤◌, ◌↔◌, Bool, List, length, Some, IsTrue, is_some, slice_get, slice_index};
+ghost use Rattle.std.specs.Prelude.{◌≡◌, ℕ, ◌+◌, ◌≤◌, ◌↔◌, Bool, true, List, length, map, Some, IsTrue, is_some, slice_get, slice_index};
 ghost use Rattle.rx_model.specs.Expression.{Expression, AreOrdered};
+ghost use Rattle.rx_model.specs.Look.{Look};
 ghost use Rattle.rx_model.specs.Meaning.{Means};
 ghost use Rattle.rx_model.specs.Runs.{sieved, ending_at, for_pattern, first_trace};
 ghost use Rattle.rx_model.specs.Search.{Patterns};
-ghost use Rattle.rx_nfa.specs.Automaton.{at, automaton};
+ghost use Rattle.rx_nfa.specs.Automaton.{at, go_on, target_of, byte_at, byte_before, Surroundings, onward, state_at, asks_for, automaton, automaton_over};
 ghost use Rattle.rx_nfa.specs.Nfa.{Nfa, HasRuns, HasFirstRuns};
+ghost use Rattle.rx_nfa.specs.Row.{reading};
+ghost use Rattle.rx_nfa.specs.declared.state.Transition.{Transition};
+ghost use Rattle.rx_nfa.specs.declared.state.State.{State};
 
 /// Where each pattern may be accepted at each place, the runs that an NFA has are its first runs.
 pub fn what_has_the_runs_has_the_first_runs()
@@ -28,4 +32,25 @@ pub fn the_common_start_has_the_runs_of_each_pattern()
         → end ≤ length text → slice_get r.expressions p ≡ Some h → (may : ℕ → Bool)
         → first_trace (sieved (for_pattern p may) (automaton nfa.terminator nfa.states text end)) (at nfa.start_anchored i)
         ≡ first_trace (sieved (for_pattern p may) (automaton nfa.terminator nfa.states text end)) (at (slice_index nfa.starts p) i) }
+{}
+
+/// A state that can only read a byte goes on to the state that the byte at its place leads to, one place further on,
+/// and nowhere else: whichever way a text is read, and in a text that is read forwards.
+pub fn a_byte_leads_to_its_target()
+    ensures over { (around : Surroundings) (states : List State) (end q i : ℕ) (ts : List Transition) → reading (state_at states q) ≡ Some ts
+        → (automaton_over around states end).successors (at q i) ≡ go_on (target_of ts (byte_before around.byte end i)) (i + 1) }
+    ensures forwards { (terminator : ℕ) (states : List State) (text : List ℕ) (end q i : ℕ) (ts : List Transition) → reading (state_at states q) ≡ Some ts
+        → (automaton terminator states text end).successors (at q i) ≡ go_on (target_of ts (byte_at text end i)) (i + 1) }
+{}
+
+/// Where a step of a state leads, and whether the state accepts, depends on the byte at the place and on which of the
+/// look-arounds that the state asks for hold there, and on nothing else: neither on the text, nor on the place, nor on
+/// the way that the text is read.
+pub fn a_step_depends_on_the_byte_and_the_look_arounds()
+    ensures leads { (here there : Surroundings) (states : List State) (end last q i j : ℕ) → i ≤ end → j ≤ last
+        → byte_before here.byte end i ≡ byte_before there.byte last j
+        → ((kind : Look) → asks_for kind (state_at states q) ≡ true → here.looks kind i ≡ there.looks kind j)
+        → map (onward i) ((automaton_over here states end).successors (at q i)) ≡ map (onward j) ((automaton_over there states last).successors (at q j)) }
+    ensures accepts { (here there : Surroundings) (states : List State) (end last q i j : ℕ) → i ≤ end → j ≤ last
+        → (automaton_over here states end).accepted (at q i) ≡ (automaton_over there states last).accepted (at q j) }
 {}

@@ -7,13 +7,10 @@ ghost use Rattle.rx_thompson.specs.Build.{IsBuiltOf, IsRefused, IsRefusedOf, IsR
 
 use crate::error::BuildError;
 use rx_hir::Hir;
-use rx_nfa::{Config, NFA};
+use rx_nfa::{Config, NFA, PATTERN_LIMIT};
 use rx_syntax::parse_each;
 use std::alloc::Global;
 use std::slice;
-
-/// The most patterns that an NFA may have.
-pub const PATTERN_LIMIT: usize = 2147483647;
 
 /// Makes NFAs of patterns and of expressions, under one configuration and one grammar.
 #[derive(Clone, Copy)]
@@ -85,8 +82,8 @@ impl Compiler {
 
     /// The NFA of these expressions, one pattern each, numbered from 0 on: as by rx_nfa.
     ///
-    /// Refused before anything is built, in this order: more than 2147483647 patterns, more than 2147483646 slots under
-    /// the configuration, more than 2147483647 states accounted, more bytes accounted than the configured limit. Want of
+    /// Refused before anything is built, in this order: more than 2147483647 patterns, more than 2147483646 slots,
+    /// more than 2147483647 states accounted, more bytes accounted than the configured limit. Want of
     /// memory comes last, and is then the only reason left.
     pub fn build_many_from_hir(&self, alloc: Global, exprs: &[Hir]) -> Result<NFA, BuildError>
         ensures compiled { IfOk result (IsCompiled self.now.nfa.config exprs.now) }

@@ -8,10 +8,10 @@
 mod compiler;
 mod error;
 
-pub use compiler::{Compiler, PATTERN_LIMIT};
+pub use compiler::Compiler;
 pub use error::BuildError;
 pub use rx_nfa::{
-    Alternates, Config, NFA, State, Transition, Transitions, WhichCaptures, matches_byte,
+    Alternates, Config, NFA, PATTERN_LIMIT, State, Transition, Transitions, WhichCaptures, matches_byte,
 };
 
 #[cfg(test)]

@@ -1,6 +1,11 @@
-use Rattle.std.proofs.Common.{subst}
+use Rattle.std.proofs.Common.{◌≡◌, ◌<◌, ◌∙◌, sym, ap, subst, arith, length}
+use Rattle.std.specs.Prelude.{IfSome}
 use Rattle.rx_model.specs.Graph.{build, build_state}
 use Rattle.rx_nfa.specs.Built.{Built, bound, build_bounds, slot_from}
+use Rattle.rx_search.specs.GroupInfo.{groups_at}
+use Rattle.rx_nfa.specs.Draft.{Draft}
+use Rattle.rx_nfa.specs.Slots.{IsSlotOf}
+use Rattle.rx_nfa.proofs.GroupLemmas.{whole-own, whole-own-last}
 use Rattle.rx_nfa.proofs.PatternLemmas.{HasPart-pattern}
 use Rattle.rx_nfa.proofs.SlotLemmas.{Built-bounds}
 use Rattle.rx_nfa.proofs.compiler.compile_pattern.Goals as goal
@@ -15,3 +20,22 @@ returns-clause-has c =
     c.push.new.self c.push_bound.new.builder c.compile.new.builder c.push_bound-2.new.builder last c.in_ok-body.ensures.built c.in_ok-open.ensures.built in
     HasPart-pattern whole slot c.args.groups.now.pattern c.args.hir.now c.args.builder.now c.push.new.self c.push_bound-2.new.builder c.in_ok-open.open c.in_ok-accept.ensures.states
     (subst (λ q. Built (build_bounds whole (build slot c.args.hir.now)) q c.push.new.self c.push_bound-2.new.builder c.in_ok-open.open) c.in_ok-accept.ensures.id part)
+
+pub push_bound-requires-clause-own : goal.push_bound-requires-clause-own
+push_bound-requires-clause-own c =
+    let p = c.args.groups.now.pattern in
+    let old = c.args.builder.now in
+    let more = c.requires.room.enough in
+    let some : 0 < length (groups_at old.groups p) = omega arith in
+    let same = ap (λ (d : Draft). d.groups) c.in_ok-accept.ensures.states in
+    subst (λ gs. IfSome c.second_slot-last_slot.result (λ number. IsSlotOf gs p number)) (sym same)
+    (subst (λ o. IfSome o (λ number. IsSlotOf old.groups p number)) (sym c.second_slot-last_slot.ensures) (whole-own-last old.groups p c.args.groups.now.whole_slot some c.requires.own))
+
+pub push_bound-requires-2-clause-own : goal.push_bound-requires-2-clause-own
+push_bound-requires-2-clause-own c =
+    let p = c.args.groups.now.pattern in
+    let old = c.args.builder.now in
+    let more = c.requires.room.enough in
+    let some : 0 < length (groups_at old.groups p) = omega arith in
+    let same = c.in_ok-body.ensures.built.extends.groups ∙ c.in_ok-close.ensures.built.extends.groups ∙ ap (λ (d : Draft). d.groups) c.in_ok-accept.ensures.states in
+    subst (λ gs. IfSome c.args.groups.now.whole_slot (λ number. IsSlotOf gs p number)) (sym same) (whole-own old.groups p c.args.groups.now.whole_slot some c.requires.own)

@@ -1,11 +1,12 @@
-use Rattle.std.proofs.Common.{◌≡◌, ◌<◌, ◌+◌, ◌-◌, ◌*◌, ◌∙◌, sym, ap, subst, arith, length, drop, take}
-use Rattle.std.specs.Prelude.{max, false, IfOk, option_map, string_bytes}
+use Rattle.std.proofs.Common.{◌≡◌, ◌<◌, ◌+◌, ◌-◌, ◌*◌, ◌∙◌, refl, sym, ap, subst, inl, inr, arith, length, drop, take}
+use Rattle.std.specs.Prelude.{max, false, IfOk, IfSome, option_map, string_bytes}
 use Rattle.std.specs.Int.NonZero.{non_zero_usize_get}
 use Rattle.std.proofs.lemmas.List.{take_all}
 use Rattle.rx_model.specs.Length.{minimum_len, is_positive}
 use Rattle.rx_model.specs.Expression.{empty, literal, class, look, repetition, capture, concat, alternation}
 use Rattle.rx_model.specs.Graph.{text, build_state, build_group, build_in_turn, build_each, build_choice, build, loop_once}
 use Rattle.rx_model.specs.Search.{greatest_group, greatest_in}
+use Rattle.rx_search.specs.GroupInfo.{groups_at, slot_of_group}
 use Rattle.rx_search.specs.Look.{kind_of}
 use Rattle.rx_hir.specs.Cost.{accounted_states}
 use Rattle.rx_hir.specs.Sound.{IsSound}
@@ -22,9 +23,11 @@ use Rattle.rx_nfa.proofs.BuiltLemmas.{Built-nothing}
 use Rattle.rx_nfa.proofs.CompileLemmas.{Built-same, HasRoom-kept, HasRoom-less, greatest-at, BuiltEach-next, below-more}
 use Rattle.rx_nfa.specs.Draft.{Draft, pushed}
 use Rattle.rx_nfa.specs.Repeated.{tail, leading}
+use Rattle.rx_nfa.specs.Slots.{IsSlotOf}
 use Rattle.rx_nfa.specs.declared.state.State.TheVariants.{Union, Capture as Slot, Fail}
 use Rattle.rx_nfa.proofs.ResultLemmas.{IfOk-both}
 use Rattle.rx_nfa.proofs.BuiltLemmas.{Built-then, pushed-length}
+use Rattle.rx_nfa.proofs.GroupLemmas.{named-own}
 use Rattle.rx_nfa.proofs.SlotLemmas.{Built-group}
 use Rattle.rx_nfa.proofs.ChoiceLemmas.{BuiltEach, Built-choice}
 use Rattle.rx_nfa.proofs.CompileLemmas.{patched-length, loop-closed, optional-closed, option-closed, copy-more, tail-star}
@@ -155,7 +158,7 @@ compile_alternation-compile-requires t c =
       (
         omega arith,
         (
-          HasRoom-kept c.args.builder.now c.loop-sub.builder c.args.groups.now (greatest_in (expressions c.args.subs.now)) (greatest_group item) c.loop-sub.invariant.patterns c.loop-sub.invariant.slots
+          HasRoom-kept c.args.builder.now c.loop-sub.builder c.args.groups.now (greatest_in (expressions c.args.subs.now)) (greatest_group item) c.loop-sub.invariant.groups c.loop-sub.invariant.slots
               (greatest-at c.args.subs.now k item item lt c.sub-item.is) c.requires.room,
           omega arith,
         ),
@@ -177,7 +180,7 @@ compile_alternation-loop-sub-preserved t c =
           let more = c.in_ok-start.ensures.count in
           let count = before.count in
           omega arith);
-      patterns = b.extends.patterns ∙ before.patterns;
+      groups = b.extends.groups ∙ before.groups;
       slots = b.extends.slots ∙ before.slots;
     }
 
@@ -190,6 +193,26 @@ compile_alternation-returns-clause-built t c =
     IfOk-both (λ id. id ≡ length c.loop-sub.builder.states) (λ id. c.push-2.new.self ≡ pushed c.loop-sub.builder (Union c.new.result))
     (λ start. Built (build_choice (build_each (slot_from c.args.groups.now.first_slot) (expressions c.args.subs.now))) c.args.next c.args.builder.now c.push-2.new.self start) c.push-2.result c.push-2.ensures.id c.push-2.ensures.states
     (λ start id is. Built-choice (slot_from c.args.groups.now.first_slot) c.args.subs.now c.args.next c.args.builder.now c.loop-sub.builder c.push-2.new.self c.loop-sub.starts.items start b id (is ∙ ap (λ qs. pushed c.loop-sub.builder (Union qs)) c.new.ensures))
+
+pub compile_capture-push-requires-clause-own : goal.compile_capture-push-requires-clause-own
+compile_capture-push-requires-clause-own t c =
+    let groups = c.args.builder.now.groups in
+    let p = c.args.groups.now.pattern in
+    let first : c.in-Some.first ≡ slot_of_group groups p 1 = subst (λ o. IfSome o (λ first. first ≡ slot_of_group c.args.builder.now.groups c.args.groups.now.pattern 1)) c.in-Some.is c.requires.group.first in
+    let some : 0 < c.get.result = omega (arith, c.get.ensures.nonzero) in
+    let there : c.get.result < length (groups_at groups p) = omega (arith, c.requires.group.enough, c.get.ensures.value) in
+    named-own groups p c.get.result c.in-Some.first (c.in-Some.first + 2 * (c.get.result - 1) + 1) some there first (inr refl)
+
+pub compile_capture-push-requires-2-clause-own : goal.compile_capture-push-requires-2-clause-own
+compile_capture-push-requires-2-clause-own t c =
+    let groups = c.args.builder.now.groups in
+    let p = c.args.groups.now.pattern in
+    let first : c.in-Some.first ≡ slot_of_group groups p 1 = subst (λ o. IfSome o (λ first. first ≡ slot_of_group c.args.builder.now.groups c.args.groups.now.pattern 1)) c.in-Some.is c.requires.group.first in
+    let some : 0 < c.get.result = omega (arith, c.get.ensures.nonzero) in
+    let there : c.get.result < length (groups_at groups p) = omega (arith, c.requires.group.enough, c.get.ensures.value) in
+    let same = c.in_ok-body.ensures.built.extends.groups ∙ ap (λ (d : Draft). d.groups) c.in_ok-close.ensures.states in
+    subst (λ gs. IsSlotOf gs c.args.groups.now.pattern (c.in-Some.first + 2 * (c.get.result - 1))) (sym same)
+    (named-own groups p c.get.result c.in-Some.first (c.in-Some.first + 2 * (c.get.result - 1)) some there first (inl refl))
 
 pub compile_capture-returns-clause-built : goal.compile_capture-returns-clause-built
 compile_capture-returns-clause-built t c =
@@ -232,7 +255,7 @@ compile_concat-compile-requires t c =
       (
         c.loop-left.invariant.inside,
         (
-          HasRoom-kept c.args.builder.now c.loop-left.builder c.args.groups.now (greatest_in (expressions c.args.subs.now)) (greatest_group item) b.patterns b.slots
+          HasRoom-kept c.args.builder.now c.loop-left.builder c.args.groups.now (greatest_in (expressions c.args.subs.now)) (greatest_group item) b.groups b.slots
               (greatest-at c.args.subs.now (c.loop-left.left - 1) item item lt c.index-subs-left.is) c.requires.room,
           omega arith,
         ),
@@ -309,7 +332,7 @@ compile_repetition-compile-requires t c =
       omega arith,
       (
         c.loop-copy.invariant.inside,
-        (HasRoom-kept c.args.builder.now c.loop-copy.builder c.args.groups.now (greatest_group r.sub.value) (greatest_group c.deref.result.now) b.patterns b.slots (omega arith) c.requires.room, omega arith),
+        (HasRoom-kept c.args.builder.now c.loop-copy.builder c.args.groups.now (greatest_group r.sub.value) (greatest_group c.deref.result.now) b.groups b.slots (omega arith) c.requires.room, omega arith),
       ),
     )
 

@@ -27,7 +27,7 @@ invariant-compile_alternation-loop-sub l = record {
   inside : All (λ q. q < length l.builder.states) l.starts.items;
   longer : length l.initial.builder.states ≤ length l.builder.states;
   count : length l.builder.states + accounted_in (expressions (drop l.sub-index l.subs)) ≤ length l.initial.builder.states + accounted_in (expressions l.subs);
-  patterns : l.builder.patterns ≡ l.initial.builder.patterns;
+  groups : l.builder.groups ≡ l.initial.builder.groups;
   slots : l.builder.slots ≡ l.initial.builder.slots;
 }
 
