@@ -6,7 +6,7 @@ use Rattle.rx_model.specs.Runs.{Configuration, same, Passed, and_at}
 use Rattle.rx_model.specs.Machine.{grid}
 use Rattle.rx_model.proofs.MachineLemmas.{grid-has}
 use Rattle.rx_model.proofs.RunLemmas.{by_test, same-true, weight, weight-less}
-use Rattle.rx_nfa.specs.Automaton.{at, state_at}
+use Rattle.rx_nfa.specs.Automaton.{at, state_at, forwards}
 use Rattle.rx_nfa.proofs.AutomatonLemmas.{automaton-bounded}
 use Rattle.rx_engines.specs.Walk.{Slots, Answer}
 use Rattle.rx_engines.specs.Backtrack.{is_set, extent, passed_by, work, frames_left, Searching, Yields}
@@ -82,7 +82,7 @@ module _ {s : Search} {words words' : List ℕ} {new : Bool} {q i : ℕ} (t : In
   pub inserted-accepts : new ≡ true → {before : Passed} {goal : Option Answer} {base : Slots} {rest : List Frame} {slots : Slots} (pattern : ℕ)
       → (graph_for s).accepted (at q i) ≡ Some pattern
       → Searching (graph_for s) before (passed_by s words) goal base (Explore q i ∷ rest) slots → goal ≡ Some (record { pattern = pattern; end = i; slots = slots })
-  inserted-accepts unseen pattern accepts x = Searching-accepted x (automaton-bounded s.matcher s.states.now s.text.now s.end) pattern (new_here unseen) accepts
+  inserted-accepts unseen pattern accepts x = Searching-accepted x (automaton-bounded (forwards s.matcher s.text.now) s.states.now s.end) pattern (new_here unseen) accepts
 
   -- it gives way to its successors
   pub inserted-yields : new ≡ true → {before : Passed} {goal : Option Answer} {base : Slots} {rest frames : List Frame} {slots slots' : Slots}
@@ -90,7 +90,7 @@ module _ {s : Search} {words words' : List ℕ} {new : Bool} {q i : ℕ} (t : In
       → Searching (graph_for s) before (passed_by s words) goal base (Explore q i ∷ rest) slots → Searching (graph_for s) before (passed_by s words') goal base frames slots'
   inserted-yields unseen {before} {goal} {base} {rest} {frames} {slots} {slots'} y x =
       subst (λ p. Searching (graph_for s) before p goal base frames slots') (sym now_passed)
-      (Searching-yields x (automaton-bounded s.matcher s.states.now s.text.now s.end) (new_here unseen) y)
+      (Searching-yields x (automaton-bounded (forwards s.matcher s.text.now) s.states.now s.end) (new_here unseen) y)
 
   less_work : new ≡ true → work s words' + (length ((graph_for s).successors (at q i)) + 2) ≤ work s words
   unfolding work

@@ -12,7 +12,7 @@ use Rattle.rx_model.proofs.FirstLemmas.{none-is-some, some-is}
 use Rattle.rx_model.proofs.RiseLemmas.{found-end}
 use Rattle.rx_search.specs.Input.{InputValue, next_in}
 use Rattle.rx_search.specs.Matches.{match_value, MatchValue, HalfMatchValue}
-use Rattle.rx_nfa.specs.Automaton.{at}
+use Rattle.rx_nfa.specs.Automaton.{at, forwards}
 use Rattle.rx_nfa.specs.Nfa.{Nfa, IsInRange}
 use Rattle.rx_nfa.proofs.AutomatonLemmas.{automaton-bounded, automaton-rises, automaton-accepts-within}
 use Rattle.rx_nfa.proofs.NextMatchLemmas.{next_match_of-patterns, next_match_of-slot, next_match_of-within}
@@ -68,7 +68,7 @@ returned-some r slots slots' (Some t) h =
 pub returned-in_order : (s : Search) (i : ℕ) (r : HalfMatchValue) (slots slots' : Slots) → returned (Some r) slots' ≡ answer slots (first_trace (graph_for s) (at s.start i)) → i ≤ r.offset
 returned-in_order s i r slots slots' is =
     let x = returned-some r slots slots' (first_trace (graph_for s) (at s.start i)) is in
-    let ends = found-end (graph_for s) (automaton-bounded s.matcher s.states.now s.text.now s.end) (automaton-rises s.matcher s.states.now s.text.now s.end) s.end (automaton-accepts-within s.matcher s.states.now s.text.now s.end) nowhere (at s.start i) x.0 x.1 in
+    let ends = found-end (graph_for s) (automaton-bounded (forwards s.matcher s.text.now) s.states.now s.end) (automaton-rises (forwards s.matcher s.text.now) s.states.now s.end) s.end (automaton-accepts-within (forwards s.matcher s.text.now) s.states.now s.end) nowhere (at s.start i) x.0 x.1 in
     let up = ends.0 in
     let same = x.3 in
     omega arith

@@ -9,7 +9,7 @@ use Rattle.rx_model.proofs.RunLemmas.{by_test}
 use Rattle.rx_model.proofs.FirstLemmas.{found-is_run, none-is-some, some-is, tells}
 use Rattle.rx_model.proofs.RiseLemmas.{trace-end, run-rises, mapped-some}
 use Rattle.rx_search.specs.Input.{InputValue}
-use Rattle.rx_nfa.specs.Automaton.{at, automaton}
+use Rattle.rx_nfa.specs.Automaton.{at, automaton, forwards}
 use Rattle.rx_nfa.specs.Nfa.{Nfa}
 use Rattle.rx_nfa.specs.NextMatch.{start_of, first_from, next_match_of}
 use Rattle.rx_nfa.specs.declared.state.State.{State}
@@ -53,7 +53,7 @@ first_from-places : (terminator : ℕ) (states : List State) (text : List ℕ) (
     → (k place : ℕ) → last_write t.writes k ≡ Some place → (i ≤ place) × (place ≤ t.end)
 first_from-places terminator states text end None i t h k place writes = none-is-some h
 first_from-places terminator states text end (Some q) i t h k place writes =
-    found-places (automaton terminator states text end) (automaton-bounded terminator states text end) (automaton-rises terminator states text end) (at q i) t h k place writes
+    found-places (automaton terminator states text end) (automaton-bounded (forwards terminator text) states end) (automaton-rises (forwards terminator text) states end) (at q i) t h k place writes
 
 -- a slot of the next match
 pub next_match_of-places : (nfa : Nfa) (utf8_empty : Bool) (text : List ℕ) (anchor : Anchor) (end start : ℕ) (m : Match) → next_match_of nfa utf8_empty text anchor end start ≡ Some m

@@ -10,12 +10,12 @@ use Rattle.rx_model.proofs.RunLemmas.{by_test}
 use Rattle.rx_model.proofs.FirstLemmas.{none-is-some, some-is}
 use Rattle.rx_model.proofs.RiseLemmas.{found-end}
 use Rattle.rx_search.specs.Matches.{MatchValue}
-use Rattle.rx_nfa.specs.Automaton.{at}
+use Rattle.rx_nfa.specs.Automaton.{at, forwards, byte_at}
 use Rattle.rx_nfa.proofs.AutomatonLemmas.{automaton-bounded, automaton-rises, automaton-accepts-within}
 use Rattle.rx_nfa.proofs.NextMatchLemmas.{first_start-from}
 use Rattle.rx_engines.specs.Walk.{Slots}
 use Rattle.rx_engines.specs.Threads.{Row}
-use Rattle.rx_engines.specs.Simulation.{Hit, hit_of, best_hit, until, among, later_starts, byte_at}
+use Rattle.rx_engines.specs.Simulation.{Hit, hit_of, best_hit, until, among, later_starts}
 use Rattle.rx_engines.specs.Search.{graph_until, next_until, next_of, first_place, answer_of}
 use Rattle.rx_engines.specs.declared.search.Search.{Search}
 use Rattle.rx_engines.specs.declared.pikevm.step.Accepted.{Accepted}
@@ -82,7 +82,7 @@ found-none (Some f) best best' i better none = none-is-some (sym none ∙ better
 until-in_order : (s : Search) (end : ℕ) (m : Match) → next_until s end ≡ Some m → m.start ≤ m.trace.end
 until-in_order s end m h =
     let x = first_start-from (is_permitted s.utf8 s.text.now) (λ i. first_trace (graph_until s end) (at s.start i)) (s.last + 1 - s.first) s.first m h in
-    (found-end (graph_until s end) (automaton-bounded s.matcher s.states.now s.text.now end) (automaton-rises s.matcher s.states.now s.text.now end) end (automaton-accepts-within s.matcher s.states.now s.text.now end) nowhere (at s.start m.start) m.trace x.1).0
+    (found-end (graph_until s end) (automaton-bounded (forwards s.matcher s.text.now) s.states.now end) (automaton-rises (forwards s.matcher s.text.now) s.states.now end) end (automaton-accepts-within (forwards s.matcher s.text.now) s.states.now end) nowhere (at s.start m.start) m.trace x.1).0
 
 module _ (s : Search) (width : ℕ) where
   abbrev pub Stage : (end : ℕ) → Option Hit → (place next : ℕ) → Passed → List Row → List ℕ → Type 0

@@ -12,7 +12,7 @@ use Rattle.rx_model.proofs.RiseLemmas.{found-end}
 use Rattle.rx_model.proofs.FoundLemmas.{found-prune, found-forget, option_map-or}
 use Rattle.rx_nfa.proofs.NextMatchLemmas.{first_start-alike}
 use Rattle.rx_search.specs.Matches.{MatchValue, match_value}
-use Rattle.rx_nfa.specs.Automaton.{at, automaton, state_at}
+use Rattle.rx_nfa.specs.Automaton.{at, automaton, state_at, forwards}
 use Rattle.rx_engines.specs.Walk.{Slots, answer, pending}
 use Rattle.rx_engines.specs.Search.{graph_until}
 use Rattle.rx_nfa.specs.declared.state.State.{State}
@@ -63,7 +63,7 @@ found-beyond terminator states text end q i lt =
     elim (tells (found (automaton terminator states text end) nowhere (at q i))) [
       | inl none ↦ none
       | inr some ↦
-          let ends = found-end (automaton terminator states text end) (automaton-bounded terminator states text end) (automaton-rises terminator states text end) end (automaton-accepts-within terminator states text end) nowhere (at q i) some.0 some.1 in
+          let ends = found-end (automaton terminator states text end) (automaton-bounded (forwards terminator text) states end) (automaton-rises (forwards terminator text) states end) end (automaton-accepts-within (forwards terminator text) states end) nowhere (at q i) some.0 some.1 in
           absurd (let a = ends.0 in let b = ends.1 in omega arith)
     ]
 
@@ -89,7 +89,7 @@ module _ (s : Search) (end width : ℕ) where
   pub later-forget : (best : Option Hit) (items : List ℕ) (i : ℕ) → later best (i + 1) (passed_at items i) ≡ later best (i + 1) nowhere
   later-forget best items i =
       ap (λ m. option_or best (option_map (hit_of width) m))
-      (first_of_starts-forget g (is_permitted s.utf8 s.text.now) s.start (automaton-rises s.matcher s.states.now s.text.now end) items (s.last + 1 - (i + 1)) i)
+      (first_of_starts-forget g (is_permitted s.utf8 s.text.now) s.start (automaton-rises (forwards s.matcher s.text.now) s.states.now end) items (s.last + 1 - (i + 1)) i)
 
   pub starts-over : (p : Passed) (i : ℕ) → s.last < i → starts p i ≡ None
   unfolding first_start

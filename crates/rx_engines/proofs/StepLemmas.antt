@@ -10,11 +10,11 @@ use Rattle.rx_model.proofs.FoundLemmas.{found-accepted, found-prune, found-step,
 use Rattle.std.proofs.lemmas.List.Elements.{All-nil, All-cons, All-head, All-tail}
 use Rattle.std.proofs.lemmas.Bool.Decides.{nat_tests}
 use Rattle.rx_model.proofs.FirstLemmas.{none-is-some, some-is}
-use Rattle.rx_nfa.specs.Automaton.{automaton, route, read_byte, state_step, state_accepts, state_writes, NamesBelow}
+use Rattle.rx_nfa.specs.Automaton.{automaton, route, read_byte, state_step, state_accepts, state_writes, NamesBelow, forwards, byte_of, byte_at, target_of}
 use Rattle.rx_nfa.specs.declared.state.Transition.{Transition}
 use Rattle.rx_nfa.specs.declared.state.State.TheVariants.{ByteRange, Sparse, Look, Union, Capture, Fail, Match as Accepts}
 use Rattle.rx_nfa.proofs.StateLemmas.{accepted-is, successors-is, written-is, state-known, names-known, read_byte-taken, read_byte-dead}
-use Rattle.rx_engines.specs.Simulation.{byte_at, target_of, onto, act_of}
+use Rattle.rx_engines.specs.Simulation.{onto, act_of}
 use Rattle.rx_engines.specs.declared.pikevm.step.Action.{Action}
 use Rattle.rx_engines.specs.declared.pikevm.step.Action.TheVariants.{Accept, Read, Nothing}
 use Rattle.rx_nfa.proofs.AutomatonLemmas.{automaton-bounded}
@@ -129,23 +129,23 @@ Acts states g end q i Nothing =
 
 module _ (terminator : ℕ) (states : List State) (text : List ℕ) (end q i : ℕ) (names : All (NamesBelow (length states)) states) (state : q < length states) (place : i ≤ end) where
   -- a state that reads a byte by these transitions
-  acts-read : (s : State) (ts : List Transition) → state_at states q ≡ s → is_resting s ≡ true → state_accepts s ≡ None → state_writes s ≡ None → state_step terminator text end s i ≡ read_byte text end ts i
+  acts-read : (s : State) (ts : List Transition) → state_at states q ≡ s → is_resting s ≡ true → state_accepts s ≡ None → state_writes s ≡ None → state_step (forwards terminator text) end s i ≡ read_byte (byte_of text) end ts i
       → All (λ (t : Transition). t.next < length states) ts → Acts states (automaton terminator states text end) end q i (onto (target_of ts (byte_at text end i)))
   acts-read s ts is rests none unwritten steps all =
       by_test (nat_lt i end)
       (λ e. rw e (at_byte (grind (arith, nat_tests)) (route ts (get_or text i 0)) refl))
-      (λ e. rw e (inr (accepts, goes ∙ read_byte-dead text end ts i (λ lt. absurd (grind (arith, nat_tests))))))
+      (λ e. rw e (inr (accepts, goes ∙ read_byte-dead (byte_of text) end ts i (λ lt. absurd (grind (arith, nat_tests))))))
     where
       accepts : (automaton terminator states text end).accepted (at q i) ≡ None
-      accepts = accepted-is terminator states text end q i state place s is ∙ none
+      accepts = accepted-is (forwards terminator text) states end q i state place s is ∙ none
 
-      goes : (automaton terminator states text end).successors (at q i) ≡ read_byte text end ts i
-      goes = successors-is terminator states text end q i state place s is ∙ steps
+      goes : (automaton terminator states text end).successors (at q i) ≡ read_byte (byte_of text) end ts i
+      goes = successors-is (forwards terminator text) states end q i state place s is ∙ steps
 
       at_byte : i < end → (o : Option ℕ) → route ts (get_or text i 0) ≡ o → Acts states (automaton terminator states text end) end q i (onto o)
-      at_byte lt None e = inr (accepts, goes ∙ read_byte-dead text end ts i (λ _. e))
+      at_byte lt None e = inr (accepts, goes ∙ read_byte-dead (byte_of text) end ts i (λ _. e))
       at_byte lt (Some next) e =
-          (ap is_resting is ∙ rests, route-below (length states) ts (get_or text i 0) next all e, lt, accepts, written-is terminator states text end q i state place s is ∙ unwritten, goes ∙ read_byte-taken text end ts next i lt e)
+          (ap is_resting is ∙ rests, route-below (length states) ts (get_or text i 0) next all e, lt, accepts, written-is (forwards terminator text) states end q i state place s is ∙ unwritten, goes ∙ read_byte-taken (byte_of text) end ts next i lt e)
 
   acts : (s : State) → state_at states q ≡ s → Acts states (automaton terminator states text end) end q i (act_of s (byte_at text end i))
   acts (ByteRange low high next) is =
@@ -158,7 +158,7 @@ module _ (terminator : ℕ) (states : List State) (text : List ℕ) (end q i : �
   acts (Union alternates) is = inl (ap is_resting is)
   acts (Capture next pattern slot) is = inl (ap is_resting is)
   acts Fail is = inl (ap is_resting is)
-  acts (Accepts pattern) is = (ap is_resting is, accepted-is terminator states text end q i state place (Accepts pattern) is)
+  acts (Accepts pattern) is = (ap is_resting is, accepted-is (forwards terminator text) states end q i state place (Accepts pattern) is)
 
   -- what was done with the state and the byte that were read
   pub acts-known : (n : ℕ) (r : State) (b : Option ℕ) (a : Action) → n ≡ q → r ≡ get_or states n r → b ≡ byte_at text end i → a ≡ act_of r b → Acts states (automaton terminator states text end) end q i a
@@ -203,10 +203,10 @@ module _ (terminator : ℕ) (states : List State) (text : List ℕ) (q i : ℕ) 
       → among states here nowhere i rows (drop k qs) ≡ among states here nowhere i rows (drop (k + 1) qs)
   idle-ends qs k a lt is ends acts =
       among-left states here nowhere i rows qs k q lt is
-      ∙ ap (λ o. option_or o (among states here nowhere i rows (drop (k + 1) qs))) (thread-ends states here i rows q (automaton-bounded terminator states text i) nowhere refl (subst (Acts states here i q i) (sym ends) acts))
+      ∙ ap (λ o. option_or o (among states here nowhere i rows (drop (k + 1) qs))) (thread-ends states here i rows q (automaton-bounded (forwards terminator text) states i) nowhere refl (subst (Acts states here i q i) (sym ends) acts))
 
   pub idle-accepts : (qs : List ℕ) (k pattern : ℕ) → k < length qs → q ≡ get_or qs k 0 → Acts states here i q i (Accept pattern)
       → among states here nowhere i rows (drop k qs) ≡ Some ((row_at rows q).0, record { pattern = pattern; end = i; slots = (row_at rows q).1 })
   idle-accepts qs k pattern lt is acts =
       among-left states here nowhere i rows qs k q lt is
-      ∙ ap (λ o. option_or o (among states here nowhere i rows (drop (k + 1) qs))) (thread-accepts states here i rows q (automaton-bounded terminator states text i) nowhere refl pattern acts.0 acts.1)
+      ∙ ap (λ o. option_or o (among states here nowhere i rows (drop (k + 1) qs))) (thread-accepts states here i rows q (automaton-bounded (forwards terminator text) states i) nowhere refl pattern acts.0 acts.1)

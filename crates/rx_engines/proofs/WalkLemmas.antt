@@ -3,7 +3,7 @@ use Rattle.std.proofs.Common.{◌≡◌, ℕ, ◌<◌, ◌≤◌, List, [], ◌�
 use Rattle.std.specs.Prelude.{Option, Some, None, option_map}
 use Rattle.std.specs.Option.{option_or}
 use Rattle.rx_model.specs.Runs.{Configuration, Trace, with_write, first_some}
-use Rattle.rx_nfa.specs.Automaton.{at, automaton, state_at, state_step, state_accepts, state_writes}
+use Rattle.rx_nfa.specs.Automaton.{at, automaton, state_at, state_step, state_accepts, state_writes, forwards}
 use Rattle.rx_nfa.specs.declared.state.State.{State}
 use Rattle.rx_nfa.proofs.StateLemmas.{accepted-is, successors-is, written-is}
 use Rattle.rx_engines.specs.Walk.{Slots, answer, pending, explore_all, Expands}
@@ -41,16 +41,16 @@ pending-alike f h each (Restore slot old ∷ rest) slots = pending-alike f h eac
 
 module _ (terminator : ℕ) (states : List State) (text : List ℕ) (end q i : ℕ) (state : q < length states) (place : i ≤ end) where
   pub Expands-unwritten : (s : State) → state_at states q ≡ s → state_accepts s ≡ None → state_writes s ≡ None → (frames frames' : List Frame) (slots : Slots)
-      → frames' ≡ explore_all (state_step terminator text end s i) ++ frames → Expands (automaton terminator states text end) (at q i) frames frames' slots slots
+      → frames' ≡ explore_all (state_step (forwards terminator text) end s i) ++ frames → Expands (automaton terminator states text end) (at q i) frames frames' slots slots
   Expands-unwritten s e none unwritten frames frames' slots is = record {
-    accepts = accepted-is terminator states text end q i state place s e ∙ none;
-    goes_on = inl (written-is terminator states text end q i state place s e ∙ unwritten, is ∙ ap (λ ds. explore_all ds ++ frames) (sym (successors-is terminator states text end q i state place s e)), refl);
+    accepts = accepted-is (forwards terminator text) states end q i state place s e ∙ none;
+    goes_on = inl (written-is (forwards terminator text) states end q i state place s e ∙ unwritten, is ∙ ap (λ ds. explore_all ds ++ frames) (sym (successors-is (forwards terminator text) states end q i state place s e)), refl);
   }
 
   pub Expands-written : (s : State) (k : ℕ) → state_at states q ≡ s → state_accepts s ≡ None → state_writes s ≡ Some k → (frames frames' : List Frame) (slots slots' : Slots)
-      → frames' ≡ explore_all (state_step terminator text end s i) ++ (Restore k (get_or slots k None) ∷ frames) → slots' ≡ set slots k (Some i)
+      → frames' ≡ explore_all (state_step (forwards terminator text) end s i) ++ (Restore k (get_or slots k None) ∷ frames) → slots' ≡ set slots k (Some i)
       → Expands (automaton terminator states text end) (at q i) frames frames' slots slots'
   Expands-written s k e none written frames frames' slots slots' is wrote = record {
-    accepts = accepted-is terminator states text end q i state place s e ∙ none;
-    goes_on = inr (k, written-is terminator states text end q i state place s e ∙ written, is ∙ ap (λ ds. explore_all ds ++ (Restore k (get_or slots k None) ∷ frames)) (sym (successors-is terminator states text end q i state place s e)), wrote);
+    accepts = accepted-is (forwards terminator text) states end q i state place s e ∙ none;
+    goes_on = inr (k, written-is (forwards terminator text) states end q i state place s e ∙ written, is ∙ ap (λ ds. explore_all ds ++ (Restore k (get_or slots k None) ∷ frames)) (sym (successors-is (forwards terminator text) states end q i state place s e)), wrote);
   }

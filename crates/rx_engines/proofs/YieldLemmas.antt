@@ -6,19 +6,18 @@ use Rattle.std.specs.Prelude.{Bool, true, false, if◌then◌else◌, Option, So
 use Rattle.rx_model.specs.Runs.{PriorityGraph, Configuration}
 use Rattle.rx_model.proofs.RunLemmas.{by_test}
 use Rattle.rx_model.proofs.FirstLemmas.{none-is-some, some-is}
-use Rattle.rx_nfa.specs.Automaton.{at, automaton, state_at, state_step, state_accepts, state_writes, route, go_on, read_byte}
+use Rattle.rx_nfa.specs.Automaton.{at, automaton, state_at, state_step, state_accepts, state_writes, route, go_on, read_byte, forwards, byte_of, byte_at, target_of}
 use Rattle.rx_nfa.specs.declared.state.Transition.{Transition}
 use Rattle.rx_nfa.specs.declared.state.State.{State}
 use Rattle.rx_nfa.proofs.StateLemmas.{accepted-is, successors-is, written-is}
 use Rattle.rx_engines.specs.Walk.{Slots, AllWithin, explore_all}
-use Rattle.rx_engines.specs.Simulation.{byte_at, target_of}
 use Rattle.rx_engines.specs.Backtrack.{frames_of, onto, Saves, Yields, Stepped}
 use Rattle.rx_engines.specs.declared.frame.Frame.{Frame}
 use Rattle.rx_engines.specs.declared.frame.Frame.TheVariants.{Explore, Restore}
 
 -- where a byte leads to
 pub reads-onto : (text : List ℕ) (end : ℕ) (ts : List Transition) (i : ℕ) (rest : List Frame)
-    → frames_of (onto (target_of ts (byte_at text end i)) (i + 1)) rest ≡ explore_all (read_byte text end ts i) ++ rest
+    → frames_of (onto (target_of ts (byte_at text end i)) (i + 1)) rest ≡ explore_all (read_byte (byte_of text) end ts i) ++ rest
 reads-onto text end ts i rest =
     by_test (nat_lt i end)
     (λ e. rw e (goes (route ts (slice_index text i))))
@@ -42,25 +41,25 @@ Stepped-onto g c (Some q) i frames frames' slots slots' y = y
 module _ (terminator : ℕ) (states : List State) (text : List ℕ) (end q i : ℕ) (state : q < length states) (place : i ≤ end) where
   -- the state writes nothing
   pub Yields-unwritten : (s : State) → state_at states q ≡ s → state_accepts s ≡ None → state_writes s ≡ None → (frames frames' : List Frame) (slots : Slots)
-      → frames' ≡ explore_all (state_step terminator text end s i) ++ frames → Yields (automaton terminator states text end) (at q i) frames frames' slots slots
+      → frames' ≡ explore_all (state_step (forwards terminator text) end s i) ++ frames → Yields (automaton terminator states text end) (at q i) frames frames' slots slots
   Yields-unwritten s e none unwritten frames frames' slots is = record {
-    accepts = accepted-is terminator states text end q i state place s e ∙ none;
+    accepts = accepted-is (forwards terminator text) states end q i state place s e ∙ none;
     goes_on = inl (
-      λ k writes. none-is-some (sym (written-is terminator states text end q i state place s e ∙ unwritten) ∙ writes),
-      is ∙ ap (λ ds. explore_all ds ++ frames) (sym (successors-is terminator states text end q i state place s e)),
+      λ k writes. none-is-some (sym (written-is (forwards terminator text) states end q i state place s e ∙ unwritten) ∙ writes),
+      is ∙ ap (λ ds. explore_all ds ++ frames) (sym (successors-is (forwards terminator text) states end q i state place s e)),
       refl,
     );
   }
 
   -- the state writes a slot, if it is there
-  pub Yields-saved : (s : State) (slot next : ℕ) → state_at states q ≡ s → state_accepts s ≡ None → state_writes s ≡ Some slot → state_step terminator text end s i ≡ at next i ∷ []
+  pub Yields-saved : (s : State) (slot next : ℕ) → state_at states q ≡ s → state_accepts s ≡ None → state_writes s ≡ Some slot → state_step (forwards terminator text) end s i ≡ at next i ∷ []
       → (frames frames' : List Frame) (slots slots' : Slots) → Saves slot i frames frames' slots slots'
       → Yields (automaton terminator states text end) (at q i) frames (Explore next i ∷ frames') slots slots'
   Yields-saved s slot next e none writes goes frames frames' slots slots' saved =
-      let successors : (automaton terminator states text end).successors (at q i) ≡ at next i ∷ [] = successors-is terminator states text end q i state place s e ∙ goes in
-      let written : (automaton terminator states text end).written (at q i) ≡ Some slot = written-is terminator states text end q i state place s e ∙ writes in
+      let successors : (automaton terminator states text end).successors (at q i) ≡ at next i ∷ [] = successors-is (forwards terminator text) states end q i state place s e ∙ goes in
+      let written : (automaton terminator states text end).written (at q i) ≡ Some slot = written-is (forwards terminator text) states end q i state place s e ∙ writes in
       record {
-        accepts = accepted-is terminator states text end q i state place s e ∙ none;
+        accepts = accepted-is (forwards terminator text) states end q i state place s e ∙ none;
         goes_on = elim saved [
           | inl h ↦ inl (
             λ k other. (let same : slot ≡ k = some-is (sym written ∙ other) in let past = h.0 in omega arith),

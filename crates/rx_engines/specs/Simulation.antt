@@ -1,13 +1,12 @@
 -- A simulation by ordered threads: what the threads at a place lead to, and what a step keeps true.
-use Rattle.std.specs.Prelude.{◌≡◌, ℕ, zero, suc, ◌+◌, ◌-◌, ◌≤◌, Bool, true, false, List, [], ◌∷◌, length, map, replicate, Option, Some, None, option_map, nat_lt, slice_index, if◌then◌else◌}
+use Rattle.std.specs.Prelude.{◌≡◌, ℕ, zero, suc, ◌+◌, ◌-◌, ◌≤◌, Bool, true, false, List, [], ◌∷◌, length, map, replicate, Option, Some, None, option_map, if◌then◌else◌}
 use Rattle.std.specs.Option.{option_or}
 use Rattle.rx_model.specs.Runs.{Configuration, PriorityGraph, Passed, nowhere, found}
 use Rattle.rx_model.specs.Search.{Match, is_permitted}
 use Rattle.rx_model.proofs.RunLemmas.{weight}
 use Rattle.rx_search.specs.Matches.{MatchValue}
-use Rattle.rx_nfa.specs.Automaton.{at, automaton, state_at, route}
+use Rattle.rx_nfa.specs.Automaton.{at, automaton, state_at, target_of}
 use Rattle.rx_nfa.specs.Ordered.{is_resting, line, passed_at, first_told, first_then, at_rest, first_of_starts}
-use Rattle.rx_nfa.specs.declared.state.Transition.{Transition}
 use Rattle.rx_engines.specs.Walk.{Slots, Answer, answer, pending, write_all, Expands}
 use Rattle.rx_nfa.specs.declared.state.State.{State}
 use Rattle.rx_nfa.specs.declared.state.State.TheVariants.{ByteRange, Sparse, Look, Union, Capture, Fail, Match as Accepts}
@@ -94,19 +93,10 @@ going_on Rest i frames = frames
 going_on (On next) i frames = Explore next i ∷ frames
 going_on Back i frames = frames
 
--- the byte at the place, if it lies before the end
-abbrev pub byte_at : List ℕ → (end place : ℕ) → Option ℕ
-byte_at text end place = if nat_lt place end then Some (slice_index text place) else None
-
 -- what a state does at a byte
 abbrev pub onto : Option ℕ → Action
 onto None = Nothing
 onto (Some next) = Read next
-
--- where the byte leads to, if there is one
-abbrev pub target_of : List Transition → Option ℕ → Option ℕ
-target_of transitions None = None
-target_of transitions (Some byte) = route transitions byte
 
 abbrev pub act_of : State → Option ℕ → Action
 act_of (ByteRange low high next) byte = onto (target_of (record { start = low; end = high; next = next } ∷ []) byte)

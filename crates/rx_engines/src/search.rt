@@ -4,7 +4,7 @@ ghost use Rattle.rx_model.specs.Look.{holds};
 ghost use Rattle.rx_search.specs.Input.{IsSpanned};
 ghost use Rattle.rx_search.specs.Look.{kind_of};
 ghost use Rattle.rx_nfa.specs.Nfa.{IsInRange};
-ghost use Rattle.rx_engines.specs.Simulation.{byte_at, target_of};
+ghost use Rattle.rx_nfa.specs.Automaton.{byte_at, target_of};
 ghost use Rattle.rx_engines.specs.Engine.{IsSearchOf, HasNoMatch};
 
 use crate::starts::{latest_start, start_state};

@@ -14,15 +14,13 @@ use Rattle.rx_model.proofs.OptionLemmas.{or-assoc, or-none_right}
 use Rattle.rx_search.specs.Look.{kind_of}
 use Rattle.rx_search.specs.Matches.{HalfMatchValue}
 use Rattle.rx_search.specs.declared.look.Look.{Look as LookKind}
-use Rattle.rx_nfa.specs.Around.{Around, step_over}
-use Rattle.rx_nfa.specs.Automaton.{at, state_at, state_accepts, NamesBelow}
+use Rattle.rx_nfa.specs.Automaton.{at, state_at, state_accepts, NamesBelow, Surroundings, state_step}
 use Rattle.rx_nfa.specs.Ordered.{has, passed_at, AreBelow, first_told, first_then, IsStable, half, tell, first_on, is_resting, at_rest, resting, epsilon_successors, close, threads_from, HoldsAt, HasSteps}
 use Rattle.rx_nfa.specs.declared.state.State.{State}
 use Rattle.rx_nfa.specs.declared.state.State.TheVariants.{ByteRange, Sparse, Look, Union, Capture, Fail, Match}
 use Rattle.rx_nfa.proofs.ListLemmas.{first_told-append, first_told-alike, first_told-resting, first_then-seen, first_then-moves, first_then-rests}
 use Rattle.rx_nfa.proofs.PlaceLemmas.{passed_at-has, passed_at-elsewhere, left_at, left-most, left-less}
-use Rattle.rx_nfa.proofs.AroundLemmas.{read_byte-place}
-use Rattle.rx_nfa.proofs.StateLemmas.{none-in}
+use Rattle.rx_nfa.proofs.StateLemmas.{none-in, read_byte-place}
 
 -- a write changes neither pattern nor end
 pub half-written : (w : Option ℕ) (place : ℕ) (o : Option Trace) → option_map half (option_map (with_write w place) o) ≡ option_map half o
@@ -71,9 +69,9 @@ taken-step : (i next : ℕ) (b : Bool) → (if b then at next i ∷ [] else []) 
 taken-step i next true = refl
 taken-step i next false = refl
 
-step-epsilon : (around : Around) (end : ℕ) (holding : model.Look → Bool) (s : State) (i : ℕ)
+step-epsilon : (around : Surroundings) (end : ℕ) (holding : model.Look → Bool) (s : State) (i : ℕ)
     → ((look : LookKind) (next : ℕ) → s ≡ Look look next → holding (kind_of look) ≡ around.looks (kind_of look) i)
-    → is_resting s ≡ false → step_over around end s i ≡ map (λ q. at q i) (epsilon_successors holding s)
+    → is_resting s ≡ false → state_step around end s i ≡ map (λ q. at q i) (epsilon_successors holding s)
 step-epsilon around end holding (ByteRange low high next) i sees h = absurd (true≢false h)
 step-epsilon around end holding (Sparse transitions) i sees h = absurd (true≢false h)
 step-epsilon around end holding (Look look next) i sees h =
@@ -83,10 +81,10 @@ step-epsilon around end holding (Capture next pattern slot) i sees h = refl
 step-epsilon around end holding Fail i sees h = refl
 step-epsilon around end holding (Match pattern) i sees h = absurd (true≢false h)
 
-rests-later : (around : Around) (end : ℕ) (s : State) (i : ℕ) → is_resting s ≡ true → (d : Configuration) → Contains (step_over around end s i) d → i < d.place
+rests-later : (around : Surroundings) (end : ℕ) (s : State) (i : ℕ) → is_resting s ≡ true → (d : Configuration) → Contains (state_step around end s i) d → i < d.place
 rests-later around end (ByteRange low high next) i h d m =
-    let up = read_byte-place around end (record { start = low; end = high; next = next } ∷ []) i d m in omega arith
-rests-later around end (Sparse transitions) i h d m = let up = read_byte-place around end transitions i d m in omega arith
+    let up = read_byte-place around.byte end (record { start = low; end = high; next = next } ∷ []) i d m in omega arith
+rests-later around end (Sparse transitions) i h d m = let up = read_byte-place around.byte end transitions i d m in omega arith
 rests-later around end (Look look next) i h d m = absurd (true≢false (sym h))
 rests-later around end (Union alternates) i h d m = absurd (true≢false (sym h))
 rests-later around end (Capture next pattern slot) i h d m = absurd (true≢false (sym h))
@@ -140,7 +138,7 @@ module _ (g : PriorityGraph) where
       option_map-or half (found g p (at q i)) (first_some (found g p) (map (λ r. at r i) qs))
       ∙ ap (option_or (tell g p i q)) (first_on-map p i qs)
 
-module _ (around : Around) (states : List State) (end : ℕ) (g : PriorityGraph) (has_steps : HasSteps around states end g) where
+module _ (around : Surroundings) (states : List State) (end : ℕ) (g : PriorityGraph) (has_steps : HasSteps around states end g) where
   -- what a run from a state at rest has doesn't depend on what was passed at its place
   pub found-rests : (p : Passed) (q i : ℕ) → q < length states → i ≤ end → is_resting (state_at states q) ≡ true → p (at q i) ≡ false → ((d : Configuration) → i < d.place → p d ≡ false)
       → found g p (at q i) ≡ found g nowhere (at q i)

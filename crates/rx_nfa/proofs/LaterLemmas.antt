@@ -14,20 +14,17 @@ use Rattle.rx_model.proofs.FirstLemmas.{some-is}
 use Rattle.rx_model.proofs.FoundLemmas.{found-prune, found-forget, option_map-or}
 use Rattle.rx_model.proofs.OptionLemmas.{or-assoc, or-none_right}
 use Rattle.rx_search.specs.Matches.{HalfMatchValue, half_match_value}
-use Rattle.rx_nfa.specs.Around.{Around, forwards}
-use Rattle.rx_nfa.specs.Automaton.{at, automaton, state_at, state_accepts, NamesBelow}
+use Rattle.rx_nfa.specs.Automaton.{at, automaton, automaton_over, state_at, state_accepts, NamesBelow, Surroundings, forwards}
 use Rattle.rx_nfa.specs.Nfa.{Nfa, IsInRange}
 use Rattle.rx_nfa.specs.NextMatch.{start_of, first_from, next_match_of}
 use Rattle.rx_nfa.specs.Ordered.{passed_at, AreBelow, IsStable, half, tell, first_on, threads_from, close, targets, accepts_at, cut, match_here, HasSteps, first_of_starts, where_there, begun, list_search, list_search_of}
 use Rattle.rx_nfa.specs.declared.state.State.{State}
 use Rattle.rx_nfa.specs.declared.state.State.TheVariants.{Fail}
-use Rattle.rx_nfa.proofs.AroundLemmas.{step_over-forwards}
-use Rattle.rx_nfa.proofs.AutomatonLemmas.{automaton-bounded, automaton-rises, automaton-successors, automaton-accepted-beyond}
+use Rattle.rx_nfa.proofs.AutomatonLemmas.{automaton-bounded, automaton-rises, automaton-successors, automaton-accepted, automaton-accepted-beyond}
 use Rattle.rx_nfa.proofs.ClosureLemmas.{threads-first, close-below, resting-below}
 use Rattle.rx_nfa.proofs.ListLemmas.{first_told-append}
 use Rattle.rx_nfa.proofs.NextMatchLemmas.{first_start-alike}
 use Rattle.rx_nfa.proofs.PlaceLemmas.{passed_at-elsewhere}
-use Rattle.rx_nfa.proofs.StateLemmas.{accepted-is}
 use Rattle.rx_nfa.proofs.TargetLemmas.{targets-below, cut-below, step-first, end-first}
 
 -- The starts to come.
@@ -106,7 +103,7 @@ place-parts false None None later best = refl
 
 -- The search by lists.
 
-module _ (around : Around) (states : List State) (names : All (NamesBelow (length states)) states) (end : ℕ) (g : PriorityGraph) (has_steps : HasSteps around states end g)
+module _ (around : Surroundings) (states : List State) (names : All (NamesBelow (length states)) states) (end : ℕ) (g : PriorityGraph) (has_steps : HasSteps around states end g)
     (may : ℕ → Bool) (start : ℕ) (inside : start < length states) where
   abbrev looks_at : ℕ → model.Look → Bool
   looks_at i kind = around.looks kind i
@@ -173,12 +170,12 @@ module _ (around : Around) (states : List State) (names : All (NamesBelow (lengt
       (alike i (omega arith))
 
 -- The automaton has its steps.
-pub automaton-steps : (terminator : ℕ) (states : List State) (text : List ℕ) (end : ℕ) → HasSteps (forwards terminator text) states end (automaton terminator states text end)
-automaton-steps terminator states text end = record {
-  bounded = automaton-bounded terminator states text end;
-  rises = automaton-rises terminator states text end;
-  steps = λ q i lt le. automaton-successors terminator states text end q i lt le ∙ step_over-forwards terminator text end (state_at states q) i;
-  accepts = λ q i lt le none. accepted-is terminator states text end q i lt le (state_at states q) refl ∙ none;
+pub automaton-steps : (around : Surroundings) (states : List State) (end : ℕ) → HasSteps around states end (automaton_over around states end)
+automaton-steps around states end = record {
+  bounded = automaton-bounded around states end;
+  rises = automaton-rises around states end;
+  steps = λ q i lt le. automaton-successors around states end q i lt le;
+  accepts = λ q i lt le none. automaton-accepted around states end q i lt le ∙ none;
 }
 
 module _ (nfa : Nfa) (range : IsInRange nfa) (utf8_empty : Bool) (text : List ℕ) (b a : ℕ) (in_order : a ≤ b) (anchor : Anchor) (start : ℕ) (begins : start_of nfa anchor ≡ Some start) where
@@ -195,10 +192,10 @@ module _ (nfa : Nfa) (range : IsInRange nfa) (utf8_empty : Bool) (text : List �
       each : (q : ℕ) → graph.accepted (at q i) ≡ state_accepts (state_at nfa.states q)
       each q =
           by_test (nat_lt q (length nfa.states))
-          (λ e. accepted-is nfa.terminator nfa.states text b q i (grind (arith, nat_tests)) le (state_at nfa.states q) refl)
+          (λ e. automaton-accepted (forwards nfa.terminator text) nfa.states b q i (grind (arith, nat_tests)) le)
           (λ e.
           let past : length nfa.states ≤ q = grind (arith, nat_tests) in
-          automaton-accepted-beyond nfa.terminator nfa.states text b q i past ∙ ap state_accepts (sym (get_or_past nfa.states q Fail past)))
+          automaton-accepted-beyond (forwards nfa.terminator text) nfa.states b q i past ∙ ap state_accepts (sym (get_or_past nfa.states q Fail past)))
 
   inside : start < length nfa.states
   inside = of_anchor anchor begins
@@ -229,9 +226,9 @@ module _ (nfa : Nfa) (range : IsInRange nfa) (utf8_empty : Bool) (text : List �
       let around = forwards nfa.terminator text in
       let known : nat_lt b a ≡ false = grind (arith, nat_tests) in
       let qs = begun start (is_anchored anchor && may a) in
-      list_search-alike around nfa.states range.names b graph (automaton-steps nfa.terminator nfa.states text b) may start inside
+      list_search-alike around nfa.states range.names b graph (automaton-steps (forwards nfa.terminator text) nfa.states b) may start inside
       (λ i q. state_accepts (state_at nfa.states q)) (accepts_at graph) (b - a) a (λ j le. accepts j (omega arith)) (not (is_anchored anchor)) qs None
-      ∙ list_search-first around nfa.states range.names b graph (automaton-steps nfa.terminator nfa.states text b) may start inside (b - a) a (omega arith) (not (is_anchored anchor)) qs
+      ∙ list_search-first around nfa.states range.names b graph (automaton-steps (forwards nfa.terminator text) nfa.states b) may start inside (b - a) a (omega arith) (not (is_anchored anchor)) qs
       (begun-below (length nfa.states) start (is_anchored anchor && may a) inside) None
       ∙ from_start (is_anchored anchor)
       ∙ ap later (rw known refl)

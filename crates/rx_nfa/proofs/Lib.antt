@@ -28,7 +28,6 @@ pub mod RefinedLemmas
 pub mod NextMatchLemmas
 pub mod SetLemmas
 pub mod LookLemmas
-pub mod AroundLemmas
 pub mod PlaceLemmas
 pub mod ListLemmas
 pub mod ClosureLemmas

@@ -10,8 +10,7 @@ use Rattle.rx_model.proofs.FirstLemmas.{none-is-some, some-is, tells}
 use Rattle.rx_model.proofs.FoundLemmas.{found-accepted, found-step, found-forget}
 use Rattle.rx_model.proofs.OptionLemmas.{or-assoc, or-none_right}
 use Rattle.rx_search.specs.Matches.{HalfMatchValue}
-use Rattle.rx_nfa.specs.Around.{Around, step_over}
-use Rattle.rx_nfa.specs.Automaton.{at, go_on, state_at, state_accepts, route, NamesBelow}
+use Rattle.rx_nfa.specs.Automaton.{at, go_on, state_at, state_accepts, route, NamesBelow, Surroundings, state_step}
 use Rattle.rx_nfa.specs.Ordered.{AreBelow, half, tell, first_on, is_resting, resting, target, with_target, targets, accepts_at, cut, match_here, where_there, HasSteps}
 use Rattle.rx_nfa.specs.declared.state.Transition.{Transition}
 use Rattle.rx_nfa.specs.declared.state.State.{State}
@@ -70,7 +69,7 @@ accepts-reads (Match pattern) p byte h = refl
 
 -- What states do at a byte, and at the end.
 
-step-target : (around : Around) (end : ℕ) (s : State) (i : ℕ) → i < end → is_resting s ≡ true → step_over around end s i ≡ go_on (target s (around.byte i)) (i + 1)
+step-target : (around : Surroundings) (end : ℕ) (s : State) (i : ℕ) → i < end → is_resting s ≡ true → state_step around end s i ≡ go_on (target s (around.byte i)) (i + 1)
 step-target around end (ByteRange low high next) i lt h = let e : nat_lt i end ≡ true = grind (arith, nat_tests) in rw e refl
 step-target around end (Sparse transitions) i lt h = let e : nat_lt i end ≡ true = grind (arith, nat_tests) in rw e refl
 step-target around end (Look look next) i lt h = absurd (true≢false (sym h))
@@ -79,7 +78,7 @@ step-target around end (Capture next pattern slot) i lt h = absurd (true≢false
 step-target around end Fail i lt h = absurd (true≢false (sym h))
 step-target around end (Match pattern) i lt h = refl
 
-step-end : (around : Around) (end : ℕ) (s : State) → is_resting s ≡ true → step_over around end s end ≡ []
+step-end : (around : Surroundings) (end : ℕ) (s : State) → is_resting s ≡ true → state_step around end s end ≡ []
 step-end around end (ByteRange low high next) h = let e : nat_lt end end ≡ false = grind (arith, nat_tests) in rw e refl
 step-end around end (Sparse transitions) h = let e : nat_lt end end ≡ false = grind (arith, nat_tests) in rw e refl
 step-end around end (Look look next) h = absurd (true≢false (sym h))
@@ -113,7 +112,7 @@ first_on-with : (g : PriorityGraph) (i : ℕ) (o : Option ℕ) (qs : List ℕ) �
 first_on-with g i None qs = refl
 first_on-with g i (Some q) qs = ap (λ x. option_or x (first_on g nowhere i qs)) (sym (or-none_right (tell g nowhere i q)))
 
-module _ (around : Around) (states : List State) (end : ℕ) (g : PriorityGraph) (has_steps : HasSteps around states end g) where
+module _ (around : Surroundings) (states : List State) (end : ℕ) (g : PriorityGraph) (has_steps : HasSteps around states end g) where
   -- the match of a state that accepts
   accepted-tell : (q i p : ℕ) → g.accepted (at q i) ≡ Some p → tell g nowhere i q ≡ Some (record { pattern = p; offset = i })
   accepted-tell q i p e = ap (option_map half) (found-accepted g nowhere has_steps.bounded (at q i) p refl e)

@@ -14,5 +14,4 @@ pub mod Built
 pub mod Repeated
 pub mod Room
 pub mod Compiled
-pub mod Around
 pub mod Ordered

@@ -11,8 +11,7 @@ use Rattle.rx_model.specs.Search.{Anchor, Match as Found, is_anchored, is_permit
 use Rattle.rx_search.specs.Look.{kind_of}
 use Rattle.rx_search.specs.Matches.{HalfMatchValue}
 use Rattle.rx_search.specs.declared.look.Look.{Look as LookKind}
-use Rattle.rx_nfa.specs.Around.{Around, forwards, step_over}
-use Rattle.rx_nfa.specs.Automaton.{at, route, state_at, state_accepts}
+use Rattle.rx_nfa.specs.Automaton.{at, route, state_at, state_accepts, Surroundings, forwards, state_step}
 use Rattle.rx_nfa.specs.Nfa.{Nfa}
 use Rattle.rx_nfa.specs.declared.state.State.{State}
 use Rattle.rx_nfa.specs.declared.state.State.TheVariants.{ByteRange, Sparse, Look, Union, Capture, Fail, Match}
@@ -109,7 +108,7 @@ abbrev pub threads_from : List State → (model.Look → Bool) → List ℕ → 
 threads_from states holding qs = resting states (close states holding (length states) qs [])
 
 -- Of the kinds that the states ask for, this look-around holds at place i.
-abbrev pub HoldsAt : Around → List State → (model.Look → Bool) → (i : ℕ) → Type 0
+abbrev pub HoldsAt : Surroundings → List State → (model.Look → Bool) → (i : ℕ) → Type 0
 HoldsAt around states holding i =
     (q next : ℕ) (look : LookKind) → state_at states q ≡ Look look next → holding (kind_of look) ≡ around.looks (kind_of look) i
 
@@ -149,10 +148,10 @@ abbrev pub match_here : (accepts : ℕ → Option ℕ) → (i : ℕ) → List �
 match_here accepts i qs = option_map (λ p. record { pattern = p; offset = i }) (first_told accepts qs)
 
 -- The graph has the steps of the automaton, up to the end, and accepts nothing where the automaton doesn't.
-pub record HasSteps (around : Around) (states : List State) (end : ℕ) (g : PriorityGraph) : Type 0 where
+pub record HasSteps (around : Surroundings) (states : List State) (end : ℕ) (g : PriorityGraph) : Type 0 where
   pub bounded : IsBounded g
   pub rises : NeverFalls g
-  pub steps : (q i : ℕ) → q < length states → i ≤ end → g.successors (at q i) ≡ step_over around end (state_at states q) i
+  pub steps : (q i : ℕ) → q < length states → i ≤ end → g.successors (at q i) ≡ state_step around end (state_at states q) i
   pub accepts : (q i : ℕ) → q < length states → i ≤ end → state_accepts (state_at states q) ≡ None → g.accepted (at q i) ≡ None
 
 -- The starts to come.
@@ -174,7 +173,7 @@ begun start false = []
 -- A search by lists, along the n bytes from place i on. These states were come to over the last byte; behind them a thread
 -- begins at each place where a match may start, while the starts to come count (`loops`). Where a thread accepts, those
 -- behind it and the starts to come are given up: its match is better than the best before.
-unfoldable pub list_search : Around → List State → (accepts : (place state : ℕ) → Option ℕ) → (may : ℕ → Bool) → (start n i : ℕ)
+unfoldable pub list_search : Surroundings → List State → (accepts : (place state : ℕ) → Option ℕ) → (may : ℕ → Bool) → (start n i : ℕ)
     → (loops : Bool) → List ℕ → (best : Option HalfMatchValue) → Option HalfMatchValue
 list_search around states accepts may start zero i loops qs best =
     option_or (match_here (accepts i) i (threads_from states (λ kind. around.looks kind i) (qs ++ begun start (loops && may i)))) best

@@ -1,8 +1,9 @@
 ghost use Rattle.std.specs.Prelude.{◌≡◌, ℕ, ◌+◌, ◌<◌, ◌≤◌, List, [], length, All, Option, IfNone, option_map};
 ghost use Rattle.rx_model.specs.Runs.{Passed, nowhere};
 ghost use Rattle.std.specs.Option.{option_or};
+ghost use Rattle.rx_nfa.specs.Automaton.{byte_at};
 ghost use Rattle.rx_nfa.specs.Ordered.{IsStable};
-ghost use Rattle.rx_engines.specs.Simulation.{frames_of_states, Hit, among, best_hit, until, Stepped, byte_at, act_of, onto};
+ghost use Rattle.rx_engines.specs.Simulation.{frames_of_states, Hit, among, best_hit, until, Stepped, act_of, onto};
 ghost use Rattle.rx_engines.specs.Search.{IsInside, graph_until};
 
 use crate::pikevm::close::close;

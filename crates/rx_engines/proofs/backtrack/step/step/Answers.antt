@@ -2,11 +2,10 @@ use Rattle.std.proofs.Common.{◌≡◌, ◌+◌, ◌∷◌, [], length, refl, �
 use Rattle.std.specs.Prelude.{Some, None, if◌then◌else◌}
 use Rattle.rx_model.specs.Look.{holds}
 use Rattle.rx_search.specs.Look.{kind_of}
-use Rattle.rx_nfa.specs.Automaton.{at}
+use Rattle.rx_nfa.specs.Automaton.{at, forwards, byte_at, target_of}
 use Rattle.rx_nfa.specs.declared.state.Transition.{Transition}
 use Rattle.rx_nfa.proofs.StateLemmas.{accepted-is, state-known, names-known}
 use Rattle.rx_engines.specs.Search.{graph_for}
-use Rattle.rx_engines.specs.Simulation.{byte_at, target_of}
 use Rattle.rx_engines.specs.Backtrack.{onto}
 use Rattle.rx_engines.proofs.YieldLemmas.{reads-onto, looks-onto, Stepped-onto, Yields-unwritten, Yields-saved, AllWithin-read, AllWithin-looked, AllWithin-union}
 use Rattle.rx_engines.proofs.backtrack.step.step.Goals as goal
@@ -78,7 +77,7 @@ pub returns-in-Match-clause-stepped : goal.returns-in-Match-clause-stepped
 returns-in-Match-clause-stepped c =
     let s = c.args.search.now in
     let is = state-known s.states.now _ c.args.state _ _ c.as_usize.ensures.value c.requires.state c.index-states-as_usize.is c.in-Match.is in
-    (accepted-is s.matcher s.states.now s.text.now s.end c.args.state c.args.place c.requires.state c.requires.place.1 _ is, refl)
+    (accepted-is (forwards s.matcher s.text.now) s.states.now s.end c.args.state c.args.place c.requires.state c.requires.place.1 _ is, refl)
 
 -- the stack has room
 

@@ -1,10 +1,10 @@
 use Rattle.std.proofs.Common.{◌≡◌, ◌<◌, length, refl, sym, ◌∙◌, arith}
 use Rattle.std.specs.Prelude.{false}
+use Rattle.rx_nfa.specs.Automaton.{forwards}
 use Rattle.rx_nfa.proofs.AutomatonLemmas.{automaton-bounded}
 use Rattle.rx_nfa.specs.Ordered.{has, passed_at}
 use Rattle.rx_engines.proofs.CloseLemmas.{not-true, not-false}
 use Rattle.rx_engines.proofs.LineLemmas.{frames-less}
-use Rattle.rx_nfa.specs.Around.{forwards}
 use Rattle.rx_nfa.proofs.ClosureLemmas.{found-rests}
 use Rattle.rx_nfa.proofs.LaterLemmas.{automaton-steps}
 use Rattle.rx_nfa.proofs.PlaceLemmas.{passed_at-has, passed_at-elsewhere}
@@ -50,7 +50,7 @@ returns-in-Rest-clause-followed c end later goal le stable w =
     let lt : q < length c.loop-state.threads.table.items = omega arith in
     rw (more, c.set.ensures, seen.1, seen.2)
     (Waits-rests stable (v.followed end later goal le stable w) new lt seen.0
-    (found-rests (forwards c.args.search.now.matcher c.args.search.now.text.now) c.args.search.now.states.now end _ (automaton-steps c.args.search.now.matcher c.args.search.now.states.now c.args.search.now.text.now end) (passed_at items c.args.place) q c.args.place v.state le seen.0 (passed_at-has items c.args.place q ∙ new)
+    (found-rests (forwards c.args.search.now.matcher c.args.search.now.text.now) c.args.search.now.states.now end _ (automaton-steps (forwards c.args.search.now.matcher c.args.search.now.text.now) c.args.search.now.states.now end) (passed_at items c.args.place) q c.args.place v.state le seen.0 (passed_at-has items c.args.place q ∙ new)
     (λ d lt. passed_at-elsewhere items c.args.place d (omega arith))))
 
 pub returns-in-Rest-clause-less : goal.returns-in-Rest-clause-less
@@ -89,7 +89,7 @@ loop-state-preserved c =
     rw more
     (record {
       followed = λ end later goal le stable w.
-          Waits-moves stable (v.followed end later goal le stable w) (automaton-bounded c.args.search.now.matcher states c.args.search.now.text.now end) new seen.0 _ _ (seen.1 end le);
+          Waits-moves stable (v.followed end later goal le stable w) (automaton-bounded (forwards c.args.search.now.matcher c.args.search.now.text.now) states end) new seen.0 _ _ (seen.1 end le);
       state = inside.0;
       inside = inside.3;
       less = omega arith;
@@ -108,7 +108,7 @@ returns-in-Back-clause-followed c end later goal le stable w =
     let more = rw c.loop-state-test.true at c.insert.ensures.after in
     let seen = rw c.in-Back.is at c.visit.ensures.visited in
     rw more
-    (Waits-moves stable (v.followed end later goal le stable w) (automaton-bounded c.args.search.now.matcher c.args.search.now.states.now c.args.search.now.text.now end) new seen.0 _ _ (seen.1 end le))
+    (Waits-moves stable (v.followed end later goal le stable w) (automaton-bounded (forwards c.args.search.now.matcher c.args.search.now.text.now) c.args.search.now.states.now end) new seen.0 _ _ (seen.1 end le))
 
 pub returns-in-Back-clause-less : goal.returns-in-Back-clause-less
 returns-in-Back-clause-less c =

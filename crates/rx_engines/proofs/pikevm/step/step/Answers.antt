@@ -1,5 +1,5 @@
 use Rattle.std.proofs.Common.{◌+◌, drop, refl, sym, ◌∙◌, arith}
-use Rattle.rx_nfa.specs.Automaton.{automaton}
+use Rattle.rx_nfa.specs.Automaton.{automaton, forwards}
 use Rattle.rx_nfa.proofs.AutomatonLemmas.{automaton-bounded}
 use Rattle.rx_nfa.proofs.AutomatonLemmas.{automaton-rises}
 use Rattle.rx_engines.proofs.StepLemmas.{onward, onward-stable, Stepping-accepts, Stepping-reads, Stepping-ends, Stepping-over, Stepping-begun, acts-known, idle-known, idle-ends, idle-accepts, among-over}
@@ -25,7 +25,7 @@ pub returns-in-Accept-clause-stepped : goal.returns-in-Accept-clause-stepped
 returns-in-Accept-clause-stepped c end later goal le byte stable value =
     let acts = acts-known c.args.search.now.matcher c.args.search.now.states.now c.args.search.now.text.now end c.get-state.result c.args.place c.requires.search.names (omega arith) le _ _ _ _ c.as_usize.ensures.value c.index-states-as_usize.is (c.byte_at-byte.ensures ∙ sym byte) c.in-Accept.ensures in
     rw (c.start-start.ensures, c.copy_from_slice.ensures.after, c.slots.ensures.value)
-    (Stepping-accepts (automaton-bounded c.args.search.now.matcher c.args.search.now.states.now c.args.search.now.text.now end) c.args.curr.now.set.items c.loop-k.k c.get-state.result (omega arith) c.get-state.ensures.value
+    (Stepping-accepts (automaton-bounded (forwards c.args.search.now.matcher c.args.search.now.text.now) c.args.search.now.states.now end) c.args.curr.now.set.items c.loop-k.k c.get-state.result (omega arith) c.get-state.ensures.value
     (c.loop-k.invariant.stepping end later goal le byte stable value) c.in-Accept.pattern acts.0 acts.1)
 
 pub returns-in-Accept-clause-accepted : goal.returns-in-Accept-clause-accepted
@@ -43,8 +43,8 @@ loop-k-preserved c =
           (record {
             stepping = λ end later goal le byte stable value.
                 (let acts = acts-known c.args.search.now.matcher c.args.search.now.states.now c.args.search.now.text.now end c.get-state.result c.args.place c.requires.search.names (omega arith) le _ _ _ _ c.as_usize.ensures.value c.index-states-as_usize.is (c.byte_at-byte.ensures ∙ sym byte) w.in-Read.ensures in
-                let waits = Stepping-reads (automaton-bounded c.args.search.now.matcher c.args.search.now.states.now c.args.search.now.text.now end) c.args.curr.now.set.items c.loop-k.k c.get-state.result (omega arith) c.get-state.ensures.value
-                (c.loop-k.invariant.stepping end later goal le byte stable value) (automaton-rises c.args.search.now.matcher c.args.search.now.states.now c.args.search.now.text.now end) w.in-Read.target acts.0 acts.3 acts.4 acts.5 in
+                let waits = Stepping-reads (automaton-bounded (forwards c.args.search.now.matcher c.args.search.now.text.now) c.args.search.now.states.now end) c.args.curr.now.set.items c.loop-k.k c.get-state.result (omega arith) c.get-state.ensures.value
+                (c.loop-k.invariant.stepping end later goal le byte stable value) (automaton-rises (forwards c.args.search.now.matcher c.args.search.now.text.now) c.args.search.now.states.now end) w.in-Read.target acts.0 acts.3 acts.4 acts.5 in
                 let closed = w.close.ensures.closed end (onward c.args.search.now.states.now (automaton c.args.search.now.matcher c.args.search.now.states.now c.args.search.now.text.now end) c.args.place c.args.curr.now.table.items (drop (c.loop-k.k + 1) c.args.curr.now.set.items) later) goal
                 (let lt = acts.2 in omega arith)
                 (onward-stable c.args.search.now.states.now (automaton c.args.search.now.matcher c.args.search.now.states.now c.args.search.now.text.now end) c.args.place c.args.curr.now.table.items (drop (c.loop-k.k + 1) c.args.curr.now.set.items) later stable)
@@ -68,7 +68,7 @@ loop-k-preserved c =
           (record {
             stepping = λ end later goal le byte stable value.
                 (let acts = acts-known c.args.search.now.matcher c.args.search.now.states.now c.args.search.now.text.now end c.get-state.result c.args.place c.requires.search.names (omega arith) le _ _ _ _ c.as_usize.ensures.value c.index-states-as_usize.is (c.byte_at-byte.ensures ∙ sym byte) w.in-Nothing.ensures in
-                Stepping-ends (automaton-bounded c.args.search.now.matcher c.args.search.now.states.now c.args.search.now.text.now end) c.args.curr.now.set.items c.loop-k.k c.get-state.result (omega arith) c.get-state.ensures.value
+                Stepping-ends (automaton-bounded (forwards c.args.search.now.matcher c.args.search.now.text.now) c.args.search.now.states.now end) c.args.curr.now.set.items c.loop-k.k c.get-state.result (omega arith) c.get-state.ensures.value
                 (c.loop-k.invariant.stepping end later goal le byte stable value) acts);
             accepting =
                 c.loop-k.invariant.accepting

@@ -3,8 +3,9 @@ use Rattle.std.specs.Prelude.{Option}
 use Rattle.std.specs.Option.{option_or}
 use Rattle.rx_model.specs.Runs.{Passed, nowhere}
 use Rattle.rx_engines.specs.Search.{graph_until}
+use Rattle.rx_nfa.specs.Automaton.{byte_at}
 use Rattle.rx_nfa.specs.Ordered.{IsStable}
-use Rattle.rx_engines.specs.Simulation.{Hit, among, byte_at}
+use Rattle.rx_engines.specs.Simulation.{Hit, among}
 use Rattle.rx_engines.proofs.StepLemmas.{Stepping}
 use Rattle.rx_engines.proofs.pikevm.step.step.Given as goal
 
