@@ -16,3 +16,4 @@ pub mod RowLemmas
 pub mod CopiesLemmas
 pub mod SameLemmas
 pub mod NamedFormsLemmas
+pub mod Utf8FormsLemmas

@@ -52,7 +52,7 @@ one-byte [] i lt = absurd (omega arith)
 one-byte (b ∷ text) zero lt = refl
 one-byte (b ∷ text) (suc i) lt = one-byte text i (omega arith)
 
-one-ascii : (b : ℕ) → b < 128 → IsUtf8 (b ∷ [])
+pub one-ascii : (b : ℕ) → b < 128 → IsUtf8 (b ∷ [])
 one-ascii b lt = IsUtf8-from_ascii (b ∷ []) (each)
   where
     each : (i : ℕ) → slice_index (b ∷ []) i < 128

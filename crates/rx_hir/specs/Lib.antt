@@ -8,6 +8,7 @@ pub mod Names
 pub mod Normal
 pub mod Properties
 pub mod PropertiesViews
+pub mod Rows
 pub mod Same
 pub mod SameLaws
 pub mod Sound

@@ -24,8 +24,8 @@ pub use emptiness::{can_be_empty, one_can_be_empty};
 pub use groups::greatest_group;
 pub use laws::{
     lengths_bound_the_meaning, look_sets_hold_at_the_ends, normal_forms_add_no_names,
-    normal_forms_keep_the_meaning, sound_expressions_are_ordered, told_names_stand,
-    utf8_expressions_mean_utf8,
+    normal_forms_keep_the_meaning, normal_forms_keep_utf8, sound_expressions_are_ordered,
+    told_names_stand, utf8_expressions_mean_utf8,
 };
 pub use names::group_names;
 pub use properties::Properties;

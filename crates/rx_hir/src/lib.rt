@@ -13,8 +13,8 @@ pub use accounting::{cost, states as accounted_states};
 pub use hir::{
     Capture, Hir, HirKind, Properties, Repetition, can_be_empty, greatest_group, group_names,
     lengths_bound_the_meaning, look_sets_hold_at_the_ends, normal_forms_add_no_names,
-    normal_forms_keep_the_meaning, one_can_be_empty, sound_expressions_are_ordered,
-    told_names_stand, utf8_expressions_mean_utf8,
+    normal_forms_keep_the_meaning, normal_forms_keep_utf8, one_can_be_empty,
+    sound_expressions_are_ordered, told_names_stand, utf8_expressions_mean_utf8,
 };
 pub use rx_class::{Class, ClassBytes, ClassUnicode, fewest_ranges_hold_the_members};
 pub use rx_search::Look;

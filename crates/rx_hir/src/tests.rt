@@ -112,6 +112,35 @@ fn names(rt: HostRuntime) -> Result<(), Fail> {
 }
 
 #[test]
+fn copies_of_classes(rt: HostRuntime) -> Result<(), Fail> {
+    let alloc = rt.alloc();
+    let scalars = ClassUnicode::new(alloc, &[('a', 'c'), ('\u{E9}', '\u{EA}')])?;
+    let bytes = ClassBytes::new(alloc, &[(b'a', b'c'), (0xFE, 0xFF)])?;
+    let first = Hir::class(alloc, Class::Unicode(scalars))?;
+    let second = Hir::class(alloc, Class::Bytes(bytes))?;
+    let hir = Hir::concat(alloc, pair(alloc, first, second)?)?;
+    assert!(rt; hir.clone()? == hir);
+    Ok(())
+}
+
+#[test]
+fn joined_literals(rt: HostRuntime) -> Result<(), Fail> {
+    let alloc = rt.alloc();
+    let mut subs = pair(alloc, literal(alloc, b"a")?, Hir::empty())?;
+    subs.push(literal(alloc, b"b")?)?;
+    subs.push(Hir::look(Look::Start))?;
+    subs.push(literal(alloc, b"c")?)?;
+    let hir = Hir::concat(alloc, subs)?;
+    let HirKind::Concat(parts) = hir.kind() else {
+        return Err("no concatenation")?;
+    };
+    assert_eq!(rt; parts.len(), 3);
+    assert!(rt; parts[0] == literal(alloc, b"ab")?);
+    assert!(rt; parts[2] == literal(alloc, b"c")?);
+    Ok(())
+}
+
+#[test]
 fn equality(rt: HostRuntime) -> Result<(), Fail> {
     let alloc = rt.alloc();
     let index = NonZeroUsize::new(2).ok_or("two")?;

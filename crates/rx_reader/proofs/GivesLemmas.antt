@@ -1,8 +1,9 @@
 -- What is so of what is read, and of the place after it.
 use Rattle.std.proofs.Common.{◌≡◌, ℕ, Bool, true, false, List, Ok, Err, refl, subst}
 use Rattle.std.specs.Prelude.{if◌then◌else◌}
+use Rattle.std.specs.Char.{IsScalar}
 use Rattle.rx_reader.specs.declared.error.SyntaxError.{SyntaxError}
-use Rattle.rx_reader.specs.Reading.{Place, Read, ◌>>=◌}
+use Rattle.rx_reader.specs.Reading.{Place, Read, ◌>>=◌, first, past}
 
 -- where something is read, this is so of it and of the place after it
 pub record Gives {A : Type 0} (P : A → Place → Type 0) (r : Read A) : Type 0 where
@@ -33,6 +34,16 @@ weaker h leads = record { given = λ a q is. leads a q (h.given a q is) }
 abbrev pub IsAt : (groups : ℕ) (names : List (List ℕ)) → Place → Type 0
 IsAt g ns q = (q.groups ≡ g) × (q.names ≡ ns)
 
--- no group is opened in what is read
-abbrev pub Keeps : {A : Type 0} (groups : ℕ) (names : List (List ℕ)) → Read A → Type 0
-Keeps {A} g ns r = Gives {A = A} (λ a q. IsAt g ns q) r
+-- this is so of the place after what is read
+abbrev pub Keeps : {A : Type 0} (K : Place → Type 0) → Read A → Type 0
+Keeps {A} K r = Gives {A = A} (λ a q. K q) r
+
+-- What is so of a place is so of the one past a character too, and tells this of the character; it is so of each scalar.
+pub record Carries (K : Place → Type 0) (S : ℕ → Type 0) : Type 0 where
+  pub on : (p : Place) → K p → K (past p)
+  pub first : (p : Place) → K p → S (first p)
+  pub scalars : (c : ℕ) → IsScalar c → S c
+
+-- no character that is passed opens a group
+pub groups-carry : (g : ℕ) (ns : List (List ℕ)) → Carries (IsAt g ns) (λ c. Unit {0})
+groups-carry g ns = record { on = λ p at. at; first = λ p at. tt; scalars = λ c is. tt }

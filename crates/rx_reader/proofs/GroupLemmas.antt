@@ -14,7 +14,7 @@ use Rattle.rx_reader.specs.Ahead.{skip}
 use Rattle.rx_reader.specs.Syntax.{Syntax, group, syntaxes, depth}
 use Rattle.rx_reader.specs.Grammar.{is_operator, repeated_by, Branches, no_items, whole, within_limit, repeat_if, repetitions, close_group, item_then, group_then, branches_at, branches, to_end, read}
 use Rattle.rx_reader.specs.Groups.{Captures, IsGroup, own_number, group_numbers, all_group_numbers}
-use Rattle.rx_reader.proofs.GivesLemmas.{Gives, refused, reads, bind, test, weaker, IsAt}
+use Rattle.rx_reader.proofs.GivesLemmas.{Gives, refused, reads, bind, test, weaker, IsAt, groups-carry}
 use Rattle.rx_reader.proofs.CountedLemmas.{row_is, Counts, none, joined, alike, later, sooner}
 use Rattle.rx_reader.proofs.TokenKeeps.{skip-keeps, operator-keeps}
 use Rattle.rx_reader.proofs.TokenGroups.{TokenGroups, token_numbers, token-counts}
@@ -39,7 +39,7 @@ module _ (config : Config) where
   unfolding IsGroup group_numbers
   repeat_if-counts g ns more h flags item p false counts = reads counts
   repeat_if-counts g ns more h flags item p true counts =
-      bind _ (operator-keeps p.groups p.names flags p (refl, refl)) (λ o q at.
+      bind _ (operator-keeps (IsAt p.groups p.names) _ (groups-carry p.groups p.names) flags p (refl, refl)) (λ o q at.
       bind _ (limit-counts g ns (repeated_by o item) p q (later counts at)) (λ s r there. h s r there))
 
   repetitions-counts : (g : ℕ) (ns : List (List ℕ)) (n : ℕ) (flags : Flags) (item : Syntax) (p : Place) → CountsItem g ns item p → Gives (CountsItem g ns) (repetitions config n flags item p)
@@ -47,7 +47,7 @@ module _ (config : Config) where
   repetitions-counts g ns zero flags item p counts = reads counts
   repetitions-counts g ns (suc n) flags item p counts =
       let q : Place = skip flags p in
-      repeat_if-counts g ns (repetitions config n flags) (repetitions-counts g ns n flags) flags item q (is_operator q) (later counts (skip-keeps p.groups p.names flags p (refl, refl)))
+      repeat_if-counts g ns (repetitions config n flags) (repetitions-counts g ns n flags) flags item q (is_operator q) (later counts (skip-keeps (IsAt p.groups p.names) _ (groups-carry p.groups p.names) flags p (refl, refl)))
 
   close-counts : (g : ℕ) (ns : List (List ℕ)) (kind : GroupKind) (p : Place) (body : Syntax) (r : Place) → CountsItem g ns (group kind body) r → Gives (CountsItem g ns) (close_group config kind p body r)
   close-counts g ns kind p body r counts =
@@ -93,13 +93,13 @@ module _ (config : Config) where
   branches-counts zero flags opened p = reads (no_groups p.groups p.names p (refl, refl))
   branches-counts (suc n) flags opened p =
       let q : Place = skip flags p in
-      let at : IsAt p.groups p.names q = skip-keeps p.groups p.names flags p (refl, refl) in
+      let at : IsAt p.groups p.names q = skip-keeps (IsAt p.groups p.names) _ (groups-carry p.groups p.names) flags p (refl, refl) in
       bind _ (token-counts p.groups p.names config flags q at) (λ t r counts.
       branches_at-counts p.groups p.names (branches config n) (branches-counts n) flags opened q t r at counts)
 
 -- The whole pattern.
 
-to-whole : (b : Branches) (q : Place) (ends : Bool) (s : Syntax) → (if ends then Ok (whole b) else refuse UnopenedGroup q (past q)) ≡ Ok s → whole b ≡ s
+pub to-whole : (b : Branches) (q : Place) (ends : Bool) (s : Syntax) → (if ends then Ok (whole b) else refuse UnopenedGroup q (past q)) ≡ Ok s → whole b ≡ s
 to-whole b q true s is = cc
 to-whole b q false s is = cc
 

@@ -1,5 +1,6 @@
 pub mod AheadLemmas
 pub mod BranchLemmas
+pub mod CharacterLemmas
 pub mod ClassItemLemmas
 pub mod ClassLemmas
 mod ClassRows

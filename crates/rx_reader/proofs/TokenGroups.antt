@@ -24,7 +24,7 @@ use Rattle.rx_reader.specs.Names.{name_of, read_name}
 use Rattle.rx_reader.specs.Openings.{is_look_ahead, is_look_behind, is_reference, named, flagged, opening}
 use Rattle.rx_reader.specs.Grammar.{opened, opens, escaped_atom, escaped, bracketed, is_operator, stray_operator, token_of, token}
 use Rattle.rx_reader.specs.Groups.{Captures, IsGroup, own_number, group_numbers}
-use Rattle.rx_reader.proofs.GivesLemmas.{Gives, refused, reads, bind, test, IsAt}
+use Rattle.rx_reader.proofs.GivesLemmas.{Gives, refused, reads, bind, test, IsAt, groups-carry}
 use Rattle.rx_reader.proofs.CountedLemmas.{is_in, Counts, none, single, kept_in, added_in}
 use Rattle.rx_reader.proofs.EscapeKeeps.{past_n-keeps, escape-keeps, class-keeps}
 use Rattle.rx_reader.proofs.TokenKeeps.{read_flags-keeps}
@@ -60,7 +60,7 @@ module _ (g : ℕ) (ns : List (List ℕ)) where
   read_name-adds p at =
       let name : List ℕ = name_of p.text in
       let q : Place = past_n (length name) p in
-      let here : IsAt g ns q = past_n-keeps g ns (length name) p at in
+      let here : IsAt g ns q = past_n-keeps (IsAt g ns) _ (groups-carry g ns) (length name) p at in
       test (length name == 0 || not (is_at ">" q)) (λ _. refused) (λ _. test (has_name name q) (λ _. refused) (λ fresh.
       reads (record {
         same = here.0;
@@ -86,7 +86,7 @@ module _ (g : ℕ) (ns : List (List ℕ)) where
   flagged-counts : (flags : Flags) (p : Place) → IsAt g ns p → Gives CountsOpening (flagged flags p)
   unfolding flagged
   flagged-counts flags p at =
-      bind _ (read_flags-keeps g ns p flags (past_n 2 p) (past_n-keeps g ns 2 p at)) (λ changed q here. reads (flagged-kind (is_at ":" q) changed (past q) here))
+      bind _ (read_flags-keeps (IsAt g ns) _ (groups-carry g ns) p flags (past_n 2 p) (past_n-keeps (IsAt g ns) _ (groups-carry g ns) 2 p at)) (λ changed q here. reads (flagged-kind (is_at ":" q) changed (past q) here))
 
   opening-counts : (flags : Flags) (p : Place) → IsAt g ns p → Gives CountsOpening (opening flags p)
   unfolding opening
@@ -94,8 +94,8 @@ module _ (g : ℕ) (ns : List (List ℕ)) where
       test (is_look_ahead p) (λ _. refused) (λ _.
       test (is_look_behind p) (λ _. refused) (λ _.
       test (is_reference p) (λ _. refused) (λ _.
-      test (begins "(?P<" p) (λ _. named-counts flags (past_n 4 p) (past_n-keeps g ns 4 p at)) (λ _.
-      test (begins "(?<" p) (λ _. named-counts flags (past_n 3 p) (past_n-keeps g ns 3 p at)) (λ _.
+      test (begins "(?P<" p) (λ _. named-counts flags (past_n 4 p) (past_n-keeps (IsAt g ns) _ (groups-carry g ns) 4 p at)) (λ _.
+      test (begins "(?<" p) (λ _. named-counts flags (past_n 3 p) (past_n-keeps (IsAt g ns) _ (groups-carry g ns) 3 p at)) (λ _.
       test (begins "(?" p) (λ _. flagged-counts flags p at) (λ _.
       reads (single (p.groups + 1) None (ap (λ (k : ℕ). k + 1) at.0) (ap (λ (k : ℕ). k + 1) at.0) (λ x h. ap (is_in x) at.1 ∙ h) (λ x is. cc))))))))
 
@@ -129,11 +129,11 @@ module _ (g : ℕ) (ns : List (List ℕ)) where
   module _ (config : Config) where
     escaped-counts : (flags : Flags) (p : Place) → IsAt g ns p → Gives CountsToken (escaped config flags p)
     unfolding escaped
-    escaped-counts flags p at = bind _ (escape-keeps g ns (octal_of config) p at) (λ e q here. reads (escaped_atom-counts flags _ e q here))
+    escaped-counts flags p at = bind _ (escape-keeps (IsAt g ns) _ (groups-carry g ns) (octal_of config) p at) (λ e q here. reads (escaped_atom-counts flags _ e q here.1))
 
     bracketed-counts : (flags : Flags) (p : Place) → IsAt g ns p → Gives CountsToken (bracketed config flags p)
     unfolding bracketed
-    bracketed-counts flags p at = bind _ (class-keeps g ns (octal_of config) flags.ignore_whitespace p at) (λ a q here. reads (atom-counts flags _ a q here))
+    bracketed-counts flags p at = bind _ (class-keeps (IsAt g ns) _ (groups-carry g ns) (octal_of config) flags.ignore_whitespace p at) (λ a q here. reads (atom-counts flags _ a q here.1))
 
     token_of-counts : (c : ℕ) (flags : Flags) (p : Place) → IsAt g ns p → Gives CountsToken (token_of config c flags p)
     unfolding token_of

@@ -1,6 +1,7 @@
 pub mod Ahead
 pub mod AstFalls
 pub mod AstViews
+pub mod Characters
 pub mod Classes
 pub mod Coded
 pub mod Config

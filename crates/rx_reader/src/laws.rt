@@ -1,7 +1,10 @@
 //! Laws of what a pattern reads as.
-ghost use Rattle.std.specs.Prelude.{◌≡◌, ℕ, ◌≤◌, false, List, length, Option, Some, Ok};
+ghost use Rattle.std.specs.Prelude.{◌≡◌, ℕ, ◌≤◌, true, false, List, length, Option, Some, Ok};
+ghost use Rattle.std.specs.Char.{IsScalar};
 ghost use Rattle.std.specs.List.{list_any, range_with_len};
+ghost use lib.Utf8.{scalars};
 ghost use Rattle.rx_reader.specs.declared.config.Config.{Config};
+ghost use Rattle.rx_reader.specs.Characters.{AllIn};
 ghost use Rattle.rx_reader.specs.Config.{flags_of};
 ghost use Rattle.rx_reader.specs.Grammar.{read};
 ghost use Rattle.rx_reader.specs.Groups.{IsGroup, group_numbers};
@@ -32,4 +35,10 @@ pub fn escaped_text_reads_as_its_characters()
         → read config (escaped_text cs) ≡ Ok (characters (flags_of config) cs) }
     ensures plain { (config : Config) (cs : List ℕ) → has_skipped (flags_of config) cs ≡ false → list_any is_meta cs ≡ false
         → read config cs ≡ Ok (characters (flags_of config) cs) }
+{}
+
+/// In a text of scalars, each character that is read is a scalar: those that stand for themselves, and those that an
+/// escape writes by a number.
+pub fn each_character_of_a_pattern_is_a_scalar()
+    ensures { (config : Config) (text : List ℕ) (s : Syntax) → scalars text ≡ true → read config text ≡ Ok s → AllIn IsScalar s }
 {}

@@ -36,7 +36,10 @@ pub use config::Config;
 pub use error::{ParseError, SyntaxError, SyntaxErrorKind};
 pub use flags::Flags;
 pub use group_kind::GroupKind;
-pub use laws::{escaped_text_reads_as_its_characters, groups_are_numbered_and_named_apart};
+pub use laws::{
+    each_character_of_a_pattern_is_a_scalar, escaped_text_reads_as_its_characters,
+    groups_are_numbered_and_named_apart,
+};
 pub use parser::read;
 pub use piece::Piece;
 pub use rx_sets::{ClassAsciiKind, ClassPerlKind};

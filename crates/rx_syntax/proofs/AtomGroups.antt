@@ -44,7 +44,7 @@ character-none flags c =
     text
 
 byte_class-none : (config : Config) (piece : Piece) (members : List (ℕ × ℕ)) → Gives HasNone (byte_class config piece members)
-byte_class-none config piece members = test (utf8_of config && not (is_ascii members)) refused (gives (class-none (byte_ranges members)))
+byte_class-none config piece members = test (utf8_of config && not (is_ascii members)) (λ _. refused) (λ _. gives (class-none (byte_ranges members)))
 
 scalar_class-none : (members : List (ℕ × ℕ)) → HasNone (scalar_class members)
 scalar_class-none members = class-none (scalar_ranges members)
@@ -52,14 +52,17 @@ scalar_class-none members = class-none (scalar_ranges members)
 pub atom-none : (config : Config) (flags : Flags) (piece : Piece) (a : Atom) → Gives HasNone (atom_of config flags piece a)
 unfolding IsNamed
 atom-none config flags piece (HexByte c) =
-    test flags.unicode (gives (character-none flags c)) (test (nat_le c 0xFF) (byte_class-none config piece (bytes_under flags false ((c, c) ∷ []))) refused)
+    test flags.unicode (λ _. gives (character-none flags c)) (λ _.
+    test (nat_le c 0xFF) (λ _. byte_class-none config piece (bytes_under flags false ((c, c) ∷ []))) (λ _. refused))
 atom-none config flags piece Dot =
-    test flags.unicode (test (has_odd_terminator config flags) refused (gives (scalar_class-none (complement (fewest next_scalar (line_ends config flags)))))) (byte_class-none config piece (byte_complement (fewest next_byte (line_ends config flags))))
+    test flags.unicode (λ _. test (has_odd_terminator config flags) (λ _. refused) (λ _. gives (scalar_class-none (complement (fewest next_scalar (line_ends config flags)))))) (λ _.
+    byte_class-none config piece (byte_complement (fewest next_byte (line_ends config flags))))
 atom-none config flags piece (Assertion kind) = gives (record { none = λ g n s. s })
 atom-none config flags piece (Perl kind negated) =
-    test flags.unicode (gives (scalar_class-none (scalars_under flags negated (scalars_where (is_perl_char kind))))) (byte_class-none config piece (bytes_under flags negated (fewest next_byte (ascii_ranges (ascii_kind kind)))))
+    test flags.unicode (λ _. gives (scalar_class-none (scalars_under flags negated (scalars_where (is_perl_char kind))))) (λ _.
+    byte_class-none config piece (bytes_under flags negated (fewest next_byte (ascii_ranges (ascii_kind kind)))))
 atom-none config flags piece (Property name negated) =
-    test flags.unicode (bind _ (any (scalars_named flags piece negated (property name))) (λ members _. gives (scalar_class-none members))) refused
+    test flags.unicode (λ _. bind _ (any (scalars_named flags piece negated (property name))) (λ members _. gives (scalar_class-none members))) (λ _. refused)
 atom-none config flags piece (Bracketed negated items) =
-    test flags.unicode (bind _ (any (all_scalars flags items)) (λ ranges _. gives (scalar_class-none (scalars_under flags negated (fewest next_scalar ranges)))))
-    (bind _ (any (all_bytes flags piece items)) (λ ranges _. byte_class-none config piece (bytes_under flags negated (fewest next_byte ranges))))
+    test flags.unicode (λ _. bind _ (any (all_scalars flags items)) (λ ranges _. gives (scalar_class-none (scalars_under flags negated (fewest next_scalar ranges))))) (λ _.
+    bind _ (any (all_bytes flags piece items)) (λ ranges _. byte_class-none config piece (bytes_under flags negated (fewest next_byte ranges))))

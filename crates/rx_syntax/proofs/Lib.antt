@@ -2,6 +2,7 @@ pub mod FewestLemmas
 pub mod GatherLemmas
 pub mod GivesLemmas
 pub mod AtomGroups
+pub mod AtomUtf8
 pub mod GroupLemmas
 pub mod PatternsLemmas
 pub mod PlainLemmas
@@ -9,3 +10,4 @@ pub mod SizeLemmas
 pub mod TranslationLemmas
 pub mod RefusalLemmas
 pub mod ToldLemmas
+pub mod Utf8Lemmas

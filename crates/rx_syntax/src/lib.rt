@@ -2,7 +2,8 @@
 //!
 //! `parse_with` answers exactly what the grammar's definition says: the expression, or the first refusal
 //! with its kind and piece. It reads by rx_reader, and translates what was read. Laws say that each group of a
-//! pattern has one name or none, and is told with it, and that an escaped text means itself.
+//! pattern has one name or none, and is told with it, that an escaped text means itself, and that what a pattern
+//! means which is read under `utf8` is UTF-8.
 #![tactic(auto)]
 
 mod assertion;
@@ -17,7 +18,10 @@ mod set;
 mod tests;
 mod translate;
 
-pub use laws::{each_group_of_a_pattern_has_one_name, escaped_text_means_itself};
+pub use laws::{
+    each_group_of_a_pattern_has_one_name, escaped_text_means_itself,
+    patterns_read_under_utf8_mean_utf8,
+};
 pub use pattern::{parse, parse_with, read_with, translate_with};
 pub use patterns::{PatternsError, parse_all, parse_each, parse_many, parse_many_with};
 pub use rx_hir::{Capture, Class, Hir, HirKind, Look, Properties, Repetition, cost};

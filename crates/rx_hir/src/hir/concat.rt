@@ -1,9 +1,11 @@
 //! Concatenations.
-ghost use Rattle.std.specs.Prelude.{◌≡◌, ◌<◌, [], ◌∷◌, ◌++◌, length, IfOk, OnOk};
-ghost use Rattle.rx_model.specs.Expression.{literal, concat};
-ghost use Rattle.rx_hir.specs.Joined.{and_then, and_then_all};
-ghost use Rattle.rx_hir.specs.Normal.{expressions, join_literals, parts_of, sequence_of, concat_of};
+ghost use Rattle.std.specs.Prelude.{◌≡◌, ◌<◌, false, List, length, IfOk};
+ghost use Rattle.rx_model.specs.Expression.{Expression, literal, concat};
+ghost use Rattle.rx_hir.specs.Joined.{and_then, and_then_all, with_bytes};
+ghost use Rattle.rx_hir.specs.Normal.{expressions, parts_of, sequence_of, concat_of};
+ghost use Rattle.rx_hir.specs.Properties.{is_literal};
 ghost use Rattle.rx_hir.specs.PropertiesViews.{AreOf};
+ghost use Rattle.rx_hir.specs.Rows.{Holds};
 ghost use Rattle.rx_hir.specs.Sound.{AreSound};
 
 use super::properties::Properties;
@@ -17,78 +19,87 @@ impl Hir {
     pub fn concat(alloc: Global, subs: Vec<Hir>) -> Result<Hir, Memory>
         ensures { IfOk result (λ h. h ≡ concat_of subs.items) }
     {
-        let mut parts = Vec::new(alloc);
+        let mut row = Row {
+            parts: Vec::new(alloc),
+            bytes: Vec::new(alloc),
+        };
         for sub in subs {
-            push_parts(&mut parts, sub)?;
+            row = with_parts(alloc, row, sub)?;
         }
-        Ok(sequence(parts))
+        Ok(sequence(all_parts(row)?))
     }
 }
 
-/// Adds what an expression gives to the concatenation around it.
-fn push_parts(parts: &mut Vec<Hir>, sub: Hir) -> Result<(), Memory>
-    ensures { OnOk result (parts.new.items ≡ and_then_all parts.old.items (parts_of sub)) }
+/// Parts in a row. The bytes of a literal at the end stand apart as long as more may follow, so that each literal
+/// is looked through once, of however many it is joined.
+#[derive(Drop)]
+struct Row {
+    parts: Vec<Hir>,
+    bytes: Vec<u8>,
+}
+
+/// The row with what an expression gives to the concatenation around it.
+fn with_parts(alloc: Global, row: Row, sub: Hir) -> Result<Row, Memory>
+    ensures { (hs : List Expression) → Holds row hs → IfOk result (λ r. Holds r (and_then_all hs (parts_of sub))) }
 {
     let properties = sub.properties;
     match sub.kind {
-        HirKind::Empty => Ok(()),
-        HirKind::Concat(subs) => push_all(parts, subs),
-        kind => push_part(parts, Hir { kind, properties }),
+        HirKind::Empty => Ok(row),
+        HirKind::Concat(subs) => with_all(alloc, row, subs),
+        kind => with_part(alloc, row, Hir { kind, properties }),
     }
 }
 
-fn push_all(parts: &mut Vec<Hir>, subs: Vec<Hir>) -> Result<(), Memory>
-    ensures { OnOk result (parts.new.items ≡ and_then_all parts.old.items subs.items) }
+fn with_all(alloc: Global, row: Row, subs: Vec<Hir>) -> Result<Row, Memory>
+    ensures { (hs : List Expression) → Holds row hs → IfOk result (λ r. Holds r (and_then_all hs subs.items)) }
 {
+    let mut row = row;
     for sub in subs {
-        push_part(parts, sub)?;
+        row = with_part(alloc, row, sub)?;
     }
-    Ok(())
+    Ok(row)
 }
 
-/// Adds a part, joined with the last where both are literals.
-fn push_part(parts: &mut Vec<Hir>, part: Hir) -> Result<(), Memory>
-    ensures { OnOk result (parts.new.items ≡ and_then parts.old.items part) }
+/// The row with one part more, joined with the last where both are literals.
+fn with_part(alloc: Global, row: Row, part: Hir) -> Result<Row, Memory>
+    ensures { (hs : List Expression) → Holds row hs → IfOk result (λ r. Holds r (and_then hs part)) }
 {
     let properties = part.properties;
     match part.kind {
-        HirKind::Literal(bytes) => push_literal(parts, bytes),
-        kind => {
-            parts.push(Hir { kind, properties })?;
-            Ok(())
-        }
+        HirKind::Literal(bytes) => with_bytes(row, &bytes),
+        kind => with_other(alloc, row, Hir { kind, properties }),
     }
 }
 
-fn push_literal(parts: &mut Vec<Hir>, bytes: Vec<u8>) -> Result<(), Memory>
-    requires { 0 < length bytes.items }
-    ensures { OnOk result (parts.new.items ≡ and_then parts.old.items (literal bytes.items)) }
+fn with_bytes(row: Row, more: &[u8]) -> Result<Row, Memory>
+    requires { 0 < length more.now }
+    ensures { (hs : List Expression) → Holds row hs → IfOk result (λ r. Holds r (and_then hs (literal more.now))) }
 {
-    if let Some(last) = parts.pop() {
-        push_after(parts, last, bytes)
-    } else {
-        parts.push(bytes_in_row(bytes))?;
-        Ok(())
-    }
+    let mut row = row;
+    row.bytes.extend_from_slice(more)?;
+    Ok(row)
 }
 
-/// Adds the part that was the last, and then the literal.
-fn push_after(parts: &mut Vec<Hir>, last: Hir, bytes: Vec<u8>) -> Result<(), Memory>
-    requires { 0 < length bytes.items }
-    ensures { OnOk result (parts.new.items ≡ parts.old.items ++ join_literals last (literal bytes.items ∷ [])) }
+fn with_other(alloc: Global, row: Row, part: Hir) -> Result<Row, Memory>
+    requires { is_literal part ≡ false }
+    ensures { (hs : List Expression) → Holds row hs → IfOk result (λ r. Holds r (and_then hs part)) }
 {
-    let properties = last.properties;
-    match last.kind {
-        HirKind::Literal(mut before) => {
-            before.extend_from_slice(&bytes)?;
-            parts.push(bytes_in_row(before))?;
-        }
-        kind => {
-            parts.push(Hir { kind, properties })?;
-            parts.push(bytes_in_row(bytes))?;
-        }
+    let mut parts = all_parts(row)?;
+    parts.push(part)?;
+    let bytes = Vec::new(alloc);
+    Ok(Row { parts, bytes })
+}
+
+/// The parts of the row, with the literal of its bytes.
+fn all_parts(row: Row) -> Result<Vec<Hir>, Memory>
+    ensures { IfOk result (λ v. v.items ≡ with_bytes row.parts.items row.bytes.items) }
+{
+    let mut parts = row.parts;
+    if row.bytes.is_empty() {
+        return Ok(parts);
     }
-    Ok(())
+    parts.push(bytes_in_row(row.bytes))?;
+    Ok(parts)
 }
 
 /// The literal of these bytes, of which there is one at least.

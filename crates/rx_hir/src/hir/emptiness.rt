@@ -6,7 +6,7 @@ ghost use Rattle.rx_hir.specs.Normal.{expressions};
 
 use super::{Hir, HirKind};
 
-/// Whether the expression can mean the empty string. Where it has a look-around, that depends on the text too.
+/// Whether the expression can mean the empty string, where each look-around in it counts as if it held.
 #[cycle(emptiness)]
 pub fn can_be_empty(hir: &Hir) -> bool
     ensures { result ≡ can_be_empty hir.now }
@@ -47,7 +47,7 @@ fn all_can_be_empty(subs: &[Hir]) -> bool
     true
 }
 
-/// Whether one of the expressions can mean the empty string.
+/// Whether one of the expressions can mean the empty string, in the same sense.
 #[cycle(emptiness)]
 pub fn one_can_be_empty(subs: &[Hir]) -> bool
     ensures { result ≡ one_can_be_empty (expressions subs.now) }

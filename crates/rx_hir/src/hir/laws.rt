@@ -6,11 +6,11 @@ ghost use Rattle.rx_model.specs.Look.{Look, holds};
 ghost use Rattle.rx_model.specs.Meaning.{Means};
 ghost use Rattle.rx_search.specs.GroupInfo.{has_duplicate};
 ghost use Rattle.rx_model.specs.Text.{Class, scalar_ranges, byte_ranges};
-ghost use Rattle.rx_class.specs.Ranges.{AreScalarRanges};
+ghost use Rattle.rx_class.specs.Ranges.{AreScalarRanges, HaveScalarEnds, is_ascii};
 ghost use Rattle.rx_hir.specs.Length.{maximum_len, saturated, in_64_bits};
 ghost use Rattle.rx_hir.specs.Names.{IsNamed, IsNamedAmong, HasOneNameEach, name_in, group_names};
 ghost use Rattle.rx_hir.specs.Normal.{expressions, literal_of, class_of, repetition_of, concat_of, alternation_of, MeanTheSame};
-ghost use Rattle.rx_hir.specs.Properties.{looks_first, looks_last, is_utf8};
+ghost use Rattle.rx_hir.specs.Properties.{looks_first, looks_last, is_utf8, are_utf8};
 ghost use Rattle.rx_hir.specs.Sound.{IsSound};
 
 /// What an expression means is as long as `minimum_len` says at least, and at most as long as `maximum_len`
@@ -41,6 +41,18 @@ pub fn look_sets_hold_at_the_ends()
 pub fn utf8_expressions_mean_utf8()
     ensures { (t : ℕ) (text : List ℕ) (h : Expression) → is_utf8 h ≡ true
         → (i j : ℕ) → Means t text h i j → IsUtf8 (take (j - i) (drop i text)) }
+{}
+
+/// The normal form of parts that are UTF-8 is UTF-8, and so are those of a text, of a class of scalars, and of a class of
+/// bytes without one above 7F.
+pub fn normal_forms_keep_utf8()
+    ensures literals { (bytes : List ℕ) → IsUtf8 bytes → is_utf8 (literal_of bytes) ≡ true }
+    ensures scalars { (rs : List (ℕ × ℕ)) → HaveScalarEnds rs → is_utf8 (class_of (scalar_ranges rs)) ≡ true }
+    ensures bytes { (rs : List (ℕ × ℕ)) → is_ascii rs ≡ true → is_utf8 (class_of (byte_ranges rs)) ≡ true }
+    ensures copies { (least : ℕ) (greatest : Option ℕ) (greedy : Bool) (h : Expression) → is_utf8 h ≡ true
+        → is_utf8 (repetition_of least greatest greedy h) ≡ true }
+    ensures rows { (hs : List Expression) → are_utf8 (expressions hs) ≡ true → is_utf8 (concat_of hs) ≡ true }
+    ensures choices { (hs : List Expression) → are_utf8 (expressions hs) ≡ true → is_utf8 (alternation_of hs) ≡ true }
 {}
 
 /// A name that is told of a group stands at its number. Where each number has one name or none, and no name has two
