@@ -11,7 +11,8 @@ mod error;
 pub use compiler::Compiler;
 pub use error::BuildError;
 pub use rx_nfa::{
-    Alternates, Config, NFA, PATTERN_LIMIT, State, Transition, Transitions, WhichCaptures, matches_byte,
+    Alternates, Config, NFA, PATTERN_LIMIT, State, Transition, Transitions, WhichCaptures,
+    matches_byte,
 };
 
 #[cfg(test)]
