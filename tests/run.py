@@ -25,7 +25,7 @@ import subprocess
 import sys
 
 FOLDER = os.path.dirname(os.path.abspath(__file__))
-SECONDS = 60
+SECONDS = 120
 
 
 class BadTable(Exception):
