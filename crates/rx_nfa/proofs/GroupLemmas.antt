@@ -1,12 +1,11 @@
--- The groups that have slots, and how many slots they have.
-use Rattle.std.proofs.Common.{◌≡◌, ℕ, zero, suc, ◌<◌, List, [], ◌∷◌, refl, ap, arith, length}
-use Rattle.std.specs.Prelude.{All, Option, None, map, replicate, sum}
-use Rattle.std.proofs.lemmas.List.Sums.{sum_by-cons}
+-- The groups of patterns, and how many slots they have.
+use Rattle.std.proofs.Common.{◌≡◌, suc, List, [], ◌∷◌, refl, ap, arith, length}
+use Rattle.std.specs.Prelude.{All, map}
 use Rattle.std.proofs.lemmas.List.FromFn.{length-map-range_with_len}
 use Rattle.std.proofs.lemmas.List.Elements.{All-nil, All-cons}
 use Rattle.rx_model.specs.Expression.{Expression}
-use Rattle.rx_model.specs.Search.{WhichCaptures, all, implicit, none, greatest_group}
-use Rattle.rx_search.specs.GroupInfo.{slot_count, unnamed_groups, BeginsUnnamed}
+use Rattle.rx_model.specs.Search.{greatest_group}
+use Rattle.rx_search.specs.GroupInfo.{slot_count, BeginsUnnamed}
 use Rattle.rx_hir.specs.Names.{group_names, name_in}
 use Rattle.rx_nfa.specs.Compiled.{slots_of, groups_of}
 
@@ -19,23 +18,7 @@ pub groups-begin : (hs : List Expression) → All BeginsUnnamed (map group_names
 groups-begin [] = All-nil BeginsUnnamed
 groups-begin (h ∷ hs) = All-cons BeginsUnnamed (group_names h) (map group_names hs) refl (groups-begin hs)
 
--- one group for each of so many patterns
-pub wholes : (n : ℕ) → map unnamed_groups (replicate n 1) ≡ replicate n (None ∷ [])
-wholes zero = refl
-wholes (suc n) = ap (λ (gs : List (List (Option (List ℕ)))). (None ∷ []) ∷ gs) (wholes n)
-
-pub ones-positive : (n : ℕ) → All (λ k. 0 < k) (replicate n 1)
-ones-positive zero = All-nil (λ k. 0 < k)
-ones-positive (suc n) = All-cons (λ k. 0 < k) 1 (replicate n 1) (omega arith) (ones-positive n)
-
-pub ones-sum : (n : ℕ) → sum (replicate n 1) ≡ n
-ones-sum zero = refl
-ones-sum (suc n) = omega (arith, ones-sum n, sum_by-cons (λ (x : ℕ). x) 1 (replicate n 1))
-
 -- each group has two slots
-pub slots-counted : (which : WhichCaptures) (hs : List Expression) → slots_of which hs ≡ slot_count (groups_of which hs)
-slots-counted all [] = refl
-slots-counted all (h ∷ hs) = omega (arith, slots-counted all hs, length-group_names h)
-slots-counted implicit [] = refl
-slots-counted implicit (h ∷ hs) = omega (arith, slots-counted implicit hs)
-slots-counted none hs = refl
+pub slots-counted : (hs : List Expression) → slots_of hs ≡ slot_count (groups_of hs)
+slots-counted [] = refl
+slots-counted (h ∷ hs) = omega (arith, slots-counted hs, length-group_names h)

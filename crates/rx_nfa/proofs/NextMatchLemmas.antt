@@ -4,7 +4,7 @@ use Rattle.std.proofs.lemmas.List.{get_or_past}
 use Rattle.std.proofs.lemmas.List.Elements.{All-get_or}
 use Rattle.std.proofs.lemmas.Option.{slice_get-get_or, slice_get_within, slice_get_past, slice_get_cases}
 use Rattle.std.proofs.lemmas.Bool.Decides.{nat_tests, Decides-eqb}
-use Rattle.std.specs.Prelude.{Bool, true, false, Option, Some, None, option_map, nat_lt, ◌==◌, if◌then◌else◌, slice_get}
+use Rattle.std.specs.Prelude.{All, Bool, true, false, Option, Some, None, option_map, nat_lt, ◌==◌, if◌then◌else◌, slice_get}
 use Rattle.std.specs.Option.{option_or}
 use Rattle.rx_model.specs.Expression.{Expression}
 use Rattle.rx_model.specs.Runs.{Configuration, PriorityGraph, Trace, trace, with_write, last_write, first_trace, first_past, nowhere}
@@ -121,15 +121,16 @@ writes-none patterns slots (Capture next pattern number) empty within = let lt =
 writes-none patterns slots Fail empty within = refl
 writes-none patterns slots (Accepts pattern) empty within = refl
 
--- where there are no slots nothing is written
-pub written-none : (nfa : Nfa) → IsInRange nfa → nfa.slots ≡ 0 → (text : List ℕ) (end : ℕ) (c : Configuration) → (automaton nfa.terminator nfa.states text end).written c ≡ None
-written-none nfa range empty text end c =
-    automaton-written nfa.terminator nfa.states text end c.state c.place
-    ∙ by_test (nat_lt c.state (length nfa.states))
+-- where the states may write no slots nothing is written
+pub written-none : (patterns slots : ℕ) (states : List State) → slots ≡ 0 → All (IsWithin patterns slots) states
+    → (terminator : ℕ) (text : List ℕ) (end : ℕ) (c : Configuration) → (automaton terminator states text end).written c ≡ None
+written-none patterns slots states empty within terminator text end c =
+    automaton-written terminator states text end c.state c.place
+    ∙ by_test (nat_lt c.state (length states))
     (λ e.
-    let lt : c.state < length nfa.states = grind (arith, nat_tests) in
-    writes-none (length nfa.starts) nfa.slots (state_at nfa.states c.state) empty (All-get_or (IsWithin (length nfa.starts) nfa.slots) nfa.states c.state _ lt range.within))
-    (λ e. let fails : state_at nfa.states c.state ≡ Fail = get_or_past nfa.states c.state Fail (grind (arith, nat_tests)) in ap state_writes fails)
+    let lt : c.state < length states = grind (arith, nat_tests) in
+    writes-none patterns slots (state_at states c.state) empty (All-get_or (IsWithin patterns slots) states c.state _ lt within))
+    (λ e. let fails : state_at states c.state ≡ Fail = get_or_past states c.state Fail (grind (arith, nat_tests)) in ap state_writes fails)
 
 module _ (nfa : Nfa) (range : IsInRange nfa) (text : List ℕ) (end slot : ℕ) (past : nfa.slots ≤ slot) where
   abbrev graph : PriorityGraph

@@ -7,7 +7,7 @@ use Rattle.rx_nfa.specs.Draft.{Draft, pushed}
 use Rattle.rx_nfa.specs.States.{Stands}
 use Rattle.rx_model.specs.Search.{Patterns, WhichCaptures, all, implicit, none, slot_of, groups_before, greatest_group}
 use Rattle.rx_nfa.specs.Built.{Built, bound, build_bounds, compiled_pattern, part_of, slot_from, whole_slot}
-use Rattle.rx_nfa.specs.Compiled.{slots_of, first_slot_of}
+use Rattle.rx_nfa.specs.Compiled.{slots_of, slots_written, first_slot_of}
 use Rattle.rx_nfa.proofs.ExpressionLemmas.{groups_before-more, groups_before-all}
 use Rattle.rx_nfa.proofs.BuiltLemmas.{Stands-pushed, Extends-pushed, Built-state, Built-then, pushed-length}
 use Rattle.rx_nfa.specs.declared.state.State.TheVariants.{Capture, Union}
@@ -56,16 +56,22 @@ slot_from-first r p group = of r.which_captures
     of none = refl
 
 -- there are slots for the groups of the pattern at k
-pub groups-inside : (which : WhichCaptures) (hs : List Expression) (k : ℕ) (h : Expression) → k < length hs → h ≡ get_or hs k h → IfSome (first_slot_of which hs k) (λ first. first + 2 * greatest_group h ≤ slots_of which hs)
+pub groups-inside : (which : WhichCaptures) (hs : List Expression) (k : ℕ) (h : Expression) → k < length hs → h ≡ get_or hs k h → IfSome (first_slot_of which hs k) (λ first. first + 2 * greatest_group h ≤ slots_written which hs)
 groups-inside all hs k h lt is = let e = groups_before-all hs k h h lt is in omega arith
 groups-inside implicit hs k h lt is = tt
 groups-inside none hs k h lt is = tt
 
 -- and for its whole match
-pub whole-inside : (which : WhichCaptures) (hs : List Expression) (k : ℕ) → k < length hs → IfSome (whole_slot which k) (λ slot. slot + 1 < slots_of which hs)
+pub whole-inside : (which : WhichCaptures) (hs : List Expression) (k : ℕ) → k < length hs → IfSome (whole_slot which k) (λ slot. slot + 1 < slots_written which hs)
 whole-inside all hs k lt = omega arith
 whole-inside implicit hs k lt = omega arith
 whole-inside none hs k lt = tt
+
+-- no more slots are written than there are
+pub written-within : (which : WhichCaptures) (hs : List Expression) → slots_written which hs ≤ slots_of hs
+written-within all hs = omega arith
+written-within implicit hs = omega arith
+written-within none hs = omega arith
 
 -- the slots of the next pattern's groups
 pub first_slot-more : (which : WhichCaptures) (hs : List Expression) (k : ℕ) (h : Expression) → k < length hs → h ≡ get_or hs k h
@@ -86,3 +92,7 @@ part-is r p k h whole first is at same =
 pub room-more : (o : Option ℕ) (a m n : ℕ) → m ≤ n → IfSome o (λ first. first + a ≤ m) → IfSome o (λ first. first + a ≤ n)
 room-more None a m n le fits = tt
 room-more (Some first) a m n le fits = omega arith
+
+-- the slots of the groups of the pattern at k are there
+pub groups-there : (which : WhichCaptures) (hs : List Expression) (k : ℕ) (h : Expression) → k < length hs → h ≡ get_or hs k h → IfSome (first_slot_of which hs k) (λ first. first + 2 * greatest_group h ≤ slots_of hs)
+groups-there which hs k h lt is = room-more (first_slot_of which hs k) (2 * greatest_group h) (slots_written which hs) (slots_of hs) (written-within which hs) (groups-inside which hs k h lt is)

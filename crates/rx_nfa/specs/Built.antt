@@ -59,7 +59,7 @@ pub record Built (part : graph.Builder) (next : ℕ) (old new : Draft) (start : 
 abbrev pub ways : (greedy : Bool) → (body exit : ℕ) → List ℕ
 ways greedy body exit = if greedy then body ∷ exit ∷ [] else exit ∷ body ∷ []
 
--- the first slot of each group; `first` is that of group 1, if groups have slots
+-- the first slot of each group; `first` is that of group 1, if groups are told
 abbrev pub slot_from : (first : Option ℕ) → ℕ → Option ℕ
 slot_from None group = None
 slot_from (Some first) group = Some (first + 2 * (group - 1))

@@ -1,5 +1,5 @@
 -- What the compiler answers.
-use Rattle.std.specs.Prelude.{◌≡◌, ℕ, ◌+◌, ◌*◌, ◌<◌, ◌≤◌, Bool, List, [], ◌∷◌, length, map, replicate, Option, Some, None, IfSome, slice_get}
+use Rattle.std.specs.Prelude.{◌≡◌, ℕ, ◌+◌, ◌*◌, ◌<◌, ◌≤◌, Bool, List, [], ◌∷◌, length, map, Option, Some, None, IfSome, slice_get}
 use Rattle.std.specs.List.{list_all}
 use Rattle.rx_model.specs.Expression.{Expression, AreOrdered}
 use Rattle.rx_model.specs.Look.{start_text}
@@ -23,20 +23,21 @@ patterns_of hs utf8_empty terminator which = record { expressions = hs; utf8_emp
 abbrev pub all_start_anchored : List Expression → Bool
 all_start_anchored hs = list_all (looks_first start_text) hs
 
--- how many slots there are: two for each pattern, and under `all` two for each group that one names
-abbrev pub slots_of : WhichCaptures → List Expression → ℕ
-slots_of all hs = 2 * length hs + 2 * groups_before (length hs) hs
-slots_of implicit hs = 2 * length hs
-slots_of none hs = 0
+-- how many slots there are: two for each pattern, and two for each group that one names
+abbrev pub slots_of : List Expression → ℕ
+slots_of hs = 2 * length hs + 2 * groups_before (length hs) hs
 
--- The groups of each pattern that have slots, by their names: under `all` those from 0 to the greatest that its
--- expression has, under `implicit` the whole match, which has no name.
-abbrev pub groups_of : WhichCaptures → List Expression → List (List (Option (List ℕ)))
-groups_of all hs = map group_names hs
-groups_of implicit hs = replicate (length hs) (None ∷ [])
-groups_of none hs = []
+-- the groups of each pattern, by their names: those from 0 to the greatest that its expression has
+abbrev pub groups_of : List Expression → List (List (Option (List ℕ)))
+groups_of hs = map group_names hs
 
--- the first slot of the groups that pattern p names, if they have slots
+-- how many of the first slots the states may write: all of them, those of the whole matches, or none
+abbrev pub slots_written : WhichCaptures → List Expression → ℕ
+slots_written all hs = slots_of hs
+slots_written implicit hs = 2 * length hs
+slots_written none hs = 0
+
+-- the first slot of the groups that pattern p names, if they are told
 abbrev pub first_slot_of : WhichCaptures → List Expression → ℕ → Option ℕ
 first_slot_of all hs p = Some (2 * length hs + 2 * groups_before p hs)
 first_slot_of implicit hs p = None
@@ -48,13 +49,13 @@ nfa_states [] = 4
 nfa_states (h ∷ hs) = accounted_states h + 3 + nfa_states hs
 
 -- there are few enough patterns and slots
-pub record AreFew (which : WhichCaptures) (hs : List Expression) : Type 0 where
+pub record AreFew (hs : List Expression) : Type 0 where
   pub patterns : length hs ≤ 2147483647
-  pub slots : slots_of which hs ≤ 2147483646
+  pub slots : slots_of hs ≤ 2147483646
 
 -- there are few enough states too, and at 32 for each they are within the limit, where there is one
 pub record AreAllowed (config : Config) (hs : List Expression) : Type 0 where
-  pub few : AreFew (captures_of config) hs
+  pub few : AreFew hs
   pub states : nfa_states hs ≤ 2147483647
   pub size : IfSome (size_limit_of config) (λ limit. 32 * nfa_states hs ≤ limit)
 
@@ -63,8 +64,8 @@ pub record IsCompiled (config : Config) (hs : List Expression) (nfa : Nfa) : Typ
   pub in_range : IsInRange nfa
   pub few : length nfa.states ≤ nfa_states hs
   pub accounted : nfa.accounted ≡ nfa_states hs
-  pub slots : nfa.slots ≡ slots_of (captures_of config) hs
-  pub groups : nfa.groups ≡ groups_of (captures_of config) hs
+  pub slots : nfa.slots ≡ slots_of hs
+  pub groups : nfa.groups ≡ groups_of hs
   pub utf8 : nfa.utf8 ≡ utf8_of config
   pub terminator : nfa.terminator ≡ terminator_of config
   pub always_start_anchored : nfa.always_start_anchored ≡ all_start_anchored hs
@@ -78,9 +79,9 @@ pub record IsCompiled (config : Config) (hs : List Expression) (nfa : Nfa) : Typ
 abbrev pub IsRefusal : (config : Config) → List Expression → BuildError → Type 0
 IsRefusal config hs (TooManyPatterns given limit) = (given ≡ length hs) × (limit ≡ 2147483647) × (limit < given)
 IsRefusal config hs (TooManyGroups given limit) =
-    (length hs ≤ 2147483647) × (given ≡ capped (slots_of (captures_of config) hs)) × (limit ≡ 2147483646) × (limit < given)
+    (length hs ≤ 2147483647) × (given ≡ capped (slots_of hs)) × (limit ≡ 2147483646) × (limit < given)
 IsRefusal config hs (TooManyStates given limit) =
-    AreFew (captures_of config) hs × (given ≡ capped (nfa_states hs)) × (limit ≡ 2147483647) × (limit < given)
+    AreFew hs × (given ≡ capped (nfa_states hs)) × (limit ≡ 2147483647) × (limit < given)
 IsRefusal config hs (ExceededSizeLimit limit size) =
-    AreFew (captures_of config) hs × (nfa_states hs ≤ 2147483647) × (size_limit_of config ≡ Some limit) × (size ≡ 32 * nfa_states hs) × (limit < size)
+    AreFew hs × (nfa_states hs ≤ 2147483647) × (size_limit_of config ≡ Some limit) × (size ≡ 32 * nfa_states hs) × (limit < size)
 IsRefusal config hs Memory = AreAllowed config hs

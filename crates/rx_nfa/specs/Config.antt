@@ -24,7 +24,7 @@ captures_kind All = kinds.all
 captures_kind Implicit = kinds.implicit
 captures_kind None = kinds.none
 
--- which groups have slots, and whether any is told
+-- which groups are told, if any
 abbrev pub which_of : Config → WhichCaptures
 which_of c = unwrap_or c.which_captures All
 

@@ -5,7 +5,7 @@ use Rattle.rx_nfa.specs.declared.state.State.{State}
 
 pub record Draft : Type 0 where
   pub states : List State
-  -- how many patterns there are, and how many slots
+  -- how many patterns there are, and how many of the first slots may be written
   pub patterns : ℕ
   pub slots : ℕ
 

@@ -18,7 +18,7 @@ pub record Nfa : Type 0 where
   pub starts : List ℕ
   -- how many slots there are
   pub slots : ℕ
-  -- the groups of each pattern that have slots, by their names
+  -- the groups of each pattern, by their names
   pub groups : List (List (Option (List ℕ)))
   -- no match is to start inside a character
   pub utf8 : Bool

@@ -32,7 +32,7 @@ pub struct Facts {
     pub accounted_states: usize,
 }
 
-/// The states so far. Every state, pattern and slot that they name is there.
+/// The states so far. Every state and pattern that they name is there, and they write the first `slot_len` slots alone.
 #[derive(Drop)]
 pub struct Builder {
     states: Vec<State>,
@@ -59,7 +59,7 @@ impl Model for Builder {
 }
 
 impl Builder {
-    /// No states yet, for so many patterns and slots.
+    /// No states yet, for so many patterns, and so many slots that may be written.
     pub fn new(alloc: Global, pattern_len: usize, slot_len: usize) -> Builder
         ensures { result ≡ record { states = []; patterns = pattern_len; slots = slot_len } }
     {
@@ -165,13 +165,13 @@ impl Builder {
         requires starts { All (λ q. q < length self.states) starts.items }
         requires patterns { length starts.items ≡ self.patterns }
         requires few { self.patterns ≤ 2147483647 }
-        requires slots { self.slots ≡ slot_count facts.group_info }
+        requires slots { self.slots ≤ slot_count facts.group_info }
         requires accounted { facts.accounted_states ≤ 2147483647 }
         ensures value { IfOk result (λ nfa. nfa ≡ record {
           states = self.states;
           start_anchored = start_anchored;
           starts = starts.items;
-          slots = self.slots;
+          slots = slot_count facts.group_info;
           groups = facts.group_info;
           utf8 = facts.utf8;
           terminator = facts.look_matcher;
@@ -181,8 +181,9 @@ impl Builder {
           accounted = facts.accounted_states;
         }) }
         ensures in_range { IfOk result IsInRange }
+        ensures within { OnOk result (All (IsWithin self.patterns self.slots) self.states) }
     {
-        let slot_len = self.slot_len;
+        let slot_len = facts.group_info.slot_len();
         let look_set_any = looks_of(&self.states);
         let nfa = NFA::new(
             alloc,

@@ -7,7 +7,7 @@ ghost use Rattle.rx_hir.specs.Cost.{accounted_states};
 ghost use Rattle.rx_hir.specs.Sound.{IsSound};
 ghost use Rattle.rx_nfa.specs.Built.{Built, slot_from, bound, compiled_pattern, HasPart, HasPatterns, StartsAll};
 ghost use Rattle.rx_nfa.specs.Config.{captures_kind, captures_of, overwritten, nothing_set};
-ghost use Rattle.rx_nfa.specs.Compiled.{patterns_of, slots_of, nfa_states, AreFew, AreAllowed, IsCompiled, IsRefusal};
+ghost use Rattle.rx_nfa.specs.Compiled.{patterns_of, slots_of, slots_written, nfa_states, AreFew, AreAllowed, IsCompiled, IsRefusal};
 ghost use Rattle.rx_nfa.specs.Draft.{Extends};
 ghost use Rattle.rx_nfa.specs.Room.{HasRoom};
 
@@ -34,7 +34,7 @@ use grouping::group_info;
 use groups::Groups;
 use rx_hir::{Hir, one_can_be_empty};
 use rx_search::{Memory, PatternID, StateID};
-use slots::{first_slot, second_slot, slot_after, whole_slot};
+use slots::{first_slot, second_slot, slot_after, slots_written, whole_slot};
 use std::alloc::Global;
 use std::slice;
 
@@ -84,7 +84,7 @@ impl Compiler {
 
     /// The NFA of these expressions, one pattern each. A match's slots come in the order of the patterns: two for each
     /// whole match, and after these two for each group that a pattern names. Groups that the configuration leaves out
-    /// have no slots. The NFA has no more states than are accounted for the expressions.
+    /// have slots that stay empty. The NFA has no more states than are accounted for the expressions.
     ///
     /// The NFA's first runs are those of the patterns' graphs, wherever acceptance is permitted, by pattern and place, and
     /// the runs of each pattern's graph cover exactly the spans that its expression means: the laws
@@ -93,8 +93,8 @@ impl Compiler {
     /// meant, from each pattern's start and from that of all: `the_runs_of_one_span_are_meant`,
     /// `the_common_start_has_the_runs_of_each_pattern`.
     ///
-    /// Refused before anything is built, in this order: more than 2147483647 patterns, more than 2147483646 slots under
-    /// the configuration, more than 2147483647 states accounted, more bytes accounted than the configured limit. Want of
+    /// Refused before anything is built, in this order: more than 2147483647 patterns, more than 2147483646 slots,
+    /// more than 2147483647 states accounted, more bytes accounted than the configured limit. Want of
     /// memory comes last, and is then the only reason left.
     pub fn build_many_from_hir(&self, alloc: Global, exprs: &[Hir]) -> Result<NFA, BuildError>
         ensures compiled { IfOk result (IsCompiled self.now.config exprs.now) }
@@ -107,7 +107,7 @@ impl Compiler {
                 limit: PATTERN_LIMIT,
             });
         }
-        let slots = slot_len(self.config.get_which_captures(), exprs);
+        let slots = slot_len(exprs);
         if slots > SLOT_LIMIT {
             return Err(BuildError::TooManyGroups {
                 given: slots,
@@ -148,15 +148,15 @@ fn build(
     slots: usize,
     states: usize,
 ) -> Result<NFA, Memory>
-    requires few { AreFew (captures_of config) exprs.now }
-    requires slots { slots ≡ slots_of (captures_of config) exprs.now }
+    requires few { AreFew exprs.now }
+    requires slots { slots ≡ slots_of exprs.now }
     requires states { states ≡ nfa_states exprs.now }
     requires few_states { states ≤ 2147483647 }
     ensures { IfOk result (IsCompiled config exprs.now) }
 {
     let which = config.get_which_captures();
-    let group_info = group_info(alloc, which, exprs)?;
-    let mut builder = Builder::new(alloc, exprs.len(), slots);
+    let group_info = group_info(alloc, exprs)?;
+    let mut builder = Builder::new(alloc, exprs.len(), slots_written(which, exprs, slots));
     let starts = compile_patterns(alloc, &mut builder, which, exprs)?;
     let start = start_of_all(alloc, &mut builder, &starts)?;
     let facts = Facts {
@@ -178,9 +178,9 @@ fn compile_patterns(
     which: WhichCaptures,
     exprs: &[Hir],
 ) -> Result<Vec<StateID>, Memory>
-    requires few { AreFew (captures_kind which) exprs.now }
+    requires few { AreFew exprs.now }
     requires patterns { builder.old.patterns ≡ length exprs.now }
-    requires slots { builder.old.slots ≡ slots_of (captures_kind which) exprs.now }
+    requires slots { builder.old.slots ≡ slots_written (captures_kind which) exprs.now }
     requires fits { length builder.old.states + nfa_states exprs.now ≤ 2147483647 }
     ensures extends { OnOk result (Extends builder.old builder.new) }
     ensures len { IfOk result (λ starts. length starts.items ≡ length exprs.now) }

@@ -122,7 +122,7 @@ impl NFA {
         self.inner.slot_len
     }
 
-    /// The groups of the patterns that have slots. Under `WhichCaptures::None` it is that of no patterns.
+    /// The groups of the patterns, with their names. Those that the configuration leaves out have slots that stay empty.
     pub fn group_info(&self) -> &GroupInfo
         ensures value { result.now ≡ self.now.groups }
         ensures in_range { IsInRange self.now }

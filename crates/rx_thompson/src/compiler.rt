@@ -85,8 +85,8 @@ impl Compiler {
 
     /// The NFA of these expressions, one pattern each, numbered from 0 on: as by rx_nfa.
     ///
-    /// Refused before anything is built, in this order: more than 2147483647 patterns, more than 2147483646 slots under
-    /// the configuration, more than 2147483647 states accounted, more bytes accounted than the configured limit. Want of
+    /// Refused before anything is built, in this order: more than 2147483647 patterns, more than 2147483646 slots,
+    /// more than 2147483647 states accounted, more bytes accounted than the configured limit. Want of
     /// memory comes last, and is then the only reason left.
     pub fn build_many_from_hir(&self, alloc: Global, exprs: &[Hir]) -> Result<NFA, BuildError>
         ensures compiled { IfOk result (IsCompiled self.now.nfa.config exprs.now) }

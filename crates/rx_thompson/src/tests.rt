@@ -63,7 +63,7 @@ fn takes_a_grammar_and_a_configuration(rt: HostRuntime) -> Result<(), Fail> {
     let nfa = compiler.build(rt.alloc(), "a")?;
     // 3 states of the class of both letters.
     assert_eq!(rt; nfa.accounted_states(), 10);
-    assert_eq!(rt; nfa.slot_len(), 0);
+    assert_eq!(rt; nfa.slot_len(), 2);
     Ok(())
 }
 

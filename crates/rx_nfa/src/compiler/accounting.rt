@@ -1,27 +1,14 @@
 //! What is accounted for an NFA before it is built.
 ghost use Rattle.std.specs.Prelude.{◌≡◌, ◌+◌, ◌*◌, ◌^◌, length, min};
-ghost use Rattle.rx_model.specs.Search.{groups_before, all};
+ghost use Rattle.rx_model.specs.Search.{groups_before};
 ghost use Rattle.rx_hir.specs.Cost.{capped};
 ghost use Rattle.rx_nfa.specs.Compiled.{slots_of, nfa_states};
-ghost use Rattle.rx_nfa.specs.Config.{captures_kind};
 
-use crate::compiler::config::WhichCaptures;
 use rx_hir::{Hir, accounted_states, greatest_group};
 
-/// How many slots a match has. At most `usize::MAX`.
-pub fn slot_len(which: WhichCaptures, exprs: &[Hir]) -> usize
-    ensures { result ≡ capped (slots_of (captures_kind which) exprs.now) }
-{
-    match which {
-        WhichCaptures::All => all_slot_len(exprs),
-        WhichCaptures::Implicit => exprs.len().saturating_mul(2),
-        WhichCaptures::None => 0,
-    }
-}
-
-/// Two slots for each pattern, and two for each group that one names.
-fn all_slot_len(exprs: &[Hir]) -> usize
-    ensures { result ≡ capped (slots_of all exprs.now) }
+/// How many slots a match has: two for each pattern, and two for each group that one names. At most `usize::MAX`.
+pub fn slot_len(exprs: &[Hir]) -> usize
+    ensures { result ≡ capped (slots_of exprs.now) }
 {
     let mut groups = exprs.len();
     for hir in exprs {

@@ -3,7 +3,7 @@ ghost use Rattle.rx_nfa.specs.Config.{utf8_of, size_limit_of, which_of, terminat
 
 use rx_search::LookMatcher;
 
-/// Which groups of a match have slots.
+/// Which groups of a match are told. The slots of the others stay empty.
 #[derive(Clone, Copy, Debug, PartialEq, Eq)]
 pub enum WhichCaptures {
     /// The whole match, and each group that a pattern names.
@@ -53,7 +53,7 @@ impl Config {
         self
     }
 
-    /// Which groups of a match have slots. By default all have.
+    /// Which groups of a match are told. By default all are.
     pub fn which_captures(mut self, which: WhichCaptures) -> Config
         ensures { result ≡ record self { which_captures = Some which } }
     {
@@ -83,7 +83,7 @@ impl Config {
         self.nfa_size_limit.unwrap_or(None)
     }
 
-    /// Which groups of a match have slots.
+    /// Which groups of a match are told.
     pub fn get_which_captures(&self) -> WhichCaptures
         ensures { result ≡ which_of self.now }
     {

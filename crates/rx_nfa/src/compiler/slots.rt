@@ -1,15 +1,28 @@
-//! Which slots the groups of patterns have.
+//! Which slots the states of patterns write.
 ghost use Rattle.std.specs.Prelude.{◌≡◌, ◌+◌, ◌*◌, ◌<◌, ◌≤◌, suc, length, IfSome, option_map};
 ghost use Rattle.rx_model.specs.Search.{greatest_group};
 ghost use Rattle.rx_nfa.specs.Built.{whole_slot};
-ghost use Rattle.rx_nfa.specs.Compiled.{first_slot_of};
+ghost use Rattle.rx_nfa.specs.Compiled.{slots_of, slots_written, first_slot_of};
 ghost use Rattle.rx_nfa.specs.Config.{captures_kind};
 
 use crate::compiler::config::WhichCaptures;
 use rx_hir::{Hir, greatest_group};
 use rx_search::PatternID;
 
-/// The first slot of the whole match of a pattern.
+/// How many of the first slots the states may write, where there are so many slots.
+pub fn slots_written(which: WhichCaptures, exprs: &[Hir], slot_len: usize) -> usize
+    requires few { length exprs.now ≤ 2147483647 }
+    requires slots { slot_len ≡ slots_of exprs.now }
+    ensures { result ≡ slots_written (captures_kind which) exprs.now }
+{
+    match which {
+        WhichCaptures::All => slot_len,
+        WhichCaptures::Implicit => 2 * exprs.len(),
+        WhichCaptures::None => 0,
+    }
+}
+
+/// The first slot of the whole match of a pattern, if it is told.
 pub fn whole_slot(which: WhichCaptures, pattern: PatternID) -> Option<usize>
     ensures { result ≡ whole_slot (captures_kind which) pattern }
 {
@@ -20,7 +33,7 @@ pub fn whole_slot(which: WhichCaptures, pattern: PatternID) -> Option<usize>
     }
 }
 
-/// The first slot of the groups that the first pattern names.
+/// The first slot of the groups that the first pattern names, if they are told.
 pub fn first_slot(which: WhichCaptures, exprs: &[Hir]) -> Option<usize>
     requires { length exprs.now ≤ 2147483647 }
     ensures { result ≡ first_slot_of (captures_kind which) exprs.now 0 }

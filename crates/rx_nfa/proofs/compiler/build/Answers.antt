@@ -2,7 +2,7 @@ use Rattle.std.proofs.Common.{◌≡◌, ◌∙◌, sym, ap, subst, refl, arith,
 use Rattle.std.specs.Prelude.{true}
 use Rattle.rx_nfa.specs.Automaton.{automaton}
 use Rattle.rx_nfa.specs.Built.{StartsAll, HasPatterns}
-use Rattle.rx_nfa.specs.Compiled.{patterns_of, slots_of, groups_of}
+use Rattle.rx_nfa.specs.Compiled.{patterns_of, slots_of, slots_written, groups_of}
 use Rattle.rx_nfa.specs.Config.{terminator_of, captures_of, captures_kind}
 use Rattle.rx_nfa.specs.Draft.{Draft}
 use Rattle.rx_nfa.specs.Nfa.{Nfa, HasRuns}
@@ -11,19 +11,22 @@ use Rattle.rx_hir.proofs.SoundLemmas.{IsSound-ordered}
 use Rattle.rx_nfa.proofs.GroupLemmas.{slots-counted}
 use Rattle.rx_nfa.proofs.NextMatchLemmas.{written-none}
 use Rattle.rx_nfa.proofs.PatternLemmas.{HasRuns-from, StartsAll-slots}
+use Rattle.rx_nfa.proofs.SlotLemmas.{written-within}
 use Rattle.rx_nfa.proofs.compiler.build.Goals as goal
 
 pub finish-requires-clause-slots : goal.finish-requires-clause-slots
 finish-requires-clause-slots c =
     let exprs = c.args.exprs.now in
+    let which = captures_kind c.get_which_captures-which.result in
     let starts = c.in_ok-starts.starts.items in
     let old = c.compile_patterns.new.builder in
     let new = c.start_of_all.new.builder in
     let all : StartsAll old new starts c.in_ok-start.start = subst (λ qs. StartsAll c.compile_patterns.new.builder c.start_of_all.new.builder qs c.in_ok-start.start) c.deref.ensures.value c.in_ok-start.ensures.starts in
-    let extended = c.in_ok-starts.ensures.extends.slots in
-    let groups : c.in_ok-group_info.group_info ≡ groups_of (captures_of c.args.config) c.args.exprs.now = c.in_ok-group_info.ensures ∙ ap (λ w. groups_of w c.args.exprs.now) (ap captures_kind c.get_which_captures-which.ensures) in
-    StartsAll-slots old new starts c.in_ok-start.start all ∙ extended ∙ ap (λ (d : Draft). d.slots) c.new-builder.ensures ∙ c.requires.slots
-    ∙ slots-counted (captures_of c.args.config) exprs ∙ sym (ap slot_count groups)
+    let written : new.slots ≡ slots_written which exprs =
+    StartsAll-slots old new starts c.in_ok-start.start all ∙ c.in_ok-starts.ensures.extends.slots ∙ ap (λ (d : Draft). d.slots) c.new-builder.ensures ∙ c.slots_written.ensures in
+    let within = written-within which exprs in
+    let counted = slots-counted exprs ∙ sym (ap slot_count c.in_ok-group_info.ensures) in
+    omega arith
 
 pub returns : goal.returns
 returns c =
@@ -36,12 +39,12 @@ returns c =
     let is = c.in_ok-nfa.ensures.value in
     let long = c.in_ok-starts.ensures.len in
     let all : StartsAll old new starts c.in_ok-start.start = subst (λ qs. StartsAll old new qs c.in_ok-start.start) c.deref.ensures.value c.in_ok-start.ensures.starts in
-    let extended = c.in_ok-starts.ensures.extends.slots in
-    let slots : nfa.slots ≡ slots_of which exprs =
-    ap (λ (n : Nfa). n.slots) is ∙ StartsAll-slots old new starts c.in_ok-start.start all ∙ extended ∙ ap (λ (d : Draft). d.slots) c.new-builder.ensures ∙ c.requires.slots in
+    let written : new.slots ≡ slots_written which exprs =
+    StartsAll-slots old new starts c.in_ok-start.start all ∙ c.in_ok-starts.ensures.extends.slots ∙ ap (λ (d : Draft). d.slots) c.new-builder.ensures ∙ c.slots_written.ensures
+    ∙ ap (λ w. slots_written w c.args.exprs.now) (ap captures_kind c.get_which_captures-which.ensures) in
+    let slots : nfa.slots ≡ slots_of exprs = ap (λ (n : Nfa). n.slots) is ∙ ap slot_count c.in_ok-group_info.ensures ∙ sym (slots-counted exprs) in
     let states : nfa.states ≡ new.states = ap (λ (n : Nfa). n.states) is in
     let terminator : nfa.terminator ≡ terminator_of c.args.config = ap (λ (n : Nfa). n.terminator) is ∙ c.get_look_matcher.ensures in
-    let groups : c.in_ok-group_info.group_info ≡ groups_of (captures_of c.args.config) c.args.exprs.now = c.in_ok-group_info.ensures ∙ ap (λ w. groups_of w c.args.exprs.now) (ap captures_kind c.get_which_captures-which.ensures) in
     let has = subst (λ w. HasPatterns c.compile_patterns.new.builder.states (patterns_of c.args.exprs.now true 0 w) (length c.args.exprs.now) c.in_ok-starts.starts.items)
     (ap captures_kind c.get_which_captures-which.ensures) c.in_ok-starts.ensures.has in
     record {
@@ -53,7 +56,7 @@ returns c =
           let last = c.in_ok-start.ensures.count in
           omega arith);
       slots = slots;
-      groups = ap (λ (n : Nfa). n.groups) is ∙ groups;
+      groups = ap (λ (n : Nfa). n.groups) is ∙ c.in_ok-group_info.ensures;
       utf8 = ap (λ (n : Nfa). n.utf8) is ∙ c.get_utf8.ensures;
       terminator = terminator;
       always_start_anchored = ap (λ (n : Nfa). n.always_start_anchored) is ∙ c.all_start_anchored.ensures;
@@ -67,7 +70,7 @@ returns c =
             states = new.states;
             start_anchored = c.in_ok-start.start;
             starts = starts;
-            slots = new.slots;
+            slots = slot_count c.in_ok-group_info.group_info;
             groups = c.in_ok-group_info.group_info;
             utf8 = c.get_utf8.result;
             terminator = c.get_look_matcher.result;
@@ -77,6 +80,5 @@ returns c =
             accounted = c.args.states;
           })
           old new has long c.get_look_matcher.ensures refl all
-          (λ none text end x. (λ k. (automaton (sym terminator k) (sym states k) text end).written x)
-          ∙ written-none nfa c.in_ok-nfa.ensures.in_range (slots ∙ ap (λ w. slots_of w exprs) none) text end x));
+          (λ none text end x. written-none new.patterns new.slots new.states (written ∙ ap (λ w. slots_written w exprs) none) c.in_ok-nfa.ensures.within (terminator_of c.args.config) text end x));
     }

@@ -4,13 +4,13 @@ use Rattle.std.proofs.lemmas.Option.{slice_get_within}
 use Rattle.std.specs.Prelude.{true, IfSome, option_map}
 use Rattle.rx_model.specs.Search.{greatest_group}
 use Rattle.rx_nfa.specs.Built.{HasPart, part_of}
-use Rattle.rx_nfa.specs.Compiled.{patterns_of, slots_of}
+use Rattle.rx_nfa.specs.Compiled.{patterns_of, slots_of, slots_written}
 use Rattle.rx_nfa.specs.Config.{captures_kind}
 use Rattle.rx_nfa.proofs.ExpressionLemmas.{nfa_states-drop, nfa_states-none}
 use Rattle.rx_nfa.proofs.BuiltLemmas.{Extends-trans}
 use Rattle.rx_nfa.proofs.CompileLemmas.{below-more}
 use Rattle.rx_nfa.proofs.PatternLemmas.{HasPatterns-more, sound-more}
-use Rattle.rx_nfa.proofs.SlotLemmas.{groups-inside, whole-inside, first_slot-more, part-is, room-more}
+use Rattle.rx_nfa.proofs.SlotLemmas.{groups-inside, groups-there, whole-inside, written-within, first_slot-more, part-is, room-more}
 use Rattle.rx_nfa.proofs.compiler.compile_patterns.Goals as goal
 
 pub compile_pattern-requires-clause-room : goal.compile_pattern-requires-clause-room
@@ -20,32 +20,33 @@ compile_pattern-requires-clause-room c =
     let item = c.hir-item.result in
     let inside = groups-inside which exprs c.loop-hir.hir-index item (omega arith) c.hir-item.is in
     let few = c.requires.few.slots in
-    let slots : c.loop-hir.builder.slots ≡ slots_of (captures_kind c.args.which) c.args.exprs.now = c.loop-hir.invariant.extends.slots ∙ c.requires.slots in
+    let written = written-within which exprs in
+    let slots : c.loop-hir.builder.slots ≡ slots_written (captures_kind c.args.which) c.args.exprs.now = c.loop-hir.invariant.extends.slots ∙ c.requires.slots in
     let patterns = c.loop-hir.invariant.extends.patterns in
     let is = rw c.unwrap-pattern.ensures at c.new.ensures in
     let index = is.0 in
     record {
       pattern = omega arith;
       slots = subst (λ n. IfSome c.loop-hir.first_slot (λ first. first + 2 * greatest_group c.hir-item.result ≤ n)) (sym slots)
-          (subst (λ o. IfSome o (λ first. first + 2 * greatest_group c.hir-item.result ≤ slots_of (captures_kind c.args.which) c.args.exprs.now)) (sym c.loop-hir.invariant.first_slot) inside);
+          (subst (λ o. IfSome o (λ first. first + 2 * greatest_group c.hir-item.result ≤ slots_written (captures_kind c.args.which) c.args.exprs.now)) (sym c.loop-hir.invariant.first_slot) inside);
       few = omega arith;
     }
 
 pub compile_pattern-requires-clause-whole : goal.compile_pattern-requires-clause-whole
 compile_pattern-requires-clause-whole c =
-    let slots : c.loop-hir.builder.slots ≡ slots_of (captures_kind c.args.which) c.args.exprs.now = c.loop-hir.invariant.extends.slots ∙ c.requires.slots in
+    let slots : c.loop-hir.builder.slots ≡ slots_written (captures_kind c.args.which) c.args.exprs.now = c.loop-hir.invariant.extends.slots ∙ c.requires.slots in
     let is = rw c.unwrap-pattern.ensures at c.new.ensures in
     let index : c.unwrap-pattern.result ≡ c.loop-hir.hir-index = is.0 ∙ c.len.ensures ∙ c.loop-hir.invariant.len in
     let inside = whole-inside (captures_kind c.args.which) c.args.exprs.now c.unwrap-pattern.result (omega arith) in
     subst (λ n. IfSome c.whole_slot.result (λ slot. slot + 1 < n)) (sym slots)
-    (subst (λ o. IfSome o (λ slot. slot + 1 < slots_of (captures_kind c.args.which) c.args.exprs.now)) (sym c.whole_slot.ensures) inside)
+    (subst (λ o. IfSome o (λ slot. slot + 1 < slots_written (captures_kind c.args.which) c.args.exprs.now)) (sym c.whole_slot.ensures) inside)
 
 pub slot_after-first_slot-requires : goal.slot_after-first_slot-requires
 slot_after-first_slot-requires c =
     let which = captures_kind c.args.which in
-    let inside = groups-inside which c.args.exprs.now c.loop-hir.hir-index c.hir-item.result (omega arith) c.hir-item.is in
-    room-more c.loop-hir.first_slot (2 * greatest_group c.hir-item.result) (slots_of which c.args.exprs.now) 2147483646 c.requires.few.slots
-    (subst (λ o. IfSome o (λ first. first + 2 * greatest_group c.hir-item.result ≤ slots_of (captures_kind c.args.which) c.args.exprs.now)) (sym c.loop-hir.invariant.first_slot) inside)
+    let there = groups-there which c.args.exprs.now c.loop-hir.hir-index c.hir-item.result (omega arith) c.hir-item.is in
+    room-more c.loop-hir.first_slot (2 * greatest_group c.hir-item.result) (slots_of c.args.exprs.now) 2147483646 c.requires.few.slots
+    (subst (λ o. IfSome o (λ first. first + 2 * greatest_group c.hir-item.result ≤ slots_of c.args.exprs.now)) (sym c.loop-hir.invariant.first_slot) there)
 
 pub loop-hir-preserved : goal.loop-hir-preserved
 loop-hir-preserved c =

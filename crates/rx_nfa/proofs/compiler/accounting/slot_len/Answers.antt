@@ -1,6 +1,6 @@
 use Rattle.std.proofs.Common.{arith}
 use Rattle.rx_nfa.proofs.ExpressionLemmas.{groups_before-more}
-use Rattle.rx_nfa.proofs.compiler.accounting.all_slot_len.Goals as goal
+use Rattle.rx_nfa.proofs.compiler.accounting.slot_len.Goals as goal
 
 pub loop-hir-preserved : goal.loop-hir-preserved
 loop-hir-preserved c =

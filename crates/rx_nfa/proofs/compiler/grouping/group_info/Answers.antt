@@ -1,11 +1,10 @@
 use Rattle.std.proofs.Common.{◌≡◌, ◌∙◌, ◌++◌, ◌∷◌, [], sym, ap, subst, arith, take, map, get_or}
 use Rattle.std.specs.Prelude.{All}
 use Rattle.std.proofs.lemmas.List.{take_all, take_more, map_push}
-use Rattle.rx_model.specs.Search.{all}
 use Rattle.rx_search.specs.GroupInfo.{groups_of, names_of, slot_count, BeginsUnnamed}
 use Rattle.rx_hir.specs.Names.{group_names}
 use Rattle.rx_nfa.proofs.GroupLemmas.{groups-begin, slots-counted}
-use Rattle.rx_nfa.proofs.compiler.grouping.all_groups.Goals as goal
+use Rattle.rx_nfa.proofs.compiler.grouping.group_info.Goals as goal
 
 pub loop-hir-preserved : goal.loop-hir-preserved
 loop-hir-preserved c =
@@ -28,7 +27,7 @@ pub named-requires-clause-few : goal.named-requires-clause-few
 named-requires-clause-few c =
     let whole : groups_of c.deref.result.now ≡ map group_names c.args.exprs.now = ap (λ gs. groups_of gs) c.deref.ensures.value ∙ c.loop-hir.invariant ∙ ap (map group_names) (take_all c.loop-hir.hir-index c.args.exprs.now (omega arith)) in
     let same = ap slot_count whole in
-    let counted = slots-counted all c.args.exprs.now in
+    let counted = slots-counted c.args.exprs.now in
     let few = c.requires.slots in
     omega arith
 
