@@ -1,5 +1,5 @@
 -- What a finder with a regex finds, and the rows that it tells.
-use Rattle.std.proofs.Common.{◌≡◌, ℕ, zero, suc, ◌+◌, ◌-◌, ◌<◌, ◌≤◌, Bool, true, false, cond, List, [], ◌∷◌, ◌++◌, length, take, get_or, Option, Some, None, refl, sym, ap, ◌∙◌, append_assoc, append-nil, add-one, arith}
+use Rattle.std.proofs.Common.{◌≡◌, ℕ, zero, suc, ◌+◌, ◌-◌, ◌*◌, ◌<◌, ◌≤◌, Bool, true, false, cond, List, [], ◌∷◌, ◌++◌, length, take, get_or, Option, Some, None, refl, sym, ap, ◌∙◌, append_assoc, append-nil, add-one, inl, inr, arith}
 use Rattle.std.specs.Prelude.{map, option_map, nat_lt, MatchOption}
 use Rattle.std.proofs.lemmas.Bool.{ltb-true, ltb-false}
 use Rattle.std.proofs.Math.Seq.{take-suc}
@@ -15,8 +15,8 @@ use Rattle.rx_search.specs.Input.{InputValue, from_place, next_in, whole}
 use Rattle.rx_search.specs.Matches.{MatchValue}
 use Rattle.rx_search.specs.Searcher.{SearcherValue, moved_past, search_from, match_after, upcoming, places_left, fresh, to_come, successive}
 use Rattle.rx_search.proofs.SearcherLemmas.{successive-matches}
-use Rattle.rx_nfa.specs.Compiled.{patterns_of, groups_of}
 use Rattle.rx_hir.specs.Names.{group_names}
+use Rattle.rx_nfa.specs.Compiled.{patterns_of, groups_of}
 use Rattle.rx_nfa.proofs.GroupLemmas.{length-group_names}
 use Rattle.rx_nfa.proofs.NextMatchLemmas.{next_match_of-patterns}
 use Rattle.rx_engines.specs.Engine.{HasSlots}
@@ -126,7 +126,7 @@ module _ (r : Patterns) (text : List ℕ) (b a : ℕ) (m : Match) (found : next_
         | inl opens ↦ omega (arith, there, above, opens)
         | inr other ↦ elim other [
           | inl closes ↦ omega (arith, there, above, closes)
-          | inr explicit ↦ no-slot (sym (untold-slot explicit.0) ∙ explicit.2.1)
+          | inr explicit ↦ no-slot (sym (untold-slot explicit.0) ∙ explicit.3)
         ]
       ])
     where
