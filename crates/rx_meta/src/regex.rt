@@ -335,7 +335,7 @@ impl Regex {
         PROPERTIES_SIZE * (nfa.pattern_len() + 1) + nfa.memory_usage()
     }
 
-    /// The groups of each pattern that have slots.
+    /// The groups of each pattern. A group that the configuration leaves out has slots too, which stay empty.
     pub fn group_info(&self) -> &GroupInfo
         ensures { result.now ≡ self.now.strategy.nfa.groups }
     {

@@ -184,6 +184,22 @@ fn nothing_is_told_without_captures(rt: HostRuntime) {
     assert!(rt; regex.is_match(&rt, alloc, &input) == Ok(true));
 }
 
+#[test]
+fn a_group_that_is_not_told_has_empty_slots(rt: HostRuntime) {
+    let alloc = rt.alloc();
+    let mut builder = Builder::new();
+    builder.configure(Config::new().which_captures(WhichCaptures::Implicit));
+    let regex = builder.build(alloc, "a(?P<k>b)").ok();
+    let regex = regex.expect(&rt, "a regex");
+    assert_eq!(rt; regex.group_info().to_index(PatternID::ZERO, "k"), Some(1));
+    assert_eq!(rt; regex.group_info().slot_len(), 4);
+    let mut slots = [NonMaxUsize::new(9); 4];
+    let found = regex.search_slots(&rt, alloc, &Input::new(b"xab"), &mut slots);
+    assert!(rt; found.ok().expect(&rt, "memory").is_some());
+    assert_eq!(rt; (place(slots[0]), place(slots[1])), (Some(1), Some(3)));
+    assert_eq!(rt; (place(slots[2]), place(slots[3])), (None, None));
+}
+
 /// Values of this type may go to other threads.
 fn goes_to_threads<T: Send>(_value: &T) {}
 

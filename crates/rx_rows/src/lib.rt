@@ -1,16 +1,9 @@
-//! Whole runs as tables, words and input in, status and text out; and searches of both engines.
+//! Tests that cross crates: runs over ends in memory, ends that fail, scans, and searches of both engines. The tables of runs of the
+//! whole program stand in `tests/` at the top of the repository.
 #![tactic(auto)]
 
 #[cfg(test)]
 mod ends;
-#[cfg(test)]
-mod grammar;
-#[cfg(test)]
-mod hostile;
-#[cfg(test)]
-mod limits;
-#[cfg(test)]
-mod refusals;
 #[cfg(test)]
 mod rows;
 #[cfg(test)]

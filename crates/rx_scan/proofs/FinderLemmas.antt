@@ -1,13 +1,13 @@
 -- What a finder with a regex finds, and the rows that it tells.
-use Rattle.std.proofs.Common.{◌≡◌, ℕ, zero, suc, ◌+◌, ◌-◌, ◌<◌, ◌≤◌, Bool, true, false, cond, List, [], ◌∷◌, ◌++◌, length, take, get_or, Option, Some, None, refl, sym, ap, ◌∙◌, append_assoc, append-nil, add-one, arith}
+use Rattle.std.proofs.Common.{◌≡◌, ℕ, zero, suc, ◌+◌, ◌-◌, ◌*◌, ◌<◌, ◌≤◌, Bool, true, false, cond, List, [], ◌∷◌, ◌++◌, length, take, get_or, Option, Some, None, refl, sym, ap, ◌∙◌, append_assoc, append-nil, add-one, inl, inr, arith}
 use Rattle.std.specs.Prelude.{map, option_map, nat_lt, MatchOption}
 use Rattle.std.proofs.lemmas.Bool.{ltb-true, ltb-false}
 use Rattle.std.proofs.Math.Seq.{take-suc}
-use Rattle.std.proofs.lemmas.List.{get_or_read, map-append}
-use Rattle.std.proofs.lemmas.Option.{slice_get_within}
+use Rattle.std.proofs.lemmas.List.{get_or_read, length-map, map-append}
 use Rattle.rx_model.specs.Expression.{Expression}
-use Rattle.rx_model.specs.Search.{Patterns, WhichCaptures, all, implicit, none, Match, greatest_group, slot_value, matches, matches_from, free, is_empty_at, next_after}
-use Rattle.rx_model.proofs.MatchLemmas.{next-is}
+use Rattle.rx_model.specs.Matches.{IsMatch}
+use Rattle.rx_model.specs.Search.{Patterns, Match, greatest_group, groups_before, has_explicit_groups, slot_of, slot_value, next_match, matches, matches_from, free, is_empty_at, next_after}
+use Rattle.rx_model.proofs.WithinLemmas.{next-run, match-slots, match-others}
 use Rattle.rx_model.proofs.RunLemmas.{by_test}
 use Rattle.rx_search.specs.GroupInfo.{groups_at, slot_of_group, slot_at, groups_in_expression, group_count as all_groups}
 use Rattle.rx_search.proofs.GroupSlotLemmas.{slot_written}
@@ -15,6 +15,7 @@ use Rattle.rx_search.specs.Input.{InputValue, from_place, next_in, whole}
 use Rattle.rx_search.specs.Matches.{MatchValue}
 use Rattle.rx_search.specs.Searcher.{SearcherValue, moved_past, search_from, match_after, upcoming, places_left, fresh, to_come, successive}
 use Rattle.rx_search.proofs.SearcherLemmas.{successive-matches}
+use Rattle.rx_hir.specs.Names.{group_names}
 use Rattle.rx_nfa.specs.Compiled.{patterns_of, groups_of}
 use Rattle.rx_nfa.proofs.GroupLemmas.{length-group_names}
 use Rattle.rx_nfa.proofs.NextMatchLemmas.{next_match_of-patterns}
@@ -27,7 +28,7 @@ use Rattle.rx_meta.specs.Regex.{RegexValue}
 use Rattle.rx_meta.specs.Build.{IsBuilt}
 use Rattle.rx_scan.specs.Finder.{places_in, row_in, IsFor}
 use Rattle.rx_scan.specs.Row.{group_count}
-use Rattle.rx_scan.specs.ScanRow.{group_slot, group_places, places_from, told_count, row_of, scan_rows}
+use Rattle.rx_scan.specs.ScanRow.{group_slot, group_places, places_from, row_of, scan_rows}
 
 no-pair : {P : Type 0} {x : ℕ × ℕ} → Some x ≡ None → P
 no-pair e = cc
@@ -48,16 +49,14 @@ told-in-is s r text i of =
     told-agrees s (from_place i (whole text)) r of.which_captures
     (λ told. next_match_of-patterns s.nfa r text (length text) (omega arith) of.runs s.nfa.utf8 free i of.utf8)
 
--- a match that is told is one of a pattern that is there
-pub told-there : (regex : RegexValue) (r : Patterns) (text : List ℕ) (i : ℕ) (v : InputValue) (x : Match) → IsFor regex r → v ≡ from_place i (whole text)
-    → told_in regex.strategy v ≡ Some x → (tells r.which_captures ≡ true) × (x.trace.pattern < length r.expressions)
-told-there regex r text i v x for here found =
+-- a match that is told is a next match
+pub told-next_match : (regex : RegexValue) (r : Patterns) (text : List ℕ) (i : ℕ) (v : InputValue) (x : Match) → IsFor regex r → v ≡ from_place i (whole text)
+    → told_in regex.strategy v ≡ Some x → next_match r text free (length text) i ≡ Some x
+told-next_match regex r text i v x for here found =
     let at = from_place i (whole text) in
     let told : told_for r at ≡ Some x = sym (told-in-is regex.strategy r text i for.is_of) ∙ ap (told_in regex.strategy) (sym here) ∙ found in
     by_test (tells r.which_captures)
-    (λ yes_told.
-    let is = next-is r text free (length text) i x (sym (told-next r at yes_told) ∙ told) in
-    (yes_told, slice_get_within r.expressions x.trace.pattern _ is.run.1.1))
+    (λ yes_told. sym (told-next r at yes_told) ∙ told)
     (λ silent. no-match (sym (told-nothing r at silent) ∙ told))
 
 -- a match that comes next was found from some place
@@ -97,58 +96,66 @@ found-rows regex r text for =
     ap (map (row_of r)) (successive-none (told_in s) (whole text) (λ i. told-in-is s r text i for.is_of ∙ told-nothing r (from_place i (whole text)) silent))
     ∙ ap (λ (b : Bool). cond b rows []) (sym silent))
 
--- the groups of each pattern under `all`
-lengths-all : (hs : List Expression) → map length (groups_of all hs) ≡ map groups_in_expression hs
-lengths-all [] = refl
-lengths-all (h ∷ hs) = λ i. (length-group_names h ∙ (let e : suc (greatest_group h) ≡ 1 + greatest_group h = omega arith in e)) i ∷ lengths-all hs i
+-- how many groups each pattern has
+group-lengths : (hs : List Expression) → map length (groups_of hs) ≡ map groups_in_expression hs
+group-lengths [] = refl
+group-lengths (h ∷ hs) = λ i. (length-group_names h ∙ (let e : suc (greatest_group h) ≡ 1 + greatest_group h = omega arith in e)) i ∷ group-lengths hs i
 
--- as many groups are told as have slots
-counted-all : (hs : List Expression) (p : ℕ) → p < length hs → length (groups_at (groups_of all hs) p) ≡ group_count hs p + 1
-counted-all [] p below = absurd (omega arith)
-counted-all (h ∷ hs) zero below = length-group_names h ∙ (let e : suc (greatest_group h) ≡ greatest_group h + 1 = omega arith in e)
-counted-all (h ∷ hs) (suc p) below = counted-all hs p (omega arith)
+counted : (hs : List Expression) (p : ℕ) → p < length hs → length (groups_at (groups_of hs) p) ≡ group_count hs p + 1
+counted [] p below = absurd (omega arith)
+counted (h ∷ hs) zero below = length-group_names h ∙ (let e : suc (greatest_group h) ≡ greatest_group h + 1 = omega arith in e)
+counted (h ∷ hs) (suc p) below = counted hs p (omega arith)
 
-counted-implicit : (hs : List Expression) (p : ℕ) → p < length hs → length (groups_at (groups_of implicit hs) p) ≡ 1
-counted-implicit [] p below = absurd (omega arith)
-counted-implicit (h ∷ hs) zero below = refl
-counted-implicit (h ∷ hs) (suc p) below = counted-implicit hs p (omega arith)
+module _ (r : Patterns) (text : List ℕ) (b a : ℕ) (m : Match) (found : next_match r text free b a ≡ Some m) where
+  abbrev p : ℕ
+  p = m.trace.pattern
 
-counted : (w : WhichCaptures) (hs : List Expression) (p : ℕ) → tells w ≡ true → p < length hs → length (groups_at (groups_of w hs) p) ≡ told_count w (group_count hs p)
-counted all hs p told below = counted-all hs p below
-counted implicit hs p told below = counted-implicit hs p below
-counted none hs p told below = cc
+  abbrev info : List (List (Option (List ℕ)))
+  info = groups_of r.expressions
 
--- and they are the slots that the graphs write
-written : (r : Patterns) (w : WhichCaptures) (p g n : ℕ) → r.which_captures ≡ w → tells w ≡ true → n ≡ told_count w (group_count r.expressions p) → g < n
-    → group_slot r p g ≡ Some (slot_of_group (groups_of w r.expressions) p g)
-written r w p zero n is told count below = refl
-written r all p (suc g) n is told count below =
-    slot_written r (groups_of all r.expressions) p (suc g) (rw is refl) (lengths-all r.expressions) (omega arith)
-written r implicit p (suc g) n is told count below = absurd (omega arith)
-written r none p (suc g) n is told count below = cc
+  is : IsMatch r text free b a m
+  is = next-run r text free b a m found
 
-places-alike : (r : Patterns) (info : List (List (Option (List ℕ)))) (m : Match) (n g : ℕ)
-    → ((k : ℕ) → k < g + n → group_slot r m.trace.pattern k ≡ Some (slot_of_group info m.trace.pattern k)) → places_in info m m.trace.pattern n g ≡ places_from r m n g
-unfolding places_in places_from
-places-alike r info m zero g same = refl
-places-alike r info m (suc n) g same =
-    λ i. group_places m (sym (same g (omega arith)) i) ++ places-alike r info m n (g + 1) (λ k below. same k (omega arith)) i
+  there : p < length r.expressions
+  there = (match-slots r text free b a m is).0
 
-own-row : (r : Patterns) (m : Match) → tells r.which_captures ≡ true → m.trace.pattern < length r.expressions
-    → row_in (groups_of r.which_captures r.expressions) m m.trace.pattern ≡ row_of r m
-own-row r m told below =
-    let p = m.trace.pattern in
-    let info = groups_of r.which_captures r.expressions in
-    let n = told_count r.which_captures (group_count r.expressions p) in
-    let count = counted r.which_captures r.expressions p told below in
-    let places = ap (λ k. places_in info m p k 0) count
-    ∙ places-alike r info m n 0 (λ k lt. written r r.which_captures p k n refl told refl (omega (arith, lt))) in
-    λ i. record { pattern = p; slots = places i }
+  -- where explicit groups are not told, their slots stay empty
+  left-empty : (slot : ℕ) → has_explicit_groups r.which_captures ≡ false → 2 * length r.expressions ≤ slot → slot_value m slot ≡ None
+  left-empty slot untold above =
+      match-others r text free b a m is is.expression is.is_there slot (λ own. elim own [
+        | inl opens ↦ omega (arith, there, above, opens)
+        | inr other ↦ elim other [
+          | inl closes ↦ omega (arith, there, above, closes)
+          | inr explicit ↦ no-slot (sym (untold-slot explicit.0) ∙ explicit.3)
+        ]
+      ])
+    where
+      untold-slot : (g : ℕ) → slot_of r p g ≡ None
+      untold-slot g = rw untold refl
 
--- the row of a match that is told, by the groups that have slots
-pub told-row : (regex : RegexValue) (r : Patterns) (m : Match) (p : ℕ) → IsFor regex r → tells r.which_captures ≡ true → m.trace.pattern < length r.expressions → p ≡ m.trace.pattern
-    → row_in regex.strategy.nfa.groups m p ≡ row_of r m
-told-row regex r m p for told below own = (λ i. row_in (for.groups i) m (own i)) ∙ own-row r m told below
+      no-slot : {x : ℕ} → None ≡ Some x → ⊥
+      no-slot e = cc
+
+  -- so the slots of each group hold what is told of it
+  group-told : (g : ℕ) → group_places m (Some (slot_of_group info p g)) ≡ group_places m (group_slot r p g)
+  group-told zero = refl
+  group-told (suc g) =
+      by_test (has_explicit_groups r.which_captures)
+      (λ explicit. ap (group_places m) (sym (slot_written r info p (suc g) explicit (group-lengths r.expressions) (omega arith))))
+      (λ untold.
+      let above : 2 * length r.expressions ≤ slot_of_group info p (suc g) = omega (arith, length-map r.expressions group_names) in
+      (λ i. left-empty (slot_of_group info p (suc g)) untold above i ∷ left-empty (slot_of_group info p (suc g) + 1) untold (omega (arith, above)) i ∷ [])
+      ∙ ap (λ (b : Bool). group_places m (cond b (Some (2 * length r.expressions + 2 * groups_before p r.expressions + 2 * (suc g - 1))) None)) (sym untold))
+
+  places-alike : (n g : ℕ) → places_in info m p n g ≡ places_from r m n g
+  unfolding places_in places_from
+  places-alike zero g = refl
+  places-alike (suc n) g = λ i. group-told g i ++ places-alike n (g + 1) i
+
+  own-row : row_in info m p ≡ row_of r m
+  own-row =
+      let places = ap (λ k. places_in info m p k 0) (counted r.expressions p there) ∙ places-alike (group_count r.expressions p + 1) 0 in
+      λ i. record { pattern = p; slots = places i }
 
 -- Group by group, as a row is made.
 pub places-more : (info : List (List (Option (List ℕ)))) (m : Match) (p n g : ℕ) (start end : Option ℕ) (old middle new whole_row : List (Option ℕ)) → g < n
@@ -214,9 +221,9 @@ pub found-row : (first now : RegexValue) (r : Patterns) (text : List ℕ) (s : S
     → row_in first.strategy.nfa.groups x p ≡ row_of r x
 found-row first now r text s x p for same place next own =
     let found = upcoming-found (told_in now.strategy) s x next in
-    let there = told-there first r text found.0 (from_place found.0 s.input) x for (place found.0)
+    let is = told-next_match first r text found.0 (from_place found.0 s.input) x for (place found.0)
     (ap (λ (g : RegexValue). told_in g.strategy (from_place found.0 s.input)) (sym same) ∙ found.1) in
-    told-row first r x p for there.0 there.1 own
+    (λ i. row_in (for.groups i) x (own i)) ∙ own-row r text (length text) found.0 x is
 
 -- after a match the searcher is still within the same text
 pub moved-place : (found : Option MatchValue) (m : MatchValue) (old new : SearcherValue) (v : InputValue) → found ≡ Some m

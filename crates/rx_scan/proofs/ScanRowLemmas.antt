@@ -4,12 +4,12 @@ use Rattle.std.specs.Prelude.{codes, decimal, map}
 use Rattle.std.specs.List.{flat_map}
 use Rattle.std.proofs.lemmas.List.{get_or-map, drop_all, length-map}
 use Rattle.std.proofs.lemmas.Simd.{map-map}
-use Rattle.rx_model.specs.Search.{Patterns, all, Match, slot_of, slot_value, next_match, matches, matches_from, free, is_empty_at, next_after}
+use Rattle.rx_model.specs.Search.{Patterns, Match, slot_of, slot_value, next_match, matches, matches_from, free, is_empty_at, next_after}
 use Rattle.rx_model.proofs.WithinLemmas.{next-run, match-slots}
 use Rattle.rx_strategy.specs.Strategy.{tells}
 use Rattle.rx_scan.specs.Row.{span_text, place_text, slot_text, groups_text, group_count, row, rows, haystack_rows}
 use Rattle.rx_scan.specs.Slots.{pairs_text}
-use Rattle.rx_scan.specs.ScanRow.{RowValue, group_slot, group_places, places_from, told_count, row_of, scan_rows, places_text, printed, printed_rows}
+use Rattle.rx_scan.specs.ScanRow.{RowValue, group_slot, group_places, places_from, row_of, scan_rows, places_text, printed, printed_rows}
 
 -- the first slot of an explicit group
 explicit-slot : (r : Patterns) (p g : ℕ) → 0 < g → group_slot r p g ≡ slot_of r p g
@@ -30,15 +30,14 @@ groups-printed r m (suc n) g above =
     by_slot (Some slot) = refl
 
 -- a next match's row prints as the match
-pub row-printed : (r : Patterns) (text : List ℕ) (b a line : ℕ) (m : Match) → r.which_captures ≡ all → next_match r text free b a ≡ Some m → printed line (row_of r m) ≡ row r line m
+pub row-printed : (r : Patterns) (text : List ℕ) (b a line : ℕ) (m : Match) → next_match r text free b a ≡ Some m → printed line (row_of r m) ≡ row r line m
 unfolding row places_from
-row-printed r text b a line m captures e =
+row-printed r text b a line m e =
     let p = m.trace.pattern in
     let n = group_count r.expressions p in
     let own = match-slots r text free b a m (next-run r text free b a m e) in
     let head = decimal line ++ codes ":" ++ decimal p ++ codes ":" in
-    ap (λ w. head ++ places_text (places_from r m (told_count w n) 0) ++ codes "\n") captures
-    ∙ ap (λ k. head ++ places_text (places_from r m k 0) ++ codes "\n") (add-one n)
+    ap (λ k. head ++ places_text (places_from r m k 0) ++ codes "\n") (add-one n)
     ∙ ap (λ o. head ++ (place_text o (slot_value m (2 * p + 1)) ++ pairs_text (places_from r m n 1) 1) ++ codes "\n") own.1
     ∙ ap (λ o. head ++ (place_text (Some m.start) o ++ pairs_text (places_from r m n 1) 1) ++ codes "\n") own.2
     ∙ ap (λ l. head ++ (span_text m.start m.trace.end ++ l) ++ codes "\n") (groups-printed r m n 1 (omega arith))
@@ -60,18 +59,18 @@ flat-alike search f g h each (suc n) (Some m) here =
     after at false is x e = each at x (rw is at e)
 
 -- the rows of a haystack print as its matches
-pub haystack-printed : (r : Patterns) (line : ℕ) (text : List ℕ) → r.which_captures ≡ all → flat_map (printed line) (scan_rows r text) ≡ haystack_rows r line text
+pub haystack-printed : (r : Patterns) (line : ℕ) (text : List ℕ) → tells r.which_captures ≡ true → flat_map (printed line) (scan_rows r text) ≡ haystack_rows r line text
 unfolding matches
-haystack-printed r line text captures =
-    let each = λ (i : ℕ) (m : Match) (e : next_match r text free (length text) i ≡ Some m). row-printed r text (length text) i line m captures e in
-    ap (λ w. flat_map (printed line) (cond (tells w) (map (row_of r) (matches r text free (length text) 0)) [])) captures
+haystack-printed r line text told =
+    let each = λ (i : ℕ) (m : Match) (e : next_match r text free (length text) i ≡ Some m). row-printed r text (length text) i line m e in
+    ap (λ b. flat_map (printed line) (cond b (map (row_of r) (matches r text free (length text) 0)) [])) told
     ∙ flat-alike (next_match r text free (length text)) (printed line) (row_of r) (row r line) each (length text + 1 - 0 + 1) (next_match r text free (length text) 0) (each 0)
 
 -- and so do the rows of all haystacks
-pub rows-printed : (r : Patterns) (line : ℕ) (texts : List (List ℕ)) → r.which_captures ≡ all → printed_rows line (map (scan_rows r) texts) ≡ rows r line texts
+pub rows-printed : (r : Patterns) (line : ℕ) (texts : List (List ℕ)) → tells r.which_captures ≡ true → printed_rows line (map (scan_rows r) texts) ≡ rows r line texts
 unfolding printed_rows rows
-rows-printed r line [] captures = refl
-rows-printed r line (text ∷ texts) captures = λ i. haystack-printed r line text captures i ++ rows-printed r (line + 1) texts captures i
+rows-printed r line [] told = refl
+rows-printed r line (text ∷ texts) told = λ i. haystack-printed r line text told i ++ rows-printed r (line + 1) texts told i
 
 -- the rows of one haystack more were printed
 pub haystacks-more : {V : Type 0} (items : V → List RowValue) (vs : List V) (i line : ℕ) (v : V) (told : List RowValue) (old new whole : List ℕ) → i < length vs → v ≡ get_or vs i v
@@ -96,8 +95,8 @@ haystacks-over items vs line i text whole over told =
 
 -- the rows of all haystacks were printed
 pub all-printed : {V W : Type 0} (items : V → List RowValue) (now : W → List ℕ) (r : Patterns) (vs : List V) (ws : List W) (texts : List (List ℕ)) (old new : List ℕ) → old ≡ []
-    → new ≡ old ++ printed_rows 1 (map items vs) → map items vs ≡ map (λ w. scan_rows r (now w)) ws → map now ws ≡ texts → r.which_captures ≡ all → new ≡ rows r 1 texts
-all-printed items now r vs ws texts old new none more scanned told captures =
+    → new ≡ old ++ printed_rows 1 (map items vs) → map items vs ≡ map (λ w. scan_rows r (now w)) ws → map now ws ≡ texts → tells r.which_captures ≡ true → new ≡ rows r 1 texts
+all-printed items now r vs ws texts old new none more scanned same told =
     more ∙ ap (λ l. l ++ printed_rows 1 (map items vs)) none
-    ∙ ap (printed_rows 1) (scanned ∙ sym (map-map (scan_rows r) now ws) ∙ ap (map (scan_rows r)) told)
-    ∙ rows-printed r 1 texts captures
+    ∙ ap (printed_rows 1) (scanned ∙ sym (map-map (scan_rows r) now ws) ∙ ap (map (scan_rows r)) same)
+    ∙ rows-printed r 1 texts told

@@ -15,7 +15,7 @@ places_in info m p (suc n) g = group_places m (Some (slot_of_group info p g)) ++
 abbrev pub row_in : List (List (Option (List ℕ))) → Match → (p : ℕ) → RowValue
 row_in info m p = record { pattern = p; slots = places_in info m p (length (groups_at info p)) 0 }
 
--- the regex searches for these patterns, and has slots for those of their groups that are told
+-- the regex searches for these patterns, and has slots for their groups
 pub record IsFor (regex : RegexValue) (r : Patterns) : Type 0 where
   pub is_of : IsOf regex r
-  pub groups : regex.strategy.nfa.groups ≡ groups_of r.which_captures r.expressions
+  pub groups : regex.strategy.nfa.groups ≡ groups_of r.expressions

@@ -1,7 +1,7 @@
 -- The rows of a haystack's matches, as data, and the text that tells them.
 use Rattle.std.specs.Prelude.{ℕ, zero, suc, ◌+◌, ◌*◌, List, [], ◌∷◌, ◌++◌, length, map, Option, Some, None, codes, decimal, if◌then◌else◌}
 use Rattle.std.specs.List.{flat_map}
-use Rattle.rx_model.specs.Search.{Patterns, WhichCaptures, all, implicit, none, Match, slot_of, slot_value, matches, free}
+use Rattle.rx_model.specs.Search.{Patterns, Match, slot_of, slot_value, matches, free}
 use Rattle.rx_strategy.specs.Strategy.{tells}
 use Rattle.rx_scan.specs.Row.{place_text, group_count}
 use Rattle.rx_scan.specs.Slots.{pairs_text}
@@ -12,7 +12,7 @@ pub record RowValue : Type 0 where
   pub pattern : ℕ
   pub slots : List (Option ℕ)
 
--- the first slot of a group of pattern p; group 0 is the whole match
+-- the first slot of a group of pattern p, if it is told; group 0 is the whole match
 abbrev pub group_slot : Patterns → (p group : ℕ) → Option ℕ
 group_slot r p zero = Some (2 * p)
 group_slot r p (suc g) = slot_of r p (suc g)
@@ -27,17 +27,11 @@ unfoldable pub places_from : Patterns → Match → (n g : ℕ) → List (Option
 places_from r m zero g = []
 places_from r m (suc n) g = group_places m (group_slot r m.trace.pattern g) ++ places_from r m n (g + 1)
 
--- how many groups are told of a pattern that names so many, of which the whole match is one
-abbrev pub told_count : WhichCaptures → (named : ℕ) → ℕ
-told_count all named = named + 1
-told_count implicit named = 1
-told_count none named = 0
-
--- the row of a match: its pattern, and the places of that pattern's groups that are told
+-- the row of a match: its pattern, and the places of each of that pattern's groups; one that is not told has none
 abbrev pub row_of : Patterns → Match → RowValue
 row_of r m = record {
   pattern = m.trace.pattern;
-  slots = places_from r m (told_count r.which_captures (group_count r.expressions m.trace.pattern)) 0;
+  slots = places_from r m (group_count r.expressions m.trace.pattern + 1) 0;
 }
 
 -- the rows of the successive matches in a text; there are none where no match is told

@@ -51,7 +51,8 @@ impl From<ScanError> for Memory {
     }
 }
 
-/// The rows of the successive matches in each haystack, in order. Where the regex asks for no captures, there are none.
+/// The rows of the successive matches in each haystack, in order. Each has two places for each group of its pattern, and
+/// those of a group that the configuration leaves out are empty. Where the regex asks for no captures, there are no rows.
 ///
 /// It searches one haystack after another on the caller; `workers`, which is above 0, changes nothing yet. `gate` is told
 /// of each haystack before it is searched.

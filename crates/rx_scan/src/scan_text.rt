@@ -1,8 +1,9 @@
 //! The text of rows.
-ghost use Rattle.std.specs.Prelude.{◌≡◌, ◌++◌, ℕ, List, Some, map, OnOk};
+ghost use Rattle.std.specs.Prelude.{◌≡◌, ◌++◌, ℕ, true, List, Some, map, OnOk};
 ghost use Rattle.std.specs.List.{flat_map};
 ghost use Rattle.std.specs.Vec.{vec_items};
-ghost use Rattle.rx_model.specs.Search.{Patterns, all, Match, next_match, free};
+ghost use Rattle.rx_model.specs.Search.{Patterns, Match, next_match, free};
+ghost use Rattle.rx_strategy.specs.Strategy.{tells};
 ghost use Rattle.rx_scan.specs.Row.{row, rows, haystack_rows};
 ghost use Rattle.rx_scan.specs.ScanRow.{row_of, scan_rows, places_text, printed, printed_rows};
 
@@ -10,15 +11,15 @@ use crate::row::{push_groups, push_number, push_place};
 use crate::scan_row::Row;
 use rx_search::{Memory, NonMaxUsize};
 
-/// Where all captures are told, the rows of a haystack's matches print as the matches, and so do those of all haystacks.
-/// A law: the function does nothing.
+/// The row of a match prints as the match. Where matches are told, the rows of a haystack's matches print as these, and so
+/// do those of all haystacks. A law: the function does nothing.
 pub fn rows_print_as_their_matches()
     ensures one { (r : Patterns) (text : List ℕ) (b a line : ℕ) (m : Match)
-        → r.which_captures ≡ all → next_match r text free b a ≡ Some m → printed line (row_of r m) ≡ row r line m }
+        → next_match r text free b a ≡ Some m → printed line (row_of r m) ≡ row r line m }
     ensures haystack { (r : Patterns) (line : ℕ) (text : List ℕ)
-        → r.which_captures ≡ all → flat_map (printed line) (scan_rows r text) ≡ haystack_rows r line text }
+        → tells r.which_captures ≡ true → flat_map (printed line) (scan_rows r text) ≡ haystack_rows r line text }
     ensures every { (r : Patterns) (line : ℕ) (texts : List (List ℕ))
-        → r.which_captures ≡ all → printed_rows line (map (scan_rows r) texts) ≡ rows r line texts }
+        → tells r.which_captures ≡ true → printed_rows line (map (scan_rows r) texts) ≡ rows r line texts }
 {}
 
 /// Appends the rows of all haystacks, the first of which is line 1.

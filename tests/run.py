@@ -1,0 +1,149 @@
+#!/usr/bin/env python3
+"""Runs a built rxscan on the tables of this folder.
+
+usage: tests/run.py PROGRAM [TABLE..]   (every .txt file beside this script, if none is named)
+
+A table is a text of cases with an empty line between them. A case is made of these lines:
+
+    # TEXT            a remark
+    $ rxscan WORD..   a run with these words, quoted as for a shell. Several such lines are several runs with the same
+                      input, which end alike; without one there is one run, `rxscan scan`
+    < TEXT            a line of the input
+    <= LITERAL * N    bytes of the input, N times, with no newline after them: a string of Python's, as "a\\t\\u00e9", or
+                      bytes, as b"\\xff"; N is 1 if left out
+    > TEXT            a line of the output that is wanted, and `>= LITERAL * N` as above
+    ? N               the exit status that is wanted, 0 without one
+
+Each run that ends otherwise is printed with the place of its case. The last line is `N passed, M failed`, and the exit
+status is 1 where one failed, and 2 where a table cannot be read.
+"""
+import ast
+import os
+import re
+import shlex
+import subprocess
+import sys
+
+FOLDER = os.path.dirname(os.path.abspath(__file__))
+SECONDS = 120
+
+
+class BadTable(Exception):
+    pass
+
+
+class Case:
+    """Runs with the same input, output and status."""
+
+    def __init__(self, place):
+        self.place = place
+        self.runs = []
+        self.input = bytearray()
+        self.output = bytearray()
+        self.status = 0
+
+    def read(self, line):
+        """Takes one line of the table."""
+        mark, _, rest = line.partition(' ')
+        if line != line.rstrip():
+            raise BadTable('blanks at the end of a line: write them as a literal')
+        if mark in ('<', '>'):
+            self.bytes_of(mark).extend(rest.encode() + b'\n')
+        elif mark in ('<=', '>='):
+            self.bytes_of(mark[0]).extend(literal(rest))
+        elif line.startswith('$ rxscan'):
+            self.runs.append(shlex.split(rest)[1:])
+        elif mark == '?' and rest.isdecimal():
+            self.status = int(rest)
+        else:
+            raise BadTable('no line of a case: ' + line)
+
+    def bytes_of(self, mark):
+        return self.input if mark == '<' else self.output
+
+
+def literal(text):
+    """The bytes of a literal, repeated as often as it says."""
+    text, count = re.fullmatch(r'(.*?)(?: \* (\d+))?', text).groups()
+    try:
+        value = ast.literal_eval(text)
+    except (SyntaxError, ValueError):
+        value = None
+    if isinstance(value, str):
+        value = value.encode()
+    if not isinstance(value, bytes):
+        raise BadTable('no literal: ' + text)
+    return value * int(count or 1)
+
+
+def cases_of(path):
+    """The cases of a table."""
+    cases, case = [], None
+    with open(path, encoding='utf-8', newline='\n') as table:
+        for number, line in enumerate(table, 1):
+            line = line.rstrip('\n')
+            place = '%s:%d' % (os.path.basename(path), number)
+            if line.startswith('#'):
+                continue
+            if not line:
+                case = None
+                continue
+            if case is None:
+                case = Case(place)
+                cases.append(case)
+            try:
+                case.read(line)
+            except (BadTable, ValueError) as error:
+                raise BadTable('%s: %s' % (place, error)) from error
+    return cases
+
+
+def shown(lines, k):
+    """A line of an output, for a message."""
+    return repr(bytes(lines[k][:200]))[1:] if k < len(lines) else 'missing'
+
+
+def difference(got, want):
+    """Where two outputs differ first."""
+    got, want = got.split(b'\n'), want.split(b'\n')
+    k = next((k for k, (a, b) in enumerate(zip(got, want)) if a != b), min(len(got), len(want)))
+    return 'line %d is %s, and %s is wanted' % (k + 1, shown(got, k), shown(want, k))
+
+
+def fault(program, words, case):
+    """What is wrong with a run of a case, or nothing."""
+    try:
+        done = subprocess.run([program] + words, input=case.input, stdout=subprocess.PIPE, timeout=SECONDS)
+    except subprocess.TimeoutExpired:
+        return 'it had not ended after %d seconds' % SECONDS
+    faults = []
+    if done.returncode != case.status:
+        faults.append('the status is %d, and %d is wanted' % (done.returncode, case.status))
+    if done.stdout != case.output:
+        faults.append(difference(done.stdout, case.output))
+    return '; '.join(faults)
+
+
+def main():
+    if len(sys.argv) < 2:
+        sys.exit(__doc__)
+    program = os.path.abspath(sys.argv[1])
+    tables = sys.argv[2:] or sorted(os.path.join(FOLDER, name) for name in os.listdir(FOLDER) if name.endswith('.txt'))
+    passed = failed = 0
+    try:
+        for case in [case for table in tables for case in cases_of(table)]:
+            for words in case.runs or [['scan']]:
+                wrong = fault(program, words, case)
+                passed, failed = passed + (not wrong), failed + bool(wrong)
+                if wrong:
+                    print('%s: %s: %s' % (case.place, shlex.join(['rxscan'] + words), wrong), flush=True)
+    except (BadTable, OSError) as error:
+        print(error)
+        print('%d passed, %d failed' % (passed, failed + 1))
+        return 2
+    print('%d passed, %d failed' % (passed, failed))
+    return 1 if failed else 0
+
+
+if __name__ == '__main__':
+    sys.exit(main())
