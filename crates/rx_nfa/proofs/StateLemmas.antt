@@ -8,10 +8,9 @@ use Rattle.rx_model.specs.Runs.{Configuration}
 use Rattle.rx_model.specs.Machine.{graph_of, is_inside}
 use Rattle.rx_model.proofs.RunLemmas.{by_test}
 use Rattle.rx_model.proofs.FirstLemmas.{member-cases}
-use Rattle.rx_nfa.specs.Automaton.{at, Surroundings, automaton_over, machine, state_at, state_step, state_accepts, state_writes, route, go_on, read_byte, NamesBelow, IsWithin}
+use Rattle.rx_nfa.specs.Automaton.{at, Surroundings, automaton_over, machine, state_at, state_step, state_accepts, state_writes, route, go_on, read_byte, NamesBelow}
 use Rattle.rx_nfa.specs.declared.state.Transition.{Transition}
 use Rattle.rx_nfa.specs.declared.state.State.{State}
-use Rattle.rx_nfa.specs.declared.state.State.TheVariants.{ByteRange, Sparse, Look, Union, Capture, Fail, Match}
 
 module _ (around : Surroundings) (states : List State) (end q i : ℕ) (state : q < length states) (place : i ≤ end) where
   is_here : is_inside (machine around states end) end (at q i) ≡ true
@@ -35,16 +34,6 @@ state-known states n q r s same lt read is = get_or_default states q _ r lt ∙ 
 
 pub names-known : (states : List State) (q : ℕ) (s : State) → All (NamesBelow (length states)) states → q < length states → state_at states q ≡ s → NamesBelow (length states) s
 names-known states q s all lt is = subst (NamesBelow (length states)) is (All-get_or (NamesBelow (length states)) states q _ lt all)
-
--- what is in range stays so where there are more patterns and slots
-pub IsWithin-more : (patterns slots patterns' slots' : ℕ) → patterns ≤ patterns' → slots ≤ slots' → (s : State) → IsWithin patterns slots s → IsWithin patterns' slots' s
-IsWithin-more patterns slots patterns' slots' more more' (ByteRange low high next) within = tt
-IsWithin-more patterns slots patterns' slots' more more' (Sparse transitions) within = tt
-IsWithin-more patterns slots patterns' slots' more more' (Look look next) within = tt
-IsWithin-more patterns slots patterns' slots' more more' (Union alternates) within = tt
-IsWithin-more patterns slots patterns' slots' more more' (Capture next pattern slot) within = let lt = within.0 in let lt' = within.1 in (omega arith, omega arith)
-IsWithin-more patterns slots patterns' slots' more more' Fail within = tt
-IsWithin-more patterns slots patterns' slots' more more' (Match pattern) within = omega arith
 
 -- where a byte leads to, and where it leads nowhere
 pub read_byte-taken : (byte : ℕ → ℕ) (end : ℕ) (ts : List Transition) (next i : ℕ) → i < end → route ts (byte i) ≡ Some next → read_byte byte end ts i ≡ at next (i + 1) ∷ []

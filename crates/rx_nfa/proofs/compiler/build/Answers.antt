@@ -1,7 +1,6 @@
 use Rattle.std.proofs.Common.{◌≡◌, ◌∙◌, sym, ap, subst, refl, arith, length}
 use Rattle.std.proofs.lemmas.List.{length-map}
 use Rattle.std.specs.Prelude.{true}
-use Rattle.rx_nfa.specs.Automaton.{automaton}
 use Rattle.rx_nfa.specs.Built.{StartsAll, HasPatterns}
 use Rattle.rx_nfa.specs.Compiled.{patterns_of, slots_of, slots_written, groups_of}
 use Rattle.rx_nfa.specs.Config.{terminator_of, captures_of, captures_kind}

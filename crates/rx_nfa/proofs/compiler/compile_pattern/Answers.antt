@@ -1,4 +1,4 @@
-use Rattle.std.proofs.Common.{◌≡◌, ◌<◌, ◌∙◌, sym, ap, subst, arith, length}
+use Rattle.std.proofs.Common.{◌<◌, ◌∙◌, sym, ap, subst, arith, length}
 use Rattle.std.specs.Prelude.{IfSome}
 use Rattle.rx_model.specs.Graph.{build, build_state}
 use Rattle.rx_nfa.specs.Built.{Built, bound, build_bounds, slot_from}
