@@ -1,0 +1,184 @@
+//! Sequences trimmed for one kind of matches.
+ghost use Rattle.std.specs.Prelude.{◌≡◌, ◌<◌, [], ◌||◌, not, nat_eq, length, map, IfOk, OnOk};
+ghost use Rattle.std.specs.List.{list_all, starts_with};
+ghost use Rattle.rx_literal.specs.Literals.{finite, bytes_of, is_exact, cut};
+ghost use Rattle.rx_literal.specs.Literals as model;
+ghost use Rattle.rx_literal.specs.declared.side.Side.TheVariants.{Front as front};
+ghost use Rattle.rx_literal.specs.Order.{AreParted, AreSorted, parts_before};
+ghost use Rattle.rx_literal.specs.Trim.{has_prefix_in, preferred, few, trimmed_by_preference, comes_before, insert, sorted, trimmed_for_all};
+
+use crate::literal::Literal;
+use crate::seq::{has_empty, Seq};
+use crate::side::Side;
+use rx_search::Memory;
+use std::alloc::Global;
+
+/// The most literals that a trimmed sequence has, if they are not all exact.
+const MOST: usize = 64;
+
+impl Seq {
+    /// The sequence for a search that prefers the first match. A literal goes that has an earlier one as its
+    /// prefix. Where more than 64 stay, they are cut to 3 bytes, if that leaves no more than 64; else they stay
+    /// if they are all exact. The sequence is infinite where a literal is empty, or too many are left.
+    #[tactic(auto, unfolding(crate::specs::Trim::trimmed_by_preference))]
+    pub fn trimmed_by_preference(&self, alloc: Global) -> Result<Seq, Memory>
+        ensures { IfOk result (λ s. s ≡ trimmed_by_preference self.now) }
+    {
+        match self.literals() {
+            Some(literals) => trimmed(alloc, literals),
+            None => Ok(Seq::infinite()),
+        }
+    }
+
+    /// The sequence for a search of all matches: in the order of their bytes, each once, inexact if it is so
+    /// anywhere.
+    pub fn trimmed_for_all(&self, alloc: Global) -> Result<Seq, Memory>
+        ensures { IfOk result (λ s. s ≡ trimmed_for_all self.now) }
+    {
+        match self.literals() {
+            Some(literals) => Ok(Seq::finite(sorted(alloc, literals)?)),
+            None => Ok(Seq::infinite()),
+        }
+    }
+}
+
+#[tactic(auto, unfolding(crate::specs::Trim::trimmed_by_preference))]
+fn trimmed(alloc: Global, literals: &[Literal]) -> Result<Seq, Memory>
+    ensures { IfOk result (λ s. s ≡ trimmed_by_preference (finite literals.now)) }
+{
+    if has_empty(literals) {
+        return Ok(Seq::infinite());
+    }
+    few(alloc, preferred(alloc, literals)?)
+}
+
+/// These where they are no more than 64; else those of 3 bytes, if these are; else all of them if they are exact.
+#[tactic(auto, unfolding(crate::specs::Trim::few))]
+fn few(alloc: Global, literals: Vec<Literal>) -> Result<Seq, Memory>
+    ensures { IfOk result (λ s. s ≡ few 64 literals.items) }
+{
+    if literals.len() <= MOST {
+        return Ok(Seq::finite(literals));
+    }
+    let short = preferred(alloc, &shortened(alloc, &literals)?)?;
+    if short.len() <= MOST {
+        return Ok(Seq::finite(short));
+    }
+    if are_exact(&literals) {
+        return Ok(Seq::finite(literals));
+    }
+    Ok(Seq::infinite())
+}
+
+fn shortened(alloc: Global, literals: &[Literal]) -> Result<Vec<Literal>, Memory>
+    ensures { IfOk result (λ v. v.items ≡ map (cut front 3) literals.now) }
+{
+    let mut short = Vec::new(alloc);
+    for literal in literals {
+        short.push(literal.first_bytes(alloc, 3)?)?;
+    }
+    Ok(short)
+}
+
+pub(crate) fn are_exact(literals: &[Literal]) -> bool
+    ensures { result ≡ list_all is_exact literals.now }
+{
+    for literal in literals {
+        if !literal.is_exact() {
+            return false;
+        }
+    }
+    true
+}
+
+/// The literals that have no earlier one as their prefix.
+fn preferred(alloc: Global, literals: &[Literal]) -> Result<Vec<Literal>, Memory>
+    ensures { IfOk result (λ v. v.items ≡ preferred [] literals.now) }
+{
+    let mut kept = Vec::new(alloc);
+    let mut least = Vec::new(alloc);
+    for literal in literals {
+        if is_new(&mut least, literal)? {
+            kept.push(literal.clone()?)?;
+        }
+    }
+    Ok(kept)
+}
+
+/// Whether none of the least literals is a prefix of this one, which is then one of them, in place of those
+/// that it is a prefix of. None of them is a prefix of another, and they stand in order, so that a search by
+/// halves finds the only one that may be a prefix.
+fn is_new(least: &mut Vec<Literal>, literal: &Literal) -> Result<bool, Memory>
+    requires { AreParted least.old.items }
+    ensures parted { OnOk result (AreParted least.new.items) }
+    ensures value { IfOk result (λ b. b ≡ not (has_prefix_in least.old.items literal.now)) }
+    ensures covered { OnOk result ((x : model.Literal) → has_prefix_in least.new.items x
+        ≡ (has_prefix_in least.old.items x || starts_with nat_eq (bytes_of x) (bytes_of literal.now))) }
+{
+    let at = least.partition_point(|other| parts_before(other.as_bytes(), literal.as_bytes()));
+    if at < least.len() && literal.as_bytes().starts_with(least[at].as_bytes()) {
+        return Ok(false);
+    }
+    while at < least.len() && least[at].as_bytes().starts_with(literal.as_bytes()) {
+        least.remove(at);
+    }
+    least.insert(at, literal.clone()?)?;
+    Ok(true)
+}
+
+/// Whether the first byte at which they differ is less in the first.
+fn parts_before(first: &[u8], second: &[u8]) -> bool
+    ensures { result ≡ parts_before first.now second.now }
+{
+    let mut i = 0;
+    while i < first.len() && i < second.len() {
+        if first[i] != second[i] {
+            return first[i] < second[i];
+        }
+        i += 1;
+    }
+    false
+}
+
+/// The literals in order of their bytes, each once.
+fn sorted(alloc: Global, literals: &[Literal]) -> Result<Vec<Literal>, Memory>
+    ensures { IfOk result (λ v. v.items ≡ sorted literals.now) }
+{
+    let mut found = Vec::new(alloc);
+    let mut i = literals.len();
+    while i > 0 {
+        i -= 1;
+        insert(&mut found, &literals[i])?;
+    }
+    Ok(found)
+}
+
+/// Adds a literal to sorted ones.
+fn insert(found: &mut Vec<Literal>, literal: &Literal) -> Result<(), Memory>
+    requires { AreSorted found.old.items }
+    ensures { OnOk result (found.new.items ≡ insert literal.now found.old.items) }
+{
+    let at = found.partition_point(|other| comes_before(other.as_bytes(), literal.as_bytes()));
+    if at < found.len() && !comes_before(literal.as_bytes(), found[at].as_bytes()) {
+        if !literal.is_exact() {
+            found[at].loosen();
+        }
+        return Ok(());
+    }
+    found.insert(at, literal.clone()?)?;
+    Ok(())
+}
+
+/// Whether the first bytes come before the second ones, a prefix before what it begins.
+fn comes_before(first: &[u8], second: &[u8]) -> bool
+    ensures { result ≡ comes_before first.now second.now }
+{
+    let mut i = 0;
+    while i < first.len() && i < second.len() {
+        if first[i] != second[i] {
+            return first[i] < second[i];
+        }
+        i += 1;
+    }
+    first.len() < second.len()
+}
