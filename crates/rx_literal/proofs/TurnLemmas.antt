@@ -1,5 +1,5 @@
 -- What is crossed in turn, from each part on.
-use Rattle.std.proofs.Common.{◌≡◌, ℕ, zero, suc, ◌+◌, ◌<◌, false, true, List, [], ◌∷◌, length, drop, get_or, refl, sym, ap, ◌∙◌}
+use Rattle.std.proofs.Common.{◌≡◌, ℕ, zero, suc, ◌+◌, ◌-◌, ◌<◌, ◌≤◌, false, true, List, [], ◌∷◌, length, drop, get_or, refl, sym, ap, ◌∙◌, arith}
 use Rattle.rx_model.specs.Expression.{Expression, Expressions, nil, cons}
 use Rattle.rx_hir.specs.Normal.{expressions}
 use Rattle.rx_hir.proofs.JoinedLemmas.{expressions-drop}
@@ -19,6 +19,14 @@ cross_on-goes side ss ts e = rw e refl
 pub cross_times-done : (side : Side) (n : ℕ) (ss ts : Seq) → some_exact ss ≡ false → cross_times side n ss ts ≡ ss
 cross_times-done side zero ss ts e = refl
 cross_times-done side (suc n) ss ts e = ap (λ x. cross_times side n x ts) (cross_on-done side ss ts e) ∙ cross_times-done side n ss ts e
+
+pub times-step : (side : Side) (n k : ℕ) (ss ts : Seq) → k < n → some_exact ss ≡ true → cross_times side (n - k) ss ts ≡ cross_times side (n - (k + 1)) (cross side ss ts) ts
+times-step side n k ss ts lt e =
+    let more : n - k ≡ suc (n - (k + 1)) = omega arith in
+    rw more (ap (λ x. cross_times side (n - (k + 1)) x ts) (cross_on-goes side ss ts e))
+
+pub times-end : (side : Side) (n k : ℕ) (ss ts : Seq) → n ≤ k → cross_times side (n - k) ss ts ≡ ss
+times-end side n k ss ts le = let none : n - k ≡ 0 = omega arith in rw none refl
 
 pub front-done : (ss : Seq) (hs : Expressions) → some_exact ss ≡ false → in_turn front ss hs ≡ ss
 unfolding literals

@@ -2,6 +2,7 @@
 ghost use Rattle.std.specs.Prelude.{◌≡◌, ℕ, ◌∷◌, [], ◌++◌, nat_lt, nat_le, map, encode_utf8, IfOk, OnOk};
 ghost use Rattle.rx_class.specs.ClassViews.{class_view};
 ghost use Rattle.rx_class.specs.Ranges.{next_scalar, next_byte};
+ghost use Rattle.rx_class.specs.Bytes.{or_past_byte};
 ghost use Rattle.rx_class.specs.Scalars.{or_past};
 ghost use Rattle.rx_model.specs.Text.{scalar_ranges, byte_ranges};
 ghost use Rattle.rx_literal.specs.Literals.{exact, infinite, finite};
@@ -13,6 +14,9 @@ use crate::side::Side;
 use rx_class::Class;
 use rx_search::Memory;
 use std::alloc::Global;
+
+/// The most members of a class that are listed.
+const MOST: usize = 10;
 
 /// The members of a class in ascending order, each exact; infinitely many, where they are more than 10.
 #[tactic(auto, unfolding(crate::specs::Extract::class_literals))]
@@ -30,25 +34,26 @@ fn scalar_literals(alloc: Global, ranges: &[(char, char)]) -> Result<Seq, Memory
 {
     let mut found = Vec::new(alloc);
     for (low, high) in ranges {
-        push_scalars(&mut found, alloc, *low, *high)?;
-        if found.len() > 10 {
+        push_scalars(&mut found, alloc, MOST + 1, *low, *high)?;
+        if found.len() > MOST {
             return Ok(Seq::infinite());
         }
     }
     Ok(Seq::finite(found))
 }
 
-/// Adds the scalars from `low` to `high`, but no more than 11.
+/// Adds the scalars from `low` to `high`, but no more than `most`.
 fn push_scalars(
     found: &mut Vec<Literal>,
     alloc: Global,
+    most: usize,
     low: char,
     high: char,
 ) -> Result<(), Memory>
-    ensures { OnOk result (found.new.items ≡ found.old.items ++ map (λ c. exact (encode_utf8 c)) (numbers next_scalar 11 low high)) }
+    ensures { OnOk result (found.new.items ≡ found.old.items ++ map (λ c. exact (encode_utf8 c)) (numbers next_scalar most low high)) }
 {
     let mut next = Some(low);
-    for _ in 0..11 {
+    for _count in 0..most {
         let Some(c) = next else {
             return Ok(());
         };
@@ -84,20 +89,26 @@ fn byte_literals(alloc: Global, ranges: &[(u8, u8)]) -> Result<Seq, Memory>
 {
     let mut found = Vec::new(alloc);
     for (low, high) in ranges {
-        push_bytes(&mut found, alloc, *low, *high)?;
-        if found.len() > 10 {
+        push_bytes(&mut found, alloc, MOST + 1, *low, *high)?;
+        if found.len() > MOST {
             return Ok(Seq::infinite());
         }
     }
     Ok(Seq::finite(found))
 }
 
-/// Adds the bytes from `low` to `high`, but no more than 11.
-fn push_bytes(found: &mut Vec<Literal>, alloc: Global, low: u8, high: u8) -> Result<(), Memory>
-    ensures { OnOk result (found.new.items ≡ found.old.items ++ map (λ b. exact (b ∷ [])) (numbers next_byte 11 low high)) }
+/// Adds the bytes from `low` to `high`, but no more than `most`.
+fn push_bytes(
+    found: &mut Vec<Literal>,
+    alloc: Global,
+    most: usize,
+    low: u8,
+    high: u8,
+) -> Result<(), Memory>
+    ensures { OnOk result (found.new.items ≡ found.old.items ++ map (λ b. exact (b ∷ [])) (numbers next_byte most low high)) }
 {
     let mut next = Some(low);
-    for _ in 0..11 {
+    for _count in 0..most {
         let Some(b) = next else {
             return Ok(());
         };
@@ -105,7 +116,7 @@ fn push_bytes(found: &mut Vec<Literal>, alloc: Global, low: u8, high: u8) -> Res
             return Ok(());
         }
         found.push(byte(alloc, b)?)?;
-        next = b.checked_add(1);
+        next = byte_after(b);
     }
     Ok(())
 }
@@ -116,4 +127,11 @@ fn byte(alloc: Global, b: u8) -> Result<Literal, Memory>
     let mut bytes = Vec::new(alloc);
     bytes.push(b)?;
     Ok(Literal::exact(bytes))
+}
+
+/// The byte after this one, if there is one.
+fn byte_after(b: u8) -> Option<u8>
+    ensures { or_past_byte result ≡ next_byte b }
+{
+    b.checked_add(1)
 }

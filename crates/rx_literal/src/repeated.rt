@@ -71,7 +71,7 @@ fn crossed(alloc: Global, side: Side, count: u32, body: &Seq) -> Result<Seq, Mem
     ensures { IfOk result (λ s. s ≡ cross_times side count one_empty body.now) }
 {
     let mut seq = Seq::one_empty(alloc)?;
-    for _ in 0..count {
+    for _copy in 0..count {
         if !seq.has_exact() {
             return Ok(seq);
         }
