@@ -47,6 +47,14 @@ unfolding literals
 back-step ss hs i h lt at e =
     ap (in_turn back ss) (expressions-drop hs i h lt at) ∙ cross_on-goes back (in_turn back ss (expressions (drop (i + 1) hs))) (literals back h) e
 
+pub back-goes : (ss : Seq) (hs : List Expression) (i : ℕ) (h : Expression) (seq inner more : Seq) → 0 < i → i ≤ length hs → h ≡ get_or hs (i - 1) h → some_exact seq ≡ true
+    → seq ≡ in_turn back ss (expressions (drop i hs)) → inner ≡ literals back h → more ≡ cross back seq inner → more ≡ in_turn back ss (expressions (drop (i - 1) hs))
+back-goes ss hs i h seq inner more some within at exact so_far part is =
+    let e : i ≡ i - 1 + 1 = omega arith in
+    let before : seq ≡ in_turn back ss (expressions (drop (i - 1 + 1) hs)) = so_far ∙ ap (λ n. in_turn back ss (expressions (drop n hs))) e in
+    is ∙ ap (cross back seq) part ∙ ap (λ x. cross back x (literals back h)) before
+    ∙ sym (back-step ss hs (i - 1) h (omega arith) at (ap some_exact (sym before) ∙ exact))
+
 -- what can't be extended is left as it is by the parts before it
 pub back-done : (ss : Seq) (hs : List Expression) (i : ℕ) → some_exact (in_turn back ss (expressions (drop i hs))) ≡ false
     → in_turn back ss (expressions hs) ≡ in_turn back ss (expressions (drop i hs))
