@@ -16,3 +16,7 @@ pub mod UnionLemmas
 pub mod TurnLemmas
 pub mod MemberLemmas
 pub mod LiteralLemmas
+pub mod BeforeLemmas
+pub mod OrderedLemmas
+pub mod PartedLemmas
+pub mod InsertLemmas

@@ -13,6 +13,11 @@ unfoldable pub preferred : (earlier : List Literal) → List Literal → List Li
 preferred earlier [] = []
 preferred earlier (l ∷ ls) = let rest = preferred (l ∷ earlier) ls in if has_prefix_in earlier l then rest else l ∷ rest
 
+-- without those at the front that begin with the literal
+abbrev pub past_longer : Literal → List Literal → List Literal
+past_longer l [] = []
+past_longer l (m ∷ ms) = if starts_with nat_eq (bytes_of m) (bytes_of l) then past_longer l ms else m ∷ ms
+
 -- where more than n are left: those of 3 bytes, if they are no more than n; else all of them if they are exact
 unfoldable pub few : (n : ℕ) → List Literal → Seq
 few n ls =

@@ -9,6 +9,7 @@ mod extract;
 mod laws;
 mod literal;
 mod members;
+mod order;
 mod repeated;
 mod seq;
 mod side;

@@ -1,15 +1,16 @@
 //! Sequences trimmed for one kind of matches.
-ghost use Rattle.std.specs.Prelude.{◌≡◌, ◌<◌, [], ◌||◌, not, nat_eq, length, map, IfOk, OnOk};
-ghost use Rattle.std.specs.List.{list_all, starts_with};
+ghost use Rattle.std.specs.Prelude.{◌≡◌, ◌<◌, ◌≤◌, IsTrue, [], ◌++◌, ◌||◌, not, nat_eq, length, map, take, drop, IfOk, OnOk};
+ghost use Rattle.std.specs.List.{list_all, list_any, starts_with};
 ghost use Rattle.rx_literal.specs.Literals.{finite, bytes_of, is_exact, cut};
 ghost use Rattle.rx_literal.specs.Literals as model;
 ghost use Rattle.rx_literal.specs.declared.side.Side.TheVariants.{Front as front};
-ghost use Rattle.rx_literal.specs.Order.{AreParted, AreSorted, parts_before};
-ghost use Rattle.rx_literal.specs.Trim.{has_prefix_in, preferred, few, trimmed_by_preference, comes_before, insert, sorted, trimmed_for_all};
+ghost use Rattle.rx_literal.specs.declared.order.Order.TheVariants.{Bytes as by_bytes, Branches as by_branches};
+ghost use Rattle.rx_literal.specs.Order.{follows, InOrder};
+ghost use Rattle.rx_literal.specs.Trim.{has_prefix_in, preferred, few, trimmed_by_preference, past_longer, insert, sorted, trimmed_for_all};
 
 use crate::literal::Literal;
-use crate::seq::{has_empty, Seq};
-use crate::side::Side;
+use crate::order::{Order, is_before, position};
+use crate::seq::{Seq, has_empty};
 use rx_search::Memory;
 use std::alloc::Global;
 
@@ -109,35 +110,42 @@ fn preferred(alloc: Global, literals: &[Literal]) -> Result<Vec<Literal>, Memory
 /// that it is a prefix of. None of them is a prefix of another, and they stand in order, so that a search by
 /// halves finds the only one that may be a prefix.
 fn is_new(least: &mut Vec<Literal>, literal: &Literal) -> Result<bool, Memory>
-    requires { AreParted least.old.items }
-    ensures parted { OnOk result (AreParted least.new.items) }
+    requires { InOrder by_branches least.old.items }
+    ensures parted { OnOk result (InOrder by_branches least.new.items) }
     ensures value { IfOk result (λ b. b ≡ not (has_prefix_in least.old.items literal.now)) }
     ensures covered { OnOk result ((x : model.Literal) → has_prefix_in least.new.items x
         ≡ (has_prefix_in least.old.items x || starts_with nat_eq (bytes_of x) (bytes_of literal.now))) }
 {
-    let at = least.partition_point(|other| parts_before(other.as_bytes(), literal.as_bytes()));
-    if at < least.len() && literal.as_bytes().starts_with(least[at].as_bytes()) {
+    let at = position(Order::Branches, least, literal);
+    if has_prefix_at(least, at, literal) {
         return Ok(false);
     }
-    while at < least.len() && least[at].as_bytes().starts_with(literal.as_bytes()) {
-        least.remove(at);
-    }
+    drop_longer(least, at, literal);
     least.insert(at, literal.clone()?)?;
     Ok(true)
 }
 
-/// Whether the first byte at which they differ is less in the first.
-fn parts_before(first: &[u8], second: &[u8]) -> bool
-    ensures { result ≡ parts_before first.now second.now }
+/// Whether the literal at this index, if there is one, is a prefix of the other.
+fn has_prefix_at(literals: &[Literal], at: usize, literal: &Literal) -> bool
+    ensures { result ≡ has_prefix_in (take 1 (drop at literals.now)) literal.now }
 {
-    let mut i = 0;
-    while i < first.len() && i < second.len() {
-        if first[i] != second[i] {
-            return first[i] < second[i];
-        }
-        i += 1;
+    if at >= literals.len() {
+        return false;
     }
-    false
+    literal.as_bytes().starts_with(literals[at].as_bytes())
+}
+
+/// Drops the literals from this index on, as far as the literal is a prefix of them.
+fn drop_longer(literals: &mut Vec<Literal>, at: usize, literal: &Literal)
+    requires { at ≤ length literals.old.items }
+    ensures { literals.new.items ≡ take at literals.old.items ++ past_longer literal.now (drop at literals.old.items) }
+{
+    while at < literals.len() {
+        if !literals[at].as_bytes().starts_with(literal.as_bytes()) {
+            return;
+        }
+        literals.remove(at);
+    }
 }
 
 /// The literals in order of their bytes, each once.
@@ -155,30 +163,27 @@ fn sorted(alloc: Global, literals: &[Literal]) -> Result<Vec<Literal>, Memory>
 
 /// Adds a literal to sorted ones.
 fn insert(found: &mut Vec<Literal>, literal: &Literal) -> Result<(), Memory>
-    requires { AreSorted found.old.items }
+    requires { InOrder by_bytes found.old.items }
     ensures { OnOk result (found.new.items ≡ insert literal.now found.old.items) }
 {
-    let at = found.partition_point(|other| comes_before(other.as_bytes(), literal.as_bytes()));
-    if at < found.len() && !comes_before(literal.as_bytes(), found[at].as_bytes()) {
-        if !literal.is_exact() {
-            found[at].loosen();
-        }
+    let at = position(Order::Bytes, found, literal);
+    if !stands_at(found, at, literal) {
+        found.insert(at, literal.clone()?)?;
         return Ok(());
     }
-    found.insert(at, literal.clone()?)?;
+    if !literal.is_exact() {
+        found[at].loosen();
+    }
     Ok(())
 }
 
-/// Whether the first bytes come before the second ones, a prefix before what it begins.
-fn comes_before(first: &[u8], second: &[u8]) -> bool
-    ensures { result ≡ comes_before first.now second.now }
+/// Whether the literal at this index, if there is one, does not come after the other.
+fn stands_at(found: &[Literal], at: usize, literal: &Literal) -> bool
+    ensures value { result ≡ list_any (λ m. not (follows by_bytes m literal.now)) (take 1 (drop at found.now)) }
+    ensures within { IsTrue result → at < length found.now }
 {
-    let mut i = 0;
-    while i < first.len() && i < second.len() {
-        if first[i] != second[i] {
-            return first[i] < second[i];
-        }
-        i += 1;
+    if at >= found.len() {
+        return false;
     }
-    first.len() < second.len()
+    !is_before(Order::Bytes, literal.as_bytes(), found[at].as_bytes())
 }
