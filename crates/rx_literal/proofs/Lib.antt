@@ -20,3 +20,4 @@ pub mod BeforeLemmas
 pub mod OrderedLemmas
 pub mod PartedLemmas
 pub mod InsertLemmas
+pub mod BehindLemmas

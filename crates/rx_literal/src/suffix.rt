@@ -1,5 +1,6 @@
 //! The longest text that ends each literal.
 ghost use Rattle.std.specs.Prelude.{◌≡◌, ◌≤◌, length, take, reverse, option_map};
+ghost use Rattle.rx_literal.specs.Literals.{finite};
 ghost use Rattle.rx_literal.specs.Trim.{common_prefix, common_from_behind, longest_common_suffix};
 
 use crate::literal::Literal;
@@ -9,8 +10,19 @@ use crate::seq::Seq;
 pub fn longest_common_suffix(seq: &Seq) -> Option<&[u8]>
     ensures { option_map (λ s. s.now) result ≡ longest_common_suffix seq.now }
 {
-    let literals = seq.literals()?;
-    let first = literals.first()?;
+    match seq.literals() {
+        Some(literals) => suffix_of_all(literals),
+        None => None,
+    }
+}
+
+fn suffix_of_all(literals: &[Literal]) -> Option<&[u8]>
+    ensures { option_map (λ s. s.now) result ≡ longest_common_suffix (finite literals.now) }
+{
+    if literals.is_empty() {
+        return None;
+    }
+    let first = &literals[0];
     Some(common_suffix(first.as_bytes(), &literals[1..]))
 }
 
