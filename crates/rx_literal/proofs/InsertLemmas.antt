@@ -1,5 +1,5 @@
 -- A literal put among sorted ones.
-use Rattle.std.proofs.Common.{◌≡◌, ℕ, zero, suc, ◌+◌, ◌-◌, ◌<◌, ◌≤◌, Bool, true, false, ◌&&◌, List, [], ◌∷◌, ◌++◌, length, take, drop, get_or, refl, sym, ap, ◌∙◌, subst, arith, true≢false}
+use Rattle.std.proofs.Common.{◌≡◌, ℕ, zero, suc, ◌+◌, ◌-◌, ◌<◌, ◌≤◌, Bool, true, false, List, [], ◌∷◌, ◌++◌, length, take, drop, get_or, refl, sym, ap, ◌∙◌, subst, arith, true≢false}
 use Rattle.std.specs.Prelude.{not, ◌||◌}
 use Rattle.std.specs.List.{list_any, list_all}
 use lib.ListN.{set}
@@ -10,7 +10,7 @@ use Rattle.rx_literal.specs.Literals.{Literal, exact, inexact, bytes_of, is_exac
 use Rattle.rx_literal.specs.declared.order.Order.TheVariants.{Bytes as by_bytes}
 use Rattle.rx_literal.specs.Order.{before, follows, InOrder}
 use Rattle.rx_literal.specs.Trim.{comes_before, one_of_both, insert, sorted}
-use Rattle.rx_literal.proofs.BeforeLemmas.{untrue, before-trans, before-one, bytes-before, bytes-same}
+use Rattle.rx_literal.proofs.BeforeLemmas.{before-trans, before-one, bytes-before, bytes-same}
 use Rattle.rx_literal.proofs.OrderedLemmas.{all-both, all-all}
 
 comes : (l m : Literal) → comes_before (bytes_of l) (bytes_of m) ≡ follows by_bytes m l

@@ -1,12 +1,11 @@
 -- Literals in order: which of them come before another.
-use Rattle.std.proofs.Common.{◌≡◌, ℕ, zero, suc, ◌+◌, ◌<◌, ◌≤◌, Bool, true, false, ◌&&◌, List, [], ◌∷◌, ◌++◌, length, take, drop, get_or, refl, sym, ap, ◌∙◌, arith, true≢false}
-use Rattle.std.specs.Prelude.{◌||◌}
+use Rattle.std.proofs.Common.{◌≡◌, ℕ, zero, suc, ◌<◌, Bool, true, false, ◌&&◌, List, [], ◌∷◌, length, take, drop, get_or, refl, sym, ap, ◌∙◌, arith}
 use Rattle.std.specs.List.{list_any, list_all}
 use Rattle.std.proofs.lemmas.Bool.{and_parts}
 use Rattle.rx_model.proofs.RunLemmas.{by_test}
 use Rattle.rx_literal.specs.declared.order.Order.{Order}
 use Rattle.rx_literal.specs.Literals.{Literal, bytes_of}
-use Rattle.rx_literal.specs.Order.{before, follows, InOrder}
+use Rattle.rx_literal.specs.Order.{follows, InOrder}
 use Rattle.rx_literal.proofs.BeforeLemmas.{untrue, before-trans}
 
 pub all-both : (a b : Bool) → a ≡ true → b ≡ true → (a && b) ≡ true

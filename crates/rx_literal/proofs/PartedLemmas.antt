@@ -1,5 +1,5 @@
 -- The least literals: none is a prefix of another, and they stand in order.
-use Rattle.std.proofs.Common.{◌≡◌, ℕ, zero, suc, ◌+◌, ◌<◌, ◌≤◌, Bool, true, false, ◌&&◌, List, [], ◌∷◌, ◌++◌, length, take, drop, get_or, refl, sym, ap, ◌∙◌, arith, true≢false, append_assoc, append-nil}
+use Rattle.std.proofs.Common.{◌≡◌, ℕ, zero, suc, ◌+◌, ◌<◌, ◌≤◌, Bool, true, false, List, [], ◌∷◌, ◌++◌, length, take, drop, get_or, refl, sym, ap, ◌∙◌, arith, true≢false, append_assoc, append-nil}
 use Rattle.std.specs.Prelude.{not, ◌||◌, nat_eq, if◌then◌else◌}
 use Rattle.std.specs.List.{list_any, list_all, starts_with, remove}
 use Rattle.std.proofs.lemmas.Bool.{and_parts}
@@ -10,7 +10,7 @@ use Rattle.rx_literal.specs.Literals.{Literal, bytes_of}
 use Rattle.rx_literal.specs.declared.order.Order.TheVariants.{Branches as by_branches}
 use Rattle.rx_literal.specs.Order.{before, follows, InOrder}
 use Rattle.rx_literal.specs.Trim.{has_prefix_in, preferred, past_longer}
-use Rattle.rx_literal.proofs.BeforeLemmas.{untrue, before-trans, begins, starts-begins, begins-trans, branch-apart, branch-longer, branch-after}
+use Rattle.rx_literal.proofs.BeforeLemmas.{untrue, before-trans, starts-begins, begins-trans, branch-apart, branch-longer, branch-after}
 use Rattle.rx_literal.proofs.OrderedLemmas.{all-both, all-all, all-none}
 
 -- the first literal begins with the second one
@@ -115,7 +115,7 @@ parted-after l (m ∷ ms) o none apart =
     rw e (
       all-both (follows by_branches m l) (list_all (λ y. follows by_branches y l) ms) here
           (all-all (λ y. follows by_branches y m) (λ y. follows by_branches y l)
-              (λ y after. before-trans by_branches (bytes_of l) (bytes_of m) (bytes_of y) here after) ms o.0),
+          (λ y after. before-trans by_branches (bytes_of l) (bytes_of m) (bytes_of y) here after) ms o.0),
       o,
     ))
 

@@ -184,12 +184,7 @@ fn both(literals: Vec<Literal>, more: Vec<Literal>) -> Result<Seq, Memory>
 }
 
 #[tactic(auto, unfolding(crate::specs::Literals::cross))]
-fn crossed(
-    alloc: Global,
-    side: Side,
-    literals: Vec<Literal>,
-    others: &Seq,
-) -> Result<Seq, Memory>
+fn crossed(alloc: Global, side: Side, literals: Vec<Literal>, others: &Seq) -> Result<Seq, Memory>
     ensures { IfOk result (λ s. s ≡ cross side (finite literals.items) others.now) }
 {
     match &others.literals {

@@ -1,5 +1,4 @@
 use Rattle.std.proofs.Common.{◌≡◌, ◌≤◌, ◌++◌, ◌∷◌, [], length, drop}
-use Rattle.std.specs.Prelude.{encode_utf8}
 use Rattle.rx_class.specs.Ranges.{next_byte}
 use Rattle.rx_literal.specs.Extract.{members}
 use Rattle.rx_literal.proofs.MemberLemmas.{encoded}

@@ -1,5 +1,4 @@
-use Rattle.std.proofs.Common.{◌≡◌, ◌-◌, ◌<◌, ◌++◌, ◌∷◌, [], Some, None, refl, subst, arith}
-use Rattle.std.specs.Prelude.{encode_utf8}
+use Rattle.std.proofs.Common.{◌≡◌, ◌-◌, ◌<◌, ◌++◌, ◌∷◌, [], None, refl, subst, arith}
 use Rattle.rx_class.specs.Ranges.{next_byte}
 use Rattle.rx_class.specs.Bytes.{or_past_byte}
 use Rattle.rx_literal.specs.Extract.{numbers}

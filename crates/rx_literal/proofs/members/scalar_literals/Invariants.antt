@@ -1,4 +1,4 @@
-use Rattle.std.proofs.Common.{◌≡◌, ◌≤◌, ◌++◌, ◌∷◌, [], length, drop}
+use Rattle.std.proofs.Common.{◌≡◌, ◌≤◌, ◌++◌, length, drop}
 use Rattle.std.specs.Prelude.{encode_utf8}
 use Rattle.rx_class.specs.Ranges.{next_scalar}
 use Rattle.rx_literal.specs.Extract.{members}

@@ -1,4 +1,4 @@
-use Rattle.std.proofs.Common.{◌≡◌, ◌≤◌, ◌++◌, length, map, take, drop}
+use Rattle.std.proofs.Common.{◌≡◌, ◌++◌, map, take, drop}
 use Rattle.rx_literal.specs.Literals.{loose}
 use Rattle.rx_literal.proofs.seq.loosened.Given as goal
 

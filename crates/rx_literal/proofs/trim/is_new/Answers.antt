@@ -25,7 +25,7 @@ returns c =
     record {
       parted = subst (InOrder by_branches) (sym is)
           (parted-whole l (take k ls) (drop k ls) (subst (InOrder by_branches) (sym whole) c.requires) front back
-              (rest-apart l (take k ls) (drop k ls) (subst (λ ys. has_prefix_in ys l ≡ false) (sym whole) apart)));
+          (rest-apart l (take k ls) (drop k ls) (subst (λ ys. has_prefix_in ys l ≡ false) (sym whole) apart)));
       value = ap not (sym apart);
       covered = λ x. ap (λ ys. has_prefix_in ys x) is ∙ covered-after l x (take k ls) (drop k ls)
           ∙ ap (λ ys. has_prefix_in ys x || starts_with nat_eq (bytes_of x) (bytes_of l)) whole;

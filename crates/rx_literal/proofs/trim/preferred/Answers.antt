@@ -1,4 +1,4 @@
-use Rattle.std.proofs.Common.{[], ap, ◌∙◌, sym}
+use Rattle.std.proofs.Common.{[], ap, ◌∙◌}
 use Rattle.rx_literal.specs.Trim.{preferred}
 use Rattle.rx_literal.proofs.PartedLemmas.{keep-step, skip-step, keep-end}
 use Rattle.rx_literal.proofs.trim.preferred.Goals as goal

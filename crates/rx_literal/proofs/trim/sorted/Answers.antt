@@ -1,4 +1,4 @@
-use Rattle.std.proofs.Common.{◌≡◌, ◌-◌, drop, length, ap, sym, subst, ◌∙◌, arith}
+use Rattle.std.proofs.Common.{◌≡◌, drop, length, ap, sym, subst, ◌∙◌, arith}
 use Rattle.rx_hir.proofs.JoinedLemmas.{drop-past}
 use Rattle.rx_literal.specs.declared.order.Order.TheVariants.{Bytes as by_bytes}
 use Rattle.rx_literal.specs.Order.{InOrder}
