@@ -1,0 +1,70 @@
+-- Where needles lie, needle by needle and place by place.
+use Rattle.std.proofs.Common.{◌≡◌, ℕ, zero, suc, ◌+◌, ◌-◌, ◌<◌, ◌≤◌, Bool, true, false, List, [], ◌∷◌, Option, None, Some, length, MatchOption, refl, sym, ap, subst, ◌∙◌, arith, add-one, inl, inr, ⊎_elim}
+use Rattle.std.specs.Option.{option_or}
+use Rattle.std.proofs.lemmas.Bool.{cases_Bool, cases_lt, cond-true, cond-false}
+use Rattle.memchr.specs.Find.{occurs_at, OccursAt}
+use Rattle.memchr.proofs.lemmas.MatchLemmas.{occurs_at-true, OccursAt-true}
+use Rattle.rx_search.specs.declared.span.Span.{Span}
+use Rattle.rx_prefilter.specs.Needles.{needle_span, span_at, span_among, first_span, IsFirstSpan, NoneLies, LiesAt}
+
+-- needle by needle
+module _ (text : List ℕ) (at : ℕ) where
+  pub span_at-nil : span_at [] text at ≡ None
+  unfolding span_at
+  span_at-nil = refl
+
+  pub span_at-here : (needle : List ℕ) (needles : List (List ℕ)) → occurs_at text needle at ≡ true → span_at (needle ∷ needles) text at ≡ Some (needle_span needle at)
+  unfolding span_at
+  span_at-here needle needles e = cond-true _ _ _ e
+
+  pub span_at-next : (needle : List ℕ) (needles : List (List ℕ)) → occurs_at text needle at ≡ false → span_at (needle ∷ needles) text at ≡ span_at needles text at
+  unfolding span_at
+  span_at-next needle needles e = cond-false _ _ _ e
+
+-- place by place
+module _ (needles : List (List ℕ)) (text : List ℕ) where
+  pub span_among-here : (from n : ℕ) (span : Span) → span_at needles text from ≡ Some span → span_among needles text from (suc n) ≡ Some span
+  unfolding span_among
+  span_among-here from n span e = ap (λ o. option_or o (span_among needles text (from + 1) n)) e
+
+  pub span_among-next : (from n : ℕ) → span_at needles text from ≡ None → span_among needles text from (suc n) ≡ span_among needles text (from + 1) n
+  unfolding span_among
+  span_among-next from n e = ap (λ o. option_or o (span_among needles text (from + 1) n)) e
+
+  pub span_among-zero : (from : ℕ) → span_among needles text from 0 ≡ None
+  unfolding span_among
+  span_among-zero from = refl
+
+  -- places at which no needle begins may be passed
+  pub span_among-skip : (k from n : ℕ) → ((at : ℕ) → from ≤ at → at < from + k → NoneLies needles text at)
+      → span_among needles text from (k + n) ≡ span_among needles text (from + k) n
+  span_among-skip zero from n none = let e : 0 + n ≡ n = omega arith in let f : from + 0 ≡ from = omega arith in rw (e, f) refl
+  span_among-skip (suc k) from n none =
+      let e : suc k + n ≡ suc (k + n) = omega arith in
+      let f : from + suc k ≡ from + 1 + k = omega arith in
+      rw (e, f) (span_among-next from (k + n) (none from (omega arith) (omega arith))
+          ∙ span_among-skip k (from + 1) n (λ at a b. none at (omega arith) (omega arith)))
+
+  -- what is found from a place on, where no needle begins before a later one
+  pub first_span-skip : (from to : ℕ) → from ≤ to → to ≤ length text + 1 → ((at : ℕ) → from ≤ at → at < to → NoneLies needles text at)
+      → first_span needles text from ≡ first_span needles text to
+  first_span-skip from to le within none =
+      let k : length text + 1 - from ≡ (to - from) + (length text + 1 - to) = omega arith in
+      let f : from + (to - from) ≡ to = omega arith in
+      ap (span_among needles text from) k ∙ span_among-skip (to - from) from (length text + 1 - to) (λ at a b. none at a (omega arith))
+          ∙ ap (λ at. span_among needles text at (length text + 1 - to)) f
+
+  pub first_span-here : (from : ℕ) (span : Span) → from ≤ length text → span_at needles text from ≡ Some span → first_span needles text from ≡ Some span
+  first_span-here from span le e =
+      let k : length text + 1 - from ≡ suc (length text - from) = omega arith in
+      ap (span_among needles text from) k ∙ span_among-here from (length text - from) span e
+
+  pub first_span-none : (from : ℕ) → ((at : ℕ) → from ≤ at → at ≤ length text → NoneLies needles text at) → first_span needles text from ≡ None
+  first_span-none from none =
+      ⊎_elim
+      (λ far. let e : length text + 1 - from ≡ 0 = omega arith in ap (span_among needles text from) e ∙ span_among-zero from)
+      (λ near. let e : length text + 1 - (length text + 1) ≡ 0 = omega arith in
+          first_span-skip from (length text + 1) near (omega arith) (λ at a b. none at a (omega arith))
+          ∙ ap (span_among needles text (length text + 1)) e ∙ span_among-zero (length text + 1))
+      (cases_lt (length text + 1) from)
+

@@ -1,0 +1,2 @@
+pub mod Needles
+pub mod Choices
