@@ -1,8 +1,8 @@
 -- Where needles lie, needle by needle and place by place.
 use Rattle.std.proofs.Common.{◌≡◌, ℕ, zero, suc, ◌+◌, ◌-◌, ◌<◌, ◌≤◌, Bool, true, false, List, [], ◌∷◌, Option, None, Some, length, MatchOption, refl, sym, ap, subst, ◌∙◌, arith, add-one, inl, inr, ⊎_elim}
-use Rattle.std.specs.Option.{option_or}
+use Rattle.std.specs.Option.{option_or, option_map}
 use Rattle.std.proofs.lemmas.Bool.{cases_Bool, cases_lt, cond-true, cond-false}
-use Rattle.memchr.specs.Find.{occurs_at, OccursAt}
+use Rattle.memchr.specs.Find.{occurs_at, OccursAt, IsFirst}
 use Rattle.memchr.proofs.lemmas.MatchLemmas.{occurs_at-true, OccursAt-true}
 use Rattle.rx_search.specs.declared.span.Span.{Span}
 use Rattle.rx_prefilter.specs.Needles.{needle_span, span_at, span_among, first_span, IsFirstSpan, NoneLies, LiesAt}
@@ -68,3 +68,25 @@ module _ (needles : List (List ℕ)) (text : List ℕ) where
           ∙ ap (span_among needles text (length text + 1)) e ∙ span_among-zero (length text + 1))
       (cases_lt (length text + 1) from)
 
+
+  -- The first place that passes a test, counted from a place on, where the test says which needle begins there.
+  pub first_span-first : (from bound : ℕ) (P : ℕ → Type 0) (span : ℕ → Span) → from ≤ length text
+      → ((k : ℕ) → k < bound → from + k ≤ length text)
+      → ((k : ℕ) → bound ≤ k → NoneLies needles text (from + k))
+      → ((k : ℕ) → ¬ P k → NoneLies needles text (from + k))
+      → ((k : ℕ) → k < bound → P k → span_at needles text (from + k) ≡ Some (span k))
+      → (r : Option ℕ) → IsFirst P 0 bound r → first_span needles text from ≡ option_map span r
+  first_span-first from bound P span le within past fails passes None nowhere =
+      first_span-none from (λ at a b.
+          let e : from + (at - from) ≡ at = omega arith in
+          subst (NoneLies needles text) e (⊎_elim
+          (λ below. fails (at - from) (nowhere (at - from) (omega arith) below))
+          (λ above. past (at - from) above)
+          (cases_lt (at - from) bound)))
+  first_span-first from bound P span le within past fails passes (Some k) found =
+      let high = found.0.high in
+      let inside = within k high in
+      first_span-skip from (from + k) (omega arith) (omega arith) (λ at a b.
+          let e : from + (at - from) ≡ at = omega arith in
+          subst (NoneLies needles text) e (fails (at - from) (found.0.before (at - from) (omega arith) (omega arith))))
+      ∙ first_span-here (from + k) (span k) inside (passes k high found.1)

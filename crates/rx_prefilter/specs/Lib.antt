@@ -1,2 +1,3 @@
 pub mod Needles
 pub mod Choices
+pub mod Bytes

@@ -6,6 +6,7 @@
 //! to three bytes and for one needle from `memchr`.
 #![tactic(auto)]
 
+mod bytes;
 mod choice;
 mod choice_of;
 mod needles;
