@@ -1,15 +1,22 @@
 -- Needles of one byte, and one needle.
-use Rattle.std.proofs.Common.{◌≡◌, if◌then◌else◌, ℕ, zero, suc, ◌+◌, ◌-◌, ◌<◌, ◌≤◌, Bool, true, false, ◌||◌, ◌==◌, List, [], ◌∷◌, Option, None, Some, length, drop, map, slice_index, refl, sym, ap, subst, ◌∙◌, arith, inl, inr, ⊎_elim, length-drop}
-use Rattle.std.specs.List.{list_any}
+use Rattle.std.proofs.Common.{◌≡◌, ◌≢◌, if◌then◌else◌, slice_index_or, get_or, take, set, ℕ, ◌+◌, ◌<◌, ◌≤◌, Bool, true, false, ◌||◌, ◌==◌, List, [], ◌∷◌, Option, None, Some, length, drop, map, slice_index, refl, sym, ap, ◌∙◌, arith, ⊎_elim, length-drop}
 use Rattle.std.specs.Option.{option_map, IfSome}
-use Rattle.std.proofs.lemmas.Bool.{cases_Bool, cond-true, cond-false, cases_eq, cases_lt, false≢true, eq-eqb, ne_eqb, eqb-true, eqb-false}
-use Rattle.std.proofs.lemmas.List.{get_or-drop}
+use Rattle.std.proofs.lemmas.Bool.{cases_Bool, cond-true, cond-false, cases_eq, false≢true, eq-eqb, ne_eqb}
+use Rattle.std.proofs.lemmas.List.{get_or-drop, get_or-set_same, get_or-set_other}
+use Rattle.std.proofs.lemmas.List.Folds.{list_any_more}
 use Rattle.memchr.specs.Find.{occurs_at, OccursAt, IsFirstByte, Passes, FindsNeedle}
 use Rattle.memchr.proofs.lemmas.MatchLemmas.{occurs_at-true, OccursAt-true}
 use Rattle.rx_search.specs.declared.span.Span.{Span}
-use Rattle.rx_prefilter.specs.Needles.{needle_span, span_at, first_span, NoneLies}
+use Rattle.rx_prefilter.specs.Needles.{needle_span, span_at, first_span}
 use Rattle.rx_prefilter.specs.Bytes.{single, byte_span, is_one_of}
+use Rattle.rx_prefilter.specs.Choices.{greatest_length}
 use Rattle.rx_prefilter.proofs.NeedleLemmas.{span_at-nil, span_at-here, span_at-next, first_span-first}
+
+or_true : (b : Bool) → (b || true) ≡ true
+or_true b = elim b as (λ t. (t || true) ≡ true) [ true ↦ refl | false ↦ refl ]
+
+or_false : (b : Bool) → (b || false) ≡ b
+or_false b = elim b as (λ t. (t || false) ≡ t) [ true ↦ refl | false ↦ refl ]
 
 pub occurs_at-false : (text needle : List ℕ) (at : ℕ) → ¬ OccursAt text needle at → occurs_at text needle at ≡ false
 occurs_at-false text needle at not = ⊎_elim (λ yes_is. absurd (not (OccursAt-true text needle at yes_is))) (λ no_is. no_is) (cases_Bool (occurs_at text needle at))
@@ -39,7 +46,7 @@ module _ (text : List ℕ) (at : ℕ) where
       ⊎_elim
       (λ same. span_at-here text at (single b) (map single bs) (stands b within same))
       (λ other. span_at-next text at (single b) (map single bs) (stands_not b (λ _ same. other same))
-          ∙ span_at-byte bs within (sym (one_of-other bs _ b other) ∙ e))
+      ∙ span_at-byte bs within (sym (one_of-other bs _ b other) ∙ e))
       (cases_eq (slice_index text at) b)
 
   -- none does
@@ -48,9 +55,9 @@ module _ (text : List ℕ) (at : ℕ) where
   span_at-no_byte (b ∷ bs) e =
       span_at-next text at (single b) (map single bs) (stands_not b (λ within same. false≢true (sym (e within) ∙ one_of-same bs _ b same)))
       ∙ span_at-no_byte bs (λ within. ⊎_elim
-          (λ same. absurd (false≢true (sym (e within) ∙ one_of-same bs _ b same)))
-          (λ other. sym (one_of-other bs _ b other) ∙ e within)
-          (cases_eq (slice_index text at) b))
+      (λ same. absurd (false≢true (sym (e within) ∙ one_of-same bs _ b same)))
+      (λ other. sym (one_of-other bs _ b other) ∙ e within)
+      (cases_eq (slice_index text at) b))
 
   -- it is one byte's test that tells
   pub span_at-bytes : (bs : List ℕ) → at < length text → span_at (map single bs) text at ≡ (if is_one_of bs (slice_index text at) then Some (byte_span at) else None)
@@ -63,6 +70,22 @@ module _ (text : List ℕ) (at : ℕ) where
 
   pub span_at-end : (bs : List ℕ) → length text ≤ at → span_at (map single bs) text at ≡ None
   span_at-end bs past = span_at-no_byte bs (λ within. absurd (omega arith))
+
+-- a table takes one byte more of the list
+pub table_more : (table : List Bool) (bytes : List ℕ) (i b : ℕ) → i < length bytes → length table ≡ 256 → b ≡ get_or bytes i 0
+    → ((x : ℕ) → x < 256 → slice_index_or table x false ≡ is_one_of (take i bytes) x)
+    → (x : ℕ) → x < 256 → slice_index_or (set table b true) x false ≡ is_one_of (take (i + 1) bytes) x
+table_more table bytes i b l long is before x fits =
+    let p : ℕ → Bool = λ y. y == x in
+    let more : is_one_of (take (i + 1) bytes) x ≡ (is_one_of (take i bytes) x || b == x) = list_any_more p bytes i 0 l ∙ ap (λ y. is_one_of (take i bytes) x || y == x) (sym is) in
+    let old = before x fits in
+    ⊎_elim
+    (λ same. let within : b < length table = omega arith in
+    rw same (get_or-set_same table b true false within)
+    ∙ sym (more ∙ ap (λ t. is_one_of (take i bytes) x || t) (eq-eqb b x (sym same)) ∙ or_true (is_one_of (take i bytes) x)))
+    (λ other. get_or-set_other table b x true false other ∙ old
+    ∙ sym (more ∙ ap (λ t. is_one_of (take i bytes) x || t) (ne_eqb b x (λ e. other (sym e))) ∙ or_false (is_one_of (take i bytes) x)))
+    (cases_eq x b)
 
 -- the tests of up to three bytes
 turned : (a x : ℕ) → (x == a) ≡ (a == x)
@@ -89,9 +112,9 @@ first_span-bytes bs test same text from le r first =
     (λ k l. omega arith)
     (λ k l. span_at-no_byte text (from + k) bs (λ within. absurd (omega arith)))
     (λ k fails. span_at-no_byte text (from + k) bs (λ within. ⊎_elim
-        (λ yes_is. absurd (fails (same _ ∙ ap (is_one_of bs) (read k) ∙ yes_is)))
-        (λ no_is. no_is)
-        (cases_Bool (is_one_of bs (slice_index text (from + k))))))
+    (λ yes_is. absurd (fails (same _ ∙ ap (is_one_of bs) (read k) ∙ yes_is)))
+    (λ no_is. no_is)
+    (cases_Bool (is_one_of bs (slice_index text (from + k))))))
     (λ k l passes. span_at-byte text (from + k) bs (omega arith) (sym (same _ ∙ ap (is_one_of bs) (read k)) ∙ passes))
     r first
 
@@ -102,15 +125,15 @@ first_span-needle needle text from le r first =
     let long = length-drop from text in
     let read : (k : ℕ) → slice_index (drop from text) k ≡ slice_index text (from + k) = λ k. get_or-drop from text k 0 in
     let there : (k : ℕ) → OccursAt text needle (from + k) → OccursAt (drop from text) needle k =
-        λ k o. record {
-          fits = omega (arith, o.fits, long);
-          reads = λ j l. let s : from + (k + j) ≡ from + k + j = omega arith in read (k + j) ∙ ap (slice_index text) s ∙ o.reads j l;
-        } in
+    λ k o. record {
+      fits = omega (arith, o.fits, long);
+      reads = λ j l. let s : from + (k + j) ≡ from + k + j = omega arith in read (k + j) ∙ ap (slice_index text) s ∙ o.reads j l;
+    } in
     let back : (k : ℕ) → OccursAt (drop from text) needle k → OccursAt text needle (from + k) =
-        λ k o. record {
-          fits = omega (arith, o.fits, long);
-          reads = λ j l. let s : from + k + j ≡ from + (k + j) = omega arith in ap (slice_index text) s ∙ sym (read (k + j)) ∙ o.reads j l;
-        } in
+    λ k o. record {
+      fits = omega (arith, o.fits, long);
+      reads = λ j l. let s : from + k + j ≡ from + (k + j) = omega arith in ap (slice_index text) s ∙ sym (read (k + j)) ∙ o.reads j l;
+    } in
     first_span-first (needle ∷ []) text from (length (drop from text) + 1) (OccursAt (drop from text) needle) (λ k. needle_span needle (from + k)) le
     (λ k l. omega arith)
     (λ k l. span_at-next text (from + k) needle [] (occurs_at-false text needle (from + k) (λ o. absurd (omega (arith, o.fits)))) ∙ span_at-nil text (from + k))
@@ -122,3 +145,8 @@ first_span-needle needle text from le r first =
 pub found_within : (test : ℕ → Bool) (text : List ℕ) (from bound : ℕ) → from ≤ length text → length text < bound → (r : Option ℕ) → IsFirstByte test (drop from text) r → IfSome r (λ k. from + k + 1 < bound)
 found_within test text from bound le fits None first = tt
 found_within test text from bound le fits (Some k) first = let high = first.0.high in omega (arith, length-drop from text)
+
+pub greatest_length-single : (bs : List ℕ) → length bs ≢ 0 → greatest_length (map single bs) ≡ 1
+greatest_length-single [] some = absurd (some refl)
+greatest_length-single (b ∷ []) some = omega arith
+greatest_length-single (b ∷ c ∷ bs) some = let rest = greatest_length-single (c ∷ bs) (λ e. absurd (omega arith)) in omega (arith, rest)

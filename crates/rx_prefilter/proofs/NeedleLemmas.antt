@@ -1,11 +1,10 @@
 -- Where needles lie, needle by needle and place by place.
-use Rattle.std.proofs.Common.{◌≡◌, ℕ, zero, suc, ◌+◌, ◌-◌, ◌<◌, ◌≤◌, Bool, true, false, List, [], ◌∷◌, Option, None, Some, length, MatchOption, refl, sym, ap, subst, ◌∙◌, arith, add-one, inl, inr, ⊎_elim}
+use Rattle.std.proofs.Common.{◌≡◌, ℕ, zero, suc, ◌+◌, ◌-◌, ◌<◌, ◌≤◌, true, false, List, [], ◌∷◌, Option, None, Some, length, refl, ap, subst, ◌∙◌, arith, ⊎_elim}
 use Rattle.std.specs.Option.{option_or, option_map}
-use Rattle.std.proofs.lemmas.Bool.{cases_Bool, cases_lt, cond-true, cond-false}
-use Rattle.memchr.specs.Find.{occurs_at, OccursAt, IsFirst}
-use Rattle.memchr.proofs.lemmas.MatchLemmas.{occurs_at-true, OccursAt-true}
+use Rattle.std.proofs.lemmas.Bool.{cases_lt, cond-true, cond-false}
+use Rattle.memchr.specs.Find.{occurs_at, IsFirst}
 use Rattle.rx_search.specs.declared.span.Span.{Span}
-use Rattle.rx_prefilter.specs.Needles.{needle_span, span_at, span_among, first_span, IsFirstSpan, NoneLies, LiesAt}
+use Rattle.rx_prefilter.specs.Needles.{needle_span, span_at, span_among, first_span, NoneLies}
 
 -- needle by needle
 module _ (text : List ℕ) (at : ℕ) where
@@ -43,7 +42,7 @@ module _ (needles : List (List ℕ)) (text : List ℕ) where
       let e : suc k + n ≡ suc (k + n) = omega arith in
       let f : from + suc k ≡ from + 1 + k = omega arith in
       rw (e, f) (span_among-next from (k + n) (none from (omega arith) (omega arith))
-          ∙ span_among-skip k (from + 1) n (λ at a b. none at (omega arith) (omega arith)))
+      ∙ span_among-skip k (from + 1) n (λ at a b. none at (omega arith) (omega arith)))
 
   -- what is found from a place on, where no needle begins before a later one
   pub first_span-skip : (from to : ℕ) → from ≤ to → to ≤ length text + 1 → ((at : ℕ) → from ≤ at → at < to → NoneLies needles text at)
@@ -52,22 +51,31 @@ module _ (needles : List (List ℕ)) (text : List ℕ) where
       let k : length text + 1 - from ≡ (to - from) + (length text + 1 - to) = omega arith in
       let f : from + (to - from) ≡ to = omega arith in
       ap (span_among needles text from) k ∙ span_among-skip (to - from) from (length text + 1 - to) (λ at a b. none at a (omega arith))
-          ∙ ap (λ at. span_among needles text at (length text + 1 - to)) f
+      ∙ ap (λ at. span_among needles text at (length text + 1 - to)) f
 
   pub first_span-here : (from : ℕ) (span : Span) → from ≤ length text → span_at needles text from ≡ Some span → first_span needles text from ≡ Some span
   first_span-here from span le e =
       let k : length text + 1 - from ≡ suc (length text - from) = omega arith in
       ap (span_among needles text from) k ∙ span_among-here from (length text - from) span e
 
+  pub first_span-next : (at : ℕ) → at ≤ length text → NoneLies needles text at → first_span needles text at ≡ first_span needles text (at + 1)
+  first_span-next at le none = first_span-skip at (at + 1) (omega arith) (omega arith) (λ k a b. let e : at ≡ k = omega arith in subst (NoneLies needles text) e none)
+
+  span_among-one : (from : ℕ) → span_among needles text from 1 ≡ span_at needles text from
+  unfolding span_among
+  span_among-one from = elim (span_at needles text from) as (λ o. option_or o None ≡ o) [ None ↦ refl | Some s ↦ refl ]
+
+  pub first_span-end : (at : ℕ) → at ≡ length text → first_span needles text at ≡ span_at needles text at
+  first_span-end at e = let one : length text + 1 - at ≡ 1 = omega arith in ap (span_among needles text at) one ∙ span_among-one at
+
   pub first_span-none : (from : ℕ) → ((at : ℕ) → from ≤ at → at ≤ length text → NoneLies needles text at) → first_span needles text from ≡ None
   first_span-none from none =
       ⊎_elim
       (λ far. let e : length text + 1 - from ≡ 0 = omega arith in ap (span_among needles text from) e ∙ span_among-zero from)
       (λ near. let e : length text + 1 - (length text + 1) ≡ 0 = omega arith in
-          first_span-skip from (length text + 1) near (omega arith) (λ at a b. none at a (omega arith))
-          ∙ ap (span_among needles text (length text + 1)) e ∙ span_among-zero (length text + 1))
+      first_span-skip from (length text + 1) near (omega arith) (λ at a b. none at a (omega arith))
+      ∙ ap (span_among needles text (length text + 1)) e ∙ span_among-zero (length text + 1))
       (cases_lt (length text + 1) from)
-
 
   -- The first place that passes a test, counted from a place on, where the test says which needle begins there.
   pub first_span-first : (from bound : ℕ) (P : ℕ → Type 0) (span : ℕ → Span) → from ≤ length text
@@ -78,15 +86,15 @@ module _ (needles : List (List ℕ)) (text : List ℕ) where
       → (r : Option ℕ) → IsFirst P 0 bound r → first_span needles text from ≡ option_map span r
   first_span-first from bound P span le within past fails passes None nowhere =
       first_span-none from (λ at a b.
-          let e : from + (at - from) ≡ at = omega arith in
-          subst (NoneLies needles text) e (⊎_elim
-          (λ below. fails (at - from) (nowhere (at - from) (omega arith) below))
-          (λ above. past (at - from) above)
-          (cases_lt (at - from) bound)))
+      let e : from + (at - from) ≡ at = omega arith in
+      subst (NoneLies needles text) e (⊎_elim
+      (λ below. fails (at - from) (nowhere (at - from) (omega arith) below))
+      (λ above. past (at - from) above)
+      (cases_lt (at - from) bound)))
   first_span-first from bound P span le within past fails passes (Some k) found =
       let high = found.0.high in
       let inside = within k high in
       first_span-skip from (from + k) (omega arith) (omega arith) (λ at a b.
-          let e : from + (at - from) ≡ at = omega arith in
-          subst (NoneLies needles text) e (fails (at - from) (found.0.before (at - from) (omega arith) (omega arith))))
+      let e : from + (at - from) ≡ at = omega arith in
+      subst (NoneLies needles text) e (fails (at - from) (found.0.before (at - from) (omega arith) (omega arith))))
       ∙ first_span-here (from + k) (span k) inside (passes k high found.1)

@@ -1,6 +1,7 @@
 -- Which kind of search a list of needles takes, and what is accounted for it.
-use Rattle.std.specs.Prelude.{ℕ, zero, suc, ◌+◌, ◌*◌, ◌-◌, ◌^◌, min, max, Bool, true, false, ◌&&◌, ◌||◌, ◌==◌, nat_le, List, [], ◌∷◌, length, Option, None, Some, codes, if◌then◌else◌}
-use Rattle.std.specs.List.{list_all, list_any, sum_by}
+use Rattle.std.specs.Prelude.{ℕ, ◌+◌, ◌*◌, ◌-◌, ◌^◌, min, max, Bool, true, false, ◌&&◌, ◌||◌, ◌==◌, nat_le, List, [], ◌∷◌, length, Option, None, Some, codes, if◌then◌else◌}
+use Rattle.std.specs.List.{list_all, list_any}
+use Rattle.std.specs.Option.{option_map, unwrap_or}
 use Rattle.rx_prefilter.specs.declared.choice.Choice.{Choice}
 use Rattle.rx_prefilter.specs.declared.choice.Choice.TheVariants.{Memchr, Memchr2, Memchr3, Memmem, Multi, ByteSet, AhoCorasick}
 
@@ -69,3 +70,11 @@ is_fast Memmem needles = true
 is_fast Multi needles = list_all (has_bytes 3) needles
 is_fast ByteSet needles = false
 is_fast AhoCorasick needles = false
+
+-- the needles that a prefilter has, where they fit a kind
+abbrev pub served : List (List ℕ) → Option (List (List ℕ))
+served needles = option_map (λ choice. needles) (choice_of needles)
+
+-- the kind of a prefilter of these needles, which fit one
+abbrev pub chosen : List (List ℕ) → Choice
+chosen needles = unwrap_or (choice_of needles) AhoCorasick

@@ -1,3 +1,4 @@
 pub mod Needles
 pub mod Choices
 pub mod Bytes
+pub mod Kinds

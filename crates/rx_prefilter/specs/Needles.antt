@@ -1,7 +1,7 @@
 -- Where needles lie in a text, and the first of them that a search finds.
 use Rattle.std.specs.Prelude.{◌≡◌, ℕ, zero, suc, ◌+◌, ◌-◌, ◌≤◌, List, [], ◌∷◌, length, take, Option, None, Some, MatchOption, if◌then◌else◌}
 use Rattle.std.specs.Option.{option_or}
-use Rattle.memchr.specs.Find.{occurs_at, NoneBefore, Nowhere}
+use Rattle.memchr.specs.Find.{occurs_at}
 use Rattle.rx_search.specs.declared.span.Span.{Span}
 
 -- where the needle lies that begins at place `at`

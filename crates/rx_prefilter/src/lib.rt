@@ -6,9 +6,14 @@
 //! to three bytes and for one needle from `memchr`.
 #![tactic(auto)]
 
+mod aho_corasick;
+mod byte_set;
 mod bytes;
 mod choice;
-mod choice_of;
+mod memmem;
+mod multi;
 mod needles;
+mod prefilter;
 
 pub use choice::Choice;
+pub use prefilter::Prefilter;

@@ -1,6 +1,6 @@
-use Rattle.std.proofs.Common.{◌≡◌, ℕ, ◌+◌, ◌-◌, ◌<◌, ◌^◌, ◌≤◌, [], ◌∷◌, length, arith, sym, ◌∙◌}
-use Rattle.std.proofs.lemmas.List.{take_rest, length-drop}
-use Rattle.memchr.specs.Find.{is_byte, IsFirstByte}
+use Rattle.std.proofs.Common.{◌<◌, ◌^◌, [], ◌∷◌, length, arith, sym, ◌∙◌}
+use Rattle.std.proofs.lemmas.List.{take_rest}
+use Rattle.memchr.specs.Find.{is_byte}
 use Rattle.rx_prefilter.proofs.ByteLemmas.{first_span-bytes, is_one_of-one, found_within}
 use Rattle.rx_prefilter.proofs.bytes.find.Goals as goal
 

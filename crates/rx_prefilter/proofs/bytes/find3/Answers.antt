@@ -1,6 +1,6 @@
-use Rattle.std.proofs.Common.{◌≡◌, ℕ, ◌+◌, ◌-◌, ◌<◌, ◌^◌, ◌≤◌, [], ◌∷◌, length, arith, sym, ◌∙◌}
-use Rattle.std.proofs.lemmas.List.{take_rest, length-drop}
-use Rattle.memchr.specs.Find.{is_byte3, IsFirstByte}
+use Rattle.std.proofs.Common.{◌<◌, ◌^◌, [], ◌∷◌, length, arith, sym, ◌∙◌}
+use Rattle.std.proofs.lemmas.List.{take_rest}
+use Rattle.memchr.specs.Find.{is_byte3}
 use Rattle.rx_prefilter.proofs.ByteLemmas.{first_span-bytes, is_one_of-three, found_within}
 use Rattle.rx_prefilter.proofs.bytes.find3.Goals as goal
 

@@ -1,4 +1,4 @@
-use Rattle.std.proofs.Common.{◌≡◌, ℕ, ◌<◌, ◌≤◌, length, arith, sym, ap, ◌∙◌}
+use Rattle.std.proofs.Common.{◌<◌, length, arith, sym, ◌∙◌}
 use Rattle.rx_prefilter.proofs.ByteLemmas.{span_at-bytes, span_at-end}
 use Rattle.rx_prefilter.proofs.bytes.prefix.Goals as goal
 

@@ -1,4 +1,4 @@
-use Rattle.std.proofs.Common.{◌≡◌, ◌<◌, ◌≤◌, true, false, List, ℕ, map, drop, length, ap, sym, ◌∙◌, arith, rules}
+use Rattle.std.proofs.Common.{◌≡◌, true, false, List, ℕ, length, ap, sym, ◌∙◌, arith}
 use Rattle.std.specs.Vec.{vec_items}
 use Rattle.memchr.specs.Find.{occurs_at}
 use Rattle.rx_prefilter.specs.Needles.{span_at}

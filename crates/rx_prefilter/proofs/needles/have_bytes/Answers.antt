@@ -1,10 +1,10 @@
-use Rattle.std.proofs.Common.{◌≡◌, ◌+◌, ◌<◌, ◌≤◌, true, false, List, ℕ, map, drop, length, ap, sym, ◌∙◌, arith}
+use Rattle.std.proofs.Common.{◌≡◌, ◌+◌, true, false, map, drop, sym, ◌∙◌, arith}
 use Rattle.std.proofs.lemmas.Bool.Decides.{nat_tests}
 use Rattle.std.specs.List.{list_all}
 use Rattle.std.specs.Vec.{vec_items}
 use Rattle.rx_prefilter.specs.Choices.{has_bytes}
 use Rattle.rx_prefilter.proofs.ListLemmas.{at_next, list_all-here, list_all-next}
-use Rattle.rx_prefilter.proofs.choice_of.have_bytes.Goals as goal
+use Rattle.rx_prefilter.proofs.needles.have_bytes.Goals as goal
 
 pub returns-then-len-least : goal.returns-then-len-least
 returns-then-len-least c =

@@ -1,10 +1,10 @@
-use Rattle.std.proofs.Common.{◌≡◌, ◌+◌, ◌<◌, ◌≤◌, true, false, List, ℕ, map, drop, length, ap, sym, ◌∙◌, arith}
+use Rattle.std.proofs.Common.{◌≡◌, ◌+◌, true, false, map, drop, sym, ◌∙◌, arith}
 use Rattle.std.proofs.lemmas.Bool.Decides.{nat_tests}
 use Rattle.std.specs.List.{list_any}
 use Rattle.std.specs.Vec.{vec_items}
 use Rattle.rx_prefilter.specs.Choices.{is_empty}
 use Rattle.rx_prefilter.proofs.ListLemmas.{at_next, list_any-here, list_any-next}
-use Rattle.rx_prefilter.proofs.choice_of.has_empty.Goals as goal
+use Rattle.rx_prefilter.proofs.needles.has_empty.Goals as goal
 
 pub returns-then-is_empty : goal.returns-then-is_empty
 returns-then-is_empty c =
