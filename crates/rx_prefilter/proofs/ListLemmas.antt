@@ -1,8 +1,9 @@
 -- What is left of a list that a loop goes over.
 use Rattle.std.specs.List.{list_any, list_all}
-use Rattle.std.proofs.Common.{◌≡◌, ℕ, ◌+◌, ◌<◌, ◌≤◌, Bool, true, false, ◌||◌, ◌&&◌, List, [], ◌∷◌, ◌++◌, map, length, take, drop, get_or, ⊎_elim, refl, sym, ap, subst, ◌∙◌, arith}
+use Rattle.std.proofs.Common.{◌≡◌, ℕ, ◌+◌, ◌<◌, ◌≤◌, Bool, true, false, ◌||◌, ◌&&◌, List, [], ◌∷◌, ◌++◌, All, map, length, take, drop, get_or, ⊎_elim, refl, sym, ap, subst, ◌∙◌, arith}
 use Rattle.std.proofs.lemmas.Bool.{cases_Bool, false≢true}
-use Rattle.std.proofs.lemmas.List.{drop_more, drop_all, get_or-map, length-map, map_more, map_push}
+use Rattle.std.proofs.lemmas.List.{drop_more, drop_all, get_or-map, length-map, map_more, map_push, append-nil, take_all}
+use Rattle.std.proofs.lemmas.List.Elements.{All-get_or}
 use Rattle.std.proofs.lemmas.List.Folds.{list_all_at}
 
 -- the element at i comes next, under a map
@@ -65,3 +66,16 @@ three_elements (x ∷ []) e = absurd (omega arith)
 three_elements (x ∷ y ∷ []) e = absurd (omega arith)
 three_elements (x ∷ y ∷ z ∷ []) e = refl
 three_elements (x ∷ y ∷ z ∷ w ∷ xs) e = absurd (omega arith)
+
+-- what holds of all elements holds of the element at i
+pub All-at : {X Y : Type 0} (P : Y → Type 0) (f : X → Y) (xs : List X) (i : ℕ) (x : X) → i < length xs → x ≡ get_or xs i x → All P (map f xs) → P (f x)
+All-at P f xs i x l is every =
+    let within : i < length (map f xs) = subst (λ n. i < n) (sym (length-map xs f)) l in
+    let read : get_or (map f xs) i (f x) ≡ f x = get_or-map f xs i x (f x) l ∙ ap f (sym is) in
+    subst P read (All-get_or P (map f xs) i (f x) within every)
+
+-- a list that a callee wrote through a loan of the whole
+pub written_back : (new old : List ℕ) (n : ℕ) → n ≡ length old → length new ≡ length old → take n (new ++ drop (length new) old) ≡ new
+written_back new old n long same =
+    let none : drop (length new) old ≡ [] = drop_all (length new) old (omega arith) in
+    ap (λ l. take n (new ++ l)) none ∙ ap (take n) (append-nil new) ∙ take_all n new (omega arith)

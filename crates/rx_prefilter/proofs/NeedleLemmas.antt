@@ -34,6 +34,20 @@ module _ (needles : List (List ℕ)) (text : List ℕ) where
   unfolding span_among
   span_among-zero from = refl
 
+  -- the first n places, and then those after them
+  pub span_among-split : (k from n : ℕ) → span_among needles text from (k + n) ≡ option_or (span_among needles text from k) (span_among needles text (from + k) n)
+  unfolding span_among
+  span_among-split zero from n =
+      let e : 0 + n ≡ n = omega arith in let f : from + 0 ≡ from = omega arith in rw (e, f) refl
+  span_among-split (suc k) from n =
+      let e : suc k + n ≡ suc (k + n) = omega arith in
+      let f : from + suc k ≡ from + 1 + k = omega arith in
+      let later = span_among-split k (from + 1) n in
+      rw (e, f) (elim (span_at needles text from) as (λ o. option_or o (span_among needles text (from + 1) (k + n)) ≡ option_or (option_or o (span_among needles text (from + 1) k)) (span_among needles text (from + 1 + k) n)) [
+        | None ↦ later
+        | Some s ↦ refl
+      ])
+
   -- places at which no needle begins may be passed
   pub span_among-skip : (k from n : ℕ) → ((at : ℕ) → from ≤ at → at < from + k → NoneLies needles text at)
       → span_among needles text from (k + n) ≡ span_among needles text (from + k) n
@@ -60,6 +74,19 @@ module _ (needles : List (List ℕ)) (text : List ℕ) where
 
   pub first_span-next : (at : ℕ) → at ≤ length text → NoneLies needles text at → first_span needles text at ≡ first_span needles text (at + 1)
   first_span-next at le none = first_span-skip at (at + 1) (omega arith) (omega arith) (λ k a b. let e : at ≡ k = omega arith in subst (NoneLies needles text) e none)
+
+  -- a window of places that holds the first needle, or none
+  pub first_span-window_found : (from k : ℕ) (span : Span) → from + k ≤ length text + 1 → span_among needles text from k ≡ Some span → first_span needles text from ≡ Some span
+  first_span-window_found from k span le e =
+      let n : length text + 1 - from ≡ k + (length text + 1 - (from + k)) = omega arith in
+      ap (span_among needles text from) n ∙ span_among-split k from (length text + 1 - (from + k))
+      ∙ ap (λ o. option_or o (span_among needles text (from + k) (length text + 1 - (from + k)))) e
+
+  pub first_span-window_next : (from k : ℕ) → from + k ≤ length text + 1 → span_among needles text from k ≡ None → first_span needles text from ≡ first_span needles text (from + k)
+  first_span-window_next from k le e =
+      let n : length text + 1 - from ≡ k + (length text + 1 - (from + k)) = omega arith in
+      ap (span_among needles text from) n ∙ span_among-split k from (length text + 1 - (from + k))
+      ∙ ap (λ o. option_or o (span_among needles text (from + k) (length text + 1 - (from + k)))) e
 
   span_among-one : (from : ℕ) → span_among needles text from 1 ≡ span_at needles text from
   unfolding span_among

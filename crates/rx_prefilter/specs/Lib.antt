@@ -2,3 +2,4 @@ pub mod Needles
 pub mod Choices
 pub mod Bytes
 pub mod Kinds
+pub mod Places

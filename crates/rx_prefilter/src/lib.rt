@@ -17,3 +17,6 @@ mod prefilter;
 
 pub use choice::Choice;
 pub use prefilter::Prefilter;
+
+#[cfg(test)]
+mod tests;

@@ -1,8 +1,13 @@
-ghost use Rattle.std.specs.Prelude.{◌≡◌, ◌≤◌, ℕ, List, length, map, IfOk};
+ghost use Rattle.std.specs.Prelude.{◌≡◌, ◌≤◌, ℕ, List, true, length, map, IfOk};
+ghost use Rattle.std.specs.List.{list_all};
 ghost use Rattle.std.specs.Vec.{vec_items};
+ghost use Rattle.rx_prefilter.specs.Choices.{has_bytes};
 ghost use Rattle.rx_prefilter.specs.Needles.{span_at, first_span};
 
+mod place_table;
+
 use crate::needles;
+use place_table::PlaceTable;
 use rx_search::{Memory, Span};
 use std::alloc::Global;
 use std::marker::Model;
@@ -10,22 +15,30 @@ use std::marker::Model;
 /// Up to 64 needles of at least two bytes.
 #[derive(Drop)]
 pub(crate) struct Multi {
-    needles: Vec<Vec<u8>>,
+    table: PlaceTable,
 }
 
 impl Model for Multi {
+    ghost use Rattle.std.specs.Prelude.{ℕ, List, map};
+
     ghost Value = { List (List ℕ) };
 
-    ghost view = { λ m. map vec_items m.needles.items };
+    ghost use Rattle.std.specs.Vec.{vec_items};
+    ghost use Rattle.rx_prefilter.specs.Places.{IsPlaceTable};
+
+    ghost view = { λ m. map vec_items m.table.needles.items };
+
+    ghost invariant = { λ m. IsPlaceTable m.table };
 }
 
 impl Multi {
-    /// A search for these needles.
+    /// A search for these needles, of at least two bytes each.
     pub(crate) fn new(alloc: Global, needles: &[Vec<u8>]) -> Result<Multi, Memory>
+        requires { list_all (has_bytes 2) (map vec_items needles.now) ≡ true }
         ensures { IfOk result (λ m. m ≡ map vec_items needles.now) }
     {
         Ok(Multi {
-            needles: needles::copied(alloc, needles)?,
+            table: PlaceTable::new(alloc, needles)?,
         })
     }
 
@@ -33,7 +46,7 @@ impl Multi {
     pub(crate) fn needles(&self) -> &[Vec<u8>]
         ensures { map vec_items result.now ≡ self.now }
     {
-        &self.needles
+        &self.table.needles
     }
 
     /// Where the first needle of the list lies that begins at the least place from `from` on.
@@ -41,7 +54,7 @@ impl Multi {
         requires { from ≤ length text.now }
         ensures { result ≡ first_span self.now text.now from }
     {
-        needles::first_span(&self.needles, text, from)
+        self.table.find(text, from)
     }
 
     /// The same of the needles that begin at `at`.
@@ -49,6 +62,6 @@ impl Multi {
         requires { at ≤ length text.now }
         ensures { result ≡ span_at self.now text.now at }
     {
-        needles::span_at(&self.needles, text, at)
+        needles::span_at(&self.table.needles, text, at)
     }
 }
