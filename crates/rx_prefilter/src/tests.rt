@@ -8,70 +8,76 @@ use std::test::Fail;
 
 /// Needles, parted by commas; a text; the part of it that is searched; and the kind of search, what `find` answers and
 /// what `prefix` answers.
-const ROWS: [(&str, &str, usize, usize, &str); 44] = [
-    ("a", "ba", 0, 2, "memchr 1..2 -"),
-    ("a", "ba", 1, 1, "memchr - -"),
-    ("a", "ba", 1, 2, "memchr 1..2 1..2"),
-    ("a", "ba", 0, 1, "memchr - -"),
-    ("a,a", "xa", 0, 2, "memchr2 1..2 -"),
-    ("b,a", "xab", 0, 3, "memchr2 1..2 -"),
-    ("b,a", "xab", 2, 3, "memchr2 2..3 2..3"),
-    ("c,b,a", "xab", 1, 3, "memchr3 1..2 1..2"),
-    ("c,b,a", "xyz", 0, 3, "memchr3 - -"),
-    ("ab", "xabab", 0, 5, "memmem 1..3 -"),
-    ("ab", "xabab", 2, 5, "memmem 3..5 -"),
-    ("ab", "xabab", 0, 2, "memmem - -"),
-    ("ab", "xabab", 1, 3, "memmem 1..3 1..3"),
-    ("ab", "xabab", 4, 5, "memmem - -"),
-    ("foo,bar", "xbarfoo", 0, 7, "multi 1..4 -"),
-    ("foo,bar", "xbarfoo", 1, 7, "multi 1..4 1..4"),
-    ("foo,bar", "xbarfoo", 2, 7, "multi 4..7 -"),
-    ("foo,bar", "xbarfoo", 2, 6, "multi - -"),
-    ("foo,bar", "xbarfoo", 1, 3, "multi - -"),
-    ("ab,abc", "xabc", 0, 4, "multi 1..3 -"),
-    ("abc,ab", "xabc", 0, 4, "multi 1..4 -"),
-    ("abc,ab", "xabc", 0, 3, "multi 1..3 -"),
-    ("ab,ab", "xabc", 0, 4, "multi 1..3 -"),
-    ("bcd,abcd", "xabcd", 0, 5, "multi 1..5 -"),
-    ("abcd,bc", "xabcx", 0, 5, "multi 2..4 -"),
-    ("ba,ab", "aab", 0, 3, "multi 1..3 -"),
+const ROWS: [(&[u8], &[u8], usize, usize, &[u8]); 44] = [
+    (b"a", b"ba", 0, 2, b"memchr 1..2 -"),
+    (b"a", b"ba", 1, 1, b"memchr - -"),
+    (b"a", b"ba", 1, 2, b"memchr 1..2 1..2"),
+    (b"a", b"ba", 0, 1, b"memchr - -"),
+    (b"a,a", b"xa", 0, 2, b"memchr2 1..2 -"),
+    (b"b,a", b"xab", 0, 3, b"memchr2 1..2 -"),
+    (b"b,a", b"xab", 2, 3, b"memchr2 2..3 2..3"),
+    (b"c,b,a", b"xab", 1, 3, b"memchr3 1..2 1..2"),
+    (b"c,b,a", b"xyz", 0, 3, b"memchr3 - -"),
+    (b"ab", b"xabab", 0, 5, b"memmem 1..3 -"),
+    (b"ab", b"xabab", 2, 5, b"memmem 3..5 -"),
+    (b"ab", b"xabab", 0, 2, b"memmem - -"),
+    (b"ab", b"xabab", 1, 3, b"memmem 1..3 1..3"),
+    (b"ab", b"xabab", 4, 5, b"memmem - -"),
+    (b"foo,bar", b"xbarfoo", 0, 7, b"multi 1..4 -"),
+    (b"foo,bar", b"xbarfoo", 1, 7, b"multi 1..4 1..4"),
+    (b"foo,bar", b"xbarfoo", 2, 7, b"multi 4..7 -"),
+    (b"foo,bar", b"xbarfoo", 2, 6, b"multi - -"),
+    (b"foo,bar", b"xbarfoo", 1, 3, b"multi - -"),
+    (b"ab,abc", b"xabc", 0, 4, b"multi 1..3 -"),
+    (b"abc,ab", b"xabc", 0, 4, b"multi 1..4 -"),
+    (b"abc,ab", b"xabc", 0, 3, b"multi 1..3 -"),
+    (b"ab,ab", b"xabc", 0, 4, b"multi 1..3 -"),
+    (b"bcd,abcd", b"xabcd", 0, 5, b"multi 1..5 -"),
+    (b"abcd,bc", b"xabcx", 0, 5, b"multi 2..4 -"),
+    (b"ba,ab", b"aab", 0, 3, b"multi 1..3 -"),
     (
-        "Sherlock,Watson",
-        "to Watson, Sherlock",
+        b"Sherlock,Watson",
+        b"to Watson, Sherlock",
         0,
         19,
-        "multi 3..9 -",
+        b"multi 3..9 -",
     ),
     (
-        "Sherlock,Watson",
-        "to Watson, Sherlock",
+        b"Sherlock,Watson",
+        b"to Watson, Sherlock",
         4,
         19,
-        "multi 11..19 -",
+        b"multi 11..19 -",
     ),
-    ("Sherlock,Watson", "to Watson, Sherlock", 4, 18, "multi - -"),
-    ("a,b,c,d", "xxd", 0, 3, "byteset 2..3 -"),
-    ("a,b,c,d", "xxd", 2, 3, "byteset 2..3 2..3"),
-    ("a,b,c,d", "xxd", 0, 2, "byteset - -"),
-    ("a,b,c,a", "xyz", 0, 3, "byteset - -"),
-    ("ab,c", "xcab", 0, 4, "aho-corasick 1..2 -"),
-    ("ab,a", "xab", 0, 3, "aho-corasick 1..3 -"),
-    ("a,ab", "xab", 0, 3, "aho-corasick 1..2 -"),
-    ("ab,b", "xab", 2, 3, "aho-corasick 2..3 2..3"),
-    ("abc,c", "abd", 0, 3, "aho-corasick - -"),
-    ("abcd,c", "xabcx", 0, 5, "aho-corasick 3..4 -"),
-    ("abcd,bc,c", "xabcx", 0, 5, "aho-corasick 2..4 -"),
-    ("b,b,ab", "ab", 0, 2, "aho-corasick 0..2 0..2"),
-    ("b,b,ab", "ab", 0, 1, "aho-corasick - -"),
-    ("", "ab", 0, 2, "none"),
-    ("a,,b", "ab", 0, 2, "none"),
+    (
+        b"Sherlock,Watson",
+        b"to Watson, Sherlock",
+        4,
+        18,
+        b"multi - -",
+    ),
+    (b"a,b,c,d", b"xxd", 0, 3, b"byteset 2..3 -"),
+    (b"a,b,c,d", b"xxd", 2, 3, b"byteset 2..3 2..3"),
+    (b"a,b,c,d", b"xxd", 0, 2, b"byteset - -"),
+    (b"a,b,c,a", b"xyz", 0, 3, b"byteset - -"),
+    (b"ab,c", b"xcab", 0, 4, b"aho-corasick 1..2 -"),
+    (b"ab,a", b"xab", 0, 3, b"aho-corasick 1..3 -"),
+    (b"a,ab", b"xab", 0, 3, b"aho-corasick 1..2 -"),
+    (b"ab,b", b"xab", 2, 3, b"aho-corasick 2..3 2..3"),
+    (b"abc,c", b"abd", 0, 3, b"aho-corasick - -"),
+    (b"abcd,c", b"xabcx", 0, 5, b"aho-corasick 3..4 -"),
+    (b"abcd,bc,c", b"xabcx", 0, 5, b"aho-corasick 2..4 -"),
+    (b"b,b,ab", b"ab", 0, 2, b"aho-corasick 0..2 0..2"),
+    (b"b,b,ab", b"ab", 0, 1, b"aho-corasick - -"),
+    (b"", b"ab", 0, 2, b"none"),
+    (b"a,,b", b"ab", 0, 2, b"none"),
 ];
 
 /// The needles that a text has, parted by commas.
-fn needles_of(alloc: Global, text: &str) -> Result<Vec<Vec<u8>>, Fail> {
+fn needles_of(alloc: Global, text: &[u8]) -> Result<Vec<Vec<u8>>, Fail> {
     let mut needles = Vec::new(alloc);
-    for needle in text.split(',') {
-        needles.push(Vec::from_slice(alloc, needle.as_bytes())?)?;
+    for needle in text.split(|byte| *byte == b',') {
+        needles.push(Vec::from_slice(alloc, needle)?)?;
     }
     Ok(needles)
 }
@@ -89,8 +95,8 @@ fn span_text(alloc: Global, found: Option<Span>) -> Result<String, Fail> {
 fn told(
     rt: &impl Abort,
     alloc: Global,
-    needles: &str,
-    text: &str,
+    needles: &[u8],
+    text: &[u8],
     start: usize,
     end: usize,
 ) -> Result<String, Fail> {
@@ -101,8 +107,8 @@ fn told(
     let Some(prefilter) = Prefilter::new(alloc, MatchKind::LeftmostFirst, &needles)? else {
         return Ok(format!(in alloc; "none")?);
     };
-    let found = span_text(alloc, prefilter.find(text.as_bytes(), span))?;
-    let prefix = span_text(alloc, prefilter.prefix(text.as_bytes(), span))?;
+    let found = span_text(alloc, prefilter.find(text, span))?;
+    let prefix = span_text(alloc, prefilter.prefix(text, span))?;
     Ok(format!(in alloc; "{} {found} {prefix}", prefilter.choice().name())?)
 }
 
@@ -110,7 +116,7 @@ fn told(
 fn searches_by_hand(rt: HostRuntime) -> Result<(), Fail> {
     for (needles, text, start, end, expected) in ROWS {
         let told = told(&rt, rt.alloc(), needles, text, start, end)?;
-        assert_eq!(rt; told.as_str(), expected);
+        assert_eq!(rt; told.as_bytes(), expected);
     }
     Ok(())
 }
@@ -152,7 +158,7 @@ fn crosses_threads<T: Send + Sync>(_value: &T) {}
 #[test]
 fn a_prefilter_says_what_it_is(rt: HostRuntime) -> Result<(), Fail> {
     let alloc = rt.alloc();
-    let needles = needles_of(alloc, "foo,bar")?;
+    let needles = needles_of(alloc, b"foo,bar")?;
     let prefilter = Prefilter::new(alloc, MatchKind::LeftmostFirst, &needles)?;
     let prefilter = prefilter.expect(&rt, "needles");
     crosses_threads(&prefilter);
