@@ -1,0 +1,4 @@
+pub mod ListLemmas
+pub mod NeedleLemmas
+pub mod ByteLemmas
+pub mod PlaceLemmas

@@ -1,0 +1,6 @@
+use Rattle.std.proofs.Common.{◌≡◌, map, take}
+use Rattle.std.specs.Vec.{vec_items}
+use Rattle.rx_prefilter.proofs.needles.copied.Given as goal
+
+abbrev pub invariant-loop-needle : goal.invariant-loop-needle
+invariant-loop-needle l = map vec_items l.copies.items ≡ map vec_items (take l.needle-index l.needles)

@@ -1,0 +1,5 @@
+pub mod Needles
+pub mod Choices
+pub mod Bytes
+pub mod Kinds
+pub mod Places

@@ -1,0 +1,67 @@
+ghost use Rattle.std.specs.Prelude.{◌≡◌, ◌≤◌, ℕ, List, [], length, map, IfOk};
+ghost use Rattle.rx_prefilter.specs.Needles.{span_at, first_span};
+ghost use Rattle.rx_prefilter.specs.Bytes.{single, HasTable};
+ghost use Rattle.rx_prefilter.specs.Choices.{greatest_length};
+
+use crate::bytes;
+use rx_search::{Memory, Span};
+use std::marker::Model;
+
+/// Needles of one byte, as a table of all bytes.
+#[derive(Drop)]
+pub(crate) struct ByteSet {
+    bytes: Vec<u8>,
+    is_needle: [bool; 256],
+}
+
+impl Model for ByteSet {
+    ghost Value = { List (List ℕ) };
+
+    ghost view = { λ s. map single s.bytes.items };
+
+    ghost invariant = { λ s. HasTable s.is_needle s.bytes.items };
+}
+
+impl ByteSet {
+    /// The needles of one byte that are these bytes.
+    pub(crate) fn new(bytes: Vec<u8>) -> ByteSet
+        ensures { result ≡ map single bytes.items }
+    {
+        let mut is_needle = [false; 256];
+        for byte in &bytes {
+            is_needle[*byte as usize] = true;
+        }
+        ByteSet { bytes, is_needle }
+    }
+
+    /// The first place from `from` on at which one of the bytes stands.
+    pub(crate) fn find(&self, text: &[u8], from: usize) -> Option<Span>
+        requires { from ≤ length text.now }
+        ensures { result ≡ first_span self.now text.now from }
+    {
+        for at in from..text.len() {
+            if self.is_needle[text[at] as usize] {
+                return Some(Span {
+                    start: at,
+                    end: at + 1,
+                });
+            }
+        }
+        None
+    }
+
+    /// Where one of the bytes stands, if one stands at `at`.
+    pub(crate) fn prefix(&self, text: &[u8], at: usize) -> Option<Span>
+        requires { at ≤ length text.now }
+        ensures { result ≡ span_at self.now text.now at }
+    {
+        bytes::prefix(&self.bytes, text, at)
+    }
+
+    /// The length of the longest needle.
+    pub(crate) fn max_needle_len(&self) -> usize
+        ensures { result ≡ greatest_length self.now }
+    {
+        if self.bytes.is_empty() { 0 } else { 1 }
+    }
+}
