@@ -4,13 +4,12 @@ use Rattle.std.specs.Prelude.{Bool, true, false, Option, Some, None, option_map,
 use Rattle.std.proofs.lemmas.List.{length-replicate, get_or_past}
 use Rattle.std.proofs.lemmas.Bool.Decides.{nat_tests}
 use Rattle.std.specs.Option.{option_or}
-use Rattle.rx_model.specs.Runs.{PriorityGraph, Passed, nowhere, and_at, Trace, found}
+use Rattle.rx_model.specs.Runs.{PriorityGraph, Passed, nowhere, Trace, found}
 use Rattle.rx_model.specs.Search.{Match, is_permitted, first_start, slot_value}
 use Rattle.rx_model.proofs.RunLemmas.{by_test}
 use Rattle.rx_model.proofs.FirstLemmas.{none-is-some, some-is, tells}
 use Rattle.rx_model.proofs.RiseLemmas.{found-end}
-use Rattle.rx_model.proofs.FoundLemmas.{found-prune, found-forget, option_map-or}
-use Rattle.rx_nfa.proofs.NextMatchLemmas.{first_start-alike}
+use Rattle.rx_model.proofs.FoundLemmas.{option_map-or}
 use Rattle.rx_search.specs.Matches.{MatchValue, match_value}
 use Rattle.rx_nfa.specs.Automaton.{at, automaton, state_at, forwards}
 use Rattle.rx_engines.specs.Walk.{Slots, answer, pending}

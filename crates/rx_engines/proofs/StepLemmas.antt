@@ -2,14 +2,13 @@
 use Rattle.std.proofs.Common.{◌≡◌, ◌⊎◌, ℕ, suc, ◌+◌, ◌≤◌, ◌<◌, List, [], ◌∷◌, length, drop, refl, sym, ◌∙◌, ap, subst, inl, inr, arith, get_or}
 use Rattle.std.proofs.Math.Seq.{drop-cons}
 use Rattle.std.proofs.lemmas.List.{drop_all}
-use Rattle.std.specs.Prelude.{true, false, ◌&&◌, Option, Some, None, option_map, All, nat_lt, nat_le}
+use Rattle.std.specs.Prelude.{true, false, Option, Some, None, option_map, All, nat_lt}
 use Rattle.std.specs.Option.{option_or}
-use Rattle.rx_model.specs.Runs.{Configuration, PriorityGraph, Passed, nowhere, and_at, same, Trace, with_write, found, first_some, IsBounded, NeverFalls}
-use Rattle.rx_model.proofs.RunLemmas.{by_test, same-true}
-use Rattle.rx_model.proofs.FoundLemmas.{found-accepted, found-prune, found-step, found-forget}
-use Rattle.std.proofs.lemmas.List.Elements.{All-nil, All-cons, All-head, All-tail}
+use Rattle.rx_model.specs.Runs.{PriorityGraph, Passed, nowhere, and_at, same, Trace, with_write, found, IsBounded, NeverFalls}
+use Rattle.rx_model.proofs.RunLemmas.{by_test}
+use Rattle.rx_model.proofs.FoundLemmas.{found-accepted, found-prune}
+use Rattle.std.proofs.lemmas.List.Elements.{All-nil, All-cons}
 use Rattle.std.proofs.lemmas.Bool.Decides.{nat_tests}
-use Rattle.rx_model.proofs.FirstLemmas.{none-is-some, some-is}
 use Rattle.rx_nfa.specs.Automaton.{automaton, route, read_byte, state_step, state_accepts, state_writes, NamesBelow, forwards, byte_of, byte_at, target_of}
 use Rattle.rx_nfa.specs.declared.state.Transition.{Transition}
 use Rattle.rx_nfa.specs.declared.state.State.TheVariants.{ByteRange, Sparse, Look, Union, Capture, Fail, Match as Accepts}

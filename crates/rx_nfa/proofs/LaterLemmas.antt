@@ -7,11 +7,12 @@ use Rattle.std.proofs.lemmas.List.{get_or_past}
 use Rattle.std.proofs.lemmas.List.Elements.{All-get_or, All-nil, All-cons, All-append}
 use Rattle.std.proofs.lemmas.Option.{get_or_from_slice_get, slice_get_within}
 use Rattle.rx_model.specs.Look as model
-use Rattle.rx_model.specs.Runs.{PriorityGraph, Passed, nowhere, and_at, Trace, found, NeverFalls}
+use Rattle.rx_model.specs.Runs.{Sieve, sieved, PriorityGraph, Passed, nowhere, and_at, Trace, found, NeverFalls}
 use Rattle.rx_model.specs.Search.{Anchor, free, anchored, anchored_to, is_anchored, is_permitted, first_start, starts}
 use Rattle.rx_model.proofs.RunLemmas.{by_test}
 use Rattle.rx_model.proofs.FirstLemmas.{some-is}
 use Rattle.rx_model.proofs.FoundLemmas.{found-prune, found-forget, option_map-or}
+use Rattle.rx_model.proofs.SieveLemmas.{sieved-bounded, sieved-rises, sieved-none}
 use Rattle.rx_model.proofs.OptionLemmas.{or-assoc, or-none_right}
 use Rattle.rx_search.specs.Matches.{HalfMatchValue, half_match_value}
 use Rattle.rx_nfa.specs.Automaton.{at, automaton, automaton_over, state_at, state_accepts, NamesBelow, Surroundings, forwards}
@@ -176,6 +177,15 @@ automaton-steps around states end = record {
   rises = automaton-rises around states end;
   steps = λ q i lt le. automaton-successors around states end q i lt le;
   accepts = λ q i lt le none. automaton-accepted around states end q i lt le ∙ none;
+}
+
+-- and so has a graph that accepts less
+pub sieved-steps : (ok : Sieve) (around : Surroundings) (states : List State) (end : ℕ) (g : PriorityGraph) → HasSteps around states end g → HasSteps around states end (sieved ok g)
+sieved-steps ok around states end g has_steps = record {
+  bounded = sieved-bounded ok g has_steps.bounded;
+  rises = sieved-rises ok g has_steps.rises;
+  steps = λ q i lt le. has_steps.steps q i lt le;
+  accepts = λ q i lt le none. sieved-none ok g (at q i) (has_steps.accepts q i lt le none);
 }
 
 module _ (nfa : Nfa) (range : IsInRange nfa) (utf8_empty : Bool) (text : List ℕ) (b a : ℕ) (in_order : a ≤ b) (anchor : Anchor) (start : ℕ) (begins : start_of nfa anchor ≡ Some start) where
