@@ -1,13 +1,14 @@
 -- Where a step leads: to the target of the byte, and by the byte and the look-arounds alone.
-use Rattle.std.proofs.Common.{◌≡◌, ℕ, ◌+◌, ◌-◌, ◌≤◌, List, [], ◌∷◌, length, Option, Some, None, refl, sym, ◌∙◌, ap, ⊎_elim, arith}
-use Rattle.std.specs.Prelude.{Bool, true, false, if◌then◌else◌, map, nat_lt}
+use Rattle.std.proofs.Common.{◌≡◌, ℕ, suc, ◌+◌, ◌-◌, ◌<◌, ◌≤◌, List, [], ◌∷◌, length, Option, Some, None, refl, sym, ◌∙◌, ap, ⊎_elim, arith}
+use Rattle.std.specs.Prelude.{Bool, true, false, ◌==◌, if◌then◌else◌, map, nat_lt}
 use Rattle.std.proofs.lemmas.Bool.{cases_lt}
 use Rattle.std.proofs.lemmas.Bool.Decides.{nat_tests}
 use Rattle.std.proofs.lemmas.List.{get_or_past}
+use Rattle.std.proofs.lemmas.Option.{slice_get-get_or}
 use Rattle.rx_model.specs.Look as model
 use Rattle.rx_model.proofs.RunLemmas.{by_test}
 use Rattle.rx_search.specs.Look.{kind_of, is_same_kind}
-use Rattle.rx_nfa.specs.Automaton.{at, go_on, read_byte, target_of, byte_before, Surroundings, onward, state_step, state_at, asks_for, automaton_over}
+use Rattle.rx_nfa.specs.Automaton.{at, byte_of, go_on, read_byte, target_of, byte_within, Surroundings, onward, state_step, state_at, asks_for, automaton_over}
 use Rattle.rx_nfa.specs.Row.{reading}
 use Rattle.rx_nfa.specs.declared.state.Transition.{Transition}
 use Rattle.rx_nfa.specs.declared.state.State.{State}
@@ -17,7 +18,7 @@ use Rattle.rx_nfa.proofs.RefinedLemmas.{reads-step}
 use Rattle.rx_nfa.proofs.RowLemmas.{same_transitions}
 
 -- a byte leads to its target
-pub read_byte-target : (byte : ℕ → ℕ) (end : ℕ) (ts : List Transition) (i : ℕ) → read_byte byte end ts i ≡ go_on (target_of ts (byte_before byte end i)) (i + 1)
+pub read_byte-target : (byte : ℕ → ℕ) (end : ℕ) (ts : List Transition) (i : ℕ) → read_byte byte end ts i ≡ go_on (target_of ts (byte_within byte end i)) (i + 1)
 read_byte-target byte end ts i = by_test (nat_lt i end) (λ e. rw e refl) (λ e. rw e refl)
 
 -- and where no byte is read nothing is a target
@@ -26,7 +27,7 @@ target-none ts None place empty = refl
 target-none ts (Some b) place empty = ap (λ xs. go_on (target_of xs (Some b)) place) (sym empty)
 
 pub target-reached : (around : Surroundings) (states : List State) (end q i : ℕ) (ts : List Transition) → reading (state_at states q) ≡ Some ts
-    → (automaton_over around states end).successors (at q i) ≡ go_on (target_of ts (byte_before around.byte end i)) (i + 1)
+    → (automaton_over around states end).successors (at q i) ≡ go_on (target_of ts (byte_within around.byte end i)) (i + 1)
 target-reached around states end q i ts is =
     ⊎_elim
     (λ past. let none : nat_lt i end ≡ false = grind (arith, nat_tests) in automaton-successors-past around states end q i past ∙ rw none refl)
@@ -35,7 +36,7 @@ target-reached around states end q i ts is =
     (λ lt. automaton-successors around states end q i lt le ∙ reads-step around end (state_at states q) ts is i ∙ read_byte-target around.byte end ts i)
     (λ beyond.
     let empty : ts ≡ [] = sym (same_transitions [] ts (sym (ap reading (get_or_past states q Fail beyond)) ∙ is)) in
-    automaton-successors-beyond around states end q i beyond ∙ target-none ts (byte_before around.byte end i) (i + 1) empty)
+    automaton-successors-beyond around states end q i beyond ∙ target-none ts (byte_within around.byte end i) (i + 1) empty)
     (cases_lt q (length states)))
     (cases_lt end i)
 
@@ -59,11 +60,11 @@ module _ (i j : ℕ) where
   goes None = refl
   goes (Some t) = let one : i + 1 - i ≡ j + 1 - j = omega arith in ap (λ n. (t, n) ∷ []) one
 
-module _ (here there : Surroundings) (end last i j : ℕ) (byte : byte_before here.byte end i ≡ byte_before there.byte last j) where
+module _ (here there : Surroundings) (end last i j : ℕ) (byte : byte_within here.byte end i ≡ byte_within there.byte last j) where
   reads-alike : (ts : List Transition) → map (onward i) (read_byte here.byte end ts i) ≡ map (onward j) (read_byte there.byte last ts j)
   reads-alike ts =
       ap (map (onward i)) (read_byte-target here.byte end ts i)
-      ∙ goes i j (target_of ts (byte_before here.byte end i))
+      ∙ goes i j (target_of ts (byte_within here.byte end i))
       ∙ ap (λ o. map (onward j) (go_on (target_of ts o) (j + 1))) byte
       ∙ ap (map (onward j)) (sym (read_byte-target there.byte last ts j))
 
@@ -100,3 +101,12 @@ accepted-alike here there states end last q i j le le' =
     (λ lt. automaton-accepted here states end q i lt le ∙ sym (automaton-accepted there states last q j lt le'))
     (λ beyond. automaton-accepted-beyond here states end q i beyond ∙ sym (automaton-accepted-beyond there states last q j beyond))
     (cases_lt q (length states))
+
+-- read backwards, the byte at a distance from the end is the one before that place
+pub byte-read-backwards : (text : List ℕ) (place : ℕ) → place < length text
+    → model.byte_before text (length text - place) ≡ Some (byte_of text (length text - suc place))
+byte-read-backwards text place inside =
+    let some : (length text - place == 0) ≡ false = grind (arith, nat_tests) in
+    let one : length text - place - 1 ≡ length text - suc place = omega arith in
+    let within : length text - suc place < length text = omega arith in
+    rw (some, one) (slice_get-get_or text (length text - suc place) 0 within)

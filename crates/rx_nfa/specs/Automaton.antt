@@ -46,12 +46,12 @@ backwards terminator text = record {
 }
 
 -- the byte at the place, if it lies before the end
-abbrev pub byte_before : (byte : ℕ → ℕ) → (end place : ℕ) → Option ℕ
-byte_before byte end place = if nat_lt place end then Some (byte place) else None
+abbrev pub byte_within : (byte : ℕ → ℕ) → (end place : ℕ) → Option ℕ
+byte_within byte end place = if nat_lt place end then Some (byte place) else None
 
 -- the same in a text that is read forwards
 abbrev pub byte_at : List ℕ → (end place : ℕ) → Option ℕ
-byte_at text end place = byte_before (byte_of text) end place
+byte_at text end place = byte_within (byte_of text) end place
 
 -- where the byte leads to, if there is one
 abbrev pub target_of : List Transition → Option ℕ → Option ℕ

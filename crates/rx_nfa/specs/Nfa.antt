@@ -30,7 +30,7 @@ pub record Nfa : Type 0 where
   pub looks : ℕ
   -- each of the patterns begins with the start of the text
   pub always_start_anchored : Bool
-  -- one of the patterns can match the empty string
+  -- one of the patterns can match the empty string, where each look-around counts as if it held
   pub has_empty : Bool
   -- how many states were accounted for the patterns
   pub accounted : ℕ

@@ -40,13 +40,13 @@ use std::alloc::Global;
 use std::slice;
 
 /// The most patterns that an NFA may have.
-pub const PATTERN_LIMIT: usize = 2147483647;
+pub const PATTERN_LIMIT: usize = PatternID::LIMIT;
 
 /// The most slots that a match may have.
 const SLOT_LIMIT: usize = 2147483646;
 
 /// The most states that an NFA may have.
-const STATE_LIMIT: usize = 2147483647;
+const STATE_LIMIT: usize = StateID::LIMIT;
 
 /// Makes NFAs of expressions.
 #[derive(Clone, Copy)]

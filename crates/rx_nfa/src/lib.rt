@@ -27,8 +27,8 @@ pub use lists::{
 pub use nfa::NFA;
 pub use runs::{
     a_byte_leads_to_its_target, a_step_depends_on_the_byte_and_the_look_arounds,
-    the_common_start_has_the_runs_of_each_pattern, the_runs_of_one_span_are_meant,
-    what_has_the_runs_has_the_first_runs,
+    a_text_read_backwards_is_met_from_its_end, the_common_start_has_the_runs_of_each_pattern,
+    the_runs_of_one_span_are_meant, what_has_the_runs_has_the_first_runs,
 };
 pub use sparse::matches_byte;
 pub use state::{Alternates, State, Transition, Transitions};

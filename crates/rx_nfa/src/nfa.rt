@@ -153,8 +153,8 @@ impl NFA {
         self.inner.look_set_any
     }
 
-    /// Whether one of the patterns can match the empty string. Where it is false, no match is empty: the law
-    /// `what_means_the_empty_string_can_be_empty` of rx_model.
+    /// Whether one of the patterns can match the empty string, where each look-around counts as if it held. Where it is
+    /// false, no match is empty: the law `what_means_the_empty_string_can_be_empty` of rx_model.
     pub fn has_empty(&self) -> bool
         ensures value { result ≡ self.now.has_empty }
     {

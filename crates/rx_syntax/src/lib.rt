@@ -8,8 +8,9 @@
 
 mod assertion;
 mod bytes;
+mod characters;
 mod laws;
-mod literal;
+pub mod literal;
 mod pattern;
 mod patterns;
 mod scalars;
