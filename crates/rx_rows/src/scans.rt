@@ -3,8 +3,7 @@
 ghost use Rattle.std.specs.Prelude.{◌<◌};
 
 use crate::words::words_of;
-use rx_meta::{Builder, Config, Regex};
-use rx_nfa::WhichCaptures;
+use rx_meta::Regex;
 use rx_scan::{BytesSure, KeptSure, Row, Slots, run, scan};
 use rx_search::{Gate, NonMaxUsize, Open};
 use std::alloc::Global;
@@ -128,32 +127,4 @@ fn the_gate_is_told_of_each_haystack_once_in_order(rt: HostRuntime) -> Result<()
     assert_eq!(rt; gate.told.load(Ordering::SeqCst), 0b1111);
     assert_eq!(rt; gate.calls.load(Ordering::SeqCst), 4);
     Ok(())
-}
-
-/// The rows of `a(b)?` in `xab`, told so.
-fn rows_under<R: Threads + Wait + Sync + Abort>(
-    rt: &R,
-    alloc: Global,
-    which: WhichCaptures,
-) -> Vec<Row> {
-    let mut builder = Builder::new();
-    builder.configure(Config::new().which_captures(which));
-    let regex = builder.build(alloc, "a(b)?").ok().expect(rt, "a regex");
-    let haystacks: [&[u8]; 1] = [b"xab"];
-    let rows = scan(rt, alloc, &regex, &haystacks, 1, &Open);
-    let mut rows = rows.ok().expect(rt, "memory");
-    rows.pop().expect(rt, "the rows of the haystack")
-}
-
-#[test]
-fn a_group_that_is_not_told_has_no_place(rt: HostRuntime) {
-    let rows = rows_under(&rt, rt.alloc(), WhichCaptures::Implicit);
-    assert_eq!(rt; rows.len(), 1);
-    expect_row(&rt, &rows[0], 0, &[Some(1), Some(3), None, None]);
-}
-
-#[test]
-fn there_are_no_rows_without_captures(rt: HostRuntime) {
-    let rows = rows_under(&rt, rt.alloc(), WhichCaptures::None);
-    assert_eq!(rt; rows.len(), 0);
 }
