@@ -147,8 +147,8 @@ cut accepts (q ∷ qs) = if is_some (accepts q) then q ∷ [] else q ∷ cut acc
 abbrev pub match_here : (accepts : ℕ → Option ℕ) → (i : ℕ) → List ℕ → Option HalfMatchValue
 match_here accepts i qs = option_map (λ p. record { pattern = p; offset = i }) (first_told accepts qs)
 
--- The graph has the steps of the automaton, up to the end, and accepts nothing at a state that accepts nothing. Where a
--- state accepts, the graph may accept or not, and its own pattern.
+-- The graph has the steps of the automaton, up to the end, and accepts nothing at a state that accepts nothing. What it
+-- accepts at the others is left open.
 pub record HasSteps (around : Surroundings) (states : List State) (end : ℕ) (g : PriorityGraph) : Type 0 where
   pub bounded : IsBounded g
   pub rises : NeverFalls g
