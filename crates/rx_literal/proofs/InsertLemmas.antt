@@ -3,7 +3,7 @@ use Rattle.std.proofs.Common.{◌≡◌, ℕ, zero, suc, ◌+◌, ◌-◌, ◌<�
 use Rattle.std.specs.Prelude.{not, ◌||◌}
 use Rattle.std.specs.List.{list_any, list_all}
 use lib.ListN.{set}
-use Rattle.std.proofs.lemmas.Bool.{and_parts}
+use Rattle.std.proofs.lemmas.Bool.{and_parts, not-true, not-false}
 use Rattle.std.proofs.lemmas.List.{drop_more}
 use Rattle.rx_model.proofs.RunLemmas.{by_test}
 use Rattle.rx_literal.specs.Literals.{Literal, exact, inexact, bytes_of, is_exact, loose}
@@ -42,14 +42,6 @@ or-left false b h = refl
 or-single : (a : Bool) → (a || false) ≡ a
 or-single true = refl
 or-single false = refl
-
-not-true : (b : Bool) → not b ≡ true → b ≡ false
-not-true true h = absurd (true≢false (sym h))
-not-true false h = refl
-
-not-false : (b : Bool) → not b ≡ false → b ≡ true
-not-false true h = refl
-not-false false h = absurd (true≢false h)
 
 -- l at its place, where none is the same
 pub insert-new : (l : Literal) (ms : List Literal) (k : ℕ) → list_all (follows by_bytes l) (take k ms) ≡ true → list_any (follows by_bytes l) (drop k ms) ≡ false

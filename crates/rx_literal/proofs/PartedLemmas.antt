@@ -2,7 +2,7 @@
 use Rattle.std.proofs.Common.{◌≡◌, ℕ, zero, suc, ◌+◌, ◌<◌, ◌≤◌, Bool, true, false, List, [], ◌∷◌, ◌++◌, length, take, drop, get_or, refl, sym, ap, ◌∙◌, arith, true≢false, append_assoc, append-nil}
 use Rattle.std.specs.Prelude.{not, ◌||◌, nat_eq, if◌then◌else◌}
 use Rattle.std.specs.List.{list_any, list_all, starts_with, remove}
-use Rattle.std.proofs.lemmas.Bool.{and_parts}
+use Rattle.std.proofs.lemmas.Bool.{and_parts, not-true, not-false}
 use Rattle.std.proofs.lemmas.List.{take_at, drop_at, length-take-le, drop_more}
 use Rattle.rx_model.proofs.RunLemmas.{by_test}
 use Rattle.rx_hir.proofs.JoinedLemmas.{drop-past}
@@ -178,14 +178,6 @@ module _ (es fs ls : List Literal) (l : Literal) (covered : (x : Literal) → ha
   pub preferred-kept : has_prefix_in es l ≡ false → preferred es (l ∷ ls) ≡ l ∷ preferred fs ls
   unfolding preferred
   preferred-kept h = rw h (ap (λ ys. l ∷ ys) rest-same)
-
-not-true : (b : Bool) → not b ≡ true → b ≡ false
-not-true true h = absurd (true≢false (sym h))
-not-true false h = refl
-
-not-false : (b : Bool) → not b ≡ false → b ≡ true
-not-false true h = refl
-not-false false h = absurd (true≢false h)
 
 -- a literal that is kept, and one that isn't
 module _ (es fs ls : List Literal) (i : ℕ) (l : Literal) (covered : (x : Literal) → has_prefix_in fs x ≡ (has_prefix_in es x || starts x l)) (lt : i < length ls) (at : l ≡ get_or ls i l)
