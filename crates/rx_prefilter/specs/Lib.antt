@@ -3,3 +3,4 @@ pub mod Choices
 pub mod Bytes
 pub mod Kinds
 pub mod Places
+pub mod Prefixes

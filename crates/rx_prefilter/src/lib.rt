@@ -2,7 +2,7 @@
 //!
 //! A `Prefilter` is built of its needles, by the kind of search that suits them (`Choice`), and its contract names the
 //! needles alone: `find` answers where the first needle of the list lies that begins at the least place of a part of a
-//! text, `prefix` the same of the place where that part begins. It stands on rx_search, and takes the searches for up
+//! text, `prefix` the same of the place where that part begins. It stands on rx_literal, and takes the searches for up
 //! to three bytes and for one needle from `memchr`.
 #![tactic(auto)]
 
@@ -14,6 +14,7 @@ mod memmem;
 mod multi;
 mod needles;
 mod prefilter;
+mod prefixes;
 
 pub use choice::Choice;
 pub use prefilter::Prefilter;

@@ -46,7 +46,9 @@ impl PlaceTable {
         })
     }
 
-    /// Where the first needle of the list lies that begins at the least place from `from` on.
+    /// Where the first needle of the list lies that begins at the least place from `from` on. It stays a function of
+    /// its own, and so does `place_by_place`, so that its loop runs in registers.
+    #[inline(never)]
     pub fn find(&self, text: &[u8], from: usize) -> Option<Span>
         requires table { IsPlaceTable self.now }
         requires within { from ≤ length text.now }
@@ -77,6 +79,7 @@ impl PlaceTable {
     }
 
     /// The same, place by place.
+    #[inline(never)]
     fn place_by_place(&self, text: &[u8], at: usize) -> Option<Span>
         requires table { IsPlaceTable self.now }
         requires within { at + self.now.stride < length text.now }
