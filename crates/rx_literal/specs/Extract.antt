@@ -30,7 +30,7 @@ abbrev pub with_empty : (greedy : Bool) → Seq → Seq
 with_empty true ss = union ss one_empty
 with_empty false ss = union one_empty ss
 
--- no more than one copy
+-- the greatest count is one
 abbrev pub at_most_one : Option ℕ → Bool
 at_most_one None = false
 at_most_one (Some m) = nat_eq m 1

@@ -1,6 +1,6 @@
 //! Literals: what every match of an expression begins with, and what it ends with.
 //!
-//! `prefixes` and `suffixes` give a sequence of literals, each exact, where it is a whole match, or inexact.
+//! `prefixes` and `suffixes` give a sequence of literals, each exact, where it is the whole of what was taken, or inexact.
 //! A sequence of prefixes is trimmed for one kind of matches. Contracts say that each result is the value of a
 //! definition, and laws say what the definitions' values tell of each match. It stands on rx_hir.
 #![tactic(auto)]

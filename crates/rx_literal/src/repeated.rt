@@ -32,7 +32,7 @@ pub(crate) fn repeated(
     }
 }
 
-/// The literals of the body, inexact unless there is at most one copy.
+/// The literals of the body, inexact unless the greatest count is one.
 fn exact_once(max: Option<u32>, body: Seq) -> Seq
     ensures { result ≡ (if at_most_one max then body else loosened body) }
 {
