@@ -1,8 +1,9 @@
 #!/usr/bin/env python3
-"""Sees that each must-fail edit can be applied, before anything is proved.
+"""Sees that each wrong body can be put in, before anything is proved.
 
-Each `old:` text of crates/*/must-fail/*.edit is to stand once in the file that the edit names, as the pairs before it
-left that file. Prints each edit of which that is not so, and ends with status 1 if there is one.
+Each `old:` text of crates/CRATE/must-fail/*.edit and of tests/wrong-bodies/CRATE/*.edit is to stand once in the file that
+the edit names, as the pairs before it left that file. Prints each edit of which that is not so, and ends with status 1 if
+there is one.
 """
 import glob
 import os
@@ -11,9 +12,8 @@ import sys
 TOP = os.path.dirname(os.path.dirname(os.path.abspath(__file__)))
 
 
-def fault(path):
-    """Why the edit cannot be applied, or nothing."""
-    crate = os.path.dirname(os.path.dirname(path))
+def fault(path, crate):
+    """Why the edit of the crate in this folder cannot be applied, or nothing."""
     texts, name, old, pairs = {}, None, None, 0
     with open(path, encoding='utf-8') as edit:
         lines = edit.read().split('\n')
@@ -40,8 +40,11 @@ def fault(path):
 
 def main():
     bad = 0
-    for path in sorted(glob.glob(os.path.join(TOP, 'crates', '*', 'must-fail', '*.edit'))):
-        why = fault(path)
+    edits = [(path, os.path.dirname(os.path.dirname(path))) for path in glob.glob(os.path.join(TOP, 'crates', '*', 'must-fail', '*.edit'))]
+    for path in glob.glob(os.path.join(TOP, 'tests', 'wrong-bodies', '*', '*.edit')):
+        edits.append((path, os.path.join(TOP, 'crates', os.path.basename(os.path.dirname(path)))))
+    for path, crate in sorted(edits):
+        why = fault(path, crate)
         if why:
             bad += 1
             print('%s: %s' % (os.path.relpath(path, TOP), why))

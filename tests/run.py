@@ -25,7 +25,7 @@ import subprocess
 import sys
 
 FOLDER = os.path.dirname(os.path.abspath(__file__))
-SECONDS = 120
+SECONDS = 1200
 
 
 class BadTable(Exception):

@@ -1,17 +1,14 @@
 //! `rx_bench ENGINE PATTERN` searches each line of standard input for the successive matches of the pattern, and prints
-//! their number, the bytes of the lines, and the time that the searches took. `rx_bench literals PATTERN` prints how many
-//! literals begin the pattern's matches, and how many states its NFA has, with the time that each took.
+//! their number, the bytes of the lines, and the time that the searches took.
 #![tactic(auto)]
 
 mod compile;
 mod engine;
 mod failure;
 mod finders;
-mod literals;
 
 use engine::Engine;
 use failure::Failure;
-use literals::{count_prefixes, count_states, expression};
 use std::process::ExitCode;
 use std::rt::{Env, Runtime};
 use std::time::Instant;
@@ -34,30 +31,12 @@ fn bench<R: Runtime + AllocGlobal>(rt: &R) -> Result<(), Failure> {
     let [engine, pattern] = words.as_slice() else {
         return Err(Failure::Usage);
     };
-    if engine.as_str() == "literals" {
-        return bench_literals(rt, pattern.as_str());
-    }
     let mut engine = Engine::new(rt.alloc(), engine.as_str(), pattern.as_str())?;
     let text = io::read_to_string(rt.alloc(), rt.reader())?;
     let start = Instant::now(rt)?;
     let count = engine.count_in_lines(text.as_str())?;
     let time = start.elapsed(rt)?.as_nanos();
     println!(rt; "matches {count} bytes {} nanoseconds {time}", text.len())?;
-    Ok(())
-}
-
-/// Makes the literals and the NFA of the pattern, and prints the figures of both.
-fn bench_literals<R: Runtime + AllocGlobal>(rt: &R, pattern: &str) -> Result<(), Failure> {
-    let hir = expression(rt.alloc(), pattern)?;
-    let start = Instant::now(rt)?;
-    let literals = count_prefixes(rt.alloc(), &hir)?;
-    let extracting = start.elapsed(rt)?.as_nanos();
-    let start = Instant::now(rt)?;
-    let states = count_states(rt.alloc(), &hir)?;
-    let building = start.elapsed(rt)?.as_nanos();
-    println!(rt;
-        "literals {literals} nanoseconds {extracting} states {states} nanoseconds {building}"
-    )?;
     Ok(())
 }
 

@@ -8,9 +8,8 @@
 
 mod assertion;
 mod bytes;
-mod characters;
 mod laws;
-pub mod literal;
+mod literal;
 mod pattern;
 mod patterns;
 mod scalars;

@@ -1,6 +1,6 @@
 use Rattle.std.proofs.Common.{◌≡◌, ◌++◌, map, drop}
 use Rattle.rx_syntax.specs.Literals.{in_either_case}
-use Rattle.rx_syntax.proofs.characters.push_each.Given as goal
+use Rattle.rx_syntax.proofs.literal.push_each.Given as goal
 
 abbrev pub invariant-loop-c : goal.invariant-loop-c
 invariant-loop-c l =
