@@ -2,11 +2,12 @@
 use Rattle.std.specs.Prelude.{Option}
 use Rattle.rx_model.specs.Search.{Match}
 use Rattle.rx_search.specs.Input.{InputValue}
-use Rattle.rx_engines.specs.Engine.{next_match_within, answer_in}
+use Rattle.rx_nfa.specs.NextMatch.{next_match_in}
+use Rattle.rx_engines.specs.Engine.{answer_in}
 use Rattle.rx_bench.specs.declared.engine.Engine.{Engine}
 use Rattle.rx_bench.specs.declared.engine.Engine.TheVariants.{PikeVM, Backtrack}
 
 -- the match that a search of an input answers
 abbrev pub answer_of : Engine → InputValue → Option Match
 answer_of (PikeVM e) v = answer_in e.vm v
-answer_of (Backtrack e) v = next_match_within e.backtracker v
+answer_of (Backtrack e) v = next_match_in e.backtracker v

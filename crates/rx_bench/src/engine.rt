@@ -70,6 +70,8 @@ impl Finder for Engine {
 
     ghost searches = { answer_of };
 
+    ghost promises = { λ _ _. Unit {0} };
+
     fn find(&mut self, input: &Input<'_>) -> Result<Option<Match>, MatchError> {
         match self {
             Engine::PikeVM(finder) => finder.find(input),

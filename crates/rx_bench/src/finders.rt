@@ -1,5 +1,6 @@
 //! The engines as finders. Each search fills all slots, as a caller who wants the groups asks for.
-ghost use Rattle.rx_engines.specs.Engine.{next_match_within, answer_in, Fits as PikeVMFits};
+ghost use Rattle.rx_nfa.specs.NextMatch.{next_match_in};
+ghost use Rattle.rx_engines.specs.Engine.{answer_in, Fits as PikeVMFits};
 ghost use Rattle.rx_engines.specs.Bounded.{Fits as BacktrackFits};
 
 use rx_engines::{backtrack, pikevm};
@@ -40,6 +41,8 @@ impl Finder for PikeVM {
 
     ghost searches = { λ f v. answer_in f.vm v };
 
+    ghost promises = { λ _ _. Unit {0} };
+
     fn find(&mut self, input: &Input<'_>) -> Result<Option<Match>, MatchError> {
         Ok(self.vm.find_slots(&mut self.cache, input, &mut self.slots))
     }
@@ -62,7 +65,9 @@ impl Backtrack {
 impl Finder for Backtrack {
     type Error = MatchError;
 
-    ghost searches = { λ f v. next_match_within f.backtracker v };
+    ghost searches = { λ f v. next_match_in f.backtracker v };
+
+    ghost promises = { λ _ _. Unit {0} };
 
     fn find(&mut self, input: &Input<'_>) -> Result<Option<Match>, MatchError> {
         self.backtracker

@@ -6,4 +6,5 @@ pub mod ScalarLemmas
 pub mod ByteLemmas
 pub mod FoldLemmas
 pub mod JoinedLemmas
+pub mod EarlyLemmas
 mod Rows

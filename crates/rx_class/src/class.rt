@@ -1,9 +1,11 @@
 //! Classes of scalars and of bytes.
-ghost use Rattle.std.specs.Prelude.{◌≡◌, [], length, ◌==◌};
+ghost use Rattle.std.specs.Prelude.{◌≡◌, [], length, ◌==◌, IfOk};
 ghost use Rattle.rx_class.specs.Ranges.{AreScalarRanges, AreByteRanges, only_member, is_ascii};
 
+use rx_search::Memory;
 use std::alloc::{AllocError, Global};
 use std::marker::Model;
+use std::sync::Arc;
 
 /// A class.
 #[derive(Drop)]
@@ -14,21 +16,23 @@ pub enum Class {
     Bytes(ClassBytes),
 }
 
-/// Scalars, which a contract sees as the fewest ranges that hold them, in ascending order.
+/// Scalars, which a contract sees as the fewest ranges that hold them, in ascending order. Copies of a class share its
+/// ranges.
 #[derive(Drop)]
 pub struct ClassUnicode {
-    pub(crate) ranges: Vec<(char, char)>,
+    pub(crate) ranges: Arc<Vec<(char, char)>>,
 }
 
 impl Model for ClassUnicode {
     ghost use Rattle.std.specs.Prelude.{List, ℕ};
+    ghost use Rattle.std.specs.Arc.{arc_value};
     ghost use Rattle.rx_class.specs.Ranges.{AreScalarRanges};
 
     ghost Value = { List (ℕ × ℕ) };
 
-    ghost view = { λ c. c.ranges.items };
+    ghost view = { λ c. (arc_value c.ranges).items };
 
-    ghost invariant = { λ c. AreScalarRanges c.ranges.items };
+    ghost invariant = { λ c. AreScalarRanges (arc_value c.ranges).items };
 }
 
 /// Bytes, which a contract sees as the fewest ranges that hold them, in ascending order.
@@ -50,12 +54,20 @@ impl Model for ClassBytes {
 
 impl ClassUnicode {
     /// Of no scalars.
-    pub fn empty(alloc: Global) -> ClassUnicode
-        ensures { result ≡ [] }
+    pub fn empty(alloc: Global) -> Result<ClassUnicode, Memory>
+        ensures { IfOk result (λ c. c ≡ []) }
     {
-        ClassUnicode {
-            ranges: Vec::new(alloc),
-        }
+        ClassUnicode::of(alloc, Vec::new(alloc))
+    }
+
+    /// Of fewest ranges.
+    pub(crate) fn of(alloc: Global, ranges: Vec<(char, char)>) -> Result<ClassUnicode, Memory>
+        requires { AreScalarRanges ranges.items }
+        ensures { IfOk result (λ c. c ≡ ranges.items) }
+    {
+        Ok(ClassUnicode {
+            ranges: Arc::new(alloc, ranges)?,
+        })
     }
 
     /// The ranges, each from its first member to its last.
@@ -88,7 +100,7 @@ impl ClassUnicode {
     pub fn is_ascii(&self) -> bool
         ensures { result ≡ is_ascii self.now }
     {
-        match self.ranges.last() {
+        match self.ranges().last() {
             Some((_, greatest)) => *greatest <= '\u{7F}',
             None => true,
         }
@@ -148,8 +160,9 @@ impl Clone for ClassUnicode {
     ghost is_clone = { λ class copy. copy ≡ class };
 
     fn clone(&self) -> Result<ClassUnicode, AllocError> {
-        let ranges = Vec::from_slice(*self.ranges.allocator(), &self.ranges)?;
-        Ok(ClassUnicode { ranges })
+        Ok(ClassUnicode {
+            ranges: Arc::try_clone(&self.ranges)?,
+        })
     }
 }
 

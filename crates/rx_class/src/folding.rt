@@ -13,8 +13,9 @@ impl ClassUnicode {
         ensures { IfOk result (λ c. c ≡ folded self.now) }
     {
         let alloc = *self.ranges.allocator();
-        let mut folded = Vec::from_slice(alloc, &self.ranges)?;
-        for (low, high) in &self.ranges {
+        let ranges = self.ranges();
+        let mut folded = Vec::from_slice(alloc, ranges)?;
+        for (low, high) in ranges {
             push_joined(&mut folded, *low, *high)?;
         }
         ClassUnicode::new(alloc, &folded)

@@ -1,5 +1,5 @@
 //! Laws of classes: which members they have.
-ghost use Rattle.std.specs.Prelude.{◌≡◌, ◌↔◌, ◌<◌, ◌≤◌, ℕ, not, ◌||◌, IsTrue, List};
+ghost use Rattle.std.specs.Prelude.{◌≡◌, ◌↔◌, ◌<◌, ◌≤◌, ℕ, not, ◌||◌, ◌++◌, IsTrue, List};
 ghost use Rattle.std.specs.Char.{IsScalar};
 ghost use Rattle.rx_model.specs.Text.{is_member};
 ghost use Rattle.rx_class.specs.Bytes.{byte_complement, byte_folded, other_case};
@@ -29,6 +29,18 @@ pub fn union_holds_the_members()
         → AreScalarRanges (union next_scalar xs ys) }
     ensures bytes { (xs ys : List (ℕ × ℕ)) (b : ℕ) → is_member (union next_byte xs ys) b ≡ (is_member xs b || is_member ys b) }
     ensures byte_ranges { (xs ys : List (ℕ × ℕ)) → AreByteRanges (union next_byte xs ys) }
+{}
+
+/// The ranges that were gathered so far may be merged at any time: the class of all ranges stays the same. And a class
+/// whose members are already there changes nothing, also after further ranges.
+pub fn ranges_may_be_merged_early()
+    ensures scalars { (xs ys : List (ℕ × ℕ)) → HaveScalarEnds xs → HaveScalarEnds ys
+        → fewest next_scalar (fewest next_scalar xs ++ ys) ≡ fewest next_scalar (xs ++ ys) }
+    ensures bytes { (xs ys : List (ℕ × ℕ)) → fewest next_byte (fewest next_byte xs ++ ys) ≡ fewest next_byte (xs ++ ys) }
+    ensures held { (xs ys zs : List (ℕ × ℕ)) → HaveScalarEnds xs → HaveScalarEnds ys → HaveScalarEnds zs
+        → union next_scalar xs ys ≡ xs → union next_scalar (union next_scalar xs zs) ys ≡ union next_scalar xs zs }
+    ensures twice { (xs ys : List (ℕ × ℕ)) → HaveScalarEnds xs → HaveScalarEnds ys
+        → union next_scalar (union next_scalar xs ys) ys ≡ union next_scalar xs ys }
 {}
 
 /// The complement of a class holds exactly what the class doesn't hold, in fewest ranges: among the scalars, or

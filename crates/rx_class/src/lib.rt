@@ -7,13 +7,15 @@
 mod bytes;
 mod class;
 mod folding;
+mod gathered;
 mod laws;
 mod scalars;
 #[cfg(test)]
 mod tests;
 
 pub use class::{Class, ClassBytes, ClassUnicode};
+pub use gathered::GatheredUnicode;
 pub use laws::{
     ascii_classes_have_ascii_members, complement_holds_the_rest, fewest_ranges_hold_the_members,
-    folding_holds_the_orbits, union_holds_the_members,
+    folding_holds_the_orbits, ranges_may_be_merged_early, union_holds_the_members,
 };

@@ -14,10 +14,7 @@ impl ClassUnicode {
     pub fn new(alloc: Global, ranges: &[(char, char)]) -> Result<ClassUnicode, Memory>
         ensures { IfOk result (λ c. c ≡ fewest next_scalar ranges.now) }
     {
-        let mut sorted = Vec::from_slice(alloc, ranges)?;
-        sorted.sort_unstable_by_key(|range| range.0);
-        let ranges = fewest(alloc, &sorted)?;
-        Ok(ClassUnicode { ranges })
+        ClassUnicode::of(alloc, merged(alloc, ranges)?)
     }
 
     /// The scalars in either class.
@@ -34,9 +31,19 @@ impl ClassUnicode {
     pub fn complement(&self, alloc: Global) -> Result<ClassUnicode, Memory>
         ensures { IfOk result (λ c. c ≡ complement self.now) }
     {
-        let ranges = ranges_outside(alloc, &self.ranges)?;
-        Ok(ClassUnicode { ranges })
+        ClassUnicode::of(alloc, ranges_outside(alloc, &self.ranges)?)
     }
+}
+
+/// The fewest ranges of ranges in any order.
+pub(crate) fn merged(alloc: Global, ranges: &[(char, char)]) -> Result<Vec<(char, char)>, Memory>
+    ensures value { IfOk result (λ v. v.items ≡ fewest next_scalar ranges.now) }
+    ensures fewest { IfOk result (λ v. AreScalarRanges v.items) }
+{
+    let mut sorted = Vec::from_slice(alloc, ranges)?;
+    sorted.sort_unstable_by_key(|range| range.0);
+    let found = fewest(alloc, &sorted)?;
+    Ok(found)
 }
 
 /// The scalar after this one, if there is one.

@@ -41,7 +41,7 @@ fn complements(rt: HostRuntime) -> Result<(), Fail> {
         rest.ranges(),
         [('\0', 'a'), ('\u{E000}', char::MAX)].as_slice()
     );
-    let all = ClassUnicode::empty(alloc).complement(alloc)?;
+    let all = ClassUnicode::empty(alloc)?.complement(alloc)?;
     assert_eq!(rt; all.ranges(), [('\0', char::MAX)].as_slice());
     let rest = ClassBytes::new(alloc, &[(b'a', b'a')])?.complement(alloc)?;
     assert_eq!(rt; rest.ranges(), [(0, 0x60), (0x62, 0xFF)].as_slice());

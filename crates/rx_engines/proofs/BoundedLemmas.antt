@@ -10,18 +10,20 @@ use Rattle.rx_model.specs.Search.{Patterns, told_of, Match, is_permitted, first_
 use Rattle.rx_model.proofs.RunLemmas.{by_test}
 use Rattle.rx_model.proofs.FirstLemmas.{none-is-some, some-is}
 use Rattle.rx_model.proofs.RiseLemmas.{found-end}
-use Rattle.rx_search.specs.Input.{InputValue, next_in}
+use Rattle.rx_search.specs.Input.{InputValue, next_in, span_len}
 use Rattle.rx_search.specs.Matches.{match_value, MatchValue, HalfMatchValue}
+use Rattle.rx_search.specs.Told.{HasSlots}
+use Rattle.rx_nfa.specs.NextMatch.{next_match_in}
 use Rattle.rx_nfa.specs.Automaton.{at, forwards}
-use Rattle.rx_nfa.specs.Nfa.{Nfa, IsInRange}
+use Rattle.rx_nfa.specs.Nfa.{Nfa, IsInRange, IsNfaOf}
 use Rattle.rx_nfa.proofs.AutomatonLemmas.{automaton-bounded, automaton-rises, automaton-accepts-within}
 use Rattle.rx_nfa.proofs.NextMatchLemmas.{next_match_of-patterns, next_match_of-slot, next_match_of-within}
-use Rattle.rx_engines.specs.Engine.{next_match_within, IsNfaOf, IsSearchOf, HasSlots}
+use Rattle.rx_engines.specs.Engine.{IsSearchOf}
 use Rattle.rx_engines.specs.Walk.{Slots, Answer, answer, write_all}
 use Rattle.rx_engines.specs.Backtrack.{extent, frames_of_span, returned}
 use Rattle.rx_engines.specs.Search.{graph_for}
 use Rattle.rx_engines.specs.Simulation.{frames_of_states}
-use Rattle.rx_engines.specs.Bounded.{max_len, span_len}
+use Rattle.rx_engines.specs.Bounded.{max_len}
 use Rattle.rx_engines.specs.declared.search.Search.{Search}
 use Rattle.rx_engines.proofs.SlotLemmas.{slot-of_match, length-write_all}
 
@@ -95,16 +97,16 @@ match-answered s i n r slots slots' goal is le allowed empty next =
 -- What the search of an NFA finds.
 
 module _ (nfa : Nfa) (v : InputValue) where
-  pub patterns-met : v.end ≤ length v.haystack → (r : Patterns) → IsNfaOf nfa r → next_match_within nfa v ≡ option_map (told_of r.which_captures) (next_in r v)
+  pub patterns-met : v.end ≤ length v.haystack → (r : Patterns) → IsNfaOf nfa r → next_match_in nfa v ≡ option_map (told_of r.which_captures) (next_in r v)
   patterns-met within r of = next_match_of-patterns nfa r v.haystack v.end within of.runs nfa.utf8 v.anchor v.start of.utf8
 
-  pub found-in_span : (o : Option Match) → o ≡ next_match_within nfa v → (result : Option MatchValue) → result ≡ option_map match_value o → IfSome result (λ m. (v.start ≤ m.start) × (m.end ≤ v.end))
+  pub found-in_span : (o : Option Match) → o ≡ next_match_in nfa v → (result : Option MatchValue) → result ≡ option_map match_value o → IfSome result (λ m. (v.start ≤ m.start) × (m.end ≤ v.end))
   found-in_span None e result is = rw is tt
   found-in_span (Some m) e result is = let within = next_match_of-within nfa nfa.utf8 v.haystack v.anchor v.end v.start m (sym e) in rw is (within.0, within.2)
 
   -- a slot that the engine has no room for stays empty
-  pub slots-met : IsInRange nfa → {room : ℕ} → room ≡ nfa.slots → (o : Option Match) → o ≡ next_match_within nfa v → (slots : Slots)
-      → IfSome o (λ m. (k : ℕ) → k < length slots → get_or slots k None ≡ (if nat_lt k room then slot_value m k else None)) → IfSome (next_match_within nfa v) (HasSlots slots)
+  pub slots-met : IsInRange nfa → {room : ℕ} → room ≡ nfa.slots → (o : Option Match) → o ≡ next_match_in nfa v → (slots : Slots)
+      → IfSome o (λ m. (k : ℕ) → k < length slots → get_or slots k None ≡ (if nat_lt k room then slot_value m k else None)) → IfSome (next_match_in nfa v) (HasSlots slots)
   slots-met range {room} wide None e slots told = subst (λ x. IfSome x (HasSlots slots)) e tt
   slots-met range {room} wide (Some m) e slots told =
       subst (λ x. IfSome x (HasSlots slots)) e

@@ -2,27 +2,19 @@
 use Rattle.std.proofs.Common.{◌≡◌, ℕ, ◌+◌, ◌<◌, ◌≤◌, List, [], ◌∷◌, ◌++◌, length, refl, sym, ◌∙◌, ap, subst, arith, true≢false}
 use Rattle.std.specs.Prelude.{map, Bool, true, false, not, Option, Some, None, if◌then◌else◌}
 use Rattle.rx_nfa.specs.Automaton.{at, automaton}
-use Rattle.rx_engines.specs.Walk.{Slots, AllWithin, explore_all, Expands}
-use Rattle.rx_engines.specs.Backtrack.{frames_of, onto}
+use Rattle.rx_engines.specs.Walk.{Slots, AllWithin, explore_all, going_to, Expands}
+use Rattle.rx_engines.specs.Onward.{frames_of, onto}
 use Rattle.rx_engines.specs.declared.frame.Frame.{Frame}
 use Rattle.rx_nfa.specs.Automaton.{state_at}
 use Rattle.rx_nfa.specs.declared.state.State.{State}
 use Rattle.rx_engines.specs.declared.frame.Frame.TheVariants.{Explore}
 use Rattle.rx_nfa.specs.Ordered.{is_resting}
-use Rattle.rx_engines.specs.Simulation.{Visited, move_of, rests, going_on}
-
-pub union-length : (qs : List ℕ) (i : ℕ) (frames : List Frame) → length (explore_all (map (λ q. at q i) qs) ++ frames) ≡ length qs + length frames
-union-length [] i frames = omega arith
-union-length (q ∷ qs) i frames = let h = union-length qs i frames in omega arith
+use Rattle.rx_engines.specs.Simulation.{Visited, rests}
 
 -- on to the state where the test holds
 pub AllWithin-taken : (n i : ℕ) (b : Bool) (next : ℕ) (frames : List Frame) → next < n → AllWithin n i i frames → AllWithin n i i (explore_all (if b then at next i ∷ [] else []) ++ frames)
 AllWithin-taken n i true next frames lt here = (lt, omega arith, omega arith, here)
 AllWithin-taken n i false next frames lt here = here
-
-pub taken-length : (b : Bool) (next i : ℕ) (frames : List Frame) → length (explore_all (if b then at next i ∷ [] else []) ++ frames) ≤ 1 + length frames
-taken-length true next i frames = omega arith
-taken-length false next i frames = omega arith
 
 -- the frame that was taken off
 pub on_top : {n i : ℕ} {stack rest : List Frame} {frame : Frame} {q j : ℕ} → AllWithin n i i stack → stack ≡ frame ∷ rest → frame ≡ Explore q j
@@ -44,16 +36,12 @@ not-false true h = refl
 not-false false h = absurd (true≢false (sym h))
 
 -- on to a state, or back to the stack
-pub going-onto : (o : Option ℕ) (i : ℕ) (frames : List Frame) → going_on (move_of o) i frames ≡ frames_of (onto o i) frames
-going-onto None i frames = refl
-going-onto (Some q) i frames = refl
+pub going-onto : (T : Type 0) (o : Option ℕ) (i : ℕ) (frames : List Frame) → frames_of {T = T} (onto o i) frames ≡ going_to o i frames
+going-onto T None i frames = refl
+going-onto T (Some q) i frames = refl
 
-pub going-looked : (b : Bool) (next i : ℕ) (frames : List Frame) → going_on (move_of (if b then Some next else None)) i frames ≡ explore_all (if b then at next i ∷ [] else []) ++ frames
-going-looked true next i frames = refl
-going-looked false next i frames = refl
-
-pub Visited-onward : (terminator : ℕ) (states : List State) (text : List ℕ) (q i : ℕ) (o : Option ℕ) (frames left : List Frame) (slots slots' : Slots) → is_resting (state_at states q) ≡ false
-    → ((end : ℕ) → i ≤ end → Expands (automaton terminator states text end) (at q i) frames (going_on (move_of o) i left) slots slots')
-    → Visited terminator states text q i (rests (move_of o)) frames (going_on (move_of o) i left) slots slots'
-Visited-onward terminator states text q i None frames left slots slots' moves e = (moves, e)
-Visited-onward terminator states text q i (Some next) frames left slots slots' moves e = (moves, e)
+pub Visited-onward : (T : Type 0) (terminator : ℕ) (states : List State) (text : List ℕ) (q i : ℕ) (o : Option ℕ) (frames left : List Frame) (slots slots' : Slots) → is_resting (state_at states q) ≡ false
+    → ((end : ℕ) → i ≤ end → Expands (automaton terminator states text end) (at q i) frames (frames_of {T = T} (onto o i) left) slots slots')
+    → Visited terminator states text q i (rests {T = T} (onto o i)) frames (frames_of {T = T} (onto o i) left) slots slots'
+Visited-onward T terminator states text q i None frames left slots slots' moves e = (moves, e)
+Visited-onward T terminator states text q i (Some next) frames left slots slots' moves e = (moves, e)

@@ -11,14 +11,16 @@ use Rattle.rx_model.proofs.FirstLemmas.{none-is-some, some-is}
 use Rattle.rx_model.proofs.WithinLemmas.{next-later}
 use Rattle.rx_search.specs.Matches.{match_value, MatchValue}
 use Rattle.rx_search.specs.Input.{InputValue, next_in}
+use Rattle.rx_search.specs.Told.{IsMatchWith, HasSlots}
 use Rattle.rx_nfa.specs.Automaton.{at, automaton}
-use Rattle.rx_nfa.specs.Nfa.{Nfa, IsInRange}
-use Rattle.rx_nfa.specs.NextMatch.{start_of, first_from, next_match_of}
+use Rattle.rx_nfa.specs.Nfa.{Nfa, IsInRange, IsNfaOf}
+use Rattle.rx_nfa.specs.NextMatch.{start_of, first_from, next_match_of, next_match_in}
 use Rattle.rx_nfa.proofs.NextMatchLemmas.{first_start-alike, next_match_of-patterns, next_match_of-slot, next_match_of-within}
 use Rattle.rx_engines.specs.Search.{IsInside, next_until, next_of, first_place, stop_of, answer_of}
 use Rattle.rx_engines.specs.declared.search.Search.{Search}
 use Rattle.rx_engines.specs.Walk.{Slots}
-use Rattle.rx_engines.specs.Engine.{PikeVMValue, next_match_by, next_match_within, stop_in, answer_in, last_start, IsNfaOf, IsMatchWith, IsSearchOf, HasNoMatch, HasSlots}
+use Rattle.rx_engines.specs.Room.{Room}
+use Rattle.rx_engines.specs.Engine.{PikeVMValue, HasRoom, next_match_by, stop_in, answer_in, last_start, IsSearchOf, HasNoMatch}
 use Rattle.rx_engines.proofs.StartLemmas.{first_start-none, first_start-more, found-beyond}
 use Rattle.rx_engines.proofs.StageLemmas.{first_place-within, first_place-alike}
 
@@ -100,16 +102,20 @@ module _ (nfa : Nfa) (v : InputValue) (s : Search) (of : IsSearchOf nfa v s) whe
         end = omega arith;
       }
 
+  -- a cache that serves the engine has room for it
+  pub room-met : (room : Room) → HasRoom nfa.states nfa.slots room → HasRoom s.states.now s.slots room
+  room-met room enough = rw (of.states, of.slots) enough
+
   pub until-is : (end : ℕ) → v.start ≤ end → end ≤ v.end → next_until s end ≡ next_match_of nfa nfa.utf8 v.haystack v.anchor end v.start
   until-is end low high =
       (λ j. first_start (is_permitted (of.utf8 j) (of.text j)) (λ i. first_trace (automaton (of.matcher j) (of.states j) (of.text j) end) (at s.start i)) (of.last j + 1 - of.first j) (of.first j))
       ∙ next_match_of-until nfa nfa.utf8 v.haystack v.anchor end v.start v.end s.start low high of.start
 
-  pub next-is : next_of s ≡ next_match_within nfa v
+  pub next-is : next_of s ≡ next_match_in nfa v
   next-is = ap (next_until s) of.end ∙ until-is v.end of.in_order (omega arith)
 
 module _ (vm : PikeVMValue) (v : InputValue) where
-  pub patterns-agree : v.end ≤ length v.haystack → (r : Patterns) → IsNfaOf vm.nfa r → next_match_within vm.nfa v ≡ option_map (told_of r.which_captures) (next_in r v)
+  pub patterns-agree : v.end ≤ length v.haystack → (r : Patterns) → IsNfaOf vm.nfa r → next_match_in vm.nfa v ≡ option_map (told_of r.which_captures) (next_in r v)
   patterns-agree within r of = next_match_of-patterns vm.nfa r v.haystack v.end within of.runs vm.nfa.utf8 v.anchor v.start of.utf8
 
   -- where a search stops

@@ -20,7 +20,7 @@ has-where (x ∷ xs) q h =
     (λ t. (0, omega arith, (Decides-eqb x q).0 t))
     (λ t. let rest = has-where xs q (rw t at h) in (suc rest.0, (let lt = rest.1 in omega arith), rest.2))
 
-module _ (dense sparse : List ℕ) (ok : IsSparse dense sparse) (q : ℕ) where
+module _ (room : ℕ) (dense sparse : List ℕ) (ok : IsSparse room dense sparse) (q : ℕ) where
   -- where a member stands
   stands : has dense q ≡ true → (get_or sparse q 0 < length dense) × (get_or dense (get_or sparse q 0) 0 ≡ q)
   stands h =
@@ -43,13 +43,13 @@ module _ (dense sparse : List ℕ) (ok : IsSparse dense sparse) (q : ℕ) where
       (λ h. sym h)
 
 -- distinct numbers below n are at most n
-few : (dense sparse : List ℕ) → IsSparse dense sparse → (k : ℕ) → k ≤ length dense → left_at (length sparse) 0 (passed_at (take k dense) 0) + k ≤ length sparse
-few dense sparse ok zero le = let h = left-most (length sparse) 0 (passed_at (take 0 dense) 0) in omega arith
-few dense sparse ok (suc k) le =
-    let before = few dense sparse ok k (omega arith) in
+few : (room : ℕ) (dense sparse : List ℕ) → IsSparse room dense sparse → (k : ℕ) → k ≤ length dense → left_at room 0 (passed_at (take k dense) 0) + k ≤ room
+few room dense sparse ok zero le = let h = left-most room 0 (passed_at (take 0 dense) 0) in omega arith
+few room dense sparse ok (suc k) le =
+    let before = few room dense sparse ok k (omega arith) in
     let here = ok k (omega arith) in
     let new : has (take k dense) (get_or dense k 0) ≡ false = by_test (has (take k dense) (get_or dense k 0)) (λ h. absurd (clash (has-where (take k dense) (get_or dense k 0) h))) (λ h. h) in
-    let less = left-less (length sparse) 0 (get_or dense k 0) (take k dense) here.0 new in
+    let less = left-less room 0 (get_or dense k 0) (take k dense) here.0 new in
     let one : suc k ≡ k + 1 = omega arith in
     let longer : take (suc k) dense ≡ take k dense ++ get_or dense k 0 ∷ [] = ap (λ n. take n dense) one ∙ take_more dense k 0 (omega arith) in
     rw longer (omega arith)
@@ -63,24 +63,23 @@ few dense sparse ok (suc k) le =
         omega arith
 
 -- there is room for a new number
-pub sparse-room : (dense sparse : List ℕ) → IsSparse dense sparse → (q : ℕ) → q < length sparse → has dense q ≡ false → length dense < length sparse
-sparse-room dense sparse ok q lt new =
-    let all = few dense sparse ok (length dense) (omega arith) in
+pub sparse-room : (room : ℕ) (dense sparse : List ℕ) → IsSparse room dense sparse → (q : ℕ) → q < room → has dense q ≡ false → length dense < room
+sparse-room room dense sparse ok q lt new =
+    let all = few room dense sparse ok (length dense) (omega arith) in
     let whole : take (length dense) dense ≡ dense = take_all (length dense) dense (omega arith) in
-    let less = left-less (length sparse) 0 q dense lt new in
-    let same = ap (λ (xs : List ℕ). left_at (length sparse) 0 (passed_at xs 0)) whole in
+    let less = left-less room 0 q dense lt new in
+    let same = ap (λ (xs : List ℕ). left_at room 0 (passed_at xs 0)) whole in
     omega arith
 
-pub sparse-push : (dense sparse : List ℕ) → IsSparse dense sparse → (q : ℕ) → q < length sparse → has dense q ≡ false → IsSparse (dense ++ q ∷ []) (set sparse q (length dense))
-sparse-push dense sparse ok q lt new k below =
+pub sparse-push : (room : ℕ) (dense sparse : List ℕ) → IsSparse room dense sparse → room ≤ length sparse → (q : ℕ) → q < room → has dense q ≡ false → IsSparse room (dense ++ q ∷ []) (set sparse q (length dense))
+sparse-push room dense sparse ok wide q lt new k below =
     let long = length-append dense (q ∷ []) in
-    let size = length-set sparse q (length dense) in
     by_test (k == length dense)
     (λ e.
     let last : k ≡ length dense = (Decides-eqb k (length dense)).0 e in
     let gap : k - length dense ≡ 0 = omega arith in
     let here : get_or (dense ++ q ∷ []) k 0 ≡ q = get_or-append_right dense (q ∷ []) (length dense) k 0 refl (omega arith) ∙ ap (λ n. get_or (q ∷ []) n 0) gap in
-    rw here (omega arith, get_or-set_same sparse q (length dense) 0 lt ∙ sym last))
+    rw here (omega arith, get_or-set_same sparse q (length dense) 0 (omega arith) ∙ sym last))
     (λ e.
     let before : k < length dense = grind (arith, nat_tests) in
     let here : get_or (dense ++ q ∷ []) k 0 ≡ get_or dense k 0 = get_or_append_left dense (q ∷ []) 0 k before in

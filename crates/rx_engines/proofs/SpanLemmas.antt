@@ -9,13 +9,13 @@ use Rattle.rx_model.proofs.RunLemmas.{by_test}
 use Rattle.rx_model.proofs.FirstLemmas.{found-is_run, none-is-some, some-is, tells}
 use Rattle.rx_model.proofs.RiseLemmas.{trace-end, run-rises, mapped-some}
 use Rattle.rx_search.specs.Input.{InputValue}
+use Rattle.rx_search.specs.Told.{HasSlots, AreWithin}
 use Rattle.rx_nfa.specs.Automaton.{at, automaton, forwards}
 use Rattle.rx_nfa.specs.Nfa.{Nfa}
 use Rattle.rx_nfa.specs.NextMatch.{start_of, first_from, next_match_of}
 use Rattle.rx_nfa.specs.declared.state.State.{State}
 use Rattle.rx_nfa.proofs.AutomatonLemmas.{automaton-bounded, automaton-rises}
 use Rattle.rx_nfa.proofs.NextMatchLemmas.{first_start-from, next_match_of-within}
-use Rattle.rx_engines.specs.Engine.{HasSlots, AreWithin}
 use Rattle.rx_engines.specs.Walk.{Slots}
 
 -- a write before the others

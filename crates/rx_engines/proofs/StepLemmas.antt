@@ -13,9 +13,10 @@ use Rattle.rx_nfa.specs.Automaton.{automaton, route, read_byte, state_step, stat
 use Rattle.rx_nfa.specs.declared.state.Transition.{Transition}
 use Rattle.rx_nfa.specs.declared.state.State.TheVariants.{ByteRange, Sparse, Look, Union, Capture, Fail, Match as Accepts}
 use Rattle.rx_nfa.proofs.StateLemmas.{accepted-is, successors-is, written-is, state-known, names-known, read_byte-taken, read_byte-dead}
-use Rattle.rx_engines.specs.Simulation.{onto, act_of}
-use Rattle.rx_engines.specs.declared.pikevm.step.Action.{Action}
-use Rattle.rx_engines.specs.declared.pikevm.step.Action.TheVariants.{Accept, Read, Nothing}
+use Rattle.rx_engines.specs.Simulation.{act_of}
+use Rattle.rx_engines.specs.Onward.{onto}
+use Rattle.rx_engines.specs.declared.onward.Onward.{Onward}
+use Rattle.rx_engines.specs.declared.onward.Onward.TheVariants.{Stop, To, Back}
 use Rattle.rx_nfa.proofs.AutomatonLemmas.{automaton-bounded}
 use Rattle.rx_nfa.specs.Automaton.{at, state_at}
 use Rattle.rx_engines.specs.Walk.{answer, pending}
@@ -119,18 +120,18 @@ Stepping-begun e value = rw e (record { value = value })
 -- What a state does at a byte, as the machine says it.
 
 -- what the action tells of the state, in the graph
-abbrev Acts : List State → PriorityGraph → ℕ → ℕ → ℕ → Action → Type 0
-Acts states g end q i (Accept pattern) = (is_resting (state_at states q) ≡ true) × (g.accepted (at q i) ≡ Some pattern)
-Acts states g end q i (Read next) =
+abbrev Acts : List State → PriorityGraph → ℕ → ℕ → ℕ → Onward ℕ → Type 0
+Acts states g end q i (Stop pattern) = (is_resting (state_at states q) ≡ true) × (g.accepted (at q i) ≡ Some pattern)
+Acts states g end q i (To next after) =
     (is_resting (state_at states q) ≡ true) × (next < length states) × (i < end) × (g.accepted (at q i) ≡ None) × (g.written (at q i) ≡ None) × (g.successors (at q i) ≡ at next (i + 1) ∷ [])
-Acts states g end q i Nothing =
+Acts states g end q i Back =
     (is_resting (state_at states q) ≡ false) ⊎ ((g.accepted (at q i) ≡ None) × (g.successors (at q i) ≡ []))
 
 module _ (terminator : ℕ) (states : List State) (text : List ℕ) (end q i : ℕ) (names : All (NamesBelow (length states)) states) (state : q < length states) (place : i ≤ end) where
   -- a state that reads a byte by these transitions
-  acts-read : (s : State) (ts : List Transition) → state_at states q ≡ s → is_resting s ≡ true → state_accepts s ≡ None → state_writes s ≡ None → state_step (forwards terminator text) end s i ≡ read_byte (byte_of text) end ts i
-      → All (λ (t : Transition). t.next < length states) ts → Acts states (automaton terminator states text end) end q i (onto (target_of ts (byte_at text end i)))
-  acts-read s ts is rests none unwritten steps all =
+  acts-read : (s : State) (ts : List Transition) (after : ℕ) → state_at states q ≡ s → is_resting s ≡ true → state_accepts s ≡ None → state_writes s ≡ None → state_step (forwards terminator text) end s i ≡ read_byte (byte_of text) end ts i
+      → All (λ (t : Transition). t.next < length states) ts → Acts states (automaton terminator states text end) end q i (onto (target_of ts (byte_at text end i)) after)
+  acts-read s ts after is rests none unwritten steps all =
       by_test (nat_lt i end)
       (λ e. rw e (at_byte (grind (arith, nat_tests)) (route ts (get_or text i 0)) refl))
       (λ e. rw e (inr (accepts, goes ∙ read_byte-dead (byte_of text) end ts i (λ lt. absurd (grind (arith, nat_tests))))))
@@ -141,70 +142,70 @@ module _ (terminator : ℕ) (states : List State) (text : List ℕ) (end q i : �
       goes : (automaton terminator states text end).successors (at q i) ≡ read_byte (byte_of text) end ts i
       goes = successors-is (forwards terminator text) states end q i state place s is ∙ steps
 
-      at_byte : i < end → (o : Option ℕ) → route ts (get_or text i 0) ≡ o → Acts states (automaton terminator states text end) end q i (onto o)
+      at_byte : i < end → (o : Option ℕ) → route ts (get_or text i 0) ≡ o → Acts states (automaton terminator states text end) end q i (onto o after)
       at_byte lt None e = inr (accepts, goes ∙ read_byte-dead (byte_of text) end ts i (λ _. e))
       at_byte lt (Some next) e =
           (ap is_resting is ∙ rests, route-below (length states) ts (get_or text i 0) next all e, lt, accepts, written-is (forwards terminator text) states end q i state place s is ∙ unwritten, goes ∙ read_byte-taken (byte_of text) end ts next i lt e)
 
-  acts : (s : State) → state_at states q ≡ s → Acts states (automaton terminator states text end) end q i (act_of s (byte_at text end i))
-  acts (ByteRange low high next) is =
-      acts-read (ByteRange low high next) (record { start = low; end = high; next = next } ∷ []) is refl refl refl refl (only (names-known states q (ByteRange low high next) names state is))
+  acts : (s : State) (after : ℕ) → state_at states q ≡ s → Acts states (automaton terminator states text end) end q i (act_of s (byte_at text end i) after)
+  acts (ByteRange low high next) after is =
+      acts-read (ByteRange low high next) (record { start = low; end = high; next = next } ∷ []) after is refl refl refl refl (only (names-known states q (ByteRange low high next) names state is))
     where
       only : next < length states → All (λ (t : Transition). t.next < length states) (record { start = low; end = high; next = next } ∷ [])
       only lt = All-cons (λ (t : Transition). t.next < length states) (record { start = low; end = high; next = next }) [] lt (All-nil (λ (t : Transition). t.next < length states))
-  acts (Sparse transitions) is = acts-read (Sparse transitions) transitions is refl refl refl refl (names-known states q (Sparse transitions) names state is)
-  acts (Look look next) is = inl (ap is_resting is)
-  acts (Union alternates) is = inl (ap is_resting is)
-  acts (Capture next pattern slot) is = inl (ap is_resting is)
-  acts Fail is = inl (ap is_resting is)
-  acts (Accepts pattern) is = (ap is_resting is, accepted-is (forwards terminator text) states end q i state place (Accepts pattern) is)
+  acts (Sparse transitions) after is = acts-read (Sparse transitions) transitions after is refl refl refl refl (names-known states q (Sparse transitions) names state is)
+  acts (Look look next) after is = inl (ap is_resting is)
+  acts (Union alternates) after is = inl (ap is_resting is)
+  acts (Capture next pattern slot) after is = inl (ap is_resting is)
+  acts Fail after is = inl (ap is_resting is)
+  acts (Accepts pattern) after is = (ap is_resting is, accepted-is (forwards terminator text) states end q i state place (Accepts pattern) is)
 
   -- what was done with the state and the byte that were read
-  pub acts-known : (n : ℕ) (r : State) (b : Option ℕ) (a : Action) → n ≡ q → r ≡ get_or states n r → b ≡ byte_at text end i → a ≡ act_of r b → Acts states (automaton terminator states text end) end q i a
-  acts-known n r b a same read byte is =
-      subst (Acts states (automaton terminator states text end) end q i) (sym (is ∙ ap (act_of r) byte)) (acts r (state-known states n q r r same state read refl))
+  pub acts-known : (n : ℕ) (r : State) (b : Option ℕ) (after : ℕ) (a : Onward ℕ) → n ≡ q → r ≡ get_or states n r → b ≡ byte_at text end i → a ≡ act_of r b after → Acts states (automaton terminator states text end) end q i a
+  acts-known n r b after a same read byte is =
+      subst (Acts states (automaton terminator states text end) end q i) (sym (is ∙ ap (λ o. act_of r o after) byte)) (acts r after (state-known states n q r r same state read refl))
 
 -- What a state does where no byte may be read.
 
-abbrev idle : Action → Action
-idle (Accept pattern) = Accept pattern
-idle (Read next) = Nothing
-idle Nothing = Nothing
+abbrev idle : Onward ℕ → Onward ℕ
+idle (Stop pattern) = Stop pattern
+idle (To next after) = Back
+idle Back = Back
 
-idle-read : (ts : List Transition) (b : Option ℕ) → Nothing ≡ idle (onto (target_of ts b))
-idle-read ts None = refl
-idle-read ts (Some byte) = each (route ts byte)
+idle-read : (ts : List Transition) (b : Option ℕ) (after : ℕ) → Back ≡ idle (onto (target_of ts b) after)
+idle-read ts None after = refl
+idle-read ts (Some byte) after = each (route ts byte)
   where
-    each : (o : Option ℕ) → Nothing ≡ idle (onto o)
+    each : (o : Option ℕ) → Back ≡ idle (onto o after)
     each None = refl
     each (Some next) = refl
 
-act-idle : (s : State) (b : Option ℕ) → act_of s None ≡ idle (act_of s b)
-act-idle (ByteRange low high next) b = idle-read (record { start = low; end = high; next = next } ∷ []) b
-act-idle (Sparse transitions) b = idle-read transitions b
-act-idle (Look look next) b = refl
-act-idle (Union alternates) b = refl
-act-idle (Capture next pattern slot) b = refl
-act-idle Fail b = refl
-act-idle (Accepts pattern) b = refl
+act-idle : (s : State) (b : Option ℕ) (after : ℕ) → act_of s None after ≡ idle (act_of s b after)
+act-idle (ByteRange low high next) b after = idle-read (record { start = low; end = high; next = next } ∷ []) b after
+act-idle (Sparse transitions) b after = idle-read transitions b after
+act-idle (Look look next) b after = refl
+act-idle (Union alternates) b after = refl
+act-idle (Capture next pattern slot) b after = refl
+act-idle Fail b after = refl
+act-idle (Accepts pattern) b after = refl
 
 module _ (terminator : ℕ) (states : List State) (text : List ℕ) (q i : ℕ) (names : All (NamesBelow (length states)) states) (state : q < length states) (rows : List Row) where
   abbrev here : PriorityGraph
   here = automaton terminator states text i
 
   -- what was done with the state and some byte, in the graph that ends at this place
-  pub idle-known : (n : ℕ) (r : State) (b : Option ℕ) (a : Action) → n ≡ q → r ≡ get_or states n r → a ≡ act_of r b → Acts states here i q i (idle a)
-  idle-known n r b a same read is =
+  pub idle-known : (n : ℕ) (r : State) (b : Option ℕ) (after : ℕ) (a : Onward ℕ) → n ≡ q → r ≡ get_or states n r → a ≡ act_of r b after → Acts states here i q i (idle a)
+  idle-known n r b after a same read is =
       let no_byte : byte_at text i i ≡ None = let e : nat_lt i i ≡ false = grind (arith, nat_tests) in rw e refl in
-      acts-known terminator states text i q i names state (omega arith) n r None (idle a) same read (sym no_byte) (ap idle is ∙ sym (act-idle r b))
+      acts-known terminator states text i q i names state (omega arith) n r None after (idle a) same read (sym no_byte) (ap idle is ∙ sym (act-idle r b after))
 
-  pub idle-ends : (qs : List ℕ) (k : ℕ) (a : Action) → k < length qs → q ≡ get_or qs k 0 → Nothing ≡ idle a → Acts states here i q i (idle a)
+  pub idle-ends : (qs : List ℕ) (k : ℕ) (a : Onward ℕ) → k < length qs → q ≡ get_or qs k 0 → Back ≡ idle a → Acts states here i q i (idle a)
       → among states here nowhere i rows (drop k qs) ≡ among states here nowhere i rows (drop (k + 1) qs)
   idle-ends qs k a lt is ends acts =
       among-left states here nowhere i rows qs k q lt is
       ∙ ap (λ o. option_or o (among states here nowhere i rows (drop (k + 1) qs))) (thread-ends states here i rows q (automaton-bounded (forwards terminator text) states i) nowhere refl (subst (Acts states here i q i) (sym ends) acts))
 
-  pub idle-accepts : (qs : List ℕ) (k pattern : ℕ) → k < length qs → q ≡ get_or qs k 0 → Acts states here i q i (Accept pattern)
+  pub idle-accepts : (qs : List ℕ) (k pattern : ℕ) → k < length qs → q ≡ get_or qs k 0 → Acts states here i q i (Stop pattern)
       → among states here nowhere i rows (drop k qs) ≡ Some ((row_at rows q).0, record { pattern = pattern; end = i; slots = (row_at rows q).1 })
   idle-accepts qs k pattern lt is acts =
       among-left states here nowhere i rows qs k q lt is

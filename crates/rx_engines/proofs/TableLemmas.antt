@@ -1,6 +1,6 @@
 -- A row for each start, in a flat table of cells.
 use Rattle.std.proofs.Common.{◌≡◌, ℕ, zero, suc, ◌+◌, ◌*◌, ◌<◌, ◌≤◌, List, [], ◌∷◌, ◌++◌, length, take, drop, get_or, set, refl, ◌∙◌, ap, ap₂, arith, drop-drop, length-append, length-drop}
-use Rattle.std.proofs.lemmas.List.{take_at, drop_at, take-take, length-take, take-append-le, drop-append-le, drop-take}
+use Rattle.std.proofs.lemmas.List.{take_at, drop_at, take-take, length-take, get_or-take, take-append-le, drop-append-le, drop-take}
 use Rattle.std.proofs.lemmas.Nat.{row_fits}
 use Rattle.rx_engines.specs.Walk.{Slots}
 use Rattle.rx_engines.specs.Threads.{rows_of}
@@ -22,7 +22,7 @@ row-of width (s ∷ starts) cells (suc k) lt =
 rows_fit : (k n width : ℕ) → k < n → (m : ℕ) → suc n * width ≤ m → suc k * width ≤ m
 rows_fit k n width lt m le = let h = row_fits k width n width (omega arith) (omega arith) in omega arith
 
-length-take-le : (n : ℕ) (xs : Slots) → n ≤ length xs → length (take n xs) ≡ n
+length-take-le : {A : Type 0} (n : ℕ) (xs : List A) → n ≤ length xs → length (take n xs) ≡ n
 length-take-le n xs le = let h = length-take n xs in omega arith
 
 pub row-set : (width : ℕ) (starts : List ℕ) (cells row : Slots) (k s : ℕ) → k < length starts → length starts * width ≤ length cells → length row ≡ width
@@ -44,10 +44,6 @@ row-set width (x ∷ starts) cells row (suc k) s lt room wide =
     ∙ ap (λ xs. xs ++ (row ++ drop width (drop (k * width) (drop width cells)))) (drop-take width (k * width) cells))
     ∙ row-set width starts (drop width cells) row k s (omega arith) (let d = length-drop width cells in omega arith) wide))
 
-pub rows-fit : (n width widest m : ℕ) → width ≤ widest → n * widest ≤ m → n * width ≤ m
-rows-fit zero width widest m le fits = omega arith
-rows-fit (suc n) width widest m le fits = let h = row_fits n width (suc n) widest (omega arith) le in omega arith
-
 pub length-row_put : (width : ℕ) (cells row : Slots) (k n : ℕ) → k < n → n * width ≤ length cells → length row ≡ width
     → length (take (k * width) cells ++ (row ++ drop width (drop (k * width) cells))) ≡ length cells
 length-row_put width cells row k n lt room wide =
@@ -58,3 +54,28 @@ length-row_put width cells row k n lt room wide =
     let e = length-drop width (drop (k * width) cells) in
     let f = length-drop (k * width) cells in
     omega arith
+
+-- The rows that are in use.
+
+take-set : (n : ℕ) (xs : List ℕ) (k s : ℕ) → take n (set xs k s) ≡ set (take n xs) k s
+take-set zero xs k s = refl
+take-set (suc n) [] k s = refl
+take-set (suc n) (x ∷ xs) zero s = refl
+take-set (suc n) (x ∷ xs) (suc k) s = ap (λ ys. x ∷ ys) (take-set n xs k s)
+
+module _ (rows width : ℕ) (starts : List ℕ) (cells : Slots) (fewer : rows ≤ length starts) where
+  pub length-used : length (rows_of width (take rows starts) cells) ≡ rows
+  length-used = length-rows_of width (take rows starts) cells ∙ length-take-le rows starts fewer
+
+  pub used-row : (k : ℕ) → k < rows → get_or (rows_of width (take rows starts) cells) k (0, []) ≡ (get_or starts k 0, take width (drop (k * width) cells))
+  used-row k lt =
+      let long = length-take-le rows starts fewer in
+      row-of width (take rows starts) cells k (omega arith)
+      ∙ ap (λ s. (s, take width (drop (k * width) cells))) (get_or-take rows starts k 0 lt)
+
+  pub used-set : (row : Slots) (k s : ℕ) → k < rows → rows * width ≤ length cells → length row ≡ width
+      → rows_of width (take rows (set starts k s)) (take (k * width) cells ++ (row ++ drop width (drop (k * width) cells))) ≡ set (rows_of width (take rows starts) cells) k (s, row)
+  used-set row k s lt room wide =
+      let long = length-take-le rows starts fewer in
+      ap (λ ss. rows_of width ss (take (k * width) cells ++ (row ++ drop width (drop (k * width) cells)))) (take-set rows starts k s)
+      ∙ row-set width (take rows starts) cells row k s (omega arith) (rw long room) wide

@@ -11,30 +11,31 @@ use Rattle.rx_nfa.specs.declared.state.Transition.{Transition}
 use Rattle.rx_nfa.specs.declared.state.State.{State}
 use Rattle.rx_nfa.proofs.StateLemmas.{accepted-is, successors-is, written-is}
 use Rattle.rx_engines.specs.Walk.{Slots, AllWithin, explore_all}
-use Rattle.rx_engines.specs.Backtrack.{frames_of, onto, Saves, Yields, Stepped}
+use Rattle.rx_engines.specs.Onward.{frames_of, onto}
+use Rattle.rx_engines.specs.Backtrack.{Saves, Yields, Stepped}
 use Rattle.rx_engines.specs.declared.frame.Frame.{Frame}
 use Rattle.rx_engines.specs.declared.frame.Frame.TheVariants.{Explore, Restore}
 
 -- where a byte leads to
-pub reads-onto : (text : List ℕ) (end : ℕ) (ts : List Transition) (i : ℕ) (rest : List Frame)
-    → frames_of (onto (target_of ts (byte_at text end i)) (i + 1)) rest ≡ explore_all (read_byte (byte_of text) end ts i) ++ rest
-reads-onto text end ts i rest =
+pub reads-onto : (T : Type 0) (text : List ℕ) (end : ℕ) (ts : List Transition) (i : ℕ) (rest : List Frame)
+    → frames_of {T = T} (onto (target_of ts (byte_at text end i)) (i + 1)) rest ≡ explore_all (read_byte (byte_of text) end ts i) ++ rest
+reads-onto T text end ts i rest =
     by_test (nat_lt i end)
     (λ e. rw e (goes (route ts (slice_index text i))))
     (λ e. rw e refl)
   where
-    goes : (o : Option ℕ) → frames_of (onto o (i + 1)) rest ≡ explore_all (go_on o (i + 1)) ++ rest
+    goes : (o : Option ℕ) → frames_of {T = T} (onto o (i + 1)) rest ≡ explore_all (go_on o (i + 1)) ++ rest
     goes None = refl
     goes (Some q) = refl
 
 -- where a look-around leads to
-pub looks-onto : (b : Bool) (next i : ℕ) (rest : List Frame) → frames_of (onto (if b then Some next else None) i) rest ≡ explore_all (if b then at next i ∷ [] else []) ++ rest
-looks-onto true next i rest = refl
-looks-onto false next i rest = refl
+pub looks-onto : (T : Type 0) (b : Bool) (next i : ℕ) (rest : List Frame) → frames_of {T = T} (onto (if b then Some next else None) i) rest ≡ explore_all (if b then at next i ∷ [] else []) ++ rest
+looks-onto T true next i rest = refl
+looks-onto T false next i rest = refl
 
 -- on to a state, or back
 pub Stepped-onto : (g : PriorityGraph) (c : Configuration) (o : Option ℕ) (i : ℕ) (frames frames' : List Frame) (slots slots' : Slots)
-    → Yields g c frames (frames_of (onto o i) frames') slots slots' → Stepped g c (onto o i) frames frames' slots slots'
+    → Yields g c frames (frames_of {T = ℕ} (onto o i) frames') slots slots' → Stepped g c (onto o i) frames frames' slots slots'
 Stepped-onto g c None i frames frames' slots slots' y = y
 Stepped-onto g c (Some q) i frames frames' slots slots' y = y
 
@@ -96,20 +97,20 @@ target-within text end ts i next h =
     (λ e. grind (arith, nat_tests))
     (λ e. none-is-some (rw e at h))
 
-pub AllWithin-read : (n first end : ℕ) (text : List ℕ) (ts : List Transition) (i : ℕ) (rest : List Frame) → first ≤ i → All (λ (t : Transition). t.next < n) ts → AllWithin n first end rest
-    → AllWithin n first end (frames_of (onto (target_of ts (byte_at text end i)) (i + 1)) rest)
-AllWithin-read n first end text ts i rest le all inside = at_target (target_of ts (byte_at text end i)) refl
+pub AllWithin-read : (T : Type 0) (n first end : ℕ) (text : List ℕ) (ts : List Transition) (i : ℕ) (rest : List Frame) → first ≤ i → All (λ (t : Transition). t.next < n) ts → AllWithin n first end rest
+    → AllWithin n first end (frames_of {T = T} (onto (target_of ts (byte_at text end i)) (i + 1)) rest)
+AllWithin-read T n first end text ts i rest le all inside = at_target (target_of ts (byte_at text end i)) refl
   where
-    at_target : (o : Option ℕ) → target_of ts (byte_at text end i) ≡ o → AllWithin n first end (frames_of (onto o (i + 1)) rest)
+    at_target : (o : Option ℕ) → target_of ts (byte_at text end i) ≡ o → AllWithin n first end (frames_of {T = T} (onto o (i + 1)) rest)
     at_target None e = inside
     at_target (Some next) e =
         let lt = target-within text end ts i next e in
         (target-names n ts (byte_at text end i) next all e, omega arith, omega arith, inside)
 
-pub AllWithin-looked : (n first end : ℕ) (b : Bool) (next i : ℕ) (rest : List Frame) → next < n → first ≤ i → i ≤ end → AllWithin n first end rest
-    → AllWithin n first end (frames_of (onto (if b then Some next else None) i) rest)
-AllWithin-looked n first end true next i rest lt ge le inside = (lt, ge, le, inside)
-AllWithin-looked n first end false next i rest lt ge le inside = inside
+pub AllWithin-looked : (T : Type 0) (n first end : ℕ) (b : Bool) (next i : ℕ) (rest : List Frame) → next < n → first ≤ i → i ≤ end → AllWithin n first end rest
+    → AllWithin n first end (frames_of {T = T} (onto (if b then Some next else None) i) rest)
+AllWithin-looked T n first end true next i rest lt ge le inside = (lt, ge, le, inside)
+AllWithin-looked T n first end false next i rest lt ge le inside = inside
 
 pub AllWithin-union : (n first end i : ℕ) (qs : List ℕ) (frames : List Frame) → first ≤ i → i ≤ end → All (λ q. q < n) qs → AllWithin n first end frames → AllWithin n first end (explore_all (map (λ q. at q i) qs) ++ frames)
 AllWithin-union n first end i [] frames ge le all inside = inside

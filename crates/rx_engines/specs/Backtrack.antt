@@ -13,8 +13,8 @@ use Rattle.rx_engines.specs.declared.frame.Frame.{Frame}
 use Rattle.rx_engines.specs.declared.frame.Frame.TheVariants.{Explore, Restore}
 use Rattle.rx_engines.specs.Search.{graph_for}
 use Rattle.rx_engines.specs.declared.search.Search.{Search}
-use Rattle.rx_engines.specs.declared.backtrack.step.Onward.{Onward}
-use Rattle.rx_engines.specs.declared.backtrack.step.Onward.TheVariants.{Accept, To, Back}
+use Rattle.rx_engines.specs.declared.onward.Onward.{Onward}
+use Rattle.rx_engines.specs.declared.onward.Onward.TheVariants.{Stop, To, Back}
 
 -- the bit of the number is set, 64 bits to a word
 abbrev pub is_set : List ℕ → ℕ → Bool
@@ -58,17 +58,6 @@ IsDead g passed = (c : Configuration) → found g passed c ≡ first_trace g c
 abbrev pub AllInside : Search → List Frame → Type 0
 AllInside s frames = AllWithin (length s.states.now) s.first s.end frames
 
--- the frames of a search that does this next, above those of its stack
-abbrev pub frames_of : Onward → List Frame → List Frame
-frames_of (Accept pattern) rest = rest
-frames_of (To q i) rest = Explore q i ∷ rest
-frames_of Back rest = rest
-
--- on to the state at the place, if there is one
-abbrev pub onto : Option ℕ → ℕ → Onward
-onto None i = Back
-onto (Some q) i = To q i
-
 -- the place is in the slot, and its old value on the stack, where there is room for the slot
 abbrev pub Saves : (slot place : ℕ) → (frames frames' : List Frame) → (slots slots' : Slots) → Type 0
 Saves slot place frames frames' slots slots' =
@@ -82,8 +71,8 @@ pub record Yields (g : PriorityGraph) (c : Configuration) (frames frames' : List
       ⊎ ((k : ℕ) × (g.written c ≡ Some k) × (frames' ≡ explore_all (g.successors c) ++ (Restore k (slice_index_or slots k None) ∷ frames)) × (slots' ≡ slice_set slots k (Some c.place)))
 
 -- what the search did at c: the frames and the slots before and after
-abbrev pub Stepped : PriorityGraph → Configuration → Onward → (frames frames' : List Frame) → (slots slots' : Slots) → Type 0
-Stepped g c (Accept pattern) frames frames' slots slots' = (g.accepted c ≡ Some pattern) × (slots' ≡ slots)
+abbrev pub Stepped : PriorityGraph → Configuration → Onward ℕ → (frames frames' : List Frame) → (slots slots' : Slots) → Type 0
+Stepped g c (Stop pattern) frames frames' slots slots' = (g.accepted c ≡ Some pattern) × (slots' ≡ slots)
 Stepped g c (To q i) frames frames' slots slots' = Yields g c frames (Explore q i ∷ frames') slots slots'
 Stepped g c Back frames frames' slots slots' = Yields g c frames frames' slots slots'
 

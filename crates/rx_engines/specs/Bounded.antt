@@ -1,7 +1,7 @@
 -- What a bounded backtracker is to a contract, and what its searches answer.
 use Rattle.std.specs.Prelude.{◌≡◌, ℕ, ◌+◌, ◌-◌, ◌*◌, ◌/◌, ◌<◌, ◌≤◌, length, max, refl}
 use Rattle.std.specs.Coded.{Coded, code_by, coded×, coded_ℕ}
-use Rattle.rx_search.specs.Input.{InputValue}
+use Rattle.rx_search.specs.Input.{InputValue, span_len}
 use Rattle.rx_search.specs.declared.match_error.MatchError.{MatchError}
 use Rattle.rx_search.specs.declared.match_error.MatchError.TheVariants.{Quit, GaveUp, HaystackTooLong, UnsupportedAnchored, Memory}
 use Rattle.rx_nfa.specs.Nfa.{Nfa}
@@ -11,10 +11,6 @@ use Rattle.rx_engines.specs.Simulation.{frames_of_states}
 -- which there is one more than bytes.
 abbrev pub max_len : Nfa → ℕ
 max_len nfa = 2097152 / max 1 nfa.accounted - 1
-
--- how long the input's span is; nothing is left of a done one
-abbrev pub span_len : InputValue → ℕ
-span_len v = v.end - v.start
 
 -- The room that a cache has.
 pub record Room : Type 0 where
@@ -31,11 +27,18 @@ room_code =
     (λ r. (r.bits, (r.stack, (r.slots, r.memory))))
     (λ p. record { bits = p.0; stack = p.1.0; slots = p.1.1.0; memory = p.1.1.1 }) (λ _. refl)
 
+-- no part has less room than before, and so much is accounted as before
+pub record HasGrown (old new : Room) : Type 0 where
+  pub bits : old.bits ≤ new.bits
+  pub stack : old.stack ≤ new.stack
+  pub slots : old.slots ≤ new.slots
+  pub memory : new.memory ≡ old.memory
+
 -- a cache with this room serves the engine
 pub record Fits (nfa : Nfa) (room : Room) : Type 0 where
   pub bits : (max_len nfa + 1) * length nfa.states ≤ room.bits
   pub stack : (max_len nfa + 1) * frames_of_states nfa.states (length nfa.states) ≤ room.stack
-  pub slots : room.slots ≡ nfa.slots
+  pub slots : nfa.slots ≤ room.slots
 
 -- Why a search has no answer: the span is too long.
 abbrev pub IsRefusal : Nfa → InputValue → MatchError → Type 0

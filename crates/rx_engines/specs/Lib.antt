@@ -1,5 +1,6 @@
 pub mod Slot
 pub mod Walk
+pub mod Onward
 pub mod Threads
 pub mod Simulation
 pub mod Search

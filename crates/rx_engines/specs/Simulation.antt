@@ -13,21 +13,21 @@ use Rattle.rx_nfa.specs.declared.state.State.TheVariants.{ByteRange, Sparse, Loo
 use Rattle.rx_engines.specs.declared.frame.Frame.{Frame}
 use Rattle.rx_engines.specs.declared.frame.Frame.TheVariants.{Explore}
 use Rattle.rx_engines.specs.Threads.{Row, row_at}
-use Rattle.rx_engines.specs.declared.pikevm.close.Move.{Move}
-use Rattle.rx_engines.specs.declared.pikevm.close.Move.TheVariants.{Rest, On, Back}
+use Rattle.rx_engines.specs.Onward.{onto}
+use Rattle.rx_engines.specs.declared.onward.Onward.{Onward}
+use Rattle.rx_engines.specs.declared.onward.Onward.TheVariants.{Stop, To, Back}
 use Rattle.rx_engines.specs.Search.{graph_until}
 use Rattle.rx_engines.specs.declared.search.Search.{Search}
 use Rattle.rx_engines.specs.declared.pikevm.step.Accepted.{Accepted}
-use Rattle.rx_engines.specs.declared.pikevm.step.Action.{Action}
-use Rattle.rx_engines.specs.declared.pikevm.step.Action.TheVariants.{Accept, Read, Nothing}
+use Rattle.rx_engines.specs.declared.pikevm.threads.Threads.{Threads}
 
--- how many frames a state leaves on the stack
+-- how many frames a state leaves on the stack: the alternates after the first, and the old value of a slot
 abbrev pub frames_of_state : State → ℕ
 frames_of_state (ByteRange low high next) = 0
 frames_of_state (Sparse transitions) = 0
-frames_of_state (Look look next) = 1
-frames_of_state (Union alternates) = length alternates
-frames_of_state (Capture next pattern slot) = 2
+frames_of_state (Look look next) = 0
+frames_of_state (Union alternates) = length alternates - 1
+frames_of_state (Capture next pattern slot) = 1
 frames_of_state Fail = 0
 frames_of_state (Accepts pattern) = 0
 
@@ -42,6 +42,10 @@ frames_at states c = frames_of_state (state_at states c.state)
 -- how many frames the states that are not in the list will leave at place i
 abbrev pub frames_to_come : List State → (i : ℕ) → List ℕ → ℕ
 frames_to_come states i items = weight (frames_at states) (line (length states) i) (passed_at items i)
+
+-- for how many states the threads have room, for how many rows, and for how many slots in all
+abbrev pub room_of : Threads → ℕ × (ℕ × ℕ)
+room_of t = (t.set.capacity, (t.table.capacity, t.table.cells))
 
 -- an answer with the start of its match
 abbrev pub Hit : Type 0
@@ -76,36 +80,21 @@ Visited terminator states text q i true frames frames' slots slots' = (is_restin
 Visited terminator states text q i false frames frames' slots slots' =
     (is_resting (state_at states q) ≡ false) × ((end : ℕ) → i ≤ end → Expands (automaton terminator states text end) (at q i) frames frames' slots slots')
 
--- on to this state, if there is one
-abbrev pub move_of : Option ℕ → Move
-move_of None = Back
-move_of (Some q) = On q
-
 -- the state that was looked at rests
-abbrev pub rests : Move → Bool
-rests Rest = true
-rests (On next) = false
+abbrev pub rests : {T : Type 0} → Onward T → Bool
+rests (Stop told) = true
+rests (To next place) = false
 rests Back = false
 
--- the frames of a walk that does this next at place i, above those of its stack
-abbrev pub going_on : Move → (i : ℕ) → List Frame → List Frame
-going_on Rest i frames = frames
-going_on (On next) i frames = Explore next i ∷ frames
-going_on Back i frames = frames
-
--- what a state does at a byte
-abbrev pub onto : Option ℕ → Action
-onto None = Nothing
-onto (Some next) = Read next
-
-abbrev pub act_of : State → Option ℕ → Action
-act_of (ByteRange low high next) byte = onto (target_of (record { start = low; end = high; next = next } ∷ []) byte)
-act_of (Sparse transitions) byte = onto (target_of transitions byte)
-act_of (Look look next) byte = Nothing
-act_of (Union alternates) byte = Nothing
-act_of (Capture next pattern slot) byte = Nothing
-act_of Fail byte = Nothing
-act_of (Accepts pattern) byte = Accept pattern
+-- what a state does at a byte, after which comes the place `after`
+abbrev pub act_of : State → Option ℕ → (after : ℕ) → Onward ℕ
+act_of (ByteRange low high next) byte after = onto (target_of (record { start = low; end = high; next = next } ∷ []) byte) after
+act_of (Sparse transitions) byte after = onto (target_of transitions byte) after
+act_of (Look look next) byte after = Back
+act_of (Union alternates) byte after = Back
+act_of (Capture next pattern slot) byte after = Back
+act_of Fail byte after = Back
+act_of (Accepts pattern) byte after = Stop pattern
 
 -- a match with its slots, as a hit
 abbrev pub best_hit : Option MatchValue → Slots → Option Hit

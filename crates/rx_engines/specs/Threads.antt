@@ -10,15 +10,17 @@ use Rattle.rx_engines.specs.declared.frame.Frame.TheVariants.{Explore, Restore}
 pub record StateSet : Type 0 where
   pub items : List ℕ
   pub room : ℕ
+  -- how great `room` may be
+  pub capacity : ℕ
 
 abbrev pub state_set_code : Coded StateSet
 state_set_code =
-    code_by (List ℕ × ℕ) (coded× (coded_list coded_ℕ) coded_ℕ) (λ s. (s.items, s.room))
-    (λ p. record { items = p.0; room = p.1 }) (λ _. refl)
+    code_by (List ℕ × (ℕ × ℕ)) (coded× (coded_list coded_ℕ) (coded× coded_ℕ coded_ℕ)) (λ s. (s.items, (s.room, s.capacity)))
+    (λ p. record { items = p.0; room = p.1.0; capacity = p.1.1 }) (λ _. refl)
 
--- each item is in range, and its place stands at it
-abbrev pub IsSparse : List ℕ → List ℕ → Type 0
-IsSparse dense sparse = (k : ℕ) → k < length dense → (slice_index dense k < length sparse) × (slice_index sparse (slice_index dense k) ≡ k)
+-- each item is below `room`, and its place stands at it
+abbrev pub IsSparse : ℕ → List ℕ → List ℕ → Type 0
+IsSparse room dense sparse = (k : ℕ) → k < length dense → (slice_index dense k < room) × (slice_index sparse (slice_index dense k) ≡ k)
 
 -- where a match began, and its slots
 abbrev pub Row : Type 0
@@ -26,15 +28,18 @@ Row = ℕ × Slots
 
 pub record Rows : Type 0 where
   pub items : List Row
-  -- how many slots a row has, and the most that fit
+  -- how many slots a row has
   pub width : ℕ
-  pub widest : ℕ
+  -- how many rows there may be, and how many slots in all
+  pub capacity : ℕ
+  pub cells : ℕ
 
 abbrev pub rows_code : Coded Rows
 rows_code =
-    code_by (List Row × (ℕ × ℕ)) (coded× (coded_list (coded× coded_ℕ (coded_list (coded_option coded_ℕ)))) (coded× coded_ℕ coded_ℕ))
-    (λ r. (r.items, (r.width, r.widest)))
-    (λ p. record { items = p.0; width = p.1.0; widest = p.1.1 }) (λ _. refl)
+    code_by (List Row × (ℕ × (ℕ × ℕ)))
+    (coded× (coded_list (coded× coded_ℕ (coded_list (coded_option coded_ℕ)))) (coded× coded_ℕ (coded× coded_ℕ coded_ℕ)))
+    (λ r. (r.items, (r.width, (r.capacity, r.cells))))
+    (λ p. record { items = p.0; width = p.1.0; capacity = p.1.1.0; cells = p.1.1.1 }) (λ _. refl)
 
 -- a row for each start, with the next `width` cells as its slots
 unfoldable pub rows_of : ℕ → List ℕ → Slots → List Row

@@ -35,6 +35,11 @@ abbrev pub explore_all : List Configuration → List Frame
 explore_all [] = []
 explore_all (d ∷ ds) = Explore d.state d.place ∷ explore_all ds
 
+-- the frames of a walk that goes on to this state at the place, if there is one, above the rest
+abbrev pub going_to : Option ℕ → (place : ℕ) → (rest : List Frame) → List Frame
+going_to None i rest = rest
+going_to (Some q) i rest = Explore q i ∷ rest
+
 -- each frame to explore is a state below n at a place from first to end
 abbrev pub AllWithin : (n first end : ℕ) → List Frame → Type 0
 AllWithin n first end [] = Unit {0}

@@ -1,7 +1,7 @@
-//! The expressions of the tests.
+//! The expressions of the tests, and what their searches are to tell.
 
 use rx_hir::{Capture, Hir, Repetition};
-use rx_search::Memory;
+use rx_search::{Memory, NonMaxUsize};
 use std::alloc::Global;
 use std::num::NonZeroUsize;
 
@@ -57,4 +57,45 @@ pub(crate) fn a_in_group_then_b(alloc: Global) -> Result<Hir, Memory> {
         group(alloc, 1, text(alloc, b"a")?)?,
         text(alloc, b"b")?,
     )
+}
+
+/// `a+`
+pub(crate) fn some_a(alloc: Global) -> Result<Hir, Memory> {
+    plus(alloc, text(alloc, b"a")?)
+}
+
+/// `abcd|c`
+pub(crate) fn abcd_or_c(alloc: Global) -> Result<Hir, Memory> {
+    either(alloc, text(alloc, b"abcd")?, text(alloc, b"c")?)
+}
+
+/// `(a)b|(c)`
+pub(crate) fn two_groups(alloc: Global) -> Result<Hir, Memory> {
+    either(
+        alloc,
+        a_in_group_then_b(alloc)?,
+        group(alloc, 2, text(alloc, b"c")?)?,
+    )
+}
+
+/// Whether the slots hold these places.
+pub(crate) fn hold(slots: &[Option<NonMaxUsize>], places: &[Option<usize>]) -> bool {
+    if slots.len() != places.len() {
+        return false;
+    }
+    for k in 0..slots.len() {
+        if !holds(slots[k], places[k]) {
+            return false;
+        }
+    }
+    true
+}
+
+/// Whether the slot holds this place.
+fn holds(slot: Option<NonMaxUsize>, place: Option<usize>) -> bool {
+    match (slot, place) {
+        (Some(slot), Some(place)) => slot.get() == place,
+        (None, None) => true,
+        _ => false,
+    }
 }

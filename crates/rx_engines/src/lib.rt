@@ -9,6 +9,7 @@ pub mod backtrack;
 #[cfg(test)]
 mod expressions;
 mod frame;
+mod onward;
 pub mod pikevm;
 mod room;
 mod search;

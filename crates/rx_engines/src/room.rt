@@ -1,22 +1,18 @@
 //! The room that the frames of a walk need.
-ghost use Rattle.std.specs.Prelude.{◌≡◌, length, IfOk};
+ghost use Rattle.std.specs.Prelude.{◌≡◌, ◌-◌, ◌^◌, length, min};
 ghost use Rattle.rx_engines.specs.Simulation.{frames_of_state, frames_of_states};
 
 use rx_nfa::State;
-use rx_search::Memory;
 
-/// How many frames the states leave on a stack, each state once.
-pub fn frames_of_all(states: &[State]) -> Result<usize, Memory>
-    ensures { IfOk result (λ n. n ≡ frames_of_states states.now (length states.now)) }
+/// How many frames the states leave on a stack, each state once, or the greatest `usize` where they are more.
+pub fn frames_of_all(states: &[State]) -> usize
+    ensures { result ≡ min (2 ^ 64 - 1) (frames_of_states states.now (length states.now)) }
 {
     let mut frames: usize = 0;
     for q in 0..states.len() {
-        let Some(more) = frames.checked_add(frames_of(&states[q])) else {
-            return Err(Memory);
-        };
-        frames = more;
+        frames = frames.saturating_add(frames_of(&states[q]));
     }
-    Ok(frames)
+    frames
 }
 
 /// How many frames the state leaves on a stack.
@@ -24,9 +20,12 @@ fn frames_of(state: &State) -> usize
     ensures { result ≡ frames_of_state state.now }
 {
     match state {
-        State::Capture { .. } => 2,
-        State::Look { .. } => 1,
-        State::Union { alternates } => alternates.as_slice().len(),
-        State::ByteRange { .. } | State::Sparse { .. } | State::Fail | State::Match { .. } => 0,
+        State::Capture { .. } => 1,
+        State::Union { alternates } => alternates.as_slice().len().saturating_sub(1),
+        State::Look { .. }
+        | State::ByteRange { .. }
+        | State::Sparse { .. }
+        | State::Fail
+        | State::Match { .. } => 0,
     }
 }

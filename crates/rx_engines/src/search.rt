@@ -28,6 +28,8 @@ pub struct Search<'a> {
     pub last: usize,
     /// The last place of the span, at which a match must end at the latest.
     pub end: usize,
+    /// In how many slots a match may leave a place.
+    pub slots: usize,
 }
 
 impl<'a> Search<'a> {
@@ -53,6 +55,7 @@ impl<'a> Search<'a> {
             first: input.start(),
             last: latest_start(input),
             end: input.end(),
+            slots: nfa.slot_len(),
         })
     }
 

@@ -1,7 +1,6 @@
-ghost use Rattle.std.specs.Prelude.{◌≡◌, ◌+◌, ◌<◌, ◌≤◌, vec_capacity, [], ◌∷◌, ◌++◌, length, map, reverse, IfOk, IfSome, IfNone};
+ghost use Rattle.std.specs.Prelude.{◌≡◌, ◌+◌, ◌-◌, ◌^◌, ◌<◌, ◌≤◌, max, vec_capacity, [], ◌∷◌, ◌++◌, length, map, reverse, IfOk, OnOk, OnErr, IsOk, IfSome, IfNone};
 ghost use Rattle.rx_nfa.specs.Automaton.{at};
-ghost use Rattle.rx_engines.specs.Walk.{explore_all};
-ghost use Rattle.rx_engines.specs.Backtrack.{frames_of, onto};
+ghost use Rattle.rx_engines.specs.Walk.{explore_all, going_to};
 ghost use Rattle.rx_engines.specs.Threads.{Frames, frames_code};
 
 use crate::frame::Frame;
@@ -28,10 +27,27 @@ impl Model for Stack {
 
 impl Stack {
     pub fn new(alloc: Global, room: usize) -> Result<Stack, Memory>
-        ensures { IfOk result (λ s. s ≡ record { items = []; room = room }) }
+        ensures value { IfOk result (λ s. s ≡ record { items = []; room = room }) }
+        ensures small { IfOk result (λ _. room < 2 ^ 63) }
     {
         let frames = Vec::with_capacity(alloc, room)?;
         Ok(Stack { frames, room })
+    }
+
+    /// Empties the stack, and gives it room for so many frames, if it has less. Where there is no memory, it stays as it
+    /// was.
+    pub fn grow(&mut self, alloc: Global, room: usize) -> Result<(), Memory>
+        ensures value { OnOk result (self.new ≡ record { items = []; room = max self.old.room room }) }
+        ensures small { OnOk result (self.new.room < 2 ^ 63) }
+        ensures err { OnErr result (self.new ≡ self.old) }
+        ensures sure { room ≤ self.old.room → IsOk result }
+    {
+        if room <= self.room {
+            self.frames.clear();
+            return Ok(());
+        }
+        *self = Stack::new(alloc, room)?;
+        Ok(())
     }
 
     /// How many frames there may be.
@@ -66,10 +82,10 @@ impl Stack {
 
 /// The first of the states. The others are on the stack, the preferred one on top.
 pub fn choose(alternates: &[StateID], place: usize, stack: &mut Stack) -> Option<StateID>
-    requires { length alternates.now + length stack.old.items ≤ stack.old.room }
-    ensures chosen { frames_of (onto result place) stack.new.items
+    requires { length alternates.now - 1 + length stack.old.items ≤ stack.old.room }
+    ensures chosen { going_to result place stack.new.items
         ≡ explore_all (map (λ q. at q place) alternates.now) ++ stack.old.items }
-    ensures frames { length stack.new.items ≤ length alternates.now + length stack.old.items }
+    ensures frames { length stack.new.items ≤ length alternates.now - 1 + length stack.old.items }
     ensures room { stack.new.room ≡ stack.old.room }
 {
     let first = alternates.first()?;

@@ -17,3 +17,4 @@ pub mod CopiesLemmas
 pub mod SameLemmas
 pub mod NamedFormsLemmas
 pub mod Utf8FormsLemmas
+pub mod OrderedFormsLemmas

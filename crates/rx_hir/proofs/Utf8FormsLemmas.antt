@@ -1,13 +1,12 @@
 -- The normal form of parts that are UTF-8 is UTF-8.
 use Rattle.std.proofs.Common.{◌≡◌, ℕ, zero, suc, ◌==◌, Bool, true, false, List, [], ◌∷◌, ◌++◌, flat_map, min, Option, Some, None, option_map, refl, arith}
-use Rattle.std.specs.Prelude.{nat_lt, nat_le, ◌&&◌, if◌then◌else◌, IfSome, IsUtf8, encode_utf8}
+use Rattle.std.specs.Prelude.{nat_lt, nat_le, if◌then◌else◌, IfSome, IsUtf8, encode_utf8}
 use Rattle.std.specs.Char.{IsScalar}
-use Rattle.std.specs.List.{list_all}
 use Rattle.std.specs.Str.{is_utf8 as is_utf8_text}
 use Rattle.std.proofs.lemmas.Bool.{and_parts, and_from}
 use Rattle.std.proofs.lemmas.Bool.Decides.{nat_tests}
 use Rattle.std.proofs.lemmas.Str.{IsUtf8-encode, IsUtf8-append, IsUtf8-from_is_utf8, is_utf8-from_IsUtf8}
-use Rattle.rx_model.specs.Text.{Class, scalar_ranges, byte_ranges}
+use Rattle.rx_model.specs.Text.{scalar_ranges, byte_ranges}
 use Rattle.rx_model.specs.Expression.{Expression, Expressions, empty, literal, class, look, repetition, capture, concat, alternation, nil, cons}
 use Rattle.rx_class.specs.Ranges.{only_member, is_ascii, HaveScalarEnds}
 use Rattle.rx_hir.specs.Length.{maximum_len}

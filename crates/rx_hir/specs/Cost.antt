@@ -1,7 +1,8 @@
--- What is accounted for an expression.
+-- What is accounted for expressions.
 use Rattle.std.specs.Prelude.{ℕ, zero, suc, ◌+◌, ◌-◌, ◌*◌, ◌/◌, ◌^◌, min, max, List, [], ◌∷◌, length, Option, Some, None, if◌then◌else◌, ◌==◌, nat_lt}
 use Rattle.rx_model.specs.Text.{Class, scalar_ranges, byte_ranges}
 use Rattle.rx_model.specs.Expression.{Expression, Expressions, empty, literal, class, look, repetition, capture, concat, alternation, nil, cons}
+use Rattle.rx_model.specs.Search.{groups_before}
 
 -- The part of a range from `first` to `last`, whose encodings have n bytes: n states where the encodings of the
 -- part's ends agree in all but the last byte, else at most 2n - 1 sequences of n. None where they do not meet.
@@ -47,10 +48,23 @@ abbrev mutual
   accounted_in nil = 0
   accounted_in (cons sub subs) = accounted_states sub + accounted_in subs
 
+-- the states that are accounted for an NFA: 4, and for each pattern 3 beside those of its expression
+abbrev pub nfa_states : List Expression → ℕ
+nfa_states [] = 4
+nfa_states (h ∷ hs) = accounted_states h + 3 + nfa_states hs
+
+-- how many slots there are: two for each pattern, and two for each group that one names
+abbrev pub slots_of : List Expression → ℕ
+slots_of hs = 2 * length hs + 2 * groups_before (length hs) hs
+
+-- the bytes that are accounted for a state
+abbrev pub state_size : ℕ
+state_size = 32
+
 -- a number, or the greatest of 64 bits where it is above
 abbrev pub capped : ℕ → ℕ
 capped n = min n (2 ^ 64 - 1)
 
--- 32 for each state
+-- the bytes that are accounted for an expression
 abbrev pub cost_of : Expression → ℕ
-cost_of h = capped (32 * accounted_states h)
+cost_of h = capped (state_size * accounted_states h)

@@ -1,9 +1,9 @@
 -- The groups of an expression, and their names.
-use Rattle.std.specs.Prelude.{ℕ, ◌≡◌, ◌+◌, ◌==◌, List, [], ◌∷◌, map, Option, Some, None, if◌then◌else◌, ◌⊎◌}
-use Rattle.std.specs.List.{range_with_len}
+use Rattle.std.specs.Prelude.{ℕ, ◌≡◌, ◌+◌, List, [], ◌∷◌, Option, Some, ◌⊎◌}
 use Rattle.std.specs.Option.{option_or}
 use Rattle.rx_model.specs.Expression.{Expression, Expressions, empty, literal, class, look, repetition, capture, concat, alternation, nil, cons}
-use Rattle.rx_model.specs.Search.{greatest_group}
+pub use Rattle.rx_search.specs.PatternGroups.{only_at, group_names}
+unfoldable pub use Rattle.rx_search.specs.PatternGroups.{name_in, name_among}
 
 -- a group of this number stands, with this name or without one, in
 unfoldable mutual
@@ -27,32 +27,6 @@ unfoldable mutual
 pub record HasOneNameEach (h : Expression) : Type 0 where
   pub one_name : (g : ℕ) (m n : Option (List ℕ)) → IsNamed g m h → IsNamed g n h → m ≡ n
   pub one_number : (g k : ℕ) (name : List ℕ) → IsNamed g (Some name) h → IsNamed k (Some name) h → g ≡ k
-
--- the name at one group, and none at others
-abbrev pub only_at : (group : ℕ) (name : Option (List ℕ)) → ℕ → Option (List ℕ)
-only_at group name g = if g == group then name else None
-
--- the name that stands at the number, the first where there are several; None where there is none
-unfoldable mutual
-  -- in the expression
-  pub name_in : (group : ℕ) → Expression → Option (List ℕ)
-  name_in g empty = None
-  name_in g (literal bytes) = None
-  name_in g (class members) = None
-  name_in g (look kind) = None
-  name_in g (repetition least greatest greedy sub) = name_in g sub
-  name_in g (capture group name sub) = option_or (only_at group name g) (name_in g sub)
-  name_in g (concat subs) = name_among g subs
-  name_in g (alternation subs) = name_among g subs
-
-  -- in one of the list
-  pub name_among : (group : ℕ) → Expressions → Option (List ℕ)
-  name_among g nil = None
-  name_among g (cons sub subs) = option_or (name_in g sub) (name_among g subs)
-
--- The groups from 0, which is the whole match, to the greatest number, each with the name that stands at it.
-abbrev pub group_names : Expression → List (Option (List ℕ))
-group_names h = None ∷ map (λ g. name_in g h) (range_with_len 1 (greatest_group h))
 
 -- Groups, numbered from g on, of which those without a name have the one that f gives.
 abbrev pub filled : (ℕ → Option (List ℕ)) → (g : ℕ) → List (Option (List ℕ)) → List (Option (List ℕ))

@@ -9,12 +9,15 @@ ghost use Rattle.rx_hir.specs.Normal.{expressions};
 use crate::hir::{Hir, HirKind};
 use rx_class::Class;
 
-/// What is accounted for an expression: 32 for each state, or the greatest `u64` where it is more.
+/// The bytes that are accounted for a state.
+pub const STATE_SIZE: u64 = 32;
+
+/// What is accounted for an expression: 32 bytes for each state, or the greatest `u64` where it is more.
 pub fn cost(hir: &Hir) -> u64
     ensures { result ≡ cost_of hir.now }
 {
     let states = states(hir);
-    32u64.saturating_mul(states)
+    STATE_SIZE.saturating_mul(states)
 }
 
 /// How many states are accounted for an expression, or the greatest `u64` where they are more.

@@ -9,7 +9,7 @@
 mod accounting;
 mod hir;
 
-pub use accounting::{cost, states as accounted_states};
+pub use accounting::{STATE_SIZE, cost, states as accounted_states};
 pub use hir::{
     Capture, Hir, HirKind, Properties, Repetition, can_be_empty, greatest_group, group_names,
     lengths_bound_the_meaning, look_sets_hold_at_the_ends, normal_forms_add_no_names,

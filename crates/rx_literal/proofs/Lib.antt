@@ -21,3 +21,4 @@ pub mod OrderedLemmas
 pub mod PartedLemmas
 pub mod InsertLemmas
 pub mod BehindLemmas
+pub mod LookFreeLemmas

@@ -2,12 +2,14 @@
 //!
 //! `prefixes` and `suffixes` give a sequence of literals, each exact, where it is the whole of what was taken, or inexact.
 //! A sequence of prefixes is trimmed for one kind of matches. Contracts say that each result is the value of a
-//! definition, and laws say what the definitions' values tell of each match. It stands on rx_hir.
+//! definition, and laws say what the definitions' values tell of each match. Of an expression of which `is_look_free`
+//! answers true, exact prefixes tell where its first run ends. It stands on rx_hir.
 #![tactic(auto)]
 
 mod extract;
 mod laws;
 mod literal;
+mod look_free;
 mod members;
 mod order;
 mod repeated;
@@ -23,6 +25,7 @@ pub use laws::{
     trimming_keeps_the_first_literal,
 };
 pub use literal::Literal;
+pub use look_free::is_look_free;
 pub use seq::Seq;
 pub use suffix::longest_common_suffix;
 

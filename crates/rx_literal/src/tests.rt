@@ -1,6 +1,6 @@
 //! The literals of small expressions.
 use crate::*;
-use rx_hir::{Class, ClassUnicode, Hir, Repetition};
+use rx_hir::{Class, ClassUnicode, Hir, Look, Repetition};
 use rx_search::Memory;
 use std::alloc::{AllocError, Global};
 use std::test::Fail;
@@ -94,5 +94,18 @@ fn trimmed(rt: HostRuntime) -> Result<(), Fail> {
     };
     assert!(rt; only.as_bytes() == b"b".as_slice() && only.is_exact());
     assert!(rt; is_pair(&seq.trimmed_for_all(alloc)?, (b"b", true), (b"ba", true)));
+    Ok(())
+}
+
+#[test]
+fn look_free(rt: HostRuntime) -> Result<(), Fail> {
+    let alloc = rt.alloc();
+    assert!(rt; is_look_free(&choice(alloc)?));
+    assert!(rt; is_look_free(&holmes(alloc)?));
+    let at_the_end = pair(alloc, literal(alloc, b"a")?, Hir::look(Look::End))?;
+    let at_the_end = Hir::concat(alloc, at_the_end)?;
+    assert!(rt; !is_look_free(&at_the_end));
+    // No first run ends with this prefix where more text follows.
+    assert!(rt; prefixes(alloc, &at_the_end)?.is_exact());
     Ok(())
 }

@@ -1,46 +1,73 @@
--- From what the compiler and the strategy give to a regex.
+-- From what the strategy's maker answers to what a build answers.
 use Rattle.std.proofs.Common.{◌≡◌, ℕ, ◌≤◌, List, length, Ok, refl, sym, ap, ◌∙◌, subst, arith}
 use Rattle.std.proofs.lemmas.List.{take_all}
-use Rattle.rx_model.specs.Expression.{Expression, alternation}
-use Rattle.rx_hir.specs.Normal.{expressions}
-use Rattle.rx_hir.specs.PropertiesViews.{AreOf}
-use Rattle.rx_hir.specs.declared.hir.properties.Properties.{Properties}
-use Rattle.rx_nfa.specs.Nfa.{Nfa}
-use Rattle.rx_nfa.specs.Compiled.{AreAllowed, IsCompiled}
-use Rattle.rx_strategy.specs.Config.{kind_of, utf8_of, captures_of, compiler_of, has_backtracker}
-use Rattle.rx_strategy.specs.Strategy.{StrategyValue}
-use Rattle.rx_strategy.specs.declared.config.Config.{Config}
+use Rattle.std.specs.Prelude.{◌+◌, ◌-◌, ◌*◌, ◌^◌, min, if◌then◌else◌}
+use Rattle.rx_search.specs.Limits.{id_limit}
+use Rattle.rx_model.specs.Expression.{Expression}
+use Rattle.rx_hir.specs.Cost.{state_size}
+use Rattle.rx_nfa.specs.Compiled.{AreAllowed as AreAllowedStates, AreFew as AreFewStates, IsRefusal as IsRefusalOfNfa}
+use Rattle.rx_nfa.specs.declared.error.BuildError.{BuildError as NfaError}
+use Rattle.rx_nfa.specs.declared.error.BuildError.TheVariants.{TooManyPatterns as ManyPatterns, TooManyGroups as ManyGroups, TooManyStates as ManyStates, ExceededSizeLimit as ExceededLimit, Memory as NoMemory}
+use Rattle.rx_engines.specs.Engine.{accounted_memory}
 use Rattle.rx_reader.specs.declared.config.Config.{Config as Grammar}
+use Rattle.rx_strategy.specs.Config.{utf8_of, compiler_of}
+use Rattle.rx_strategy.specs.Strategy.{IsMadeOf}
+use Rattle.rx_strategy.specs.declared.config.Config.{Config}
+use Rattle.rx_strategy.specs.declared.strategy.Strategy.{Strategy}
+use Rattle.rx_strategy.specs.declared.strategy.Strategy.TheVariants.{Core}
 use Rattle.rx_syntax.specs.Patterns.{all_read}
-use Rattle.rx_meta.specs.Reading.{pattern_limit, reading_of}
+use Rattle.rx_thompson.specs.Error.{error_of as compiler_error_of}
+use Rattle.rx_meta.specs.Build.{AreFew, AreAllowed, engine_memory, IsBuilt, IsBuiltOf, IsRefusal, IsRefused, IsRefusedFor}
+use Rattle.rx_meta.specs.Error.{error_of}
+use Rattle.rx_meta.specs.Reading.{reading_of}
 use Rattle.rx_meta.specs.Regex.{RegexValue}
-use Rattle.rx_meta.specs.Build.{IsBuilt, IsBuiltOf}
+use Rattle.rx_meta.specs.declared.error.BuildError.{BuildError}
+use Rattle.rx_meta.specs.declared.error.BuildError.TheVariants.{Syntax, NFA, Memory}
 
--- the strategy of an NFA under a configuration
-abbrev pub strategy_of : Config → Nfa → StrategyValue
-strategy_of c nfa = record { nfa = nfa; kind = kind_of c; which_captures = captures_of c; backtracks = has_backtracker c }
+few-of : (hs : List Expression) → AreFewStates hs → AreFew hs
+few-of hs few = record { patterns = few.patterns; slots = few.slots }
 
-pub built : (c : Config) (hs : List Expression) (nfa : Nfa) (core : StrategyValue) (p : Properties) (regex : RegexValue) → IsCompiled (compiler_of c) hs nfa → AreAllowed (compiler_of c) hs → core ≡ strategy_of c nfa
-    → AreOf (alternation (expressions hs)) p → regex ≡ record { config = c; strategy = core; properties = p } → IsBuilt c hs regex
-built c hs nfa core p regex compiled allowed is of made =
-    let whole : regex ≡ record { config = c; strategy = strategy_of c nfa; properties = p } = made ∙ ap (λ s. record { config = c; strategy = s; properties = p }) is in
+allowed-of : (c : Config) (hs : List Expression) → AreAllowedStates (compiler_of c) hs → AreAllowed c hs
+allowed-of c hs allowed = record { few = few-of hs allowed.few; states = allowed.states; size = allowed.size }
+
+pub built : (c : Config) (hs : List Expression) (s : Strategy) (regex : RegexValue) → IsMadeOf c hs s → AreAllowedStates (compiler_of c) hs → regex ≡ record { config = c; strategy = s } → IsBuilt c hs regex
+built c hs (Core core) regex made allowed is =
     let P : RegexValue → Type 0 = IsBuilt c hs in
-    subst P (sym whole) (record {
+    let compiled = made.compiled in
+    let one : accounted_memory core.nfa ≡ engine_memory hs = (λ i. min (2 ^ 64 - 1) (16 * compiled.accounted i * compiled.slots i)) in
+    subst P (sym is) (record {
       config = refl;
-      kind = refl;
-      backtracks = refl;
-      compiled = compiled;
-      allowed = allowed;
-      is_of = record { runs = compiled.runs (utf8_of c); utf8 = sym compiled.utf8; which_captures = refl };
-      properties = of;
+      kind = made.kind;
+      serves = record { nfa = record { runs = compiled.runs (utf8_of c); utf8 = sym compiled.utf8 }; which_captures = sym made.which_captures };
+      groups = compiled.groups;
+      ordered = compiled.ordered;
+      allowed = allowed-of c hs allowed;
+      memory = λ i. 64 * ((compiled.runs (utf8_of c)).patterns i + 1) + state_size * compiled.accounted i;
+      cache = λ i. min (2 ^ 64 - 1) (one i + (if made.backtracks i then one i else 0));
+      properties = made.properties;
     })
 
--- all of the patterns are read, where there are few enough
-all-of : (syntax : Grammar) (texts : List (List ℕ)) → length texts ≤ pattern_limit → reading_of syntax texts ≡ all_read syntax texts
-unfolding reading_of
-all-of syntax texts few = ap (all_read syntax) (take_all pattern_limit texts few)
+-- what is refused of an NFA is refused of the regex
+pub refused-nfa : (c : Config) (hs : List Expression) (e : NfaError) → IsRefusalOfNfa (compiler_of c) hs e → IsRefused c hs (error_of (compiler_error_of e))
+refused-nfa c hs (ManyPatterns given limit) is = is
+refused-nfa c hs (ManyGroups given limit) is = is
+refused-nfa c hs (ManyStates given limit) is = (is.0.patterns, few-of hs is.0, is.1, is.2, is.3)
+refused-nfa c hs (ExceededLimit limit size) is = (is.0.patterns, few-of hs is.0, is.1, is.2, is.3, is.4)
+refused-nfa c hs NoMemory is = allowed-of c hs is
 
-pub built-of : (syntax : Grammar) (c : Config) (texts : List (List ℕ)) (count : ℕ) (hs given : List Expression) → count ≡ length texts → count ≤ pattern_limit → reading_of syntax texts ≡ Ok hs
+-- of as many patterns as were read
+pub refused-for : (syntax : Grammar) (c : Config) (texts : List (List ℕ)) (hs : List Expression) → reading_of syntax texts ≡ Ok hs → length hs ≡ length texts
+    → (e : BuildError) → IsRefused c hs e → IsRefusedFor syntax c texts e
+refused-for syntax c texts hs read same (Syntax pid err) is = absurd is
+refused-for syntax c texts hs read same (NFA cause) is = (hs, read, subst (λ n. IsRefusal c n hs cause) same is)
+refused-for syntax c texts hs read same Memory is = tt
+
+-- all of the patterns are read, where there are few enough
+all-of : (syntax : Grammar) (texts : List (List ℕ)) → length texts ≤ id_limit → reading_of syntax texts ≡ all_read syntax texts
+unfolding reading_of
+all-of syntax texts few = ap (all_read syntax) (take_all id_limit texts few)
+
+pub built-of : (syntax : Grammar) (c : Config) (texts : List (List ℕ)) (hs given : List Expression) → length texts ≤ id_limit → reading_of syntax texts ≡ Ok hs
     → given ≡ hs → (regex : RegexValue) → IsBuilt c given regex → IsBuiltOf syntax c texts regex
-built-of syntax c texts count hs given counted few read same regex is =
-    (hs, sym (all-of syntax texts (omega arith)) ∙ read, subst (λ es. IsBuilt c es regex) same is)
+built-of syntax c texts hs given few read same regex is =
+    (hs, sym (all-of syntax texts few) ∙ read, subst (λ es. IsBuilt c es regex) same is)

@@ -1,5 +1,3 @@
 pub mod ReadingLemmas
-pub mod ImpossibleLemmas
 pub mod BuildLemmas
-pub mod InfoLemmas
-pub mod RegexLemmas
+pub mod FinderLemmas

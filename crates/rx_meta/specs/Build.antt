@@ -1,41 +1,90 @@
 -- What a build answers.
-use Rattle.std.specs.Prelude.{◌≡◌, ℕ, List, length, Ok}
-use Rattle.rx_model.specs.Expression.{Expression, alternation}
+use Rattle.std.specs.Prelude.{◌≡◌, ℕ, ◌+◌, ◌-◌, ◌*◌, ◌^◌, ◌<◌, ◌≤◌, min, List, length, Option, Some, IfSome, slice_get, Ok, Err, if◌then◌else◌}
+use Rattle.rx_model.specs.Expression.{Expression, alternation, AreOrdered}
+use Rattle.rx_model.specs.Search.{Patterns}
+use Rattle.rx_search.specs.Limits.{id_limit, slot_limit}
+use Rattle.rx_search.specs.PatternGroups.{pattern_groups}
+use Rattle.rx_hir.specs.Cost.{nfa_states, slots_of, state_size, capped}
 use Rattle.rx_hir.specs.Normal.{expressions}
 use Rattle.rx_hir.specs.PropertiesViews.{AreOf}
-use Rattle.rx_nfa.specs.Compiled.{patterns_of, AreAllowed, IsCompiled}
-use Rattle.rx_thompson.specs.Build as compiler
-use Rattle.rx_thompson.specs.declared.error.BuildError.{BuildError as CompilerError}
-use Rattle.rx_strategy.specs.Config.{kind_of, utf8_of, terminator_of, captures_of, compiler_of, has_backtracker}
-use Rattle.rx_strategy.specs.declared.config.Config.{Config}
 use Rattle.rx_reader.specs.declared.config.Config.{Config as Grammar}
 use Rattle.rx_syntax.specs.Patterns.{all_read}
-use Rattle.rx_meta.specs.Error.{error_of}
+use Rattle.rx_thompson.specs.declared.error.BuildError.{BuildError as CompilerError}
+use Rattle.rx_thompson.specs.declared.error.BuildError.TheVariants.{Syntax as Refused, TooManyPatterns, TooManyGroups, TooManyStates, ExceededSizeLimit, Memory as NoMemory}
+use Rattle.rx_meta.specs.Cache.{accounted_for}
+use Rattle.rx_meta.specs.Config.{Config, kind_of, utf8_of, terminator_of, captures_of, size_limit_of, has_backtracker}
 use Rattle.rx_meta.specs.Reading.{reading_of}
-use Rattle.rx_meta.specs.Regex.{RegexValue, IsOf}
+use Rattle.rx_meta.specs.Regex.{RegexValue, Serves, kind_in, groups_in, properties_in, regex_memory}
 use Rattle.rx_meta.specs.declared.error.BuildError.{BuildError}
+use Rattle.rx_meta.specs.declared.error.BuildError.TheVariants.{Syntax, NFA, Memory}
+
+-- the patterns of these expressions under the configuration
+abbrev pub patterns_for : Config → List Expression → Patterns
+patterns_for c hs = record { expressions = hs; utf8_empty = utf8_of c; terminator = terminator_of c; which_captures = captures_of c }
+
+-- there are few enough patterns and slots
+pub record AreFew (hs : List Expression) : Type 0 where
+  pub patterns : length hs ≤ id_limit
+  pub slots : slots_of hs ≤ slot_limit
+
+-- there are few enough states too, and their bytes are within the limit, where there is one
+pub record AreAllowed (c : Config) (hs : List Expression) : Type 0 where
+  pub few : AreFew hs
+  pub states : nfa_states hs ≤ id_limit
+  pub size : IfSome (size_limit_of c) (λ limit. state_size * nfa_states hs ≤ limit)
+
+-- What is accounted for the cache of one engine: 16 for each slot of each accounted state, up to the greatest number of
+-- 64 bits.
+abbrev pub engine_memory : List Expression → ℕ
+engine_memory hs = min (2 ^ 64 - 1) (16 * nfa_states hs * slots_of hs)
+
+-- what is accounted for a cache: as much for the backtracker too, where there is one
+abbrev pub cache_memory : Config → List Expression → ℕ
+cache_memory c hs = min (2 ^ 64 - 1) (engine_memory hs + (if has_backtracker c then engine_memory hs else 0))
 
 -- the regex of these expressions
 pub record IsBuilt (c : Config) (hs : List Expression) (regex : RegexValue) : Type 0 where
   pub config : regex.config ≡ c
-  pub kind : regex.strategy.kind ≡ kind_of c
-  pub backtracks : regex.strategy.backtracks ≡ has_backtracker c
-  pub compiled : IsCompiled (compiler_of c) hs regex.strategy.nfa
+  pub kind : kind_in regex ≡ kind_of c
+  -- it searches for the patterns of these expressions
+  pub serves : Serves regex (patterns_for c hs)
+  pub groups : groups_in regex ≡ pattern_groups hs
+  -- the counts of each expression are in order, as the laws on its meaning ask
+  pub ordered : (p : ℕ) (h : Expression) → slice_get hs p ≡ Some h → AreOrdered h
   -- no count and no cost passes its limit
-  pub allowed : AreAllowed (compiler_of c) hs
-  pub is_of : IsOf regex (patterns_of hs (utf8_of c) (terminator_of c) (captures_of c))
+  pub allowed : AreAllowed c hs
+  -- what is accounted for it, and for its caches
+  pub memory : regex_memory regex ≡ 64 * (length hs + 1) + state_size * nfa_states hs
+  pub cache : accounted_for regex ≡ cache_memory c hs
   -- its properties are those of the expressions together, so that it is known where no match is possible
-  pub properties : AreOf (alternation (expressions hs)) regex.properties
+  pub properties : AreOf (alternation (expressions hs)) (properties_in regex)
 
--- why there is no regex of these expressions: what the compiler refuses
+-- Why so many patterns, of which the first ones read as these expressions, pass a limit. Numbers are told up to the
+-- greatest of 64 bits. Neither what the grammar refuses nor want of memory is told so.
+abbrev pub IsRefusal : Config → (count : ℕ) → List Expression → CompilerError → Type 0
+IsRefusal c count hs (Refused pid err) = ⊥
+IsRefusal c count hs (TooManyPatterns given limit) = (given ≡ count) × (limit ≡ id_limit) × (limit < given)
+IsRefusal c count hs (TooManyGroups given limit) =
+    (count ≤ id_limit) × (given ≡ capped (slots_of hs)) × (limit ≡ slot_limit) × (limit < given)
+IsRefusal c count hs (TooManyStates given limit) =
+    (count ≤ id_limit) × AreFew hs × (given ≡ capped (nfa_states hs)) × (limit ≡ id_limit) × (limit < given)
+IsRefusal c count hs (ExceededSizeLimit limit size) =
+    (count ≤ id_limit) × AreFew hs × (nfa_states hs ≤ id_limit) × (size_limit_of c ≡ Some limit) × (size ≡ state_size * nfa_states hs) × (limit < size)
+IsRefusal c count hs NoMemory = ⊥
+
+-- why there is no regex of these expressions: a count or a cost passes its limit, or else there was no memory
 abbrev pub IsRefused : Config → List Expression → BuildError → Type 0
-IsRefused c hs e = (cause : CompilerError) × (e ≡ error_of cause) × compiler.IsRefused (compiler_of c) hs cause
+IsRefused c hs (Syntax pid err) = ⊥
+IsRefused c hs (NFA cause) = IsRefusal c (length hs) hs cause
+IsRefused c hs Memory = AreAllowed c hs
 
 -- the regex of these patterns
 abbrev pub IsBuiltOf : Grammar → Config → List (List ℕ) → RegexValue → Type 0
 IsBuiltOf syntax c texts regex = (hs : List Expression) × (all_read syntax texts ≡ Ok hs) × IsBuilt c hs regex
 
--- why there is no regex of these patterns: the first that the grammar refuses, and else what the compiler refuses
+-- Why there is no regex of these patterns: the first that the grammar refuses, and else a count or a cost that passes its
+-- limit. Of want of memory nothing is said.
 abbrev pub IsRefusedFor : Grammar → Config → List (List ℕ) → BuildError → Type 0
-IsRefusedFor syntax c texts e =
-    (cause : CompilerError) × (e ≡ error_of cause) × compiler.IsRefusedAfter (reading_of syntax texts) (compiler_of c) (length texts) cause
+IsRefusedFor syntax c texts (Syntax pid err) = reading_of syntax texts ≡ Err (record { pattern = pid; error = err })
+IsRefusedFor syntax c texts (NFA cause) = (hs : List Expression) × (reading_of syntax texts ≡ Ok hs) × IsRefusal c (length texts) hs cause
+IsRefusedFor syntax c texts Memory = Unit {0}

@@ -1,6 +1,9 @@
+pub mod Config
 pub mod Error
 pub mod Reading
 pub mod Regex
+pub mod Cache
 pub mod Search
+pub mod Finder
 pub mod Build
 pub mod Impossible

@@ -1,26 +1,41 @@
--- What a regex is to a contract.
-use Rattle.std.specs.Prelude.{ℕ, ◌+◌, ◌*◌, length}
-use Rattle.rx_model.specs.Search.{Patterns}
-use Rattle.rx_search.specs.Matches.{MatchValue, HalfMatchValue}
+-- What a regex is to a contract. How it searches is its strategy's own: a contract sees it by these definitions alone.
+use Rattle.std.specs.Prelude.{ℕ, ◌+◌, ◌*◌, List, Option}
+use Rattle.rx_model.specs.Search.{Patterns, Match}
+use Rattle.rx_search.specs.Input.{InputValue}
+use Rattle.rx_search.specs.declared.anchored.MatchKind.{MatchKind}
 use Rattle.rx_hir.specs.declared.hir.properties.Properties.{Properties}
 use Rattle.rx_strategy.specs.Strategy as strategy
 use Rattle.rx_strategy.specs.declared.config.Config.{Config}
+use Rattle.rx_strategy.specs.declared.strategy.Strategy.{Strategy}
 
 pub record RegexValue : Type 0 where
   pub config : Config
-  pub strategy : strategy.StrategyValue
-  -- the properties of the patterns together
-  pub properties : Properties
-
--- What is accounted for a regex: 64 for the properties of each pattern, 64 for those of all of them, and 32 for each
--- accounted state of its NFA.
-abbrev pub regex_memory : RegexValue → ℕ
-regex_memory r = 64 * (length r.strategy.nfa.starts + 1) + 32 * r.strategy.nfa.accounted
+  pub strategy : Strategy
 
 -- the regex searches for these patterns
-abbrev pub IsOf : RegexValue → Patterns → Type 0
-IsOf regex r = strategy.IsOf regex.strategy r
+abbrev pub Serves : RegexValue → Patterns → Type 0
+Serves regex r = strategy.IsFor regex.strategy r
 
--- the pattern and the end of a match that was found
-abbrev pub half_of : MatchValue → HalfMatchValue
-half_of m = record { pattern = m.pattern; offset = m.end }
+-- what a search of the regex finds, where matches are told
+abbrev pub searches : RegexValue → InputValue → Option Match
+searches regex v = strategy.finds regex.strategy v
+
+-- which of the matches that begin at one place is reported
+abbrev pub kind_in : RegexValue → MatchKind
+kind_in regex = strategy.kind_in regex.strategy
+
+-- the groups of each pattern, by their names
+abbrev pub groups_in : RegexValue → List (List (Option (List ℕ)))
+groups_in regex = strategy.groups_in regex.strategy
+
+abbrev pub pattern_count : RegexValue → ℕ
+pattern_count regex = strategy.pattern_count regex.strategy
+
+-- the properties of the patterns together
+abbrev pub properties_in : RegexValue → Properties
+properties_in regex = strategy.properties_of regex.strategy
+
+-- What is accounted for a regex: 64 for the properties of each pattern, 64 for those of all of them, and what is
+-- accounted for its strategy.
+abbrev pub regex_memory : RegexValue → ℕ
+regex_memory regex = 64 * (pattern_count regex + 1) + strategy.strategy_memory regex.strategy

@@ -1,19 +1,15 @@
 //! From patterns to a regex.
 ghost use Rattle.std.specs.Prelude.{◌≡◌, ◌∷◌, [], map, IfOk, IfErr};
-ghost use Rattle.rx_nfa.specs.Compiled.{AreAllowed, IsCompiled};
-ghost use Rattle.rx_strategy.specs.Config.{compiler_of, nothing_set, overwritten};
 ghost use Rattle.rx_reader.specs.Config.{default};
 ghost use Rattle.rx_meta.specs.Build.{IsBuilt, IsRefused, IsBuiltOf, IsRefusedFor};
+ghost use Rattle.rx_meta.specs.Config.{nothing_set, overwritten};
 
 use crate::error::BuildError;
-use crate::info::RegexInfo;
 use crate::reading::read_patterns;
 use crate::regex::Regex;
 use rx_hir::Hir;
-use rx_nfa::NFA;
-use rx_search::Memory;
-use rx_strategy::{Config, Core};
-use rx_thompson::Compiler;
+use rx_strategy::{Config, Strategy};
+use rx_thompson::PATTERN_LIMIT;
 use std::alloc::Global;
 use std::slice;
 
@@ -70,10 +66,13 @@ impl Builder {
         ensures refused { IfErr result (IsRefusedFor self.now.syntax self.now.config (map (λ p. p.now) patterns.now)) }
     {
         let exprs = read_patterns(alloc, patterns, &self.syntax)?;
-        let nfa = self
-            .compiler()
-            .build_counted(alloc, patterns.len(), &exprs)?;
-        Ok(self.regex_of(alloc, nfa, &exprs)?)
+        if patterns.len() > PATTERN_LIMIT {
+            return Err(BuildError::NFA(rx_thompson::BuildError::TooManyPatterns {
+                given: patterns.len(),
+                limit: PATTERN_LIMIT,
+            }));
+        }
+        self.build_many_from_hir(alloc, &exprs)
     }
 
     /// The regex of one expression. It is refused as by `build_many_from_hir`.
@@ -92,28 +91,10 @@ impl Builder {
         ensures built { IfOk result (IsBuilt self.now.config exprs.now) }
         ensures refused { IfErr result (IsRefused self.now.config exprs.now) }
     {
-        let nfa = self.compiler().build_many_from_hir(alloc, exprs)?;
-        Ok(self.regex_of(alloc, nfa, exprs)?)
-    }
-
-    /// The compiler under this configuration.
-    fn compiler(&self) -> Compiler
-        ensures { result.nfa.config ≡ compiler_of self.now.config }
-    {
-        let mut compiler = Compiler::new();
-        compiler.configure(self.config.compiler());
-        compiler
-    }
-
-    /// The regex of these expressions, whose NFA this is.
-    fn regex_of(&self, alloc: Global, nfa: NFA, exprs: &[Hir]) -> Result<Regex, Memory>
-        requires compiled { IsCompiled (compiler_of self.now.config) exprs.now nfa }
-        requires allowed { AreAllowed (compiler_of self.now.config) exprs.now }
-        ensures { IfOk result (IsBuilt self.now.config exprs.now) }
-    {
-        let core = Core::new(&self.config, nfa)?;
-        let info = RegexInfo::new(alloc, exprs)?;
-        Ok(Regex::from_parts(self.config.clone(), core, info))
+        match Strategy::new(alloc, &self.config, exprs) {
+            Ok(strategy) => Ok(Regex::from_parts(self.config.clone(), strategy)),
+            Err(error) => Err(BuildError::from(rx_thompson::BuildError::from(error))),
+        }
     }
 
     /// The same builder once more.

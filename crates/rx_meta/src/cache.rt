@@ -1,5 +1,5 @@
-ghost use Rattle.std.specs.Prelude.{◌≡◌, IfOk, OnOk, OnErr};
-ghost use Rattle.rx_strategy.specs.Cache.{Fits, memory_of, accounted_for};
+ghost use Rattle.std.specs.Prelude.{◌≡◌, IfOk, OnOk, OnErr, IsOk};
+ghost use Rattle.rx_meta.specs.Cache.{Fits, FitsAsBefore, memory_of, accounted_for};
 
 use crate::regex::Regex;
 use rx_search::Memory;
@@ -9,46 +9,48 @@ use std::marker::Model;
 /// What the searches of a regex write to. It is made once, and serves one search after another.
 #[derive(Drop)]
 pub struct Cache {
-    pub(crate) engines: rx_strategy::Cache,
+    pub(crate) rooms: rx_strategy::Cache,
 }
 
 impl Model for Cache {
-    ghost use Rattle.rx_strategy.specs.Cache.{CacheValue, cache_code};
+    ghost use Rattle.rx_meta.specs.Cache.{CacheValue, cache_code};
 
     ghost Value = { CacheValue };
 
     ghost coded = { cache_code };
 
-    ghost view = { λ c. c.engines };
+    ghost view = { λ c. record { rooms = c.rooms } };
 }
 
 impl Cache {
     /// A cache that serves this regex.
     pub fn new(alloc: Global, regex: &Regex) -> Result<Cache, Memory>
-        ensures fits { IfOk result (Fits regex.now.strategy) }
-        ensures memory { IfOk result (λ c. memory_of c ≡ accounted_for regex.now.strategy) }
+        ensures fits { IfOk result (Fits regex.now) }
+        ensures memory { IfOk result (λ c. memory_of c ≡ accounted_for regex.now) }
     {
         regex.create_cache(alloc)
     }
 
-    /// Makes any cache one that serves this regex. Where there is no memory, it stays as it was.
+    /// Makes any cache one that serves this regex. It takes memory where its room does not suffice, and keeps what it has:
+    /// for a part that this regex lacks nothing is accounted. Where there is no memory, it serves what it served before,
+    /// with its number as before.
     pub fn reset(&mut self, alloc: Global, regex: &Regex) -> Result<(), Memory>
-        ensures fits { OnOk result (Fits regex.now.strategy self.new) }
-        ensures memory { OnOk result (memory_of self.new ≡ accounted_for regex.now.strategy) }
-        ensures err { OnErr result (self.new ≡ self.old) }
+        ensures fits { OnOk result (Fits regex.now self.new) }
+        ensures memory { OnOk result (memory_of self.new ≡ accounted_for regex.now) }
+        ensures err { OnErr result (FitsAsBefore self.old self.new) }
+        ensures sure { Fits regex.now self.old → IsOk result }
     {
-        *self = regex.create_cache(alloc)?;
-        Ok(())
+        self.rooms.reset(alloc, &regex.strategy)
     }
 
-    /// The bytes that are accounted for the caches of its engines, or the greatest `usize` where they are more. This is not
-    /// what they reserve: the backtracker's cache also has room for each frame that a search can leave, which is some 24
-    /// bytes for each place of the longest span times the frames of all states. It is reserved when the cache is made, and
-    /// touched only as far as searches come.
+    /// The bytes that are accounted for the caches of its engines, or the greatest `usize` where they are more. The number
+    /// is fixed when the cache is made or reset. This is not what they reserve: the backtracker's cache also has room for
+    /// each frame that a search can leave, which is some 24 bytes for each place of the longest span times the frames of
+    /// all states. It is reserved when the cache is made, and touched only as far as searches come.
     pub fn memory_usage(&self) -> usize
         ensures { result ≡ memory_of self.now }
     {
-        self.engines.memory_usage()
+        self.rooms.memory_usage()
     }
 
     /// A cache of its own with the same room.
@@ -56,7 +58,7 @@ impl Cache {
         ensures { IfOk result (λ c. c ≡ self.now) }
     {
         Ok(Cache {
-            engines: self.engines.clone(alloc)?,
+            rooms: self.rooms.clone(alloc)?,
         })
     }
 }

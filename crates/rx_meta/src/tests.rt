@@ -1,8 +1,7 @@
-ghost use Rattle.rx_strategy.specs.Cache.{Fits};
+ghost use Rattle.rx_meta.specs.Cache.{Fits};
 
-use crate::{BuildError, Builder, Cache, Config, Regex};
-use rx_nfa::WhichCaptures;
-use rx_search::{Anchored, HalfMatch, Input, Match, NonMaxUsize, PatternID};
+use crate::{BuildError, Builder, Cache, Config, Regex, RegexFinder, WhichCaptures};
+use rx_search::{Anchored, HalfMatch, Input, Match, NonMaxUsize, PatternID, Searcher};
 use rx_syntax::{SyntaxErrorKind, parse};
 use std::alloc::Global;
 use std::process::Abort;
@@ -16,14 +15,14 @@ fn regex_of(rt: &impl Abort, alloc: Global, pattern: &str) -> Regex {
 
 /// A cache of the regex.
 fn cache_of(rt: &impl Abort, alloc: Global, regex: &Regex) -> Cache
-    ensures { Fits regex.now.strategy result }
+    ensures { Fits regex.now result }
 {
     Cache::new(alloc, regex).ok().expect(rt, "a cache")
 }
 
 /// Makes the cache one of the regex.
 fn reset(rt: &impl Abort, alloc: Global, cache: &mut Cache, regex: &Regex)
-    ensures { Fits regex.now.strategy cache.new }
+    ensures { Fits regex.now cache.new }
 {
     cache.reset(alloc, regex).ok().expect(rt, "memory")
 }
@@ -33,6 +32,14 @@ fn place(slot: Option<NonMaxUsize>) -> Option<usize> {
     match slot {
         Some(place) => Some(place.get()),
         None => None,
+    }
+}
+
+/// The place that a slot of these holds.
+fn place_at(slots: &[Option<NonMaxUsize>], slot: usize) -> Option<usize> {
+    match slots.get(slot) {
+        Some(Some(place)) => Some(place.get()),
+        _ => None,
     }
 }
 
@@ -179,9 +186,52 @@ fn nothing_is_told_without_captures(rt: HostRuntime) {
     let input = Input::new(b"a");
     let found = regex.search(&rt, alloc, &input).ok();
     assert_eq!(rt; whole(found.expect(&rt, "memory")), None);
+    let found = regex.find(&rt, alloc, &input).ok();
+    assert_eq!(rt; whole(found.expect(&rt, "memory")), None);
     let found = regex.search_half(&rt, alloc, &input).ok();
     assert_eq!(rt; half(found.expect(&rt, "memory")), None);
+    let mut slots = [NonMaxUsize::new(9); 2];
+    let found = regex.search_slots(&rt, alloc, &input, &mut slots).ok();
+    assert_eq!(rt; number(found.expect(&rt, "memory")), None);
+    assert_eq!(rt; (place(slots[0]), place(slots[1])), (None, None));
     assert!(rt; regex.is_match(&rt, alloc, &input) == Ok(true));
+}
+
+#[test]
+fn nothing_is_told_without_captures_to_a_cache(rt: HostRuntime) {
+    let alloc = rt.alloc();
+    let regex = without_captures(&rt, alloc);
+    let mut cache = cache_of(&rt, alloc, &regex);
+    let input = Input::new(b"a");
+    let found = regex.search_with(&mut cache, &input).ok();
+    assert_eq!(rt; whole(found.expect(&rt, "memory")), None);
+    let found = regex.search_half_with(&mut cache, &input).ok();
+    assert_eq!(rt; half(found.expect(&rt, "memory")), None);
+    let mut slots = [NonMaxUsize::new(9); 2];
+    let found = regex.search_slots_with(&mut cache, &input, &mut slots).ok();
+    assert_eq!(rt; number(found.expect(&rt, "memory")), None);
+    assert_eq!(rt; (place(slots[0]), place(slots[1])), (None, None));
+    let mut slots = [NonMaxUsize::new(9); 2];
+    let found = regex.search_match_with(&mut cache, &input, &mut slots).ok();
+    assert_eq!(rt; whole(found.expect(&rt, "memory")), None);
+    assert_eq!(rt; (place(slots[0]), place(slots[1])), (None, None));
+}
+
+#[test]
+fn a_finder_gives_match_after_match(rt: HostRuntime) {
+    let alloc = rt.alloc();
+    let regex = regex_of(&rt, alloc, "a(b)?");
+    let mut finder = RegexFinder::new(alloc, &regex).ok().expect(&rt, "memory");
+    assert_eq!(rt; finder.regex().pattern_len(), 1);
+    let mut searcher = Searcher::new(Input::new(b"abxa"));
+    let found = searcher.advance(&mut finder).ok().expect(&rt, "memory");
+    assert_eq!(rt; whole(found), Some((0, 0, 2)));
+    assert_eq!(rt; place_at(finder.slots(), 2), Some(1));
+    let found = searcher.advance(&mut finder).ok().expect(&rt, "memory");
+    assert_eq!(rt; whole(found), Some((0, 3, 4)));
+    assert_eq!(rt; place_at(finder.slots(), 2), None);
+    let found = searcher.advance(&mut finder).ok().expect(&rt, "memory");
+    assert_eq!(rt; whole(found), None);
 }
 
 #[test]

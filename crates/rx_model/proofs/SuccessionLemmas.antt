@@ -7,17 +7,19 @@ use Rattle.rx_model.specs.Matches.{AreSuccessive}
 use Rattle.rx_model.proofs.RunLemmas.{by_test}
 use Rattle.rx_model.proofs.MatchLemmas.{first_start-some, first_start-here, next-within}
 
--- A search whose matches lie between its start and b, and that finds a match again from where that starts.
+-- A search whose matches lie between its start and b.
 pub record IsSearch (search : ℕ → Option Match) (b : ℕ) : Type 0 where
   pub within : (i : ℕ) (m : Match) → search i ≡ Some m → (i ≤ m.start) × (m.start ≤ m.trace.end) × (m.trace.end ≤ b)
-  pub again : (i : ℕ) (m : Match) → search i ≡ Some m → search m.start ≡ Some m
+
+-- a match is found again from where it starts
+abbrev pub FindsAgain : (ℕ → Option Match) → Type 0
+FindsAgain search = (i : ℕ) (m : Match) → search i ≡ Some m → search m.start ≡ Some m
 
 module _ (search : ℕ → Option Match) (b : ℕ) (s : IsSearch search b) where
   -- the match after a match that ended at i
   pub record Follows (i : ℕ) (m : Match) : Type 0 where
     pub ahead : (i ≤ m.start) × (m.start ≤ m.trace.end) × (m.trace.end ≤ b)
     pub rises : i < m.trace.end
-    pub again : search m.start ≡ Some m
 
   pub next_after-follows : (i : ℕ) (m : Match) → next_after search i ≡ Some m → Follows i m
   next_after-follows i m h =
@@ -27,14 +29,14 @@ module _ (search : ℕ → Option Match) (b : ℕ) (s : IsSearch search b) where
       let x = s.within (i + 1) m found in
       let low = x.0 in
       let up = x.1 in
-      record { ahead = (omega arith, x.1, x.2); rises = omega arith; again = s.again (i + 1) m found })
+      record { ahead = (omega arith, x.1, x.2); rises = omega arith })
       (λ e.
       let found : search i ≡ Some m = rw e at h in
       let x = s.within i m found in
       let low = x.0 in
       let up = x.1 in
       let differ : ((m.start == i) && (m.trace.end == i)) ≡ false = rw found at e in
-      record { ahead = x; rises = grind (arith, nat_tests); again = s.again i m found })
+      record { ahead = x; rises = grind (arith, nat_tests) })
 
   -- the next match starts later, and not before the end of this one
   pub next_after-later : (m n : Match) → m.start ≤ m.trace.end → search m.start ≡ Some m → next_after search m.trace.end ≡ Some n → m.start < n.start
@@ -81,53 +83,60 @@ module _ (search : ℕ → Option Match) (b : ℕ) (s : IsSearch search b) where
   matches_from-enough (suc n) (suc k) (Some m) enough enough' =
       ap (λ ms. m ∷ ms) (matches_from-enough n k (next_after search m.trace.end) (enough-after n m enough) (enough-after k m enough'))
 
-  -- what is known of the match that comes next, where none starts before i
-  pub record Comes (i : ℕ) (m : Match) : Type 0 where
-    pub ahead : (i ≤ m.start) × (m.start ≤ m.trace.end) × (m.trace.end ≤ b)
-    pub again : search m.start ≡ Some m
+  module _ (finds : FindsAgain search) where
+    next_after-again : (i : ℕ) (m : Match) → next_after search i ≡ Some m → search m.start ≡ Some m
+    next_after-again i m h =
+        by_test (is_empty_at i (search i))
+        (λ e. finds (i + 1) m (rw e at h))
+        (λ e. finds i m (rw e at h))
 
-  comes-after : (i : ℕ) (m : Match) → Comes i m → (n : Match) → next_after search m.trace.end ≡ Some n → Comes i n
-  comes-after i m c n h =
-      let f = next_after-follows m.trace.end n h in
-      let low = c.ahead.0 in
-      let up = c.ahead.1 in
-      let next = f.ahead.0 in
-      record { ahead = (omega arith, f.ahead.1, f.ahead.2); again = f.again }
+    -- what is known of the match that comes next, where none starts before i
+    pub record Comes (i : ℕ) (m : Match) : Type 0 where
+      pub ahead : (i ≤ m.start) × (m.start ≤ m.trace.end) × (m.trace.end ≤ b)
+      pub again : search m.start ≡ Some m
 
-  -- each match lies between its start and b
-  each-ahead : (i : ℕ) (o : Option Match) (ms : List Match) → AreSuccessive search o ms → ((m : Match) → o ≡ Some m → Comes i m)
-      → (j : ℕ) (d : Match) → j < length ms → (i ≤ (get_or ms j d).start) × ((get_or ms j d).start ≤ (get_or ms j d).trace.end) × ((get_or ms j d).trace.end ≤ b)
-  each-ahead i o [] are comes j d lt = absurd (omega arith)
-  each-ahead i None (n ∷ ms) are comes j d lt = absurd are
-  each-ahead i (Some m) (n ∷ ms) are comes zero d lt =
-      subst (λ (x : Match). (i ≤ x.start) × (x.start ≤ x.trace.end) × (x.trace.end ≤ b)) (sym are.0) (comes m refl).ahead
-  each-ahead i (Some m) (n ∷ ms) are comes (suc j) d lt =
-      each-ahead i (next_after search m.trace.end) ms are.1 (λ x h. comes-after i m (comes m refl) x h) j d (omega arith)
+    comes-after : (i : ℕ) (m : Match) → Comes i m → (n : Match) → next_after search m.trace.end ≡ Some n → Comes i n
+    comes-after i m c n h =
+        let f = next_after-follows m.trace.end n h in
+        let low = c.ahead.0 in
+        let up = c.ahead.1 in
+        let next = f.ahead.0 in
+        record { ahead = (omega arith, f.ahead.1, f.ahead.2); again = next_after-again m.trace.end n h }
 
-  pub successive-within : (i : ℕ) (o : Option Match) (ms : List Match) → AreSuccessive search o ms → ((m : Match) → o ≡ Some m → Comes i m)
-      → All (λ (m : Match). (i ≤ m.start) × (m.start ≤ m.trace.end) × (m.trace.end ≤ b)) ms
-  successive-within i o ms are comes k d lt = each-ahead i o ms are comes k d lt
+    -- each match lies between its start and b
+    each-ahead : (i : ℕ) (o : Option Match) (ms : List Match) → AreSuccessive search o ms → ((m : Match) → o ≡ Some m → Comes i m)
+        → (j : ℕ) (d : Match) → j < length ms → (i ≤ (get_or ms j d).start) × ((get_or ms j d).start ≤ (get_or ms j d).trace.end) × ((get_or ms j d).trace.end ≤ b)
+    each-ahead i o [] are comes j d lt = absurd (omega arith)
+    each-ahead i None (n ∷ ms) are comes j d lt = absurd are
+    each-ahead i (Some m) (n ∷ ms) are comes zero d lt =
+        subst (λ (x : Match). (i ≤ x.start) × (x.start ≤ x.trace.end) × (x.trace.end ≤ b)) (sym are.0) (comes m refl).ahead
+    each-ahead i (Some m) (n ∷ ms) are comes (suc j) d lt =
+        each-ahead i (next_after search m.trace.end) ms are.1 (λ x h. comes-after i m (comes m refl) x h) j d (omega arith)
 
-  -- each match starts after those before it, and not before their ends
-  pub successive-rise : (o : Option Match) (ms : List Match) → AreSuccessive search o ms → ((m : Match) → o ≡ Some m → Comes 0 m)
-      → AllPairs (λ (m n : Match). (m.start < n.start) × (m.trace.end ≤ n.start)) ms
-  successive-rise o [] are comes i j d lt le = absurd (omega arith)
-  successive-rise None (n ∷ ms) are comes i j d lt le = absurd are
-  successive-rise (Some m) (n ∷ ms) are comes i zero d lt le = absurd (omega arith)
-  successive-rise (Some m) (n ∷ ms) are comes zero (suc j) d lt le =
-      let c = comes m refl in
-      let after = each-ahead m.trace.end (next_after search m.trace.end) ms are.1
-      (λ x h. let f = next_after-follows m.trace.end x h in record { ahead = f.ahead; again = f.again }) j d (omega arith) in
-      let later = each-ahead (suc m.start) (next_after search m.trace.end) ms are.1
-      (λ x h.
-      let f = next_after-follows m.trace.end x h in
-      let above = next_after-later m x c.ahead.1 c.again h in
-      record { ahead = (omega arith, f.ahead.1, f.ahead.2); again = f.again }) j d (omega arith) in
-      let low = after.0 in
-      let high = later.0 in
-      subst (λ (x : Match). (x.start < (get_or ms j d).start) × (x.trace.end ≤ (get_or ms j d).start)) (sym are.0) (omega arith, low)
-  successive-rise (Some m) (n ∷ ms) are comes (suc i) (suc j) d lt le =
-      successive-rise (next_after search m.trace.end) ms are.1 (λ x h. comes-after 0 m (comes m refl) x h) i j d (omega arith) (omega arith)
+    pub successive-within : (i : ℕ) (o : Option Match) (ms : List Match) → AreSuccessive search o ms → ((m : Match) → o ≡ Some m → Comes i m)
+        → All (λ (m : Match). (i ≤ m.start) × (m.start ≤ m.trace.end) × (m.trace.end ≤ b)) ms
+    successive-within i o ms are comes k d lt = each-ahead i o ms are comes k d lt
+
+    -- each match starts after those before it, and not before their ends
+    pub successive-rise : (o : Option Match) (ms : List Match) → AreSuccessive search o ms → ((m : Match) → o ≡ Some m → Comes 0 m)
+        → AllPairs (λ (m n : Match). (m.start < n.start) × (m.trace.end ≤ n.start)) ms
+    successive-rise o [] are comes i j d lt le = absurd (omega arith)
+    successive-rise None (n ∷ ms) are comes i j d lt le = absurd are
+    successive-rise (Some m) (n ∷ ms) are comes i zero d lt le = absurd (omega arith)
+    successive-rise (Some m) (n ∷ ms) are comes zero (suc j) d lt le =
+        let c = comes m refl in
+        let after = each-ahead m.trace.end (next_after search m.trace.end) ms are.1
+        (λ x h. let f = next_after-follows m.trace.end x h in record { ahead = f.ahead; again = next_after-again m.trace.end x h }) j d (omega arith) in
+        let later = each-ahead (suc m.start) (next_after search m.trace.end) ms are.1
+        (λ x h.
+        let f = next_after-follows m.trace.end x h in
+        let above = next_after-later m x c.ahead.1 c.again h in
+        record { ahead = (omega arith, f.ahead.1, f.ahead.2); again = next_after-again m.trace.end x h }) j d (omega arith) in
+        let low = after.0 in
+        let high = later.0 in
+        subst (λ (x : Match). (x.start < (get_or ms j d).start) × (x.trace.end ≤ (get_or ms j d).start)) (sym are.0) (omega arith, low)
+    successive-rise (Some m) (n ∷ ms) are comes (suc i) (suc j) d lt le =
+        successive-rise (next_after search m.trace.end) ms are.1 (λ x h. comes-after 0 m (comes m refl) x h) i j d (omega arith) (omega arith)
 
 module _ (r : Patterns) (text : List ℕ) (anchor : Anchor) (b : ℕ) where
   next-again : (i : ℕ) (m : Match) → next_match r text anchor b i ≡ Some m → next_match r text anchor b m.start ≡ Some m
@@ -143,13 +152,13 @@ module _ (r : Patterns) (text : List ℕ) (anchor : Anchor) (b : ℕ) where
       some_start k le = let over : nat_lt b k ≡ false = grind (arith, nat_tests) in rw over (by_test (is_anchored anchor) (λ e. rw e (omega arith)) (λ e. rw e (omega arith)))
 
   next-search : IsSearch (next_match r text anchor b) b
-  next-search = record { within = λ i m h. next-within r text anchor b i m h; again = next-again }
+  next-search = record { within = λ i m h. next-within r text anchor b i m h }
 
   module _ (a : ℕ) where
     enough-first : (n : ℕ) → b + 1 - a + 1 ≤ n → IsEnough (next_match r text anchor b) b next-search n (next_match r text anchor b a)
     enough-first n le m h = let x = next-within r text anchor b a m h in let low = x.0 in let up = x.1 in let top = x.2 in (top, omega arith)
 
-    comes-first : (m : Match) → next_match r text anchor b a ≡ Some m → Comes (next_match r text anchor b) b next-search a m
+    comes-first : (m : Match) → next_match r text anchor b a ≡ Some m → Comes (next_match r text anchor b) b next-search next-again a m
     comes-first m h = record { ahead = next-within r text anchor b a m h; again = next-again a m h }
 
     pub matches-successive : AreSuccessive (next_match r text anchor b) (next_match r text anchor b a) (matches r text anchor b a)
@@ -162,9 +171,9 @@ module _ (r : Patterns) (text : List ℕ) (anchor : Anchor) (b : ℕ) where
         matches_from-enough (next_match r text anchor b) b next-search n (b + 1 - a + 1) (next_match r text anchor b a) (enough-first n le) (enough-first (b + 1 - a + 1) (omega arith))
 
     pub matches-within : All (λ (m : Match). (a ≤ m.start) × (m.start ≤ m.trace.end) × (m.trace.end ≤ b)) (matches r text anchor b a)
-    matches-within = successive-within (next_match r text anchor b) b next-search a (next_match r text anchor b a) (matches r text anchor b a) matches-successive comes-first
+    matches-within = successive-within (next_match r text anchor b) b next-search next-again a (next_match r text anchor b a) (matches r text anchor b a) matches-successive comes-first
 
     pub matches-rise : AllPairs (λ (m n : Match). (m.start < n.start) × (m.trace.end ≤ n.start)) (matches r text anchor b a)
     matches-rise =
-        successive-rise (next_match r text anchor b) b next-search (next_match r text anchor b a) (matches r text anchor b a) matches-successive
+        successive-rise (next_match r text anchor b) b next-search next-again (next_match r text anchor b a) (matches r text anchor b a) matches-successive
         (λ m h. let c = comes-first m h in record { ahead = (omega arith, c.ahead.1, c.ahead.2); again = c.again })

@@ -21,11 +21,12 @@ pub fn a_first_run_is_the_first_within_an_earlier_end()
         → next_match r text anchor b a ≡ Some m → next_match r text (anchored_to m.trace.pattern) m.trace.end m.start ≡ Some m }
 {}
 
-/// Starts from which no pattern has a run may be skipped: the next match is that of the search that starts after them.
+/// Permitted starts from which no pattern has a run may be skipped, and so may the starts that are not permitted: where
+/// no permitted start from a up to c has a run, the next match from a is the next match from c.
 pub fn starts_without_a_run_may_be_skipped()
-    ensures { (r : Patterns) (text : List ℕ) (b a n : ℕ)
-        → ((j : ℕ) → a ≤ j → j < a + n → starting_at r text b free j ≡ None)
-        → next_match r text free b a ≡ next_match r text free b (a + n) }
+    ensures { (r : Patterns) (text : List ℕ) (b a c : ℕ) → a ≤ c
+        → ((j : ℕ) → a ≤ j → j < c → IsTrue (is_permitted r.utf8_empty text j) → starting_at r text b free j ≡ None)
+        → next_match r text free b a ≡ next_match r text free b c }
 {}
 
 /// The search finds the next match: at the least permitted start from which a pattern has a run, the first

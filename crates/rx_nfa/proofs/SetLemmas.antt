@@ -2,6 +2,7 @@
 use Rattle.std.proofs.Common.{◌≡◌, ℕ, ◌≤◌, List, Option, sym, subst, length}
 use Rattle.rx_model.specs.Text.{scalar_ranges, byte_ranges}
 use Rattle.rx_model.specs.Graph as graph
+use Rattle.rx_search.specs.Limits.{id_limit}
 use Rattle.rx_nfa.specs.Draft.{Draft, Extends, AreInRange}
 use Rattle.rx_nfa.specs.States.{AreClosed}
 use Rattle.rx_nfa.specs.declared.state.State.{State}
@@ -32,7 +33,7 @@ Built-bytes ranges next old new q groups slots adds below c =
     (λ f next' is. (below, subst (λ n. IsByteClass (IsReader (length old.states) new.states) n ranges q) (sym is) c))
 
 -- what is in range stays so where readers were added
-pub AreInRange-adds : (groups : List (List (Option (List ℕ)))) (slots : ℕ) (old new : List State) → AreInRange (record { states = old; groups = groups; slots = slots }) → AddsReaders old new → AreClosed new → length new ≤ 2147483647
+pub AreInRange-adds : (groups : List (List (Option (List ℕ)))) (slots : ℕ) (old new : List State) → AreInRange (record { states = old; groups = groups; slots = slots }) → AddsReaders old new → AreClosed new → length new ≤ id_limit
     → AreInRange (record { states = new; groups = groups; slots = slots })
 AreInRange-adds groups slots old new r adds closed few = record {
   names = closed;

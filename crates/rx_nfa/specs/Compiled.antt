@@ -1,14 +1,16 @@
 -- What the compiler answers.
-use Rattle.std.specs.Prelude.{◌≡◌, ℕ, ◌+◌, ◌*◌, ◌<◌, ◌≤◌, Bool, List, [], ◌∷◌, length, map, Option, Some, None, IfSome, slice_get}
+use Rattle.std.specs.Prelude.{◌≡◌, ℕ, ◌+◌, ◌*◌, ◌<◌, ◌≤◌, Bool, List, length, Option, Some, None, IfSome, slice_get}
 use Rattle.std.specs.List.{list_all}
 use Rattle.rx_model.specs.Expression.{Expression, AreOrdered}
 use Rattle.rx_model.specs.Look.{start_text}
 use Rattle.rx_model.specs.Search.{Patterns, WhichCaptures, all, implicit, none, groups_before}
 use Rattle.rx_model.specs.Empty.{one_can_be_empty}
+use Rattle.rx_search.specs.Limits.{id_limit, slot_limit}
 use Rattle.rx_hir.specs.Normal.{expressions}
-use Rattle.rx_hir.specs.Cost.{accounted_states, capped}
-use Rattle.rx_hir.specs.Names.{group_names}
+use Rattle.rx_hir.specs.Cost.{state_size, capped}
 use Rattle.rx_hir.specs.Properties.{looks_first}
+pub use Rattle.rx_search.specs.PatternGroups.{pattern_groups as groups_of}
+pub use Rattle.rx_hir.specs.Cost.{nfa_states, slots_of}
 use Rattle.rx_nfa.specs.Config.{utf8_of, size_limit_of, terminator_of, captures_of}
 use Rattle.rx_nfa.specs.declared.compiler.config.Config.{Config}
 use Rattle.rx_nfa.specs.Nfa.{Nfa, IsInRange, HasRuns}
@@ -23,14 +25,6 @@ patterns_of hs utf8_empty terminator which = record { expressions = hs; utf8_emp
 abbrev pub all_start_anchored : List Expression → Bool
 all_start_anchored hs = list_all (looks_first start_text) hs
 
--- how many slots there are: two for each pattern, and two for each group that one names
-abbrev pub slots_of : List Expression → ℕ
-slots_of hs = 2 * length hs + 2 * groups_before (length hs) hs
-
--- the groups of each pattern, by their names: those from 0 to the greatest that its expression has
-abbrev pub groups_of : List Expression → List (List (Option (List ℕ)))
-groups_of hs = map group_names hs
-
 -- how many of the first slots the states may write: all of them, those of the whole matches, or none
 abbrev pub slots_written : WhichCaptures → List Expression → ℕ
 slots_written all hs = slots_of hs
@@ -43,21 +37,16 @@ first_slot_of all hs p = Some (2 * length hs + 2 * groups_before p hs)
 first_slot_of implicit hs p = None
 first_slot_of none hs p = None
 
--- the states that are accounted for an NFA: 4, and for each pattern 3 beside those of its expression
-abbrev pub nfa_states : List Expression → ℕ
-nfa_states [] = 4
-nfa_states (h ∷ hs) = accounted_states h + 3 + nfa_states hs
-
 -- there are few enough patterns and slots
 pub record AreFew (hs : List Expression) : Type 0 where
-  pub patterns : length hs ≤ 2147483647
-  pub slots : slots_of hs ≤ 2147483646
+  pub patterns : length hs ≤ id_limit
+  pub slots : slots_of hs ≤ slot_limit
 
--- there are few enough states too, and at 32 for each they are within the limit, where there is one
+-- there are few enough states too, and their bytes are within the limit, where there is one
 pub record AreAllowed (config : Config) (hs : List Expression) : Type 0 where
   pub few : AreFew hs
-  pub states : nfa_states hs ≤ 2147483647
-  pub size : IfSome (size_limit_of config) (λ limit. 32 * nfa_states hs ≤ limit)
+  pub states : nfa_states hs ≤ id_limit
+  pub size : IfSome (size_limit_of config) (λ limit. state_size * nfa_states hs ≤ limit)
 
 -- the NFA is in range, has no more states than are accounted, and does what the patterns ask for
 pub record IsCompiled (config : Config) (hs : List Expression) (nfa : Nfa) : Type 0 where
@@ -77,11 +66,11 @@ pub record IsCompiled (config : Config) (hs : List Expression) (nfa : Nfa) : Typ
 
 -- Why there is no NFA. Numbers are told up to the greatest of 64 bits.
 abbrev pub IsRefusal : (config : Config) → List Expression → BuildError → Type 0
-IsRefusal config hs (TooManyPatterns given limit) = (given ≡ length hs) × (limit ≡ 2147483647) × (limit < given)
+IsRefusal config hs (TooManyPatterns given limit) = (given ≡ length hs) × (limit ≡ id_limit) × (limit < given)
 IsRefusal config hs (TooManyGroups given limit) =
-    (length hs ≤ 2147483647) × (given ≡ capped (slots_of hs)) × (limit ≡ 2147483646) × (limit < given)
+    (length hs ≤ id_limit) × (given ≡ capped (slots_of hs)) × (limit ≡ slot_limit) × (limit < given)
 IsRefusal config hs (TooManyStates given limit) =
-    AreFew hs × (given ≡ capped (nfa_states hs)) × (limit ≡ 2147483647) × (limit < given)
+    AreFew hs × (given ≡ capped (nfa_states hs)) × (limit ≡ id_limit) × (limit < given)
 IsRefusal config hs (ExceededSizeLimit limit size) =
-    AreFew hs × (nfa_states hs ≤ 2147483647) × (size_limit_of config ≡ Some limit) × (size ≡ 32 * nfa_states hs) × (limit < size)
+    AreFew hs × (nfa_states hs ≤ id_limit) × (size_limit_of config ≡ Some limit) × (size ≡ state_size * nfa_states hs) × (limit < size)
 IsRefusal config hs Memory = AreAllowed config hs

@@ -1,5 +1,6 @@
 -- An NFA in the making.
 use Rattle.std.specs.Prelude.{◌≡◌, ℕ, ◌<◌, ◌≤◌, List, [], ◌∷◌, ◌++◌, length, All, Option, slice_set}
+use Rattle.rx_search.specs.Limits.{id_limit}
 use Rattle.rx_nfa.specs.Automaton.{state_at, NamesBelow, IsWithin}
 use Rattle.rx_nfa.specs.Row.{HasSortedTransitions}
 use Rattle.rx_nfa.specs.Slots.{WritesOwnSlots}
@@ -17,7 +18,7 @@ pub record AreInRange (d : Draft) : Type 0 where
   pub within : All (IsWithin (length d.groups) d.slots) d.states
   pub own : All (WritesOwnSlots d.groups) d.states
   pub sorted : All HasSortedTransitions d.states
-  pub few : length d.states ≤ 2147483647
+  pub few : length d.states ≤ id_limit
 
 -- one more state
 abbrev pub pushed : Draft → State → Draft

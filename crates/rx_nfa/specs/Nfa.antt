@@ -7,6 +7,7 @@ use Rattle.rx_model.specs.Runs.{Sieve, sieved, first_trace}
 use Rattle.rx_model.specs.Search.{Patterns, told, first, first_where, first_of_patterns, first_of_patterns_where}
 use Rattle.rx_search.specs.GroupInfo.{slot_count}
 use Rattle.rx_search.specs.LookSet.{has}
+use Rattle.rx_search.specs.Limits.{id_limit}
 use Rattle.rx_nfa.specs.Automaton.{at, automaton, asks_for, NamesBelow, IsWithin}
 use Rattle.rx_nfa.specs.Row.{HasSortedTransitions}
 use Rattle.rx_nfa.specs.Slots.{WritesOwnSlots}
@@ -46,9 +47,9 @@ pub record IsInRange (nfa : Nfa) : Type 0 where
   pub own : All (WritesOwnSlots nfa.groups) nfa.states
   pub sorted : All HasSortedTransitions nfa.states
   pub looks : (kind : Look) → has nfa.looks kind ≡ list_any (asks_for kind) nfa.states
-  pub few_states : length nfa.states ≤ 2147483647
-  pub few_patterns : length nfa.starts ≤ 2147483647
-  pub few_accounted : nfa.accounted ≤ 2147483647
+  pub few_states : length nfa.states ≤ id_limit
+  pub few_patterns : length nfa.starts ≤ id_limit
+  pub few_accounted : nfa.accounted ≤ id_limit
 
 -- Wherever acceptance is permitted, by pattern and place, the first runs of the states are those of the patterns' graphs
 -- where it is permitted so, with pattern and end, and with slots where captures are asked for.
@@ -69,3 +70,8 @@ pub record HasFirstRuns (nfa : Nfa) (r : Patterns) : Type 0 where
       → first_trace (automaton nfa.terminator nfa.states text end) (at (slice_index nfa.starts p) i) ≡ option_map (told r.which_captures) (first r text end p h i)
   pub all : (text : List ℕ) (end i : ℕ) → end ≤ length text
       → first_trace (automaton nfa.terminator nfa.states text end) (at nfa.start_anchored i) ≡ option_map (told r.which_captures) (first_of_patterns r text end 0 r.expressions i)
+
+-- the NFA has the runs of these patterns, and both permit the same starts
+pub record IsNfaOf (nfa : Nfa) (r : Patterns) : Type 0 where
+  pub runs : HasRuns nfa r
+  pub utf8 : r.utf8_empty ≡ nfa.utf8

@@ -1,5 +1,6 @@
 //! An NFA in the making.
 ghost use Rattle.std.specs.Prelude.{◌≡◌, ◌+◌, ◌<◌, ◌≤◌, [], length, All, IfOk, OnOk, OnErr};
+ghost use Rattle.rx_search.specs.Limits.{id_limit};
 ghost use Rattle.rx_nfa.specs.Automaton.{NamesBelow, IsWithin};
 ghost use Rattle.rx_model.specs.Graph.{build_state, set};
 ghost use Rattle.rx_model.specs.Text.{scalar_ranges, byte_ranges};
@@ -74,7 +75,7 @@ impl Builder {
 
     /// Appends a state, and answers its number.
     pub fn push(&mut self, state: State) -> Result<StateID, Memory>
-        requires room { length self.old.states < 2147483647 }
+        requires room { length self.old.states < id_limit }
         requires names { NamesBelow (length self.old.states) state }
         requires within { IsWithin (length self.old.groups) self.old.slots state }
         requires own { WritesOwnSlots self.old.groups state }
@@ -96,7 +97,7 @@ impl Builder {
         next: StateID,
     ) -> Result<StateID, Memory>
         requires next { next < length self.old.states }
-        requires room { length self.old.states + states_of_class (class_view class.now) ≤ 2147483647 }
+        requires room { length self.old.states + states_of_class (class_view class.now) ≤ id_limit }
         ensures built { IfOk result (λ start. Built (build_state (set (class_view class.now))) next self.old self.new start) }
         ensures inside { IfOk result (λ start. start < length self.new.states) }
         ensures count { OnOk result (length self.new.states ≤ length self.old.states + states_of_class (class_view class.now)) }
@@ -115,7 +116,7 @@ impl Builder {
         next: StateID,
     ) -> Result<StateID, Memory>
         requires next { next < length self.old.states }
-        requires room { length self.old.states + states_of_class (scalar_ranges scalars.now) ≤ 2147483647 }
+        requires room { length self.old.states + states_of_class (scalar_ranges scalars.now) ≤ id_limit }
         ensures built { IfOk result (λ start. Built (build_state (set (scalar_ranges scalars.now))) next self.old self.new start) }
         ensures inside { IfOk result (λ start. start < length self.new.states) }
         ensures count { OnOk result (length self.new.states ≤ length self.old.states + states_of_class (scalar_ranges scalars.now)) }
@@ -135,7 +136,7 @@ impl Builder {
         next: StateID,
     ) -> Result<StateID, Memory>
         requires next { next < length self.old.states }
-        requires room { length self.old.states < 2147483647 }
+        requires room { length self.old.states < id_limit }
         ensures built { IfOk result (λ start. Built (build_state (set (byte_ranges bytes.now))) next self.old self.new start) }
         ensures inside { IfOk result (λ start. start < length self.new.states) }
         ensures count { OnOk result (length self.new.states ≡ length self.old.states + 1) }
@@ -170,9 +171,9 @@ impl Builder {
         requires start { start_anchored < length self.states }
         requires starts { All (λ q. q < length self.states) starts.items }
         requires patterns { length starts.items ≡ length self.groups }
-        requires few { length self.groups ≤ 2147483647 }
+        requires few { length self.groups ≤ id_limit }
         requires slots { self.slots ≤ slot_count self.groups }
-        requires accounted { facts.accounted_states ≤ 2147483647 }
+        requires accounted { facts.accounted_states ≤ id_limit }
         ensures value { IfOk result (λ nfa. nfa ≡ record {
           states = self.states;
           start_anchored = start_anchored;

@@ -3,6 +3,7 @@ ghost use Rattle.std.specs.Prelude.{List, ◌≡◌, ◌<◌, ◌≤◌, ◌+◌
 ghost use Rattle.rx_model.specs.Text.{is_member, scalar_ranges, byte_ranges};
 ghost use Rattle.rx_model.specs.Runs.{Sieve, sieved};
 ghost use Rattle.rx_class.specs.Ranges.{AreScalarRanges, AreByteRanges};
+ghost use Rattle.rx_search.specs.Limits.{id_limit};
 ghost use Rattle.rx_nfa.specs.Automaton.{automaton};
 ghost use Rattle.rx_nfa.specs.Ranges.{RisesFrom, StaysBelow, size_of_block, clip, cost_of_parts, cost_of_class};
 ghost use Rattle.rx_nfa.specs.Row.{transition_to, Ascends, IsReader, AddsReaders};
@@ -95,7 +96,7 @@ pub fn compile_class(
     next: StateID,
 ) -> Result<StateID, Memory>
     requires fewest { AreScalarRanges ranges.now }
-    requires room { length states.old.items + cost_of_class ranges.now ≤ 2147483647 }
+    requires room { length states.old.items + cost_of_class ranges.now ≤ id_limit }
     ensures built { IfOk result (λ q. IsClass (IsReader (length states.old.items) states.new.items) next ranges.now q) }
     ensures grows { OnOk result (AddsReaders states.old.items states.new.items) }
     ensures closed { OnOk result (next < length states.old.items → AreClosed states.old.items → AreClosed states.new.items) }
@@ -156,7 +157,7 @@ pub fn compile_bytes(
     next: StateID,
 ) -> Result<StateID, Memory>
     requires fewest { AreByteRanges ranges.now }
-    requires room { length states.old.items < 2147483647 }
+    requires room { length states.old.items < id_limit }
     ensures built { IfOk result (λ q. IsByteClass (IsReader (length states.old.items) states.new.items) next ranges.now q) }
     ensures bytes { OnOk result (StaysBelow 255 ranges.now) }
     ensures grows { OnOk result (AddsReaders states.old.items states.new.items) }
@@ -197,7 +198,7 @@ fn add_band(
     requires bytes { band.children.first + band.children.len ≤ 256 }
     requires before { Ascends 0 band.children.first transitions.old.items }
     requires some { 0 < length whole.old.items }
-    requires room { length states.old.items + cost_of_parts (band.children.depth + 1) (clip band.low band.high ranges.now) ≤ 2147483647 }
+    requires room { length states.old.items + cost_of_parts (band.children.depth + 1) (clip band.low band.high ranges.now) ≤ id_limit }
     ensures some { OnOk result (0 < length whole.new.items) }
     ensures grows { OnOk result (AddsReaders states.old.items states.new.items) }
     ensures closed { OnOk result ((base next : ℕ) → IsReady base states.old.items next whole.old.items
@@ -239,7 +240,7 @@ mod tests {
     /// The states of the class, after the state 0, which is a match and the one that they go on to.
     fn states_of(alloc: Global, ranges: &[(char, char)]) -> Result<Vec<State>, Memory>
         requires fewest { AreScalarRanges ranges.now }
-        requires room { 1 + cost_of_class ranges.now ≤ 2147483647 }
+        requires room { 1 + cost_of_class ranges.now ≤ id_limit }
     {
         let mut states = Vec::new(alloc);
         states.push(State::Match {

@@ -3,6 +3,7 @@ ghost use Rattle.std.specs.Prelude.{◌≡◌, ℕ, ◌+◌, ◌*◌, ◌<◌, �
 ghost use Rattle.rx_model.specs.Expression.{Expression};
 ghost use Rattle.rx_model.specs.Graph.{build_state};
 ghost use Rattle.rx_model.specs.Search.{greatest_group};
+ghost use Rattle.rx_search.specs.Limits.{id_limit};
 ghost use Rattle.rx_hir.specs.Cost.{accounted_states};
 ghost use Rattle.rx_hir.specs.Sound.{IsSound};
 ghost use Rattle.rx_nfa.specs.Built.{Built, slot_from, bound, compiled_pattern, HasPart, HasPatterns, StartsAll};
@@ -43,7 +44,7 @@ use std::slice;
 pub const PATTERN_LIMIT: usize = PatternID::LIMIT;
 
 /// The most slots that a match may have.
-const SLOT_LIMIT: usize = 2147483646;
+const SLOT_LIMIT: usize = PatternID::LIMIT - 1;
 
 /// The most states that an NFA may have.
 const STATE_LIMIT: usize = StateID::LIMIT;
@@ -149,7 +150,7 @@ fn build(
     requires few { AreFew exprs.now }
     requires slots { slots ≡ slots_of exprs.now }
     requires states { states ≡ nfa_states exprs.now }
-    requires few_states { states ≤ 2147483647 }
+    requires few_states { states ≤ id_limit }
     ensures { IfOk result (IsCompiled config exprs.now) }
 {
     let which = config.get_which_captures();
@@ -178,7 +179,7 @@ fn compile_patterns(
     requires few { AreFew exprs.now }
     requires groups { builder.old.groups ≡ groups_of exprs.now }
     requires slots { builder.old.slots ≡ slots_written (captures_kind which) exprs.now }
-    requires fits { length builder.old.states + nfa_states exprs.now ≤ 2147483647 }
+    requires fits { length builder.old.states + nfa_states exprs.now ≤ id_limit }
     ensures extends { OnOk result (Extends builder.old builder.new) }
     ensures len { IfOk result (λ starts. length starts.items ≡ length exprs.now) }
     ensures has { IfOk result (λ starts. HasPatterns builder.new.states (patterns_of exprs.now true 0 (captures_kind which)) (length exprs.now) starts.items) }
@@ -212,7 +213,7 @@ fn compile_pattern(
     requires room { HasRoom builder.old groups.now (greatest_group hir.now) }
     requires whole { IfSome groups.now.whole_slot (λ slot. slot + 1 < builder.old.slots) }
     requires own { IfSome groups.now.whole_slot (λ slot. slot ≡ 2 * groups.now.pattern) }
-    requires fits { length builder.old.states + (accounted_states hir.now + 3) ≤ 2147483647 }
+    requires fits { length builder.old.states + (accounted_states hir.now + 3) ≤ id_limit }
     ensures extends { OnOk result (Extends builder.old builder.new) }
     ensures has { IfOk result (λ start. HasPart builder.new.states
         (compiled_pattern groups.now.whole_slot (slot_from groups.now.first_slot) groups.now.pattern hir.now) start) }
@@ -241,7 +242,7 @@ fn push_bound(
     requires pattern { pattern < length builder.old.groups }
     requires slot { IfSome slot (λ number. number < builder.old.slots) }
     requires own { IfSome slot (λ number. IsSlotOf builder.old.groups pattern number) }
-    requires fits { length builder.old.states < 2147483647 }
+    requires fits { length builder.old.states < id_limit }
     ensures built { IfOk result (λ start. Built (build_state (bound slot)) next builder.old builder.new start) }
     ensures inside { IfOk result (λ start. start < length builder.new.states) }
     ensures count { OnOk result (length builder.new.states ≤ length builder.old.states + 1) }
@@ -271,7 +272,7 @@ fn one_way(alloc: Global, next: StateID) -> Result<Alternates, Memory>
 /// Where the runs of all the patterns start: at the only start, or at a choice between them.
 fn start_of_all(alloc: Global, builder: &mut Builder, starts: &[StateID]) -> Result<StateID, Memory>
     requires inside { All (λ q. q < length builder.old.states) starts.now }
-    requires fits { length builder.old.states < 2147483647 }
+    requires fits { length builder.old.states < id_limit }
     ensures starts { IfOk result (StartsAll builder.old builder.new starts.now) }
     ensures count { OnOk result (length builder.new.states ≤ length builder.old.states + 1) }
     ensures inside { IfOk result (λ start. start < length builder.new.states) }

@@ -2,6 +2,7 @@ ghost use Rattle.std.specs.Prelude.{◌≡◌, ◌*◌, ◌<◌, length, slice_g
 ghost use Rattle.std.specs.List.{list_any};
 ghost use Rattle.rx_model.specs.Look.{Look};
 ghost use Rattle.rx_search.specs.LookSet.{has};
+ghost use Rattle.rx_hir.specs.Cost.{state_size};
 ghost use Rattle.rx_nfa.specs.Automaton.{state_at, asks_for};
 ghost use Rattle.rx_nfa.specs.Inner.{nfa_of};
 ghost use Rattle.rx_nfa.specs.Nfa.{IsInRange};
@@ -16,7 +17,7 @@ use std::marker::Model;
 use std::sync::Arc;
 
 /// The bytes that are accounted for a state.
-pub(crate) const STATE_SIZE: usize = 32;
+pub(crate) const STATE_SIZE: usize = rx_hir::STATE_SIZE as usize;
 
 /// An automaton that reads bytes: its states, where the runs of its patterns start, and how many
 /// slots a match has. Every state, pattern and slot that is named is there. A slot that a state writes is one of a group
@@ -187,7 +188,7 @@ impl NFA {
 
     /// The bytes that are accounted for the NFA: 32 for each accounted state.
     pub fn memory_usage(&self) -> usize
-        ensures { result ≡ 32 * self.now.accounted }
+        ensures { result ≡ state_size * self.now.accounted }
     {
         STATE_SIZE * self.inner.accounted_states
     }

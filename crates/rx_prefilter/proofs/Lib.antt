@@ -2,3 +2,8 @@ pub mod ListLemmas
 pub mod NeedleLemmas
 pub mod ByteLemmas
 pub mod PlaceLemmas
+pub mod TrieLemmas
+pub mod FirstLemmas
+pub mod LeadLemmas
+pub mod LinkLemmas
+pub mod AutomatonLemmas

@@ -1,15 +1,17 @@
 -- Tables of pairs: what a mark keeps, and what a pair that isn't marked rules out.
-use Rattle.std.proofs.Common.{◌≡◌, ◌≢◌, ℕ, ◌+◌, ◌-◌, ◌*◌, ◌%◌, ◌^◌, ◌<◌, ◌≤◌, List, [], ◌∷◌, ◌++◌, None, All, length, get_or, set, slice_index, bit_or, w8, sym, ap, ◌∙◌, arith, ⊎_elim}
+use Rattle.std.proofs.Common.{◌≡◌, ◌≢◌, ℕ, suc, ◌+◌, ◌-◌, ◌*◌, ◌/◌, ◌%◌, ◌^◌, ◌<◌, ◌≤◌, min, max, List, [], ◌∷◌, ◌++◌, None, Some, All, length, get_or, set, slice_index, bit_and, bit_or, w8, sym, ap, ◌∙◌, arith, ⊎_elim}
+use Rattle.std.specs.Option.{option_or}
 use Rattle.std.specs.Int.{bit_at}
 use Rattle.std.proofs.lemmas.Bool.{cases_lt, cases_eq}
 use Rattle.std.proofs.lemmas.List.{get_or-set_same, get_or-set_other}
 use Rattle.std.proofs.lemmas.List.Elements.{All-head, All-tail, All-push, All-weaker, All-same}
-use Rattle.std.proofs.lemmas.Nat.Bits.{bit_at_set_same, bit_at_or, bit_at-zero}
+use Rattle.std.proofs.lemmas.Nat.Bits.{bit_at_set_same, bit_at_or, bit_at_and, bit_at-suc, bit_at-lt, bit_at-zero, same_from_bits}
 use Rattle.memchr.specs.Find.{OccursAt}
+use Rattle.rx_search.specs.declared.span.Span.{Span}
 use Rattle.rx_prefilter.specs.Needles.{span_among, NoneLies}
 use Rattle.rx_prefilter.specs.Places.{pair_at, pair_number, IsMarked, Keeps}
 use Rattle.rx_prefilter.proofs.ByteLemmas.{occurs_at-false}
-use Rattle.rx_prefilter.proofs.NeedleLemmas.{span_at-nil, span_at-next, span_among-skip, span_among-zero}
+use Rattle.rx_prefilter.proofs.NeedleLemmas.{span_at-nil, span_at-next, span_among-skip, span_among-split, span_among-zero}
 
 -- a mark more
 pub marked_same : (ps : List ℕ) (pair j : ℕ) → pair < length ps → j < 8 → bit_at (get_or (set ps pair (bit_or (get_or ps pair 0) (1 * 2 ^ j % 2 ^ 8))) pair 0) j ≡ 1
@@ -79,14 +81,64 @@ module _ (places : List ℕ) (stride : ℕ) (text : List ℕ) where
       span_at-next text at needle needles (occurs_at-false text needle at (λ o. absurd (omega (arith, o.fits, long))))
       ∙ short_none needles at (All-tail (IsMarked places stride) needle needles marked) past
 
+  none_among : (needles : List (List ℕ)) (at : ℕ) → ((k : ℕ) → at ≤ k → k < at + stride → NoneLies needles text k) → span_among needles text at stride ≡ None
+  none_among needles at none =
+      let e : stride + 0 ≡ stride = omega arith in
+      ap (span_among needles text at) (sym e) ∙ span_among-skip needles text stride at 0 none ∙ span_among-zero needles text (at + stride)
+
   -- a pair that stands at no place of a needle rules out a whole window
   pub window_none : (needles : List (List ℕ)) (at : ℕ) → All (IsMarked places stride) needles → 0 < stride
       → slice_index places (pair_at text (at + stride - 1)) ≡ 0 → span_among needles text at stride ≡ None
-  window_none needles at marked some zero_is =
-      let e : stride + 0 ≡ stride = omega arith in
-      let none : (k : ℕ) → at ≤ k → k < at + stride → NoneLies needles text k = λ k a b.
+  window_none needles at marked some zero_is = none_among needles at (λ k a b.
       let j = at + stride - 1 - k in
       let here : k + j ≡ at + stride - 1 = omega arith in
       let empty : bit_at 0 j ≡ 0 = bit_at-zero j in
-      unmarked_none needles k j marked (omega arith) (λ one. absurd (omega (arith, rw (here, zero_is, empty) at one))) in
-      ap (span_among needles text at) (sym e) ∙ span_among-skip needles text stride at 0 none ∙ span_among-zero needles text (at + stride)
+      unmarked_none needles k j marked (omega arith) (λ one. absurd (omega (arith, rw (here, zero_is, empty) at one))))
+
+  -- so does one that is no needle's first, where a window has one place
+  pub low_none : (needles : List (List ℕ)) (at here : ℕ) → All (IsMarked places stride) needles → stride ≡ 1
+      → here ≡ slice_index places (pair_at text (at + stride - 1)) → bit_at here 0 ≡ 0 → span_among needles text at stride ≡ None
+  low_none needles at here marked one is low = none_among needles at (λ k a b.
+      let place : at + stride - 1 ≡ k + 0 = omega (arith, one) in
+      unmarked_none needles k 0 marked (omega (arith, one))
+      (λ set_is. absurd (omega (arith, low, ap (λ n. bit_at n 0) (is ∙ ap (λ p. slice_index places (pair_at text p)) place) ∙ set_is))))
+
+  -- and one that is no needle's first, where the pair before it stands at no place before that of this one
+  pub tested_none : (needles : List (List ℕ)) (at before here : ℕ) → All (IsMarked places stride) needles → 1 < stride
+      → here ≡ slice_index places (pair_at text (at + stride - 1)) → before ≡ slice_index places (pair_at text (at + stride - 2))
+      → bit_at here 0 ≡ 0 → bit_and before (here / 2) ≡ 0 → span_among needles text at stride ≡ None
+  tested_none needles at before here marked more is before_is low apart = none_among needles at (λ k a b.
+      let j = at + stride - 1 - k in
+      let place : at + stride - 1 ≡ k + j = omega arith in
+      let clear : bit_at here j ≡ 0 → NoneLies needles text k = λ zero_is. unmarked_none needles k j marked (omega arith)
+      (λ one. absurd (omega (arith, zero_is, ap (λ n. bit_at n j) (is ∙ ap (λ p. slice_index places (pair_at text p)) place) ∙ one))) in
+      ⊎_elim
+      (λ (first : j ≡ 0). clear (ap (bit_at here) first ∙ low))
+      (λ (later : j ≡ 0 → ⊥).
+      let i = j - 1 in
+      let next : j ≡ suc i = omega (arith, later) in
+      let place_before : at + stride - 2 ≡ k + i = omega (arith, later, more) in
+      let both : 0 ≡ min (bit_at before i) (bit_at (here / 2) i) = sym (bit_at-zero i) ∙ ap (λ n. bit_at n i) (sym apart) ∙ bit_at_and before (here / 2) i in
+      let shifted : bit_at here j ≡ bit_at (here / 2) i = ap (bit_at here) next ∙ bit_at-suc here i in
+      ⊎_elim
+      (λ (one : bit_at before i ≡ 1). clear (let small = bit_at-lt (here / 2) i in omega (arith, both, one, shifted, small)))
+      (λ (other : bit_at before i ≡ 1 → ⊥). unmarked_none needles k i marked (omega (arith, later))
+      (λ one. absurd (other (ap (λ n. bit_at n i) (before_is ∙ ap (λ p. slice_index places (pair_at text p)) place_before) ∙ one))))
+      (cases_eq (bit_at before i) 1))
+      (cases_eq j 0))
+
+-- where two numbers have no bit, neither has one
+pub neither : (a b : ℕ) → bit_or a b ≡ 0 → (a ≡ 0) × (b ≡ 0)
+neither a b none =
+    let both : (i : ℕ) → max (bit_at a i) (bit_at b i) ≡ 0 = λ i. sym (bit_at_or a b i) ∙ ap (λ n. bit_at n i) none ∙ bit_at-zero i in (
+      same_from_bits a 0 (λ i. let e = both i in let z = bit_at-zero i in omega (arith, e, z)),
+      same_from_bits b 0 (λ i. let e = both i in let z = bit_at-zero i in omega (arith, e, z)),
+    )
+
+-- two windows, one after the other
+module _ (needles : List (List ℕ)) (text : List ℕ) (at k : ℕ) where
+  pub two_found : (span : Span) → span_among needles text at k ≡ Some span → span_among needles text at (k + k) ≡ Some span
+  two_found span e = span_among-split needles text k at k ∙ ap (λ o. option_or o (span_among needles text (at + k) k)) e
+
+  pub two_next : span_among needles text at k ≡ None → span_among needles text at (k + k) ≡ span_among needles text (at + k) k
+  two_next e = span_among-split needles text k at k ∙ ap (λ o. option_or o (span_among needles text (at + k) k)) e

@@ -2,7 +2,12 @@ ghost use Rattle.std.specs.Prelude.{◌≡◌, ◌≤◌, ℕ, List, length, map
 ghost use Rattle.std.specs.Vec.{vec_items};
 ghost use Rattle.rx_prefilter.specs.Needles.{span_at, first_span};
 
+mod automaton;
+mod links;
+mod trie;
+
 use crate::needles;
+use automaton::Automaton;
 use rx_search::{Memory, Span};
 use std::alloc::Global;
 use std::marker::Model;
@@ -10,13 +15,20 @@ use std::marker::Model;
 /// Any needles that are not empty.
 #[derive(Drop)]
 pub(crate) struct AhoCorasick {
-    needles: Vec<Vec<u8>>,
+    automaton: Automaton,
 }
 
 impl Model for AhoCorasick {
+    ghost use Rattle.std.specs.Prelude.{ℕ, List, map};
+
     ghost Value = { List (List ℕ) };
 
-    ghost view = { λ a. map vec_items a.needles.items };
+    ghost use Rattle.std.specs.Vec.{vec_items};
+    ghost use Rattle.rx_prefilter.specs.Automata.{IsAutomaton};
+
+    ghost view = { λ a. map vec_items a.automaton.needles.items };
+
+    ghost invariant = { λ a. IsAutomaton a.automaton };
 }
 
 impl AhoCorasick {
@@ -25,7 +37,7 @@ impl AhoCorasick {
         ensures { IfOk result (λ a. a ≡ map vec_items needles.now) }
     {
         Ok(AhoCorasick {
-            needles: needles::copied(alloc, needles)?,
+            automaton: Automaton::new(alloc, needles)?,
         })
     }
 
@@ -33,7 +45,7 @@ impl AhoCorasick {
     pub(crate) fn needles(&self) -> &[Vec<u8>]
         ensures { map vec_items result.now ≡ self.now }
     {
-        &self.needles
+        &self.automaton.needles
     }
 
     /// Where the first needle of the list lies that begins at the least place from `from` on.
@@ -41,7 +53,7 @@ impl AhoCorasick {
         requires { from ≤ length text.now }
         ensures { result ≡ first_span self.now text.now from }
     {
-        needles::first_span(&self.needles, text, from)
+        self.automaton.find(text, from)
     }
 
     /// The same of the needles that begin at `at`.
@@ -49,6 +61,6 @@ impl AhoCorasick {
         requires { at ≤ length text.now }
         ensures { result ≡ span_at self.now text.now at }
     {
-        needles::span_at(&self.needles, text, at)
+        needles::span_at(&self.automaton.needles, text, at)
     }
 }

@@ -10,6 +10,7 @@ mod aho_corasick;
 mod byte_set;
 mod bytes;
 mod choice;
+mod laws;
 mod memmem;
 mod multi;
 mod needles;
@@ -17,6 +18,7 @@ mod prefilter;
 mod prefixes;
 
 pub use choice::Choice;
+pub use laws::a_search_finds_the_first_span;
 pub use prefilter::Prefilter;
 
 #[cfg(test)]

@@ -2,7 +2,7 @@
 ghost use Rattle.std.specs.Prelude.{◌≡◌, ◌≤◌, true, length, map, IfOk};
 ghost use Rattle.std.specs.Vec.{vec_items};
 ghost use Rattle.memchr.specs.Find.{occurs_at};
-ghost use Rattle.rx_prefilter.specs.Needles.{span_at, first_span};
+ghost use Rattle.rx_prefilter.specs.Needles.{span_at};
 ghost use Rattle.std.specs.List.{list_all, list_any};
 ghost use Rattle.rx_prefilter.specs.Choices.{total_length, greatest_length, saturated, is_empty, is_single, has_bytes};
 ghost use Rattle.rx_prefilter.specs.Bytes.{single};
@@ -33,19 +33,6 @@ pub(crate) fn span_at(needles: &[Vec<u8>], text: &[u8], at: usize) -> Option<Spa
         }
     }
     None
-}
-
-/// The same at the least place from `from` on, place by place.
-pub(crate) fn first_span(needles: &[Vec<u8>], text: &[u8], from: usize) -> Option<Span>
-    requires { from ≤ length text.now }
-    ensures { result ≡ first_span (map vec_items needles.now) text.now from }
-{
-    for at in from..text.len() {
-        if let Some(span) = span_at(needles, text, at) {
-            return Some(span);
-        }
-    }
-    span_at(needles, text, text.len())
 }
 
 /// Needles of the caller's own.

@@ -1,6 +1,6 @@
 -- The characters of what is read are scalars, where those of the text are.
-use Rattle.std.proofs.Common.{◌≡◌, ℕ, zero, suc, ◌+◌, Bool, true, false, not, ◌||◌, ◌==◌, List, [], ◌∷◌, length, drop, slice_index, Ok, Err, refl, subst}
-use Rattle.std.specs.Prelude.{if◌then◌else◌, nat_lt}
+use Rattle.std.proofs.Common.{◌≡◌, ℕ, Bool, true, false, not, ◌||◌, ◌==◌, List, [], ◌∷◌, length, drop, slice_index, Ok, refl}
+use Rattle.std.specs.Prelude.{if◌then◌else◌}
 use Rattle.std.specs.Char.{IsScalar}
 use Rattle.std.proofs.lemmas.Bool.{and_parts}
 use lib.Utf8.{scalar, scalars}
@@ -10,23 +10,22 @@ use Rattle.rx_reader.specs.declared.piece.Piece.{Piece}
 use Rattle.rx_reader.specs.declared.escape.Escaped.{Escaped}
 use Rattle.rx_reader.specs.declared.escape.Escaped.TheVariants as escapes
 use Rattle.rx_reader.specs.declared.atom.Atom.TheVariants as atoms
-use Rattle.rx_reader.specs.declared.group_kind.GroupKind.{GroupKind}
 use Rattle.rx_reader.specs.declared.opening.Opening.{Opening}
 use Rattle.rx_reader.specs.declared.opening.Opening.TheVariants.{Group, Directive as Turns}
 use Rattle.rx_reader.specs.declared.token.Token.{Token}
-use Rattle.rx_reader.specs.declared.token.Token.TheVariants.{End, Bar, Close, Opens, Directive, Atom as One}
-use Rattle.rx_reader.specs.Config.{flags_of, limit_of, octal_of}
-use Rattle.rx_reader.specs.Reading.{Place, Read, ◌>>=◌, at_end, first, past, is_at, begins, has_name, ◌∈◌}
-use Rattle.rx_reader.specs.Ahead.{past_n, skip}
+use Rattle.rx_reader.specs.Config.{octal_of}
+use Rattle.rx_reader.specs.Reading.{Place, Read, at_end, first, is_at, begins, has_name, ◌∈◌}
+use Rattle.rx_reader.specs.Ahead.{past_n}
 use Rattle.rx_reader.specs.Names.{name_of, read_name}
 use Rattle.rx_reader.specs.Openings.{is_look_ahead, is_look_behind, is_reference, named, flagged, opening}
-use Rattle.rx_reader.specs.Syntax.{Syntax, literal, atom, group, depth}
-use Rattle.rx_reader.specs.Characters.{AllIn}
-use Rattle.rx_reader.specs.Grammar.{opened, opens, escaped_atom, escaped, bracketed, is_operator, stray_operator, token_of, token, repeated_by, Branches, whole, within_limit, repeat_if, repetitions, close_group, item_then, group_then, branches_at, branches, to_end, read}
-use Rattle.rx_reader.proofs.GivesLemmas.{Gives, refused, reads, bind, test, Keeps, Carries}
+use Rattle.rx_reader.specs.Syntax.{Syntax, literal, atom}
+use Rattle.rx_reader.specs.Characters.{AllIn, AllInEach}
+use Rattle.rx_reader.specs.Grammar.{opened, opens, escaped_atom, escaped, bracketed, is_operator, stray_operator, token_of, token, read}
+use Rattle.rx_reader.proofs.GivesLemmas.{Gives, refused, reads, bind, test, both, Keeps, Carries}
 use Rattle.rx_reader.proofs.EscapeKeeps.{AllInEscaped, past_n-keeps, escape-keeps, class-keeps}
 use Rattle.rx_reader.proofs.TokenKeeps.{skip-keeps, read_flags-keeps, operator-keeps}
-use Rattle.rx_reader.proofs.GroupLemmas.{to-whole}
+use Rattle.rx_reader.proofs.OrderLemmas.{operator-order}
+use Rattle.rx_reader.proofs.WholeLemmas.{InToken, Stays, read-stays}
 
 -- the characters from the place on are scalars
 abbrev Scalars : Place → Type 0
@@ -75,14 +74,8 @@ opening-scalars flags p at =
     test (begins "(?<" p) (λ _. named-scalars flags (past_n 3 p) (past_n-scalars 3 p at)) (λ _.
     test (begins "(?" p) (λ _. flagged-scalars flags p at) (λ _. reads (carry.on p at)))))))
 
--- the characters of the atom that a token is
 abbrev AllInToken : Token → Type 0
-AllInToken (One item) = AllIn IsScalar item
-AllInToken (Opens kind inside) = Unit {0}
-AllInToken End = Unit {0}
-AllInToken Bar = Unit {0}
-AllInToken Close = Unit {0}
-AllInToken (Directive next) = Unit {0}
+AllInToken t = InToken (AllIn IsScalar) t
 
 abbrev KeepsToken : Read Token → Type 0
 KeepsToken r = Gives (λ t q. AllInToken t × Scalars q) r
@@ -138,84 +131,20 @@ module _ (config : Config) where
       test (at_end p) (λ _. reads (tt, at)) (λ _.
       test (is_operator p) (λ _. stray_operator-scalars p) (λ _. token_of-scalars (first p) flags p (carry.first p at) at))
 
-  -- Items and branches.
-
-  abbrev KeepsItem : Read Syntax → Type 0
-  KeepsItem r = Gives (λ s q. AllIn IsScalar s × Scalars q) r
-
-  abbrev KeepsBranches : Read Branches → Type 0
-  KeepsBranches r = Gives (λ b q. AllIn IsScalar (whole b) × Scalars q) r
-
-  limit-scalars : (s : Syntax) (p q : Place) → AllIn IsScalar s → Scalars q → KeepsItem (within_limit config s p q)
-  limit-scalars s p q own at = test (nat_lt (limit_of config) (depth s)) (λ _. refused) (λ _. reads (own, at))
-
-  repeat_if-scalars : (more : Syntax → Place → Read Syntax) → ((s : Syntax) (q : Place) → AllIn IsScalar s → Scalars q → KeepsItem (more s q))
-      → (flags : Flags) (item : Syntax) (p : Place) (b : Bool) → AllIn IsScalar item → Scalars p → KeepsItem (repeat_if config more flags item p b)
-  unfolding AllIn
-  repeat_if-scalars more h flags item p false own at = reads (own, at)
-  repeat_if-scalars more h flags item p true own at =
-      bind _ (operator-keeps Scalars IsScalar carry flags p at) (λ o q here.
-      bind _ (limit-scalars (repeated_by o item) p q own here) (λ s r there. h s r there.0 there.1))
-
-  repetitions-scalars : (n : ℕ) (flags : Flags) (item : Syntax) (p : Place) → AllIn IsScalar item → Scalars p → KeepsItem (repetitions config n flags item p)
-  unfolding repetitions
-  repetitions-scalars zero flags item p own at = reads (own, at)
-  repetitions-scalars (suc n) flags item p own at =
-      let q : Place = skip flags p in
-      repeat_if-scalars (repetitions config n flags) (repetitions-scalars n flags) flags item q (is_operator q) own (skip-keeps Scalars IsScalar carry flags p at)
-
-  close-scalars : (kind : GroupKind) (p : Place) (body : Syntax) (r : Place) → AllIn IsScalar body → Scalars r → KeepsItem (close_group config kind p body r)
-  unfolding AllIn
-  close-scalars kind p body r own at = test (at_end r) (λ _. refused) (λ _. limit-scalars (group kind body) r (past r) own (carry.on r at))
-
-  item_then-scalars : (more : Place → Read Branches) → ((q : Place) → Scalars q → KeepsBranches (more q))
-      → (flags : Flags) (item : Syntax) (p : Place) → AllIn IsScalar item → Scalars p → KeepsBranches (item_then config more flags item p)
-  unfolding AllIn
-  item_then-scalars more h flags item p own at =
-      bind _ (repetitions-scalars (length p.text + 1) flags item p own at) (λ whole_item q first.
-      bind _ (h q first.1) (λ b r rest. reads (((first.0, rest.0.0), rest.0.1), rest.1)))
-
-  -- what is read from each place on
-  abbrev KeepsOn : (Flags → ℕ → Place → Read Branches) → Type 0
-  KeepsOn more = (flags : Flags) (opened : ℕ) (q : Place) → Scalars q → KeepsBranches (more flags opened q)
-
-  group_then-scalars : (more : Flags → ℕ → Place → Read Branches) → KeepsOn more
-      → (flags : Flags) (opened : ℕ) (p : Place) (kind : GroupKind) (inside : Flags) (q : Place) (too_many : Bool) → Scalars q
-      → KeepsBranches (group_then config more flags opened p kind inside q too_many)
-  group_then-scalars more h flags opened p kind inside q true at = refused
-  group_then-scalars more h flags opened p kind inside q false at =
-      bind _ (h inside (opened + 1) q at) (λ body r within.
-      bind _ (close-scalars kind p (whole body) r within.0 within.1) (λ item after done.
-      item_then-scalars (more flags opened) (h flags opened) flags item after done.0 done.1))
-
-  branches_at-scalars : (more : Flags → ℕ → Place → Read Branches) → KeepsOn more
-      → (flags : Flags) (opened : ℕ) (p : Place) (t : Token) (q : Place) → Scalars p → AllInToken t → Scalars q
-      → KeepsBranches (branches_at config more flags opened p (t, q))
-  unfolding AllIn
-  branches_at-scalars more h flags opened p End q here own at = reads ((tt, tt), here)
-  branches_at-scalars more h flags opened p Close q here own at = reads ((tt, tt), here)
-  branches_at-scalars more h flags opened p Bar q here own at = bind _ (h flags opened q at) (λ b r rest. reads ((tt, rest.0), rest.1))
-  branches_at-scalars more h flags opened p (Directive next) q here own at = h next opened q at
-  branches_at-scalars more h flags opened p (One item) q here own at = item_then-scalars (more flags opened) (h flags opened) flags item q own at
-  branches_at-scalars more h flags opened p (Opens kind inside) q here own at =
-      group_then-scalars more h flags opened p kind inside q (nat_lt (limit_of config) (opened + 1)) at
-
-  branches-scalars : (n : ℕ) (flags : Flags) (opened : ℕ) (p : Place) → Scalars p → KeepsBranches (branches config n flags opened p)
-  unfolding branches AllIn
-  branches-scalars zero flags opened p at = reads ((tt, tt), at)
-  branches-scalars (suc n) flags opened p at =
-      let q : Place = skip flags p in
-      let here : Scalars q = skip-keeps Scalars IsScalar carry flags p at in
-      bind _ (token-scalars flags q here) (λ t r own.
-      branches_at-scalars (branches config n) (branches-scalars n) flags opened q t r here own.0 own.1)
-
-  -- The whole pattern.
-
-  end-scalars : (r : Read Branches) (s : Syntax) → KeepsBranches r → r >>= to_end config ≡ Ok s → AllIn IsScalar s
-  end-scalars (Ok (b, q)) s h is = subst (AllIn IsScalar) (to-whole b q (at_end q) s is) (h.given b q refl).0
-  end-scalars (Err e) s h is = cc
+stays : (config : Config) → Stays config Scalars (AllIn IsScalar) (AllInEach IsScalar)
+unfolding AllIn
+stays config = record {
+  on = carry.on;
+  over = λ flags p at. skip-keeps Scalars IsScalar carry flags p at;
+  tokens = token-scalars config;
+  operators = λ flags p at. both (operator-order flags p) (operator-keeps Scalars IsScalar carry flags p at);
+  repeats = λ o s in_order own. own;
+  groups = λ kind s own. own;
+  cats = λ ss own. own;
+  alts = λ ss own. own;
+  none = tt;
+  more = λ s ss one rest. (one, rest);
+}
 
 pub read-scalars : (config : Config) (text : List ℕ) (s : Syntax) → scalars text ≡ true → read config text ≡ Ok s → AllIn IsScalar s
-unfolding read
-read-scalars config text s are is =
-    end-scalars config _ s (branches-scalars config (length text + 1) (flags_of config) 0 (record { text = text; at = 0; groups = 0; names = [] }) are) is
+read-scalars config text s are is = read-stays config Scalars (AllIn IsScalar) (AllInEach IsScalar) (stays config) text s are is

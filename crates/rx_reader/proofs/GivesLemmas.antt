@@ -27,6 +27,13 @@ pub test : {A : Type 0} {P : A → Place → Type 0} (b : Bool) {x y : Read A} �
 test true then_x else_y = then_x refl
 test false then_x else_y = else_y refl
 
+-- whatever is read
+pub any : {A : Type 0} (r : Read A) → Gives (λ a q. Unit {0}) r
+any r = record { given = λ a q is. tt }
+
+pub both : {A : Type 0} {P Q : A → Place → Type 0} {r : Read A} → Gives P r → Gives Q r → Gives (λ a q. P a q × Q a q) r
+both h k = record { given = λ a q is. (h.given a q is, k.given a q is) }
+
 pub weaker : {A : Type 0} {P Q : A → Place → Type 0} {r : Read A} → Gives P r → ((a : A) (q : Place) → P a q → Q a q) → Gives Q r
 weaker h leads = record { given = λ a q is. leads a q (h.given a q is) }
 

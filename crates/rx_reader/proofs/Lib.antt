@@ -22,14 +22,17 @@ pub mod ItemLemmas
 pub mod NamesLemmas
 pub mod NumberLemmas
 mod OpeningRows
+pub mod OrderLemmas
 pub mod PartLemmas
 pub mod PlaceLemmas
 pub mod PlainLemmas
 mod PlainRows
 pub mod ReadsLemmas
 pub mod RepeatLemmas
+pub mod RepetitionLemmas
 pub mod StackLemmas
 pub mod TokenEnds
 pub mod TokenGroups
 pub mod TokenKeeps
 pub mod TokenLemmas
+pub mod WholeLemmas

@@ -1,5 +1,5 @@
-//! Tests that cross crates: runs over ends in memory, ends that fail, scans, and searches of both engines. The tables of runs of the
-//! whole program stand in `tests/` at the top of the repository.
+//! Tests that cross crates: runs over ends in memory, ends that fail, and scans. The tables of runs of the whole program
+//! stand in `tests/` at the top of the repository.
 #![tactic(auto)]
 
 #[cfg(test)]
@@ -8,8 +8,6 @@ mod ends;
 mod rows;
 #[cfg(test)]
 mod scans;
-#[cfg(test)]
-mod slots;
 #[cfg(test)]
 mod standard;
 #[cfg(test)]

@@ -3,7 +3,7 @@
 ghost use Rattle.std.specs.Prelude.{◌<◌};
 
 use crate::words::words_of;
-use rx_meta::Regex;
+use rx_meta::{Regex, WhichCaptures};
 use rx_scan::{BytesSure, KeptSure, Row, Slots, run, scan};
 use rx_search::{Gate, NonMaxUsize, Open};
 use std::alloc::Global;
@@ -56,13 +56,49 @@ fn expect_rows<R: Threads + Wait + Sync + Abort>(
     Ok(())
 }
 
+/// Slots that are made of a vector come back in one, whether or not they are kept in it.
 #[test]
-fn a_rows_places_come_back(rt: HostRuntime) -> Result<(), Fail> {
-    let places = Vec::from_slice(rt.alloc(), &[NonMaxUsize::new(1), None])?;
-    let places = Slots::new(places).into_vec();
-    assert_eq!(rt; places.len(), 2);
-    assert_eq!(rt; place(places[0]), Some(1));
-    assert_eq!(rt; place(places[1]), None);
+fn a_rows_slots_come_back(rt: HostRuntime) -> Result<(), Fail> {
+    let alloc = rt.alloc();
+    let places = [
+        NonMaxUsize::new(1),
+        None,
+        NonMaxUsize::new(2),
+        NonMaxUsize::new(3),
+    ];
+    for len in 0..places.len() + 1 {
+        let slots = Slots::new(Vec::from_slice(alloc, &places[..len])?);
+        assert!(rt; slots.as_slice() == &places[..len]);
+        let slots = slots.into_vec(alloc).ok().expect(&rt, "memory");
+        assert!(rt; slots.as_slice() == &places[..len]);
+    }
+    Ok(())
+}
+
+/// The rows of `(a)b` in `xab` where these groups are told.
+fn rows_where_told(
+    rt: &(impl Threads + Wait + Sync + Abort),
+    alloc: Global,
+    which: WhichCaptures,
+) -> Result<Vec<Vec<Row>>, Fail> {
+    let mut builder = Regex::builder();
+    builder.configure(Regex::config().which_captures(which));
+    let regex = builder.build(alloc, "(a)b");
+    let regex = regex.ok().expect(rt, "a regex");
+    let haystacks: [&[u8]; 1] = [b"xab"];
+    let rows = scan(rt, alloc, &regex, &haystacks, 1, &Open);
+    Ok(rows.ok().expect(rt, "memory"))
+}
+
+#[test]
+fn groups_that_are_left_out_have_no_place(rt: HostRuntime) -> Result<(), Fail> {
+    let rows = rows_where_told(&rt, rt.alloc(), WhichCaptures::Implicit)?;
+    assert_eq!(rt; rows.len(), 1);
+    assert_eq!(rt; rows[0].len(), 1);
+    expect_row(&rt, &rows[0][0], 0, &[Some(1), Some(3), None, None]);
+    let rows = rows_where_told(&rt, rt.alloc(), WhichCaptures::None)?;
+    assert_eq!(rt; rows.len(), 1);
+    assert_eq!(rt; rows[0].len(), 0);
     Ok(())
 }
 

@@ -1,5 +1,5 @@
 -- Which answer an input has.
-use Rattle.std.proofs.Common.{◌≡◌, ℕ, ◌<◌, ◌≤◌, Bool, true, false, cond, ltb, List, length, Result, Ok, Err, refl, sym, ap, ◌∙◌, lit≤}
+use Rattle.std.proofs.Common.{◌≡◌, ℕ, ◌<◌, ◌≤◌, Bool, true, false, cond, ltb, List, length, Some, None, Result, Ok, Err, refl, sym, ap, ◌∙◌, lit≤}
 use Rattle.std.proofs.lemmas.Bool.{lt-ltb, le-ltb, ltb-false, false_from_ne_true, false≢true}
 use Rattle.std.specs.Str.{IsUtf8, is_utf8}
 use Rattle.std.specs.Str.Lossy.{utf8_valid_len}
@@ -8,11 +8,12 @@ use Rattle.rx_model.specs.Expression.{Expression}
 use Rattle.rx_reader.specs.Config.{default}
 use Rattle.rx_reader.specs.declared.error.SyntaxError.{SyntaxError}
 use Rattle.rx_syntax.specs.Patterns.{Refusal, all_read}
-use Rattle.rx_scan.specs.Lines.{lines, patterns, haystacks}
+use Rattle.rx_scan.specs.Input.{lines, patterns, haystacks}
 use Rattle.rx_scan.specs.Patterns.{are_small}
-use Rattle.rx_scan.specs.Answer.{AnswerValue, too_long, not_utf8, refused, too_big, all_rows, answer_patterns, answer_text, answer_input, answer, usage}
+use Rattle.rx_scan.specs.Answer.{AnswerValue, too_long, not_utf8, refused, too_big, all_rows, answer_patterns, answer_text, answer_input, answer_command, answer, usage}
 use Rattle.rx_scan.specs.Status.{code, needs_all}
-use Rattle.rx_scan.specs.Words.{is_scan}
+use Rattle.rx_scan.specs.Arguments.{command_of}
+use Rattle.rx_scan.specs.declared.arguments.Command.{Command}
 
 -- the answer by the two tests
 by_tests : List ℕ → (long text : Bool) → AnswerValue
@@ -57,13 +58,14 @@ pub answer_input-few : (input : List ℕ) → code (answer_input input).status �
 unfolding answer_input by_tests
 answer_input-few input = by_tests-few input (ltb 16777216 (length input)) (is_utf8 input)
 
-pub answer-scan : (words : List (List ℕ)) (input : List ℕ) → is_scan words ≡ true → answer words input ≡ answer_input input
+-- by what the words ask for
+pub answer-scan : (words : List (List ℕ)) (input : List ℕ) (command : Command) → command_of words ≡ Some command → answer words input ≡ answer_input input
 unfolding answer
-answer-scan words input e = ap (λ b. cond b (answer_input input) usage) e
+answer-scan words input command e = ap (λ o. answer_command o input) e
 
-pub answer-usage : (words : List (List ℕ)) (input : List ℕ) → is_scan words ≡ false → answer words input ≡ usage
+pub answer-usage : (words : List (List ℕ)) (input : List ℕ) → command_of words ≡ None → answer words input ≡ usage
 unfolding answer
-answer-usage words input e = ap (λ b. cond b (answer_input input) usage) e
+answer-usage words input e = ap (λ o. answer_command o input) e
 
 short_by_test : (input : List ℕ) (long text : Bool) → ltb 16777216 (length input) ≡ long → needs_all (by_tests input long text).status ≡ true → length input ≤ 16777216
 unfolding by_tests

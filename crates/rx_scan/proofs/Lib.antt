@@ -1,9 +1,9 @@
 pub mod AnswerLemmas
 pub mod EndLemmas
-pub mod FinderLemmas
+pub mod HaystackLemmas
+pub mod LayoutLemmas
 pub mod LineLemmas
 pub mod PatternLemmas
 pub mod ReadingLemmas
-pub mod RowLemmas
 pub mod RunLemmas
-pub mod ScanRowLemmas
+pub mod TextLemmas

@@ -3,7 +3,7 @@ use Rattle.std.proofs.Common.{◌≡◌, ℕ, suc, ◌<◌, ◌≢◌, false, eq
 use Rattle.std.specs.Prelude.{map}
 use Rattle.std.proofs.lemmas.List.{map-append}
 use Rattle.std.proofs.lemmas.Bool.{ne_eqb}
-use Rattle.rx_scan.specs.Lines.{lines, line_byte}
+use Rattle.rx_scan.specs.Input.{lines, line_byte}
 
 -- no byte is a newline
 abbrev pub HasNoNewline : List ℕ → Type 0

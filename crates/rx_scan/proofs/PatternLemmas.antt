@@ -5,18 +5,13 @@ use Rattle.std.proofs.Math.Nat.{min-le_left}
 use Rattle.std.proofs.lemmas.Bool.{le-leb}
 use Rattle.std.proofs.lemmas.Bool.Decides.{nat_tests}
 use Rattle.rx_model.specs.Expression.{Expression}
-use Rattle.rx_hir.specs.Cost.{capped}
-use Rattle.rx_nfa.specs.Compiled.{AreAllowed, nfa_states}
-use Rattle.rx_thompson.specs.Build.{IsRefused}
+use Rattle.rx_hir.specs.Cost.{capped, nfa_states, slots_of}
 use Rattle.rx_thompson.specs.declared.error.BuildError.{BuildError as CompilerError}
 use Rattle.rx_thompson.specs.declared.error.BuildError.TheVariants.{Syntax, TooManyPatterns, TooManyGroups, TooManyStates, ExceededSizeLimit, Memory as NoMemory}
-use Rattle.rx_strategy.specs.Config.{compiler_of, nothing_set}
-use Rattle.rx_meta.specs.Error.{error_of}
-use Rattle.rx_meta.specs.declared.error.BuildError.{BuildError}
-use Rattle.rx_meta.specs.declared.error.BuildError.TheVariants.{NFA, Memory}
-use Rattle.rx_scan.specs.Patterns.{slot_count, are_small}
+use Rattle.rx_meta.specs.Build.{AreAllowed, IsRefusal}
+use Rattle.rx_meta.specs.Config.{nothing_set}
+use Rattle.rx_scan.specs.Patterns.{are_small}
 
--- The size of patterns, by the compiler's counts.
 both : (a b : Bool) → a ≡ true → b ≡ true → a && b ≡ true
 both a b e f = rw (e, f) refl
 
@@ -28,9 +23,9 @@ second-false true b e = e
 second-false false b e = refl
 
 -- patterns that a regex is built of under the default configuration
-pub small-allowed : (hs : List Expression) → AreAllowed (compiler_of nothing_set) hs → are_small hs ≡ true
+pub small-allowed : (hs : List Expression) → AreAllowed nothing_set hs → are_small hs ≡ true
 small-allowed hs a =
-    both _ _ (both _ _ (le-leb (length hs) 2147483647 a.few.patterns) (le-leb (slot_count hs) 2147483646 a.few.slots))
+    both _ _ (both _ _ (le-leb (length hs) 2147483647 a.few.patterns) (le-leb (slots_of hs) 2147483646 a.few.slots))
     (both _ _ (le-leb (nfa_states hs) 2147483647 a.states) (le-leb (32 * nfa_states hs) 10485760 a.size))
 
 above : (n limit : ℕ) → limit < n → nat_le n limit ≡ false
@@ -40,7 +35,7 @@ above n limit lt = grind (arith, nat_tests)
 pub big-patterns : (hs : List Expression) → 2147483647 < length hs → are_small hs ≡ false
 big-patterns hs lt = first-false _ _ (first-false _ _ (above _ _ lt))
 
-pub big-slots : (hs : List Expression) → 2147483646 < slot_count hs → are_small hs ≡ false
+pub big-slots : (hs : List Expression) → 2147483646 < slots_of hs → are_small hs ≡ false
 big-slots hs lt = first-false _ _ (second-false _ _ (above _ _ lt))
 
 pub big-states : (hs : List Expression) → 2147483647 < nfa_states hs → are_small hs ≡ false
@@ -53,17 +48,12 @@ capped-above : (n limit : ℕ) → limit < capped n → limit < n
 capped-above n limit lt = omega (arith, lt, min-le_left n (2 ^ 64 - 1))
 
 -- what the compiler refuses under the default configuration, beside want of memory, is too big
-pub refused-big : (e cause : CompilerError) (hs : List Expression) → ◌≡◌ {A = BuildError} (NFA e) (error_of cause) → IsRefused (compiler_of nothing_set) hs cause → are_small hs ≡ false
-refused-big e (Syntax pid err) hs same is = absurd is
-refused-big e (TooManyPatterns given limit) hs same is = big-patterns hs (omega (arith, is.0, is.1, is.2))
-refused-big e (TooManyGroups given limit) hs same is =
-    big-slots hs (capped-above (slot_count hs) 2147483646 (omega (arith, is.1, is.2, is.3)))
-refused-big e (TooManyStates given limit) hs same is =
-    big-states hs (capped-above (nfa_states hs) 2147483647 (omega (arith, is.1, is.2, is.3)))
-refused-big e (ExceededSizeLimit limit size) hs same is =
-    let known : 10485760 ≡ limit = (let e : Some 10485760 ≡ Some limit = is.2 in cc) in
-    big-cost hs (omega (arith, known, is.3, is.4))
-refused-big e NoMemory hs same is = absurd (memory-apart e same)
-  where
-    memory-apart : (e : CompilerError) → ◌≡◌ {A = BuildError} (NFA e) Memory → ⊥
-    memory-apart e same = cc
+pub refused-big : (cause : CompilerError) (hs : List Expression) → IsRefusal nothing_set (length hs) hs cause → are_small hs ≡ false
+refused-big (Syntax pid err) hs is = absurd is
+refused-big (TooManyPatterns given limit) hs is = big-patterns hs (omega (arith, is.0, is.1, is.2))
+refused-big (TooManyGroups given limit) hs is = big-slots hs (capped-above (slots_of hs) 2147483646 (omega (arith, is.1, is.2, is.3)))
+refused-big (TooManyStates given limit) hs is = big-states hs (capped-above (nfa_states hs) 2147483647 (omega (arith, is.2, is.3, is.4)))
+refused-big (ExceededSizeLimit limit size) hs is =
+    let known : 10485760 ≡ limit = (let e : Some 10485760 ≡ Some limit = is.3 in cc) in
+    big-cost hs (omega (arith, known, is.4, is.5))
+refused-big NoMemory hs is = absurd is

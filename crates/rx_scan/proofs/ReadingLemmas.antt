@@ -1,8 +1,16 @@
 -- Which lines of a text are patterns.
-use Rattle.std.proofs.Common.{◌≡◌, ℕ, ◌≢◌, List, [], ◌∷◌, ◌++◌, length, refl, sym, ap, ◌∙◌, append_assoc, append-nil, arith}
+use Rattle.std.proofs.Common.{◌≡◌, ℕ, ◌≢◌, List, [], ◌∷◌, ◌++◌, length, refl, sym, ap, subst, ◌∙◌, append_assoc, append-nil, arith}
 use Rattle.std.specs.Prelude.{map}
+use Rattle.std.specs.List.{All}
+use Rattle.std.specs.Str.{IsUtf8}
 use Rattle.std.proofs.lemmas.List.{map-append}
-use Rattle.rx_scan.specs.Lines.{lines, patterns, haystacks}
+use Rattle.std.proofs.lemmas.List.Elements.{All-push}
+use Rattle.rx_scan.specs.Input.{lines, patterns, haystacks}
+
+-- a text more that is UTF-8
+pub each-utf8 : {V : Type 0} (now : V → List ℕ) (vs vs' : List V) (v : V) (line : List ℕ) → vs' ≡ vs ++ v ∷ [] → now v ≡ line → IsUtf8 line → All (λ x. IsUtf8 (now x)) vs → All (λ x. IsUtf8 (now x)) vs'
+each-utf8 now vs vs' v line more is utf8 each =
+    subst (All (λ x. IsUtf8 (now x))) (sym more) (All-push (λ x. IsUtf8 (now x)) vs v each (subst IsUtf8 (sym is) utf8))
 
 module _ {V : Type 0} (now : V → List ℕ) where
   -- the patterns that were cut off, and those that are left, are all of them

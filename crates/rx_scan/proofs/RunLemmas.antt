@@ -1,5 +1,5 @@
 -- What a call of `run` does, from what its parts do.
-use Rattle.std.proofs.Common.{◌≡◌, ℕ, ◌<◌, ◌≤◌, ◌≢◌, ◌⊎◌, true, List, [], length, Option, sym, subst, ◌∙◌, inl, inr, arith}
+use Rattle.std.proofs.Common.{◌≡◌, ℕ, ◌<◌, ◌≤◌, ◌≢◌, ◌⊎◌, List, [], length, Option, Some, sym, subst, ◌∙◌, inl, inr, arith}
 use Rattle.std.proofs.lemmas.Bool.{false≢true}
 use Rattle.std.proofs.KnownBytes.{Consumes-nil}
 use Rattle.rx_scan.specs.Answer.{AnswerValue, answer, answer_input}
@@ -8,7 +8,8 @@ use Rattle.std.specs.Io.KnownBytes.{Consumes, IsAtEnd}
 use Rattle.rx_scan.specs.Ends.{HasRisen, Gains, GainsPrefix}
 use Rattle.rx_scan.specs.Run.{Gave, Answers, BreaksOff, Finished}
 use Rattle.rx_scan.specs.Status.{code}
-use Rattle.rx_scan.specs.Words.{is_scan}
+use Rattle.rx_scan.specs.Arguments.{command_of}
+use Rattle.rx_scan.specs.declared.arguments.Command.{Command}
 use Rattle.rx_scan.specs.declared.status.Status.TheVariants.{Usage}
 
 -- nothing was given
@@ -38,9 +39,9 @@ module _ (words : List (List ℕ)) (left left' held held' : Option (List ℕ)) (
       let p = subst P (sym same) (gave, failed.2) in
       (failed.1, (given, p.0, p.1))
 
--- the answer to what was given, where the words ask for a scan
-pub same-scan : (words : List (List ℕ)) (given : List ℕ) (a : AnswerValue) → true ≡ is_scan words → a ≡ answer_input given → answer words given ≡ a
-same-scan words given a scan e = answer-scan words given (sym scan) ∙ sym e
+-- the answer to what was given, where the words are those of a command
+pub same-scan : (words : List (List ℕ)) (given : List ℕ) (a : AnswerValue) (command : Command) → Some command ≡ command_of words → a ≡ answer_input given → answer words given ≡ a
+same-scan words given a command scan e = answer-scan words given command (sym scan) ∙ sym e
 
 pub few-scan : (given : List ℕ) (a : AnswerValue) → a ≡ answer_input given → code a.status ≤ 5
 few-scan given a e =

@@ -1,5 +1,5 @@
 -- The answer to words and an input: a status and a text.
-use Rattle.std.specs.Prelude.{ℕ, List, ◌++◌, length, codes, decimal, nat_lt, Result, Ok, Err, if◌then◌else◌}
+use Rattle.std.specs.Prelude.{ℕ, List, ◌++◌, length, map, Option, Some, None, codes, decimal, nat_lt, Result, Ok, Err, if◌then◌else◌}
 use Rattle.std.specs.Str.{is_utf8}
 use Rattle.std.specs.Str.Lossy.{utf8_valid_len}
 use Rattle.rx_model.specs.Expression.{Expression}
@@ -7,10 +7,11 @@ use Rattle.rx_reader.specs.Config.{default}
 use Rattle.rx_reader.specs.Refusal.{text_of}
 use Rattle.rx_reader.specs.declared.error.SyntaxErrorKind.{SyntaxErrorKind}
 use Rattle.rx_syntax.specs.Patterns.{Refusal, all_read}
-use Rattle.rx_scan.specs.Lines.{lines, patterns, haystacks}
+use Rattle.rx_scan.specs.Arguments.{command_of}
+use Rattle.rx_scan.specs.Input.{lines, patterns, haystacks}
 use Rattle.rx_scan.specs.Patterns.{patterns_of, are_small}
-use Rattle.rx_scan.specs.Row.{rows}
-use Rattle.rx_scan.specs.Words.{is_scan}
+use Rattle.rx_scan.specs.Row.{scan_rows, rows_text}
+use Rattle.rx_scan.specs.declared.arguments.Command.{Command}
 use Rattle.rx_scan.specs.declared.status.Status.{Status}
 use Rattle.rx_scan.specs.declared.status.Status.TheVariants.{Rows, Pattern, Usage, NotUtf8, TooLong, TooBig}
 
@@ -37,7 +38,7 @@ too_big = record { status = TooBig; text = codes "patterns too big\n" }
 
 -- the rows of the successive matches of every haystack
 abbrev pub all_rows : List Expression → (haystacks : List (List ℕ)) → AnswerValue
-all_rows hs texts = record { status = Rows; text = rows (patterns_of hs) 1 texts }
+all_rows hs texts = record { status = Rows; text = rows_text 1 (map (scan_rows (patterns_of hs)) texts) }
 
 -- the answer to what the patterns read as, and haystacks
 unfoldable pub answer_patterns : Result (List Expression) Refusal → List (List ℕ) → AnswerValue
@@ -55,6 +56,11 @@ answer_input input =
     else if is_utf8 input then answer_text input
     else not_utf8 (utf8_valid_len input)
 
+-- the answer to a command, if there is one, and an input
+abbrev pub answer_command : Option Command → (input : List ℕ) → AnswerValue
+answer_command None input = usage
+answer_command (Some command) input = answer_input input
+
 -- the answer to words and an input
 unfoldable pub answer : (words : List (List ℕ)) → (input : List ℕ) → AnswerValue
-answer words input = if is_scan words then answer_input input else usage
+answer words input = answer_command (command_of words) input

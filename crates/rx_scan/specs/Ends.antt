@@ -51,3 +51,21 @@ Writes before after piece r =
 -- The sink gained a front of the text, shorter than it.
 abbrev pub GainsPrefix : (before after : Option (List ℕ)) → List ℕ → Type 0
 GainsPrefix before after text = (n : ℕ) × (n < length text) × Gains before after (take n text)
+
+-- A source in memory to a contract: the bytes that are still to come, how many are given at a time at most, the numbers
+-- of the calls that fail, counted from 0, and how many calls and faults there were.
+pub record BytesValue : Type 0 where
+  pub left : List ℕ
+  pub most : ℕ
+  pub failing : List ℕ
+  pub calls : ℕ
+  pub faults : ℕ
+
+-- A sink in memory to a contract: the bytes that it holds, where it tells them; the rest as of a source, which it always
+-- tells.
+pub record KeptValue : Type 0 where
+  pub held : Option (List ℕ)
+  pub most : ℕ
+  pub failing : List ℕ
+  pub calls : ℕ
+  pub faults : ℕ

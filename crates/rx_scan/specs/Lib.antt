@@ -1,13 +1,11 @@
 pub mod Answer
+pub mod Arguments
 pub mod Ends
-pub mod Finder
-pub mod Lines
-pub mod MemoryEnds
+pub mod Haystacks
+pub mod Input
+pub mod Layout
 pub mod Patterns
-pub mod Refused
 pub mod Row
 pub mod Run
-pub mod ScanRow
 pub mod Slots
 pub mod Status
-pub mod Words

@@ -1,13 +1,14 @@
--- The text of groups from the values of slots.
-use Rattle.std.specs.Prelude.{ℕ, ◌+◌, List, [], ◌∷◌, ◌++◌, Option, codes, decimal}
-use Rattle.rx_scan.specs.Row.{place_text}
+-- The slots of a row, whichever way they are kept.
+use Rattle.std.specs.Prelude.{◌≢◌, ℕ, List, length, Option}
+use Rattle.rx_scan.specs.declared.row.Places.{Places}
+use Rattle.rx_scan.specs.declared.row.Places.TheVariants.{Whole, Groups}
 
--- what is told of group g, which lies from start to end
-abbrev pub group_text : (g : ℕ) → (start end : Option ℕ) → List ℕ
-group_text g start end = codes " " ++ decimal g ++ codes "=" ++ place_text start end
+-- the slots, in order
+abbrev pub slots_of : Places → List (Option ℕ)
+slots_of (Whole two) = two
+slots_of (Groups slots) = slots.items
 
--- of the groups from g on, whose starts and ends these are
-unfoldable pub pairs_text : List (Option ℕ) → (g : ℕ) → List ℕ
-pairs_text [] g = []
-pairs_text (start ∷ []) g = []
-pairs_text (start ∷ end ∷ rest) g = group_text g start end ++ pairs_text rest (g + 1)
+-- two are kept without an allocation
+abbrev pub IsSmall : Places → Type 0
+IsSmall (Whole two) = Unit {0}
+IsSmall (Groups slots) = length slots.items ≢ 2

@@ -1,17 +1,16 @@
 //! The answer to an input.
-ghost use Rattle.std.specs.Prelude.{◌≡◌, Ok, IfOk, List};
+ghost use Rattle.std.specs.Prelude.{◌≡◌, ◌<◌, Ok, IfOk, List};
 ghost use Rattle.rx_model.specs.Expression.{Expression};
-ghost use Rattle.rx_strategy.specs.Config.{nothing_set};
 ghost use Rattle.rx_meta.specs.Build.{IsBuilt};
+ghost use Rattle.rx_meta.specs.Config.{nothing_set};
 ghost use Rattle.rx_scan.specs.Answer.{too_long, not_utf8, refused, too_big, all_rows, answer_patterns, answer_text, answer_input};
-ghost use Rattle.rx_scan.specs.Lines.{lines};
+ghost use Rattle.rx_scan.specs.Input.{lines};
+ghost use Rattle.rx_scan.specs.Patterns.{MeanUtf8};
 
-use crate::lines::split_lines;
-use crate::patterns::parse_patterns;
-use crate::reading::INPUT_LIMIT;
-use crate::row::push_number;
-use crate::scan_rows::scan;
-use crate::scan_text::print_haystacks;
+use crate::arguments::Command;
+use crate::haystacks::scan;
+use crate::input::{INPUT_LIMIT, parse_patterns, split_lines};
+use crate::output::{print_haystacks, push_number};
 use crate::status::Status;
 use rx_hir::Hir;
 use rx_meta::{BuildError, Regex};
@@ -22,9 +21,6 @@ use std::marker::Model;
 use std::str;
 use std::sync::Wait;
 use std::thread::Threads;
-
-/// How many workers a scan has.
-const WORKERS: usize = 1;
 
 /// A status and the text that goes with it.
 #[derive(Drop)]
@@ -45,16 +41,18 @@ impl Model for Answer {
 pub fn answer_input<R: Threads + Wait + Sync, G: Gate + Sync>(
     rt: &R,
     alloc: Global,
+    command: &Command,
     input: &[u8],
     gate: &G,
 ) -> Result<Answer, Memory>
+    requires { 0 < command.now.workers }
     ensures { IfOk result (λ a. a ≡ answer_input input.now) }
 {
     if input.len() > INPUT_LIMIT {
         return too_long(alloc);
     }
     match str::from_utf8(input) {
-        Ok(text) => answer_text(rt, alloc, text, gate),
+        Ok(text) => answer_text(rt, alloc, command, text, gate),
         Err(error) => not_utf8(alloc, error.valid_up_to()),
     }
 }
@@ -63,13 +61,22 @@ pub fn answer_input<R: Threads + Wait + Sync, G: Gate + Sync>(
 fn answer_text<R: Threads + Wait + Sync, G: Gate + Sync>(
     rt: &R,
     alloc: Global,
+    command: &Command,
     text: &str,
     gate: &G,
 ) -> Result<Answer, Memory>
+    requires { 0 < command.now.workers }
     ensures { IfOk result (λ a. a ≡ answer_text text.now) }
 {
     match parse_patterns(alloc, text) {
-        Ok((expressions, haystacks)) => answer_patterns(rt, alloc, &expressions, haystacks, gate),
+        Ok((expressions, haystacks)) => answer_patterns(
+            rt,
+            alloc,
+            command,
+            &expressions,
+            haystacks,
+            gate,
+        ),
         Err(PatternsError::Syntax { pattern, error }) => refused(alloc, pattern, error.kind),
         Err(PatternsError::Memory) => Err(Memory),
     }
@@ -79,14 +86,17 @@ fn answer_text<R: Threads + Wait + Sync, G: Gate + Sync>(
 fn answer_patterns<R: Threads + Wait + Sync, G: Gate + Sync>(
     rt: &R,
     alloc: Global,
+    command: &Command,
     expressions: &[Hir],
     haystacks: &str,
     gate: &G,
 ) -> Result<Answer, Memory>
+    requires workers { 0 < command.now.workers }
+    requires utf8 { MeanUtf8 expressions.now }
     ensures { IfOk result (λ a. a ≡ answer_patterns (Ok expressions.now) (lines haystacks.now)) }
 {
     match Regex::builder().build_many_from_hir(alloc, expressions) {
-        Ok(regex) => all_rows(rt, alloc, &regex, haystacks, gate),
+        Ok(regex) => all_rows(rt, alloc, command, &regex, haystacks, gate),
         Err(BuildError::NFA(_)) => too_big(alloc),
         Err(_) => Err(Memory),
     }
@@ -96,14 +106,16 @@ fn answer_patterns<R: Threads + Wait + Sync, G: Gate + Sync>(
 fn all_rows<R: Threads + Wait + Sync, G: Gate + Sync>(
     rt: &R,
     alloc: Global,
+    command: &Command,
     regex: &Regex,
     haystacks: &str,
     gate: &G,
 ) -> Result<Answer, Memory>
-    ensures { (hs : List Expression) → IsBuilt nothing_set hs regex.now → IfOk result (λ a. a ≡ all_rows hs (lines haystacks.now)) }
+    requires { 0 < command.now.workers }
+    ensures { (hs : List Expression) → IsBuilt nothing_set hs regex.now → MeanUtf8 hs → IfOk result (λ a. a ≡ all_rows hs (lines haystacks.now)) }
 {
     let haystacks = split_lines(alloc, haystacks)?;
-    let rows = scan(rt, alloc, regex, &haystacks, WORKERS, gate)?;
+    let rows = scan(rt, alloc, regex, &haystacks, command.workers, gate)?;
     let mut text = Vec::new(alloc);
     print_haystacks(&mut text, &rows)?;
     Ok(Answer {

@@ -2,6 +2,12 @@
 ghost use Rattle.std.specs.Prelude.{ℕ, ◌≤◌, List, Option, OnErr};
 ghost use Rattle.rx_scan.specs.Ends.{HasRisen, Reads, Writes, CountsCall};
 
+mod memory;
+mod standard;
+
+pub use memory::{Bytes, BytesSure, Kept, KeptSure};
+pub use standard::{StandardInput, StandardOutput};
+
 /// A source or a sink failed. It counted the fault.
 #[derive(Clone, Copy, Debug, PartialEq, Eq)]
 pub struct Failed;

@@ -1,30 +1,23 @@
 //! From the bytes of an input to the rows of its matches.
 //!
 //! `run` reads patterns and haystacks from a `Source`, and writes a row for each match into a `Sink`.
-//! Its contract says what the sink then holds, for all words and every input.
+//! Its contract says what the sink then holds, for all words and every input. `scan` gives the rows of a regex's matches
+//! as data.
 #![tactic(auto)]
 
 mod answer;
-mod command;
+mod arguments;
 mod ends;
-mod finder;
-mod lines;
-mod memory_ends;
-mod patterns;
-mod reading;
+mod haystacks;
+mod input;
+mod output;
+mod program;
 mod row;
-mod scan_row;
-mod scan_rows;
-mod scan_text;
-mod standard;
 mod status;
-mod words;
-mod writing;
 
-pub use command::run;
-pub use ends::{Failed, Sink, Source};
-pub use memory_ends::{Bytes, BytesSure, Kept, KeptSure};
-pub use scan_row::{Row, Slots};
-pub use scan_rows::{ScanError, scan};
-pub use scan_text::rows_print_as_their_matches;
-pub use standard::{StandardInput, StandardOutput};
+pub use ends::{
+    Bytes, BytesSure, Failed, Kept, KeptSure, Sink, Source, StandardInput, StandardOutput,
+};
+pub use haystacks::{ScanError, scan};
+pub use program::run;
+pub use row::{Row, Slots};

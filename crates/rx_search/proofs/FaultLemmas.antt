@@ -13,7 +13,8 @@ use Rattle.std.specs.Option.{option_or}
 use Rattle.rx_model.proofs.OptionLemmas.{or-assoc, or-none_right}
 use Rattle.rx_search.specs.declared.group_error.GroupInfoError.{GroupInfoError}
 use Rattle.rx_search.specs.declared.group_error.GroupInfoError.TheVariants.{TooMany}
-use Rattle.rx_search.specs.GroupInfo.{group_count, slot_count, is_named, has_duplicate, fault_of, first_fault, refusal, id_limit, groups_of, names_of, IsFault, IsRefusal}
+use Rattle.rx_search.specs.Limits.{id_limit, slot_limit}
+use Rattle.rx_search.specs.GroupInfo.{group_count, slot_count, is_named, has_duplicate, fault_of, first_fault, refusal, groups_of, names_of, IsFault, IsRefusal}
 
 -- one pattern more
 pub group_count-push : (gs : List (List (Option (List ℕ)))) (g : List (Option (List ℕ))) → group_count (gs ++ g ∷ []) ≡ group_count gs + length g
@@ -69,26 +70,26 @@ group_count-least p (g ∷ gs) none =
     let both = option_or_both (fault_of p g) (first_fault (p + 1) gs) none in
     omega (arith, some_group p g both.0, group_count-least (p + 1) gs both.1)
 
-pub is_above : {n : ℕ} → 2147483646 < n → nat_lt 2147483646 n ≡ true
+pub is_above : {n : ℕ} → slot_limit < n → nat_lt slot_limit n ≡ true
 is_above above = grind (arith, nat_tests)
 
-pub too_many_slots : (gs : List (List (Option (List ℕ)))) → first_fault 0 (take id_limit gs) ≡ None → nat_lt 2147483646 (slot_count gs) ≡ true → refusal gs ≡ Some TooMany
-too_many_slots gs none many = ap (λ (o : Option GroupInfoError). option_or o (cond (nat_lt 2147483646 (slot_count gs)) (Some TooMany) None)) none ∙ ap (λ (b : Bool). cond b (Some TooMany) None) many
+pub too_many_slots : (gs : List (List (Option (List ℕ)))) → first_fault 0 (take id_limit gs) ≡ None → nat_lt slot_limit (slot_count gs) ≡ true → refusal gs ≡ Some TooMany
+too_many_slots gs none many = ap (λ (o : Option GroupInfoError). option_or o (cond (nat_lt slot_limit (slot_count gs)) (Some TooMany) None)) none ∙ ap (λ (b : Bool). cond b (Some TooMany) None) many
 
 -- More patterns than identifiers, of which those with one are without fault, have too many slots.
 pub too_many_patterns : (gs : List (List (Option (List ℕ)))) (i : ℕ) → i ≡ id_limit → i ≤ length gs → first_fault 0 (take i gs) ≡ None → refusal gs ≡ Some TooMany
 too_many_patterns gs i limit below none =
     let len : length (take i gs) ≡ i = length-take-le i gs below in
-    let many : 2147483646 < slot_count gs = omega (arith, limit, len, group_count-least 0 (take i gs) none, group_count-front i gs) in
+    let many : slot_limit < slot_count gs = omega (arith, limit, len, group_count-least 0 (take i gs) none, group_count-front i gs) in
     too_many_slots gs (subst (λ (n : ℕ). first_fault 0 (take n gs) ≡ None) limit none) (is_above many)
 
 -- no refusal
-pub no_refusal : (gs : List (List (Option (List ℕ)))) → first_fault 0 (take id_limit gs) ≡ None → nat_lt 2147483646 (slot_count gs) ≡ false → refusal gs ≡ None
-no_refusal gs none few = ap (λ (o : Option GroupInfoError). option_or o (cond (nat_lt 2147483646 (slot_count gs)) (Some TooMany) None)) none ∙ ap (λ (b : Bool). cond b (Some TooMany) None) few
+pub no_refusal : (gs : List (List (Option (List ℕ)))) → first_fault 0 (take id_limit gs) ≡ None → nat_lt slot_limit (slot_count gs) ≡ false → refusal gs ≡ None
+no_refusal gs none few = ap (λ (o : Option GroupInfoError). option_or o (cond (nat_lt slot_limit (slot_count gs)) (Some TooMany) None)) none ∙ ap (λ (b : Bool). cond b (Some TooMany) None) few
 
 -- the first fault is the refusal
 pub fault_refusal : (gs : List (List (Option (List ℕ)))) (e : GroupInfoError) → first_fault 0 (take id_limit gs) ≡ Some e → refusal gs ≡ Some e
-fault_refusal gs e fault = ap (λ (o : Option GroupInfoError). option_or o (cond (nat_lt 2147483646 (slot_count gs)) (Some TooMany) None)) fault
+fault_refusal gs e fault = ap (λ (o : Option GroupInfoError). option_or o (cond (nat_lt slot_limit (slot_count gs)) (Some TooMany) None)) fault
 
 -- the groups of a pattern by the bytes of their names
 pub group_at : {A B : Type 0} (patterns : List (Vec (Option (String A)) B)) (i : ℕ) (v : Vec (Option (String A)) B) → i < length patterns → v ≡ get_or patterns i v → get_or (groups_of patterns) i [] ≡ names_of v.items
@@ -121,20 +122,20 @@ no_fault-all gs i all limit none = ap (first_fault 0) (take_all id_limit gs (ome
 -- What is known where nothing is refused.
 pub record IsSound (gs : List (List (Option (List ℕ)))) : Type 0 where
   pub faultless : first_fault 0 gs ≡ None
-  pub few : slot_count gs ≤ 2147483646
+  pub few : slot_count gs ≤ slot_limit
 
-pub not_above : (n : ℕ) → cond (nat_lt 2147483646 n) (Some TooMany) None ≡ None → n ≤ 2147483646
+pub not_above : (n : ℕ) → cond (nat_lt slot_limit n) (Some TooMany) None ≡ None → n ≤ slot_limit
 not_above n none = grind (arith, nat_tests)
 
-pub short_list : (gs : List (List (Option (List ℕ)))) → first_fault 0 (take id_limit gs) ≡ None → slot_count gs ≤ 2147483646 → length gs ≤ id_limit
+pub short_list : (gs : List (List (Option (List ℕ)))) → first_fault 0 (take id_limit gs) ≡ None → slot_count gs ≤ slot_limit → length gs ≤ id_limit
 short_list gs none few =
     let len : length (take id_limit gs) ≡ min id_limit (length gs) = length-take id_limit gs in
     omega (arith, len, few, group_count-least 0 (take id_limit gs) none, group_count-front id_limit gs)
 
 pub refused_none : (gs : List (List (Option (List ℕ)))) → refusal gs ≡ None → IsSound gs
 refused_none gs none =
-    let both = option_or_both (first_fault 0 (take id_limit gs)) (cond (nat_lt 2147483646 (slot_count gs)) (Some TooMany) None) none in
-    let few : slot_count gs ≤ 2147483646 = not_above (slot_count gs) both.1 in
+    let both = option_or_both (first_fault 0 (take id_limit gs)) (cond (nat_lt slot_limit (slot_count gs)) (Some TooMany) None) none in
+    let few : slot_count gs ≤ slot_limit = not_above (slot_count gs) both.1 in
     let short : length gs ≤ id_limit = short_list gs both.0 few in
     record { faultless = ap (first_fault 0) (sym (take_all id_limit gs short)) ∙ both.0; few = few }
 

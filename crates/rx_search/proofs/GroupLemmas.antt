@@ -5,6 +5,7 @@ use Rattle.std.proofs.lemmas.List.Sums.{sum_by-cons}
 use Rattle.std.proofs.lemmas.Option.{slice_get-map, none-some, same_Some, slice_get_within}
 use Rattle.std.proofs.lemmas.Bool.Decides.{nat_tests}
 use Rattle.std.specs.List.{prefix_len}
+use Rattle.rx_search.specs.Limits.{slot_limit}
 use Rattle.rx_search.specs.GroupInfo.{names_of, is_named, explicit_before, group_count, slot_count, groups_at, unnamed_groups}
 use Rattle.rx_search.specs.GroupTables.{groups_in, table_groups, AreInRow, AreOf, IsRowOf}
 use Rattle.rx_search.specs.declared.group_info.Explicit.{Explicit}
@@ -57,7 +58,7 @@ names_of-range names a b = ap (take (b - a)) (drop-map (option_map string_bytes)
 
 -- What the tables of a `GroupInfo` keep.
 abbrev pub AreTables : {A : Type 0} → List (Option (String A)) → List Explicit → Type 0
-AreTables names rows = AreInRow 0 rows (length names) × (2 * (length rows + length names) ≤ 2147483646)
+AreTables names rows = AreInRow 0 rows (length names) × (2 * (length rows + length names) ≤ slot_limit)
 
 -- the groups are counted by the rows and the names
 pub group_count-tables : {A : Type 0} (names : List (Option (String A))) (rows : List Explicit) → AreTables names rows → group_count (table_groups (names_of names) rows) ≡ length rows + length names
@@ -169,7 +170,7 @@ AreOf-push info names longer rows g more start end tables longer_is g_is start_i
     }
 
 -- the tables of groups that are few are those of a `GroupInfo`
-pub AreOf-tables : {A : Type 0} (info : List (List (Option (List ℕ)))) (names : List (Option (String A))) (rows : List Explicit) → AreOf info names rows → slot_count info ≤ 2147483646 → AreTables names rows
+pub AreOf-tables : {A : Type 0} (info : List (List (Option (List ℕ)))) (names : List (Option (String A))) (rows : List Explicit) → AreOf info names rows → slot_count info ≤ slot_limit → AreTables names rows
 AreOf-tables info names rows tables few =
     let many : length (names_of names) ≡ length names = length-map names (option_map string_bytes) in
     let all = group_count-rows (names_of names) 0 rows (length names) tables.in_row (omega arith) in

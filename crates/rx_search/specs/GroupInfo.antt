@@ -5,6 +5,7 @@ use Rattle.std.specs.List.{list_any}
 use Rattle.std.specs.Option.{option_or, option_flatten}
 use Rattle.rx_model.specs.Expression.{Expression}
 use Rattle.rx_model.specs.Search.{Patterns, greatest_group, has_explicit_groups, slot_of}
+use Rattle.rx_search.specs.Limits.{id_limit, slot_limit}
 use Rattle.rx_search.specs.declared.group_error.GroupInfoError.{GroupInfoError}
 use Rattle.rx_search.specs.declared.group_error.GroupInfoError.TheVariants.{MissingGroups, FirstMustBeUnnamed, Duplicate, TooMany, Memory}
 
@@ -87,14 +88,10 @@ abbrev pub first_fault : ℕ → List (List (Option (List ℕ))) → Option Grou
 first_fault p [] = None
 first_fault p (groups ∷ rest) = option_or (fault_of p groups) (first_fault (p + 1) rest)
 
--- as many patterns as identifiers tell apart
-abbrev pub id_limit : ℕ
-id_limit = 2147483647
-
 -- Why the groups are refused: the first pattern at fault among those with identifiers, and else too many slots.
 -- More patterns than identifiers, of which the first are without fault, have too many slots.
 abbrev pub refusal : List (List (Option (List ℕ))) → Option GroupInfoError
-refusal info = option_or (first_fault 0 (take id_limit info)) (if nat_lt 2147483646 (slot_count info) then Some TooMany else None)
+refusal info = option_or (first_fault 0 (take id_limit info)) (if nat_lt slot_limit (slot_count info) then Some TooMany else None)
 
 -- the refusal, or there was no memory
 abbrev pub IsRefusal : List (List (Option (List ℕ))) → GroupInfoError → Type 0

@@ -2,6 +2,7 @@
 -- where its own begin and end.
 use Rattle.std.specs.Prelude.{ℕ, ◌+◌, ◌-◌, ◌≡◌, ◌≤◌, ◌<◌, List, [], ◌∷◌, Option, None, length, map, slice_range, String}
 use Rattle.rx_search.specs.GroupInfo.{names_of, explicit_before, group_count, slot_count, groups_at}
+use Rattle.rx_search.specs.Limits.{slot_limit}
 use Rattle.rx_search.specs.declared.group_info.Explicit.{Explicit}
 
 -- the groups of one pattern: the implicit one, and the explicit ones
@@ -29,4 +30,4 @@ pub record IsRowOf (info : List (List (Option (List ℕ)))) (p : ℕ) (row : Exp
   pub before : row.start ≡ explicit_before p info
   pub count : length (groups_at info p) ≡ row.end - row.start + 1
   pub within : length info + row.end ≤ group_count info
-  pub few : slot_count info ≤ 2147483646
+  pub few : slot_count info ≤ slot_limit

@@ -1,5 +1,5 @@
 -- What a search is given.
-use Rattle.std.specs.Prelude.{ℕ, ◌+◌, ◌≤◌, Bool, true, false, ◌&&◌, nat_le, List, length, Option}
+use Rattle.std.specs.Prelude.{ℕ, ◌+◌, ◌-◌, ◌≤◌, Bool, true, false, ◌&&◌, nat_le, List, length, Option}
 use Rattle.rx_model.specs.Search.{Patterns, Anchor, free, is_permitted, Match, next_match}
 
 -- The haystack, the span of it that is searched, where a match may begin, and whether any match will do.
@@ -22,6 +22,10 @@ pub record IsSpanned (v : InputValue) : Type 0 where
 -- the same search, of the places from i on
 abbrev pub from_place : ℕ → InputValue → InputValue
 from_place i v = record v { start = i }
+
+-- how long the input's span is; nothing is left of a done one
+abbrev pub span_len : InputValue → ℕ
+span_len v = v.end - v.start
 
 -- a place at which a character begins, or the end of the text
 abbrev pub is_char_boundary : List ℕ → ℕ → Bool

@@ -5,5 +5,10 @@ pub mod Searcher
 pub mod Example
 pub mod Look
 pub mod LookSet
+pub mod Limits
 pub mod GroupInfo
 pub mod GroupTables
+pub mod PatternGroups
+pub mod Told
+pub mod Promise
+pub mod Answer

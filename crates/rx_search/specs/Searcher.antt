@@ -1,7 +1,7 @@
 -- Searching a text for one match after another.
-use Rattle.std.specs.Prelude.{ℕ, ◌+◌, ◌-◌, ◌≡◌, ◌≤◌, List, Option, Some, None}
+use Rattle.std.specs.Prelude.{ℕ, ◌+◌, ◌-◌, ◌≡◌, ◌≤◌, List, [], ◌∷◌, Option, Some, None}
 use Rattle.rx_model.specs.Search.{Match, next_after, matches_from}
-use Rattle.rx_search.specs.Matches.{MatchValue}
+use Rattle.rx_search.specs.Matches.{MatchValue, match_value}
 use Rattle.rx_search.specs.Input.{InputValue, from_place}
 
 -- The input of the next search, and where the last match ended, if there was one.
@@ -50,3 +50,20 @@ to_come searches s = matches_from (search_from searches s.input) (places_left s)
 -- all matches in an input, one after another
 abbrev pub successive : (InputValue → Option Match) → InputValue → List Match
 successive searches v = to_come searches (fresh v)
+
+-- it holds of each search of the input, from whatever place
+abbrev pub AtEachPlace : (InputValue → Type 0) → InputValue → Type 0
+AtEachPlace Holds v = (i : ℕ) → Holds (from_place i v)
+
+-- Each match that a search answers lies between the place from which it searches and the end of the span.
+pub record AnswersWithin (searches : InputValue → Option Match) (v : InputValue) : Type 0 where
+  pub within : (i : ℕ) (m : Match) → searches (from_place i v) ≡ Some m → (i ≤ m.start) × (m.start ≤ m.trace.end) × (m.trace.end ≤ v.end)
+
+-- What was to come is the match that was given, and then what is still to come. Where none was given, nothing was to come.
+abbrev pub Gives : (InputValue → Option Match) → SearcherValue → Option MatchValue → SearcherValue → Type 0
+Gives searches old None new = to_come searches old ≡ []
+Gives searches old (Some m) new = (x : Match) × (match_value x ≡ m) × (to_come searches old ≡ x ∷ to_come searches new)
+
+-- a search from some place of the span, or from the one behind its end, fails so
+abbrev pub HasCause : {E : Type 0} → (InputValue → E → Type 0) → InputValue → E → Type 0
+HasCause Fails v e = (i : ℕ) × (v.start ≤ i) × (i ≤ v.end + 1) × Fails (from_place i v) e

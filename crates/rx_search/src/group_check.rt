@@ -1,6 +1,7 @@
 //! Whether the groups of some patterns are refused.
 ghost use Rattle.std.specs.Prelude.{◌≡◌, ◌⊎◌, IfOk, MatchResult, None, Some, nat_lt, take};
-ghost use Rattle.rx_search.specs.GroupInfo.{names_of, groups_of, fault_of, first_fault, id_limit, has_duplicate, slot_count, refusal, IsFault, IsRefusal};
+ghost use Rattle.rx_search.specs.Limits.{id_limit, slot_limit};
+ghost use Rattle.rx_search.specs.GroupInfo.{names_of, groups_of, fault_of, first_fault, has_duplicate, slot_count, refusal, IsFault, IsRefusal};
 
 use crate::group_error::GroupInfoError;
 use crate::memory::Memory;
@@ -9,7 +10,7 @@ use std::alloc::Global;
 use std::collections::BTreeSet;
 
 /// The greatest number of groups, which have at most 2147483646 slots.
-const GROUP_LIMIT: usize = 1073741823;
+const GROUP_LIMIT: usize = PatternID::LIMIT / 2;
 
 /// Refuses the first pattern at fault, and then too many slots.
 pub fn check(alloc: Global, patterns: &[Vec<Option<String>>]) -> Result<(), GroupInfoError>
@@ -73,7 +74,7 @@ fn has_duplicate(alloc: Global, groups: &[Option<String>]) -> Result<bool, Memor
 
 /// Whether the groups have more slots than a match may have.
 fn has_too_many(patterns: &[Vec<Option<String>>]) -> bool
-    ensures { result ≡ nat_lt 2147483646 (slot_count (groups_of patterns.now)) }
+    ensures { result ≡ nat_lt slot_limit (slot_count (groups_of patterns.now)) }
 {
     let mut count = 0;
     for groups in patterns {

@@ -1,4 +1,5 @@
 ghost use Rattle.std.specs.Prelude.{◌≡◌, ◌+◌, ◌-◌, ◌*◌, ◌≤◌, ◌<◌, IfOk, IfSome, MatchResult, All, map, length, sum, option_map, option_copied, string_bytes, position, slice_range, MatchOption, Some, None, ◌∷◌, ◌++◌, drop};
+ghost use Rattle.rx_search.specs.Limits.{slot_limit};
 ghost use Rattle.rx_search.specs.GroupInfo.{names_of, groups_of, unnamed_groups, is_named, BeginsUnnamed, refusal, IsRefusal, SlotsAreWritten};
 ghost use Rattle.rx_search.specs.GroupTables.{AreOf, IsRowOf};
 ghost use Rattle.std.specs.Arc.{arc_value};
@@ -45,11 +46,12 @@ impl Model for GroupInfo {
 
     ghost use Rattle.rx_search.specs.GroupInfo.{names_of};
     ghost use Rattle.rx_search.specs.GroupTables.{table_groups, AreInRow};
+    ghost use Rattle.rx_search.specs.Limits.{slot_limit};
 
     ghost view = { λ a. table_groups (names_of (arc_value a.tables).names.items) (arc_value a.tables).patterns.items };
 
     ghost invariant = { λ a. AreInRow 0 (arc_value a.tables).patterns.items (length (arc_value a.tables).names.items)
-        × (2 * (length (arc_value a.tables).patterns.items + length (arc_value a.tables).names.items) ≤ 2147483646) };
+        × (2 * (length (arc_value a.tables).patterns.items + length (arc_value a.tables).names.items) ≤ slot_limit) };
 }
 
 impl GroupInfo {
@@ -74,7 +76,7 @@ impl GroupInfo {
     /// have slots. A name that stands twice in a pattern is that of the first group that has it.
     pub fn named(alloc: Global, groups: &[Vec<Option<String>>]) -> Result<GroupInfo, Memory>
         requires each { All BeginsUnnamed (groups_of groups.now) }
-        requires few { slot_count (groups_of groups.now) ≤ 2147483646 }
+        requires few { slot_count (groups_of groups.now) ≤ slot_limit }
         ensures { IfOk result (λ info. info ≡ groups_of groups.now) }
     {
         let tables = named_tables(alloc, groups)?;
@@ -85,7 +87,7 @@ impl GroupInfo {
     /// The groups of patterns of which each has this number of groups, above 0, and none of them a name.
     pub fn unnamed(alloc: Global, group_lens: &[usize]) -> Result<GroupInfo, Memory>
         requires each { All (λ n. 0 < n) group_lens.now }
-        requires few { 2 * sum group_lens.now ≤ 2147483646 }
+        requires few { 2 * sum group_lens.now ≤ slot_limit }
         ensures { IfOk result (λ info. info ≡ map unnamed_groups group_lens.now) }
     {
         let tables = unnamed_tables(alloc, group_lens)?;
@@ -114,7 +116,7 @@ impl GroupInfo {
     /// The number of groups of all patterns.
     pub fn all_group_len(&self) -> usize
         ensures value { result ≡ group_count self.now }
-        ensures limit { 2 * result ≤ 2147483646 }
+        ensures limit { 2 * result ≤ slot_limit }
     {
         self.tables.patterns.len() + self.tables.names.len()
     }
@@ -122,7 +124,7 @@ impl GroupInfo {
     /// The number of slots, two for each group: at most 2147483646.
     pub fn slot_len(&self) -> usize
         ensures value { result ≡ slot_count self.now }
-        ensures limit { result ≤ 2147483646 }
+        ensures limit { result ≤ slot_limit }
     {
         2 * self.all_group_len()
     }

@@ -37,7 +37,9 @@ pub use match_error::MatchError;
 pub use matches::{HalfMatch, Match};
 pub use memory::Memory;
 pub use primitives::{NonMaxUsize, PatternID, StateID};
-pub use searcher::{Finder, Searcher, searches_give_the_matches};
+pub use searcher::{
+    Finder, Searcher, searches_give_the_matches, the_next_match_answers_within_its_span,
+};
 pub use span::Span;
 
 #[cfg(test)]

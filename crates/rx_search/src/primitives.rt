@@ -1,4 +1,5 @@
 ghost use Rattle.std.specs.Prelude.{◌≡◌, ◌≤◌, ◌<◌, IfSome, IfNone, MatchOption};
+ghost use Rattle.rx_search.specs.Limits.{id_limit};
 
 use std::marker::Model;
 
@@ -13,13 +14,14 @@ pub struct PatternID {
 }
 
 impl Model for PatternID {
-    ghost use Rattle.std.specs.Prelude.{ℕ, ◌≤◌};
+    ghost use Rattle.std.specs.Prelude.{ℕ, ◌<◌};
+    ghost use Rattle.rx_search.specs.Limits.{id_limit};
 
     ghost Value = { ℕ };
 
     ghost view = { λ p. p.id };
 
-    ghost invariant = { λ p. p.id ≤ 2147483646 };
+    ghost invariant = { λ p. p.id < id_limit };
 
     ghost inverse = { λ n. record { id = n } };
 }
@@ -36,7 +38,7 @@ impl PatternID {
 
     /// The identifier of this number; None exactly above 2147483646.
     pub fn new(value: usize) -> Option<PatternID>
-        ensures { MatchOption result (2147483646 < value) (λ p. (p ≡ value) × (value ≤ 2147483646)) }
+        ensures { MatchOption result (id_limit ≤ value) (λ p. (p ≡ value) × (value < id_limit)) }
     {
         if value < PatternID::LIMIT {
             Some(PatternID { id: value as u32 })
@@ -48,7 +50,7 @@ impl PatternID {
     /// The number.
     pub fn as_usize(self) -> usize
         ensures value { result ≡ self }
-        ensures limit { result ≤ 2147483646 }
+        ensures limit { result < id_limit }
     {
         self.id as usize
     }
@@ -61,13 +63,14 @@ pub struct StateID {
 }
 
 impl Model for StateID {
-    ghost use Rattle.std.specs.Prelude.{ℕ, ◌≤◌};
+    ghost use Rattle.std.specs.Prelude.{ℕ, ◌<◌};
+    ghost use Rattle.rx_search.specs.Limits.{id_limit};
 
     ghost Value = { ℕ };
 
     ghost view = { λ p. p.id };
 
-    ghost invariant = { λ p. p.id ≤ 2147483646 };
+    ghost invariant = { λ p. p.id < id_limit };
 
     ghost inverse = { λ n. record { id = n } };
 }
@@ -84,7 +87,7 @@ impl StateID {
 
     /// The identifier of this number; None exactly above 2147483646.
     pub fn new(value: usize) -> Option<StateID>
-        ensures { MatchOption result (2147483646 < value) (λ p. (p ≡ value) × (value ≤ 2147483646)) }
+        ensures { MatchOption result (id_limit ≤ value) (λ p. (p ≡ value) × (value < id_limit)) }
     {
         if value < StateID::LIMIT {
             Some(StateID { id: value as u32 })
@@ -96,7 +99,7 @@ impl StateID {
     /// The number.
     pub fn as_usize(self) -> usize
         ensures value { result ≡ self }
-        ensures limit { result ≤ 2147483646 }
+        ensures limit { result < id_limit }
     {
         self.id as usize
     }

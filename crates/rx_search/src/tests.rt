@@ -1,15 +1,36 @@
-ghost use Rattle.std.specs.Prelude.{◌≡◌, IfOk, map, length, slice_index};
+ghost use Rattle.std.specs.Prelude.{◌≡◌, ◌≤◌, ◌<◌, IfOk, IfSome, IsOk, map, option_map, length, slice_index};
 ghost use Rattle.rx_search.specs.Example.{optional_byte, end_of};
-ghost use Rattle.rx_search.specs.Input.{whole};
+ghost use Rattle.rx_search.specs.Input.{whole, span_len};
 ghost use Rattle.rx_search.specs.Matches.{match_value};
 ghost use Rattle.rx_search.specs.Searcher.{successive};
+ghost use Rattle.rx_search.specs.Told.{LiesIn};
 
 use super::*;
 use std::alloc::{AllocError, Global};
 use std::test::Fail;
 
-/// Finds what `a?` matches, where `a` is its byte: that byte, if it lies where the span begins, and else
-/// nothing there.
+/// What `a?` matches, where `a` is the byte: that byte, if it lies where the span begins, and else nothing there.
+fn optional_match(byte: u8, input: &Input<'_>) -> Option<Match>
+    ensures value { result ≡ option_map match_value (optional_byte byte input.now) }
+    ensures within { IfSome result (LiesIn input.now) }
+{
+    let Span { start, end } = input.get_span();
+    if end < start {
+        return None;
+    }
+    if start < end && input.haystack()[start] == byte {
+        return Some(Match::new(
+            PatternID::ZERO,
+            Span {
+                start,
+                end: start + 1,
+            },
+        ));
+    }
+    Some(Match::new(PatternID::ZERO, Span { start, end: start }))
+}
+
+/// Finds what `a?` matches, where `a` is its byte; where any match will do, nothing at the start.
 #[derive(Clone, Copy)]
 struct Optional {
     byte: u8,
@@ -22,19 +43,10 @@ impl Finder for Optional {
 
     fn find(&mut self, input: &Input<'_>) -> Result<Option<Match>, Memory> {
         let Span { start, end } = input.get_span();
-        if end < start {
-            return Ok(None);
+        if input.get_earliest() && start <= end {
+            return Ok(Some(Match::new(PatternID::ZERO, Span { start, end: start })));
         }
-        if start < end && input.haystack()[start] == self.byte {
-            return Ok(Some(Match::new(
-                PatternID::ZERO,
-                Span {
-                    start,
-                    end: start + 1,
-                },
-            )));
-        }
-        Ok(Some(Match::new(PatternID::ZERO, Span { start, end: start })))
+        Ok(optional_match(self.byte, input))
     }
 }
 
@@ -107,6 +119,43 @@ fn optional_ends(
     Ok(rows)
 }
 
+/// The same in spans of at most so many bytes.
+#[derive(Clone, Copy)]
+struct ShortOptional {
+    byte: u8,
+    most: usize,
+}
+
+/// A span had more bytes.
+#[derive(Clone, Copy, Debug, PartialEq, Eq)]
+struct TooLong;
+
+impl Finder for ShortOptional {
+    type Error = TooLong;
+
+    ghost searches = { λ f v. optional_byte f.byte v };
+
+    ghost promises = { λ _ _. Unit {0} };
+
+    ghost fails = { λ f v _. f.most < span_len v };
+
+    fn find(&mut self, input: &Input<'_>) -> Result<Option<Match>, TooLong> {
+        let Span { start, end } = input.get_span();
+        if start <= end && self.most < end - start {
+            return Err(TooLong);
+        }
+        Ok(optional_match(self.byte, input))
+    }
+}
+
+/// How often an optional byte matches in a text, which is known where the text has at most so many bytes.
+fn count_in_short(text: &[u8], byte: u8, most: usize) -> Result<usize, TooLong>
+    ensures value { IfOk result (λ n. n ≡ length (successive (optional_byte byte) (whole text.now))) }
+    ensures sure { length text.now ≤ most → IsOk result }
+{
+    Searcher::new(Input::new(text)).count(&mut ShortOptional { byte, most })
+}
+
 #[test]
 fn searches_one_after_another(rt: HostRuntime) -> Result<(), Fail> {
     let rows = optional_bytes(rt.alloc(), b"baac", b'a')?;
@@ -122,6 +171,24 @@ fn searches_one_after_another(rt: HostRuntime) -> Result<(), Fail> {
     let all = Searcher::new(Input::new(b"baac")).collect(rt.alloc(), &mut finder)?;
     assert_eq!(rt; all.as_slice(), rows.as_slice());
     Ok(())
+}
+
+#[test]
+fn searches_for_any_match(rt: HostRuntime) -> Result<(), Fail> {
+    let mut finder = Optional { byte: b'a' };
+    let input = Input::new(b"aa").earliest(true);
+    let all = Searcher::new(input).collect(rt.alloc(), &mut finder)?;
+    assert_eq!(rt; all.len(), 3);
+    for (place, found) in all.iter().enumerate() {
+        assert_eq!(rt; found.range(), place..place);
+    }
+    Ok(())
+}
+
+#[test]
+fn hands_on_the_error(rt: HostRuntime) {
+    assert_eq!(rt; count_in_short(b"baac", b'a', 4), Ok(4));
+    assert_eq!(rt; count_in_short(b"baac", b'a', 3), Err(TooLong));
 }
 
 #[test]

@@ -14,7 +14,7 @@ mod perl;
 pub use ascii::ClassAsciiKind;
 pub use capture::is_capture_char;
 pub use members::scalars_where_pass_the_test;
-pub use named::property;
+pub use named::{PropertySet, property};
 pub use perl::ClassPerlKind;
 
 #[cfg(test)]

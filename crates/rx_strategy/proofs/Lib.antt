@@ -1,1 +1,5 @@
+pub mod AnswerLemmas
 pub mod StrategyLemmas
+pub mod ImpossibleLemmas
+pub mod InfoLemmas
+pub mod CacheLemmas

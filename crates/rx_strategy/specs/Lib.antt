@@ -1,3 +1,6 @@
 pub mod Config
+pub mod Impossible
+pub mod Core
+pub mod Nofail
 pub mod Strategy
 pub mod Cache

@@ -1,55 +1,53 @@
--- What a strategy is to a contract, and what its searches answer.
-use Rattle.std.specs.Prelude.{◌≡◌, Bool, true, false, ◌&&◌, Option, None, nat_le, if◌then◌else◌}
-use Rattle.rx_model.specs.Search.{Patterns, WhichCaptures, all, implicit, none, Match}
-use Rattle.rx_model.specs.Matches.{IsMatch}
-use Rattle.rx_search.specs.Input.{InputValue, next_in}
+-- What a strategy is to a contract: data by cases, one for each way to search.
+use Rattle.std.specs.Prelude.{ℕ, ◌*◌, ◌≤◌, Bool, List, length, Option}
+use Rattle.rx_model.specs.Expression.{Expression}
+use Rattle.rx_model.specs.Search.{Patterns, Match}
+use Rattle.rx_search.specs.Input.{InputValue}
+use Rattle.rx_search.specs.Limits.{id_limit}
 use Rattle.rx_search.specs.declared.anchored.MatchKind.{MatchKind}
-use Rattle.rx_nfa.specs.Nfa.{Nfa, HasRuns}
-use Rattle.rx_nfa.specs.NextMatch.{next_match_of}
-use Rattle.rx_engines.specs.Bounded.{max_len, span_len}
-use Rattle.rx_engines.specs.Engine.{PikeVMValue}
+use Rattle.rx_hir.specs.Cost.{state_size}
+use Rattle.rx_hir.specs.declared.hir.properties.Properties.{Properties}
+use Rattle.rx_strategy.specs.Core.{IsCoreFor, IsCoreOf, core_finds}
+use Rattle.rx_strategy.specs.declared.config.Config.{Config}
+use Rattle.rx_strategy.specs.declared.strategy.Strategy.{Strategy}
+use Rattle.rx_strategy.specs.declared.strategy.Strategy.TheVariants.{Core}
 
-pub record StrategyValue : Type 0 where
-  pub nfa : Nfa
-  -- which of the matches that begin at one place is reported
-  pub kind : MatchKind
-  -- which groups are told
-  pub which_captures : WhichCaptures
-  -- there is a backtracker
-  pub backtracks : Bool
+-- the strategy searches for these patterns
+abbrev pub IsFor : Strategy → Patterns → Type 0
+IsFor (Core core) r = IsCoreFor core r
 
--- the strategy's PikeVM
-abbrev pub pikevm_of : StrategyValue → PikeVMValue
-pikevm_of s = record { nfa = s.nfa; kind = s.kind }
+-- which of the matches that begin at one place is reported
+abbrev pub kind_in : Strategy → MatchKind
+kind_in (Core core) = core.kind
 
--- the strategy's backtracker serves this input: the span is not too long for it
-abbrev pub backtracker_serves : StrategyValue → InputValue → Bool
-backtracker_serves s v = s.backtracks && nat_le (span_len v) (max_len s.nfa)
+-- what a search of the strategy finds, where matches are told
+abbrev pub finds : Strategy → InputValue → Option Match
+finds (Core core) v = core_finds core v
 
--- the strategy is for these patterns
-pub record IsOf (s : StrategyValue) (r : Patterns) : Type 0 where
-  pub runs : HasRuns s.nfa r
-  pub utf8 : r.utf8_empty ≡ s.nfa.utf8
-  pub which_captures : r.which_captures ≡ s.which_captures
+-- the groups of each pattern, by their names
+abbrev pub groups_in : Strategy → List (List (Option (List ℕ)))
+groups_in (Core core) = core.nfa.groups
 
--- matches are told
-abbrev pub tells : WhichCaptures → Bool
-tells all = true
-tells implicit = true
-tells none = false
+abbrev pub pattern_count : Strategy → ℕ
+pattern_count (Core core) = length core.nfa.starts
 
--- the next match of the strategy's NFA in the input's span
-abbrev pub next_match_in : StrategyValue → InputValue → Option Match
-next_match_in s v = next_match_of s.nfa s.nfa.utf8 v.haystack v.anchor v.end v.start
+-- the properties of the patterns together
+abbrev pub properties_of : Strategy → Properties
+properties_of (Core core) = core.properties
 
--- the same, where matches are told
-abbrev pub told_in : StrategyValue → InputValue → Option Match
-told_in s v = if tells s.which_captures then next_match_in s v else None
+-- the bytes that are accounted for the strategy itself: those of each accounted state of its NFA
+abbrev pub strategy_memory : Strategy → ℕ
+strategy_memory (Core core) = state_size * core.nfa.accounted
 
--- the next match of the patterns, where matches are told
-abbrev pub told_for : Patterns → InputValue → Option Match
-told_for r v = if tells r.which_captures then next_in r v else None
+-- there are no more patterns, and no more accounted states, than identifiers tell apart
+pub record IsFew (s : Strategy) : Type 0 where
+  pub patterns : pattern_count s ≤ id_limit
+  pub memory : strategy_memory s ≤ state_size * id_limit
 
--- there is a match of the patterns in the input's span of which this holds
-abbrev pub IsMatchWith : Patterns → InputValue → (Match → Type 0) → Type 0
-IsMatchWith r v Holds = (m : Match) × IsMatch r v.haystack v.anchor v.end v.start m × Holds m
+-- there is a backtracker
+abbrev pub backtracks : Strategy → Bool
+backtracks (Core core) = core.backtracks
+
+-- the strategy that is made of these expressions under the configuration
+abbrev pub IsMadeOf : Config → List Expression → Strategy → Type 0
+IsMadeOf config hs (Core core) = IsCoreOf config hs core

@@ -1,17 +1,21 @@
-ghost use Rattle.std.specs.Prelude.{◌≡◌, IfOk, OnOk, OnErr};
-ghost use Rattle.rx_strategy.specs.Cache.{Fits, backtrack_memory, memory_of, accounted_for};
+ghost use Rattle.std.specs.Prelude.{◌≡◌, IfOk, OnOk, OnErr, IsOk};
+ghost use Rattle.rx_strategy.specs.Cache.{Fits, FitsAsBefore, memory_of, accounted_for};
 
-use crate::strategy::Core;
+use crate::strategy::Strategy;
 use rx_engines::{backtrack, pikevm};
 use rx_search::Memory;
 use std::alloc::Global;
 use std::marker::Model;
 
 /// What the engines of a strategy write to. It is made once, and serves one search after another.
+///
+/// A cache that is reset keeps the room that it has, also in a part that its new strategy lacks. For such a part nothing is
+/// accounted.
 #[derive(Drop)]
 pub struct Cache {
     pub(crate) pikevm: pikevm::Cache,
     pub(crate) backtrack: Option<backtrack::Cache>,
+    pub(crate) memory: usize,
 }
 
 impl Model for Cache {
@@ -21,44 +25,37 @@ impl Model for Cache {
 
     ghost coded = { cache_code };
 
-    ghost view = { λ c. record { pikevm = c.pikevm; backtrack = c.backtrack } };
+    ghost view = { λ c. record { pikevm = c.pikevm; backtrack = c.backtrack; memory = c.memory } };
 }
 
 impl Cache {
     /// A cache that serves this strategy.
-    pub fn new(alloc: Global, core: &Core) -> Result<Cache, Memory>
-        ensures fits { IfOk result (Fits core.now) }
-        ensures memory { IfOk result (λ c. memory_of c ≡ accounted_for core.now) }
+    pub fn new(alloc: Global, strategy: &Strategy) -> Result<Cache, Memory>
+        ensures fits { IfOk result (Fits strategy.now) }
+        ensures memory { IfOk result (λ c. memory_of c ≡ accounted_for strategy.now) }
     {
-        core.create_cache(alloc)
+        strategy.create_cache(alloc)
     }
 
-    /// Makes the cache one that serves this strategy. Where there is no memory, it stays as it was.
-    pub fn reset(&mut self, alloc: Global, core: &Core) -> Result<(), Memory>
-        ensures fits { OnOk result (Fits core.now self.new) }
-        ensures memory { OnOk result (memory_of self.new ≡ accounted_for core.now) }
-        ensures err { OnErr result (self.new ≡ self.old) }
+    /// Makes any cache one that serves this strategy. It takes memory where its room does not suffice, and keeps what it
+    /// has. Where there is no memory, it serves what it served before, with its number as before.
+    pub fn reset(&mut self, alloc: Global, strategy: &Strategy) -> Result<(), Memory>
+        ensures fits { OnOk result (Fits strategy.now self.new) }
+        ensures memory { OnOk result (memory_of self.new ≡ accounted_for strategy.now) }
+        ensures err { OnErr result (FitsAsBefore self.old self.new) }
+        ensures sure { Fits strategy.now self.old → IsOk result }
     {
-        *self = Cache::new(alloc, core)?;
-        Ok(())
+        match strategy {
+            Strategy::Core(core) => core.reset_cache(alloc, self),
+        }
     }
 
-    /// The bytes that are accounted for the caches of the engines, or the greatest `usize` where they are more.
+    /// The bytes that are accounted for the caches of the engines of its strategy, or the greatest `usize` where they are
+    /// more. The number is fixed when the cache is made or reset.
     pub fn memory_usage(&self) -> usize
         ensures { result ≡ memory_of self.now }
     {
-        let backtrack = self.backtrack_memory();
-        self.pikevm.memory_usage().saturating_add(backtrack)
-    }
-
-    /// What is accounted for the backtracker's cache.
-    fn backtrack_memory(&self) -> usize
-        ensures { result ≡ backtrack_memory self.now.backtrack }
-    {
-        match &self.backtrack {
-            Some(cache) => cache.memory_usage(),
-            None => 0,
-        }
+        self.memory
     }
 
     /// A cache of its own with the same room.
@@ -67,7 +64,11 @@ impl Cache {
     {
         let pikevm = self.pikevm.clone(alloc)?;
         let backtrack = self.clone_backtrack(alloc)?;
-        Ok(Cache { pikevm, backtrack })
+        Ok(Cache {
+            pikevm,
+            backtrack,
+            memory: self.memory,
+        })
     }
 
     /// The backtracker's cache once more.

@@ -1,16 +1,20 @@
-//! The strategies of a regex: which engine answers a search.
+//! The strategies of a regex: how a search is answered.
 //!
-//! A `Core` runs the engines over one NFA. Its contract names the patterns alone: whichever engine served, the answer
-//! is the next match of these. It stands on rx_engines.
+//! A `Strategy` is one of several ways to search, of which `Core` is the only one so far: it runs engines over one NFA. The
+//! contract of a strategy names the patterns alone, so that one that runs no automaton can meet it. It stands on rx_engines.
 #![tactic(auto)]
 
 mod cache;
 mod config;
+mod found;
+mod info;
+mod laws;
 mod strategy;
 
 pub use cache::Cache;
 pub use config::Config;
-pub use strategy::Core;
+pub use laws::impossible_inputs_have_no_match;
+pub use strategy::{Core, Strategy};
 
 #[cfg(test)]
 mod tests;

@@ -1,74 +1,151 @@
-//! The strategy that runs the engines.
-ghost use Rattle.std.specs.Prelude.{◌≡◌, ◌≤◌, true, false, length, None, replicate, is_some, IfOk, IfNone, IfSome, IsSomeAnd, MatchOption, option_map};
-ghost use Rattle.rx_model.specs.Search.{Patterns, told_of};
-ghost use Rattle.rx_search.specs.Input.{next_in};
-ghost use Rattle.rx_search.specs.Matches.{match_value};
-ghost use Rattle.rx_engines.specs.Engine.{next_match_within, IsNfaOf, HasSlots, AreWithin, IsMatchWith as IsToldMatchWith};
-ghost use Rattle.rx_engines.specs.Bounded.{Fits as FitsBounded, max_len, span_len};
-ghost use Rattle.rx_strategy.specs.Config.{kind_of, captures_of, has_backtracker};
-ghost use Rattle.rx_strategy.specs.Strategy.{IsOf, tells, told_in, told_for, next_match_in, IsMatchWith, backtracker_serves};
-ghost use Rattle.rx_strategy.specs.Cache.{Fits, FitsBacktracker, backtrack_memory, memory_of, accounted_backtrack, accounted_for};
+//! How the searches of a regex are answered.
+ghost use Rattle.std.specs.Prelude.{◌≡◌, List, length, None, replicate, false, IfOk, IfErr, OnOk, OnErr, IsOk, IfNone, IfSome, IsTrue};
+ghost use Rattle.rx_model.specs.Expression.{Expression, alternation};
+ghost use Rattle.rx_model.specs.Search.{Patterns};
+ghost use Rattle.rx_search.specs.Input.{IsSpanned, next_in};
+ghost use Rattle.rx_search.specs.Matches.{match_value, half_match_value};
+ghost use Rattle.rx_search.specs.Told.{AreWithin, LiesIn, HalfLiesIn};
+ghost use Rattle.rx_search.specs.declared.anchored.MatchKind.TheVariants.{All};
+ghost use Rattle.rx_hir.specs.Normal.{expressions};
+ghost use Rattle.rx_hir.specs.PropertiesViews.{AreOf};
+ghost use Rattle.rx_nfa.specs.Compiled.{AreAllowed, IsRefusal};
+ghost use Rattle.rx_search.specs.Answer.{IsAnswer, AreSlotsOfAnswer, TellsWhether};
+ghost use Rattle.rx_strategy.specs.Config.{kind_of, compiler_of};
+ghost use Rattle.rx_strategy.specs.Cache.{Fits, memory_of, accounted_for};
+ghost use Rattle.rx_strategy.specs.Impossible.{is_impossible, IsKnownImpossible};
+ghost use Rattle.rx_strategy.specs.Strategy.{IsFor, kind_in, groups_in, pattern_count, properties_of, strategy_memory, backtracks, IsFew, IsMadeOf};
+
+mod engines;
 
 use crate::cache::Cache;
 use crate::config::Config;
-use rx_engines::backtrack::{self, BoundedBacktracker};
+use crate::found::half_match;
+use crate::info::RegexInfo;
+pub use engines::Core;
 use rx_engines::empty;
-use rx_engines::pikevm::PikeVM;
-use rx_nfa::{NFA, WhichCaptures};
-use rx_search::{Input, Match, Memory, NonMaxUsize};
+use rx_hir::Hir;
+use rx_nfa::{BuildError, Compiler};
+use rx_search::{GroupInfo, HalfMatch, Input, Match, Memory, NonMaxUsize};
 use std::alloc::Global;
-use std::marker::Model;
 
-/// The engines over one NFA: the bounded backtracker where it serves, and else the PikeVM. Which of them serves a
-/// search changes no answer that is promised.
+/// A way to search for patterns. Which one it is changes no answer that is promised.
 #[derive(Drop)]
-pub struct Core {
-    pikevm: PikeVM,
-    backtrack: Option<BoundedBacktracker>,
-    which_captures: WhichCaptures,
+pub enum Strategy {
+    /// Engines run an NFA.
+    Core(Core),
 }
 
-impl Model for Core {
-    ghost use Rattle.std.specs.Prelude.{◌≡◌, is_some, IfSome};
-    ghost use Rattle.rx_search.specs.declared.anchored.MatchKind.TheVariants.{LeftmostFirst};
-    ghost use Rattle.rx_nfa.specs.Config.{captures_kind};
-    ghost use Rattle.rx_strategy.specs.Strategy.{StrategyValue};
-
-    ghost Value = { StrategyValue };
-
-    ghost view = { λ c. record {
-      nfa = c.pikevm.nfa;
-      kind = c.pikevm.kind;
-      which_captures = captures_kind c.which_captures;
-      backtracks = is_some c.backtrack;
-    } };
-
-    ghost invariant = { λ c. IfSome c.backtrack (λ nfa. (nfa ≡ c.pikevm.nfa) × (c.pikevm.kind ≡ LeftmostFirst)) };
-}
-
-impl Core {
-    /// The strategy of this NFA, which was built under the configuration.
-    pub fn new(config: &Config, nfa: NFA) -> Result<Core, Memory>
-        ensures { IfOk result (λ core. core ≡ record {
-          nfa = nfa;
-          kind = kind_of config.now;
-          which_captures = captures_of config.now;
-          backtracks = has_backtracker config.now;
-        }) }
+impl Strategy {
+    /// The strategy of these expressions, one pattern each, under the configuration.
+    ///
+    /// Refused are, in this order: more than 2147483647 patterns, more than 2147483646 slots, more than 2147483647
+    /// states accounted, more bytes accounted than the configured limit. Want of memory comes last.
+    pub fn new(alloc: Global, config: &Config, exprs: &[Hir]) -> Result<Strategy, BuildError>
+        ensures made { IfOk result (IsMadeOf config.now exprs.now) }
+        ensures no_backtracker { IfOk result (λ s. kind_of config.now ≡ All → backtracks s ≡ false) }
+        ensures allowed { OnOk result (AreAllowed (compiler_of config.now) exprs.now) }
+        ensures refused { IfErr result (IsRefusal (compiler_of config.now) exprs.now) }
     {
-        let backtrack = backtracker(config, &nfa)?;
-        Ok(Core {
-            pikevm: PikeVM::build_from_nfa(nfa, config.get_match_kind()),
-            backtrack,
-            which_captures: config.get_which_captures(),
-        })
+        let mut compiler = Compiler::new();
+        compiler.configure(config.compiler());
+        let nfa = compiler.build_many_from_hir(alloc, exprs)?;
+        let info = RegexInfo::new(alloc, exprs)?;
+        Ok(Strategy::Core(Core::new(config, nfa, info)?))
     }
 
-    /// The NFA.
-    pub fn get_nfa(&self) -> &NFA
-        ensures { result.now ≡ self.now.nfa }
+    /// The next match in the input's span. With `earliest` it is some match, and there is one exactly where there is a next
+    /// match. No match is told where the configuration asks for no captures.
+    ///
+    /// `Memory`: there was no memory for the search.
+    pub fn search(&self, cache: &mut Cache, input: &Input<'_>) -> Result<Option<Match>, Memory>
+        requires { Fits self.now cache.old }
+        ensures answer { IfOk result (IsAnswer (IsFor self.now) (kind_in self.now) input.now match_value) }
+        ensures within { IfOk result (λ o. IfSome o (LiesIn input.now)) }
+        ensures cache { Fits self.now cache.new }
+        ensures memory { memory_of cache.new ≡ memory_of cache.old }
+        ensures sure { IsKnownImpossible (properties_of self.now) input.now → IsOk result }
     {
-        self.pikevm.get_nfa()
+        self.search_slots(cache, input, &mut [])
+    }
+
+    /// The pattern and the end of the match that `search` answers.
+    ///
+    /// `Memory`: there was no memory for the search.
+    pub fn search_half(
+        &self,
+        cache: &mut Cache,
+        input: &Input<'_>,
+    ) -> Result<Option<HalfMatch>, Memory>
+        requires { Fits self.now cache.old }
+        ensures answer { IfOk result (IsAnswer (IsFor self.now) (kind_in self.now) input.now half_match_value) }
+        ensures within { IfOk result (λ o. IfSome o (HalfLiesIn input.now)) }
+        ensures cache { Fits self.now cache.new }
+        ensures memory { memory_of cache.new ≡ memory_of cache.old }
+        ensures sure { IsKnownImpossible (properties_of self.now) input.now → IsOk result }
+    {
+        let found = self.search_slots(cache, input, &mut [])?;
+        Ok(half_match(found))
+    }
+
+    /// As `search`. Each slot gets the place that the match leaves in it, and None where there is no match, no such slot,
+    /// or no memory.
+    ///
+    /// `Memory`: there was no memory for the search.
+    pub fn search_slots(
+        &self,
+        cache: &mut Cache,
+        input: &Input<'_>,
+        slots: &mut [Option<NonMaxUsize>],
+    ) -> Result<Option<Match>, Memory>
+        requires { Fits self.now cache.old }
+        ensures answer { IfOk result (IsAnswer (IsFor self.now) (kind_in self.now) input.now match_value) }
+        ensures slots { IfOk result (AreSlotsOfAnswer (IsFor self.now) (kind_in self.now) input.now match_value slots.new) }
+        ensures within { IfOk result (λ o. IfSome o (LiesIn input.now)) }
+        ensures none { IfOk result (λ o. IfNone o (slots.new ≡ replicate (length slots.old) None)) }
+        ensures err { OnErr result (slots.new ≡ replicate (length slots.old) None) }
+        ensures slots_within { AreWithin input.now slots.new }
+        ensures cache { Fits self.now cache.new }
+        ensures memory { memory_of cache.new ≡ memory_of cache.old }
+        ensures spanned { IsSpanned input.now }
+        ensures sure { IsKnownImpossible (properties_of self.now) input.now → IsOk result }
+    {
+        if self.is_impossible(input) {
+            empty(slots);
+            return Ok(None);
+        }
+        match self {
+            Strategy::Core(core) => Ok(core.search_slots(cache, input, slots)),
+        }
+    }
+
+    /// Whether there is a match in the input's span, under each kind of match and of captures.
+    ///
+    /// `Memory`: there was no memory for the search.
+    pub fn is_match(&self, cache: &mut Cache, input: &Input<'_>) -> Result<bool, Memory>
+        requires { Fits self.now cache.old }
+        ensures value { IfOk result (TellsWhether (IsFor self.now) input.now) }
+        ensures cache { Fits self.now cache.new }
+        ensures memory { memory_of cache.new ≡ memory_of cache.old }
+        ensures sure { IsKnownImpossible (properties_of self.now) input.now → IsOk result }
+    {
+        if self.is_impossible(input) {
+            return Ok(false);
+        }
+        match self {
+            Strategy::Core(core) => Ok(core.is_match(cache, input)),
+        }
+    }
+
+    /// Whether it is known that there is no match in the input's span.
+    pub fn is_impossible(&self, input: &Input<'_>) -> bool
+        ensures value { (hs : List Expression) → AreOf (alternation (expressions hs)) (properties_of self.now)
+            → result ≡ is_impossible hs input.now }
+        ensures none { IsTrue result → (r : Patterns) → IsFor self.now r → next_in r input.now ≡ None }
+        ensures spanned { IsSpanned input.now }
+    {
+        match self {
+            Strategy::Core(core) => core.is_impossible(input),
+        }
     }
 
     /// A cache that serves this strategy.
@@ -76,147 +153,37 @@ impl Core {
         ensures fits { IfOk result (Fits self.now) }
         ensures memory { IfOk result (λ c. memory_of c ≡ accounted_for self.now) }
     {
-        let pikevm = self.pikevm.create_cache(alloc)?;
-        let backtrack = self.backtrack_cache(alloc)?;
-        Ok(Cache { pikevm, backtrack })
-    }
-
-    /// A cache for the backtracker, where there is one.
-    fn backtrack_cache(&self, alloc: Global) -> Result<Option<backtrack::Cache>, Memory>
-        ensures fits { IfOk result (FitsBacktracker self.now) }
-        ensures memory { IfOk result (λ c. backtrack_memory c ≡ accounted_backtrack self.now) }
-    {
-        match &self.backtrack {
-            Some(engine) => Ok(Some(engine.create_cache(alloc)?)),
-            None => Ok(None),
+        match self {
+            Strategy::Core(core) => core.create_cache(alloc),
         }
     }
 
-    /// Whether there is a match in the input's span, under each kind of match and of captures.
-    pub fn is_match(&self, cache: &mut Cache, input: &Input<'_>) -> bool
-        requires { Fits self.now cache.old }
-        ensures value { result ≡ is_some (next_match_in self.now input.now) }
-        ensures patterns { (r : Patterns) → IsOf self.now r
-            → next_match_in self.now input.now ≡ option_map (told_of r.which_captures) (next_in r input.now) }
-        ensures cache { cache.new ≡ cache.old }
+    /// How many patterns there are.
+    pub fn pattern_len(&self) -> usize
+        ensures value { result ≡ pattern_count self.now }
+        ensures patterns { (r : Patterns) → IsFor self.now r → result ≡ length r.expressions }
+        ensures few { IsFew self.now }
     {
-        self.pikevm.is_match(&mut cache.pikevm, input)
-    }
-
-    /// The next match in the input's span. Each slot gets the place that the match leaves in it, and None where there is
-    /// no match. With `earliest` it is some match, and there is one exactly where there is a next match. No match is
-    /// told where the configuration asks for no captures.
-    pub fn search(
-        &self,
-        cache: &mut Cache,
-        input: &Input<'_>,
-        slots: &mut [Option<NonMaxUsize>],
-    ) -> Option<Match>
-        requires { Fits self.now cache.old }
-        ensures value { input.now.earliest ≡ false → result ≡ option_map match_value (told_in self.now input.now) }
-        ensures exists { is_some result ≡ is_some (told_in self.now input.now) }
-        ensures patterns { (r : Patterns) → IsOf self.now r → told_in self.now input.now ≡ told_for r input.now }
-        ensures is_match { (r : Patterns) → IsOf self.now r
-            → IfSome result (λ found. IsMatchWith r input.now (λ m. (found ≡ match_value m) × HasSlots slots.new m)) }
-        ensures slots { input.now.earliest ≡ false → IfSome (told_in self.now input.now) (HasSlots slots.new) }
-        ensures none { IfNone result (slots.new ≡ replicate (length slots.old) None) }
-        ensures slots_within { AreWithin input.now slots.new }
-        ensures within { IfSome result (λ m. (input.now.start ≤ m.start) × (m.end ≤ input.now.end)) }
-        ensures cache { cache.new ≡ cache.old }
-    {
-        if self.tells() {
-            return self.find(cache, input, slots);
-        }
-        empty(slots);
-        None
-    }
-
-    /// Whether matches are told.
-    fn tells(&self) -> bool
-        ensures { result ≡ tells self.now.which_captures }
-    {
-        match self.which_captures {
-            WhichCaptures::All => true,
-            WhichCaptures::Implicit => true,
-            WhichCaptures::None => false,
+        match self {
+            Strategy::Core(core) => core.get_nfa().pattern_len(),
         }
     }
 
-    /// As `search`, under every configuration of captures.
-    fn find(
-        &self,
-        cache: &mut Cache,
-        input: &Input<'_>,
-        slots: &mut [Option<NonMaxUsize>],
-    ) -> Option<Match>
-        requires { Fits self.now cache.old }
-        ensures value { input.now.earliest ≡ false → result ≡ option_map match_value (next_match_in self.now input.now) }
-        ensures exists { is_some result ≡ is_some (next_match_in self.now input.now) }
-        ensures patterns { (r : Patterns) → IsOf self.now r
-            → next_match_in self.now input.now ≡ option_map (told_of r.which_captures) (next_in r input.now) }
-        ensures is_match { (r : Patterns) → IsOf self.now r
-            → IfSome result (λ found. IsToldMatchWith r input.now (λ m. (found ≡ match_value m) × HasSlots slots.new m)) }
-        ensures slots { input.now.earliest ≡ false → IfSome (next_match_in self.now input.now) (HasSlots slots.new) }
-        ensures none { IfNone result (slots.new ≡ replicate (length slots.old) None) }
-        ensures slots_within { AreWithin input.now slots.new }
-        ensures within { IfSome result (λ m. (input.now.start ≤ m.start) × (m.end ≤ input.now.end)) }
-        ensures cache { cache.new ≡ cache.old }
+    /// The bytes that are accounted for the strategy itself, which are those of its NFA.
+    pub fn memory_usage(&self) -> usize
+        ensures { result ≡ strategy_memory self.now }
     {
-        match self.backtracker_for(input) {
-            Some(engine) => find_by_backtracking(engine, &mut cache.backtrack, input, slots),
-            None => self.pikevm.find_slots(&mut cache.pikevm, input, slots),
+        match self {
+            Strategy::Core(core) => core.get_nfa().memory_usage(),
         }
     }
 
-    /// The backtracker where it serves this input: there is one, and the span is not too long for it.
-    fn backtracker_for(&self, input: &Input<'_>) -> Option<&BoundedBacktracker>
-        ensures serves { is_some result ≡ backtracker_serves self.now input.now }
-        ensures engine { IfSome result (λ engine. engine.now ≡ self.now.nfa) }
+    /// The groups of each pattern. A group that the configuration leaves out has slots too, which stay empty.
+    pub fn group_info(&self) -> &GroupInfo
+        ensures { result.now ≡ groups_in self.now }
     {
-        let engine = self.backtrack.as_ref()?;
-        if input.get_span().len() > engine.max_haystack_len() {
-            return None;
+        match self {
+            Strategy::Core(core) => core.get_nfa().group_info(),
         }
-        Some(engine)
-    }
-}
-
-/// The backtracker, where the configuration has it.
-fn backtracker(config: &Config, nfa: &NFA) -> Result<Option<BoundedBacktracker>, Memory>
-    ensures { IfOk result (λ o. MatchOption o (has_backtracker config.now ≡ false) (λ b. (has_backtracker config.now ≡ true) × (b ≡ nfa.now))) }
-{
-    if !config.has_backtracker() {
-        return Ok(None);
-    }
-    Ok(Some(BoundedBacktracker::build_from_nfa(nfa.clone()?)))
-}
-
-/// What the backtracker answers in a span that is not too long for it.
-fn find_by_backtracking(
-    engine: &BoundedBacktracker,
-    cache: &mut Option<backtrack::Cache>,
-    input: &Input<'_>,
-    slots: &mut [Option<NonMaxUsize>],
-) -> Option<Match>
-    requires fits { IsSomeAnd cache.old (FitsBounded engine.now) }
-    requires short { span_len input.now ≤ max_len engine.now }
-    ensures value { result ≡ option_map match_value (next_match_within engine.now input.now) }
-    ensures patterns { (r : Patterns) → IsNfaOf engine.now r
-        → next_match_within engine.now input.now ≡ option_map (told_of r.which_captures) (next_in r input.now) }
-    ensures is_match { (r : Patterns) → IsNfaOf engine.now r
-        → IfSome result (λ found. IsToldMatchWith r input.now (λ m. (found ≡ match_value m) × HasSlots slots.new m)) }
-    ensures slots { IfSome (next_match_within engine.now input.now) (HasSlots slots.new) }
-    ensures none { IfNone result (slots.new ≡ replicate (length slots.old) None) }
-    ensures slots_within { AreWithin input.now slots.new }
-    ensures within { IfSome result (λ m. (input.now.start ≤ m.start) × (m.end ≤ input.now.end)) }
-    ensures cache { cache.new ≡ cache.old }
-{
-    let Some(cache) = cache else {
-        unreachable!();
-    };
-    match engine.try_find_slots(cache, input, slots) {
-        Ok(found) => found,
-        // Its only error is that the span is too long.
-        Err(_) => unreachable!(),
     }
 }

@@ -1,8 +1,8 @@
 ghost use Rattle.rx_strategy.specs.Cache.{Fits};
 
-use crate::{Cache, Config, Core};
+use crate::{Cache, Config, Strategy};
 use rx_hir::Hir;
-use rx_nfa::{Compiler, WhichCaptures};
+use rx_nfa::{BuildError, WhichCaptures};
 use rx_search::{Input, Match, MatchKind, Memory, NonMaxUsize};
 use std::alloc::Global;
 use std::process::Abort;
@@ -21,27 +21,40 @@ fn a_or_ab(alloc: Global) -> Result<Hir, Memory> {
     Hir::alternation(alloc, alternatives)
 }
 
+/// What is made of the expression under the configuration.
+fn made(
+    alloc: Global,
+    config: &Config,
+    expression: Hir,
+) -> Result<Result<Strategy, BuildError>, Memory> {
+    let mut expressions = Vec::new(alloc);
+    expressions.push(expression)?;
+    Ok(Strategy::new(alloc, config, &expressions))
+}
+
 /// The strategy of the expression under the configuration.
 fn strategy(
     rt: &impl Abort,
     alloc: Global,
     config: &Config,
     expression: Hir,
-) -> Result<Core, Fail> {
-    let mut expressions = Vec::new(alloc);
-    expressions.push(expression)?;
-    let mut compiler = Compiler::new();
-    compiler.configure(config.compiler());
-    let nfa = compiler.build_many_from_hir(alloc, &expressions);
-    let core = Core::new(config, nfa.ok().expect(rt, "an NFA"));
-    Ok(core.ok().expect(rt, "a strategy"))
+) -> Result<Strategy, Fail> {
+    let made = made(alloc, config, expression)?;
+    Ok(made.ok().expect(rt, "a strategy"))
 }
 
 /// A cache of the strategy.
-fn cache_of(rt: &impl Abort, alloc: Global, core: &Core) -> Cache
-    ensures { Fits core.now result }
+fn cache_of(rt: &impl Abort, alloc: Global, strategy: &Strategy) -> Cache
+    ensures { Fits strategy.now result }
 {
-    Cache::new(alloc, core).ok().expect(rt, "a cache")
+    Cache::new(alloc, strategy).ok().expect(rt, "a cache")
+}
+
+/// Makes the cache one of the strategy.
+fn reset(rt: &impl Abort, alloc: Global, cache: &mut Cache, strategy: &Strategy)
+    ensures { Fits strategy.now cache.new }
+{
+    cache.reset(alloc, strategy).ok().expect(rt, "memory")
 }
 
 /// The place that a slot holds.
@@ -112,10 +125,10 @@ fn found_in(
     haystack: &[u8],
 ) -> Result<(Option<(usize, usize)>, [Option<usize>; 2]), Fail> {
     let config = Config::new().backtrack(backtrack);
-    let core = strategy(rt, alloc, &config, a_or_ab(alloc)?)?;
-    let mut cache = cache_of(rt, alloc, &core);
+    let strategy = strategy(rt, alloc, &config, a_or_ab(alloc)?)?;
+    let mut cache = cache_of(rt, alloc, &strategy);
     let mut slots = [None; 2];
-    let found = core.search(&mut cache, &Input::new(haystack), &mut slots);
+    let found = strategy.search_slots(&mut cache, &Input::new(haystack), &mut slots)?;
     Ok((told(found), [place(slots[0]), place(slots[1])]))
 }
 
@@ -131,27 +144,132 @@ fn both_engines_prefer_the_first_alternative(rt: HostRuntime) -> Result<(), Fail
     Ok(())
 }
 
+/// The strategy of `a|ab` under the configuration.
+fn of_a_or_ab(rt: &impl Abort, alloc: Global, config: &Config) -> Strategy {
+    let expression = a_or_ab(alloc).ok().expect(rt, "memory");
+    let made = made(alloc, config, expression).ok().expect(rt, "memory");
+    made.ok().expect(rt, "a strategy")
+}
+
+/// The strategy of `a`, without a backtracker.
+fn of_a(rt: &impl Abort, alloc: Global) -> Strategy {
+    let config = Config::new().backtrack(false);
+    let expression = text(alloc, b"a").ok().expect(rt, "memory");
+    let made = made(alloc, &config, expression).ok().expect(rt, "memory");
+    made.ok().expect(rt, "a strategy")
+}
+
+/// The span of the match in the haystack.
+fn span_in(
+    rt: &impl Abort,
+    strategy: &Strategy,
+    cache: &mut Cache,
+    haystack: &[u8],
+) -> Option<(usize, usize)>
+    requires { Fits strategy.now cache.old }
+    ensures { Fits strategy.now cache.new }
+{
+    let found = strategy.search(cache, &Input::new(haystack)).ok();
+    told(found.expect(rt, "memory"))
+}
+
+/// The end of the match in the haystack.
+fn end_in(rt: &impl Abort, strategy: &Strategy, cache: &mut Cache, haystack: &[u8]) -> Option<usize>
+    requires { Fits strategy.now cache.old }
+    ensures { Fits strategy.now cache.new }
+{
+    let found = strategy.search_half(cache, &Input::new(haystack)).ok();
+    match found.expect(rt, "memory") {
+        Some(half) => Some(half.offset()),
+        None => None,
+    }
+}
+
+/// Whether there is a match in the haystack.
+fn matches_in(rt: &impl Abort, strategy: &Strategy, cache: &mut Cache, haystack: &[u8]) -> bool
+    requires { Fits strategy.now cache.old }
+    ensures { Fits strategy.now cache.new }
+{
+    let found = strategy.is_match(cache, &Input::new(haystack)).ok();
+    found.expect(rt, "memory")
+}
+
 #[test]
-fn a_cache_is_cloned(rt: HostRuntime) -> Result<(), Fail> {
+fn each_call_answers_alike(rt: HostRuntime) {
     let alloc = rt.alloc();
-    let core = strategy(&rt, alloc, &Config::new(), a_or_ab(alloc)?)?;
-    let cache = cache_of(&rt, alloc, &core);
+    let strategy = of_a_or_ab(&rt, alloc, &Config::new());
+    let mut cache = cache_of(&rt, alloc, &strategy);
+    assert_eq!(rt; span_in(&rt, &strategy, &mut cache, b"xab"), Some((1, 2)));
+    assert_eq!(rt; end_in(&rt, &strategy, &mut cache, b"xab"), Some(2));
+    assert!(rt; matches_in(&rt, &strategy, &mut cache, b"xab"));
+    assert!(rt; !matches_in(&rt, &strategy, &mut cache, b"xb"));
+}
+
+#[test]
+fn a_cache_is_cloned(rt: HostRuntime) {
+    let alloc = rt.alloc();
+    let strategy = of_a_or_ab(&rt, alloc, &Config::new());
+    let cache = cache_of(&rt, alloc, &strategy);
     let again = cache.clone(alloc).ok().expect(&rt, "a cache");
     assert_eq!(rt; again.memory_usage(), cache.memory_usage());
+}
+
+#[test]
+fn a_cache_is_reset_for_more_and_for_less(rt: HostRuntime) {
+    let alloc = rt.alloc();
+    let small = of_a(&rt, alloc);
+    let large = of_a_or_ab(&rt, alloc, &Config::new());
+    let mut cache = cache_of(&rt, alloc, &small);
+    // 4 states, 1 and 3 of the pattern, with 16 for each of 2 slots
+    assert_eq!(rt; cache.memory_usage(), 16 * 8 * 2);
+    reset(&rt, alloc, &mut cache, &large);
+    // 4 more states, and as much for the backtracker
+    assert!(rt; cache.memory_usage() > 2 * 16 * 8 * 2);
+    assert_eq!(rt; span_in(&rt, &large, &mut cache, b"xab"), Some((1, 2)));
+    reset(&rt, alloc, &mut cache, &small);
+    assert_eq!(rt; cache.memory_usage(), 16 * 8 * 2);
+    assert_eq!(rt; span_in(&rt, &small, &mut cache, b"xab"), Some((1, 2)));
+}
+
+#[test]
+fn nothing_is_told_without_captures(rt: HostRuntime) {
+    let alloc = rt.alloc();
+    let config = Config::new().which_captures(WhichCaptures::None);
+    let strategy = of_a_or_ab(&rt, alloc, &config);
+    let mut cache = cache_of(&rt, alloc, &strategy);
+    assert_eq!(rt; span_in(&rt, &strategy, &mut cache, b"ab"), None);
+    assert_eq!(rt; end_in(&rt, &strategy, &mut cache, b"ab"), None);
+    assert!(rt; matches_in(&rt, &strategy, &mut cache, b"ab"));
+    let mut slots = [NonMaxUsize::new(9); 2];
+    let found = strategy
+        .search_slots(&mut cache, &Input::new(b"ab"), &mut slots)
+        .ok();
+    assert_eq!(rt; told(found.expect(&rt, "memory")), None);
+    assert_eq!(rt; (place(slots[0]), place(slots[1])), (None, None));
+}
+
+#[test]
+fn a_limit_is_told_before_memory(rt: HostRuntime) -> Result<(), Fail> {
+    let alloc = rt.alloc();
+    let config = Config::new().nfa_size_limit(Some(255));
+    let refused = made(alloc, &config, text(alloc, b"a")?)?.err();
+    let refusal = BuildError::ExceededSizeLimit {
+        limit: 255,
+        size: 256,
+    };
+    assert!(rt; refused == Some(refusal));
     Ok(())
 }
 
 #[test]
-fn nothing_is_told_without_captures(rt: HostRuntime) -> Result<(), Fail> {
+fn a_strategy_tells_of_its_patterns(rt: HostRuntime) {
     let alloc = rt.alloc();
-    let config = Config::new().which_captures(WhichCaptures::None);
-    let core = strategy(&rt, alloc, &config, a_or_ab(alloc)?)?;
-    let mut cache = cache_of(&rt, alloc, &core);
-    let mut slots = [None; 2];
-    let input = Input::new(b"ab");
-    assert_eq!(rt; told(core.search(&mut cache, &input, &mut slots)), None);
-    assert!(rt; core.is_match(&mut cache, &input));
-    Ok(())
+    let strategy = of_a(&rt, alloc);
+    assert_eq!(rt; strategy.pattern_len(), 1);
+    assert_eq!(rt; strategy.memory_usage(), 256);
+    assert_eq!(rt; strategy.group_info().slot_len(), 2);
+    assert!(rt; strategy.is_impossible(&Input::new(b"")));
+    assert!(rt; !strategy.is_impossible(&Input::new(b"b")));
 }
 
 /// Values of this type may go to other threads.
@@ -163,8 +281,8 @@ fn crosses_threads<T: Send + Sync>(_value: &T) {}
 #[test]
 fn a_strategy_crosses_threads(rt: HostRuntime) -> Result<(), Fail> {
     let alloc = rt.alloc();
-    let core = strategy(&rt, alloc, &Config::new(), text(alloc, b"a")?)?;
-    crosses_threads(&core);
-    goes_to_threads(&cache_of(&rt, alloc, &core));
+    let strategy = strategy(&rt, alloc, &Config::new(), text(alloc, b"a")?)?;
+    crosses_threads(&strategy);
+    goes_to_threads(&cache_of(&rt, alloc, &strategy));
     Ok(())
 }

@@ -1,5 +1,5 @@
 -- Atoms are UTF-8: a class of scalars always, and a class of bytes where `utf8` refuses those above 7F.
-use Rattle.std.proofs.Common.{◌≡◌, ℕ, suc, ◌<◌, ◌≤◌, Bool, true, false, not, ◌&&◌, ◌||◌, List, [], ◌∷◌, ◌++◌, Option, Some, None, option_map, refl, sym, ◌∙◌, true≢false, inl, inr, arith}
+use Rattle.std.proofs.Common.{◌≡◌, ℕ, suc, ◌≤◌, Bool, true, false, not, ◌&&◌, ◌||◌, List, [], ◌∷◌, Option, Some, None, option_map, refl, sym, ◌∙◌, true≢false, inl, inr, arith}
 use Rattle.std.specs.Prelude.{if◌then◌else◌, nat_le, encode_utf8}
 use Rattle.std.specs.Char.{IsScalar}
 use Rattle.std.specs.List.{All}
@@ -38,7 +38,7 @@ use Rattle.rx_reader.specs.declared.class_item.ClassItem.TheVariants as items
 use Rattle.rx_reader.specs.Config.{utf8_of, terminator_of}
 use Rattle.rx_reader.specs.Characters.{AllInItem, AllInAtom}
 use Rattle.rx_syntax.specs.Literals.{character, in_either_case}
-use Rattle.rx_syntax.specs.Classes.{scalars_under, scalars_named, item_scalars, all_scalars, scalar_class, all_bytes, byte_class, bytes_under, line_ends, has_odd_terminator}
+use Rattle.rx_syntax.specs.Classes.{scalars_under, scalars_named, item_scalars, all_scalars, all_bytes, byte_class, bytes_under, line_ends, has_odd_terminator}
 use Rattle.rx_syntax.specs.Translation.{atom_of}
 use Rattle.rx_syntax.proofs.GivesLemmas.{Gives, refused, gives, bind, test, any}
 

@@ -1,8 +1,11 @@
 -- What is so of what is given, if nothing is refused.
-use Rattle.std.proofs.Common.{◌≡◌, Bool, true, false, Result, Ok, Err, refl, subst}
+use Rattle.std.proofs.Common.{◌≡◌, ℕ, suc, ◌+◌, Bool, true, false, List, [], ◌∷◌, map, Result, Ok, Err, refl, subst, arith}
 use Rattle.std.specs.Prelude.{if◌then◌else◌}
+use Rattle.std.specs.List.{All}
+use Rattle.std.proofs.lemmas.List.Elements.{All-nil, All-cons}
 use Rattle.rx_reader.specs.declared.error.SyntaxError.{SyntaxError}
 use Rattle.rx_reader.specs.Reading.{◌>>=◌}
+use Rattle.rx_syntax.specs.Patterns.{Refusal, before, all_of}
 
 -- where something is given, this is so of it
 pub record Gives {A E : Type 0} (P : A → Type 0) (r : Result A E) : Type 0 where
@@ -29,3 +32,18 @@ test false then_x else_y = else_y refl
 -- whatever is given
 pub any : {A : Type 0} (r : Result A SyntaxError) → Gives (λ a. Unit {0}) r
 any r = record { given = λ a is. tt }
+
+-- Lists of patterns.
+
+before-gives : {A : Type 0} (P : A → Type 0) (p : ℕ) (r : Result A SyntaxError) (others : Result (List A) Refusal) → Gives P r → Gives (All P) others → Gives (All P) (before p r others)
+before-gives P p (Err e) others h rest = refused
+before-gives P p (Ok a) (Err refusal) h rest = refused
+before-gives P p (Ok a) (Ok others) h rest = gives (All-cons P a others (h.given a refl) (rest.given others refl))
+
+pub all_of-gives : {I A : Type 0} (Q : I → Type 0) (P : A → Type 0) (f : I → Result A SyntaxError) → ((i : I) → Q i → Gives P (f i))
+    → (p : ℕ) (is : List I) → All Q is → Gives (All P) (all_of p (map f is))
+unfolding all_of
+all_of-gives Q P f each p [] all = gives (All-nil P)
+all_of-gives Q P f each p (i ∷ is) all =
+    before-gives P p (f i) (all_of (p + 1) (map f is)) (each i (all 0 i (omega arith)))
+    (all_of-gives Q P f each (p + 1) is (λ k d lt. all (suc k) d (omega arith)))

@@ -1,9 +1,11 @@
 pub mod FewestLemmas
 pub mod GatherLemmas
 pub mod GivesLemmas
+pub mod AtomLemmas
 pub mod AtomGroups
 pub mod AtomUtf8
 pub mod GroupLemmas
+pub mod OrderedLemmas
 pub mod PatternsLemmas
 pub mod PlainLemmas
 pub mod SizeLemmas

@@ -1,18 +1,19 @@
 -- Under `utf8` the expression of a pattern is UTF-8.
-use Rattle.std.proofs.Common.{◌≡◌, ℕ, suc, ◌+◌, ◌-◌, true, List, [], ◌∷◌, map, take, drop, Ok, Err, refl, arith}
-use Rattle.std.specs.Prelude.{Result, chars, IsUtf8}
+use Rattle.std.proofs.Common.{◌≡◌, ℕ, ◌-◌, true, List, take, drop, Some, Ok, Err, refl, subst}
+use Rattle.std.specs.Prelude.{Result, chars, slice_get, IsUtf8}
 use Rattle.std.specs.Char.{IsScalar}
 use Rattle.std.specs.List.{All}
-use Rattle.std.proofs.lemmas.List.Elements.{All-nil, All-cons}
+use Rattle.std.proofs.lemmas.Option.{slice_get_within, get_or_from_slice_get}
 use Rattle.std.proofs.lemmas.Str.{scalars-chars}
 use lib.Utf8.{scalars}
-use Rattle.rx_model.specs.Expression.{Expression}
+use Rattle.rx_model.specs.Expression.{Expression, AreOrdered}
 use Rattle.rx_model.specs.Meaning.{Means}
+use Rattle.rx_model.specs.Search.{Patterns}
+use Rattle.rx_model.specs.Utf8.{MeansUtf8}
 use Rattle.rx_hir.specs.Properties.{is_utf8}
 use Rattle.rx_hir.proofs.Utf8Lemmas.{means-utf8}
 use Rattle.rx_hir.proofs.Utf8FormsLemmas.{HasUtf8, HaveUtf8, cons-utf8, repetition-utf8, concat-utf8, alternation-utf8}
 use Rattle.rx_reader.specs.declared.config.Config.{Config}
-use Rattle.rx_reader.specs.declared.error.SyntaxError.{SyntaxError}
 use Rattle.rx_reader.specs.declared.group_kind.GroupKind.{GroupKind}
 use Rattle.rx_reader.specs.declared.group_kind.GroupKind.TheVariants.{NonCapturing, CaptureIndex, CaptureName}
 use Rattle.rx_reader.specs.Config.{utf8_of}
@@ -22,8 +23,9 @@ use Rattle.rx_reader.specs.Characters.{AllIn, AllInEach}
 use Rattle.rx_reader.proofs.CharacterLemmas.{read-scalars}
 use Rattle.rx_syntax.specs.Translation.{group_of, translated, all_translated}
 use Rattle.rx_syntax.specs.Pattern.{reads}
-use Rattle.rx_syntax.specs.Patterns.{Refusal, before, all_of, each_read, all_syntaxes, all_translated as each_translated, translated_if, all_read}
-use Rattle.rx_syntax.proofs.GivesLemmas.{Gives, refused, gives, bind}
+use Rattle.rx_syntax.specs.Patterns.{Refusal, each_read, all_syntaxes, all_translated as each_translated, translated_if, all_read}
+use Rattle.rx_syntax.proofs.GivesLemmas.{Gives, refused, gives, bind, all_of-gives}
+use Rattle.rx_syntax.proofs.OrderedLemmas.{ordered_all}
 use Rattle.rx_syntax.proofs.AtomUtf8.{character-utf8, atom-utf8}
 
 group-utf8 : (kind : GroupKind) (body : Expression) → HasUtf8 body → HasUtf8 (group_of kind body)
@@ -57,19 +59,6 @@ module _ (config : Config) (utf8 : utf8_of config ≡ true) where
 
 -- Lists of patterns.
 
-before-gives : {A : Type 0} (P : A → Type 0) (p : ℕ) (r : Result A SyntaxError) (others : Result (List A) Refusal) → Gives P r → Gives (All P) others → Gives (All P) (before p r others)
-before-gives P p (Err e) others h rest = refused
-before-gives P p (Ok a) (Err refusal) h rest = refused
-before-gives P p (Ok a) (Ok others) h rest = gives (All-cons P a others (h.given a refl) (rest.given others refl))
-
-all_of-gives : {I A : Type 0} (Q : I → Type 0) (P : A → Type 0) (f : I → Result A SyntaxError) → ((i : I) → Q i → Gives P (f i))
-    → (p : ℕ) (is : List I) → All Q is → Gives (All P) (all_of p (map f is))
-unfolding all_of
-all_of-gives Q P f each p [] all = gives (All-nil P)
-all_of-gives Q P f each p (i ∷ is) all =
-    before-gives P p (f i) (all_of (p + 1) (map f is)) (each i (all 0 i (omega arith)))
-    (all_of-gives Q P f each (p + 1) is (λ k d lt. all (suc k) d (omega arith)))
-
 module _ (config : Config) (utf8 : utf8_of config ≡ true) where
   each-gives : (texts : List (List ℕ)) → All IsUtf8 texts → Gives (All HasUtf8) (each_read config texts)
   unfolding each_read
@@ -101,3 +90,14 @@ of_each config patterns hs utf8 are is = (each-gives config utf8 patterns are).g
 
 pub of_all : (config : Config) (patterns : List (List ℕ)) (hs : List Expression) → utf8_of config ≡ true → All IsUtf8 patterns → all_read config patterns ≡ Ok hs → All HasUtf8 hs
 of_all config patterns hs utf8 are is = (translated_if-gives config utf8 (all_syntaxes config patterns) (syntaxes-give config utf8 patterns are)).given hs is
+
+pub of_patterns : (config : Config) (patterns : List (List ℕ)) (r : Patterns) (text : List ℕ) → utf8_of config ≡ true → All IsUtf8 patterns
+    → all_read config patterns ≡ Ok r.expressions → IsUtf8 text → MeansUtf8 r text
+of_patterns config patterns r text utf8 are is whole = record {
+  whole = whole;
+  ordered = at_each AreOrdered (ordered_all config patterns r.expressions is);
+  parts = λ p h at i j lt m. means-utf8 r.terminator text h (at_each HasUtf8 (of_all config patterns r.expressions utf8 are is) p h at) i j m;
+}
+  where
+    at_each : (P : Expression → Type 0) → All P r.expressions → (p : ℕ) (h : Expression) → slice_get r.expressions p ≡ Some h → P h
+    at_each P all p h at = subst P (get_or_from_slice_get r.expressions p h h at) (all p h (slice_get_within r.expressions p h at))

@@ -7,7 +7,7 @@ ghost use Rattle.rx_sets.specs.Perl.{ascii_kind};
 ghost use Rattle.rx_syntax.specs.Answers.{Answers, AnswersAs};
 ghost use Rattle.rx_syntax.specs.Classes.{bytes_under, is_byte, item_bytes, all_bytes, byte_class, hex_byte};
 
-use crate::literal::byte;
+use crate::characters::byte;
 use rx_class::{Class, ClassBytes};
 use rx_hir::Hir;
 use rx_reader::{ClassCharacter, ClassItem, Config, Flags, ParseError, Piece, SyntaxErrorKind};

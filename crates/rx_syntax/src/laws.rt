@@ -2,8 +2,10 @@
 ghost use Rattle.std.specs.Prelude.{◌≡◌, ℕ, ◌-◌, ◌≤◌, true, false, List, take, drop, Option, Some, Ok, slice_get, chars, IsUtf8};
 ghost use Rattle.std.specs.List.{All, list_any};
 ghost use lib.Utf8.{encodes, scalars};
-ghost use Rattle.rx_model.specs.Expression.{Expression};
+ghost use Rattle.rx_model.specs.Expression.{Expression, AreOrdered};
 ghost use Rattle.rx_model.specs.Meaning.{Means};
+ghost use Rattle.rx_model.specs.Search.{Patterns};
+ghost use Rattle.rx_model.specs.Utf8.{MeansUtf8};
 ghost use Rattle.rx_search.specs.GroupInfo.{has_duplicate};
 ghost use Rattle.rx_hir.specs.Names.{IsNamed, HasOneNameEach, group_names};
 ghost use Rattle.rx_hir.specs.Normal.{literal_of};
@@ -36,7 +38,8 @@ pub fn escaped_text_means_itself()
 {}
 
 /// Under `utf8` the expression that a pattern of scalars reads as is UTF-8, and so is whatever it means: where the pattern
-/// is a text in UTF-8, and of each pattern of a list.
+/// is a text in UTF-8, and of each pattern of a list. So the patterns of a list mean UTF-8 in each text that is UTF-8,
+/// whatever ends lines, wherever matches may start and whichever groups are told.
 pub fn patterns_read_under_utf8_mean_utf8()
     ensures property { (config : Config) (pattern : List ℕ) (h : Expression) → utf8_of config ≡ true → scalars pattern ≡ true
         → reads config pattern ≡ Ok h → is_utf8 h ≡ true }
@@ -48,4 +51,13 @@ pub fn patterns_read_under_utf8_mean_utf8()
         → each_read config patterns ≡ Ok hs → All (λ h. is_utf8 h ≡ true) hs }
     ensures all { (config : Config) (patterns : List (List ℕ)) (hs : List Expression) → utf8_of config ≡ true → All IsUtf8 patterns
         → all_read config patterns ≡ Ok hs → All (λ h. is_utf8 h ≡ true) hs }
+    ensures patterns { (config : Config) (patterns : List (List ℕ)) (r : Patterns) (text : List ℕ) → utf8_of config ≡ true → All IsUtf8 patterns
+        → all_read config patterns ≡ Ok r.expressions → IsUtf8 text → MeansUtf8 r text }
+{}
+
+/// In the expression of a pattern the counts of each repetition are in order.
+pub fn the_counts_of_a_pattern_are_in_order()
+    ensures one { (config : Config) (text : List ℕ) (h : Expression) → reads config text ≡ Ok h → AreOrdered h }
+    ensures each { (config : Config) (patterns : List (List ℕ)) (hs : List Expression) → each_read config patterns ≡ Ok hs → All AreOrdered hs }
+    ensures all { (config : Config) (patterns : List (List ℕ)) (hs : List Expression) → all_read config patterns ≡ Ok hs → All AreOrdered hs }
 {}

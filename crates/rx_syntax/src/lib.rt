@@ -2,14 +2,15 @@
 //!
 //! `parse_with` answers exactly what the grammar's definition says: the expression, or the first refusal
 //! with its kind and piece. It reads by rx_reader, and translates what was read. Laws say that each group of a
-//! pattern has one name or none, and is told with it, that an escaped text means itself, and that what a pattern
-//! means which is read under `utf8` is UTF-8.
+//! pattern has one name or none, and is told with it, that an escaped text means itself, that what a pattern
+//! means which is read under `utf8` is UTF-8, and that the counts of repetitions are in order.
 #![tactic(auto)]
 
 mod assertion;
 mod bytes;
+mod characters;
 mod laws;
-mod literal;
+pub mod literal;
 mod pattern;
 mod patterns;
 mod scalars;
@@ -20,7 +21,7 @@ mod translate;
 
 pub use laws::{
     each_group_of_a_pattern_has_one_name, escaped_text_means_itself,
-    patterns_read_under_utf8_mean_utf8,
+    patterns_read_under_utf8_mean_utf8, the_counts_of_a_pattern_are_in_order,
 };
 pub use pattern::{parse, parse_with, read_with, translate_with};
 pub use patterns::{PatternsError, parse_all, parse_each, parse_many, parse_many_with};

@@ -10,7 +10,7 @@ ghost use Rattle.rx_syntax.specs.Refused.{gathered};
 
 use crate::assertion::look_of;
 use crate::bytes::hex_byte;
-use crate::literal::{character, push_run, text};
+use crate::characters::{character, push_run, text};
 use crate::set::{bracketed, dot, perl, property};
 use rx_hir::{Capture, Hir, Repetition};
 use rx_reader::{Ast, AstKind, Atom, Config, Flags, GroupKind, Item, ParseError, Piece};

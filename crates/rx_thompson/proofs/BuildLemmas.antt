@@ -2,6 +2,7 @@
 use Rattle.std.proofs.Common.{◌≡◌, ℕ, ◌≤◌, List, length, sym, ◌∙◌, subst, arith}
 use Rattle.std.specs.Prelude.{Result, Ok, Err, OnOk, IfOk}
 use Rattle.rx_model.specs.Expression.{Expression}
+use Rattle.rx_search.specs.Limits.{id_limit}
 use Rattle.rx_nfa.specs.Compiled.{AreAllowed, IsCompiled, IsRefusal}
 use Rattle.rx_nfa.specs.Nfa.{Nfa}
 use Rattle.rx_nfa.specs.declared.compiler.config.Config.{Config}
@@ -25,7 +26,7 @@ refused-error config hs (ExceededLimit limit size) is = is
 refused-error config hs NoMemory is = is
 
 -- few enough patterns, of which all are these expressions
-pub refused-counted : (config : Config) (count : ℕ) (hs : List Expression) → count ≤ 2147483647 → length hs ≡ count → (e : BuildError) → IsRefused config hs e → IsRefusedOf config count hs e
+pub refused-counted : (config : Config) (count : ℕ) (hs : List Expression) → count ≤ id_limit → length hs ≡ count → (e : BuildError) → IsRefused config hs e → IsRefusedOf config count hs e
 refused-counted config count hs few same (Syntax pid err) is = (few, is)
 refused-counted config count hs few same (TooManyPatterns given limit) is = (is.0 ∙ same, is.1, is.2)
 refused-counted config count hs few same (TooManyGroups given limit) is = (few, is)
@@ -50,7 +51,7 @@ refused-for syntax config texts count hs counted same e is =
     refused-after (reading_of syntax texts) config (length texts) hs same e (subst (λ n. IsRefusedOf config n hs e) counted is)
 
 pub built-of : (syntax : Grammar) (config : Config) (texts : List (List ℕ)) (count : ℕ) (hs : List Expression) → count ≡ length texts → reading_of syntax texts ≡ Ok hs
-    → (r : Result Nfa BuildError) → OnOk r (count ≤ 2147483647) → IfOk r (IsCompiled config hs) → OnOk r (AreAllowed config hs) → IfOk r (IsBuiltOf syntax config texts)
+    → (r : Result Nfa BuildError) → OnOk r (count ≤ id_limit) → IfOk r (IsCompiled config hs) → OnOk r (AreAllowed config hs) → IfOk r (IsBuiltOf syntax config texts)
 built-of syntax config texts count hs counted same (Ok nfa) few compiled allowed =
     record { expressions = hs; read = sym (all-read syntax texts (omega arith)) ∙ same; compiled = compiled; allowed = allowed }
 built-of syntax config texts count hs counted same (Err e) few compiled allowed = tt

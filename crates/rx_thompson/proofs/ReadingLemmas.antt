@@ -1,6 +1,7 @@
 -- Which patterns are read.
 use Rattle.std.proofs.Common.{◌≡◌, ℕ, ◌≤◌, min, List, Bor, length, take, map, sym, ap, ◌∙◌, arith}
 use Rattle.std.proofs.lemmas.List.{take_min, take_all, take-map, length-map}
+use Rattle.rx_search.specs.Limits.{id_limit}
 use Rattle.rx_reader.specs.declared.config.Config.{Config as Grammar}
 use Rattle.rx_syntax.specs.Patterns.{each_read}
 use Rattle.rx_thompson.specs.Build.{reading_of}
@@ -16,11 +17,11 @@ first-texts ps n k is =
     sym (take-map (λ (p : Bor (List ℕ)). p.now) k ps) ∙ ap (λ j. take j (texts_of ps)) other ∙ take_min n (texts_of ps)
 
 -- what is read is what the patterns up to the limit read as
-pub first-read : (syntax : Grammar) (ps : List (Bor (List ℕ))) (k : ℕ) → k ≡ min (length ps) 2147483647 → each_read syntax (texts_of (take k ps)) ≡ reading_of syntax (texts_of ps)
+pub first-read : (syntax : Grammar) (ps : List (Bor (List ℕ))) (k : ℕ) → k ≡ min (length ps) id_limit → each_read syntax (texts_of (take k ps)) ≡ reading_of syntax (texts_of ps)
 unfolding reading_of
-first-read syntax ps k is = ap (each_read syntax) (first-texts ps 2147483647 k is)
+first-read syntax ps k is = ap (each_read syntax) (first-texts ps id_limit k is)
 
 -- all of the patterns are read, where there are few enough
-pub all-read : (syntax : Grammar) (texts : List (List ℕ)) → length texts ≤ 2147483647 → reading_of syntax texts ≡ each_read syntax texts
+pub all-read : (syntax : Grammar) (texts : List (List ℕ)) → length texts ≤ id_limit → reading_of syntax texts ≡ each_read syntax texts
 unfolding reading_of
-all-read syntax texts few = ap (each_read syntax) (take_all 2147483647 texts few)
+all-read syntax texts few = ap (each_read syntax) (take_all id_limit texts few)

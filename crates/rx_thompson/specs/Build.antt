@@ -1,6 +1,7 @@
 -- What a build answers.
 use Rattle.std.specs.Prelude.{◌≡◌, ℕ, ◌<◌, ◌≤◌, List, length, take, Result, Ok, Err}
 use Rattle.rx_model.specs.Expression.{Expression}
+use Rattle.rx_search.specs.Limits.{id_limit}
 use Rattle.rx_nfa.specs.Compiled.{AreAllowed, IsCompiled, IsRefusal}
 use Rattle.rx_nfa.specs.Nfa.{Nfa}
 use Rattle.rx_nfa.specs.declared.compiler.config.Config.{Config}
@@ -10,9 +11,9 @@ use Rattle.rx_syntax.specs.Patterns.{Refusal, each_read}
 use Rattle.rx_thompson.specs.declared.error.BuildError.{BuildError}
 use Rattle.rx_thompson.specs.declared.error.BuildError.TheVariants.{Syntax, TooManyPatterns, TooManyGroups, TooManyStates, ExceededSizeLimit, Memory}
 
--- what the patterns read as, one after another, of at most the first 2147483647, or the first refusal
+-- what the patterns read as, one after another, of at most as many as identifiers tell apart, or the first refusal
 unfoldable pub reading_of : Grammar → List (List ℕ) → Result (List Expression) Refusal
-reading_of syntax texts = each_read syntax (take 2147483647 texts)
+reading_of syntax texts = each_read syntax (take id_limit texts)
 
 -- the NFA of these patterns
 pub record IsBuiltOf (syntax : Grammar) (config : Config) (texts : List (List ℕ)) (nfa : Nfa) : Type 0 where
@@ -33,8 +34,8 @@ IsRefused config hs Memory = IsRefusal config hs NoMemory
 
 -- why there is no NFA of so many patterns, of which the first ones read as these expressions
 abbrev pub IsRefusedOf : Config → (count : ℕ) → List Expression → BuildError → Type 0
-IsRefusedOf config count hs (TooManyPatterns given limit) = (given ≡ count) × (limit ≡ 2147483647) × (limit < given)
-IsRefusedOf config count hs e = (count ≤ 2147483647) × IsRefused config hs e
+IsRefusedOf config count hs (TooManyPatterns given limit) = (given ≡ count) × (limit ≡ id_limit) × (limit < given)
+IsRefusedOf config count hs e = (count ≤ id_limit) × IsRefused config hs e
 
 -- Why there is no NFA of so many patterns, of which the first ones were read so: the first refusal of the grammar, and
 -- else what is refused of their expressions. Of want of memory nothing is said.

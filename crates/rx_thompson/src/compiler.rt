@@ -1,6 +1,7 @@
 //! The compiler of patterns.
 ghost use Rattle.std.specs.Prelude.{◌≡◌, ◌≤◌, ◌∷◌, [], length, map, IfOk, IfErr, OnOk};
 ghost use Rattle.rx_reader.specs.Config.{default};
+ghost use Rattle.rx_search.specs.Limits.{id_limit};
 ghost use Rattle.rx_nfa.specs.Compiled.{AreAllowed, IsCompiled};
 ghost use Rattle.rx_nfa.specs.Config.{nothing_set, overwritten};
 ghost use Rattle.rx_thompson.specs.Build.{IsBuiltOf, IsRefused, IsRefusedOf, IsRefusedFor};
@@ -105,8 +106,8 @@ impl Compiler {
         count: usize,
         exprs: &[Hir],
     ) -> Result<NFA, BuildError>
-        requires { count ≤ 2147483647 → length exprs.now ≡ count }
-        ensures few { OnOk result (count ≤ 2147483647) }
+        requires { count ≤ id_limit → length exprs.now ≡ count }
+        ensures few { OnOk result (count ≤ id_limit) }
         ensures compiled { IfOk result (IsCompiled self.now.nfa.config exprs.now) }
         ensures allowed { OnOk result (AreAllowed self.now.nfa.config exprs.now) }
         ensures refused { IfErr result (IsRefusedOf self.now.nfa.config count exprs.now) }

@@ -1,5 +1,6 @@
 //! Why there is no NFA.
 ghost use Rattle.std.specs.Prelude.{◌≡◌};
+ghost use Rattle.rx_search.specs.Limits.{id_limit};
 ghost use Rattle.rx_syntax.specs.Patterns.{IsWithin};
 ghost use Rattle.rx_thompson.specs.declared.error.BuildError.TheVariants.{Memory as OutOfMemory};
 ghost use Rattle.rx_thompson.specs.Error.{error_of, syntax_error_of};
@@ -28,7 +29,7 @@ pub enum BuildError {
 impl BuildError {
     /// The error of a build for that of its patterns, of which there are no more than an NFA may have.
     pub fn of_patterns(error: PatternsError) -> BuildError
-        requires { IsWithin error 2147483647 }
+        requires { IsWithin error id_limit }
         ensures { result ≡ syntax_error_of error }
     {
         match error {

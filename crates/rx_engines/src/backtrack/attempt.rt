@@ -6,9 +6,10 @@ ghost use Rattle.rx_engines.specs.declared.frame.Frame.TheVariants.{Explore};
 ghost use Rattle.rx_engines.specs.Search.{IsInside, graph_for};
 ghost use Rattle.rx_engines.specs.Backtrack.{AllInside, extent, passed_by, work, frames_left, IsDead, Searching, Followed, returned};
 
-use crate::backtrack::step::{Onward, step};
+use crate::backtrack::step::step;
 use crate::backtrack::visited::Visited;
 use crate::frame::Frame;
+use crate::onward::Onward;
 use crate::search::Search;
 use crate::slots::{Slot, write};
 use crate::stack::Stack;
@@ -89,7 +90,7 @@ fn follow(
     let mut place = from;
     while visited.insert(index(search, state, place)) {
         match step(search, state, place, stack, slots) {
-            Onward::Accept(pattern) => return Some(HalfMatch::new(pattern, place)),
+            Onward::Stop(pattern) => return Some(HalfMatch::new(pattern, place)),
             Onward::To {
                 state: next,
                 place: at,

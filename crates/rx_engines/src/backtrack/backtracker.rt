@@ -1,12 +1,17 @@
-ghost use Rattle.std.specs.Prelude.{◌≡◌, ◌≤◌, length, None, replicate, IfOk, IfNone, IfSome, option_map};
+ghost use Rattle.std.specs.Prelude.{◌≡◌, ◌-◌, ◌^◌, ◌≤◌, min, length, None, replicate, IfOk, IfNone, IfSome, option_map};
 ghost use Rattle.std.specs.Result.{IfErr};
 ghost use Rattle.rx_model.specs.Search.{Patterns, told_of};
-ghost use Rattle.rx_search.specs.Input.{next_in};
+ghost use Rattle.rx_search.specs.Input.{next_in, span_len};
 ghost use Rattle.rx_search.specs.Matches.{match_value};
-ghost use Rattle.rx_engines.specs.Engine.{next_match_within, IsNfaOf, HasSlots, AreWithin, accounted_memory};
-ghost use Rattle.rx_engines.specs.Bounded.{max_len, span_len, IsRefusal, Fits};
+ghost use Rattle.rx_search.specs.Told.{HasSlots, AreWithin, LiesIn, matched_pattern};
+ghost use Rattle.rx_nfa.specs.Nfa.{IsNfaOf};
+ghost use Rattle.rx_nfa.specs.NextMatch.{next_match_in};
+ghost use Rattle.rx_engines.specs.Engine.{accounted_memory};
+ghost use Rattle.rx_engines.specs.Simulation.{frames_of_states};
+ghost use Rattle.rx_engines.specs.Bounded.{max_len, IsRefusal, Fits};
 
 use crate::backtrack::cache::Cache;
+use crate::room::frames_of_all;
 use crate::search::Search;
 use crate::slots::empty;
 use rx_nfa::NFA;
@@ -26,14 +31,20 @@ const BITS: usize = 2097152;
 #[derive(Drop)]
 pub struct BoundedBacktracker {
     nfa: NFA,
+    /// The frames that a search may leave on the stack at one place.
+    frames: usize,
 }
 
 impl Model for BoundedBacktracker {
+    ghost use Rattle.std.specs.Prelude.{◌≡◌, ◌-◌, ◌^◌, min, length};
     ghost use Rattle.rx_nfa.specs.Nfa.{Nfa};
+    ghost use Rattle.rx_engines.specs.Simulation.{frames_of_states};
 
     ghost Value = { Nfa };
 
     ghost view = { λ b. b.nfa };
+
+    ghost invariant = { λ b. b.frames ≡ min (2 ^ 64 - 1) (frames_of_states b.nfa.states (length b.nfa.states)) };
 }
 
 impl BoundedBacktracker {
@@ -41,7 +52,8 @@ impl BoundedBacktracker {
     pub fn build_from_nfa(nfa: NFA) -> BoundedBacktracker
         ensures { result ≡ nfa }
     {
-        BoundedBacktracker { nfa }
+        let frames = frames_of_all(nfa.states());
+        BoundedBacktracker { nfa, frames }
     }
 
     /// The NFA.
@@ -49,6 +61,13 @@ impl BoundedBacktracker {
         ensures { result.now ≡ self.now }
     {
         &self.nfa
+    }
+
+    /// The frames that a search may leave on the stack at one place, or the greatest `usize` where they are more.
+    pub(crate) fn frames(&self) -> usize
+        ensures { result ≡ min (2 ^ 64 - 1) (frames_of_states self.now.states (length self.now.states)) }
+    {
+        self.frames
     }
 
     /// A cache that serves this engine.
@@ -80,16 +99,17 @@ impl BoundedBacktracker {
     ) -> Result<Option<PatternID>, MatchError>
         requires { Fits self.now cache.old }
         ensures value { IfOk result (λ r. r
-            ≡ option_map (λ m. m.trace.pattern) (next_match_within self.now input.now)) }
+            ≡ option_map matched_pattern (next_match_in self.now input.now)) }
         ensures short { IfOk result (λ _. span_len input.now ≤ max_len self.now) }
         ensures err { IfErr result (IsRefusal self.now input.now) }
         ensures patterns { (r : Patterns) → IsNfaOf self.now r
-            → next_match_within self.now input.now ≡ option_map (told_of r.which_captures) (next_in r input.now) }
-        ensures slots { IfOk result (λ _. IfSome (next_match_within self.now input.now) (HasSlots slots.new)) }
+            → next_match_in self.now input.now ≡ option_map (told_of r.which_captures) (next_in r input.now) }
+        ensures slots { IfOk result (λ _. IfSome (next_match_in self.now input.now) (HasSlots slots.new)) }
         ensures none { IfOk result (λ r. IfNone r (slots.new ≡ replicate (length slots.old) None)) }
         ensures refused { IfErr result (λ _. slots.new ≡ replicate (length slots.old) None) }
         ensures slots_within { AreWithin input.now slots.new }
-        ensures cache { cache.new ≡ cache.old }
+        ensures cache { Fits self.now cache.new }
+        ensures memory { cache.new.memory ≡ cache.old.memory }
     {
         match self.try_find_slots(cache, input, slots) {
             Ok(Some(found)) => Ok(Some(found.pattern())),
@@ -110,17 +130,18 @@ impl BoundedBacktracker {
         slots: &mut [Option<NonMaxUsize>],
     ) -> Result<Option<Match>, MatchError>
         requires { Fits self.now cache.old }
-        ensures value { IfOk result (λ r. r ≡ option_map match_value (next_match_within self.now input.now)) }
+        ensures value { IfOk result (λ r. r ≡ option_map match_value (next_match_in self.now input.now)) }
         ensures short { IfOk result (λ _. span_len input.now ≤ max_len self.now) }
         ensures err { IfErr result (IsRefusal self.now input.now) }
         ensures patterns { (r : Patterns) → IsNfaOf self.now r
-            → next_match_within self.now input.now ≡ option_map (told_of r.which_captures) (next_in r input.now) }
-        ensures slots { IfOk result (λ _. IfSome (next_match_within self.now input.now) (HasSlots slots.new)) }
+            → next_match_in self.now input.now ≡ option_map (told_of r.which_captures) (next_in r input.now) }
+        ensures slots { IfOk result (λ _. IfSome (next_match_in self.now input.now) (HasSlots slots.new)) }
         ensures none { IfOk result (λ r. IfNone r (slots.new ≡ replicate (length slots.old) None)) }
         ensures refused { IfErr result (λ _. slots.new ≡ replicate (length slots.old) None) }
         ensures slots_within { AreWithin input.now slots.new }
-        ensures within { IfOk result (λ r. IfSome r (λ m. (input.now.start ≤ m.start) × (m.end ≤ input.now.end))) }
-        ensures cache { cache.new ≡ cache.old }
+        ensures within { IfOk result (λ r. IfSome r (LiesIn input.now)) }
+        ensures cache { Fits self.now cache.new }
+        ensures memory { cache.new.memory ≡ cache.old.memory }
     {
         let len = input.end().saturating_sub(input.start());
         if len > self.max_haystack_len() {

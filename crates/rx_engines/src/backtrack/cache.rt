@@ -1,16 +1,16 @@
-ghost use Rattle.std.specs.Prelude.{◌≡◌, ◌^◌, vec_len, ℕ, ◌*◌, ◌+◌, ◌<◌, ◌≤◌, length, min, None, IfOk, OnOk, OnErr, IfSome, IfNone, option_map, replicate, nat_lt, slice_index_or, if◌then◌else◌};
+ghost use Rattle.std.specs.Prelude.{◌≡◌, ◌^◌, vec_len, ℕ, ◌*◌, ◌+◌, ◌<◌, ◌≤◌, length, max, min, None, IfOk, OnOk, OnErr, IsOk, IfSome, IfNone, option_map, replicate, nat_lt, slice_index_or, if◌then◌else◌};
 ghost use Rattle.rx_model.specs.Search.{slot_value};
 ghost use Rattle.rx_search.specs.Matches.{match_value};
+ghost use Rattle.rx_nfa.specs.Nfa.{Nfa};
 ghost use Rattle.rx_engines.specs.Search.{IsInside, next_of};
 ghost use Rattle.rx_engines.specs.Backtrack.{extent, frames_of_span};
-ghost use Rattle.rx_engines.specs.Bounded.{Room, room_code, Fits};
+ghost use Rattle.rx_engines.specs.Bounded.{Room, room_code, HasGrown, Fits};
 ghost use Rattle.rx_engines.specs.Engine.{accounted_memory};
 
 use crate::accounting::memory_of;
 use crate::backtrack::backtracker::BoundedBacktracker;
 use crate::backtrack::find::find;
 use crate::backtrack::visited::Visited;
-use crate::room::frames_of_all;
 use crate::search::Search;
 use crate::slots::{Slot, empty, report};
 use crate::stack::Stack;
@@ -51,10 +51,7 @@ impl Cache {
         let nfa = backtracker.get_nfa();
         let places = backtracker.max_haystack_len() + 1;
         let visited = Visited::new(alloc, places * nfa.states_len())?;
-        let Some(frames) = frames_of_all(nfa.states())?.checked_mul(places) else {
-            return Err(Memory);
-        };
-        let stack = Stack::new(alloc, frames)?;
+        let stack = Stack::new(alloc, backtracker.frames().saturating_mul(places))?;
         let none = Slot::none();
         let slots = vec![in alloc; none; nfa.slot_len()]?;
         Ok(Cache {
@@ -65,13 +62,53 @@ impl Cache {
         })
     }
 
-    /// Makes the cache one that serves this engine. Where there is no memory, it stays as it was.
+    /// Makes the cache one that serves this engine, and keeps each buffer that is large enough. Where there is no memory,
+    /// it serves the engines that it served, with its accounted number as it was.
     pub fn reset(&mut self, alloc: Global, backtracker: &BoundedBacktracker) -> Result<(), Memory>
         ensures fits { OnOk result (Fits backtracker.now self.new) }
         ensures memory { OnOk result (self.new.memory ≡ accounted_memory backtracker.now) }
-        ensures err { OnErr result (self.new ≡ self.old) }
+        ensures kept { (other : Nfa) → Fits other self.old → Fits other self.new }
+        ensures err { OnErr result (self.new.memory ≡ self.old.memory) }
+        ensures sure { Fits backtracker.now self.old → IsOk result }
     {
-        *self = Cache::new(alloc, backtracker)?;
+        let nfa = backtracker.get_nfa();
+        let places = backtracker.max_haystack_len() + 1;
+        let frames = backtracker.frames().saturating_mul(places);
+        self.grow(alloc, places * nfa.states_len(), frames, nfa.slot_len())?;
+        self.memory = memory_of(nfa);
+        Ok(())
+    }
+
+    /// Empties the buffers, and grows those that have less room than this.
+    fn grow(
+        &mut self,
+        alloc: Global,
+        bits: usize,
+        frames: usize,
+        slots: usize,
+    ) -> Result<(), Memory>
+        requires { bits < 2 ^ 63 }
+        ensures grown { HasGrown self.old self.new }
+        ensures room { OnOk result ((bits ≤ self.new.bits) × (frames ≤ self.new.stack) × (slots ≤ self.new.slots)) }
+        ensures small { OnOk result (self.new.stack < 2 ^ 63) }
+        ensures sure { bits ≤ self.old.bits → frames ≤ self.old.stack → slots ≤ self.old.slots → IsOk result }
+    {
+        self.visited.grow(alloc, bits)?;
+        self.stack.grow(alloc, frames)?;
+        self.grow_slots(alloc, slots)
+    }
+
+    /// As `grow`, of the slots.
+    fn grow_slots(&mut self, alloc: Global, slots: usize) -> Result<(), Memory>
+        ensures slots { OnOk result (self.new ≡ record self.old { slots = max self.old.slots slots }) }
+        ensures err { OnErr result (self.new ≡ self.old) }
+        ensures sure { slots ≤ self.old.slots → IsOk result }
+    {
+        if slots <= self.slots.len() {
+            return Ok(());
+        }
+        let none = Slot::none();
+        self.slots = vec![in alloc; none; slots]?;
         Ok(())
     }
 
@@ -109,14 +146,15 @@ impl Cache {
         requires small { extent search.now < 2 ^ 63 }
         requires room { extent search.now ≤ self.old.bits }
         requires frames { frames_of_span search.now ≤ self.old.stack }
+        requires slots { search.now.slots ≤ self.old.slots }
         ensures value { result ≡ option_map match_value (next_of search.now) }
         ensures slots { IfSome (next_of search.now)
             (λ m. (k : ℕ) → k < length slots.new → slice_index_or slots.new k None
-            ≡ (if nat_lt k self.old.slots then slot_value m k else None)) }
+            ≡ (if nat_lt k search.now.slots then slot_value m k else None)) }
         ensures none { IfNone result (slots.new ≡ replicate (length slots.old) None) }
         ensures room { self.new ≡ self.old }
     {
-        let width = slots.len().min(self.slots.len());
+        let width = slots.len().min(search.slots);
         find_slots(
             search,
             width,
@@ -141,11 +179,12 @@ fn find_slots(
     requires small { extent search.now < 2 ^ 63 }
     requires room { extent search.now ≤ 64 * length visited.old }
     requires frames { frames_of_span search.now ≤ stack.old.room }
-    requires width { width ≡ min (length slots.old) (length scratch.old) }
+    requires width { width ≡ min (length slots.old) search.now.slots }
+    requires scratch { search.now.slots ≤ length scratch.old }
     ensures value { result ≡ option_map match_value (next_of search.now) }
     ensures slots { IfSome (next_of search.now)
         (λ m. (k : ℕ) → k < length slots.new → slice_index_or slots.new k None
-        ≡ (if nat_lt k (length scratch.old) then slot_value m k else None)) }
+        ≡ (if nat_lt k search.now.slots then slot_value m k else None)) }
     ensures none { IfNone result (slots.new ≡ replicate (length slots.old) None) }
     ensures room { length visited.new ≡ length visited.old }
     ensures stack { stack.new.room ≡ stack.old.room }

@@ -2,26 +2,17 @@ ghost use Rattle.std.specs.Prelude.{◌≡◌, ◌+◌, ◌<◌, ◌≤◌, ◌�
 ghost use Rattle.rx_nfa.specs.Automaton.{at, state_at};
 ghost use Rattle.rx_engines.specs.Walk.{explore_all};
 ghost use Rattle.rx_engines.specs.Simulation.{frames_of_state};
-ghost use Rattle.rx_engines.specs.Backtrack.{AllInside, frames_of, onto, Saves, Stepped};
+ghost use Rattle.rx_engines.specs.Onward.{frames_of};
+ghost use Rattle.rx_engines.specs.Backtrack.{AllInside, Saves, Stepped};
 ghost use Rattle.rx_engines.specs.Search.{IsInside, graph_for};
 
 use crate::frame::Frame;
+use crate::onward::Onward;
 use crate::search::{Search, in_any, in_range};
 use crate::slots::Slot;
 use crate::stack::{Stack, choose};
 use rx_nfa::State;
 use rx_search::{PatternID, StateID};
-
-/// What a search does next.
-#[derive(Clone, Copy)]
-pub enum Onward {
-    /// It accepts this pattern.
-    Accept(PatternID),
-    /// It tries this state at this place.
-    To { state: StateID, place: usize },
-    /// It comes back to the stack.
-    Back,
-}
 
 /// Tries the state at the place: what the search does next. The stack gets what it comes back to.
 pub fn step(
@@ -30,7 +21,7 @@ pub fn step(
     place: usize,
     stack: &mut Stack,
     slots: &mut [Slot],
-) -> Onward
+) -> Onward<PatternID>
     requires search { IsInside search.now }
     requires state { state < length search.now.states.now }
     requires place { (search.now.first ≤ place) × (place ≤ search.now.end) }
@@ -48,19 +39,19 @@ pub fn step(
     match &states[state.as_usize()] {
         State::ByteRange { start, end, next } => {
             let byte = search.byte_at(place);
-            toward(in_range(*start, *end, *next, byte), place + 1)
+            Onward::to(in_range(*start, *end, *next, byte), place + 1)
         }
         State::Sparse { transitions } => {
             let byte = search.byte_at(place);
-            toward(in_any(transitions.as_slice(), byte), place + 1)
+            Onward::to(in_any(transitions.as_slice(), byte), place + 1)
         }
         State::Look { look, next } => {
             let next = search.look_on(*look, *next, place);
-            toward(next, place)
+            Onward::to(next, place)
         }
         State::Union { alternates } => {
             let first = choose(alternates.as_slice(), place, stack);
-            toward(first, place)
+            Onward::to(first, place)
         }
         State::Capture { next, slot, .. } => {
             save(stack, slots, *slot, place);
@@ -70,17 +61,7 @@ pub fn step(
             }
         }
         State::Fail => Onward::Back,
-        State::Match { pattern } => Onward::Accept(*pattern),
-    }
-}
-
-/// On to the state at the place, if there is one.
-fn toward(next: Option<StateID>, place: usize) -> Onward
-    ensures { result ≡ onto next place }
-{
-    match next {
-        Some(state) => Onward::To { state, place },
-        None => Onward::Back,
+        State::Match { pattern } => Onward::Stop(*pattern),
     }
 }
 

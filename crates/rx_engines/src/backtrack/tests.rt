@@ -1,108 +1,148 @@
+ghost use Rattle.rx_engines.specs.Bounded.{Fits};
+
 use crate::backtrack::BoundedBacktracker;
-use crate::expressions::{a_in_group_then_b, a_or_ab, either, group, text};
+use crate::backtrack::cache::Cache;
+use crate::expressions::{a_in_group_then_b, a_or_ab, hold, text, two_groups};
 use rx_hir::Hir;
 use rx_nfa::Compiler;
-use rx_search::{Input, MatchError, NonMaxUsize, PatternID, Span};
+use rx_search::{Input, MatchError, PatternID, Span};
 use std::alloc::Global;
 use std::process::Abort;
 use std::test::Fail;
 
-/// The engine of the pattern.
-fn engine(rt: &impl Abort, alloc: Global, expression: Hir) -> Result<BoundedBacktracker, Fail> {
-    let nfa = Compiler::new().build_from_hir(alloc, &expression);
-    Ok(BoundedBacktracker::build_from_nfa(nfa.ok().expect(rt, "an NFA")))
+/// The engine of the expression.
+fn engine(rt: &impl Abort, alloc: Global, expression: &Hir) -> BoundedBacktracker {
+    let nfa = Compiler::new().build_from_hir(alloc, expression);
+    BoundedBacktracker::build_from_nfa(nfa.ok().expect(rt, "an NFA"))
 }
 
-/// The place that a slot holds.
-fn place(slot: Option<NonMaxUsize>) -> Option<usize> {
-    match slot {
-        Some(place) => Some(place.get()),
-        None => None,
-    }
+/// Whether the engine finds a match of its first pattern, which leaves these places in as many slots.
+fn tells(
+    alloc: Global,
+    backtracker: &BoundedBacktracker,
+    cache: &mut Cache,
+    haystack: &[u8],
+    places: &[Option<usize>],
+) -> Result<bool, Fail>
+    requires { Fits backtracker.now cache.old }
+    ensures { Fits backtracker.now cache.new }
+{
+    let none = None;
+    let mut slots = vec![in alloc; none; places.len()]?;
+    let found = backtracker.try_search_slots(cache, &Input::new(haystack), &mut slots);
+    Ok(found == Ok(Some(PatternID::ZERO)) && hold(&slots, places))
+}
+
+/// Whether the engine finds nothing, and leaves no place in so many slots.
+fn tells_nothing(
+    alloc: Global,
+    backtracker: &BoundedBacktracker,
+    cache: &mut Cache,
+    haystack: &[u8],
+    places: &[Option<usize>],
+) -> Result<bool, Fail>
+    requires { Fits backtracker.now cache.old }
+    ensures { Fits backtracker.now cache.new }
+{
+    let none = None;
+    let mut slots = vec![in alloc; none; places.len()]?;
+    let found = backtracker.try_search_slots(cache, &Input::new(haystack), &mut slots);
+    Ok(found == Ok(None) && hold(&slots, places))
 }
 
 #[test]
 fn the_first_alternative_is_preferred(rt: HostRuntime) -> Result<(), Fail> {
     let alloc = rt.alloc();
-    let backtracker = engine(&rt, alloc, a_or_ab(alloc)?)?;
+    let backtracker = engine(&rt, alloc, &a_or_ab(alloc)?);
     let mut cache = backtracker.create_cache(alloc)?;
-    let mut slots = [None; 3];
-    let found = backtracker.try_search_slots(&mut cache, &Input::new(b"ab"), &mut slots);
-    assert!(rt; found == Ok(Some(PatternID::ZERO)));
-    assert_eq!(rt; place(slots[0]), Some(0));
-    assert_eq!(rt; place(slots[1]), Some(1));
-    assert_eq!(rt; place(slots[2]), None);
+    assert!(rt;
+        tells(
+            alloc,
+            &backtracker,
+            &mut cache,
+            b"ab",
+            &[Some(0), Some(1), None]
+        )?
+    );
     Ok(())
 }
 
 #[test]
 fn a_cache_keeps_nothing_of_a_search(rt: HostRuntime) -> Result<(), Fail> {
     let alloc = rt.alloc();
-    let backtracker = engine(&rt, alloc, a_in_group_then_b(alloc)?)?;
+    let backtracker = engine(&rt, alloc, &a_in_group_then_b(alloc)?);
     let mut cache = backtracker.create_cache(alloc)?;
-    let mut slots = [None; 4];
-    let found = backtracker.try_search_slots(&mut cache, &Input::new(b"xab"), &mut slots);
-    assert!(rt; found == Ok(Some(PatternID::ZERO)));
-    assert_eq!(rt; place(slots[3]), Some(2));
-    let found = backtracker.try_search_slots(&mut cache, &Input::new(b"xa"), &mut slots);
-    assert!(rt; found == Ok(None));
-    assert_eq!(rt; place(slots[3]), None);
-    let found = backtracker.try_search_slots(&mut cache, &Input::new(b"ab"), &mut slots);
-    assert!(rt; found == Ok(Some(PatternID::ZERO)));
-    assert_eq!(rt; place(slots[3]), Some(1));
+    assert!(rt;
+        tells(
+            alloc,
+            &backtracker,
+            &mut cache,
+            b"xab",
+            &[Some(1), Some(3), Some(1), Some(2)]
+        )?
+    );
+    assert!(rt;
+        tells_nothing(
+            alloc,
+            &backtracker,
+            &mut cache,
+            b"xa",
+            &[None, None, None, None]
+        )?
+    );
+    assert!(rt;
+        tells(
+            alloc,
+            &backtracker,
+            &mut cache,
+            b"ab",
+            &[Some(0), Some(2), Some(0), Some(1)]
+        )?
+    );
     Ok(())
 }
 
 #[test]
 fn a_cache_is_reset(rt: HostRuntime) -> Result<(), Fail> {
     let alloc = rt.alloc();
-    let small = engine(&rt, alloc, text(alloc, b"a")?)?;
-    let large = engine(
-        &rt,
-        alloc,
-        either(
-            alloc,
-            a_in_group_then_b(alloc)?,
-            group(alloc, 2, text(alloc, b"c")?)?,
-        )?,
-    )?;
+    let small = engine(&rt, alloc, &text(alloc, b"a")?);
+    let large = engine(&rt, alloc, &two_groups(alloc)?);
     let mut cache = small.create_cache(alloc)?;
     cache.reset(alloc, &large)?;
-    let mut slots = [None; 6];
-    let found = large.try_search_slots(&mut cache, &Input::new(b"xac"), &mut slots);
-    assert!(rt; found == Ok(Some(PatternID::ZERO)));
-    assert_eq!(rt; place(slots[1]), Some(3));
-    assert_eq!(rt; place(slots[2]), None);
-    assert_eq!(rt; place(slots[4]), Some(2));
+    let places = [Some(2), Some(3), None, None, Some(2), Some(3)];
+    assert!(rt; tells(alloc, &large, &mut cache, b"xac", &places)?);
+    Ok(())
+}
+
+#[test]
+fn a_large_cache_serves_a_small_engine(rt: HostRuntime) -> Result<(), Fail> {
+    let alloc = rt.alloc();
+    let small = engine(&rt, alloc, &text(alloc, b"a")?);
+    let large = engine(&rt, alloc, &two_groups(alloc)?);
+    let mut cache = large.create_cache(alloc)?;
+    cache.reset(alloc, &small)?;
+    assert_eq!(rt; cache.memory_usage(), 256);
+    assert!(rt; tells(alloc, &small, &mut cache, b"xxa", &[Some(2), Some(3), None])?);
     Ok(())
 }
 
 #[test]
 fn no_slots_and_some(rt: HostRuntime) -> Result<(), Fail> {
     let alloc = rt.alloc();
-    let backtracker = engine(&rt, alloc, a_in_group_then_b(alloc)?)?;
+    let backtracker = engine(&rt, alloc, &a_in_group_then_b(alloc)?);
     let mut cache = backtracker.create_cache(alloc)?;
-    let input = Input::new(b"xab");
-    let found = backtracker.try_search_slots(&mut cache, &input, &mut []);
-    assert!(rt; found == Ok(Some(PatternID::ZERO)));
-    let mut slots = [None; 1];
-    let found = backtracker.try_search_slots(&mut cache, &input, &mut slots);
-    assert!(rt; found == Ok(Some(PatternID::ZERO)));
-    assert_eq!(rt; place(slots[0]), Some(1));
+    assert!(rt; tells(alloc, &backtracker, &mut cache, b"xab", &[])?);
+    assert!(rt; tells(alloc, &backtracker, &mut cache, b"xab", &[Some(1)])?);
     Ok(())
 }
 
 #[test]
 fn as_many_slots_as_there_are_and_more(rt: HostRuntime) -> Result<(), Fail> {
     let alloc = rt.alloc();
-    let backtracker = engine(&rt, alloc, a_in_group_then_b(alloc)?)?;
+    let backtracker = engine(&rt, alloc, &a_in_group_then_b(alloc)?);
     let mut cache = backtracker.create_cache(alloc)?;
-    let mut slots = [None; 5];
-    let found = backtracker.try_search_slots(&mut cache, &Input::new(b"xab"), &mut slots);
-    assert!(rt; found == Ok(Some(PatternID::ZERO)));
-    assert_eq!(rt; place(slots[1]), Some(3));
-    assert_eq!(rt; place(slots[3]), Some(2));
-    assert_eq!(rt; place(slots[4]), None);
+    let places = [Some(1), Some(3), Some(1), Some(2), None];
+    assert!(rt; tells(alloc, &backtracker, &mut cache, b"xab", &places)?);
     Ok(())
 }
 
@@ -110,7 +150,7 @@ fn as_many_slots_as_there_are_and_more(rt: HostRuntime) -> Result<(), Fail> {
 fn the_longest_span(rt: HostRuntime) -> Result<(), Fail> {
     let alloc = rt.alloc();
     // 4 states, 1 of the expression and 3 of the pattern, with two slots
-    let backtracker = engine(&rt, alloc, text(alloc, b"a")?)?;
+    let backtracker = engine(&rt, alloc, &text(alloc, b"a")?);
     assert_eq!(rt; backtracker.max_haystack_len(), 262143);
     let mut cache = backtracker.create_cache(alloc)?;
     assert_eq!(rt; cache.memory_usage(), 256);
@@ -135,7 +175,7 @@ fn crosses_threads<T: Send + Sync>(_value: &T) {}
 #[test]
 fn an_engine_crosses_threads(rt: HostRuntime) -> Result<(), Fail> {
     let alloc = rt.alloc();
-    let backtracker = engine(&rt, alloc, text(alloc, b"a")?)?;
+    let backtracker = engine(&rt, alloc, &text(alloc, b"a")?);
     crosses_threads(&backtracker);
     goes_to_threads(&backtracker.create_cache(alloc)?);
     Ok(())

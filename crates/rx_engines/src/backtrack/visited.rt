@@ -1,4 +1,4 @@
-ghost use Rattle.std.specs.Prelude.{◌≡◌, ◌*◌, ◌+◌, ◌<◌, ◌≤◌, ℕ, Bool, false, not, ◌||◌, ◌==◌, length, IfOk, ◌^◌};
+ghost use Rattle.std.specs.Prelude.{◌≡◌, ◌*◌, ◌+◌, ◌<◌, ◌≤◌, ℕ, Bool, false, not, ◌||◌, ◌==◌, length, IfOk, OnOk, IsOk, ◌^◌};
 ghost use Rattle.rx_engines.specs.Backtrack.{is_set};
 
 use rx_search::Memory;
@@ -45,6 +45,22 @@ impl Visited {
             words: vec![in alloc; 0u64; self.words.len()]?,
             used: 0,
         })
+    }
+
+    /// Empties the set, and gives it room for the numbers below `len`, if it has less. Where there is no memory, it stays
+    /// as it was.
+    pub fn grow(&mut self, alloc: Global, len: usize) -> Result<(), Memory>
+        requires { len < 2 ^ 63 }
+        ensures room { OnOk result (len ≤ 64 * length self.new) }
+        ensures more { length self.old ≤ length self.new }
+        ensures sure { len ≤ 64 * length self.old → IsOk result }
+    {
+        if (len + 63) / 64 <= self.words.len() {
+            self.clear();
+            return Ok(());
+        }
+        *self = Visited::new(alloc, len)?;
+        Ok(())
     }
 
     /// Empties the set.

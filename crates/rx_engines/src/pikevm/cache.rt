@@ -1,55 +1,53 @@
-ghost use Rattle.std.specs.Prelude.{◌≡◌, vec_len, ℕ, ◌^◌, ◌<◌, ◌≤◌, [], length, All, is_some, Some, None, IfOk, OnOk, OnErr, IfSome, IfNone, option_map, replicate, nat_lt, slice_index_or, if◌then◌else◌};
+ghost use Rattle.std.specs.Prelude.{◌≡◌, vec_len, ℕ, ◌^◌, ◌*◌, ◌<◌, ◌≤◌, [], length, is_some, Some, None, IfOk, OnOk, OnErr, IsOk, max, IfSome, IfNone, option_map, replicate, nat_lt, slice_index_or, if◌then◌else◌};
 ghost use Rattle.rx_model.specs.Search.{slot_value};
 ghost use Rattle.rx_search.specs.Matches.{match_value};
 ghost use Rattle.rx_engines.specs.Search.{IsInside, next_of, answer_of};
-ghost use Rattle.rx_engines.specs.Simulation.{frames_of_states};
-ghost use Rattle.rx_engines.specs.Room.{Room, room_code};
-ghost use Rattle.rx_engines.specs.Engine.{Fits, accounted_memory};
+ghost use Rattle.rx_engines.specs.Room.{Room, room_code, HasGrown};
+ghost use Rattle.rx_engines.specs.Engine.{PikeVMValue, HasRoom, Fits, accounted_memory};
 
 use crate::accounting::memory_of;
-use crate::pikevm::set::SparseSet;
 use crate::pikevm::simulate::simulate_slots;
-use crate::pikevm::table::Table;
 use crate::pikevm::threads::Threads;
 use crate::pikevm::vm::PikeVM;
-use crate::room::frames_of_all;
 use crate::search::Search;
 use crate::slots::Slot;
 use crate::stack::Stack;
-use rx_nfa::State;
 use rx_search::{Match, Memory, NonMaxUsize};
 use std::alloc::Global;
 use std::marker::Model;
 
-/// What a search writes to. It is made once for an automaton, and a search takes no memory.
+/// What a search writes to. It is made once for an engine, serves each engine for which it has room, and a search takes
+/// no memory.
 #[derive(Drop)]
 pub struct Cache {
+    /// The threads at the place, and those at the next one.
     curr: Threads,
     next: Threads,
     stack: Stack,
+    /// The slots of the thread that is followed, and those of the best match so far.
     scratch: Vec<Slot>,
     best: Vec<Slot>,
     memory: usize,
 }
 
-/// For how many states, frames and slots it has room, and what is accounted for it.
+/// For how many states, slots and frames it has room, and what is accounted for it.
 impl Model for Cache {
     ghost Value = { Room };
 
     ghost coded = { room_code };
 
     ghost view = { λ c. record {
-      states = c.curr.set.room;
+      states = c.curr.set.capacity;
+      cells = c.curr.table.cells;
       stack = c.stack.room;
-      widest = vec_len c.best;
+      slots = vec_len c.best;
       memory = c.memory;
     } };
 
-    ghost invariant = { λ c. (c.next.set.room ≡ c.curr.set.room)
-        × (length c.curr.table.items ≡ c.curr.set.room)
-        × (length c.next.table.items ≡ c.curr.set.room)
-        × (c.curr.table.widest ≡ vec_len c.best)
-        × (c.next.table.widest ≡ vec_len c.best)
+    ghost invariant = { λ c. (c.curr.table.capacity ≡ c.curr.set.capacity)
+        × (c.next.set.capacity ≡ c.curr.set.capacity)
+        × (c.next.table.capacity ≡ c.curr.set.capacity)
+        × (c.next.table.cells ≡ c.curr.table.cells)
         × (vec_len c.scratch ≡ vec_len c.best)
         × (c.stack.items ≡ []) };
 }
@@ -61,16 +59,27 @@ impl Cache {
         ensures memory { IfOk result (λ c. c.memory ≡ accounted_memory vm.now.nfa) }
     {
         let nfa = vm.get_nfa();
-        Cache::with_room(alloc, nfa.states(), nfa.slot_len(), memory_of(nfa))
+        let states = nfa.states_len();
+        let slots = nfa.slot_len();
+        let cells = states.saturating_mul(slots);
+        Cache::with_room(alloc, states, cells, vm.frames(), slots, memory_of(nfa))
     }
 
-    /// Makes the cache one that serves this engine. Where there is no memory, it stays as it was.
+    /// Makes the cache one that serves this engine, and keeps each buffer that is large enough. Where there is no memory,
+    /// it serves the engines that it served, with its accounted number as it was.
     pub fn reset(&mut self, alloc: Global, vm: &PikeVM) -> Result<(), Memory>
         ensures fits { OnOk result (Fits vm.now self.new) }
         ensures memory { OnOk result (self.new.memory ≡ accounted_memory vm.now.nfa) }
-        ensures err { OnErr result (self.new ≡ self.old) }
+        ensures kept { (other : PikeVMValue) → Fits other self.old → Fits other self.new }
+        ensures err { OnErr result (self.new.memory ≡ self.old.memory) }
+        ensures sure { Fits vm.now self.old → IsOk result }
     {
-        *self = Cache::new(alloc, vm)?;
+        let nfa = vm.get_nfa();
+        let states = nfa.states_len();
+        let slots = nfa.slot_len();
+        let cells = states.saturating_mul(slots);
+        self.grow(alloc, states, cells, vm.frames(), slots)?;
+        self.memory = memory_of(nfa);
         Ok(())
     }
 
@@ -82,48 +91,37 @@ impl Cache {
         self.memory
     }
 
-    /// Room for searches of the states with up to `widest` slots, for which so much is accounted.
-    pub(crate) fn with_room(
-        alloc: Global,
-        states: &[State],
-        widest: usize,
-        memory: usize,
-    ) -> Result<Cache, Memory>
-        requires { length states.now < 2 ^ 32 }
-        ensures states { IfOk result (λ c. c.states ≡ length states.now) }
-        ensures stack { IfOk result (λ c. frames_of_states states.now (length states.now) < c.stack) }
-        ensures widest { IfOk result (λ c. c.widest ≡ widest) }
-        ensures memory { IfOk result (λ c. c.memory ≡ memory) }
+    /// A cache of its own with the same room.
+    pub fn clone(&self, alloc: Global) -> Result<Cache, Memory>
+        ensures { IfOk result (λ c. c ≡ self.now) }
     {
-        let Some(stack) = frames_of_all(states)?.checked_add(1) else {
-            return Err(Memory);
-        };
-        Cache::of_room(alloc, states.len(), stack, widest, memory)
+        let states = self.curr.set.capacity();
+        let cells = self.curr.table.cells();
+        let frames = self.stack.room();
+        Cache::with_room(alloc, states, cells, frames, self.best.len(), self.memory)
     }
 
-    /// Room for so many states, frames and slots, for which so much is accounted.
-    fn of_room(
+    /// Room for so many states with so many slots in all, for so many frames, and for the slots of a match, for which so
+    /// much is accounted.
+    fn with_room(
         alloc: Global,
         states: usize,
-        stack: usize,
-        widest: usize,
+        cells: usize,
+        frames: usize,
+        slots: usize,
         memory: usize,
     ) -> Result<Cache, Memory>
         requires { states < 2 ^ 32 }
-        ensures { IfOk result (λ c. c ≡ record { states = states; stack = stack; widest = widest; memory = memory }) }
+        ensures value { IfOk result (λ c. c
+            ≡ record { states = states; cells = cells; stack = frames; slots = slots; memory = memory }) }
+        ensures small { IfOk result (λ _. (cells < 2 ^ 63) × (frames < 2 ^ 63)) }
     {
-        let curr = Threads {
-            set: SparseSet::new(alloc, states)?,
-            table: Table::new(alloc, states, widest)?,
-        };
-        let next = Threads {
-            set: SparseSet::new(alloc, states)?,
-            table: Table::new(alloc, states, widest)?,
-        };
-        let stack = Stack::new(alloc, stack)?;
+        let curr = Threads::new(alloc, states, cells)?;
+        let next = Threads::new(alloc, states, cells)?;
+        let stack = Stack::new(alloc, frames)?;
         let none = Slot::none();
-        let scratch = vec![in alloc; none; widest]?;
-        let best = vec![in alloc; none; widest]?;
+        let scratch = vec![in alloc; none; slots]?;
+        let best = vec![in alloc; none; slots]?;
         Ok(Cache {
             curr,
             next,
@@ -134,13 +132,65 @@ impl Cache {
         })
     }
 
-    /// A cache of its own with the same room.
-    pub fn clone(&self, alloc: Global) -> Result<Cache, Memory>
-        ensures { IfOk result (λ c. c ≡ self.now) }
+    /// Grows what has less room than this, and keeps the rest.
+    fn grow(
+        &mut self,
+        alloc: Global,
+        states: usize,
+        cells: usize,
+        frames: usize,
+        slots: usize,
+    ) -> Result<(), Memory>
+        requires { states < 2 ^ 32 }
+        ensures grown { HasGrown self.old self.new }
+        ensures room { OnOk result ((states ≤ self.new.states) × (cells ≤ self.new.cells)
+            × (frames ≤ self.new.stack) × (slots ≤ self.new.slots)) }
+        ensures small { OnOk result ((self.new.cells < 2 ^ 63) × (self.new.stack < 2 ^ 63)) }
+        ensures sure { states ≤ self.old.states → cells ≤ self.old.cells
+            → frames ≤ self.old.stack → slots ≤ self.old.slots → IsOk result }
     {
-        let states = self.curr.set.room();
-        let stack = self.stack.room();
-        Cache::of_room(alloc, states, stack, self.best.len(), self.memory)
+        self.grow_threads(alloc, states, cells)?;
+        self.stack.grow(alloc, frames)?;
+        self.grow_slots(alloc, slots)
+    }
+
+    /// As `grow`, of the threads.
+    fn grow_threads(&mut self, alloc: Global, states: usize, cells: usize) -> Result<(), Memory>
+        requires { states < 2 ^ 32 }
+        ensures states { OnOk result (self.new.states ≡ max self.old.states states) }
+        ensures cells { OnOk result (self.new.cells ≡ max self.old.cells cells) }
+        ensures rest { OnOk result (self.new ≡ record self.old { states = self.new.states; cells = self.new.cells }) }
+        ensures small { OnOk result (self.new.cells < 2 ^ 63) }
+        ensures err { OnErr result (self.new ≡ self.old) }
+        ensures sure { states ≤ self.old.states → cells ≤ self.old.cells → IsOk result }
+    {
+        if states <= self.curr.set.capacity() && cells <= self.curr.table.cells() {
+            return Ok(());
+        }
+        let states = states.max(self.curr.set.capacity());
+        let cells = cells.max(self.curr.table.cells());
+        let curr = Threads::new(alloc, states, cells)?;
+        let next = Threads::new(alloc, states, cells)?;
+        self.curr = curr;
+        self.next = next;
+        Ok(())
+    }
+
+    /// As `grow`, of the slots of a match.
+    fn grow_slots(&mut self, alloc: Global, slots: usize) -> Result<(), Memory>
+        ensures slots { OnOk result (self.new ≡ record self.old { slots = max self.old.slots slots }) }
+        ensures err { OnErr result (self.new ≡ self.old) }
+        ensures sure { slots ≤ self.old.slots → IsOk result }
+    {
+        if slots <= self.best.len() {
+            return Ok(());
+        }
+        let none = Slot::none();
+        let scratch = vec![in alloc; none; slots]?;
+        let best = vec![in alloc; none; slots]?;
+        self.scratch = scratch;
+        self.best = best;
+        Ok(())
     }
 
     /// The next match in the span. The slots get what it leaves in them. With `earliest` the search stops at the
@@ -152,24 +202,22 @@ impl Cache {
         slots: &mut [Option<NonMaxUsize>],
     ) -> Option<Match>
         requires search { IsInside search.now }
-        requires room { (self.old.states ≡ length search.now.states.now)
-            × (frames_of_states search.now.states.now (length search.now.states.now) < self.old.stack) }
+        requires room { HasRoom search.now.states.now search.now.slots self.old }
         ensures value { result ≡ option_map match_value (answer_of search.now earliest) }
         ensures any { is_some result ≡ is_some (next_of search.now) }
         ensures slots { IfSome (answer_of search.now earliest) (λ m. (k : ℕ) → k < length slots.new
             → slice_index_or slots.new k None
-            ≡ (if nat_lt k self.old.widest then slot_value m k else None)) }
+            ≡ (if nat_lt k search.now.slots then slot_value m k else None)) }
         ensures cleared { IfNone result (slots.new ≡ replicate (length slots.old) None) }
         ensures room { self.new ≡ self.old }
     {
-        let width = slots.len().min(self.best.len());
-        self.curr.table.reset(width);
-        self.next.table.reset(width);
-        self.curr.set.clear();
+        let states = search.states.len();
+        let width = slots.len().min(search.slots);
+        self.curr.reset(states, width);
+        self.next.reset(states, width);
         simulate_slots(
             search,
             earliest,
-            width,
             &mut self.curr,
             &mut self.next,
             &mut self.stack,
@@ -177,30 +225,5 @@ impl Cache {
             &mut self.best,
             slots,
         )
-    }
-
-    /// Whether `find` would find a match. It stops as soon as it knows.
-    pub(crate) fn is_match(&mut self, search: &Search<'_>) -> bool
-        requires search { IsInside search.now }
-        requires room { (self.old.states ≡ length search.now.states.now)
-            × (frames_of_states search.now.states.now (length search.now.states.now) < self.old.stack) }
-        ensures value { result ≡ is_some (next_of search.now) }
-        ensures room { self.new ≡ self.old }
-    {
-        self.curr.table.reset(0);
-        self.next.table.reset(0);
-        self.curr.set.clear();
-        simulate_slots(
-            search,
-            true,
-            0,
-            &mut self.curr,
-            &mut self.next,
-            &mut self.stack,
-            &mut self.scratch,
-            &mut self.best,
-            &mut [],
-        )
-        .is_some()
     }
 }

@@ -4,27 +4,18 @@ ghost use Rattle.rx_nfa.specs.Automaton.{state_at};
 ghost use Rattle.rx_engines.specs.declared.frame.Frame.TheVariants.{Explore};
 ghost use Rattle.rx_engines.specs.Search.{IsInside, graph_until};
 ghost use Rattle.rx_nfa.specs.Ordered.{IsStable};
-ghost use Rattle.rx_engines.specs.Simulation.{frames_of_state, frames_of_states, frames_to_come, Hit, Waits, Closed, Visited, move_of, rests, going_on};
+ghost use Rattle.rx_engines.specs.Simulation.{frames_of_state, frames_of_states, frames_to_come, Hit, Waits, Closed, Visited, rests, room_of};
 ghost use Rattle.rx_engines.specs.Walk.{AllWithin};
+ghost use Rattle.rx_engines.specs.Onward.{frames_of};
 
 use crate::frame::Frame;
+use crate::onward::Onward;
 use crate::pikevm::threads::Threads;
 use crate::search::Search;
 use crate::slots::{Slot, read, write};
 use crate::stack::{Stack, choose};
 use rx_nfa::State;
 use rx_search::StateID;
-
-/// What a walk does after a look at a state.
-#[derive(Clone, Copy)]
-pub enum Move {
-    /// It leaves a thread that rests at the state.
-    Rest,
-    /// It goes on to this state at the same place.
-    On(StateID),
-    /// It comes back to the stack.
-    Back,
-}
 
 /// Looks at the state. The stack gets what the walk comes back to.
 pub fn visit(
@@ -33,17 +24,17 @@ pub fn visit(
     place: usize,
     stack: &mut Stack,
     slots: &mut [Slot],
-) -> Move
+) -> Onward<()>
     requires search { IsInside search.now }
     requires state { state < length search.now.states.now }
     requires place { place ≤ length search.now.text.now }
     requires room { frames_of_state (state_at search.now.states.now state) + length stack.old.items ≤ stack.old.room }
     requires inside { AllWithin (length search.now.states.now) place place stack.old.items }
     ensures visited { Visited search.now.matcher search.now.states.now search.now.text.now state place (rests result) stack.old.items
-        (going_on result place stack.new.items) slots.old slots.new }
-    ensures frames { length (going_on result place stack.new.items)
+        (frames_of result stack.new.items) slots.old slots.new }
+    ensures frames { length stack.new.items
         ≤ frames_of_state (state_at search.now.states.now state) + length stack.old.items }
-    ensures inside { AllWithin (length search.now.states.now) place place (going_on result place stack.new.items) }
+    ensures inside { AllWithin (length search.now.states.now) place place (frames_of result stack.new.items) }
     ensures room { stack.new.room ≡ stack.old.room }
     ensures width { length slots.new ≡ length slots.old }
 {
@@ -55,28 +46,21 @@ pub fn visit(
                 old: read(slots, *slot),
             });
             write(slots, *slot, Slot::at(place));
-            Move::On(*next)
+            Onward::To {
+                state: *next,
+                place,
+            }
         }
         State::Look { look, next } => {
             let next = search.look_on(*look, *next, place);
-            onward(next)
+            Onward::to(next, place)
         }
         State::Union { alternates } => {
             let first = choose(alternates.as_slice(), place, stack);
-            onward(first)
+            Onward::to(first, place)
         }
-        State::Fail => Move::Back,
-        State::ByteRange { .. } | State::Sparse { .. } | State::Match { .. } => Move::Rest,
-    }
-}
-
-/// On to the state, if there is one.
-fn onward(next: Option<StateID>) -> Move
-    ensures { result ≡ move_of next }
-{
-    match next {
-        Some(state) => Move::On(state),
-        None => Move::Back,
+        State::Fail => Onward::Back,
+        State::ByteRange { .. } | State::Sparse { .. } | State::Match { .. } => Onward::Stop(()),
     }
 }
 
@@ -112,19 +96,19 @@ fn follow(
     ensures set { threads.new.set.room ≡ threads.old.set.room }
     ensures table { length threads.new.table.items ≡ length threads.old.table.items }
     ensures width { threads.new.table.width ≡ threads.old.table.width }
-    ensures widest { threads.new.table.widest ≡ threads.old.table.widest }
+    ensures capacity { room_of threads.new ≡ room_of threads.old }
     ensures slots { length slots.new ≡ length slots.old }
     ensures stack { stack.new.room ≡ stack.old.room }
 {
     let mut state = from;
     while threads.set.insert(state) {
         match visit(search, state, place, stack, slots) {
-            Move::Rest => {
+            Onward::Stop(_) => {
                 threads.table.set(state, start, slots);
                 return;
             }
-            Move::On(next) => state = next,
-            Move::Back => return,
+            Onward::To { state: next, .. } => state = next,
+            Onward::Back => return,
         }
     }
 }
@@ -146,7 +130,7 @@ pub fn close(
     requires table { length threads.old.table.items ≡ length search.now.states.now }
     requires width { length slots.old ≡ threads.old.table.width }
     requires empty { stack.old.items ≡ [] }
-    requires stack { frames_of_states search.now.states.now (length search.now.states.now) < stack.old.room }
+    requires stack { frames_of_states search.now.states.now (length search.now.states.now) ≤ stack.old.room }
     ensures closed { (end : ℕ) (later : Passed → Option Hit) (goal : Option Hit)
         → place ≤ end
         → IsStable (graph_until search.now end) later
@@ -157,7 +141,7 @@ pub fn close(
     ensures set { threads.new.set.room ≡ threads.old.set.room }
     ensures table { length threads.new.table.items ≡ length threads.old.table.items }
     ensures width { threads.new.table.width ≡ threads.old.table.width }
-    ensures widest { threads.new.table.widest ≡ threads.old.table.widest }
+    ensures capacity { room_of threads.new ≡ room_of threads.old }
     ensures slots { length slots.new ≡ length slots.old }
     ensures empty { stack.new.items ≡ [] }
     ensures stack { stack.new.room ≡ stack.old.room }

@@ -2,7 +2,7 @@ ghost use Rattle.std.specs.Prelude.{◌≡◌, ℕ, ◌+◌, ◌<◌, ◌≤◌,
 ghost use Rattle.rx_model.specs.Runs.{Passed, nowhere};
 ghost use Rattle.std.specs.Option.{option_or};
 ghost use Rattle.rx_nfa.specs.Ordered.{passed_at};
-ghost use Rattle.rx_engines.specs.Simulation.{frames_of_states, Hit, among, later_starts};
+ghost use Rattle.rx_engines.specs.Simulation.{frames_of_states, Hit, among, later_starts, room_of};
 ghost use Rattle.rx_engines.specs.Search.{IsInside, graph_until};
 
 use crate::pikevm::close::close;
@@ -27,7 +27,7 @@ pub fn seed(
     requires table { length threads.old.table.items ≡ length search.now.states.now }
     requires width { length slots.old ≡ threads.old.table.width }
     requires empty { stack.old.items ≡ [] }
-    requires stack { frames_of_states search.now.states.now (length search.now.states.now) < stack.old.room }
+    requires stack { frames_of_states search.now.states.now (length search.now.states.now) ≤ stack.old.room }
     ensures seeded { (end : ℕ) (best goal : Option Hit)
         → place ≤ end
         → matched ≡ is_some best
@@ -40,7 +40,7 @@ pub fn seed(
     ensures set { threads.new.set.room ≡ threads.old.set.room }
     ensures table { length threads.new.table.items ≡ length threads.old.table.items }
     ensures width { threads.new.table.width ≡ threads.old.table.width }
-    ensures widest { threads.new.table.widest ≡ threads.old.table.widest }
+    ensures capacity { room_of threads.new ≡ room_of threads.old }
     ensures slots { length slots.new ≡ length slots.old }
     ensures empty { stack.new.items ≡ [] }
     ensures stack { stack.new.room ≡ stack.old.room }

@@ -13,6 +13,8 @@ pub struct SparseSet {
     dense: Vec<StateID>,
     /// Where in `dense` a state stands, if it is there.
     sparse: Vec<u32>,
+    /// The states are below this number.
+    room: usize,
 }
 
 impl Model for SparseSet {
@@ -20,29 +22,46 @@ impl Model for SparseSet {
 
     ghost coded = { state_set_code };
 
-    ghost view = { λ s. record { items = s.dense.items; room = length s.sparse.items } };
+    ghost view = { λ s. record {
+      items = s.dense.items;
+      room = s.room;
+      capacity = length s.sparse.items;
+    } };
 
-    ghost invariant = { λ s. IsSparse s.dense.items s.sparse.items
+    ghost invariant = { λ s. IsSparse s.room s.dense.items s.sparse.items × (s.room ≤ length s.sparse.items)
         × (length s.sparse.items ≤ vec_capacity s.dense) × (length s.sparse.items < 2 ^ 32) };
 }
 
 impl SparseSet {
-    /// An empty set of states below `room`.
-    pub fn new(alloc: Global, room: usize) -> Result<SparseSet, Memory>
-        requires { room < 2 ^ 32 }
-        ensures { IfOk result (λ s. s ≡ record { items = []; room = room }) }
+    /// An empty set, with room for the states below `capacity`.
+    pub fn new(alloc: Global, capacity: usize) -> Result<SparseSet, Memory>
+        requires { capacity < 2 ^ 32 }
+        ensures { IfOk result (λ s. s ≡ record { items = []; room = 0; capacity = capacity }) }
     {
-        let dense = Vec::with_capacity(alloc, room)?;
-        let sparse = vec![in alloc; 0u32; room]?;
-        Ok(SparseSet { dense, sparse })
+        let dense = Vec::with_capacity(alloc, capacity)?;
+        let sparse = vec![in alloc; 0u32; capacity]?;
+        Ok(SparseSet {
+            dense,
+            sparse,
+            room: 0,
+        })
     }
 
-    /// The states are below this number.
-    pub fn room(&self) -> usize
-        ensures value { result ≡ self.now.room }
-        ensures small { self.now.room < 2 ^ 32 }
+    /// For how many states there is room.
+    pub fn capacity(&self) -> usize
+        ensures value { result ≡ self.now.capacity }
+        ensures small { self.now.capacity < 2 ^ 32 }
     {
         self.sparse.len()
+    }
+
+    /// Empties the set. Its states are below `room` from now on.
+    pub fn reset(&mut self, room: usize)
+        requires { room ≤ self.old.capacity }
+        ensures { self.new ≡ record { items = []; room = room; capacity = self.old.capacity } }
+    {
+        self.dense.clear();
+        self.room = room;
     }
 
     pub fn clear(&mut self)

@@ -1,6 +1,8 @@
-ghost use Rattle.std.specs.Prelude.{◌≡◌, ℕ, ◌+◌, ◌<◌, ◌≤◌, List, [], length, take, All, Bool, ◌&&◌, is_some, Option, Some, None, IfSome, IfNone, option_map, replicate, slice_index_or};
+ghost use Rattle.std.specs.Prelude.{◌≡◌, ℕ, ◌+◌, ◌<◌, ◌≤◌, List, [], length, min, nat_lt, if◌then◌else◌, All, Bool, ◌&&◌, is_some, Option, Some, None, IfSome, IfNone, option_map, replicate, slice_index_or};
 ghost use Rattle.std.specs.Option.{option_or};
-ghost use Rattle.rx_engines.specs.Simulation.{frames_of_states, best_hit, hit_of, until};
+ghost use Rattle.rx_engines.specs.Simulation.{frames_of_states, best_hit, hit_of, until, room_of};
+ghost use Rattle.rx_model.specs.Search.{slot_value};
+ghost use Rattle.rx_search.specs.Matches.{match_value};
 ghost use Rattle.rx_engines.specs.Search.{IsInside, next_of, answer_of};
 
 use crate::pikevm::seed::seed;
@@ -12,12 +14,11 @@ use crate::stack::Stack;
 use rx_search::{Match, NonMaxUsize};
 use std::mem;
 
-/// The search for a match, with so many slots to a thread. `slots` gets those of the match, as far as they go. With
-/// `earliest` it stops at the first place by which a match ends.
+/// The search for a match, with as many slots to a thread as there are, of those that a match has. `slots` gets those of
+/// the match. With `earliest` it stops at the first place by which a match ends.
 pub fn simulate_slots(
     search: &Search<'_>,
     earliest: bool,
-    width: usize,
     curr: &mut Threads,
     next: &mut Threads,
     stack: &mut Stack,
@@ -31,26 +32,23 @@ pub fn simulate_slots(
         × (next.old.set.room ≡ length search.now.states.now) }
     requires table { (length curr.old.table.items ≡ length search.now.states.now)
         × (length next.old.table.items ≡ length search.now.states.now) }
-    requires width { (curr.old.table.width ≡ width) × (next.old.table.width ≡ width)
-        × (width ≤ length scratch.old) × (width ≤ length best.old)
-        × (next.old.table.widest ≡ curr.old.table.widest) }
+    requires width { (curr.old.table.width ≡ min (length slots.old) search.now.slots)
+        × (next.old.table.width ≡ min (length slots.old) search.now.slots)
+        × (search.now.slots ≤ length scratch.old) × (search.now.slots ≤ length best.old)
+        × (room_of next.old ≡ room_of curr.old) }
     requires empty { stack.old.items ≡ [] }
-    requires stack { frames_of_states search.now.states.now (length search.now.states.now) < stack.old.room }
-    ensures found { best_hit result (take width best.new)
-        ≡ option_map (hit_of width) (answer_of search.now earliest) }
+    requires stack { frames_of_states search.now.states.now (length search.now.states.now) ≤ stack.old.room }
+    ensures value { result ≡ option_map match_value (answer_of search.now earliest) }
     ensures any { is_some result ≡ is_some (next_of search.now) }
-    ensures cleared { IfNone result (take width best.new ≡ replicate width None) }
-    ensures reported { (k : ℕ) → k < length slots.new
-        → slice_index_or slots.new k None ≡ slice_index_or (take width best.new) k None }
-    ensures set { (curr.new.set.room ≡ length search.now.states.now)
-        × (next.new.set.room ≡ length search.now.states.now) }
-    ensures table { (length curr.new.table.items ≡ length search.now.states.now)
-        × (length next.new.table.items ≡ length search.now.states.now) }
-    ensures widest { (curr.new.table.widest ≡ curr.old.table.widest)
-        × (next.new.table.widest ≡ curr.old.table.widest) }
+    ensures slots { IfSome (answer_of search.now earliest) (λ m. (k : ℕ) → k < length slots.new
+        → slice_index_or slots.new k None
+        ≡ (if nat_lt k search.now.slots then slot_value m k else None)) }
+    ensures cleared { IfNone result (slots.new ≡ replicate (length slots.old) None) }
+    ensures capacity { (room_of curr.new ≡ room_of curr.old) × (room_of next.new ≡ room_of curr.old) }
     ensures empty { stack.new.items ≡ [] }
     ensures stack { stack.new.room ≡ stack.old.room }
 {
+    let width = slots.len().min(search.slots);
     let found = simulate(
         search,
         earliest,
@@ -82,9 +80,9 @@ fn simulate(
         × (length next.old.table.items ≡ length search.now.states.now) }
     requires width { (curr.old.table.width ≡ length slots.old)
         × (next.old.table.width ≡ length slots.old) × (length row.old ≡ length slots.old)
-        × (next.old.table.widest ≡ curr.old.table.widest) }
+        × (room_of next.old ≡ room_of curr.old) }
     requires empty { stack.old.items ≡ [] }
-    requires stack { frames_of_states search.now.states.now (length search.now.states.now) < stack.old.room }
+    requires stack { frames_of_states search.now.states.now (length search.now.states.now) ≤ stack.old.room }
     ensures found { best_hit result slots.new
         ≡ option_map (hit_of (length slots.old)) (answer_of search.now earliest) }
     ensures any { is_some result ≡ is_some (next_of search.now) }
@@ -93,8 +91,7 @@ fn simulate(
         × (next.new.set.room ≡ length search.now.states.now) }
     ensures table { (length curr.new.table.items ≡ length search.now.states.now)
         × (length next.new.table.items ≡ length search.now.states.now) }
-    ensures widest { (curr.new.table.widest ≡ curr.old.table.widest)
-        × (next.new.table.widest ≡ curr.old.table.widest) }
+    ensures capacity { (room_of curr.new ≡ room_of curr.old) × (room_of next.new ≡ room_of curr.old) }
     ensures empty { stack.new.items ≡ [] }
     ensures stack { stack.new.room ≡ stack.old.room }
 {

@@ -3,9 +3,10 @@ ghost use Rattle.rx_model.specs.Runs.{Passed, nowhere};
 ghost use Rattle.std.specs.Option.{option_or};
 ghost use Rattle.rx_nfa.specs.Automaton.{byte_at};
 ghost use Rattle.rx_nfa.specs.Ordered.{IsStable};
-ghost use Rattle.rx_engines.specs.Simulation.{frames_of_states, Hit, among, best_hit, until, Stepped, act_of, onto};
+ghost use Rattle.rx_engines.specs.Simulation.{frames_of_states, Hit, among, best_hit, until, Stepped, act_of, room_of};
 ghost use Rattle.rx_engines.specs.Search.{IsInside, graph_until};
 
+use crate::onward::Onward;
 use crate::pikevm::close::close;
 use crate::pikevm::threads::Threads;
 use crate::search::{Search, in_any, in_range};
@@ -13,16 +14,6 @@ use crate::slots::Slot;
 use crate::stack::Stack;
 use rx_nfa::State;
 use rx_search::{Match, PatternID, Span, StateID};
-
-/// What a state does at a byte.
-#[derive(Clone, Copy)]
-pub enum Action {
-    /// It accepts this pattern.
-    Accept(PatternID),
-    /// It reads the byte and goes on to this state.
-    Read(StateID),
-    Nothing,
-}
 
 /// What a thread that accepts tells: the pattern, and where the match began.
 #[derive(Clone, Copy)]
@@ -45,31 +36,25 @@ impl Accepted {
     }
 }
 
-/// What the state does where this byte stands; None at the end.
-fn act(state: &State, byte: Option<u8>) -> Action
-    ensures { result ≡ act_of state.now byte }
+/// What the state does where this byte stands, None at the end, and `after` is the place after it.
+fn act(state: &State, byte: Option<u8>, after: usize) -> Onward<PatternID>
+    ensures { result ≡ act_of state.now byte after }
 {
     match state {
-        State::ByteRange { start, end, next } => onward(in_range(*start, *end, *next, byte)),
-        State::Sparse { transitions } => onward(in_any(transitions.as_slice(), byte)),
-        State::Match { pattern } => Action::Accept(*pattern),
+        State::ByteRange { start, end, next } => Onward::to(
+            in_range(*start, *end, *next, byte),
+            after,
+        ),
+        State::Sparse { transitions } => Onward::to(in_any(transitions.as_slice(), byte), after),
+        State::Match { pattern } => Onward::Stop(*pattern),
         State::Look { .. } | State::Union { .. } | State::Capture { .. } | State::Fail => {
-            Action::Nothing
+            Onward::Back
         }
     }
 }
 
-/// Reads the byte and goes on to the state, if there is one.
-fn onward(next: Option<StateID>) -> Action
-    ensures { result ≡ onto next }
-{
-    match next {
-        Some(state) => Action::Read(state),
-        None => Action::Nothing,
-    }
-}
-
-/// Moves the threads over the byte at the place, up to the first one that accepts, of which `best` gets the slots. What it leaves is right for each end of the search before which that byte stands.
+/// Moves the threads over the byte at the place, up to the first one that accepts, of which `best` gets the slots. What it
+/// leaves is right for each end of the search before which that byte stands.
 pub fn step(
     search: &Search<'_>,
     place: usize,
@@ -87,7 +72,7 @@ pub fn step(
     requires width { (curr.now.table.width ≡ length best.old) × (next.old.table.width ≡ length best.old)
         × (length slots.old ≡ length best.old) }
     requires empty { stack.old.items ≡ [] }
-    requires stack { frames_of_states search.now.states.now (length search.now.states.now) < stack.old.room }
+    requires stack { frames_of_states search.now.states.now (length search.now.states.now) ≤ stack.old.room }
     requires none { next.old.set.items ≡ [] }
     ensures stepped { (end : ℕ) (later : Passed → Option Hit) (goal : Option Hit)
         → place ≤ end
@@ -103,7 +88,7 @@ pub fn step(
     ensures set { next.new.set.room ≡ next.old.set.room }
     ensures table { length next.new.table.items ≡ length next.old.table.items }
     ensures width { next.new.table.width ≡ next.old.table.width }
-    ensures widest { next.new.table.widest ≡ next.old.table.widest }
+    ensures capacity { room_of next.new ≡ room_of next.old }
     ensures slots { length slots.new ≡ length slots.old }
     ensures best { length best.new ≡ length best.old }
     ensures empty { stack.new.items ≡ [] }
@@ -113,13 +98,13 @@ pub fn step(
     let byte = search.byte_at(place);
     for k in 0..curr.set.len() {
         let state = curr.set.get(k);
-        match act(&states[state.as_usize()], byte) {
-            Action::Accept(pattern) => {
+        match act(&states[state.as_usize()], byte, place + 1) {
+            Onward::Stop(pattern) => {
                 best.copy_from_slice(curr.table.slots(state));
                 let start = curr.table.start(state);
                 return Some(Accepted { pattern, start });
             }
-            Action::Read(target) => {
+            Onward::To { state: target, .. } => {
                 slots.copy_from_slice(curr.table.slots(state));
                 close(
                     search,
@@ -131,7 +116,7 @@ pub fn step(
                     slots,
                 );
             }
-            Action::Nothing => {}
+            Onward::Back => {}
         }
     }
     None

@@ -1,4 +1,4 @@
-ghost use Rattle.std.specs.Prelude.{◌≡◌, ◌+◌, ◌*◌, ◌<◌, ◌≤◌, length, IfOk, slice_set};
+ghost use Rattle.std.specs.Prelude.{◌≡◌, ◌+◌, ◌*◌, ◌^◌, ◌<◌, ◌≤◌, length, take, IfOk, slice_set};
 ghost use Rattle.rx_engines.specs.Threads.{Rows, rows_code, rows_of, row_at};
 
 use crate::slots::Slot;
@@ -11,8 +11,9 @@ use std::marker::Model;
 pub struct Table {
     starts: Vec<usize>,
     cells: Vec<Slot>,
+    /// How many rows there are.
+    rows: usize,
     width: usize,
-    widest: usize,
 }
 
 impl Model for Table {
@@ -21,42 +22,52 @@ impl Model for Table {
     ghost coded = { rows_code };
 
     ghost view = { λ t. record {
-      items = rows_of t.width t.starts.items t.cells.items;
+      items = rows_of t.width (take t.rows t.starts.items) t.cells.items;
       width = t.width;
-      widest = t.widest;
+      capacity = length t.starts.items;
+      cells = length t.cells.items;
     } };
 
-    ghost invariant = { λ t. (t.width ≤ t.widest)
-        × (length t.starts.items * t.widest ≤ length t.cells.items) };
+    ghost invariant = { λ t. (t.rows ≤ length t.starts.items)
+        × (t.rows * t.width ≤ length t.cells.items) };
 }
 
 impl Table {
-    /// Rows for so many states, of up to `widest` slots.
-    pub fn new(alloc: Global, states: usize, widest: usize) -> Result<Table, Memory>
-        ensures items { IfOk result (λ t. length t.items ≡ states) }
-        ensures widest { IfOk result (λ t. t.widest ≡ widest) }
+    /// Room for so many rows, and for so many slots in all.
+    pub fn new(alloc: Global, capacity: usize, cells: usize) -> Result<Table, Memory>
+        ensures capacity { IfOk result (λ t. t.capacity ≡ capacity) }
+        ensures cells { IfOk result (λ t. t.cells ≡ cells) }
+        ensures small { IfOk result (λ _. cells < 2 ^ 63) }
     {
-        let Some(room) = states.checked_mul(widest) else {
-            return Err(Memory);
-        };
-        let starts = vec![in alloc; 0usize; states]?;
+        let starts = vec![in alloc; 0usize; capacity]?;
         let none = Slot::none();
-        let cells = vec![in alloc; none; room]?;
+        let cells = vec![in alloc; none; cells]?;
         Ok(Table {
             starts,
             cells,
+            rows: 0,
             width: 0,
-            widest,
         })
     }
 
-    /// Rows of `width` slots from now on, whatever they hold.
-    pub fn reset(&mut self, width: usize)
-        requires { width ≤ self.old.widest }
-        ensures items { length self.new.items ≡ length self.old.items }
-        ensures width { self.new.width ≡ width }
-        ensures widest { self.new.widest ≡ self.old.widest }
+    /// For how many slots in all there is room.
+    pub fn cells(&self) -> usize
+        ensures value { result ≡ self.now.cells }
+        ensures small { self.now.cells < 2 ^ 63 }
     {
+        self.cells.len()
+    }
+
+    /// So many rows of `width` slots from now on, whatever they hold.
+    pub fn reset(&mut self, rows: usize, width: usize)
+        requires rows { rows ≤ self.old.capacity }
+        requires cells { rows * width ≤ self.old.cells }
+        ensures items { length self.new.items ≡ rows }
+        ensures width { self.new.width ≡ width }
+        ensures capacity { self.new.capacity ≡ self.old.capacity }
+        ensures cells { self.new.cells ≡ self.old.cells }
+    {
+        self.rows = rows;
         self.width = width;
     }
 

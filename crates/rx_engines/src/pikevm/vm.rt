@@ -1,10 +1,15 @@
-ghost use Rattle.std.specs.Prelude.{◌≡◌, ◌≤◌, length, None, replicate, is_some, IfOk, IfNone, IfSome, option_map};
+ghost use Rattle.std.specs.Prelude.{◌≡◌, ◌-◌, ◌^◌, min, length, None, replicate, is_some, IfOk, IfNone, IfSome, option_map};
 ghost use Rattle.rx_model.specs.Search.{Patterns, told_of};
 ghost use Rattle.rx_search.specs.Input.{next_in};
 ghost use Rattle.rx_search.specs.Matches.{match_value};
-ghost use Rattle.rx_engines.specs.Engine.{PikeVMValue, next_match_within, answer_in, IsNfaOf, IsMatchWith, HasSlots, AreWithin, Fits, accounted_memory};
+ghost use Rattle.rx_search.specs.Told.{IsMatchWith, HasSlots, AreWithin, LiesIn, matched_pattern};
+ghost use Rattle.rx_nfa.specs.Nfa.{IsNfaOf};
+ghost use Rattle.rx_nfa.specs.NextMatch.{next_match_in};
+ghost use Rattle.rx_engines.specs.Simulation.{frames_of_states};
+ghost use Rattle.rx_engines.specs.Engine.{PikeVMValue, answer_in, Fits, accounted_memory};
 
 use crate::pikevm::cache::Cache;
+use crate::room::frames_of_all;
 use crate::search::Search;
 use crate::slots::empty;
 use rx_nfa::NFA;
@@ -20,14 +25,20 @@ use std::marker::Model;
 pub struct PikeVM {
     nfa: NFA,
     kind: MatchKind,
+    /// The frames that a search may leave on the stack.
+    frames: usize,
 }
 
 impl Model for PikeVM {
+    ghost use Rattle.std.specs.Prelude.{◌≡◌, ◌-◌, ◌^◌, min, length};
+    ghost use Rattle.rx_engines.specs.Simulation.{frames_of_states};
     ghost use Rattle.rx_engines.specs.Engine.{PikeVMValue};
 
     ghost Value = { PikeVMValue };
 
     ghost view = { λ v. record { nfa = v.nfa; kind = v.kind } };
+
+    ghost invariant = { λ v. v.frames ≡ min (2 ^ 64 - 1) (frames_of_states v.nfa.states (length v.nfa.states)) };
 }
 
 impl PikeVM {
@@ -36,7 +47,8 @@ impl PikeVM {
     pub fn build_from_nfa(nfa: NFA, kind: MatchKind) -> PikeVM
         ensures { result ≡ record { nfa = nfa; kind = kind } }
     {
-        PikeVM { nfa, kind }
+        let frames = frames_of_all(nfa.states());
+        PikeVM { nfa, kind, frames }
     }
 
     /// The NFA.
@@ -44,6 +56,13 @@ impl PikeVM {
         ensures { result.now ≡ self.now.nfa }
     {
         &self.nfa
+    }
+
+    /// The frames that a search may leave on the stack, or the greatest `usize` where they are more.
+    pub(crate) fn frames(&self) -> usize
+        ensures { result ≡ min (2 ^ 64 - 1) (frames_of_states self.now.nfa.states (length self.now.nfa.states)) }
+    {
+        self.frames
     }
 
     /// A cache that serves this engine.
@@ -57,15 +76,16 @@ impl PikeVM {
     /// Whether there is a match in the input's span, under each kind of match. It stops as soon as it knows.
     pub fn is_match(&self, cache: &mut Cache, input: &Input<'_>) -> bool
         requires { Fits self.now cache.old }
-        ensures value { result ≡ is_some (next_match_within self.now.nfa input.now) }
+        ensures value { result ≡ is_some (next_match_in self.now.nfa input.now) }
         ensures patterns { (r : Patterns) → IsNfaOf self.now.nfa r
-            → next_match_within self.now.nfa input.now ≡ option_map (told_of r.which_captures) (next_in r input.now) }
-        ensures cache { cache.new ≡ cache.old }
+            → next_match_in self.now.nfa input.now ≡ option_map (told_of r.which_captures) (next_in r input.now) }
+        ensures cache { Fits self.now cache.new }
+        ensures memory { cache.new.memory ≡ cache.old.memory }
     {
         let Some(search) = Search::of(&self.nfa, input) else {
             return false;
         };
-        cache.is_match(&search)
+        cache.find(&search, true, &mut []).is_some()
     }
 
     /// The next match in the input's span. With `earliest` the search stops at the first place by which a match
@@ -74,13 +94,14 @@ impl PikeVM {
     pub fn find(&self, cache: &mut Cache, input: &Input<'_>) -> Option<Match>
         requires { Fits self.now cache.old }
         ensures value { result ≡ option_map match_value (answer_in self.now input.now) }
-        ensures any { is_some result ≡ is_some (next_match_within self.now.nfa input.now) }
+        ensures any { is_some result ≡ is_some (next_match_in self.now.nfa input.now) }
         ensures patterns { (r : Patterns) → IsNfaOf self.now.nfa r
-            → next_match_within self.now.nfa input.now ≡ option_map (told_of r.which_captures) (next_in r input.now) }
+            → next_match_in self.now.nfa input.now ≡ option_map (told_of r.which_captures) (next_in r input.now) }
         ensures is_match { (r : Patterns) → IsNfaOf self.now.nfa r
             → IfSome result (λ found. IsMatchWith r input.now (λ m. found ≡ match_value m)) }
-        ensures within { IfSome result (λ m. (input.now.start ≤ m.start) × (m.end ≤ input.now.end)) }
-        ensures cache { cache.new ≡ cache.old }
+        ensures within { IfSome result (LiesIn input.now) }
+        ensures cache { Fits self.now cache.new }
+        ensures memory { cache.new.memory ≡ cache.old.memory }
     {
         self.find_slots(cache, input, &mut [])
     }
@@ -94,16 +115,17 @@ impl PikeVM {
         slots: &mut [Option<NonMaxUsize>],
     ) -> Option<PatternID>
         requires { Fits self.now cache.old }
-        ensures value { result ≡ option_map (λ m. m.trace.pattern) (answer_in self.now input.now) }
-        ensures any { is_some result ≡ is_some (next_match_within self.now.nfa input.now) }
+        ensures value { result ≡ option_map matched_pattern (answer_in self.now input.now) }
+        ensures any { is_some result ≡ is_some (next_match_in self.now.nfa input.now) }
         ensures patterns { (r : Patterns) → IsNfaOf self.now.nfa r
-            → next_match_within self.now.nfa input.now ≡ option_map (told_of r.which_captures) (next_in r input.now) }
+            → next_match_in self.now.nfa input.now ≡ option_map (told_of r.which_captures) (next_in r input.now) }
         ensures is_match { (r : Patterns) → IsNfaOf self.now.nfa r
-            → IfSome result (λ p. IsMatchWith r input.now (λ m. (p ≡ m.trace.pattern) × HasSlots slots.new m)) }
+            → IfSome result (λ p. IsMatchWith r input.now (λ m. (p ≡ matched_pattern m) × HasSlots slots.new m)) }
         ensures slots { IfSome (answer_in self.now input.now) (HasSlots slots.new) }
         ensures none { IfNone result (slots.new ≡ replicate (length slots.old) None) }
         ensures slots_within { AreWithin input.now slots.new }
-        ensures cache { cache.new ≡ cache.old }
+        ensures cache { Fits self.now cache.new }
+        ensures memory { cache.new.memory ≡ cache.old.memory }
     {
         match self.find_slots(cache, input, slots) {
             Some(found) => Some(found.pattern()),
@@ -120,16 +142,17 @@ impl PikeVM {
     ) -> Option<Match>
         requires { Fits self.now cache.old }
         ensures value { result ≡ option_map match_value (answer_in self.now input.now) }
-        ensures any { is_some result ≡ is_some (next_match_within self.now.nfa input.now) }
+        ensures any { is_some result ≡ is_some (next_match_in self.now.nfa input.now) }
         ensures patterns { (r : Patterns) → IsNfaOf self.now.nfa r
-            → next_match_within self.now.nfa input.now ≡ option_map (told_of r.which_captures) (next_in r input.now) }
+            → next_match_in self.now.nfa input.now ≡ option_map (told_of r.which_captures) (next_in r input.now) }
         ensures is_match { (r : Patterns) → IsNfaOf self.now.nfa r
             → IfSome result (λ found. IsMatchWith r input.now (λ m. (found ≡ match_value m) × HasSlots slots.new m)) }
         ensures slots { IfSome (answer_in self.now input.now) (HasSlots slots.new) }
         ensures none { IfNone result (slots.new ≡ replicate (length slots.old) None) }
         ensures slots_within { AreWithin input.now slots.new }
-        ensures within { IfSome result (λ m. (input.now.start ≤ m.start) × (m.end ≤ input.now.end)) }
-        ensures cache { cache.new ≡ cache.old }
+        ensures within { IfSome result (LiesIn input.now) }
+        ensures cache { Fits self.now cache.new }
+        ensures memory { cache.new.memory ≡ cache.old.memory }
     {
         let Some(search) = Search::of(&self.nfa, input) else {
             empty(slots);

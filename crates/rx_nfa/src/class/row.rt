@@ -1,5 +1,6 @@
 //! Rows of transitions, and the states that have them.
 ghost use Rattle.std.specs.Prelude.{◌≡◌, ◌<◌, ◌+◌, ℕ, length, IfOk, OnOk, Some, if◌then◌else◌, ◌==◌};
+ghost use Rattle.rx_search.specs.Limits.{id_limit};
 ghost use Rattle.rx_nfa.specs.Automaton.{route};
 ghost use Rattle.rx_nfa.specs.Row.{reading, Ascends, IsReader, RoutesBelow, AddsReaders};
 ghost use Rattle.rx_nfa.specs.States.{AreClosed};
@@ -63,7 +64,7 @@ fn reader(row: Vec<Transition>) -> State
 /// Appends the state that has these transitions, and returns its number.
 pub fn push_reader(states: &mut Vec<State>, row: Vec<Transition>) -> Result<StateID, Memory>
     requires ascends { Ascends 0 256 row.items }
-    requires room { length states.old.items < 2147483647 }
+    requires room { length states.old.items < id_limit }
     ensures is { IfOk result (λ q. q ≡ length states.old.items) }
     ensures reads { IfOk result (λ q. IsReader (length states.old.items) states.new.items q row.items) }
     ensures grows { OnOk result (AddsReaders states.old.items states.new.items) }

@@ -1,6 +1,7 @@
 //! Children of states that read the last bytes of encodings.
 ghost use Rattle.std.specs.Prelude.{◌≡◌, ◌<◌, ◌≤◌, ◌+◌, ◌*◌, ◌%◌, ◌/◌, ℕ, List, length, IfOk, OnOk};
 ghost use Rattle.rx_model.specs.Text.{is_member};
+ghost use Rattle.rx_search.specs.Limits.{id_limit};
 ghost use Rattle.rx_nfa.specs.Ranges.{RisesFrom, EndsFrom, ends_in, size_of_block, CoversUpTo, StaysBelow, whole_depths};
 ghost use Rattle.rx_nfa.specs.Row.{Ascends, IsReader, AddsReaders};
 ghost use Rattle.rx_nfa.specs.States.{AreClosed};
@@ -68,7 +69,7 @@ fn block(
     requires aligned { start % size_of_block depth ≡ 0 }
     requires small { start + size_of_block depth ≤ 0x20_0000 }
     requires enough { CoversUpTo depth (length whole.now) ranges.now }
-    requires room { length states.old.items + depth * ends_in ranges.now start (start + size_of_block depth) ≤ 2147483647 }
+    requires room { length states.old.items + depth * ends_in ranges.now start (start + size_of_block depth) ≤ id_limit }
     ensures grows { OnOk result (AddsReaders states.old.items states.new.items) }
     ensures closed { OnOk result ((base next : ℕ) → IsReady base states.old.items next whole.now
         → next < length states.old.items → AreClosed states.old.items → AreClosed states.new.items) }
@@ -113,7 +114,7 @@ pub fn row(
     requires before { Ascends 0 children.first transitions.old.items }
     requires enough { CoversUpTo children.depth (length whole.now) ranges.now }
     requires room { length states.old.items
-        + children.depth * ends_in ranges.now children.start (children.start + children.len * size_of_block children.depth) ≤ 2147483647 }
+        + children.depth * ends_in ranges.now children.start (children.start + children.len * size_of_block children.depth) ≤ id_limit }
     ensures grows { OnOk result (AddsReaders states.old.items states.new.items) }
     ensures closed { OnOk result ((base next : ℕ) → IsReady base states.old.items next whole.now
         → next < length states.old.items → AreClosed states.old.items → AreClosed states.new.items) }
@@ -153,7 +154,7 @@ pub fn deepen(
     requires rises { RisesFrom 0 ranges.now }
     requires small { StaysBelow 0x10_FFFF ranges.now }
     requires some { 0 < length whole.old.items }
-    requires room { length states.old.items + whole_depths deepest ranges.now ≤ 2147483647 }
+    requires room { length states.old.items + whole_depths deepest ranges.now ≤ id_limit }
     ensures some { OnOk result (0 < length whole.new.items) }
     ensures grows { OnOk result (AddsReaders states.old.items states.new.items) }
     ensures closed { OnOk result ((base next : ℕ) → IsReady base states.old.items next whole.old.items
@@ -179,7 +180,7 @@ fn reach(
 ) -> Result<(), Memory>
     requires deep { depth ≤ 3 }
     requires some { 0 < length whole.old.items }
-    requires room { length states.old.items + depth ≤ 2147483647 }
+    requires room { length states.old.items + depth ≤ id_limit }
     ensures longer { OnOk result ((length whole.old.items ≤ length whole.new.items) × (depth < length whole.new.items)) }
     ensures grows { OnOk result (AddsReaders states.old.items states.new.items) }
     ensures closed { OnOk result ((base next : ℕ) → IsReady base states.old.items next whole.old.items

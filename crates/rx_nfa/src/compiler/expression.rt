@@ -6,6 +6,7 @@ ghost use Rattle.rx_model.specs.Graph.{text, assertion, build_state, build_group
 ghost use Rattle.rx_model.specs.Length.{minimum_len, is_positive};
 ghost use Rattle.rx_model.specs.Search.{greatest_group, greatest_in};
 ghost use Rattle.rx_search.specs.Look.{kind_of};
+ghost use Rattle.rx_search.specs.Limits.{id_limit};
 ghost use Rattle.rx_hir.specs.Cost.{states_of_copies, accounted_states, accounted_in};
 ghost use Rattle.rx_hir.specs.Normal.{expressions};
 ghost use Rattle.rx_hir.specs.Sound.{IsSound};
@@ -31,7 +32,7 @@ pub fn compile(
 ) -> Result<StateID, Memory>
     requires next { next < length builder.old.states }
     requires room { HasRoom builder.old groups.now (greatest_group hir.now) }
-    requires fits { length builder.old.states + accounted_states hir.now ≤ 2147483647 }
+    requires fits { length builder.old.states + accounted_states hir.now ≤ id_limit }
     ensures built { IfOk result (λ start. Built (build (slot_from groups.now.first_slot) hir.now) next builder.old builder.new start) }
     ensures inside { IfOk result (λ start. start < length builder.new.states) }
     ensures count { OnOk result (length builder.new.states ≤ length builder.old.states + accounted_states hir.now) }
@@ -55,7 +56,7 @@ pub fn compile(
 fn compile_literal(builder: &mut Builder, bytes: &[u8], next: StateID) -> Result<StateID, Memory>
     requires next { next < length builder.old.states }
     requires some { 0 < length bytes.now }
-    requires fits { length builder.old.states + length bytes.now ≤ 2147483647 }
+    requires fits { length builder.old.states + length bytes.now ≤ id_limit }
     ensures built { IfOk result (λ start. Built (build_state (text bytes.now)) next builder.old builder.new start) }
     ensures inside { IfOk result (λ start. start < length builder.new.states) }
     ensures count { OnOk result (length builder.new.states ≤ length builder.old.states + length bytes.now) }
@@ -76,7 +77,7 @@ fn compile_literal(builder: &mut Builder, bytes: &[u8], next: StateID) -> Result
 /// A state that asks whether the look-around holds.
 fn compile_look(builder: &mut Builder, look: Look, next: StateID) -> Result<StateID, Memory>
     requires next { next < length builder.old.states }
-    requires fits { length builder.old.states < 2147483647 }
+    requires fits { length builder.old.states < id_limit }
     ensures built { IfOk result (λ start. Built (build_state (assertion (kind_of look))) next builder.old builder.new start) }
     ensures inside { IfOk result (λ start. start < length builder.new.states) }
     ensures count { OnOk result (length builder.new.states ≤ length builder.old.states + 1) }
@@ -96,7 +97,7 @@ fn compile_capture(
     requires next { next < length builder.old.states }
     requires group { HasRoom builder.old groups.now (non_zero_usize_get capture.now.index) }
     requires room { HasRoom builder.old groups.now (greatest_group capture.now.sub.value) }
-    requires fits { length builder.old.states + (accounted_states capture.now.sub.value + 2) ≤ 2147483647 }
+    requires fits { length builder.old.states + (accounted_states capture.now.sub.value + 2) ≤ id_limit }
     ensures built { IfOk result (λ start. Built (build_group (slot_from groups.now.first_slot (non_zero_usize_get capture.now.index)) (build (slot_from groups.now.first_slot) capture.now.sub.value))
         next builder.old builder.new start) }
     ensures inside { IfOk result (λ start. start < length builder.new.states) }
@@ -130,7 +131,7 @@ fn compile_concat(
 ) -> Result<StateID, Memory>
     requires next { next < length builder.old.states }
     requires room { HasRoom builder.old groups.now (greatest_in (expressions subs.now)) }
-    requires fits { length builder.old.states + accounted_in (expressions subs.now) ≤ 2147483647 }
+    requires fits { length builder.old.states + accounted_in (expressions subs.now) ≤ id_limit }
     ensures built { IfOk result (λ start. Built (build_in_turn (slot_from groups.now.first_slot) (expressions subs.now)) next builder.old builder.new start) }
     ensures inside { IfOk result (λ start. start < length builder.new.states) }
     ensures count { OnOk result (length builder.new.states ≤ length builder.old.states + accounted_in (expressions subs.now)) }
@@ -155,7 +156,7 @@ fn compile_alternation(
 ) -> Result<StateID, Memory>
     requires next { next < length builder.old.states }
     requires room { HasRoom builder.old groups.now (greatest_in (expressions subs.now)) }
-    requires fits { length builder.old.states + (accounted_in (expressions subs.now) + 1) ≤ 2147483647 }
+    requires fits { length builder.old.states + (accounted_in (expressions subs.now) + 1) ≤ id_limit }
     ensures built { IfOk result (λ start. Built (build_choice (build_each (slot_from groups.now.first_slot) (expressions subs.now))) next builder.old builder.new start) }
     ensures inside { IfOk result (λ start. start < length builder.new.states) }
     ensures count { OnOk result (length builder.new.states ≤ length builder.old.states + (accounted_in (expressions subs.now) + 1)) }
@@ -182,7 +183,7 @@ fn compile_repetition(
     requires next { next < length builder.old.states }
     requires room { HasRoom builder.old groups.now (greatest_group repetition.now.sub.value) }
     requires ordered { IfSome repetition.now.max (λ m. repetition.now.min ≤ m) }
-    requires fits { length builder.old.states + states_of_copies repetition.now.min repetition.now.max (accounted_states repetition.now.sub.value) ≤ 2147483647 }
+    requires fits { length builder.old.states + states_of_copies repetition.now.min repetition.now.max (accounted_states repetition.now.sub.value) ≤ id_limit }
     ensures built { IfOk result (λ start. Built (build_repetition (is_positive (minimum_len repetition.now.sub.value)) repetition.now.min repetition.now.max
         repetition.now.greedy (build (slot_from groups.now.first_slot) repetition.now.sub.value)) next builder.old builder.new start) }
     ensures inside { IfOk result (λ start. start < length builder.new.states) }
@@ -217,7 +218,7 @@ fn compile_tail(
 ) -> Result<StateID, Memory>
     requires next { next < length builder.old.states }
     requires room { HasRoom builder.old groups.now (greatest_group repetition.now.sub.value) }
-    requires fits { length builder.old.states + states_of_tail repetition.now.min repetition.now.max (accounted_states repetition.now.sub.value) ≤ 2147483647 }
+    requires fits { length builder.old.states + states_of_tail repetition.now.min repetition.now.max (accounted_states repetition.now.sub.value) ≤ id_limit }
     ensures built { IfOk result (λ start. Built (tail (is_positive (minimum_len repetition.now.sub.value)) repetition.now.min repetition.now.max
         repetition.now.greedy (build (slot_from groups.now.first_slot) repetition.now.sub.value)) next builder.old builder.new start) }
     ensures inside { IfOk result (λ start. start < length builder.new.states) }
@@ -247,7 +248,7 @@ fn compile_unbounded(
 ) -> Result<StateID, Memory>
     requires next { next < length builder.old.states }
     requires room { HasRoom builder.old groups.now (greatest_group repetition.now.sub.value) }
-    requires fits { length builder.old.states + states_of_tail repetition.now.min None (accounted_states repetition.now.sub.value) ≤ 2147483647 }
+    requires fits { length builder.old.states + states_of_tail repetition.now.min None (accounted_states repetition.now.sub.value) ≤ id_limit }
     ensures built { IfOk result (λ start. Built (tail (is_positive (minimum_len repetition.now.sub.value)) repetition.now.min None
         repetition.now.greedy (build (slot_from groups.now.first_slot) repetition.now.sub.value)) next builder.old builder.new start) }
     ensures inside { IfOk result (λ start. start < length builder.new.states) }
@@ -296,7 +297,7 @@ fn compile_loop(
 ) -> Result<Turn, Memory>
     requires next { next < length builder.old.states }
     requires room { HasRoom builder.old groups.now (greatest_group repetition.now.sub.value) }
-    requires fits { length builder.old.states + (accounted_states repetition.now.sub.value + 1) ≤ 2147483647 }
+    requires fits { length builder.old.states + (accounted_states repetition.now.sub.value + 1) ≤ id_limit }
     ensures from_choice { IfOk result (λ turn. Built (loop repetition.now.greedy (build (slot_from groups.now.first_slot) repetition.now.sub.value)) next builder.old builder.new turn.choice) }
     ensures from_body { IfOk result (λ turn. Built (loop_once repetition.now.greedy (build (slot_from groups.now.first_slot) repetition.now.sub.value)) next builder.old builder.new turn.body) }
     ensures inside { IfOk result (λ turn. (turn.choice < length builder.new.states) × (turn.body < length builder.new.states)) }
@@ -321,7 +322,7 @@ fn compile_options(
 ) -> Result<StateID, Memory>
     requires next { next < length builder.old.states }
     requires room { HasRoom builder.old groups.now (greatest_group repetition.now.sub.value) }
-    requires fits { length builder.old.states + count * (accounted_states repetition.now.sub.value + 1) ≤ 2147483647 }
+    requires fits { length builder.old.states + count * (accounted_states repetition.now.sub.value + 1) ≤ id_limit }
     ensures built { IfOk result (λ start. Built (options repetition.now.greedy count (build (slot_from groups.now.first_slot) repetition.now.sub.value)) next builder.old builder.new start) }
     ensures inside { IfOk result (λ start. start < length builder.new.states) }
     ensures count { OnOk result (length builder.new.states ≤ length builder.old.states + count * (accounted_states repetition.now.sub.value + 1)) }

@@ -1,6 +1,7 @@
 //! Which slots the states of patterns write.
 ghost use Rattle.std.specs.Prelude.{◌≡◌, ◌+◌, ◌*◌, ◌<◌, ◌≤◌, suc, length, IfSome, option_map};
 ghost use Rattle.rx_model.specs.Search.{greatest_group};
+ghost use Rattle.rx_search.specs.Limits.{id_limit, slot_limit};
 ghost use Rattle.rx_nfa.specs.Built.{whole_slot};
 ghost use Rattle.rx_nfa.specs.Compiled.{slots_of, slots_written, first_slot_of};
 ghost use Rattle.rx_nfa.specs.Config.{captures_kind};
@@ -11,7 +12,7 @@ use rx_search::PatternID;
 
 /// How many of the first slots the states may write, where there are so many slots.
 pub fn slots_written(which: WhichCaptures, exprs: &[Hir], slot_len: usize) -> usize
-    requires few { length exprs.now ≤ 2147483647 }
+    requires few { length exprs.now ≤ id_limit }
     requires slots { slot_len ≡ slots_of exprs.now }
     ensures { result ≡ slots_written (captures_kind which) exprs.now }
 {
@@ -35,7 +36,7 @@ pub fn whole_slot(which: WhichCaptures, pattern: PatternID) -> Option<usize>
 
 /// The first slot of the groups that the first pattern names, if they are told.
 pub fn first_slot(which: WhichCaptures, exprs: &[Hir]) -> Option<usize>
-    requires { length exprs.now ≤ 2147483647 }
+    requires { length exprs.now ≤ id_limit }
     ensures { result ≡ first_slot_of (captures_kind which) exprs.now 0 }
 {
     match which {
@@ -47,7 +48,7 @@ pub fn first_slot(which: WhichCaptures, exprs: &[Hir]) -> Option<usize>
 
 /// The first slot of the groups that the pattern after this one names.
 pub fn slot_after(first_slot: Option<usize>, hir: &Hir) -> Option<usize>
-    requires { IfSome first_slot (λ first. first + 2 * greatest_group hir.now ≤ 2147483646) }
+    requires { IfSome first_slot (λ first. first + 2 * greatest_group hir.now ≤ slot_limit) }
     ensures { result ≡ option_map (λ first. first + 2 * greatest_group hir.now) first_slot }
 {
     match first_slot {
@@ -58,7 +59,7 @@ pub fn slot_after(first_slot: Option<usize>, hir: &Hir) -> Option<usize>
 
 /// The second slot of a group.
 pub fn second_slot(slot: Option<usize>) -> Option<usize>
-    requires { IfSome slot (λ first. first < 2147483646) }
+    requires { IfSome slot (λ first. first < slot_limit) }
     ensures { result ≡ option_map suc slot }
 {
     match slot {

@@ -55,6 +55,22 @@ impl PlaceTable {
         ensures { result ≡ first_span (map vec_items self.now.needles.items) text.now from }
     {
         let mut at = from;
+        while self.stride + self.stride < text.len() - at {
+            if let Some(span) = self.in_two_windows(text, at) {
+                return Some(span);
+            }
+            at += self.stride + self.stride;
+        }
+        self.window_by_window(text, at)
+    }
+
+    /// The same, a window at a time.
+    fn window_by_window(&self, text: &[u8], from: usize) -> Option<Span>
+        requires table { IsPlaceTable self.now }
+        requires within { from ≤ length text.now }
+        ensures { result ≡ first_span (map vec_items self.now.needles.items) text.now from }
+    {
+        let mut at = from;
         while self.stride < text.len() - at {
             if let Some(span) = self.in_window(text, at) {
                 return Some(span);
@@ -62,6 +78,24 @@ impl PlaceTable {
             at += self.stride;
         }
         None
+    }
+
+    /// The same among the places of two windows from `at` on, with one test for both.
+    #[inline(always)]
+    fn in_two_windows(&self, text: &[u8], at: usize) -> Option<Span>
+        requires table { IsPlaceTable self.now }
+        requires within { at + (self.now.stride + self.now.stride) < length text.now }
+        ensures { result ≡ span_among (map vec_items self.now.needles.items) text.now at (self.now.stride + self.now.stride) }
+    {
+        let first = self.places[pair_at(text, at + self.stride - 1)];
+        let second = self.places[pair_at(text, at + self.stride + self.stride - 1)];
+        if first | second == 0 {
+            return None;
+        }
+        if let Some(span) = self.in_window(text, at) {
+            return Some(span);
+        }
+        self.in_window(text, at + self.stride)
     }
 
     /// The same among the `stride` places from `at` on. The pair at the last of them tells which of them may begin a
@@ -72,7 +106,17 @@ impl PlaceTable {
         requires within { at + self.now.stride < length text.now }
         ensures { result ≡ span_among (map vec_items self.now.needles.items) text.now at self.now.stride }
     {
-        if self.places[pair_at(text, at + self.stride - 1)] == 0 {
+        let last = self.places[pair_at(text, at + self.stride - 1)];
+        if last == 0 {
+            return None;
+        }
+        if last & 1 != 0 {
+            return self.place_by_place(text, at);
+        }
+        if self.stride == 1 {
+            return None;
+        }
+        if self.places[pair_at(text, at + self.stride - 2)] & (last >> 1) == 0 {
             return None;
         }
         self.place_by_place(text, at)

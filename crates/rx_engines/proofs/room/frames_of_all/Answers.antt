@@ -14,6 +14,6 @@ loop-q-preserved c =
     let more = frames_of_states-more c.args.states.now c.loop-q.q in
     let read : c.index-states-q.result ≡ state_at c.args.states.now c.loop-q.q = c.index-states-q.is ∙ get_or_default c.args.states.now c.loop-q.q _ _ (omega arith) in
     let size = c.frames_of.ensures ∙ ap frames_of_state read in
-    let e = c.in-Some.ensures in
+    let sum = c.saturating_add-frames.ensures in
     let was = c.loop-q.invariant in
     omega arith

@@ -1,4 +1,5 @@
-use Rattle.std.proofs.Common.{sym, ◌∙◌}
+use Rattle.std.proofs.Common.{sym, ap, ◌∙◌}
+use Rattle.rx_meta.specs.Error.{error_of}
 use Rattle.rx_meta.proofs.ReadingLemmas.{first-read, first-count, refused-first}
 use Rattle.rx_meta.proofs.reading.read_patterns.Goals as goal
 
@@ -9,5 +10,6 @@ returns-in-Ok c = (
 )
 
 pub returns-in-Err : goal.returns-in-Err
-returns-in-Err c = λ config count.
-    refused-first c.args.config.now config count c.args.patterns.now c.min.result c.in-Err.error _ c.min.ensures c.of_patterns.ensures c.in-Err.ensures.value
+returns-in-Err c = λ config.
+    refused-first c.args.config.now config c.args.patterns.now c.min.result c.in-Err.error c.from.result c.min.ensures
+    (c.from.ensures ∙ ap error_of c.of_patterns.ensures) c.in-Err.ensures.value

@@ -2,4 +2,4 @@ use Rattle.rx_model.proofs.SkipLemmas.{skip-to}
 use Rattle.rx_model.proofs.matches.starts_without_a_run_may_be_skipped.Goals as goal
 
 pub returns : goal.returns
-returns c = λ r text b a n none. skip-to r text b n a none
+returns c = skip-to

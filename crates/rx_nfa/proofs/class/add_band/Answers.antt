@@ -1,5 +1,6 @@
 use Rattle.std.proofs.Common.{◌≤◌, ◌+◌, ◌*◌, ◌∙◌, sym, subst, length, arith}
 use Rattle.rx_model.specs.Text.{is_member}
+use Rattle.rx_search.specs.Limits.{id_limit}
 use Rattle.rx_nfa.specs.Row.{IsReader}
 use Rattle.rx_nfa.specs.Trie.{IsRow, IsReady}
 use Rattle.rx_nfa.specs.Ranges.{RisesFrom, StaysBelow, size_of_block, whole_depths, ends_in, clip}
@@ -24,7 +25,7 @@ deepen-requires-clause-room c =
     let rises = RisesFrom-clip c.args.band.low c.args.band.high c.requires.ordered.0 0 c.args.ranges.now c.requires.rises in
     let cost = parts_cost c.args.band.children.depth 0 (clip c.args.band.low c.args.band.high c.args.ranges.now) c.args.band.children.start (c.args.band.children.start + c.args.band.children.len * size_of_block c.args.band.children.depth) c.requires.deep rises in
     let room = c.requires.room in
-    subst (λ parts. length c.args.states.now.items + whole_depths c.args.band.children.depth parts ≤ 2147483647) (sym is) (omega arith)
+    subst (λ parts. length c.args.states.now.items + whole_depths c.args.band.children.depth parts ≤ id_limit) (sym is) (omega arith)
 
 pub row-requires-clause-rises : goal.row-requires-clause-rises
 row-requires-clause-rises c =
@@ -40,7 +41,7 @@ row-requires-clause-room c =
     let cost = parts_cost c.args.band.children.depth 0 (clip c.args.band.low c.args.band.high c.args.ranges.now) c.args.band.children.start end c.requires.deep rises in
     let deepened = rw parts at c.in_ok-deepen.ensures.count in
     let room = c.requires.room in
-    subst (λ ps. length c.deepen.new.states.items + c.args.band.children.depth * ends_in ps c.args.band.children.start end ≤ 2147483647) (sym is) (omega arith)
+    subst (λ ps. length c.deepen.new.states.items + c.args.band.children.depth * ends_in ps c.args.band.children.start end ≤ id_limit) (sym is) (omega arith)
 
 pub returns-clause-ready : goal.returns-clause-ready
 returns-clause-ready c =

@@ -3,6 +3,7 @@ use Rattle.std.proofs.lemmas.List.{length-append, length-map}
 use Rattle.std.proofs.lemmas.Option.{slice_get_within}
 use Rattle.std.specs.Prelude.{true, IfSome, option_map}
 use Rattle.rx_model.specs.Search.{greatest_group}
+use Rattle.rx_search.specs.Limits.{slot_limit}
 use Rattle.rx_nfa.specs.Built.{HasPart, part_of}
 use Rattle.rx_search.specs.GroupInfo.{groups_at, slot_of_group}
 use Rattle.rx_hir.specs.Names.{group_names}
@@ -60,7 +61,7 @@ pub slot_after-first_slot-requires : goal.slot_after-first_slot-requires
 slot_after-first_slot-requires c =
     let which = captures_kind c.args.which in
     let there = groups-there which c.args.exprs.now c.loop-hir.hir-index c.hir-item.result (omega arith) c.hir-item.is in
-    room-more c.loop-hir.first_slot (2 * greatest_group c.hir-item.result) (slots_of c.args.exprs.now) 2147483646 c.requires.few.slots
+    room-more c.loop-hir.first_slot (2 * greatest_group c.hir-item.result) (slots_of c.args.exprs.now) slot_limit c.requires.few.slots
     (subst (λ o. IfSome o (λ first. first + 2 * greatest_group c.hir-item.result ≤ slots_of c.args.exprs.now)) (sym c.loop-hir.invariant.first_slot) there)
 
 pub loop-hir-preserved : goal.loop-hir-preserved

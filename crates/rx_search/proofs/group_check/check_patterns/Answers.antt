@@ -1,6 +1,7 @@
 use Rattle.std.proofs.Common.{ℕ, ◌≡◌, ◌<◌, [], Err, None, MatchResult, take, length, get_or, ap, sym, ◌∙◌, arith, subst, inl}
 use Rattle.std.proofs.lemmas.Result.{err_from_is_err_and}
-use Rattle.rx_search.specs.GroupInfo.{groups_of, names_of, fault_of, first_fault, id_limit, IsFault, IsRefusal}
+use Rattle.rx_search.specs.Limits.{id_limit}
+use Rattle.rx_search.specs.GroupInfo.{groups_of, names_of, fault_of, first_fault, IsFault, IsRefusal}
 use Rattle.rx_search.proofs.FaultLemmas.{group_at, length-groups_of, too_many_patterns, fault_is_refusal, no_fault-more, no_fault-all}
 use Rattle.rx_search.proofs.group_check.check_patterns.Goals as goal
 

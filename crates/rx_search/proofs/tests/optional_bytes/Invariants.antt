@@ -1,4 +1,4 @@
-use Rattle.std.specs.Prelude.{map}
+use Rattle.std.specs.Prelude.{◌≡◌, false, map}
 use Rattle.rx_search.specs.Example.{optional_byte}
 use Rattle.rx_search.specs.Input.{whole}
 use Rattle.rx_search.specs.Matches.{match_value}
@@ -7,8 +7,10 @@ use Rattle.rx_search.proofs.SearcherLemmas.{Progress}
 use Rattle.rx_search.proofs.tests.optional_bytes.Given as goal
 
 abbrev pub invariant-loop-rows : goal.invariant-loop-rows
-invariant-loop-rows l =
-    Progress (optional_byte l.finder.byte) match_value (map match_value (successive (optional_byte l.byte) (whole l.text))) l.rows.items l.searcher
+invariant-loop-rows l = record {
+  progress : Progress (optional_byte l.finder.byte) match_value (map match_value (successive (optional_byte l.byte) (whole l.text))) l.rows.items l.searcher;
+  whole : l.searcher.input.earliest ≡ false;
+}
 
 abbrev pub decreases-loop-rows : goal.decreases-loop-rows
 decreases-loop-rows l = places_left l.searcher

@@ -1,4 +1,4 @@
-use Rattle.std.proofs.Common.{◌≡◌, ℕ, length}
+use Rattle.std.proofs.Common.{◌≡◌, ℕ, length, false}
 use Rattle.std.specs.Prelude.{map}
 use Rattle.rx_model.specs.Search.{Match}
 use Rattle.rx_search.specs.Example.{optional_byte}
@@ -13,6 +13,7 @@ end_at m = m.trace.end
 abbrev pub invariant-loop-rows : goal.invariant-loop-rows
 invariant-loop-rows l = record {
   progress : Progress (optional_byte l.finder.byte.now) end_at (map end_at (successive (optional_byte l.fn.byte) (whole l.text))) l.rows.items l.searcher;
+  whole : l.searcher.input.earliest ≡ false;
   one_slot : length l.finder.slots.now ≡ 1;
 }
 

@@ -5,5 +5,5 @@ use Rattle.rx_class.proofs.class.ClassUnicode.case_fold_simple.Given as goal
 
 abbrev pub invariant-loop-low : goal.invariant-loop-low
 invariant-loop-low l =
-    l.folded.items ++ flat_map (joined_to_one fold_pairs) (drop l.low-index l.low-items)
-    ≡ l.low-items ++ flat_map (joined_to_one fold_pairs) l.low-items
+    l.folded.items ++ flat_map (joined_to_one fold_pairs) (drop l.low-index l.ranges)
+    ≡ l.ranges ++ flat_map (joined_to_one fold_pairs) l.ranges

@@ -16,12 +16,12 @@ loop-state-init c = record {
   width = refl;
 }
 
-pub returns-in-Accept-clause-followed : goal.returns-in-Accept-clause-followed
-returns-in-Accept-clause-followed c before goal base x =
+pub returns-in-Stop-clause-followed : goal.returns-in-Stop-clause-followed
+returns-in-Stop-clause-followed c before goal base x =
     let v = c.loop-state.invariant in
     let t = inserts-at c.args.search.now c.loop-state.visited c.insert.new.self c.insert.result c.loop-state.state c.loop-state.place c.index.result v.state v.above v.below c.index.ensures.value c.index.ensures.within c.insert.ensures.new c.insert.ensures.after in
-    let stepped = rw c.in-Accept.is at c.step.ensures.stepped in
-    rw (c.new.ensures, stepped.1) (inserted-accepts t c.loop-state-test.true c.in-Accept.pattern stepped.0 (v.followed before goal base x))
+    let stepped = rw c.in-Stop.is at c.step.ensures.stepped in
+    rw (c.new.ensures, stepped.1) (inserted-accepts t c.loop-state-test.true c.in-Stop.pattern stepped.0 (v.followed before goal base x))
 
 pub loop-state-smaller : goal.loop-state-smaller
 loop-state-smaller c =

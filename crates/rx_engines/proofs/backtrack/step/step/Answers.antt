@@ -1,4 +1,4 @@
-use Rattle.std.proofs.Common.{◌≡◌, ◌+◌, ◌∷◌, [], length, refl, ◌∙◌, ap, arith}
+use Rattle.std.proofs.Common.{◌≡◌, ℕ, ◌+◌, ◌∷◌, [], length, refl, ◌∙◌, ap, arith}
 use Rattle.std.specs.Prelude.{Some, None, if◌then◌else◌}
 use Rattle.rx_model.specs.Look.{holds}
 use Rattle.rx_search.specs.Look.{kind_of}
@@ -6,7 +6,8 @@ use Rattle.rx_nfa.specs.Automaton.{at, forwards, byte_at, target_of}
 use Rattle.rx_nfa.specs.declared.state.Transition.{Transition}
 use Rattle.rx_nfa.proofs.StateLemmas.{accepted-is, state-known, names-known}
 use Rattle.rx_engines.specs.Search.{graph_for}
-use Rattle.rx_engines.specs.Backtrack.{onto}
+use Rattle.rx_engines.specs.Onward.{onto}
+use Rattle.rx_engines.proofs.CloseLemmas.{going-onto}
 use Rattle.rx_engines.proofs.YieldLemmas.{reads-onto, looks-onto, Stepped-onto, Yields-unwritten, Yields-saved, AllWithin-read, AllWithin-looked, AllWithin-union}
 use Rattle.rx_engines.proofs.backtrack.step.step.Goals as goal
 
@@ -15,48 +16,48 @@ returns-in-ByteRange-clause-stepped c =
     let s = c.args.search.now in
     let is = state-known s.states.now _ c.args.state _ _ c.as_usize.ensures.value c.requires.state c.index-states-as_usize.is c.in-ByteRange.is in
     let read : Transition = record { start = c.in-ByteRange.start; end = c.in-ByteRange.end; next = c.in-ByteRange.next } in
-    let goes : c.toward.result ≡ onto (target_of (read ∷ []) (byte_at s.text.now s.end c.args.place)) (c.args.place + 1) =
-    c.toward.ensures ∙ ap (λ o. onto o (c.args.place + 1)) (c.in_range.ensures ∙ ap (target_of (read ∷ [])) c.byte_at-byte.ensures) in
+    let goes : c.to.result ≡ onto (target_of (read ∷ []) (byte_at s.text.now s.end c.args.place)) (c.args.place + 1) =
+    c.to.ensures ∙ ap (λ o. onto o (c.args.place + 1)) (c.in_range.ensures ∙ ap (target_of (read ∷ [])) c.byte_at-byte.ensures) in
     rw goes
     (Stepped-onto (graph_for s) (at c.args.state c.args.place) (target_of (read ∷ []) (byte_at s.text.now s.end c.args.place)) (c.args.place + 1) _ _ _ _
     (Yields-unwritten s.matcher s.states.now s.text.now s.end c.args.state c.args.place c.requires.state c.requires.place.1 _ is refl refl _ _ _
-    (reads-onto s.text.now s.end (read ∷ []) c.args.place c.args.stack.now.items)))
+    (reads-onto ℕ s.text.now s.end (read ∷ []) c.args.place c.args.stack.now.items)))
 
 pub returns-in-Sparse-clause-stepped : goal.returns-in-Sparse-clause-stepped
 returns-in-Sparse-clause-stepped c =
     let s = c.args.search.now in
     let is = state-known s.states.now _ c.args.state _ _ c.as_usize.ensures.value c.requires.state c.index-states-as_usize.is c.in-Sparse.is in
-    let goes : c.toward-in-Sparse.result ≡ onto (target_of c.in-Sparse.transitions (byte_at s.text.now s.end c.args.place)) (c.args.place + 1) =
-    c.toward-in-Sparse.ensures ∙ ap (λ o. onto o (c.args.place + 1)) (c.in_any.ensures ∙ (λ j. target_of (c.as_slice.ensures j) (c.byte_at-byte-in-Sparse.ensures j))) in
+    let goes : c.to-in-Sparse.result ≡ onto (target_of c.in-Sparse.transitions (byte_at s.text.now s.end c.args.place)) (c.args.place + 1) =
+    c.to-in-Sparse.ensures ∙ ap (λ o. onto o (c.args.place + 1)) (c.in_any.ensures ∙ (λ j. target_of (c.as_slice.ensures j) (c.byte_at-byte-in-Sparse.ensures j))) in
     rw goes
     (Stepped-onto (graph_for s) (at c.args.state c.args.place) (target_of c.in-Sparse.transitions (byte_at s.text.now s.end c.args.place)) (c.args.place + 1) _ _ _ _
     (Yields-unwritten s.matcher s.states.now s.text.now s.end c.args.state c.args.place c.requires.state c.requires.place.1 _ is refl refl _ _ _
-    (reads-onto s.text.now s.end c.in-Sparse.transitions c.args.place c.args.stack.now.items)))
+    (reads-onto ℕ s.text.now s.end c.in-Sparse.transitions c.args.place c.args.stack.now.items)))
 
 pub returns-in-Sparse-clause-inside : goal.returns-in-Sparse-clause-inside
 returns-in-Sparse-clause-inside c =
     let s = c.args.search.now in
     let is = state-known s.states.now _ c.args.state _ _ c.as_usize.ensures.value c.requires.state c.index-states-as_usize.is c.in-Sparse.is in
-    let goes : c.toward-in-Sparse.result ≡ onto (target_of c.in-Sparse.transitions (byte_at s.text.now s.end c.args.place)) (c.args.place + 1) =
-    c.toward-in-Sparse.ensures ∙ ap (λ o. onto o (c.args.place + 1)) (c.in_any.ensures ∙ (λ j. target_of (c.as_slice.ensures j) (c.byte_at-byte-in-Sparse.ensures j))) in
+    let goes : c.to-in-Sparse.result ≡ onto (target_of c.in-Sparse.transitions (byte_at s.text.now s.end c.args.place)) (c.args.place + 1) =
+    c.to-in-Sparse.ensures ∙ ap (λ o. onto o (c.args.place + 1)) (c.in_any.ensures ∙ (λ j. target_of (c.as_slice.ensures j) (c.byte_at-byte-in-Sparse.ensures j))) in
     rw goes
-    (AllWithin-read (length s.states.now) s.first s.end s.text.now c.in-Sparse.transitions c.args.place c.args.stack.now.items c.requires.place.0
+    (AllWithin-read ℕ (length s.states.now) s.first s.end s.text.now c.in-Sparse.transitions c.args.place c.args.stack.now.items c.requires.place.0
     (names-known s.states.now c.args.state _ c.requires.search.names c.requires.state is) c.requires.inside)
 
 pub returns-in-Union-clause-stepped : goal.returns-in-Union-clause-stepped
 returns-in-Union-clause-stepped c =
     let s = c.args.search.now in
     let is = state-known s.states.now _ c.args.state _ _ c.as_usize.ensures.value c.requires.state c.index-states-as_usize.is c.in-Union.is in
-    rw c.toward-in-Union.ensures
+    rw c.to-in-Union.ensures
     (Stepped-onto (graph_for s) (at c.args.state c.args.place) c.choose-first.result c.args.place _ _ _ _
     (Yields-unwritten s.matcher s.states.now s.text.now s.end c.args.state c.args.place c.requires.state c.requires.place.1 _ is refl refl _ _ _
-    (rw c.as_slice-in-Union.ensures at c.choose-first.ensures.chosen)))
+    (going-onto ℕ c.choose-first.result c.args.place c.choose-first.new.stack.items ∙ rw c.as_slice-in-Union.ensures at c.choose-first.ensures.chosen)))
 
 pub returns-in-Union-clause-inside : goal.returns-in-Union-clause-inside
 returns-in-Union-clause-inside c =
     let s = c.args.search.now in
     let is = state-known s.states.now _ c.args.state _ _ c.as_usize.ensures.value c.requires.state c.index-states-as_usize.is c.in-Union.is in
-    rw (c.toward-in-Union.ensures, c.choose-first.ensures.chosen, c.as_slice-in-Union.ensures)
+    rw (c.to-in-Union.ensures, going-onto ℕ c.choose-first.result c.args.place c.choose-first.new.stack.items, c.choose-first.ensures.chosen, c.as_slice-in-Union.ensures)
     (AllWithin-union (length s.states.now) s.first s.end c.args.place c.in-Union.alternates c.args.stack.now.items c.requires.place.0 c.requires.place.1
     (names-known s.states.now c.args.state _ c.requires.search.names c.requires.state is) c.requires.inside)
 
@@ -118,20 +119,20 @@ returns-in-Look-clause-stepped c =
     let s = c.args.search.now in
     let is = state-known s.states.now _ c.args.state _ _ c.as_usize.ensures.value c.requires.state c.index-states-as_usize.is c.in-Look.is in
     let yes = holds s.matcher s.text.now (kind_of c.in-Look.look) c.args.place in
-    let goes : c.toward-in-Look.result ≡ onto (if yes then Some c.in-Look.next else None) c.args.place =
-    c.toward-in-Look.ensures ∙ ap (λ o. onto o c.args.place) c.look_on-next.ensures in
+    let goes : c.to-in-Look.result ≡ onto (if yes then Some c.in-Look.next else None) c.args.place =
+    c.to-in-Look.ensures ∙ ap (λ o. onto o c.args.place) c.look_on-next.ensures in
     rw goes
     (Stepped-onto (graph_for s) (at c.args.state c.args.place) (if yes then Some c.in-Look.next else None) c.args.place _ _ _ _
     (Yields-unwritten s.matcher s.states.now s.text.now s.end c.args.state c.args.place c.requires.state c.requires.place.1 _ is refl refl _ _ _
-    (looks-onto yes c.in-Look.next c.args.place c.args.stack.now.items)))
+    (looks-onto ℕ yes c.in-Look.next c.args.place c.args.stack.now.items)))
 
 pub returns-in-Look-clause-inside : goal.returns-in-Look-clause-inside
 returns-in-Look-clause-inside c =
     let s = c.args.search.now in
     let is = state-known s.states.now _ c.args.state _ _ c.as_usize.ensures.value c.requires.state c.index-states-as_usize.is c.in-Look.is in
     let yes = holds s.matcher s.text.now (kind_of c.in-Look.look) c.args.place in
-    let goes : c.toward-in-Look.result ≡ onto (if yes then Some c.in-Look.next else None) c.args.place =
-    c.toward-in-Look.ensures ∙ ap (λ o. onto o c.args.place) c.look_on-next.ensures in
+    let goes : c.to-in-Look.result ≡ onto (if yes then Some c.in-Look.next else None) c.args.place =
+    c.to-in-Look.ensures ∙ ap (λ o. onto o c.args.place) c.look_on-next.ensures in
     rw goes
-    (AllWithin-looked (length s.states.now) s.first s.end yes c.in-Look.next c.args.place c.args.stack.now.items
+    (AllWithin-looked ℕ (length s.states.now) s.first s.end yes c.in-Look.next c.args.place c.args.stack.now.items
     (names-known s.states.now c.args.state _ c.requires.search.names c.requires.state is) c.requires.place.0 c.requires.place.1 c.requires.inside)

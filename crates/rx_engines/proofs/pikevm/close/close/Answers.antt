@@ -29,7 +29,7 @@ loop-frame-init c =
       room = c.follow.ensures.set ∙ c.requires.set;
       rows = c.follow.ensures.table ∙ c.requires.table;
       width = c.follow.ensures.width;
-      widest = c.follow.ensures.widest;
+      capacity = c.follow.ensures.capacity;
       slots_len = c.follow.ensures.slots;
       stack_room = c.follow.ensures.stack;
     }
@@ -47,7 +47,7 @@ loop-frame-preserved-in-Restore c =
       room = c.loop-frame.invariant.room;
       rows = c.loop-frame.invariant.rows;
       width = c.loop-frame.invariant.width;
-      widest = c.loop-frame.invariant.widest;
+      capacity = c.loop-frame.invariant.capacity;
       slots_len = omega arith;
       stack_room = omega arith;
     })
@@ -67,7 +67,7 @@ loop-frame-preserved c =
       room = c.follow-in-Explore.ensures.set ∙ c.loop-frame.invariant.room;
       rows = c.follow-in-Explore.ensures.table ∙ c.loop-frame.invariant.rows;
       width = c.follow-in-Explore.ensures.width ∙ c.loop-frame.invariant.width;
-      widest = c.follow-in-Explore.ensures.widest ∙ c.loop-frame.invariant.widest;
+      capacity = c.follow-in-Explore.ensures.capacity ∙ c.loop-frame.invariant.capacity;
       slots_len = c.follow-in-Explore.ensures.slots ∙ c.loop-frame.invariant.slots_len;
       stack_room = c.follow-in-Explore.ensures.stack ∙ c.pop.ensures.room ∙ c.loop-frame.invariant.stack_room;
     }

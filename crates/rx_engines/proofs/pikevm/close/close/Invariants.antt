@@ -5,7 +5,7 @@ use Rattle.rx_engines.specs.Search.{graph_until}
 use Rattle.rx_engines.specs.declared.frame.Frame.TheVariants.{Explore}
 use Rattle.rx_engines.specs.Walk.{AllWithin}
 use Rattle.rx_nfa.specs.Ordered.{IsStable}
-use Rattle.rx_engines.specs.Simulation.{Hit, Waits, frames_to_come}
+use Rattle.rx_engines.specs.Simulation.{Hit, Waits, frames_to_come, room_of}
 use Rattle.rx_engines.proofs.pikevm.close.close.Given as goal
 
 abbrev pub invariant-loop-frame : goal.invariant-loop-frame
@@ -18,7 +18,7 @@ invariant-loop-frame l = record {
   room : l.threads.set.room ≡ length l.search.states.now;
   rows : length l.threads.table.items ≡ length l.search.states.now;
   width : l.threads.table.width ≡ l.fn.threads.table.width;
-  widest : l.threads.table.widest ≡ l.fn.threads.table.widest;
+  capacity : room_of l.threads ≡ room_of l.fn.threads;
   slots_len : length l.slots ≡ length l.fn.slots;
   stack_room : l.stack.room ≡ l.fn.stack.room;
 }

@@ -7,7 +7,7 @@ use Rattle.rx_engines.proofs.CloseLemmas.{not-true, not-false}
 use Rattle.rx_engines.proofs.LineLemmas.{frames-less}
 use Rattle.rx_nfa.proofs.ClosureLemmas.{found-rests}
 use Rattle.rx_nfa.proofs.LaterLemmas.{automaton-steps}
-use Rattle.rx_nfa.proofs.PlaceLemmas.{passed_at-has, passed_at-elsewhere}
+use Rattle.rx_nfa.proofs.PlaceLemmas.{left-less, passed_at-has, passed_at-elsewhere}
 use Rattle.rx_engines.proofs.SimulationLemmas.{Waits-passed, Waits-moves, Waits-rests}
 use Rattle.rx_engines.proofs.pikevm.close.follow.Goals as goal
 
@@ -20,7 +20,7 @@ loop-state-init c = record {
   room = refl;
   rows = refl;
   width = refl;
-  widest = refl;
+  capacity = refl;
   slots_len = refl;
   stack_room = refl;
 }
@@ -36,14 +36,14 @@ visit-requires-clause-room c =
     let room = v.stack_room in
     omega arith
 
-pub returns-in-Rest-clause-followed : goal.returns-in-Rest-clause-followed
-returns-in-Rest-clause-followed c end later goal le stable w =
+pub returns-in-Stop-clause-followed : goal.returns-in-Stop-clause-followed
+returns-in-Stop-clause-followed c end later goal le stable w =
     let v = c.loop-state.invariant in
     let items = c.loop-state.threads.set.items in
     let q = c.loop-state.state in
     let new : has items q ≡ false = not-true _ (sym c.loop-state-test.true ∙ c.insert.ensures.new) in
     let more = rw c.loop-state-test.true at c.insert.ensures.after in
-    let seen = rw c.in-Rest.is at c.visit.ensures.visited in
+    let seen = rw c.in-Stop.is at c.visit.ensures.visited in
     let rows = v.rows in
     let table = c.requires.table in
     let inside = v.state in
@@ -53,14 +53,14 @@ returns-in-Rest-clause-followed c end later goal le stable w =
     (found-rests (forwards c.args.search.now.matcher c.args.search.now.text.now) c.args.search.now.states.now end _ (automaton-steps (forwards c.args.search.now.matcher c.args.search.now.text.now) c.args.search.now.states.now end) (passed_at items c.args.place) q c.args.place v.state le seen.0 (passed_at-has items c.args.place q ∙ new)
     (λ d lt. passed_at-elsewhere items c.args.place d (omega arith))))
 
-pub returns-in-Rest-clause-less : goal.returns-in-Rest-clause-less
-returns-in-Rest-clause-less c =
+pub returns-in-Stop-clause-less : goal.returns-in-Stop-clause-less
+returns-in-Stop-clause-less c =
     let v = c.loop-state.invariant in
     let states = c.args.search.now.states.now in
     let new : has c.loop-state.threads.set.items c.loop-state.state ≡ false = not-true _ (sym c.loop-state-test.true ∙ c.insert.ensures.new) in
     let left = frames-less states (length states) c.args.place c.loop-state.state c.loop-state.threads.set.items v.state new in
     let more = rw c.loop-state-test.true at c.insert.ensures.after in
-    let frames = rw c.in-Rest.is at c.visit.ensures.frames in
+    let frames = c.visit.ensures.frames in
     let less = v.less in
     rw more (omega arith)
 
@@ -69,9 +69,8 @@ loop-state-smaller c =
     let v = c.loop-state.invariant in
     let states = c.args.search.now.states.now in
     let new : has c.loop-state.threads.set.items c.loop-state.state ≡ false = not-true _ (sym c.loop-state-test.true ∙ c.insert.ensures.new) in
-    let left = frames-less states (length states) c.args.place c.loop-state.state c.loop-state.threads.set.items v.state new in
+    let left = left-less (length states) c.args.place c.loop-state.state c.loop-state.threads.set.items v.state new in
     let more = rw c.loop-state-test.true at c.insert.ensures.after in
-    let frames = rw c.in-On.is at c.visit.ensures.frames in
     rw more (omega arith)
 
 pub loop-state-preserved : goal.loop-state-preserved
@@ -82,9 +81,12 @@ loop-state-preserved c =
     let new : has items c.loop-state.state ≡ false = not-true _ (sym c.loop-state-test.true ∙ c.insert.ensures.new) in
     let left = frames-less states (length states) c.args.place c.loop-state.state items v.state new in
     let more = rw c.loop-state-test.true at c.insert.ensures.after in
-    let frames = rw c.in-On.is at c.visit.ensures.frames in
-    let inside = rw c.in-On.is at c.visit.ensures.inside in
-    let seen = rw c.in-On.is at c.visit.ensures.visited in
+    let frames = c.visit.ensures.frames in
+    let inside = rw c.in-To.is at c.visit.ensures.inside in
+    let above = inside.1 in
+    let below = inside.2 in
+    let here : c.in-To.place ≡ c.args.place = omega arith in
+    let seen = rw here at (rw c.in-To.is at c.visit.ensures.visited) in
     let less = v.less in
     rw more
     (record {
@@ -96,7 +98,7 @@ loop-state-preserved c =
       room = v.room;
       rows = v.rows;
       width = v.width;
-      widest = v.widest;
+      capacity = v.capacity;
       slots_len = c.visit.ensures.width ∙ v.slots_len;
       stack_room = c.visit.ensures.room ∙ v.stack_room;
     })
@@ -117,7 +119,7 @@ returns-in-Back-clause-less c =
     let new : has c.loop-state.threads.set.items c.loop-state.state ≡ false = not-true _ (sym c.loop-state-test.true ∙ c.insert.ensures.new) in
     let left = frames-less states (length states) c.args.place c.loop-state.state c.loop-state.threads.set.items v.state new in
     let more = rw c.loop-state-test.true at c.insert.ensures.after in
-    let frames = rw c.in-Back.is at c.visit.ensures.frames in
+    let frames = c.visit.ensures.frames in
     let less = v.less in
     rw more (omega arith)
 

@@ -4,8 +4,9 @@ use Rattle.rx_model.specs.Runs.{Passed}
 use Rattle.rx_engines.specs.Search.{graph_until}
 use Rattle.rx_engines.specs.declared.frame.Frame.TheVariants.{Explore}
 use Rattle.rx_engines.specs.Walk.{AllWithin}
-use Rattle.rx_nfa.specs.Ordered.{IsStable}
-use Rattle.rx_engines.specs.Simulation.{Hit, Waits, frames_to_come}
+use Rattle.rx_nfa.specs.Ordered.{IsStable, passed_at}
+use Rattle.rx_nfa.proofs.PlaceLemmas.{left_at}
+use Rattle.rx_engines.specs.Simulation.{Hit, Waits, frames_to_come, room_of}
 use Rattle.rx_engines.proofs.pikevm.close.follow.Given as goal
 
 abbrev pub invariant-loop-state : goal.invariant-loop-state
@@ -20,10 +21,10 @@ invariant-loop-state l = record {
   room : l.threads.set.room ≡ l.fn.threads.set.room;
   rows : length l.threads.table.items ≡ length l.fn.threads.table.items;
   width : l.threads.table.width ≡ l.fn.threads.table.width;
-  widest : l.threads.table.widest ≡ l.fn.threads.table.widest;
+  capacity : room_of l.threads ≡ room_of l.fn.threads;
   slots_len : length l.slots ≡ length l.fn.slots;
   stack_room : l.stack.room ≡ l.fn.stack.room;
 }
 
 abbrev pub decreases-loop-state : goal.decreases-loop-state
-decreases-loop-state l = frames_to_come l.search.states.now l.place l.threads.set.items + length l.stack.items
+decreases-loop-state l = left_at (length l.search.states.now) l.place (passed_at l.threads.set.items l.place)

@@ -5,10 +5,9 @@ use Rattle.rx_nfa.proofs.StateLemmas.{state-known, names-known}
 use Rattle.rx_engines.specs.declared.frame.Frame.TheVariants.{Explore}
 use Rattle.rx_engines.specs.Threads.{Frames}
 use Rattle.rx_nfa.specs.Ordered.{is_resting}
-use Rattle.rx_engines.specs.Simulation.{frames_of_state}
 use Rattle.rx_engines.proofs.WalkLemmas.{Expands-unwritten, Expands-written}
-use Rattle.rx_engines.proofs.CloseLemmas.{union-length, AllWithin-taken, taken-length, going-onto, going-looked, Visited-onward}
-use Rattle.rx_engines.proofs.YieldLemmas.{AllWithin-union}
+use Rattle.rx_engines.proofs.CloseLemmas.{AllWithin-taken, going-onto, Visited-onward}
+use Rattle.rx_engines.proofs.YieldLemmas.{looks-onto, AllWithin-union}
 use Rattle.rx_engines.proofs.pikevm.close.visit.Goals as goal
 
 pub returns-in-Capture-clause-visited : goal.returns-in-Capture-clause-visited
@@ -23,23 +22,29 @@ pub returns-in-Union-clause-visited : goal.returns-in-Union-clause-visited
 returns-in-Union-clause-visited c =
     let is = state-known c.args.search.now.states.now _ c.args.state _ _ c.as_usize.ensures.value c.requires.state c.index-states-as_usize.is c.in-Union.is in
     let left = c.choose-first.new.stack.items in
-    rw c.onward-in-Union.ensures
-    (Visited-onward c.args.search.now.matcher c.args.search.now.states.now c.args.search.now.text.now c.args.state c.args.place c.choose-first.result _ left _ _ (ap is_resting is)
+    rw c.to-in-Union.ensures
+    (Visited-onward (Unit {0}) c.args.search.now.matcher c.args.search.now.states.now c.args.search.now.text.now c.args.state c.args.place c.choose-first.result _ left _ _ (ap is_resting is)
     (λ end le. Expands-unwritten c.args.search.now.matcher c.args.search.now.states.now c.args.search.now.text.now end c.args.state c.args.place c.requires.state le _ is refl refl _ _ _
-    (going-onto c.choose-first.result c.args.place left ∙ rw c.as_slice.ensures at c.choose-first.ensures.chosen)))
+    (going-onto (Unit {0}) c.choose-first.result c.args.place left ∙ rw c.as_slice.ensures at c.choose-first.ensures.chosen)))
+
+pub choose-first-requires : goal.choose-first-requires
+choose-first-requires c =
+    let is = state-known c.args.search.now.states.now _ c.args.state _ _ c.as_usize.ensures.value c.requires.state c.index-states-as_usize.is c.in-Union.is in
+    let room = rw is at c.requires.room in
+    let same = ap length c.as_slice.ensures in
+    omega arith
 
 pub returns-in-Union-clause-frames : goal.returns-in-Union-clause-frames
 returns-in-Union-clause-frames c =
     let is = state-known c.args.search.now.states.now _ c.args.state _ _ c.as_usize.ensures.value c.requires.state c.index-states-as_usize.is c.in-Union.is in
-    let size = ap frames_of_state is in
-    let now = ap length (going-onto c.choose-first.result c.args.place c.choose-first.new.stack.items ∙ rw c.as_slice.ensures at c.choose-first.ensures.chosen) in
-    let many = union-length c.in-Union.alternates c.args.place c.args.stack.now.items in
-    rw c.onward-in-Union.ensures (omega arith)
+    let left = c.choose-first.ensures.frames in
+    let same = ap length c.as_slice.ensures in
+    rw is (omega arith)
 
 pub returns-in-Union-clause-inside : goal.returns-in-Union-clause-inside
 returns-in-Union-clause-inside c =
     let is = state-known c.args.search.now.states.now _ c.args.state _ _ c.as_usize.ensures.value c.requires.state c.index-states-as_usize.is c.in-Union.is in
-    rw (c.onward-in-Union.ensures, going-onto c.choose-first.result c.args.place c.choose-first.new.stack.items, c.choose-first.ensures.chosen, c.as_slice.ensures)
+    rw (c.to-in-Union.ensures, going-onto (Unit {0}) c.choose-first.result c.args.place c.choose-first.new.stack.items, c.choose-first.ensures.chosen, c.as_slice.ensures)
     (AllWithin-union (length c.args.search.now.states.now) c.args.place c.args.place c.args.place c.in-Union.alternates c.args.stack.now.items (omega arith) (omega arith) (names-known c.args.search.now.states.now c.args.state _ c.requires.search.names c.requires.state is) c.requires.inside)
 
 pub returns-in-Fail-clause-visited : goal.returns-in-Fail-clause-visited
@@ -52,23 +57,15 @@ returns-in-Fail-clause-visited c =
 pub returns-in-Look-clause-visited : goal.returns-in-Look-clause-visited
 returns-in-Look-clause-visited c =
     let is = state-known c.args.search.now.states.now _ c.args.state _ _ c.as_usize.ensures.value c.requires.state c.index-states-as_usize.is c.in-Look.is in
-    let goes = rw c.look_on-next.ensures at c.onward.ensures in
+    let goes = rw c.look_on-next.ensures at c.to.ensures in
     rw goes
-    (Visited-onward c.args.search.now.matcher c.args.search.now.states.now c.args.search.now.text.now c.args.state c.args.place _ _ c.args.stack.now.items _ _ (ap is_resting is)
+    (Visited-onward (Unit {0}) c.args.search.now.matcher c.args.search.now.states.now c.args.search.now.text.now c.args.state c.args.place _ _ c.args.stack.now.items _ _ (ap is_resting is)
     (λ end le. Expands-unwritten c.args.search.now.matcher c.args.search.now.states.now c.args.search.now.text.now end c.args.state c.args.place c.requires.state le _ is refl refl _ _ _
-    (going-looked _ c.in-Look.next c.args.place c.args.stack.now.items)))
-
-pub returns-in-Look-clause-frames : goal.returns-in-Look-clause-frames
-returns-in-Look-clause-frames c =
-    let is = state-known c.args.search.now.states.now _ c.args.state _ _ c.as_usize.ensures.value c.requires.state c.index-states-as_usize.is c.in-Look.is in
-    let goes = rw c.look_on-next.ensures at c.onward.ensures in
-    let size = ap frames_of_state is in
-    let one = taken-length (holds c.args.search.now.matcher c.args.search.now.text.now (kind_of c.in-Look.look) c.args.place) c.in-Look.next c.args.place c.args.stack.now.items in
-    rw (goes, going-looked _ c.in-Look.next c.args.place c.args.stack.now.items) (omega arith)
+    (looks-onto (Unit {0}) _ c.in-Look.next c.args.place c.args.stack.now.items)))
 
 pub returns-in-Look-clause-inside : goal.returns-in-Look-clause-inside
 returns-in-Look-clause-inside c =
     let is = state-known c.args.search.now.states.now _ c.args.state _ _ c.as_usize.ensures.value c.requires.state c.index-states-as_usize.is c.in-Look.is in
-    let goes = rw c.look_on-next.ensures at c.onward.ensures in
-    rw (goes, going-looked _ c.in-Look.next c.args.place c.args.stack.now.items)
+    let goes = rw c.look_on-next.ensures at c.to.ensures in
+    rw (goes, looks-onto (Unit {0}) _ c.in-Look.next c.args.place c.args.stack.now.items)
     (AllWithin-taken (length c.args.search.now.states.now) c.args.place (holds c.args.search.now.matcher c.args.search.now.text.now (kind_of c.in-Look.look) c.args.place) c.in-Look.next c.args.stack.now.items (names-known c.args.search.now.states.now c.args.state _ c.requires.search.names c.requires.state is) c.requires.inside)

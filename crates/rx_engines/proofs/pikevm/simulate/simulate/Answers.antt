@@ -26,8 +26,8 @@ loop-place-init c = record {
   next_rows = c.requires.table.1;
   curr_width = c.requires.width.0;
   next_width = c.requires.width.1;
-  curr_widest = refl;
-  next_widest = c.requires.width.3;
+  curr_capacity = refl;
+  next_capacity = c.requires.width.3;
   empty = c.requires.empty;
   stack_room = refl;
 }
@@ -131,6 +131,7 @@ loop-place-preserved c =
     let seeded = seed-fits s w s.end bh c.loop-place.place (passed_at c.loop-place.curr.set.items c.loop-place.place) c.loop-place.curr.table.items c.seed.new.threads.table.items c.loop-place.curr.set.items c.seed.new.threads.set.items c.loop-place.invariant.row_len (c.seed.ensures.seeded s.end bh (option_map (hit_of w) (next_until s s.end)) (omega arith) matched) c.loop-place.invariant.value in
     let cleared = c.clear-in-loop-place.ensures in
     let cleared_room = ap (λ (s : StateSet). s.room) cleared in
+    let next = c.loop-place.next.table in
     let unmatched : c.args.earliest ≡ true → c.better-best.result ≡ None =
     λ on. not-some c.better-best.result (and-false c.args.earliest (is_some c.better-best.result) (sym c.if-is_enough.false ∙ c.is_enough.ensures) on) in
     rw (c.swap.ensures.x_after, c.swap.ensures.y_after)
@@ -164,8 +165,8 @@ loop-place-preserved c =
       next_rows = c.seed.ensures.table ∙ c.loop-place.invariant.curr_rows;
       curr_width = c.step-found.ensures.width ∙ c.loop-place.invariant.next_width;
       next_width = c.seed.ensures.width ∙ c.loop-place.invariant.curr_width;
-      curr_widest = c.step-found.ensures.widest ∙ c.loop-place.invariant.next_widest;
-      next_widest = c.seed.ensures.widest ∙ c.loop-place.invariant.curr_widest;
+      curr_capacity = c.step-found.ensures.capacity ∙ ap (λ (s : StateSet). (s.capacity, (next.capacity, next.cells))) cleared ∙ c.loop-place.invariant.next_capacity;
+      next_capacity = c.seed.ensures.capacity ∙ c.loop-place.invariant.curr_capacity;
       empty = c.step-found.ensures.empty;
       stack_room = c.step-found.ensures.stack ∙ c.seed.ensures.stack ∙ c.loop-place.invariant.stack_room;
     })

@@ -2,7 +2,7 @@ use Rattle.std.proofs.Common.{◌≡◌, ◌≤◌, ◌<◌, ℕ, [], length}
 use Rattle.std.specs.Prelude.{true, None, replicate, IfNone}
 use Rattle.rx_engines.specs.Search.{next_until}
 use Rattle.rx_nfa.specs.Ordered.{passed_at}
-use Rattle.rx_engines.specs.Simulation.{best_hit}
+use Rattle.rx_engines.specs.Simulation.{best_hit, room_of}
 use Rattle.rx_engines.proofs.StageLemmas.{Stage}
 use Rattle.rx_engines.proofs.pikevm.simulate.simulate.Given as goal
 
@@ -22,8 +22,8 @@ invariant-loop-place l = record {
   next_rows : length l.next.table.items ≡ length l.search.states.now;
   curr_width : l.curr.table.width ≡ length l.fn.slots;
   next_width : l.next.table.width ≡ length l.fn.slots;
-  curr_widest : l.curr.table.widest ≡ l.fn.curr.table.widest;
-  next_widest : l.next.table.widest ≡ l.fn.curr.table.widest;
+  curr_capacity : room_of l.curr ≡ room_of l.fn.curr;
+  next_capacity : room_of l.next ≡ room_of l.fn.curr;
   empty : l.stack.items ≡ [];
   stack_room : l.stack.room ≡ l.fn.stack.room;
 }

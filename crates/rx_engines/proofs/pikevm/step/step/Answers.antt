@@ -3,9 +3,9 @@ use Rattle.rx_nfa.specs.Automaton.{automaton, forwards}
 use Rattle.rx_nfa.proofs.AutomatonLemmas.{automaton-bounded}
 use Rattle.rx_nfa.proofs.AutomatonLemmas.{automaton-rises}
 use Rattle.rx_engines.proofs.StepLemmas.{onward, onward-stable, Stepping-accepts, Stepping-reads, Stepping-ends, Stepping-over, Stepping-begun, acts-known, idle-known, idle-ends, idle-accepts, among-over}
-use Rattle.rx_engines.specs.declared.pikevm.step.Action.TheVariants.{Read, Nothing}
+use Rattle.rx_engines.specs.declared.onward.Onward.TheVariants.{To, Back}
 use Rattle.rx_engines.proofs.pikevm.step.step.Goals as goal
-use Rattle.rx_engines.proofs.pikevm.step.step.Goals.{in-Read, in-Nothing}
+use Rattle.rx_engines.proofs.pikevm.step.step.Goals.{in-To, in-Back}
 
 pub loop-k-init : goal.loop-k-init
 loop-k-init c = record {
@@ -14,70 +14,70 @@ loop-k-init c = record {
   room = c.requires.set.1;
   rows = c.requires.table.1;
   width = refl;
-  widest = refl;
+  capacity = refl;
   slots_len = refl;
   kept = refl;
   empty = c.requires.empty;
   stack_room = refl;
 }
 
-pub returns-in-Accept-clause-stepped : goal.returns-in-Accept-clause-stepped
-returns-in-Accept-clause-stepped c end later goal le byte stable value =
-    let acts = acts-known c.args.search.now.matcher c.args.search.now.states.now c.args.search.now.text.now end c.get-state.result c.args.place c.requires.search.names (omega arith) le _ _ _ _ c.as_usize.ensures.value c.index-states-as_usize.is (c.byte_at-byte.ensures ∙ sym byte) c.in-Accept.ensures in
+pub returns-in-Stop-clause-stepped : goal.returns-in-Stop-clause-stepped
+returns-in-Stop-clause-stepped c end later goal le byte stable value =
+    let acts = acts-known c.args.search.now.matcher c.args.search.now.states.now c.args.search.now.text.now end c.get-state.result c.args.place c.requires.search.names (omega arith) le _ _ _ _ _ c.as_usize.ensures.value c.index-states-as_usize.is (c.byte_at-byte.ensures ∙ sym byte) c.in-Stop.ensures in
     rw (c.start-start.ensures, c.copy_from_slice.ensures.after, c.slots.ensures.value)
     (Stepping-accepts (automaton-bounded (forwards c.args.search.now.matcher c.args.search.now.text.now) c.args.search.now.states.now end) c.args.curr.now.set.items c.loop-k.k c.get-state.result (omega arith) c.get-state.ensures.value
-    (c.loop-k.invariant.stepping end later goal le byte stable value) c.in-Accept.pattern acts.0 acts.1)
+    (c.loop-k.invariant.stepping end later goal le byte stable value) c.in-Stop.pattern acts.0 acts.1)
 
-pub returns-in-Accept-clause-accepted : goal.returns-in-Accept-clause-accepted
-returns-in-Accept-clause-accepted c =
+pub returns-in-Stop-clause-accepted : goal.returns-in-Stop-clause-accepted
+returns-in-Stop-clause-accepted c =
     rw (c.start-start.ensures, c.copy_from_slice.ensures.after, c.slots.ensures.value)
     (c.loop-k.invariant.accepting
-    ∙ idle-accepts c.args.search.now.matcher c.args.search.now.states.now c.args.search.now.text.now c.get-state.result c.args.place c.requires.search.names (omega arith) c.args.curr.now.table.items c.args.curr.now.set.items c.loop-k.k c.in-Accept.pattern (omega arith) c.get-state.ensures.value
-    (idle-known c.args.search.now.matcher c.args.search.now.states.now c.args.search.now.text.now c.get-state.result c.args.place c.requires.search.names (omega arith) c.args.curr.now.table.items _ _ _ _ c.as_usize.ensures.value c.index-states-as_usize.is c.in-Accept.ensures))
+    ∙ idle-accepts c.args.search.now.matcher c.args.search.now.states.now c.args.search.now.text.now c.get-state.result c.args.place c.requires.search.names (omega arith) c.args.curr.now.table.items c.args.curr.now.set.items c.loop-k.k c.in-Stop.pattern (omega arith) c.get-state.ensures.value
+    (idle-known c.args.search.now.matcher c.args.search.now.states.now c.args.search.now.text.now c.get-state.result c.args.place c.requires.search.names (omega arith) c.args.curr.now.table.items _ _ _ _ _ c.as_usize.ensures.value c.index-states-as_usize.is c.in-Stop.ensures))
 
 pub loop-k-preserved : goal.loop-k-preserved
 loop-k-preserved c =
     elim c.match-act.branch [
-      | in-Read w ↦
+      | in-To w ↦
           rw (w.next-is, w.stack-is, w.slots-is)
           (record {
             stepping = λ end later goal le byte stable value.
-                (let acts = acts-known c.args.search.now.matcher c.args.search.now.states.now c.args.search.now.text.now end c.get-state.result c.args.place c.requires.search.names (omega arith) le _ _ _ _ c.as_usize.ensures.value c.index-states-as_usize.is (c.byte_at-byte.ensures ∙ sym byte) w.in-Read.ensures in
+                (let acts = acts-known c.args.search.now.matcher c.args.search.now.states.now c.args.search.now.text.now end c.get-state.result c.args.place c.requires.search.names (omega arith) le _ _ _ _ _ c.as_usize.ensures.value c.index-states-as_usize.is (c.byte_at-byte.ensures ∙ sym byte) w.in-To.ensures in
                 let waits = Stepping-reads (automaton-bounded (forwards c.args.search.now.matcher c.args.search.now.text.now) c.args.search.now.states.now end) c.args.curr.now.set.items c.loop-k.k c.get-state.result (omega arith) c.get-state.ensures.value
-                (c.loop-k.invariant.stepping end later goal le byte stable value) (automaton-rises (forwards c.args.search.now.matcher c.args.search.now.text.now) c.args.search.now.states.now end) w.in-Read.target acts.0 acts.3 acts.4 acts.5 in
+                (c.loop-k.invariant.stepping end later goal le byte stable value) (automaton-rises (forwards c.args.search.now.matcher c.args.search.now.text.now) c.args.search.now.states.now end) w.in-To.target acts.0 acts.3 acts.4 acts.5 in
                 let closed = w.close.ensures.closed end (onward c.args.search.now.states.now (automaton c.args.search.now.matcher c.args.search.now.states.now c.args.search.now.text.now end) c.args.place c.args.curr.now.table.items (drop (c.loop-k.k + 1) c.args.curr.now.set.items) later) goal
                 (let lt = acts.2 in omega arith)
                 (onward-stable c.args.search.now.states.now (automaton c.args.search.now.matcher c.args.search.now.states.now c.args.search.now.text.now end) c.args.place c.args.curr.now.table.items (drop (c.loop-k.k + 1) c.args.curr.now.set.items) later stable)
-                (rw (w.start.ensures, w.copy_from_slice-in-Read.ensures.after, w.slots-in-Read.ensures.value) waits) in
+                (rw (w.start.ensures, w.copy_from_slice-in-To.ensures.after, w.slots-in-To.ensures.value) waits) in
                 record { value = closed.value });
             accepting =
                 c.loop-k.invariant.accepting
-                ∙ idle-ends c.args.search.now.matcher c.args.search.now.states.now c.args.search.now.text.now c.get-state.result c.args.place c.requires.search.names (omega arith) c.args.curr.now.table.items c.args.curr.now.set.items c.loop-k.k (Read w.in-Read.target) (omega arith) c.get-state.ensures.value refl
-                (idle-known c.args.search.now.matcher c.args.search.now.states.now c.args.search.now.text.now c.get-state.result c.args.place c.requires.search.names (omega arith) c.args.curr.now.table.items _ _ _ _ c.as_usize.ensures.value c.index-states-as_usize.is w.in-Read.ensures);
+                ∙ idle-ends c.args.search.now.matcher c.args.search.now.states.now c.args.search.now.text.now c.get-state.result c.args.place c.requires.search.names (omega arith) c.args.curr.now.table.items c.args.curr.now.set.items c.loop-k.k (To w.in-To.target w.in-To.place) (omega arith) c.get-state.ensures.value refl
+                (idle-known c.args.search.now.matcher c.args.search.now.states.now c.args.search.now.text.now c.get-state.result c.args.place c.requires.search.names (omega arith) c.args.curr.now.table.items _ _ _ _ _ c.as_usize.ensures.value c.index-states-as_usize.is w.in-To.ensures);
             room = w.close.ensures.set ∙ c.loop-k.invariant.room;
             rows = w.close.ensures.table ∙ c.loop-k.invariant.rows;
             width = w.close.ensures.width ∙ c.loop-k.invariant.width;
-            widest = w.close.ensures.widest ∙ c.loop-k.invariant.widest;
-            slots_len = w.close.ensures.slots ∙ w.copy_from_slice-in-Read.ensures.len ∙ c.loop-k.invariant.slots_len;
+            capacity = w.close.ensures.capacity ∙ c.loop-k.invariant.capacity;
+            slots_len = w.close.ensures.slots ∙ w.copy_from_slice-in-To.ensures.len ∙ c.loop-k.invariant.slots_len;
             kept = c.loop-k.invariant.kept;
             empty = w.close.ensures.empty;
             stack_room = w.close.ensures.stack ∙ c.loop-k.invariant.stack_room;
           })
-      | in-Nothing w ↦
+      | in-Back w ↦
           rw (w.next-is, w.stack-is, w.slots-is)
           (record {
             stepping = λ end later goal le byte stable value.
-                (let acts = acts-known c.args.search.now.matcher c.args.search.now.states.now c.args.search.now.text.now end c.get-state.result c.args.place c.requires.search.names (omega arith) le _ _ _ _ c.as_usize.ensures.value c.index-states-as_usize.is (c.byte_at-byte.ensures ∙ sym byte) w.in-Nothing.ensures in
+                (let acts = acts-known c.args.search.now.matcher c.args.search.now.states.now c.args.search.now.text.now end c.get-state.result c.args.place c.requires.search.names (omega arith) le _ _ _ _ _ c.as_usize.ensures.value c.index-states-as_usize.is (c.byte_at-byte.ensures ∙ sym byte) w.in-Back.ensures in
                 Stepping-ends (automaton-bounded (forwards c.args.search.now.matcher c.args.search.now.text.now) c.args.search.now.states.now end) c.args.curr.now.set.items c.loop-k.k c.get-state.result (omega arith) c.get-state.ensures.value
                 (c.loop-k.invariant.stepping end later goal le byte stable value) acts);
             accepting =
                 c.loop-k.invariant.accepting
-                ∙ idle-ends c.args.search.now.matcher c.args.search.now.states.now c.args.search.now.text.now c.get-state.result c.args.place c.requires.search.names (omega arith) c.args.curr.now.table.items c.args.curr.now.set.items c.loop-k.k Nothing (omega arith) c.get-state.ensures.value refl
-                (idle-known c.args.search.now.matcher c.args.search.now.states.now c.args.search.now.text.now c.get-state.result c.args.place c.requires.search.names (omega arith) c.args.curr.now.table.items _ _ _ _ c.as_usize.ensures.value c.index-states-as_usize.is w.in-Nothing.ensures);
+                ∙ idle-ends c.args.search.now.matcher c.args.search.now.states.now c.args.search.now.text.now c.get-state.result c.args.place c.requires.search.names (omega arith) c.args.curr.now.table.items c.args.curr.now.set.items c.loop-k.k Back (omega arith) c.get-state.ensures.value refl
+                (idle-known c.args.search.now.matcher c.args.search.now.states.now c.args.search.now.text.now c.get-state.result c.args.place c.requires.search.names (omega arith) c.args.curr.now.table.items _ _ _ _ _ c.as_usize.ensures.value c.index-states-as_usize.is w.in-Back.ensures);
             room = c.loop-k.invariant.room;
             rows = c.loop-k.invariant.rows;
             width = c.loop-k.invariant.width;
-            widest = c.loop-k.invariant.widest;
+            capacity = c.loop-k.invariant.capacity;
             slots_len = c.loop-k.invariant.slots_len;
             kept = c.loop-k.invariant.kept;
             empty = c.loop-k.invariant.empty;
@@ -96,10 +96,10 @@ returns-clause-accepted c =
 
 pub close-requires-clause-state : goal.close-requires-clause-state
 close-requires-clause-state c =
-    (acts-known c.args.search.now.matcher c.args.search.now.states.now c.args.search.now.text.now c.args.search.now.end c.get-state.result c.args.place c.requires.search.names (omega arith) c.requires.place _ _ _ _ c.as_usize.ensures.value c.index-states-as_usize.is c.byte_at-byte.ensures c.in-Read.ensures).1
+    (acts-known c.args.search.now.matcher c.args.search.now.states.now c.args.search.now.text.now c.args.search.now.end c.get-state.result c.args.place c.requires.search.names (omega arith) c.requires.place _ _ _ _ _ c.as_usize.ensures.value c.index-states-as_usize.is c.byte_at-byte.ensures c.in-To.ensures).1
 
 pub close-requires-clause-place : goal.close-requires-clause-place
 close-requires-clause-place c =
-    let lt = (acts-known c.args.search.now.matcher c.args.search.now.states.now c.args.search.now.text.now c.args.search.now.end c.get-state.result c.args.place c.requires.search.names (omega arith) c.requires.place _ _ _ _ c.as_usize.ensures.value c.index-states-as_usize.is c.byte_at-byte.ensures c.in-Read.ensures).2 in
+    let lt = (acts-known c.args.search.now.matcher c.args.search.now.states.now c.args.search.now.text.now c.args.search.now.end c.get-state.result c.args.place c.requires.search.names (omega arith) c.requires.place _ _ _ _ _ c.as_usize.ensures.value c.index-states-as_usize.is c.byte_at-byte.ensures c.in-To.ensures).2 in
     let within = c.requires.search.end in
     omega arith

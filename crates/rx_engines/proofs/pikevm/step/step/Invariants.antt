@@ -5,7 +5,7 @@ use Rattle.rx_model.specs.Runs.{Passed, nowhere}
 use Rattle.rx_engines.specs.Search.{graph_until}
 use Rattle.rx_nfa.specs.Automaton.{byte_at}
 use Rattle.rx_nfa.specs.Ordered.{IsStable}
-use Rattle.rx_engines.specs.Simulation.{Hit, among}
+use Rattle.rx_engines.specs.Simulation.{Hit, among, room_of}
 use Rattle.rx_engines.proofs.StepLemmas.{Stepping}
 use Rattle.rx_engines.proofs.pikevm.step.step.Given as goal
 
@@ -20,7 +20,7 @@ invariant-loop-k l = record {
   room : l.next.set.room ≡ length l.search.states.now;
   rows : length l.next.table.items ≡ length l.search.states.now;
   width : l.next.table.width ≡ l.fn.next.table.width;
-  widest : l.next.table.widest ≡ l.fn.next.table.widest;
+  capacity : room_of l.next ≡ room_of l.fn.next;
   slots_len : length l.slots ≡ length l.fn.slots;
   kept : l.best ≡ l.fn.best;
   empty : l.stack.items ≡ [];

@@ -1,9 +1,7 @@
-use Rattle.std.proofs.Common.{[], ◌∷◌, ◌++◌, ◌∙◌, List, sym, ap, subst, flat_map}
+use Rattle.std.proofs.Common.{[], ◌∷◌, ◌++◌, ◌∙◌, sym, ap, subst, flat_map}
 use Rattle.std.proofs.lemmas.List.{append-nil}
 use Rattle.std.proofs.lemmas.Grind.{flat_map-append}
-use Rattle.rx_model.specs.Expression.{Expression}
 use Rattle.rx_hir.specs.Normal.{joined, parts_of}
-use Rattle.rx_hir.specs.Joined.{and_then_all}
 use Rattle.rx_hir.specs.Rows.{Holds}
 use Rattle.rx_hir.proofs.JoinedLemmas.{joined-append}
 use Rattle.rx_hir.proofs.hir.Hir.concat.Goals as goal

@@ -2,6 +2,7 @@ use Rattle.std.proofs.Common.{slice_index, ◌≡◌, ◌≤◌, ◌+◌, ◌*�
 use Rattle.std.specs.Prelude.{Some}
 use Rattle.std.proofs.lemmas.Grind.{common_steps}
 use Rattle.rx_model.specs.Text.{is_member}
+use Rattle.rx_search.specs.Limits.{id_limit}
 use Rattle.rx_nfa.specs.Ranges.{size_of_block, ends_in}
 use Rattle.rx_nfa.specs.Row.{Ascends, IsReader}
 use Rattle.rx_nfa.specs.Trie.{IsBlock, IsRow}
@@ -46,7 +47,7 @@ block-row-requires t c =
                   rw c.new-transitions.ensures.items (omega arith),
                   (
                     CoversUpTo-less (c.args.depth - 1) c.args.depth _ c.args.ranges.now (omega arith) c.requires.enough,
-                    subst (λ s. length c.args.states.now.items + (c.args.depth - 1) * ends_in c.args.ranges.now c.args.start (c.args.start + s) ≤ 2147483647) size (omega arith),
+                    subst (λ s. length c.args.states.now.items + (c.args.depth - 1) * ends_in c.args.ranges.now c.args.start (c.args.start + s) ≤ id_limit) size (omega arith),
                   ),
                 ),
               ),

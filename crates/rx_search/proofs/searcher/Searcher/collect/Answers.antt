@@ -1,9 +1,16 @@
-use Rattle.std.proofs.Common.{refl}
-use Rattle.rx_search.proofs.SearcherLemmas.{Progress-begun, Progress-more, Progress-over, AnswersAlike-begun, AnswersAlike-more}
+use Rattle.std.proofs.Common.{refl, inl}
+use Rattle.std.proofs.lemmas.Result.{err_from_is_err_and}
+use Rattle.rx_search.proofs.SearcherLemmas.{Progress-begun, Progress-more, Progress-over, AnswersAlike-begun, AnswersAlike-more, IsLeft-begun, IsLeft-more, HasCause-left}
 use Rattle.rx_search.proofs.searcher.Searcher.collect.Goals as goal
 
 pub loop-all-init : goal.loop-all-init
-loop-all-init g c = record { progress = Progress-begun _ refl c.new-all.ensures.items; can = c.requires; alike = AnswersAlike-begun _ }
+loop-all-init g c = record {
+  progress = λ promised. Progress-begun _ refl c.new-all.ensures.items;
+  can = c.requires;
+  promised = λ promised. promised;
+  alike = AnswersAlike-begun _;
+  left = IsLeft-begun _;
+}
 
 pub advance-requires : goal.advance-requires
 advance-requires g c = c.loop-all.invariant.can
@@ -12,13 +19,27 @@ pub loop-all-smaller : goal.loop-all-smaller
 loop-all-smaller g c = rw c.in-Some.is at c.in_ok-found.ensures.fewer_left
 
 pub loop-all-preserved : goal.loop-all-preserved
-loop-all-preserved g c = record {
-  progress =
-      Progress-more c.loop-all.invariant.progress c.in-Some.is c.in_ok-found.ensures.answer c.in_ok-found.ensures.moved
-      c.in_ok-found.ensures.fewer_left c.in_ok-found.ensures.same_answers (λ x next value. value) c.in_ok-push.ensures.items;
-  can = c.in_ok-found.ensures.can_go_on;
-  alike = AnswersAlike-more c.loop-all.invariant.alike c.in_ok-found.ensures.same_answers c.in_ok-found.ensures.still_can c.in_ok-found.ensures.stays;
-}
+loop-all-preserved g c =
+    let i = c.loop-all.invariant in
+    record {
+      progress = λ promised.
+          Progress-more (i.progress promised) c.in-Some.is (c.in_ok-found.ensures.answer (i.promised promised)) c.in_ok-found.ensures.moved
+          c.in_ok-found.ensures.fewer_left c.in_ok-found.ensures.same_answers (λ x next value. value) c.in_ok-push.ensures.items;
+      can = c.in_ok-found.ensures.can_go_on;
+      promised = λ promised. c.in_ok-found.ensures.goes_on (i.promised promised);
+      alike =
+          AnswersAlike-more i.alike c.in_ok-found.ensures.same_answers c.in_ok-found.ensures.still_can c.in_ok-found.ensures.still_promises
+          c.in_ok-found.ensures.same_failures c.in_ok-found.ensures.stays;
+      left = IsLeft-more _ _ i.left c.in-Some.is c.in_ok-found.ensures.moved c.in_ok-found.ensures.forward;
+    }
 
 pub returns-clause-value : goal.returns-clause-value
-returns-clause-value g c = Progress-over c.loop-all.invariant.progress c.in_default.is c.in_ok-found.ensures.answer
+returns-clause-value g c = λ promised.
+    let i = c.loop-all.invariant in
+    Progress-over (i.progress promised) c.in_default.is (c.in_ok-found.ensures.answer (i.promised promised))
+
+pub returns-in_err-found-clause-cause : goal.returns-in_err-found-clause-cause
+returns-in_err-found-clause-cause g c =
+    let i = c.loop-all.invariant in
+    let p = err_from_is_err_and c.from_residual.result c.from_residual.ensures.1 in
+    rw (p.1, p.2) (inl (HasCause-left (g.F.Finder.fails c.args.finder.now) (g.F.Finder.fails c.loop-all.finder) i.alike.same_failures _ _ _ i.left c.in_err-found.ensures.cause))

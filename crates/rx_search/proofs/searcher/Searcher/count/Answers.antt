@@ -1,17 +1,20 @@
 use Rattle.std.proofs.Common.{ℕ, ◌+◌, ◌<◌, ◌≤◌, [], ◌∷◌, ◌++◌, length, refl, sym, ◌∙◌, ap, arith, length-append}
 use Rattle.std.specs.Prelude.{Option, Some, None}
 use Rattle.std.proofs.lemmas.List.{length-map}
+use Rattle.std.proofs.lemmas.Result.{err_from_is_err_and}
 use Rattle.rx_search.specs.Input.{InputValue}
 use Rattle.rx_search.specs.Searcher.{places_left, places_after, to_come}
-use Rattle.rx_search.proofs.SearcherLemmas.{Progress-begun, Progress-more, Progress-over, AnswersAlike-begun, AnswersAlike-more}
+use Rattle.rx_search.proofs.SearcherLemmas.{Progress-begun, Progress-more, Progress-over, AnswersAlike-begun, AnswersAlike-more, IsLeft-begun, IsLeft-more, HasCause-left}
 use Rattle.rx_search.proofs.searcher.Searcher.count.Invariants.{one}
 use Rattle.rx_search.proofs.searcher.Searcher.count.Goals as goal
 
 pub loop-count-init : goal.loop-count-init
 loop-count-init g c = record {
-  counted = record { so_far = []; progress = Progress-begun _ refl refl; counted = refl };
+  counted = λ promised. record { so_far = []; progress = Progress-begun _ refl refl; counted = refl };
   can = c.requires;
+  promised = λ promised. promised;
   alike = AnswersAlike-begun _;
+  left = IsLeft-begun _;
   room = omega arith;
 }
 
@@ -42,22 +45,47 @@ loop-count-preserved g c =
     let less : places_left c.advance.new.self < places_left c.loop-count.self = rw c.in-Some.is at c.in_ok-advance.ensures.fewer_left in
     let room = i.room in
     record {
-      counted = record {
-        so_far = i.counted.so_far ++ tt ∷ [];
-        progress =
-            Progress-more i.counted.progress c.in-Some.is c.in_ok-advance.ensures.answer c.in_ok-advance.ensures.moved
-            c.in_ok-advance.ensures.fewer_left c.in_ok-advance.ensures.same_answers (λ x next value. refl) refl;
-        counted = length-append i.counted.so_far (tt ∷ []) ∙ ap (λ n. n + 1) i.counted.counted;
-      };
+      counted = λ promised.
+          let before = i.counted promised in
+          record {
+            so_far = before.so_far ++ tt ∷ [];
+            progress =
+                Progress-more before.progress c.in-Some.is (c.in_ok-advance.ensures.answer (i.promised promised)) c.in_ok-advance.ensures.moved
+                c.in_ok-advance.ensures.fewer_left c.in_ok-advance.ensures.same_answers (λ x next value. refl) refl;
+            counted = length-append before.so_far (tt ∷ []) ∙ ap (λ n. n + 1) before.counted;
+          };
       can = c.in_ok-advance.ensures.can_go_on;
-      alike = AnswersAlike-more i.alike c.in_ok-advance.ensures.same_answers c.in_ok-advance.ensures.still_can c.in_ok-advance.ensures.stays;
+      promised = λ promised. c.in_ok-advance.ensures.goes_on (i.promised promised);
+      alike =
+          AnswersAlike-more i.alike c.in_ok-advance.ensures.same_answers c.in_ok-advance.ensures.still_can c.in_ok-advance.ensures.still_promises
+          c.in_ok-advance.ensures.same_failures c.in_ok-advance.ensures.stays;
+      left = IsLeft-more _ _ i.left c.in-Some.is c.in_ok-advance.ensures.moved c.in_ok-advance.ensures.forward;
       room = omega arith;
     }
 
 pub returns-clause-value : goal.returns-clause-value
-returns-clause-value g c =
-    let i = c.loop-count.invariant.counted in
+returns-clause-value g c = λ promised.
+    let i = c.loop-count.invariant in
     let all = to_come (g.F.Finder.searches c.args.finder.now) c.args.self in
-    sym i.counted
-    ∙ ap length (Progress-over i.progress c.in_default.is c.in_ok-advance.ensures.answer)
+    let counted = i.counted promised in
+    sym counted.counted
+    ∙ ap length (Progress-over counted.progress c.in_default.is (c.in_ok-advance.ensures.answer (i.promised promised)))
     ∙ length-map all one
+
+pub returns-in_err-advance-clause-cause : goal.returns-in_err-advance-clause-cause
+returns-in_err-advance-clause-cause g c =
+    let i = c.loop-count.invariant in
+    let p = err_from_is_err_and c.from_residual.result c.from_residual.ensures.1 in
+    rw (p.1, p.2) (HasCause-left (g.F.Finder.fails c.args.finder.now) (g.F.Finder.fails c.loop-count.finder) i.alike.same_failures _ _ _ i.left c.in_err-advance.ensures.cause)
+
+pub returns-in_err-advance-clause-still_promises : goal.returns-in_err-advance-clause-still_promises
+returns-in_err-advance-clause-still_promises g c = λ v promised. c.in_err-advance.ensures.still_promises v (c.loop-count.invariant.alike.still_promises v promised)
+
+pub returns-in_err-advance-clause-same_failures : goal.returns-in_err-advance-clause-same_failures
+returns-in_err-advance-clause-same_failures g c = λ v e cause. c.loop-count.invariant.alike.same_failures v e (c.in_err-advance.ensures.same_failures v e cause)
+
+pub returns-clause-still_promises : goal.returns-clause-still_promises
+returns-clause-still_promises g c = λ v promised. c.in_ok-advance.ensures.still_promises v (c.loop-count.invariant.alike.still_promises v promised)
+
+pub returns-clause-same_failures : goal.returns-clause-same_failures
+returns-clause-same_failures g c = λ v e cause. c.loop-count.invariant.alike.same_failures v e (c.in_ok-advance.ensures.same_failures v e cause)

@@ -1,9 +1,9 @@
 use Rattle.std.proofs.Common.{◌≡◌, ℕ, ◌+◌, ◌≤◌, List, length}
 use Rattle.std.specs.Prelude.{Option, map}
 use Rattle.rx_model.specs.Search.{Match}
-use Rattle.rx_search.specs.Input.{InputValue, from_place}
-use Rattle.rx_search.specs.Searcher.{SearcherValue, places_left, to_come}
-use Rattle.rx_search.proofs.SearcherLemmas.{Progress, AnswersAlike}
+use Rattle.rx_search.specs.Input.{InputValue}
+use Rattle.rx_search.specs.Searcher.{SearcherValue, places_left, to_come, AtEachPlace}
+use Rattle.rx_search.proofs.SearcherLemmas.{Progress, AnswersAlike, IsLeft}
 use Rattle.rx_search.proofs.searcher.Searcher.count.Given as goal
 
 -- one for each match
@@ -17,9 +17,12 @@ pub record Counted (searches : InputValue → Option Match) (all : List Match) (
 
 abbrev pub invariant-loop-count : goal.invariant-loop-count
 invariant-loop-count g l = record {
-  counted : Counted (g.F.Finder.searches l.finder) (to_come (g.F.Finder.searches l.fn.finder) l.fn.self) l.count l.self;
-  can : (i : ℕ) → g.F.Finder.can_search l.finder (from_place i l.self.input);
-  alike : AnswersAlike g.F.Finder.searches g.F.Finder.can_search g.F.Finder.keeps l.fn.finder l.finder;
+  counted : AtEachPlace (g.F.Finder.promises l.fn.finder) l.fn.self.input
+      → Counted (g.F.Finder.searches l.finder) (to_come (g.F.Finder.searches l.fn.finder) l.fn.self) l.count l.self;
+  can : AtEachPlace (g.F.Finder.can_search l.finder) l.self.input;
+  promised : AtEachPlace (g.F.Finder.promises l.fn.finder) l.fn.self.input → AtEachPlace (g.F.Finder.promises l.finder) l.self.input;
+  alike : AnswersAlike g.F.Finder.searches g.F.Finder.can_search g.F.Finder.promises g.F.Finder.fails g.F.Finder.keeps l.fn.finder l.finder;
+  left : IsLeft l.fn.self.input l.self.input;
   room : l.count + places_left l.self ≤ places_left l.fn.self;
 }
 

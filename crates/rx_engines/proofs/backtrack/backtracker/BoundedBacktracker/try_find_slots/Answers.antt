@@ -1,8 +1,9 @@
 use Rattle.std.proofs.Common.{◌≤◌, refl, sym, ◌∙◌, ap, subst, arith}
 use Rattle.std.specs.Prelude.{option_map, IfSome}
 use Rattle.rx_search.specs.Matches.{match_value}
-use Rattle.rx_engines.specs.Engine.{HasSlots}
-use Rattle.rx_engines.specs.Bounded.{max_len, span_len}
+use Rattle.rx_search.specs.Told.{HasSlots}
+use Rattle.rx_search.specs.Input.{span_len}
+use Rattle.rx_engines.specs.Bounded.{max_len}
 use Rattle.rx_engines.proofs.EngineLemmas.{search-inside, next-is}
 use Rattle.rx_engines.proofs.BoundedLemmas.{patterns-met, found-in_span, slots-met, extent-small, extent-fits, frames-fit}
 use Rattle.rx_engines.proofs.SpanLemmas.{empty-within, told-within}
@@ -63,7 +64,7 @@ pub returns-clause-slots : goal.returns-clause-slots
 returns-clause-slots c =
     let same = c.self.view_is in
     let m = next-is c.args.self.now c.args.input.now c.in-Some.search (rw same at c.in-Some.ensures.some) in
-    slots-met c.args.self.now c.args.input.now (rw same at c.of.ensures.in_range) c.requires.slots _ m c.find.new.slots c.find.ensures.slots
+    slots-met c.args.self.now c.args.input.now (rw same at c.of.ensures.in_range) (rw same at c.in-Some.ensures.some).slots _ m c.find.new.slots c.find.ensures.slots
 
 pub returns-clause-within : goal.returns-clause-within
 returns-clause-within c =
@@ -83,5 +84,5 @@ returns-clause-slots_within c =
     let same = c.self.view_is in
     let m = next-is c.args.self.now c.args.input.now c.in-Some.search (rw same at c.in-Some.ensures.some) in
     told-within c.args.self.now c.args.self.now.utf8 c.args.input.now c.args.input.now.end (omega arith) _ refl c.find.new.slots
-    (slots-met c.args.self.now c.args.input.now (rw same at c.of.ensures.in_range) c.requires.slots _ m c.find.new.slots c.find.ensures.slots)
+    (slots-met c.args.self.now c.args.input.now (rw same at c.of.ensures.in_range) (rw same at c.in-Some.ensures.some).slots _ m c.find.new.slots c.find.ensures.slots)
     _ (λ none. rw (c.find.ensures.value ∙ ap (option_map match_value) (m ∙ none)) at c.find.ensures.none)

@@ -12,7 +12,7 @@ overflow_cast-place c =
     let room = ap (λ (s : StateSet). s.room) c.self.view_is in
     let ok = c.self.inside.dense.ok.0 in
     let new : has dense c.args.state ≡ false = ap (λ (s : StateSet). has s.items c.args.state) c.self.view_is ∙ sym c.contains.ensures ∙ c.if-contains.false in
-    let below = sparse-room dense sparse c.self.invariant.0 c.args.state (omega arith) new in
+    let below = sparse-room c.self.inside.room dense sparse c.self.invariant.0 c.args.state (omega arith) new in
     omega arith
 
 pub push_reserved-requires : goal.push_reserved-requires
@@ -22,7 +22,7 @@ push_reserved-requires c =
     let room = ap (λ (s : StateSet). s.room) c.self.view_is in
     let ok = c.self.inside.dense.ok.0 in
     let new : has dense c.args.state ≡ false = ap (λ (s : StateSet). has s.items c.args.state) c.self.view_is ∙ sym c.contains.ensures ∙ c.if-contains.false in
-    let below = sparse-room dense sparse c.self.invariant.0 c.args.state (omega arith) new in
+    let below = sparse-room c.self.inside.room dense sparse c.self.invariant.0 c.args.state (omega arith) new in
     omega arith
 
 pub invariant_of-self : goal.invariant_of-self
@@ -35,4 +35,4 @@ invariant_of-self c =
     let place : c.len-place.result ≡ length dense = omega arith in
     let size = length-set sparse c.args.state (length dense) in
     rw (c.push_reserved.ensures.items, place, c.as_usize.ensures.value)
-    (sparse-push dense sparse c.self.invariant.0 c.args.state (omega arith) new, omega arith, omega arith)
+    (sparse-push c.self.inside.room dense sparse c.self.invariant.0 c.self.invariant.1 c.args.state (omega arith) new, omega arith, omega arith, omega arith)

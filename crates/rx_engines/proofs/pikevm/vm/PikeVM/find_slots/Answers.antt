@@ -1,8 +1,9 @@
 use Rattle.std.proofs.Common.{sym, ◌∙◌, ap, subst, refl, arith}
 use Rattle.std.specs.Prelude.{is_some, option_map, IfSome}
 use Rattle.rx_search.specs.Matches.{match_value}
-use Rattle.rx_engines.specs.Engine.{PikeVMValue, HasSlots, stop_in}
-use Rattle.rx_engines.proofs.EngineLemmas.{answer_in-none, patterns-agree, stop-within, search-inside, next-is, answer-is, reported-is_match, value-within, slots-told}
+use Rattle.rx_search.specs.Told.{HasSlots}
+use Rattle.rx_engines.specs.Engine.{PikeVMValue, stop_in}
+use Rattle.rx_engines.proofs.EngineLemmas.{answer_in-none, patterns-agree, stop-within, search-inside, room-met, next-is, answer-is, reported-is_match, value-within, slots-told}
 use Rattle.rx_engines.proofs.SpanLemmas.{empty-within, told-within}
 use Rattle.rx_engines.proofs.pikevm.vm.PikeVM.find_slots.Goals as goal
 
@@ -39,6 +40,11 @@ find-requires-clause-search c =
     let same = ap (λ (e : PikeVMValue). e.nfa) c.self.view_is in
     search-inside c.args.self.now.nfa c.args.input.now c.in-Some.search (rw same at c.in-Some.ensures.some) (rw same at c.of.ensures.in_range) c.of.ensures.spanned.end
 
+pub find-requires-clause-room : goal.find-requires-clause-room
+find-requires-clause-room c =
+    let same = ap (λ (e : PikeVMValue). e.nfa) c.self.view_is in
+    room-met c.args.self.now.nfa c.args.input.now c.in-Some.search (rw same at c.in-Some.ensures.some) c.args.cache.now c.requires
+
 pub returns-clause-value : goal.returns-clause-value
 returns-clause-value c =
     let same = ap (λ (e : PikeVMValue). e.nfa) c.self.view_is in
@@ -53,13 +59,13 @@ pub returns-clause-slots : goal.returns-clause-slots
 returns-clause-slots c =
     let same = ap (λ (e : PikeVMValue). e.nfa) c.self.view_is in
     let told = answer-is c.args.self.now c.args.input.now c.in-Some.search (rw same at c.in-Some.ensures.some) c.get_earliest.ensures in
-    slots-told c.args.self.now c.args.input.now (rw same at c.of.ensures.in_range) c.requires.widest _ told c.find.new.slots c.find.ensures.slots
+    slots-told c.args.self.now c.args.input.now (rw same at c.of.ensures.in_range) (rw same at c.in-Some.ensures.some).slots _ told c.find.new.slots c.find.ensures.slots
 
 pub returns-clause-is_match : goal.returns-clause-is_match
 returns-clause-is_match c r of =
     let same = ap (λ (e : PikeVMValue). e.nfa) c.self.view_is in
     let told = answer-is c.args.self.now c.args.input.now c.in-Some.search (rw same at c.in-Some.ensures.some) c.get_earliest.ensures in
-    let slots = slots-told c.args.self.now c.args.input.now (rw same at c.of.ensures.in_range) c.requires.widest _ told c.find.new.slots c.find.ensures.slots in
+    let slots = slots-told c.args.self.now c.args.input.now (rw same at c.of.ensures.in_range) (rw same at c.in-Some.ensures.some).slots _ told c.find.new.slots c.find.ensures.slots in
     reported-is_match c.args.self.now c.args.input.now c.of.ensures.spanned.end c.in-Some.ensures.some.in_order r of c.find.new.slots _ told c.find.result c.find.ensures.value slots
 
 pub returns-clause-within : goal.returns-clause-within
@@ -72,6 +78,6 @@ pub returns-clause-slots_within : goal.returns-clause-slots_within
 returns-clause-slots_within c =
     let same = ap (λ (e : PikeVMValue). e.nfa) c.self.view_is in
     let told = answer-is c.args.self.now c.args.input.now c.in-Some.search (rw same at c.in-Some.ensures.some) c.get_earliest.ensures in
-    let slots = slots-told c.args.self.now c.args.input.now (rw same at c.of.ensures.in_range) c.requires.widest _ told c.find.new.slots c.find.ensures.slots in
+    let slots = slots-told c.args.self.now c.args.input.now (rw same at c.of.ensures.in_range) (rw same at c.in-Some.ensures.some).slots _ told c.find.new.slots c.find.ensures.slots in
     told-within c.args.self.now.nfa c.args.self.now.nfa.utf8 c.args.input.now (stop_in c.args.self.now c.args.input.now) (stop-within c.args.self.now c.args.input.now c.in-Some.ensures.some.in_order).1 _ refl c.find.new.slots
     slots _ (λ none. rw (c.find.ensures.value ∙ ap (option_map match_value) (told ∙ none)) at c.find.ensures.cleared)

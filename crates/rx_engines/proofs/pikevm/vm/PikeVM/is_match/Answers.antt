@@ -1,7 +1,7 @@
 use Rattle.std.proofs.Common.{sym, ◌∙◌, ap, arith}
 use Rattle.std.specs.Prelude.{is_some}
 use Rattle.rx_engines.specs.Engine.{PikeVMValue}
-use Rattle.rx_engines.proofs.EngineLemmas.{patterns-agree, search-inside, next-is}
+use Rattle.rx_engines.proofs.EngineLemmas.{patterns-agree, search-inside, room-met, next-is}
 use Rattle.rx_engines.proofs.pikevm.vm.PikeVM.is_match.Goals as goal
 
 pub returns-in_default-clause-value : goal.returns-in_default-clause-value
@@ -12,15 +12,20 @@ returns-in_default-clause-value c =
 pub returns-in_default-clause-patterns : goal.returns-in_default-clause-patterns
 returns-in_default-clause-patterns c = patterns-agree c.args.self.now c.args.input.now c.of.ensures.spanned.end
 
-pub is_match-requires-clause-search : goal.is_match-requires-clause-search
-is_match-requires-clause-search c =
+pub find-requires-clause-room : goal.find-requires-clause-room
+find-requires-clause-room c =
+    let same = ap (λ (e : PikeVMValue). e.nfa) c.self.view_is in
+    room-met c.args.self.now.nfa c.args.input.now c.in-Some.search (rw same at c.in-Some.ensures.some) c.args.cache.now c.requires
+
+pub find-requires-clause-search : goal.find-requires-clause-search
+find-requires-clause-search c =
     let same = ap (λ (e : PikeVMValue). e.nfa) c.self.view_is in
     search-inside c.args.self.now.nfa c.args.input.now c.in-Some.search (rw same at c.in-Some.ensures.some) (rw same at c.of.ensures.in_range) c.of.ensures.spanned.end
 
 pub returns-clause-value : goal.returns-clause-value
 returns-clause-value c =
     let same = ap (λ (e : PikeVMValue). e.nfa) c.self.view_is in
-    c.is_match.ensures.value ∙ ap is_some (next-is c.args.self.now.nfa c.args.input.now c.in-Some.search (rw same at c.in-Some.ensures.some))
+    c.is_some.ensures ∙ c.find.ensures.any ∙ ap is_some (next-is c.args.self.now.nfa c.args.input.now c.in-Some.search (rw same at c.in-Some.ensures.some))
 
 pub returns-clause-patterns : goal.returns-clause-patterns
 returns-clause-patterns c = patterns-agree c.args.self.now c.args.input.now c.of.ensures.spanned.end

@@ -1,0 +1,65 @@
+//! Configurations, and patterns that are refused.
+
+use crate::answers::whole;
+use rx_meta::{Builder, Regex};
+use rx_search::Input;
+use rx_syntax::SyntaxErrorKind;
+use std::test::Fail;
+
+#[test]
+fn a_configuration(rt: HostRuntime) -> Result<(), Fail> {
+    let alloc = rt.alloc();
+    let mut builder = Builder::new();
+    builder.syntax(
+        rx_syntax::Config::new()
+            .case_insensitive(true)
+            .multi_line(true),
+    );
+    builder.configure(Regex::config().line_terminator(b';'));
+    let regex = builder.build(alloc, "^a$")?;
+    let found = regex.find(&rt, alloc, &Input::new(b"x;A;"))?;
+    assert_eq!(rt; whole(found), Some((0, 2, 3)));
+    Ok(())
+}
+
+#[test]
+fn a_refused_pattern(rt: HostRuntime) -> Result<(), Fail> {
+    let alloc = rt.alloc();
+    let error = Regex::new_many(alloc, &["a", r"b\q"]).err();
+    let error = error.ok_or("no refusal")?;
+    // Pattern 1, and the bytes of it that could not be read.
+    let pattern = error.pattern().ok_or("no pattern")?;
+    assert_eq!(rt; pattern.as_usize(), 1);
+    let cause = error.syntax_error().ok_or("no cause")?;
+    assert!(rt; cause.kind == SyntaxErrorKind::Escape);
+    assert_eq!(rt; (cause.start, cause.end), (1, 2));
+    Ok(())
+}
+
+#[test]
+fn a_refusal_says_which_pattern_and_why(rt: HostRuntime) -> Result<(), Fail> {
+    let alloc = rt.alloc();
+    let error = Regex::new_many(alloc, &["a", "(b"]).err();
+    let error = error.ok_or("no refusal")?;
+    let cause = error.syntax_error().ok_or("no memory")?;
+    let text = format!(in alloc; "{error}: {} at {}", cause.kind, cause.start)?;
+    assert_eq!(rt;
+        text.as_str(),
+        "error parsing pattern 1: unclosed group at 0"
+    );
+    Ok(())
+}
+
+#[test]
+fn a_limit_of_size(rt: HostRuntime) -> Result<(), Fail> {
+    let alloc = rt.alloc();
+    let mut builder = Regex::builder();
+    builder.configure(Regex::config().nfa_size_limit(Some(1000)));
+    assert!(rt; builder.build(alloc, "[a-z]{3}").is_ok());
+    let error = builder
+        .build(alloc, "[a-z]{300}")
+        .err()
+        .ok_or("no refusal")?;
+    assert_eq!(rt; error.size_limit(), Some(1000));
+    Ok(())
+}

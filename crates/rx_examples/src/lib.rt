@@ -1,0 +1,11 @@
+//! The examples of docs/GUIDE.md and README.md, as tests: what the documents show is run by the gate.
+#![tactic(auto)]
+
+#[cfg(test)]
+mod answers;
+#[cfg(test)]
+mod builds;
+#[cfg(test)]
+mod scans;
+#[cfg(test)]
+mod searches;

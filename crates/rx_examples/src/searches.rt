@@ -1,0 +1,67 @@
+//! Searches for one match.
+
+use crate::answers::{place, whole};
+use rx_meta::Regex;
+use rx_search::{Anchored, Input};
+use std::test::Fail;
+
+#[test]
+fn is_there_a_match_and_where(rt: HostRuntime) -> Result<(), Fail> {
+    let alloc = rt.alloc();
+    let regex = Regex::new(alloc, r"\d{4}-\d{2}-\d{2}")?;
+    let input = Input::new(b"on 2024-02-29.");
+    assert_eq!(rt; regex.is_match(&rt, alloc, &input)?, true);
+    assert_eq!(rt; whole(regex.find(&rt, alloc, &input)?), Some((0, 3, 13)));
+    Ok(())
+}
+
+#[test]
+fn in_a_part_of_a_haystack(rt: HostRuntime) -> Result<(), Fail> {
+    let alloc = rt.alloc();
+    let regex = Regex::new(alloc, r"\bb+")?;
+    // Bytes 1 to 3. The word boundary sees the whole haystack, and there is none before byte 1.
+    let part = Input::new(b"abb bb").range(1..3);
+    assert_eq!(rt; whole(regex.find(&rt, alloc, &part)?), None);
+    let later = Input::new(b"abb bb").range(4..6).anchored(Anchored::Yes);
+    assert_eq!(rt; whole(regex.find(&rt, alloc, &later)?), Some((0, 4, 6)));
+    Ok(())
+}
+
+#[test]
+fn several_patterns_at_once(rt: HostRuntime) -> Result<(), Fail> {
+    let alloc = rt.alloc();
+    let regex = Regex::new_many(alloc, &["[a-z]+", "[0-9]+", "a"])?;
+    let found = regex.find(&rt, alloc, &Input::new(b"7a"))?;
+    assert_eq!(rt; whole(found), Some((1, 0, 1)));
+    // At one start the least pattern is told.
+    let found = regex.find(&rt, alloc, &Input::new(b"a7"))?;
+    assert_eq!(rt; whole(found), Some((0, 0, 1)));
+    Ok(())
+}
+
+#[test]
+fn groups_by_name(rt: HostRuntime) -> Result<(), Fail> {
+    let alloc = rt.alloc();
+    let regex = Regex::new(alloc, "(?P<key>[a-z]+)=(?P<value>[0-9]+)?")?;
+    let groups = regex.group_info();
+    let mut slots = vec![in alloc; None; groups.slot_len()]?;
+    let found = regex.search_slots(&rt, alloc, &Input::new(b"n=10"), &mut slots)?;
+    let pattern = found.ok_or("no match")?;
+    let group = groups.to_index(pattern, "value").ok_or("no such name")?;
+    let (start, end) = groups.slots(pattern, group).ok_or("no such group")?;
+    assert_eq!(rt; place(&slots, start), Some(2));
+    assert_eq!(rt; place(&slots, end), Some(4));
+    Ok(())
+}
+
+#[test]
+fn one_cache_for_many_searches(rt: HostRuntime) -> Result<(), Fail> {
+    let alloc = rt.alloc();
+    let regex = Regex::new(alloc, "(?i)error")?;
+    let mut cache = regex.create_cache(alloc)?;
+    let first = regex.search_with(&mut cache, &Input::new(b"Error: 1"))?;
+    let second = regex.search_with(&mut cache, &Input::new(b"an ERROR"))?;
+    assert_eq!(rt; whole(first), Some((0, 0, 5)));
+    assert_eq!(rt; whole(second), Some((0, 3, 8)));
+    Ok(())
+}

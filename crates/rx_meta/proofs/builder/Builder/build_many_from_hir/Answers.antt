@@ -1,0 +1,11 @@
+use Rattle.std.proofs.Common.{ap, ◌∙◌}
+use Rattle.rx_strategy.specs.declared.config.Config.{Config}
+use Rattle.rx_meta.specs.Regex.{RegexValue}
+use Rattle.rx_meta.proofs.BuildLemmas.{built}
+use Rattle.rx_meta.proofs.builder.Builder.build_many_from_hir.Goals as goal
+
+pub returns-in-Ok-clause-built : goal.returns-in-Ok-clause-built
+returns-in-Ok-clause-built c =
+    let with_config : Config → RegexValue = λ k. record { config = k; strategy = c.in-Ok.strategy } in
+    built c.args.self.now.config c.args.exprs.now c.in-Ok.strategy c.from_parts.result c.in-Ok.ensures.made c.in-Ok.ensures.allowed
+    (c.from_parts.ensures ∙ ap with_config c.clone.ensures)

@@ -1,0 +1,72 @@
+//! What searches one input after another with a regex.
+ghost use Rattle.std.specs.Prelude.{◌≡◌, length, IfOk, IfSome};
+ghost use Rattle.rx_model.specs.Search.{Patterns};
+ghost use Rattle.rx_search.specs.GroupInfo.{slot_count};
+ghost use Rattle.rx_search.specs.Promise.{Promised};
+ghost use Rattle.rx_search.specs.Told.{HasSlots};
+ghost use Rattle.rx_meta.specs.Cache.{Fits, Fits-prop};
+ghost use Rattle.rx_meta.specs.Finder.{PromisesFor};
+ghost use Rattle.rx_meta.specs.Regex.{searches, groups_in};
+
+use crate::cache::Cache;
+use crate::regex::Regex;
+use rx_search::{Finder, Input, Match, Memory, NonMaxUsize};
+use std::alloc::Global;
+
+/// A regex with a cache of its own, and the slots of its last match.
+#[derive(Drop)]
+pub struct RegexFinder<'r> {
+    regex: &'r Regex,
+    cache: Cache,
+    slots: Vec<Option<NonMaxUsize>>,
+    ghost fits: { Fits regex.now cache } by { Fits-prop regex.now cache },
+    ghost wide: { length slots.items ≡ slot_count (groups_in regex.now) },
+}
+
+impl<'r> RegexFinder<'r> {
+    /// Before the first search with this regex.
+    pub fn new(alloc: Global, regex: &'r Regex) -> Result<RegexFinder<'r>, Memory>
+        ensures { IfOk result (λ f. f.regex.now ≡ regex.now) }
+    {
+        let cache = regex.create_cache(alloc)?;
+        let none = None;
+        let slots = vec![in alloc; none; regex.group_info().slot_len()]?;
+        Ok(RegexFinder {
+            regex,
+            cache,
+            slots,
+        })
+    }
+
+    /// The regex.
+    pub fn regex(&self) -> &'r Regex
+        ensures { result.now ≡ self.now.regex.now }
+    {
+        self.regex
+    }
+
+    /// The slots of the last match, and None in each where there was none.
+    pub fn slots(&self) -> &[Option<NonMaxUsize>]
+        ensures value { result.now ≡ self.now.slots.items }
+        ensures wide { length result.now ≡ slot_count (groups_in self.now.regex.now) }
+    {
+        &self.slots
+    }
+}
+
+impl Finder for RegexFinder<'_> {
+    type Error = Memory;
+
+    ghost searches = { λ f v. searches f.regex.now v };
+
+    ghost promises = { λ f v. PromisesFor f.regex.now v };
+
+    ghost tells = { λ f m. IfSome m (HasSlots f.slots.items) };
+
+    ghost keeps = { λ a b. b.regex.now ≡ a.regex.now };
+
+    fn find(&mut self, input: &Input<'_>) -> Result<Option<Match>, Memory> {
+        self.regex
+            .search_match_with(&mut self.cache, input, &mut self.slots)
+    }
+}

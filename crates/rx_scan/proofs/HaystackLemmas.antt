@@ -1,0 +1,98 @@
+-- What a regex finds in a haystack, one match after another.
+use Rattle.std.proofs.Common.{◌≡◌, ℕ, ◌+◌, ◌<◌, ◌≤◌, Bool, true, false, cond, List, [], ◌∷◌, ◌++◌, length, take, get_or, Option, Some, None, refl, sym, ap, subst, ◌∙◌, add-one, arith}
+use Rattle.std.specs.Prelude.{map, MatchOption}
+use Rattle.std.proofs.Math.Seq.{take-suc}
+use Rattle.std.proofs.lemmas.List.{map-append}
+use Rattle.rx_model.specs.Search.{Patterns, Match, next_match, matches, free, is_empty_at, next_after}
+use Rattle.rx_model.specs.Utf8.{MeansUtf8}
+use Rattle.rx_search.specs.Input.{InputValue, from_place, next_in, whole}
+use Rattle.rx_search.specs.Matches.{MatchValue}
+use Rattle.rx_search.specs.PatternGroups.{pattern_groups}
+use Rattle.rx_search.specs.Promise.{Premises}
+use Rattle.rx_search.specs.Searcher.{SearcherValue, moved_past, search_from, match_after, upcoming, successive, AtEachPlace}
+use Rattle.rx_search.specs.Told.{tells, told_in}
+use Rattle.rx_search.specs.declared.anchored.MatchKind.TheVariants.{LeftmostFirst}
+use Rattle.rx_search.proofs.SearcherLemmas.{successive-matches}
+use Rattle.rx_meta.specs.Finder.{PromisesFor}
+use Rattle.rx_meta.specs.Regex.{RegexValue, Serves, searches, kind_in, groups_in}
+use Rattle.rx_scan.specs.Haystacks.{FindsRows}
+use Rattle.rx_scan.specs.Row.{row_of, scan_rows}
+
+-- what a regex searches is the next match of its patterns, where matches are told
+abbrev pub SearchesForItsPatterns : Type 0
+SearchesForItsPatterns = (regex : RegexValue) (r : Patterns) (v : InputValue) → v.end ≤ length v.haystack → Premises (Serves regex r) r v → searches regex v ≡ told_in r v
+
+module _ (law : SearchesForItsPatterns) (regex : RegexValue) (r : Patterns) (text : List ℕ) (finds : FindsRows regex r text) where
+  -- a search from any place of the text finds the next match
+  searches-next : (i : ℕ) → searches regex (from_place i (whole text)) ≡ next_in r (from_place i (whole text))
+  searches-next i =
+      let premises : Premises (Serves regex r) r (from_place i (whole text)) = record { is_for = finds.promised.premises.is_for; utf8 = finds.promised.premises.utf8 } in
+      law regex r (from_place i (whole text)) (omega arith) premises
+      ∙ ap (λ (b : Bool). cond b (next_in r (from_place i (whole text))) None) finds.promised.told
+
+  -- the rows of what it finds, one match after another
+  pub found-rows : map (row_of r) (successive (searches regex) (whole text)) ≡ scan_rows r text
+  found-rows =
+      ap (map (row_of r)) (successive-matches (searches regex) r (whole text) searches-next)
+      ∙ ap (λ (b : Bool). cond b (map (row_of r) (matches r text free (length text) 0)) []) (sym finds.promised.told)
+
+  -- the match that comes next is a next match of the text
+  pub found-next : (now : RegexValue) (s : SearcherValue) (x : Match) → now ≡ regex → ((i : ℕ) → from_place i s.input ≡ from_place i (whole text))
+      → upcoming (searches now) s ≡ Some x → (i : ℕ) × (next_match r text free (length text) i ≡ Some x)
+  found-next now s x same place next =
+      let found = upcoming-found s.last_end next in
+      (found.0, sym (searches-next found.0) ∙ ap (searches regex) (sym (place found.0)) ∙ ap (λ (g : RegexValue). searches g (from_place found.0 s.input)) (sym same) ∙ found.1)
+    where
+      after : (last : ℕ) (b : Bool) → is_empty_at last (search_from (searches now) s.input last) ≡ b → next_after (search_from (searches now) s.input) last ≡ Some x
+          → (i : ℕ) × (searches now (from_place i s.input) ≡ Some x)
+      after last true is h = (last + 1, rw is at h)
+      after last false is h = (last, rw is at h)
+
+      upcoming-found : (o : Option ℕ) → match_after (search_from (searches now) s.input) o s.input.start ≡ Some x → (i : ℕ) × (searches now (from_place i s.input) ≡ Some x)
+      upcoming-found None h = (s.input.start, h)
+      upcoming-found (Some last) h = after last _ refl h
+
+-- and each of its searches is promised
+pub promised-from : (regex : RegexValue) (r : Patterns) (text : List ℕ) → FindsRows regex r text → AtEachPlace (PromisesFor regex) (whole text)
+promised-from regex r text finds = λ i.
+    let p = finds.promised in
+    (r, record { premises = record { is_for = p.premises.is_for; utf8 = p.premises.utf8 }; leftmost = p.leftmost; told = p.told; whole = refl })
+
+-- after a match the searcher is still within the same text
+pub moved-place : (found : Option MatchValue) (m : MatchValue) (old new : SearcherValue) (v : InputValue) → found ≡ Some m
+    → MatchOption found (new ≡ old) (λ x. new ≡ moved_past x old) → ((i : ℕ) → from_place i old.input ≡ from_place i v) → (i : ℕ) → from_place i new.input ≡ from_place i v
+moved-place found m old new v some moved place i =
+    let moves : new ≡ moved_past m old = rw some at moved in
+    ap (λ (s : SearcherValue). from_place i s.input) moves ∙ place i
+
+-- what a regex that serves the patterns finds
+pub serves-finds : (regex : RegexValue) (r : Patterns) (text : List ℕ) → Serves regex r → kind_in regex ≡ LeftmostFirst → groups_in regex ≡ pattern_groups r.expressions
+    → tells r.which_captures ≡ true → (r.utf8_empty ≡ true → MeansUtf8 r text) → FindsRows regex r text
+serves-finds regex r text serves leftmost groups told utf8 = record {
+  promised = record {
+    premises = record { is_for = serves; utf8 = utf8 };
+    leftmost = leftmost;
+    told = told;
+    whole = refl;
+  };
+  groups = groups;
+}
+
+-- the same regex finds the same
+pub same-finds : (now first : RegexValue) (r : Patterns) (text : List ℕ) → now ≡ first → FindsRows first r text → FindsRows now r text
+same-finds now first r text same finds = subst (λ (regex : RegexValue). FindsRows regex r text) (sym same) finds
+
+-- one haystack more was scanned
+pub scanned-more : {V W R : Type 0} (items : V → R) (f : W → R) (vs vs' : List V) (ws : List W) (k : ℕ) (v : V) (d : W) → k < length ws
+    → vs' ≡ vs ++ v ∷ [] → items v ≡ f (get_or ws k d) → map items vs ≡ map f (take k ws) → map items vs' ≡ map f (take (k + 1) ws)
+scanned-more items f vs vs' ws k v d below more same so_far =
+    ap (map items) more ∙ map-append items vs (v ∷ [])
+    ∙ (λ i. so_far i ++ same i ∷ [])
+    ∙ sym (map-append f (take k ws) (get_or ws k d ∷ []))
+    ∙ ap (map f) (sym (take-suc ws k d below) ∙ ap (λ j. take j ws) (sym (add-one k)))
+
+-- one more without rows
+pub nothing-more : {V W R : Type 0} (items : V → List R) (vs vs' : List V) (ws : List W) (k : ℕ) (v : V) → k < length ws
+    → vs' ≡ vs ++ v ∷ [] → items v ≡ [] → map items vs ≡ map (λ _. []) (take k ws) → map items vs' ≡ map (λ _. []) (take (k + 1) ws)
+nothing-more items vs vs' [] k v below more none so_far = absurd (omega arith)
+nothing-more items vs vs' (w ∷ ws) k v below more none so_far = scanned-more items (λ _. []) vs vs' (w ∷ ws) k v w below more none so_far

@@ -1,0 +1,85 @@
+-- The words of the command line.
+use Prim.Native.String.{String}
+use Rattle.std.specs.Prelude.{ℕ, ◌+◌, ◌-◌, ◌*◌, Bool, true, false, not, ◌&&◌, ◌==◌, nat_eq, nat_le, List, [], ◌∷◌, Option, Some, None, option_map, codes, drop, if◌then◌else◌}
+use Rattle.std.specs.List.{list_any, starts_with}
+use Rattle.std.specs.Option.{option_or}
+use Rattle.std.specs.Str.{bytes_eq}
+use Rattle.rx_reader.specs.Reading.{◌∈◌}
+use Rattle.rx_scan.specs.declared.arguments.Command.{Command}
+use Rattle.rx_scan.specs.declared.arguments.Off.{Off}
+
+-- what a decimal digit counts
+abbrev pub digit : ℕ → ℕ
+digit b = b - 48
+
+-- a decimal digit that counts at least so much
+abbrev pub is_digit_from : (least : ℕ) → ℕ → Bool
+is_digit_from least b = nat_le (48 + least) b && nat_le b 57
+
+-- the number, where it is at most 64
+abbrev pub up_to_64 : ℕ → Option ℕ
+up_to_64 n = if nat_le n 64 then Some n else None
+
+-- the number of workers: 1 to 64, in decimal, without a sign or a leading zero
+abbrev pub workers_of : List ℕ → Option ℕ
+workers_of [] = None
+workers_of (b ∷ []) = if is_digit_from 1 b then Some (digit b) else None
+workers_of (b ∷ c ∷ []) = if is_digit_from 1 b && is_digit_from 0 c then up_to_64 (digit b * 10 + digit c) else None
+workers_of (b ∷ c ∷ d ∷ bytes) = None
+
+-- one of the letters: full DFA, lazy DFA, one-pass, backtracker, automatic prefilters
+abbrev pub is_letter : ℕ → Bool
+is_letter b = b ∈ "dhobp"
+
+-- each is one of the letters, and none comes twice
+abbrev pub are_letters : List ℕ → Bool
+are_letters [] = true
+are_letters (b ∷ bytes) = is_letter b && not (list_any (λ c. c == b) bytes) && are_letters bytes
+
+-- one of the letters is this one
+abbrev pub has : List ℕ → (letter : String) → Bool
+has letters letter = list_any (λ b. b ∈ letter) letters
+
+-- what the letters switch off
+abbrev pub switched_off : List ℕ → Off
+switched_off letters = record {
+  dfa = has letters "d";
+  hybrid = has letters "h";
+  onepass = has letters "o";
+  backtrack = has letters "b";
+  auto_prefilter = has letters "p";
+}
+
+abbrev pub is_nonempty : List ℕ → Bool
+is_nonempty [] = false
+is_nonempty (b ∷ bytes) = true
+
+-- what is switched off: `off:` and one to five letters, each at most once
+abbrev pub off_of : List ℕ → Option Off
+off_of word =
+    if starts_with nat_eq word (codes "off:") && is_nonempty (drop 4 word) && are_letters (drop 4 word) then Some (switched_off (drop 4 word)) else None
+
+-- a scan with so many workers, and with all that there is; one with one worker, and without this
+abbrev pub with_workers : ℕ → Command
+with_workers n = record { workers = n; off = switched_off [] }
+
+abbrev pub without : Off → Command
+without off = record { workers = 1; off = off }
+
+-- both are there
+abbrev pub both_of : Option ℕ → Option Off → Option Command
+both_of (Some n) (Some off) = Some (record { workers = n; off = off })
+both_of (Some n) None = None
+both_of None off = None
+
+-- what a scan's options ask for: the number of workers, then what is switched off; both may be left out
+abbrev pub options_of : List (List ℕ) → Option Command
+options_of [] = Some (with_workers 1)
+options_of (option ∷ []) = option_or (option_map with_workers (workers_of option)) (option_map without (off_of option))
+options_of (workers ∷ off ∷ []) = both_of (workers_of workers) (off_of off)
+options_of (workers ∷ off ∷ other ∷ words) = None
+
+-- what the words ask for: `scan`, and its options
+abbrev pub command_of : List (List ℕ) → Option Command
+command_of [] = None
+command_of (word ∷ options) = if bytes_eq word (codes "scan") then options_of options else None

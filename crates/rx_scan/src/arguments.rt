@@ -1,0 +1,158 @@
+//! The words of the command line.
+ghost use Rattle.std.specs.Prelude.{◌≡◌, ◌<◌, ◌∷◌, [], codes, map, IfSome};
+ghost use Rattle.std.specs.String.{string_bytes};
+ghost use Rattle.rx_scan.specs.Arguments.{command_of, options_of, digit, is_digit_from, workers_of, off_of, are_letters, is_letter, has, switched_off};
+
+/// What a scan is to do without. None of it changes a row.
+#[derive(Clone, Copy, Debug, PartialEq, Eq)]
+pub struct Off {
+    /// The full DFA: `d`.
+    pub dfa: bool,
+    /// The lazy DFA: `h`.
+    pub hybrid: bool,
+    /// The one-pass DFA: `o`.
+    pub onepass: bool,
+    /// The backtracker: `b`.
+    pub backtrack: bool,
+    /// Automatic prefilters: `p`.
+    pub auto_prefilter: bool,
+}
+
+/// What the words ask for, which is a scan.
+#[derive(Clone, Copy, Debug, PartialEq, Eq)]
+pub struct Command {
+    /// How many workers it has.
+    pub workers: usize,
+    /// What is switched off.
+    pub off: Off,
+}
+
+impl Off {
+    /// Nothing is switched off.
+    const NOTHING: Off = Off {
+        dfa: false,
+        hybrid: false,
+        onepass: false,
+        backtrack: false,
+        auto_prefilter: false,
+    };
+}
+
+/// The number of workers where the words name none.
+const WORKERS: usize = 1;
+
+/// What the words ask for: `scan`, then the number of workers, then what is switched off. Both may be left out.
+/// None where they are not those of a command.
+pub fn command_of(words: &[String]) -> Option<Command>
+    ensures value { result ≡ command_of (map string_bytes words.now) }
+    ensures workers { IfSome result (λ command. 0 < command.workers) }
+{
+    let (name, options) = words.split_first()?;
+    if name.as_str() != "scan" {
+        return None;
+    }
+    options_of(options)
+}
+
+/// What the options of a scan ask for.
+fn options_of(options: &[String]) -> Option<Command>
+    ensures value { result ≡ options_of (map string_bytes options.now) }
+    ensures workers { IfSome result (λ command. 0 < command.workers) }
+{
+    match options {
+        [] => Some(Command {
+            workers: WORKERS,
+            off: Off::NOTHING,
+        }),
+        [option] => one_option(option.as_bytes()),
+        [workers, off] => Some(Command {
+            workers: workers_of(workers.as_bytes())?,
+            off: off_of(off.as_bytes())?,
+        }),
+        _ => None,
+    }
+}
+
+/// The same where there is one option.
+fn one_option(option: &[u8]) -> Option<Command>
+    ensures value { result ≡ options_of (option.now ∷ []) }
+    ensures workers { IfSome result (λ command. 0 < command.workers) }
+{
+    if let Some(workers) = workers_of(option) {
+        return Some(Command {
+            workers,
+            off: Off::NOTHING,
+        });
+    }
+    let off = off_of(option)?;
+    Some(Command {
+        workers: WORKERS,
+        off,
+    })
+}
+
+/// The number of workers: 1 to 64, in decimal, without a sign or a leading zero.
+fn workers_of(word: &[u8]) -> Option<usize>
+    ensures value { result ≡ workers_of word.now }
+    ensures above { IfSome result (λ n. 0 < n) }
+{
+    match word {
+        [ones] if is_digit_from(1, *ones) => Some(digit(*ones)),
+        [tens, ones] if is_digit_from(1, *tens) && is_digit_from(0, *ones) => {
+            let workers = digit(*tens) * 10 + digit(*ones);
+            if workers <= 64 { Some(workers) } else { None }
+        }
+        _ => None,
+    }
+}
+
+/// Whether the byte is a decimal digit that counts at least so much.
+fn is_digit_from(least: u8, byte: u8) -> bool
+    requires { least < 10 }
+    ensures { result ≡ is_digit_from least byte }
+{
+    b'0' + least <= byte && byte <= b'9'
+}
+
+/// What a decimal digit counts.
+fn digit(byte: u8) -> usize
+    ensures { result ≡ digit byte }
+{
+    byte.saturating_sub(b'0') as usize
+}
+
+/// What is switched off: `off:`, and one to five of the letters `dhobp`, each at most once.
+fn off_of(word: &[u8]) -> Option<Off>
+    ensures { result ≡ off_of word.now }
+{
+    let letters = word.strip_prefix(b"off:")?;
+    if letters.is_empty() || !are_letters(letters) {
+        return None;
+    }
+    Some(Off {
+        dfa: letters.contains(&b'd'),
+        hybrid: letters.contains(&b'h'),
+        onepass: letters.contains(&b'o'),
+        backtrack: letters.contains(&b'b'),
+        auto_prefilter: letters.contains(&b'p'),
+    })
+}
+
+/// Each is one of the letters, and none comes twice.
+fn are_letters(bytes: &[u8]) -> bool
+    ensures { result ≡ are_letters bytes.now }
+{
+    match bytes.split_first() {
+        None => true,
+        Some((first, others)) => {
+            is_letter(*first) && !others.contains(first) && are_letters(others)
+        }
+    }
+}
+
+/// Full DFA, lazy DFA, one-pass, backtracker, automatic prefilters.
+fn is_letter(byte: u8) -> bool
+    ensures { result ≡ is_letter byte }
+{
+    matches!(byte, b'd' | b'h' | b'o' | b'b' | b'p')
+}

@@ -1,0 +1,132 @@
+//! Writing: numbers, the text of rows, and a whole text into a sink.
+ghost use Rattle.std.specs.Prelude.{◌≡◌, ◌++◌, ◌<◌, ◌≤◌, ℕ, List, Option, Some, decimal, length, map, take, OnOk, OnErr};
+ghost use Rattle.std.specs.List.{flat_map};
+ghost use Rattle.std.specs.Vec.{vec_items};
+ghost use Rattle.rx_scan.specs.Ends.{HasRisen, Gains, GainsPrefix};
+ghost use Rattle.rx_scan.specs.Row.{span_text, group_text, groups_text, slots_text, row_text, rows_text};
+
+use crate::ends::{Failed, Sink};
+use crate::row::Row;
+use itoa::Buffer;
+use rx_search::{Memory, NonMaxUsize};
+
+/// Appends a number.
+pub fn push_number(text: &mut Vec<u8>, n: usize) -> Result<(), Memory>
+    ensures { OnOk result (text.new.items ≡ text.old.items ++ decimal n) }
+{
+    let mut buffer = Buffer::new();
+    text.extend_from_slice(buffer.format(n).as_bytes())?;
+    Ok(())
+}
+
+/// Appends `START..END`, or `-` where one of them is not told.
+fn push_span(
+    text: &mut Vec<u8>,
+    start: Option<NonMaxUsize>,
+    end: Option<NonMaxUsize>,
+) -> Result<(), Memory>
+    ensures { OnOk result (text.new.items ≡ text.old.items ++ span_text start end) }
+{
+    let (Some(start), Some(end)) = (start, end) else {
+        text.extend_from_slice(b"-")?;
+        return Ok(());
+    };
+    push_number(text, start.get())?;
+    text.extend_from_slice(b"..")?;
+    push_number(text, end.get())?;
+    Ok(())
+}
+
+/// Appends ` G=` and the group's span.
+fn push_group(
+    text: &mut Vec<u8>,
+    group: usize,
+    start: Option<NonMaxUsize>,
+    end: Option<NonMaxUsize>,
+) -> Result<(), Memory>
+    ensures { OnOk result (text.new.items ≡ text.old.items ++ group_text group start end) }
+{
+    text.extend_from_slice(b" ")?;
+    push_number(text, group)?;
+    text.extend_from_slice(b"=")?;
+    push_span(text, start, end)?;
+    Ok(())
+}
+
+/// Appends the groups from 1 on, whose starts and ends these are.
+fn push_groups(text: &mut Vec<u8>, slots: &[Option<NonMaxUsize>]) -> Result<(), Memory>
+    ensures { OnOk result (text.new.items ≡ text.old.items ++ groups_text slots.now 1) }
+{
+    let mut group = 1;
+    let mut at = 0;
+    while at + 1 < slots.len() {
+        push_group(text, group, slots[at], slots[at + 1])?;
+        group += 1;
+        at += 2;
+    }
+    Ok(())
+}
+
+/// Appends the rows of all haystacks, the first of which is line 1.
+pub fn print_haystacks(text: &mut Vec<u8>, haystacks: &[Vec<Row>]) -> Result<(), Memory>
+    ensures { OnOk result (text.new.items ≡ text.old.items ++ rows_text 1 (map vec_items haystacks.now)) }
+{
+    let mut line = 0;
+    for rows in haystacks {
+        line += 1;
+        print_rows(text, line, rows)?;
+    }
+    Ok(())
+}
+
+/// Appends the rows of a haystack, which is the line of this number, counted from 1.
+fn print_rows(text: &mut Vec<u8>, line: usize, rows: &[Row]) -> Result<(), Memory>
+    ensures { OnOk result (text.new.items ≡ text.old.items ++ flat_map (row_text line) rows.now) }
+{
+    for row in rows {
+        print_row(text, line, row)?;
+    }
+    Ok(())
+}
+
+/// Appends `LINE:PATTERN:START..END`, then ` G=START..END` or ` G=-` for each group from 1 on, and a newline.
+fn print_row(text: &mut Vec<u8>, line: usize, row: &Row) -> Result<(), Memory>
+    ensures { OnOk result (text.new.items ≡ text.old.items ++ row_text line row.now) }
+{
+    push_number(text, line)?;
+    text.extend_from_slice(b":")?;
+    push_number(text, row.pattern.as_usize())?;
+    text.extend_from_slice(b":")?;
+    push_slots(text, row.slots.as_slice())?;
+    text.extend_from_slice(b"\n")?;
+    Ok(())
+}
+
+/// Appends the span of the whole match, and each group from 1 on.
+fn push_slots(text: &mut Vec<u8>, slots: &[Option<NonMaxUsize>]) -> Result<(), Memory>
+    ensures { OnOk result (text.new.items ≡ text.old.items ++ slots_text slots.now) }
+{
+    match slots {
+        [start, end, groups @ ..] => {
+            push_span(text, *start, *end)?;
+            push_groups(text, groups)
+        }
+        _ => {
+            text.extend_from_slice(b"-")?;
+            Ok(())
+        }
+    }
+}
+
+/// Writes all of the text, or a front of it that ends where the sink failed.
+pub fn write_text<K: Sink>(sink: &mut K, text: &[u8]) -> Result<(), Failed>
+    ensures ok { OnOk result (Gains (K.held sink.old) (K.held sink.new) text.now) }
+    ensures err { OnErr result (GainsPrefix (K.held sink.old) (K.held sink.new) text.now) }
+    ensures failed { OnErr result (HasRisen (K.faults sink.old) (K.faults sink.new)) }
+{
+    let mut done = 0;
+    while done < text.len() {
+        done += sink.write(&text[done..])?;
+    }
+    Ok(())
+}

@@ -1,0 +1,176 @@
+-- What the searches of a strategy answer.
+use Rattle.std.proofs.Common.{◌≡◌, ℕ, ◌≤◌, List, length, refl, sym, ap, ◌∙◌, subst, arith}
+use Rattle.std.specs.Prelude.{Bool, true, false, if◌then◌else◌, Option, Some, None, option_map, is_some, IfSome, IfNone}
+use Rattle.rx_model.specs.Search.{Patterns, WhichCaptures, all, implicit, none, Match, told_of}
+use Rattle.rx_model.proofs.RunLemmas.{by_test}
+use Rattle.rx_model.proofs.WithinLemmas.{next-later}
+use Rattle.rx_search.specs.Input.{InputValue, next_in}
+use Rattle.rx_search.specs.Matches.{MatchValue, match_value}
+use Rattle.rx_search.specs.Promise.{Premises, Promised}
+use Rattle.rx_search.specs.Told.{tells, told_in, IsMatchWith, HasSlots}
+use Rattle.rx_search.specs.declared.anchored.MatchKind.{MatchKind}
+use Rattle.rx_nfa.specs.Nfa.{Nfa, IsNfaOf}
+use Rattle.rx_nfa.specs.NextMatch.{next_match_in}
+use Rattle.rx_nfa.proofs.NextMatchLemmas.{next_match_of-patterns}
+use Rattle.rx_search.specs.Answer.{IsAnswer, AreSlotsOfAnswer, TellsWhether}
+use Rattle.rx_strategy.specs.Core.{CoreValue, IsCoreFor, IsSearched, core_finds}
+
+-- the next match of an NFA is that of its patterns
+pub agree : (nfa : Nfa) (v : InputValue) → v.end ≤ length v.haystack → (r : Patterns) → IsNfaOf nfa r → next_match_in nfa v ≡ option_map (told_of r.which_captures) (next_in r v)
+agree nfa v within r of = next_match_of-patterns nfa r v.haystack v.end within of.runs nfa.utf8 v.anchor v.start of.utf8
+
+-- where matches are told, each is told whole
+told_of-whole : (w : WhichCaptures) → tells w ≡ true → (m : Match) → told_of w m ≡ m
+told_of-whole all e m = refl
+told_of-whole implicit e m = refl
+told_of-whole none e m = cc
+
+told-whole : (w : WhichCaptures) → tells w ≡ true → (o : Option Match) → option_map (told_of w) o ≡ o
+told-whole w e None = refl
+told-whole w e (Some m) = ap Some (told_of-whole w e m)
+
+pub is_some-map : {A B : Type 0} (f : A → B) (o : Option A) → is_some (option_map f o) ≡ is_some o
+is_some-map f None = refl
+is_some-map f (Some x) = refl
+
+-- a part of a part
+map-twice : {A B C : Type 0} (f : A → B) (g : B → C) (o : Option A) → option_map g (option_map f o) ≡ option_map (λ x. g (f x)) o
+map-twice f g None = refl
+map-twice f g (Some x) = refl
+
+none-map : {A B : Type 0} (P : Type 0) (f : A → B) (o : Option A) → IfNone o P → IfNone (option_map f o) P
+none-map P f None gone = gone
+none-map P f (Some x) gone = tt
+
+-- nothing that is told was there to tell
+from-none : (w : WhichCaptures) (o : Option Match) → option_map (told_of w) o ≡ None → o ≡ None
+from-none w None e = refl
+from-none w (Some m) e = cc
+
+module _ (r : Patterns) (v : InputValue) where
+  pub told-yes : tells r.which_captures ≡ true → told_in r v ≡ next_in r v
+  told-yes e = rw e refl
+
+  told-no : tells r.which_captures ≡ false → told_in r v ≡ None
+  told-no e = rw e refl
+
+  -- a part of an answer is that part of the match
+  part-is_match : {A B : Type 0} (part : Match → A) (f : A → B) (found : Option A) → IfSome found (λ answer. IsMatchWith r v (λ m. answer ≡ part m))
+      → IfSome (option_map f found) (λ answer. IsMatchWith r v (λ m. answer ≡ f (part m)))
+  part-is_match part f None known = tt
+  part-is_match part f (Some answer) known = (known.0, known.1, ap f known.2)
+
+  part-slots_match : {A B : Type 0} (slots : List (Option ℕ)) (part : Match → A) (f : A → B) (found : Option A) → IfSome found (λ answer. IsMatchWith r v (λ m. (answer ≡ part m) × HasSlots slots m))
+      → IfSome (option_map f found) (λ answer. IsMatchWith r v (λ m. (answer ≡ f (part m)) × HasSlots slots m))
+  part-slots_match slots part f None known = tt
+  part-slots_match slots part f (Some answer) known = (known.0, known.1, (ap f known.2.0, known.2.1))
+
+  -- the next match is a match
+  next-told : (slots : List (Option ℕ)) (n : Option Match) → next_in r v ≡ n → (o : Option Match) → o ≡ option_map (told_of r.which_captures) n → IfSome o (HasSlots slots)
+      → IfSome (option_map match_value o) (λ found. IsMatchWith r v (λ m. (found ≡ match_value m) × HasSlots slots m))
+  next-told slots None e o is has = rw is tt
+  next-told slots (Some n) e o is has =
+      rw is (n, next-later r v.haystack v.anchor v.end v.end v.start n e (omega arith), (refl, subst (λ x. IfSome x (HasSlots slots)) is has))
+
+  pub next-is_match : (slots : List (Option ℕ)) (o : Option Match) → o ≡ option_map (told_of r.which_captures) (next_in r v) → IfSome o (HasSlots slots)
+      → (result : Option MatchValue) → result ≡ option_map match_value o
+      → IfSome result (λ found. IsMatchWith r v (λ m. (found ≡ match_value m) × HasSlots slots m))
+  next-is_match slots o is has result value = rw value (next-told slots (next_in r v) refl o is has)
+
+  -- the slots aside
+  slots-aside : (slots : List (Option ℕ)) (found : Option MatchValue) → IfSome found (λ answer. IsMatchWith r v (λ m. (answer ≡ match_value m) × HasSlots slots m))
+      → IfSome found (λ answer. IsMatchWith r v (λ m. answer ≡ match_value m))
+  slots-aside slots None known = tt
+  slots-aside slots (Some answer) known = (known.0, known.1, known.2.0)
+
+-- A part of an answer is the answer of that part.
+module _ {A B : Type 0} (IsFor : Patterns → Type 0) (kind : MatchKind) (v : InputValue) (part : Match → A) (f : A → B) (found : Option A) (answer : Option B) (is : answer ≡ option_map f found) where
+  pub part-answers : IsAnswer IsFor kind v part found → IsAnswer IsFor kind v (λ m. f (part m)) answer
+  part-answers whole = record {
+    value = λ r promised. is ∙ ap (option_map f) (whole.value r promised) ∙ map-twice part f (next_in r v);
+    exists = λ r premises. ap is_some is ∙ is_some-map f found ∙ whole.exists r premises;
+    is_match = λ r premises. rw is (part-is_match r v part f found (whole.is_match r premises));
+  }
+
+  pub part-slots : (slots : List (Option ℕ)) → AreSlotsOfAnswer IsFor kind v part slots found → AreSlotsOfAnswer IsFor kind v (λ m. f (part m)) slots answer
+  part-slots slots whole = record {
+    value = whole.value;
+    is_match = λ r premises. rw is (part-slots_match r v slots part f found (whole.is_match r premises));
+  }
+
+  pub part-none : (P : Type 0) → IfNone found P → IfNone answer P
+  part-none P gone = rw is (none-map P f found gone)
+
+-- Nothing is found where there is no match.
+module _ {A : Type 0} (IsFor : Patterns → Type 0) (kind : MatchKind) (v : InputValue) (part : Match → A) (gone : (r : Patterns) → IsFor r → next_in r v ≡ None) where
+  untold : (r : Patterns) → IsFor r → told_in r v ≡ None
+  untold r of = by_test (tells r.which_captures) (λ e. told-yes r v e ∙ gone r of) (λ e. told-no r v e)
+
+  pub none-answers : IsAnswer IsFor kind v part None
+  none-answers = record {
+    value = λ r promised. ap (option_map part) (sym (gone r promised.premises.is_for));
+    exists = λ r premises. ap is_some (sym (untold r premises.is_for));
+    is_match = λ r premises. tt;
+  }
+
+  pub none-slots : (slots : List (Option ℕ)) → AreSlotsOfAnswer IsFor kind v part slots None
+  none-slots slots = record {
+    value = λ r promised. rw (gone r promised.premises.is_for) tt;
+    is_match = λ r premises. tt;
+  }
+
+pub none-whether : (IsFor : Patterns → Type 0) (v : InputValue) → ((r : Patterns) → IsFor r → next_in r v ≡ None) → TellsWhether IsFor v false
+none-whether IsFor v gone r premises = ap is_some (sym (gone r premises.is_for))
+
+module _ (c : CoreValue) (v : InputValue) where
+  -- what a core finds is what its patterns tell
+  pub core-told : v.end ≤ length v.haystack → (r : Patterns) → IsCoreFor c r → core_finds c v ≡ told_in r v
+  core-told within r of =
+      by_test (tells c.which_captures)
+      (λ e. let told : tells r.which_captures ≡ true = ap tells of.which_captures ∙ e in
+      let found : core_finds c v ≡ next_match_in c.nfa v = rw e refl in
+      found ∙ agree c.nfa v within r of.nfa ∙ told-whole r.which_captures told (next_in r v) ∙ sym (told-yes r v told))
+      (λ e. let silent : tells r.which_captures ≡ false = ap tells of.which_captures ∙ e in
+      let found : core_finds c v ≡ None = rw e refl in
+      found ∙ sym (told-no r v silent))
+
+  -- where the NFA has no match, its patterns have none
+  pub core-none : v.end ≤ length v.haystack → next_match_in c.nfa v ≡ None → (r : Patterns) → IsCoreFor c r → next_in r v ≡ None
+  core-none within gone r of = from-none r.which_captures (next_in r v) (sym (agree c.nfa v within r of.nfa) ∙ gone)
+
+  module _ (kind : MatchKind) (slots : List (Option ℕ)) (found : Option MatchValue) (searched : IsSearched c.nfa v slots found) where
+    next-is : (r : Patterns) → IsCoreFor c r → tells r.which_captures ≡ true → next_match_in c.nfa v ≡ next_in r v
+    next-is r of told = searched.patterns r of.nfa ∙ told-whole r.which_captures told (next_in r v)
+
+    pub core-answers : tells c.which_captures ≡ true → IsAnswer (λ r. IsCoreFor c r) kind v match_value found
+    core-answers told = record {
+      value = λ r p. searched.value p.whole ∙ ap (option_map match_value) (next-is r p.premises.is_for p.told);
+      exists = λ r p.
+          let heard : tells r.which_captures ≡ true = ap tells p.is_for.which_captures ∙ told in
+          searched.exists ∙ ap is_some (next-is r p.is_for heard ∙ sym (told-yes r v heard));
+      is_match = λ r p. slots-aside r v slots found (searched.is_match r p.is_for.nfa);
+    }
+
+    pub core-slots : AreSlotsOfAnswer (λ r. IsCoreFor c r) kind v match_value slots found
+    core-slots = record {
+      value = λ r p. subst (λ o. IfSome o (HasSlots slots)) (next-is r p.premises.is_for p.told) (searched.slots p.whole);
+      is_match = λ r p. searched.is_match r p.is_for.nfa;
+    }
+
+  -- nothing is told without captures
+  pub silent-answers : (kind : MatchKind) → tells c.which_captures ≡ false → IsAnswer (λ r. IsCoreFor c r) kind v match_value None
+  silent-answers kind silent = record {
+    value = λ r p. let told : tells c.which_captures ≡ true = sym (ap tells p.premises.is_for.which_captures) ∙ p.told in cc;
+    exists = λ r p. ap is_some (sym (told-no r v (ap tells p.is_for.which_captures ∙ silent)));
+    is_match = λ r p. tt;
+  }
+
+  pub silent-slots : (kind : MatchKind) (slots : List (Option ℕ)) → tells c.which_captures ≡ false → AreSlotsOfAnswer (λ r. IsCoreFor c r) kind v match_value slots None
+  silent-slots kind slots silent = record {
+    value = λ r p. let told : tells c.which_captures ≡ true = sym (ap tells p.premises.is_for.which_captures) ∙ p.told in cc;
+    is_match = λ r p. tt;
+  }
+
+  -- whether there is a match, of the NFA or of its patterns
+  pub core-whether : (there : Bool) → there ≡ is_some (next_match_in c.nfa v) → ((r : Patterns) → IsNfaOf c.nfa r → next_match_in c.nfa v ≡ option_map (told_of r.which_captures) (next_in r v)) → TellsWhether (λ r. IsCoreFor c r) v there
+  core-whether there is patterns r p = is ∙ ap is_some (patterns r p.is_for.nfa) ∙ is_some-map (told_of r.which_captures) (next_in r v)

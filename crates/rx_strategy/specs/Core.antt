@@ -1,0 +1,77 @@
+-- What a core is to a contract: the engines over one NFA, and what is known of the patterns.
+use Rattle.std.specs.Prelude.{◌≡◌, ℕ, ◌≤◌, Bool, true, false, ◌&&◌, nat_le, List, length, Option, None, option_map, is_some, IfSome, if◌then◌else◌}
+use Rattle.rx_model.specs.Expression.{Expression, alternation}
+use Rattle.rx_model.specs.Search.{Patterns, WhichCaptures, Match, told_of}
+use Rattle.rx_search.specs.Input.{InputValue, next_in, span_len}
+use Rattle.rx_search.specs.Matches.{MatchValue, match_value}
+use Rattle.rx_search.specs.Told.{tells, IsMatchWith, HasSlots, AreWithin, LiesIn}
+use Rattle.rx_search.specs.declared.anchored.MatchKind.{MatchKind}
+use Rattle.rx_hir.specs.Normal.{expressions}
+use Rattle.rx_hir.specs.PropertiesViews.{AreOf}
+use Rattle.rx_hir.specs.declared.hir.properties.Properties.{Properties}
+use Rattle.rx_nfa.specs.Compiled.{IsCompiled}
+use Rattle.rx_nfa.specs.Nfa.{Nfa, IsNfaOf}
+use Rattle.rx_nfa.specs.NextMatch.{next_match_in}
+use Rattle.rx_engines.specs.Bounded.{max_len}
+use Rattle.rx_engines.specs.Engine.{PikeVMValue}
+use Rattle.rx_strategy.specs.Config.{kind_of, captures_of, compiler_of, has_backtracker}
+use Rattle.rx_strategy.specs.Impossible.{is_impossible}
+use Rattle.rx_strategy.specs.declared.config.Config.{Config}
+
+pub record CoreValue : Type 0 where
+  pub nfa : Nfa
+  -- which of the matches that begin at one place is reported
+  pub kind : MatchKind
+  -- which groups are told
+  pub which_captures : WhichCaptures
+  -- there is a backtracker
+  pub backtracks : Bool
+  -- the properties of the patterns together
+  pub properties : Properties
+
+-- the core's PikeVM
+abbrev pub pikevm_of : CoreValue → PikeVMValue
+pikevm_of c = record { nfa = c.nfa; kind = c.kind }
+
+-- the core's backtracker serves this input: the span is not too long for it
+abbrev pub backtracker_serves : CoreValue → InputValue → Bool
+backtracker_serves c v = c.backtracks && nat_le (span_len v) (max_len c.nfa)
+
+-- the core searches for these patterns
+pub record IsCoreFor (c : CoreValue) (r : Patterns) : Type 0 where
+  pub nfa : IsNfaOf c.nfa r
+  pub which_captures : r.which_captures ≡ c.which_captures
+
+-- what a search of the core finds: the next match of its NFA, where matches are told
+abbrev pub core_finds : CoreValue → InputValue → Option Match
+core_finds c v = if tells c.which_captures then next_match_in c.nfa v else None
+
+-- the core of these expressions under the configuration
+pub record IsCoreOf (config : Config) (hs : List Expression) (c : CoreValue) : Type 0 where
+  pub compiled : IsCompiled (compiler_of config) hs c.nfa
+  pub kind : c.kind ≡ kind_of config
+  pub which_captures : c.which_captures ≡ captures_of config
+  -- there is a backtracker exactly where the configuration asks for one, and none under `All`
+  pub backtracks : c.backtracks ≡ has_backtracker config
+  -- its properties are those of the expressions together, so that it is known where no match is possible
+  pub properties : AreOf (alternation (expressions hs)) c.properties
+
+-- The properties are those of some patterns together, of which the NFA has no match where none is possible.
+pub record AreKnownOf (p : Properties) (nfa : Nfa) : Type 0 where
+  pub patterns : List Expression
+  pub properties : AreOf (alternation (expressions patterns)) p
+  pub none : (v : InputValue) → v.end ≤ length v.haystack → is_impossible patterns v ≡ true → next_match_in nfa v ≡ None
+
+-- What an engine that always answers tells of a search, in the slots and else, whichever it is.
+pub record IsSearched (nfa : Nfa) (v : InputValue) (told : List (Option ℕ)) (found : Option MatchValue) : Type 0 where
+  -- without `earliest` the next match of its NFA
+  pub value : v.earliest ≡ false → found ≡ option_map match_value (next_match_in nfa v)
+  -- which is that of the patterns
+  pub patterns : (r : Patterns) → IsNfaOf nfa r → next_match_in nfa v ≡ option_map (told_of r.which_captures) (next_in r v)
+  -- something is found exactly where there is a match
+  pub exists : is_some found ≡ is_some (next_match_in nfa v)
+  -- and it is a match of the patterns
+  pub is_match : (r : Patterns) → IsNfaOf nfa r → IfSome found (λ m. IsMatchWith r v (λ n. (m ≡ match_value n) × HasSlots told n))
+  pub slots : v.earliest ≡ false → IfSome (next_match_in nfa v) (HasSlots told)
+  pub within : IfSome found (LiesIn v)
+  pub slots_within : AreWithin v told

@@ -1,0 +1,295 @@
+//! The strategy that runs engines over an NFA.
+ghost use Rattle.std.specs.Prelude.{◌≡◌, ◌≤◌, List, true, false, length, None, replicate, is_some, IfOk, OnOk, OnErr, IsOk, IfNone, IfSome, IsSomeAnd, IsTrue, MatchOption};
+ghost use Rattle.rx_model.specs.Expression.{Expression, alternation};
+ghost use Rattle.rx_model.specs.Search.{Patterns};
+ghost use Rattle.rx_search.specs.Input.{IsSpanned, next_in, span_len};
+ghost use Rattle.rx_search.specs.Matches.{match_value};
+ghost use Rattle.rx_search.specs.Told.{tells, AreWithin, LiesIn};
+ghost use Rattle.rx_hir.specs.Normal.{expressions};
+ghost use Rattle.rx_hir.specs.PropertiesViews.{AreOf};
+ghost use Rattle.rx_engines.specs.Bounded.{Fits as FitsBounded, max_len};
+ghost use Rattle.rx_search.specs.Answer.{IsAnswer, AreSlotsOfAnswer, TellsWhether};
+ghost use Rattle.rx_strategy.specs.Cache.{FitsCore, FitsBacktracker, FitsAsBefore, backtrack_memory, memory_of, accounted_backtrack, accounted_core};
+ghost use Rattle.rx_strategy.specs.Config.{kind_of, captures_of, has_backtracker};
+ghost use Rattle.rx_strategy.specs.Core.{CoreValue, IsCoreFor, AreKnownOf, IsSearched};
+ghost use Rattle.rx_strategy.specs.Impossible.{is_impossible};
+ghost use Rattle.rx_strategy.specs.Nofail.{IsAskedFor};
+
+use crate::cache::Cache;
+use crate::config::Config;
+use crate::info::RegexInfo;
+use rx_engines::backtrack::{self, BoundedBacktracker};
+use rx_engines::empty;
+use rx_engines::pikevm::PikeVM;
+use rx_nfa::{NFA, WhichCaptures};
+use rx_search::{Input, Match, Memory, NonMaxUsize};
+use std::alloc::Global;
+use std::marker::Model;
+
+/// The engines over one NFA: the bounded backtracker where it serves, and else the PikeVM. Which of them serves a
+/// search changes no answer that is promised.
+#[derive(Drop)]
+pub struct Core {
+    pikevm: PikeVM,
+    backtrack: Option<BoundedBacktracker>,
+    which_captures: WhichCaptures,
+    info: RegexInfo,
+}
+
+impl Model for Core {
+    ghost use Rattle.std.specs.Prelude.{◌≡◌, is_some, IfSome};
+    ghost use Rattle.rx_search.specs.declared.anchored.MatchKind.TheVariants.{LeftmostFirst};
+    ghost use Rattle.rx_nfa.specs.Config.{captures_kind};
+    ghost use Rattle.rx_strategy.specs.Core.{CoreValue, AreKnownOf};
+
+    ghost Value = { CoreValue };
+
+    ghost view = { λ c. record {
+      nfa = c.pikevm.nfa;
+      kind = c.pikevm.kind;
+      which_captures = captures_kind c.which_captures;
+      backtracks = is_some c.backtrack;
+      properties = c.info.properties;
+    } };
+
+    ghost invariant = { λ c. IfSome c.backtrack (λ nfa. (nfa ≡ c.pikevm.nfa) × (c.pikevm.kind ≡ LeftmostFirst))
+        × AreKnownOf c.info.properties c.pikevm.nfa };
+}
+
+/// An engine that answers each search that it is asked for.
+pub(crate) enum Nofail<'a> {
+    Backtrack(&'a BoundedBacktracker),
+    PikeVM(&'a PikeVM),
+}
+
+impl Core {
+    /// The core of this NFA, which was built under the configuration, with what is known of its patterns.
+    pub(crate) fn new(config: &Config, nfa: NFA, info: RegexInfo) -> Result<Core, Memory>
+        requires { AreKnownOf info.properties nfa }
+        ensures { IfOk result (λ core. core ≡ record {
+          nfa = nfa;
+          kind = kind_of config.now;
+          which_captures = captures_of config.now;
+          backtracks = has_backtracker config.now;
+          properties = info.properties;
+        }) }
+    {
+        let backtrack = backtracker(config, &nfa)?;
+        Ok(Core {
+            pikevm: PikeVM::build_from_nfa(nfa, config.get_match_kind()),
+            backtrack,
+            which_captures: config.get_which_captures(),
+            info,
+        })
+    }
+
+    /// The NFA.
+    pub(crate) fn get_nfa(&self) -> &NFA
+        ensures { result.now ≡ self.now.nfa }
+    {
+        self.pikevm.get_nfa()
+    }
+
+    /// Whether it is known that there is no match in the input's span.
+    pub(crate) fn is_impossible(&self, input: &Input<'_>) -> bool
+        ensures value { (hs : List Expression) → AreOf (alternation (expressions hs)) self.now.properties
+            → result ≡ is_impossible hs input.now }
+        ensures none { IsTrue result → (r : Patterns) → IsCoreFor self.now r → next_in r input.now ≡ None }
+        ensures spanned { IsSpanned input.now }
+    {
+        self.info.is_impossible(input)
+    }
+
+    /// A cache that serves this core.
+    pub(crate) fn create_cache(&self, alloc: Global) -> Result<Cache, Memory>
+        ensures fits { IfOk result (FitsCore self.now) }
+        ensures memory { IfOk result (λ c. memory_of c ≡ accounted_core self.now) }
+    {
+        let pikevm = self.pikevm.create_cache(alloc)?;
+        let backtrack = self.backtrack_cache(alloc)?;
+        let memory = pikevm
+            .memory_usage()
+            .saturating_add(memory_usage(&backtrack));
+        Ok(Cache {
+            pikevm,
+            backtrack,
+            memory,
+        })
+    }
+
+    /// A cache for the backtracker, where there is one.
+    fn backtrack_cache(&self, alloc: Global) -> Result<Option<backtrack::Cache>, Memory>
+        ensures fits { IfOk result (FitsBacktracker self.now) }
+        ensures memory { IfOk result (λ c. backtrack_memory c ≡ accounted_backtrack self.now) }
+    {
+        match &self.backtrack {
+            Some(engine) => Ok(Some(engine.create_cache(alloc)?)),
+            None => Ok(None),
+        }
+    }
+
+    /// Makes any cache one that serves this core. First each part grows where it must; then the number is set.
+    pub(crate) fn reset_cache(&self, alloc: Global, cache: &mut Cache) -> Result<(), Memory>
+        ensures fits { OnOk result (FitsCore self.now cache.new) }
+        ensures memory { OnOk result (memory_of cache.new ≡ accounted_core self.now) }
+        ensures err { OnErr result (FitsAsBefore cache.old cache.new) }
+        ensures sure { FitsCore self.now cache.old → IsOk result }
+    {
+        cache.pikevm.reset(alloc, &self.pikevm)?;
+        let backtrack = self.reset_backtrack(alloc, &mut cache.backtrack)?;
+        cache.memory = cache.pikevm.memory_usage().saturating_add(backtrack);
+        Ok(())
+    }
+
+    /// Makes the backtracker's cache one that serves this core, and tells what is accounted for it. Where there is no
+    /// backtracker, what is there stays, and counts 0.
+    fn reset_backtrack(
+        &self,
+        alloc: Global,
+        cache: &mut Option<backtrack::Cache>,
+    ) -> Result<usize, Memory>
+        ensures fits { OnOk result (FitsBacktracker self.now cache.new) }
+        ensures memory { IfOk result (λ n. n ≡ accounted_backtrack self.now) }
+        ensures kept { (c : CoreValue) → FitsBacktracker c cache.old → FitsBacktracker c cache.new }
+        ensures sure { FitsBacktracker self.now cache.old → IsOk result }
+    {
+        let Some(engine) = &self.backtrack else {
+            return Ok(0);
+        };
+        match cache {
+            Some(cache) => {
+                cache.reset(alloc, engine)?;
+                Ok(cache.memory_usage())
+            }
+            None => {
+                let made = engine.create_cache(alloc)?;
+                let memory = made.memory_usage();
+                *cache = Some(made);
+                Ok(memory)
+            }
+        }
+    }
+
+    /// Whether there is a match in the input's span, under each kind of match and of captures.
+    pub(crate) fn is_match(&self, cache: &mut Cache, input: &Input<'_>) -> bool
+        requires { FitsCore self.now cache.old }
+        ensures value { TellsWhether (IsCoreFor self.now) input.now result }
+        ensures cache { FitsCore self.now cache.new }
+        ensures memory { memory_of cache.new ≡ memory_of cache.old }
+    {
+        self.pikevm.is_match(&mut cache.pikevm, input)
+    }
+
+    /// The next match in the input's span, with its slots, where matches are told.
+    pub(crate) fn search_slots(
+        &self,
+        cache: &mut Cache,
+        input: &Input<'_>,
+        slots: &mut [Option<NonMaxUsize>],
+    ) -> Option<Match>
+        requires { FitsCore self.now cache.old }
+        ensures answer { IsAnswer (IsCoreFor self.now) self.now.kind input.now match_value result }
+        ensures slots { AreSlotsOfAnswer (IsCoreFor self.now) self.now.kind input.now match_value slots.new result }
+        ensures within { IfSome result (LiesIn input.now) }
+        ensures none { IfNone result (slots.new ≡ replicate (length slots.old) None) }
+        ensures slots_within { AreWithin input.now slots.new }
+        ensures cache { FitsCore self.now cache.new }
+        ensures memory { memory_of cache.new ≡ memory_of cache.old }
+    {
+        if self.tells() {
+            return self.search_nofail(cache, input, slots);
+        }
+        empty(slots);
+        None
+    }
+
+    /// Whether matches are told.
+    fn tells(&self) -> bool
+        ensures { result ≡ tells self.now.which_captures }
+    {
+        match self.which_captures {
+            WhichCaptures::All => true,
+            WhichCaptures::Implicit => true,
+            WhichCaptures::None => false,
+        }
+    }
+
+    /// The next match in the input's span, with its slots, by an engine that always answers.
+    fn search_nofail(
+        &self,
+        cache: &mut Cache,
+        input: &Input<'_>,
+        slots: &mut [Option<NonMaxUsize>],
+    ) -> Option<Match>
+        requires { FitsCore self.now cache.old }
+        ensures answer { IsSearched self.now.nfa input.now slots.new result }
+        ensures none { IfNone result (slots.new ≡ replicate (length slots.old) None) }
+        ensures cache { FitsCore self.now cache.new }
+        ensures memory { memory_of cache.new ≡ memory_of cache.old }
+    {
+        match self.nofail_for(input) {
+            Nofail::Backtrack(engine) => find_by_backtracking(
+                engine,
+                &mut cache.backtrack,
+                input,
+                slots,
+            ),
+            Nofail::PikeVM(engine) => engine.find_slots(&mut cache.pikevm, input, slots),
+        }
+    }
+
+    /// The engine that is asked: the backtracker where there is one and the span is not too long for it.
+    fn nofail_for(&self, input: &Input<'_>) -> Nofail<'_>
+        ensures { IsAskedFor self.now input.now result }
+    {
+        match &self.backtrack {
+            Some(engine) if input.get_span().len() <= engine.max_haystack_len() => {
+                Nofail::Backtrack(engine)
+            }
+            _ => Nofail::PikeVM(&self.pikevm),
+        }
+    }
+}
+
+/// The backtracker, where the configuration has it.
+fn backtracker(config: &Config, nfa: &NFA) -> Result<Option<BoundedBacktracker>, Memory>
+    ensures { IfOk result (λ o. MatchOption o (has_backtracker config.now ≡ false) (λ b. (has_backtracker config.now ≡ true) × (b ≡ nfa.now))) }
+{
+    if !config.has_backtracker() {
+        return Ok(None);
+    }
+    Ok(Some(BoundedBacktracker::build_from_nfa(nfa.clone()?)))
+}
+
+/// What is accounted for the backtracker's cache, where there is one.
+fn memory_usage(cache: &Option<backtrack::Cache>) -> usize
+    ensures { result ≡ backtrack_memory cache.now }
+{
+    match cache {
+        Some(cache) => cache.memory_usage(),
+        None => 0,
+    }
+}
+
+/// What the backtracker answers in a span that is not too long for it.
+fn find_by_backtracking(
+    engine: &BoundedBacktracker,
+    cache: &mut Option<backtrack::Cache>,
+    input: &Input<'_>,
+    slots: &mut [Option<NonMaxUsize>],
+) -> Option<Match>
+    requires fits { IsSomeAnd cache.old (FitsBounded engine.now) }
+    requires short { span_len input.now ≤ max_len engine.now }
+    ensures answer { IsSearched engine.now input.now slots.new result }
+    ensures none { IfNone result (slots.new ≡ replicate (length slots.old) None) }
+    ensures cache { IsSomeAnd cache.new (FitsBounded engine.now) }
+{
+    let Some(cache) = cache else {
+        unreachable!();
+    };
+    match engine.try_find_slots(cache, input, slots) {
+        Ok(found) => found,
+        // Its only error is that the span is too long.
+        Err(_) => unreachable!(),
+    }
+}
