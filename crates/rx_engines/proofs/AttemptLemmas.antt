@@ -4,10 +4,10 @@ use Rattle.std.proofs.lemmas.Nat.{mod-mul-add}
 use Rattle.std.specs.Prelude.{Bool, true, false, not, ◌||◌, ◌==◌, Option, Some}
 use Rattle.rx_model.specs.Runs.{Configuration, same, Passed, and_at}
 use Rattle.rx_model.specs.Machine.{grid}
-use Rattle.rx_model.proofs.MachineLemmas.{grid-has}
-use Rattle.rx_model.proofs.RunLemmas.{by_test, same-true, weight, weight-less}
+use Rattle.rx_model.proofs.lemmas.runs.MachineLemmas.{grid-has}
+use Rattle.rx_model.proofs.lemmas.runs.RunLemmas.{by_test, same-true, weight, weight-less}
 use Rattle.rx_nfa.specs.Automaton.{at, state_at, forwards}
-use Rattle.rx_nfa.proofs.AutomatonLemmas.{automaton-bounded}
+use Rattle.rx_nfa.proofs.lemmas.runs.AutomatonLemmas.{automaton-bounded}
 use Rattle.rx_engines.specs.Walk.{Slots, Answer}
 use Rattle.rx_engines.specs.Backtrack.{is_set, extent, passed_by, work, frames_left, Searching, Yields}
 use Rattle.rx_engines.specs.Search.{graph_for}

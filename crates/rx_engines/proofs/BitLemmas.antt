@@ -8,7 +8,7 @@ use Rattle.std.specs.Int.{bit_at, w64}
 use Rattle.std.specs.Int.Bits.{bit_or, bit_and}
 use Rattle.std.specs.Prelude.{Bool, true, false, not, ◌&&◌, ◌||◌, ◌==◌, ◌^◌, nat_eq, nat_lt, nat_le}
 use Rattle.rx_model.specs.Runs.{Configuration, same, nowhere, and_at}
-use Rattle.rx_model.proofs.RunLemmas.{by_test, same-true, same-self}
+use Rattle.rx_model.proofs.lemmas.runs.RunLemmas.{by_test, same-true, same-self}
 use Rattle.rx_nfa.specs.Automaton.{at}
 use Rattle.rx_engines.specs.Backtrack.{is_set, passed_in}
 

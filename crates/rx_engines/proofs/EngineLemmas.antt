@@ -6,16 +6,16 @@ use Rattle.std.proofs.lemmas.Option.{get_or_from_slice_get, slice_get_within}
 use Rattle.std.specs.Prelude.{Bool, true, false, Option, Some, None, option_map, is_some, IfSome, nat_lt, nat_le, if◌then◌else◌}
 use Rattle.rx_model.specs.Runs.{Trace, first_trace}
 use Rattle.rx_model.specs.Search.{Patterns, told_of, Anchor, free, anchored, anchored_to, is_anchored, Match, is_permitted, first_start, starts, next_match, slot_value}
-use Rattle.rx_model.proofs.RunLemmas.{by_test}
-use Rattle.rx_model.proofs.FirstLemmas.{none-is-some, some-is}
-use Rattle.rx_model.proofs.WithinLemmas.{next-later}
+use Rattle.rx_model.proofs.lemmas.runs.RunLemmas.{by_test}
+use Rattle.rx_model.proofs.lemmas.runs.FirstLemmas.{none-is-some, some-is}
+use Rattle.rx_model.proofs.lemmas.matches.WithinLemmas.{next-later}
 use Rattle.rx_search.specs.Matches.{match_value, MatchValue}
 use Rattle.rx_search.specs.Input.{InputValue, next_in}
 use Rattle.rx_search.specs.Told.{IsMatchWith, HasSlots}
 use Rattle.rx_nfa.specs.Automaton.{at, automaton}
 use Rattle.rx_nfa.specs.Nfa.{Nfa, IsInRange, IsNfaOf}
 use Rattle.rx_nfa.specs.NextMatch.{start_of, first_from, next_match_of, next_match_in}
-use Rattle.rx_nfa.proofs.NextMatchLemmas.{first_start-alike, next_match_of-patterns, next_match_of-slot, next_match_of-within}
+use Rattle.rx_nfa.proofs.lemmas.runs.NextMatchLemmas.{first_start-alike, next_match_of-patterns, next_match_of-slot, next_match_of-within}
 use Rattle.rx_engines.specs.Search.{IsInside, next_until, next_of, first_place, stop_of, answer_of}
 use Rattle.rx_engines.specs.declared.search.Search.{Search}
 use Rattle.rx_engines.specs.Walk.{Slots}

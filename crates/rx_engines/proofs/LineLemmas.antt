@@ -2,11 +2,11 @@
 use Rattle.std.proofs.Common.{◌≡◌, ℕ, zero, suc, ◌+◌, ◌≤◌, ◌<◌, List, [], ◌∷◌, ◌++◌, ap, arith}
 use Rattle.std.specs.Prelude.{false}
 use Rattle.rx_model.specs.Runs.{Passed}
-use Rattle.rx_model.proofs.RunLemmas.{by_test, weight}
+use Rattle.rx_model.proofs.lemmas.runs.RunLemmas.{by_test, weight}
 use Rattle.rx_nfa.specs.Automaton.{at, state_at}
 use Rattle.rx_nfa.specs.Ordered.{has, line, passed_at}
 use Rattle.rx_nfa.specs.declared.state.State.{State}
-use Rattle.rx_nfa.proofs.PlaceLemmas.{line-less}
+use Rattle.rx_nfa.proofs.lemmas.lists.PlaceLemmas.{line-less}
 use Rattle.rx_engines.specs.Simulation.{frames_of_state, frames_of_states, frames_at}
 
 pub line-frames : (states : List State) (n i : ℕ) (p : Passed) → weight (frames_at states) (line n i) p ≤ frames_of_states states n

@@ -4,15 +4,15 @@ use Rattle.std.proofs.lemmas.List.{set-get_or, set_past}
 use Rattle.std.specs.Prelude.{true, false, Option, Some, None, option_map}
 use Rattle.std.specs.Option.{option_or}
 use Rattle.rx_model.specs.Runs.{Configuration, PriorityGraph, Passed, and_at, Trace, with_write, found, first_trace, first_some, IsBounded}
-use Rattle.rx_model.proofs.RunLemmas.{or-none}
-use Rattle.rx_model.proofs.FirstLemmas.{none-is-some, tells}
-use Rattle.rx_model.proofs.FoundLemmas.{found-passed, found-prune, found-accepted, found-step}
+use Rattle.rx_model.proofs.lemmas.runs.RunLemmas.{or-none}
+use Rattle.rx_model.proofs.lemmas.runs.FirstLemmas.{none-is-some, tells}
+use Rattle.rx_model.proofs.lemmas.runs.FoundLemmas.{found-passed, found-prune, found-accepted, found-step}
 use Rattle.rx_nfa.specs.Automaton.{at}
 use Rattle.rx_engines.specs.Walk.{Slots, Answer, answer, pending, explore_all}
 use Rattle.rx_engines.specs.Backtrack.{undone, Searching, Yields}
 use Rattle.rx_engines.specs.declared.frame.Frame.{Frame}
 use Rattle.rx_engines.specs.declared.frame.Frame.TheVariants.{Explore, Restore}
-use Rattle.rx_model.proofs.OptionLemmas.{or-none_right}
+use Rattle.rx_model.proofs.lemmas.runs.OptionLemmas.{or-none_right}
 use Rattle.rx_engines.proofs.WalkLemmas.{answer-unwritten, answer-written, pending-explore_all, pending-alike}
 
 answer-none : (slots : Slots) (o : Option Trace) → answer slots o ≡ None → o ≡ None

@@ -3,10 +3,10 @@ use Rattle.std.proofs.Common.{◌≡◌, ◌≢◌, ℕ, zero, suc, ◌+◌, ◌
 use Rattle.std.proofs.lemmas.List.{get_or-set_same, get_or-set_other, take_more, get_or-take, take_all, length-take, get_or-append_right, get_or_append_left}
 use Rattle.std.proofs.lemmas.Bool.Decides.{nat_tests, Decides-eqb}
 use Rattle.std.specs.Prelude.{true, false, ◌==◌}
-use Rattle.rx_model.proofs.RunLemmas.{by_test}
+use Rattle.rx_model.proofs.lemmas.runs.RunLemmas.{by_test}
 use Rattle.rx_nfa.specs.Ordered.{has, passed_at}
 use Rattle.rx_engines.specs.Threads.{IsSparse}
-use Rattle.rx_nfa.proofs.PlaceLemmas.{left_at, left-most, left-less}
+use Rattle.rx_nfa.proofs.lemmas.lists.PlaceLemmas.{left_at, left-most, left-less}
 
 pub has-get : (xs : List ℕ) (k q : ℕ) → k < length xs → get_or xs k 0 ≡ q → has xs q ≡ true
 has-get [] k q lt e = absurd (omega arith)

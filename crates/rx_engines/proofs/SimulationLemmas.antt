@@ -4,12 +4,12 @@ use Rattle.std.proofs.lemmas.List.{set-get_or, get_or-set_same, get_or-set_other
 use Rattle.std.specs.Prelude.{true, false, Option, Some, None, option_map, if◌then◌else◌}
 use Rattle.std.specs.Option.{option_or}
 use Rattle.rx_model.specs.Runs.{Configuration, PriorityGraph, Passed, nowhere, and_at, Trace, with_write, found, first_some, IsBounded}
-use Rattle.rx_model.proofs.FoundLemmas.{found-prune, found-step}
+use Rattle.rx_model.proofs.lemmas.runs.FoundLemmas.{found-prune, found-step}
 use Rattle.rx_nfa.specs.Automaton.{at, state_at}
 use Rattle.rx_nfa.specs.Ordered.{has, is_resting, passed_at, first_told, first_then, IsStable}
 use Rattle.rx_nfa.specs.declared.state.State.{State}
-use Rattle.rx_nfa.proofs.ListLemmas.{first_told-alike, first_then-seen, first_then-moves, first_then-rests}
-use Rattle.rx_nfa.proofs.PlaceLemmas.{passed_at-has}
+use Rattle.rx_nfa.proofs.lemmas.lists.ListLemmas.{first_told-alike, first_then-seen, first_then-moves, first_then-rests}
+use Rattle.rx_nfa.proofs.lemmas.lists.PlaceLemmas.{passed_at-has}
 use Rattle.rx_engines.specs.Walk.{Slots, Answer, answer, pending, explore_all, write_all, Expands}
 use Rattle.rx_engines.specs.declared.frame.Frame.{Frame}
 use Rattle.rx_engines.specs.declared.frame.Frame.TheVariants.{Explore, Restore}

@@ -6,7 +6,7 @@ use Rattle.std.specs.Prelude.{Bool, true, false, Option, Some, None, ◌==◌, i
 use Rattle.std.specs.Option.{option_or}
 use Rattle.rx_model.specs.Runs.{last_write}
 use Rattle.rx_engines.specs.Walk.{Slots, write_all}
-use Rattle.rx_model.proofs.OptionLemmas.{or-none_right}
+use Rattle.rx_model.proofs.lemmas.runs.OptionLemmas.{or-none_right}
 
 -- a slot after the writes
 pub slot-write_all : (ws : List (ℕ × ℕ)) (slots : Slots) (k : ℕ) → k < length slots → get_or (write_all ws slots) k None ≡ option_or (last_write ws k) (get_or slots k None)

@@ -5,17 +5,17 @@ use Rattle.std.proofs.lemmas.List.{get_or_past, get_or-replicate, length-replica
 use Rattle.std.specs.Prelude.{Bool, Option, Some, None, IfSome, replicate, nat_lt, ◌==◌}
 use Rattle.rx_model.specs.Runs.{Configuration, PriorityGraph, Passed, nowhere, and_at, IsRun, IsBounded, NeverFalls, Trace, trace, with_write, last_write, first_past, first_trace}
 use Rattle.rx_model.specs.Search.{Anchor, Match, is_permitted, starts, slot_value}
-use Rattle.rx_model.proofs.RunLemmas.{by_test}
-use Rattle.rx_model.proofs.FirstLemmas.{found-is_run, none-is-some, some-is, tells}
-use Rattle.rx_model.proofs.RiseLemmas.{trace-end, run-rises, mapped-some}
+use Rattle.rx_model.proofs.lemmas.runs.RunLemmas.{by_test}
+use Rattle.rx_model.proofs.lemmas.runs.FirstLemmas.{found-is_run, none-is-some, some-is, tells}
+use Rattle.rx_model.proofs.lemmas.runs.RiseLemmas.{trace-end, run-rises, mapped-some}
 use Rattle.rx_search.specs.Input.{InputValue}
 use Rattle.rx_search.specs.Told.{HasSlots, AreWithin}
 use Rattle.rx_nfa.specs.Automaton.{at, automaton, forwards}
 use Rattle.rx_nfa.specs.Nfa.{Nfa}
 use Rattle.rx_nfa.specs.NextMatch.{start_of, first_from, next_match_of}
 use Rattle.rx_nfa.specs.declared.state.State.{State}
-use Rattle.rx_nfa.proofs.AutomatonLemmas.{automaton-bounded, automaton-rises}
-use Rattle.rx_nfa.proofs.NextMatchLemmas.{first_start-from, next_match_of-within}
+use Rattle.rx_nfa.proofs.lemmas.runs.AutomatonLemmas.{automaton-bounded, automaton-rises}
+use Rattle.rx_nfa.proofs.lemmas.runs.NextMatchLemmas.{first_start-from, next_match_of-within}
 use Rattle.rx_engines.specs.Walk.{Slots}
 
 -- a write before the others

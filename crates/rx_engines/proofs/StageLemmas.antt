@@ -6,13 +6,13 @@ use Rattle.std.specs.Option.{option_or}
 use Rattle.std.proofs.lemmas.Bool.Decides.{nat_tests}
 use Rattle.rx_model.specs.Runs.{Passed, nowhere, first_trace}
 use Rattle.rx_model.specs.Search.{Match, is_permitted}
-use Rattle.rx_model.proofs.RunLemmas.{by_test}
-use Rattle.rx_model.proofs.FirstLemmas.{none-is-some, some-is}
-use Rattle.rx_model.proofs.RiseLemmas.{found-end}
+use Rattle.rx_model.proofs.lemmas.runs.RunLemmas.{by_test}
+use Rattle.rx_model.proofs.lemmas.runs.FirstLemmas.{none-is-some, some-is}
+use Rattle.rx_model.proofs.lemmas.runs.RiseLemmas.{found-end}
 use Rattle.rx_search.specs.Matches.{MatchValue}
 use Rattle.rx_nfa.specs.Automaton.{at, forwards, byte_at}
-use Rattle.rx_nfa.proofs.AutomatonLemmas.{automaton-bounded, automaton-rises, automaton-accepts-within}
-use Rattle.rx_nfa.proofs.NextMatchLemmas.{first_start-from}
+use Rattle.rx_nfa.proofs.lemmas.runs.AutomatonLemmas.{automaton-bounded, automaton-rises, automaton-accepts-within}
+use Rattle.rx_nfa.proofs.lemmas.runs.NextMatchLemmas.{first_start-from}
 use Rattle.rx_engines.specs.Walk.{Slots}
 use Rattle.rx_engines.specs.Threads.{Row}
 use Rattle.rx_engines.specs.Simulation.{Hit, hit_of, best_hit, until, among, later_starts}

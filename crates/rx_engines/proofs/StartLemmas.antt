@@ -6,26 +6,26 @@ use Rattle.std.proofs.lemmas.Bool.Decides.{nat_tests}
 use Rattle.std.specs.Option.{option_or}
 use Rattle.rx_model.specs.Runs.{PriorityGraph, Passed, nowhere, Trace, found}
 use Rattle.rx_model.specs.Search.{Match, is_permitted, first_start, slot_value}
-use Rattle.rx_model.proofs.RunLemmas.{by_test}
-use Rattle.rx_model.proofs.FirstLemmas.{none-is-some, some-is, tells}
-use Rattle.rx_model.proofs.RiseLemmas.{found-end}
-use Rattle.rx_model.proofs.FoundLemmas.{option_map-or}
+use Rattle.rx_model.proofs.lemmas.runs.RunLemmas.{by_test}
+use Rattle.rx_model.proofs.lemmas.runs.FirstLemmas.{none-is-some, some-is, tells}
+use Rattle.rx_model.proofs.lemmas.runs.RiseLemmas.{found-end}
+use Rattle.rx_model.proofs.lemmas.runs.FoundLemmas.{option_map-or}
 use Rattle.rx_search.specs.Matches.{MatchValue, match_value}
 use Rattle.rx_nfa.specs.Automaton.{at, automaton, state_at, forwards}
 use Rattle.rx_engines.specs.Walk.{Slots, answer, pending}
 use Rattle.rx_engines.specs.Search.{graph_until}
 use Rattle.rx_nfa.specs.declared.state.State.{State}
 use Rattle.rx_engines.specs.declared.frame.Frame.TheVariants.{Explore}
-use Rattle.rx_nfa.proofs.AutomatonLemmas.{automaton-rises, automaton-accepts-within}
-use Rattle.rx_nfa.proofs.AutomatonLemmas.{automaton-bounded}
+use Rattle.rx_nfa.proofs.lemmas.runs.AutomatonLemmas.{automaton-rises, automaton-accepts-within}
+use Rattle.rx_nfa.proofs.lemmas.runs.AutomatonLemmas.{automaton-bounded}
 use Rattle.rx_engines.proofs.SlotLemmas.{slot-of_match, length-write_all, empty-slot, all-empty}
-use Rattle.rx_model.proofs.OptionLemmas.{or-none_right}
+use Rattle.rx_model.proofs.lemmas.runs.OptionLemmas.{or-none_right}
 use Rattle.rx_engines.specs.Threads.{Row}
 use Rattle.rx_engines.specs.declared.search.Search.{Search}
 use Rattle.rx_engines.specs.declared.pikevm.step.Accepted.{Accepted}
 use Rattle.rx_nfa.specs.Ordered.{is_resting, passed_at, IsStable, first_of_starts}
 use Rattle.rx_engines.specs.Simulation.{Closed, Hit, hit, hit_of, best_hit, until, among, Waits, Stepped, from_starts, later_starts}
-use Rattle.rx_nfa.proofs.LaterLemmas.{first_of_starts-stable, first_of_starts-forget, first_of_starts-here, first_of_starts-not_here}
+use Rattle.rx_nfa.proofs.lemmas.lists.LaterLemmas.{first_of_starts-stable, first_of_starts-forget, first_of_starts-here, first_of_starts-not_here}
 
 -- where no start tells anything
 pub first_start-none : (permitted : ℕ → Bool) (f : ℕ → Option Trace) (n i : ℕ) → ((j : ℕ) → i ≤ j → f j ≡ None) → first_start permitted f n i ≡ None

@@ -5,29 +5,29 @@ use Rattle.std.proofs.lemmas.List.{drop_all}
 use Rattle.std.specs.Prelude.{true, false, Option, Some, None, option_map, All, nat_lt}
 use Rattle.std.specs.Option.{option_or}
 use Rattle.rx_model.specs.Runs.{PriorityGraph, Passed, nowhere, and_at, same, Trace, with_write, found, IsBounded, NeverFalls}
-use Rattle.rx_model.proofs.RunLemmas.{by_test}
-use Rattle.rx_model.proofs.FoundLemmas.{found-accepted, found-prune}
+use Rattle.rx_model.proofs.lemmas.runs.RunLemmas.{by_test}
+use Rattle.rx_model.proofs.lemmas.runs.FoundLemmas.{found-accepted, found-prune}
 use Rattle.std.proofs.lemmas.List.Elements.{All-nil, All-cons}
 use Rattle.std.proofs.lemmas.Bool.Decides.{nat_tests}
 use Rattle.rx_nfa.specs.Automaton.{automaton, route, read_byte, state_step, state_accepts, state_writes, NamesBelow, forwards, byte_of, byte_at, target_of}
 use Rattle.rx_nfa.specs.declared.state.Transition.{Transition}
 use Rattle.rx_nfa.specs.declared.state.State.TheVariants.{ByteRange, Sparse, Look, Union, Capture, Fail, Match as Accepts}
-use Rattle.rx_nfa.proofs.StateLemmas.{accepted-is, successors-is, written-is, state-known, names-known, read_byte-taken, read_byte-dead}
+use Rattle.rx_nfa.proofs.lemmas.runs.StateLemmas.{accepted-is, successors-is, written-is, state-known, names-known, read_byte-taken, read_byte-dead}
 use Rattle.rx_engines.specs.Simulation.{act_of}
 use Rattle.rx_engines.specs.Onward.{onto}
 use Rattle.rx_engines.specs.declared.onward.Onward.{Onward}
 use Rattle.rx_engines.specs.declared.onward.Onward.TheVariants.{Stop, To, Back}
-use Rattle.rx_nfa.proofs.AutomatonLemmas.{automaton-bounded}
+use Rattle.rx_nfa.proofs.lemmas.runs.AutomatonLemmas.{automaton-bounded}
 use Rattle.rx_nfa.specs.Automaton.{at, state_at}
 use Rattle.rx_engines.specs.Walk.{answer, pending}
 use Rattle.rx_nfa.specs.declared.state.State.{State}
 use Rattle.rx_engines.specs.declared.frame.Frame.TheVariants.{Explore}
-use Rattle.rx_model.proofs.OptionLemmas.{or-none_right, or-assoc}
+use Rattle.rx_model.proofs.lemmas.runs.OptionLemmas.{or-none_right, or-assoc}
 use Rattle.rx_engines.specs.Threads.{Row, row_at}
 use Rattle.rx_nfa.specs.Ordered.{is_resting, passed_at, IsStable}
 use Rattle.rx_engines.specs.Simulation.{Hit, hit, thread, among, Waits, Closed}
-use Rattle.rx_nfa.proofs.PlaceLemmas.{passed_at-elsewhere}
-use Rattle.rx_nfa.proofs.TargetLemmas.{route-below, found-dead, found-reads}
+use Rattle.rx_nfa.proofs.lemmas.lists.PlaceLemmas.{passed_at-elsewhere}
+use Rattle.rx_nfa.proofs.lemmas.lists.TargetLemmas.{route-below, found-dead, found-reads}
 use Rattle.rx_engines.proofs.SimulationLemmas.{among-alike}
 
 -- The threads put aside at the next place, then those that are left at this one, then what comes later.

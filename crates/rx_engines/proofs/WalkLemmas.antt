@@ -5,11 +5,11 @@ use Rattle.std.specs.Option.{option_or}
 use Rattle.rx_model.specs.Runs.{Configuration, Trace, with_write, first_some}
 use Rattle.rx_nfa.specs.Automaton.{at, automaton, state_at, state_step, state_accepts, state_writes, forwards}
 use Rattle.rx_nfa.specs.declared.state.State.{State}
-use Rattle.rx_nfa.proofs.StateLemmas.{accepted-is, successors-is, written-is}
+use Rattle.rx_nfa.proofs.lemmas.runs.StateLemmas.{accepted-is, successors-is, written-is}
 use Rattle.rx_engines.specs.Walk.{Slots, answer, pending, explore_all, Expands}
 use Rattle.rx_engines.specs.declared.frame.Frame.{Frame}
 use Rattle.rx_engines.specs.declared.frame.Frame.TheVariants.{Explore, Restore}
-use Rattle.rx_model.proofs.OptionLemmas.{or-assoc}
+use Rattle.rx_model.proofs.lemmas.runs.OptionLemmas.{or-assoc}
 
 answer-or : (slots : Slots) (a b : Option Trace) → answer slots (option_or a b) ≡ option_or (answer slots a) (answer slots b)
 answer-or slots None b = refl

@@ -4,12 +4,12 @@ use Rattle.std.proofs.lemmas.Bool.Decides.{nat_tests}
 use Rattle.std.proofs.lemmas.List.Elements.{All-head, All-tail}
 use Rattle.std.specs.Prelude.{Bool, true, false, if◌then◌else◌, Option, Some, None, All, map, nat_lt, nat_le, ◌&&◌, slice_index}
 use Rattle.rx_model.specs.Runs.{PriorityGraph, Configuration}
-use Rattle.rx_model.proofs.RunLemmas.{by_test}
-use Rattle.rx_model.proofs.FirstLemmas.{none-is-some, some-is}
+use Rattle.rx_model.proofs.lemmas.runs.RunLemmas.{by_test}
+use Rattle.rx_model.proofs.lemmas.runs.FirstLemmas.{none-is-some, some-is}
 use Rattle.rx_nfa.specs.Automaton.{at, automaton, state_at, state_step, state_accepts, state_writes, route, go_on, read_byte, forwards, byte_of, byte_at, target_of}
 use Rattle.rx_nfa.specs.declared.state.Transition.{Transition}
 use Rattle.rx_nfa.specs.declared.state.State.{State}
-use Rattle.rx_nfa.proofs.StateLemmas.{accepted-is, successors-is, written-is}
+use Rattle.rx_nfa.proofs.lemmas.runs.StateLemmas.{accepted-is, successors-is, written-is}
 use Rattle.rx_engines.specs.Walk.{Slots, AllWithin, explore_all}
 use Rattle.rx_engines.specs.Onward.{frames_of, onto}
 use Rattle.rx_engines.specs.Backtrack.{Saves, Yields, Stepped}

@@ -3,7 +3,7 @@ use Rattle.std.specs.Prelude.{◌≡◌, ◌⊎◌, ℕ, zero, suc, ◌+◌, ◌
 use Rattle.std.specs.Int.{bit_at}
 use Rattle.rx_model.specs.Runs.{Configuration, PriorityGraph, Passed, found, first_trace}
 use Rattle.rx_model.specs.Machine.{grid}
-use Rattle.rx_model.proofs.RunLemmas.{weight}
+use Rattle.rx_model.proofs.lemmas.runs.RunLemmas.{weight}
 use Rattle.rx_search.specs.Matches.{HalfMatchValue}
 use Rattle.rx_nfa.specs.Automaton.{state_at}
 use Rattle.rx_nfa.specs.declared.state.State.{State}

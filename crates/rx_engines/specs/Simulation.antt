@@ -3,7 +3,7 @@ use Rattle.std.specs.Prelude.{◌≡◌, ℕ, zero, suc, ◌+◌, ◌-◌, ◌�
 use Rattle.std.specs.Option.{option_or}
 use Rattle.rx_model.specs.Runs.{Configuration, PriorityGraph, Passed, nowhere, found}
 use Rattle.rx_model.specs.Search.{Match, is_permitted}
-use Rattle.rx_model.proofs.RunLemmas.{weight}
+use Rattle.rx_model.proofs.lemmas.runs.RunLemmas.{weight}
 use Rattle.rx_search.specs.Matches.{MatchValue}
 use Rattle.rx_nfa.specs.Automaton.{at, automaton, state_at, target_of}
 use Rattle.rx_nfa.specs.Ordered.{is_resting, line, passed_at, first_told, first_then, at_rest, first_of_starts}

@@ -2,7 +2,7 @@
 use Rattle.std.proofs.Common.{arith}
 use Rattle.std.proofs.lemmas.Bool.Decides.{nat_tests}
 use Rattle.std.specs.Prelude.{◌≡◌, ℕ, ◌^◌, ◌-◌, ◌<◌, Option, Some, None, nat_lt, if◌then◌else◌, refl}
-use Rattle.rx_model.proofs.RunLemmas.{by_test}
+use Rattle.rx_model.proofs.lemmas.runs.RunLemmas.{by_test}
 
 -- the greatest word stands for none
 abbrev pub place_of : ℕ → Option ℕ

@@ -8,7 +8,7 @@ use Rattle.std.proofs.lemmas.List.Elements.{All-cons}
 use Rattle.std.proofs.lemmas.Str.{len_utf8_bounds}
 use Rattle.rx_model.specs.Text.{scalar_ranges, byte_ranges}
 use Rattle.rx_model.specs.Length.{shorter, shortest_of, shortest_scalar, shortest_byte}
-use Rattle.rx_model.proofs.LengthLemmas.{shortest-first}
+use Rattle.rx_model.proofs.lemmas.meaning.LengthLemmas.{shortest-first}
 use Rattle.rx_hir.specs.Length.{longer, longest_of, longest_scalar, scalar_until, saturated, in_64_bits}
 use Rattle.rx_model.specs.Expression.{class}
 use Rattle.rx_hir.specs.PropertiesViews.{AreOf, AreSimple}

@@ -9,9 +9,9 @@ use Rattle.std.proofs.Math.Seq.{take-append_seam}
 use Rattle.rx_model.specs.Text.{scalar_ranges, byte_ranges, is_member}
 use Rattle.rx_model.specs.Expression.{Expression, empty, literal, class, repetition}
 use Rattle.rx_model.specs.Meaning.{Pieces, IsCount, Means}
-use Rattle.rx_model.proofs.CharLemmas.{stands_at_parts, stands_at_from, member_len-is, member_len-of, byte_len-is, byte_len-of}
-use Rattle.rx_model.proofs.EmptyLemmas.{means-rises}
-use Rattle.rx_model.proofs.RunLemmas.{by_test}
+use Rattle.rx_model.proofs.lemmas.meaning.CharLemmas.{stands_at_parts, stands_at_from, member_len-is, member_len-of, byte_len-is, byte_len-of}
+use Rattle.rx_model.proofs.lemmas.meaning.EmptyLemmas.{means-rises}
+use Rattle.rx_model.proofs.lemmas.runs.RunLemmas.{by_test}
 use Rattle.rx_class.specs.Ranges.{AreScalarRanges}
 use Rattle.rx_hir.specs.Length.{maximum_len}
 use Rattle.rx_hir.specs.Normal.{literal_of, class_of, is_zero, at_most_one, copies_of, repetition_of}

@@ -6,7 +6,7 @@ use Rattle.std.proofs.lemmas.Bool.Decides.{nat_tests}
 use Rattle.rx_model.specs.Look.{Look, holds}
 use Rattle.rx_model.specs.Expression.{Expression, Expressions, empty, literal, class, look, repetition, capture, concat, alternation, nil, cons}
 use Rattle.rx_model.specs.Meaning.{Pieces, Means, MeansInTurn, MeansOne}
-use Rattle.rx_model.proofs.EmptyLemmas.{means-rises, in_turn-rise}
+use Rattle.rx_model.proofs.lemmas.meaning.EmptyLemmas.{means-rises, in_turn-rise}
 use Rattle.rx_hir.specs.Length.{maximum_len, sum_of_maximum_len}
 use Rattle.rx_hir.specs.Normal.{is_zero}
 use Rattle.rx_hir.specs.SameLaws.{same-kind}

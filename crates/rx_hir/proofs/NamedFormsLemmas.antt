@@ -2,7 +2,7 @@
 use Rattle.std.proofs.Common.{ℕ, zero, suc, ◌⊎◌, Bool, List, [], ◌∷◌, ◌++◌, flat_map, min, Option, Some, None, inl, inr}
 use Rattle.rx_model.specs.Text.{Class, scalar_ranges, byte_ranges}
 use Rattle.rx_model.specs.Expression.{Expression, Expressions, empty, literal, class, look, repetition, capture, concat, alternation, nil, cons}
-use Rattle.rx_model.proofs.RunLemmas.{by_test}
+use Rattle.rx_model.proofs.lemmas.runs.RunLemmas.{by_test}
 use Rattle.rx_hir.specs.Length.{maximum_len}
 use Rattle.rx_hir.specs.Names.{IsNamed, IsNamedAmong}
 use Rattle.rx_hir.specs.Normal.{literal_of, literal_or, set_of, only_encoding, class_of, is_zero, at_most_one, copies_of, repetition_of, list_of, expressions, parts_of, join_literals, joined, sequence_of, concat_of, alternatives_of, choice_of, alternation_of}

@@ -2,7 +2,7 @@
 use Rattle.std.proofs.Common.{◌≡◌, ℕ, ◌+◌, ◌⊎◌, List, [], ◌∷◌, ◌++◌, length, drop, flat_map, refl, sym, ap, ◌∙◌, subst, inl, inr, arith, append_assoc, length-append, true≢false}
 use Rattle.rx_model.specs.Expression.{Expression, Expressions, empty, literal, class, look, repetition, capture, concat, alternation, nil, cons}
 use Rattle.rx_model.specs.Meaning.{Means, MeansInTurn, MeansOne}
-use Rattle.rx_model.proofs.CharLemmas.{stands_at_parts, stands_at_from, byte_len-is}
+use Rattle.rx_model.proofs.lemmas.meaning.CharLemmas.{stands_at_parts, stands_at_from, byte_len-is}
 use Rattle.rx_hir.specs.Normal.{fail, list_of, expressions, parts_of, join_literals, joined, sequence_of, concat_of, alternatives_of, choice_of, alternation_of}
 
 -- two relations of places are one

@@ -9,8 +9,8 @@ use Rattle.rx_model.specs.Text.{Class, scalar_ranges, byte_ranges, is_member, me
 use Rattle.rx_model.specs.Expression.{Expression, Expressions, empty, literal, class, look, repetition, capture, concat, alternation, nil, cons}
 use Rattle.rx_model.specs.Meaning.{Pieces, Means, MeansInTurn, MeansOne}
 use Rattle.rx_model.specs.Length.{plus, shortest_byte}
-use Rattle.rx_model.proofs.RunLemmas.{by_test}
-use Rattle.rx_model.proofs.CharLemmas.{member_len-is, byte_len-is}
+use Rattle.rx_model.proofs.lemmas.runs.RunLemmas.{by_test}
+use Rattle.rx_model.proofs.lemmas.meaning.CharLemmas.{member_len-is, byte_len-is}
 use Rattle.rx_hir.specs.Length.{times, greater, longer, scalar_until, longest_scalar, longest_of, longest_member, maximum_len, sum_of_maximum_len, greatest_maximum_len, saturated, in_64_bits}
 
 -- a length that is known, and at least n

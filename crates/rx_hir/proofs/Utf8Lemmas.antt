@@ -9,8 +9,8 @@ use Rattle.std.proofs.Math.Seq.{take-add, take-append_seam}
 use Rattle.rx_model.specs.Text.{Class, scalar_ranges, byte_ranges, is_member, member_len}
 use Rattle.rx_model.specs.Expression.{Expression, Expressions, empty, literal, class, look, repetition, capture, concat, alternation, nil, cons}
 use Rattle.rx_model.specs.Meaning.{Pieces, Means, MeansInTurn, MeansOne}
-use Rattle.rx_model.proofs.CharLemmas.{stands_at_parts, member_len-is, byte_len-is}
-use Rattle.rx_model.proofs.EmptyLemmas.{means-rises, in_turn-rise}
+use Rattle.rx_model.proofs.lemmas.meaning.CharLemmas.{stands_at_parts, member_len-is, byte_len-is}
+use Rattle.rx_model.proofs.lemmas.meaning.EmptyLemmas.{means-rises, in_turn-rise}
 use Rattle.rx_hir.specs.Properties.{is_utf8, are_utf8, is_utf8_class}
 
 -- the bytes i..j

@@ -3,7 +3,10 @@ ghost use Rattle.std.specs.Prelude.{◌≡◌};
 
 use crate::error::{ParseError, SyntaxError, SyntaxErrorKind};
 
-/// A piece of the pattern, in bytes.
+/// A piece of the pattern, in bytes: what a refusal names.
+///
+/// It is no `Span` of rx_search: a span is a part of a haystack, and both ends of one are places to search at. Nothing
+/// is searched in a piece.
 #[derive(Clone, Copy, Debug, PartialEq, Eq)]
 pub struct Piece {
     /// How many bytes of the pattern stand before the piece.

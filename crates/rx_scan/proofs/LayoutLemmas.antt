@@ -8,8 +8,8 @@ use Rattle.std.proofs.Math.Seq.{get_or-append_seam}
 use Rattle.rx_model.specs.Expression.{Expression}
 use Rattle.rx_model.specs.Matches.{IsMatch}
 use Rattle.rx_model.specs.Search.{Patterns, Match, greatest_group, groups_before, has_explicit_groups, slot_of, slot_value, next_match, free}
-use Rattle.rx_model.proofs.WithinLemmas.{next-run, match-slots, match-others}
-use Rattle.rx_model.proofs.RunLemmas.{by_test}
+use Rattle.rx_model.proofs.lemmas.matches.WithinLemmas.{next-run, match-slots, match-others}
+use Rattle.rx_model.proofs.lemmas.runs.RunLemmas.{by_test}
 use Rattle.rx_search.specs.GroupInfo.{groups_at, slot_of_group, explicit_before, groups_in_expression, group_count as all_groups, slot_count}
 use Rattle.rx_search.specs.Told.{HasSlots}
 use Rattle.rx_search.specs.declared.span.Span.{Span}

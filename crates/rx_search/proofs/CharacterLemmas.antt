@@ -14,8 +14,8 @@ use Rattle.bstr.proofs.lemmas.PieceLemmas.{IsLastPiece-whole}
 use Rattle.bstr.proofs.lemmas.SoundLemmas.{SpellsChar-decoded, IsLastPiece-decoded, IsLastPiece-same}
 use Rattle.rx_model.specs.Text.{char_at}
 use Rattle.rx_model.specs.Look.{char_before, char_of_length_before, of_length}
-use Rattle.rx_model.proofs.CharLemmas.{char_at_parts, char_at_from}
-use Rattle.rx_model.proofs.RunLemmas.{by_test}
+use Rattle.rx_model.proofs.lemmas.meaning.CharLemmas.{char_at_parts, char_at_from}
+use Rattle.rx_model.proofs.lemmas.runs.RunLemmas.{by_test}
 
 -- by the value of an option
 by_option : {P : Type 0} (o : Option ℕ) → (o ≡ None → P) → ((x : ℕ) → o ≡ Some x → P) → P

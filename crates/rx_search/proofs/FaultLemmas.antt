@@ -10,7 +10,7 @@ use Rattle.std.specs.Cmp.Lexicographic.{slice_cmp}
 use Rattle.std.specs.Ordering.{nat_cmp}
 use Rattle.std.specs.List.{list_any}
 use Rattle.std.specs.Option.{option_or}
-use Rattle.rx_model.proofs.OptionLemmas.{or-assoc, or-none_right}
+use Rattle.rx_model.proofs.lemmas.runs.OptionLemmas.{or-assoc, or-none_right}
 use Rattle.rx_search.specs.declared.group_error.GroupInfoError.{GroupInfoError}
 use Rattle.rx_search.specs.declared.group_error.GroupInfoError.TheVariants.{TooMany}
 use Rattle.rx_search.specs.Limits.{id_limit, slot_limit}

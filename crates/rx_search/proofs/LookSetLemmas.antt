@@ -7,7 +7,7 @@ use Rattle.std.proofs.lemmas.Bool.Decides.{nat_tests}
 use Rattle.std.proofs.lemmas.Grind.{and-not_self, and_not_bit}
 use Rattle.std.proofs.lemmas.Nat.{and_le_l, and_mask, and_shr, or_shr, and_mod, or_mod, bit_set_by_shift, pow_apart, shl-shr, shr-shr}
 use Rattle.rx_model.specs.Look.{Look, look_number, look_of, look-back, kinds, start_text, end_text, start_lf, end_lf, start_crlf, end_crlf, word_ascii, word_ascii_negate, word_unicode, word_unicode_negate, word_start_ascii, word_end_ascii, word_start_unicode, word_end_unicode, word_start_half_ascii, word_end_half_ascii, word_start_half_unicode, word_end_half_unicode}
-use Rattle.rx_model.proofs.RunLemmas.{by_test}
+use Rattle.rx_model.proofs.lemmas.runs.RunLemmas.{by_test}
 use Rattle.rx_search.specs.Look.{is_same_kind}
 use Rattle.rx_search.specs.LookSet.{has, kinds_in, kinds_from}
 

@@ -3,9 +3,9 @@ use Rattle.std.proofs.Common.{◌≡◌, ℕ, zero, suc, ◌+◌, ◌-◌, ◌<�
 use Rattle.std.proofs.lemmas.List.{append_assoc, append-nil}
 use Rattle.std.specs.Prelude.{Option, Some, None, option_map, map, IfSome, MatchOption, OnSome}
 use Rattle.rx_model.specs.Search.{Patterns, Match, next_after, matches_from, matches}
-use Rattle.rx_model.proofs.RunLemmas.{by_test}
-use Rattle.rx_model.proofs.MatchLemmas.{next-within}
-use Rattle.rx_model.proofs.SuccessionLemmas.{IsSearch, IsEnough, next_after-follows, matches_from-enough}
+use Rattle.rx_model.proofs.lemmas.runs.RunLemmas.{by_test}
+use Rattle.rx_model.proofs.lemmas.matches.MatchLemmas.{next-within}
+use Rattle.rx_model.proofs.lemmas.matches.SuccessionLemmas.{IsSearch, IsEnough, next_after-follows, matches_from-enough}
 use Rattle.rx_search.specs.Matches.{MatchValue, match_value}
 use Rattle.rx_search.specs.Input.{InputValue, from_place, next_in}
 use Rattle.rx_search.specs.Told.{tells, told_in}

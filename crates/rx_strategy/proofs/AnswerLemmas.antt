@@ -2,8 +2,8 @@
 use Rattle.std.proofs.Common.{◌≡◌, ℕ, ◌≤◌, List, length, refl, sym, ap, ◌∙◌, subst, arith}
 use Rattle.std.specs.Prelude.{Bool, true, false, if◌then◌else◌, Option, Some, None, option_map, is_some, IfSome, IfNone}
 use Rattle.rx_model.specs.Search.{Patterns, WhichCaptures, all, implicit, none, Match, told_of}
-use Rattle.rx_model.proofs.RunLemmas.{by_test}
-use Rattle.rx_model.proofs.WithinLemmas.{next-later}
+use Rattle.rx_model.proofs.lemmas.runs.RunLemmas.{by_test}
+use Rattle.rx_model.proofs.lemmas.matches.WithinLemmas.{next-later}
 use Rattle.rx_search.specs.Input.{InputValue, next_in}
 use Rattle.rx_search.specs.Matches.{MatchValue, match_value}
 use Rattle.rx_search.specs.Promise.{Premises, Promised}
@@ -11,7 +11,7 @@ use Rattle.rx_search.specs.Told.{tells, told_in, IsMatchWith, HasSlots}
 use Rattle.rx_search.specs.declared.anchored.MatchKind.{MatchKind}
 use Rattle.rx_nfa.specs.Nfa.{Nfa, IsNfaOf}
 use Rattle.rx_nfa.specs.NextMatch.{next_match_in}
-use Rattle.rx_nfa.proofs.NextMatchLemmas.{next_match_of-patterns}
+use Rattle.rx_nfa.proofs.lemmas.runs.NextMatchLemmas.{next_match_of-patterns}
 use Rattle.rx_search.specs.Answer.{IsAnswer, AreSlotsOfAnswer, TellsWhether}
 use Rattle.rx_strategy.specs.Core.{CoreValue, IsCoreFor, IsSearched, core_finds}
 

@@ -9,9 +9,9 @@ use Rattle.rx_model.specs.Length.{minimum_len}
 use Rattle.rx_model.specs.Meaning.{Means}
 use Rattle.rx_model.specs.Search.{Patterns, Anchor, free, anchored, anchored_to, is_anchored, Match}
 use Rattle.rx_model.specs.Matches.{IsStart, IsMatch}
-use Rattle.rx_model.proofs.FirstLemmas.{some-is, none-is-some, tells}
-use Rattle.rx_model.proofs.LengthLemmas.{means-long}
-use Rattle.rx_model.proofs.WithinLemmas.{next-run, match-within, match-means}
+use Rattle.rx_model.proofs.lemmas.runs.FirstLemmas.{some-is, none-is-some, tells}
+use Rattle.rx_model.proofs.lemmas.meaning.LengthLemmas.{means-long}
+use Rattle.rx_model.proofs.lemmas.matches.WithinLemmas.{next-run, match-within, match-means}
 use Rattle.rx_search.specs.Input.{InputValue, next_in, span_len}
 use Rattle.rx_hir.specs.Length.{maximum_len, saturated, in_64_bits}
 use Rattle.rx_hir.specs.Normal.{expressions}

@@ -15,7 +15,7 @@ use Rattle.rx_reader.specs.declared.group_kind.GroupKind.TheVariants.{NonCapturi
 use Rattle.rx_reader.specs.Grammar.{read}
 use Rattle.rx_reader.specs.Groups.{IsGroup, IsGroupAmong}
 use Rattle.rx_reader.specs.Syntax.{Syntax, Syntaxes, literal, atom, repeated, group, cat, alt, nil, cons}
-use Rattle.rx_reader.proofs.GroupLemmas.{from_one, one_name, one_number}
+use Rattle.rx_reader.proofs.lemmas.patterns.GroupLemmas.{from_one, one_name, one_number}
 use Rattle.rx_syntax.specs.Literals.{character}
 use Rattle.rx_syntax.specs.Translation.{group_of, translated, all_translated}
 use Rattle.rx_syntax.specs.Pattern.{reads}

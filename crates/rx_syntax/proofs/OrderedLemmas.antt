@@ -13,7 +13,7 @@ use Rattle.rx_reader.specs.declared.group_kind.GroupKind.{GroupKind}
 use Rattle.rx_reader.specs.declared.group_kind.GroupKind.TheVariants.{NonCapturing, CaptureIndex, CaptureName}
 use Rattle.rx_reader.specs.Grammar.{read}
 use Rattle.rx_reader.specs.Syntax.{Syntax, Syntaxes, literal, atom, repeated, group, cat, alt, nil, cons}
-use Rattle.rx_reader.proofs.RepetitionLemmas.{InOrder, EachInOrder, read-order}
+use Rattle.rx_reader.proofs.lemmas.patterns.RepetitionLemmas.{InOrder, EachInOrder, read-order}
 use Rattle.rx_syntax.specs.Translation.{atom_of, group_of, translated, all_translated}
 use Rattle.rx_syntax.specs.Literals.{character}
 use Rattle.rx_syntax.specs.Pattern.{reads}

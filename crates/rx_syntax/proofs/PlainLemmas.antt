@@ -12,7 +12,7 @@ use Rattle.rx_reader.specs.Syntax.{Syntax}
 use Rattle.rx_reader.specs.declared.config.Config.{Config}
 use Rattle.rx_reader.specs.declared.flags.Flags.{Flags}
 use Rattle.rx_reader.specs.declared.error.SyntaxError.{SyntaxError}
-use Rattle.rx_reader.proofs.PlainLemmas.{escaped-reads, plain-reads}
+use Rattle.rx_reader.proofs.lemmas.patterns.PlainLemmas.{escaped-reads, plain-reads}
 use Rattle.rx_syntax.specs.Literals.{in_either_case, character}
 use Rattle.rx_syntax.specs.Pattern.{reads}
 use Rattle.rx_syntax.specs.Translation.{translated}

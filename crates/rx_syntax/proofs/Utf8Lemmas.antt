@@ -20,7 +20,7 @@ use Rattle.rx_reader.specs.Config.{utf8_of}
 use Rattle.rx_reader.specs.Grammar.{read}
 use Rattle.rx_reader.specs.Syntax.{Syntax, Syntaxes, literal, atom, repeated, group, cat, alt, nil, cons}
 use Rattle.rx_reader.specs.Characters.{AllIn, AllInEach}
-use Rattle.rx_reader.proofs.CharacterLemmas.{read-scalars}
+use Rattle.rx_reader.proofs.lemmas.patterns.CharacterLemmas.{read-scalars}
 use Rattle.rx_syntax.specs.Translation.{group_of, translated, all_translated}
 use Rattle.rx_syntax.specs.Pattern.{reads}
 use Rattle.rx_syntax.specs.Patterns.{Refusal, each_read, all_syntaxes, all_translated as each_translated, translated_if, all_read}

@@ -6,8 +6,8 @@ use Rattle.rx_hir.proofs.JoinedLemmas.{drop-past}
 use Rattle.rx_literal.specs.Literals.{exact, finite, cut, one_empty, some_exact, cross, union}
 use Rattle.rx_literal.specs.declared.side.Side.TheVariants.{Front as front, Back as back}
 use Rattle.rx_literal.specs.Extract.{literals, in_turn, of_one, repeated}
-use Rattle.rx_literal.proofs.TurnLemmas.{front-done, front-step, back-goes, back-done, one-step}
-use Rattle.rx_literal.proofs.UnionLemmas.{IsFew, union-few, union-nothing, nothing-union, union-assoc, of_one-few}
+use Rattle.rx_literal.proofs.lemmas.prefixes.TurnLemmas.{front-done, front-step, back-goes, back-done, one-step}
+use Rattle.rx_literal.proofs.lemmas.prefixes.UnionLemmas.{IsFew, union-few, union-nothing, nothing-union, union-assoc, of_one-few}
 use Rattle.rx_literal.proofs.extract.+literals.Goals as goal
 
 pub literals_of_kind-returns-in-Empty : goal.literals_of_kind-returns-in-Empty

@@ -5,7 +5,7 @@ use Rattle.rx_hir.specs.Normal.{expressions}
 use Rattle.rx_literal.specs.Literals.{one_empty, union}
 use Rattle.rx_literal.specs.declared.side.Side.TheVariants.{Front as front, Back as back}
 use Rattle.rx_literal.specs.Extract.{in_turn, of_one}
-use Rattle.rx_literal.proofs.UnionLemmas.{IsFew}
+use Rattle.rx_literal.proofs.lemmas.prefixes.UnionLemmas.{IsFew}
 use Rattle.rx_literal.proofs.extract.+literals.Given as goal
 
 abbrev pub invariant-from_the_front-loop-sub : goal.invariant-from_the_front-loop-sub

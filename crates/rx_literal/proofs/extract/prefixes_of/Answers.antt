@@ -1,5 +1,5 @@
 use Rattle.std.proofs.Common.{◌≡◌, IfOk, sym, subst}
-use Rattle.rx_literal.proofs.UnionLemmas.{of_patterns}
+use Rattle.rx_literal.proofs.lemmas.prefixes.UnionLemmas.{of_patterns}
 use Rattle.rx_literal.proofs.extract.prefixes_of.Goals as goal
 
 pub returns : goal.returns

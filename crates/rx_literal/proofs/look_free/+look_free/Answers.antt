@@ -4,7 +4,7 @@ use Rattle.rx_hir.specs.HirViews.{kind_view}
 use Rattle.rx_hir.specs.Normal.{expressions}
 use Rattle.rx_hir.proofs.DepthLemmas.{depth-below}
 use Rattle.rx_literal.specs.First.{IsLookFree, AreLookFree}
-use Rattle.rx_literal.proofs.LookFreeLemmas.{HasNone, HaveNone, frees-none, none-at, look-some, free-on, free-past}
+use Rattle.rx_literal.proofs.lemmas.first_runs.LookFreeLemmas.{HasNone, HaveNone, frees-none, none-at, look-some, free-on, free-past}
 use Rattle.rx_literal.proofs.look_free.+look_free.Goals as goal
 
 pub kind_is_look_free-returns-in-Empty-clause-look_free : goal.kind_is_look_free-returns-in-Empty-clause-look_free

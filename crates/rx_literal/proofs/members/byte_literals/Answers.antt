@@ -1,7 +1,7 @@
 use Rattle.std.proofs.Common.{◌+◌, ◌<◌, ◌∷◌, [], length, drop, ◌∙◌, arith}
 use Rattle.rx_class.specs.Ranges.{next_byte}
 use Rattle.rx_literal.specs.Extract.{members, class_literals}
-use Rattle.rx_literal.proofs.MemberLemmas.{encoded, each-few, each-many, range-found, none-left, part-many, all-found}
+use Rattle.rx_literal.proofs.lemmas.prefixes.MemberLemmas.{encoded, each-few, each-many, range-found, none-left, part-many, all-found}
 use Rattle.rx_literal.proofs.members.byte_literals.Goals as goal
 
 pub loop-low-preserved : goal.loop-low-preserved

@@ -1,7 +1,7 @@
 use Rattle.std.proofs.Common.{◌≡◌, ◌≤◌, ◌++◌, ◌∷◌, [], length, drop}
 use Rattle.rx_class.specs.Ranges.{next_byte}
 use Rattle.rx_literal.specs.Extract.{members}
-use Rattle.rx_literal.proofs.MemberLemmas.{encoded}
+use Rattle.rx_literal.proofs.lemmas.prefixes.MemberLemmas.{encoded}
 use Rattle.rx_literal.proofs.members.byte_literals.Given as goal
 
 abbrev pub invariant-loop-low : goal.invariant-loop-low

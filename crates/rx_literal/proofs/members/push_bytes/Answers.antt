@@ -2,7 +2,7 @@ use Rattle.std.proofs.Common.{◌≡◌, ◌-◌, ◌<◌, ◌++◌, ◌∷◌, 
 use Rattle.rx_class.specs.Ranges.{next_byte}
 use Rattle.rx_class.specs.Bytes.{or_past_byte}
 use Rattle.rx_literal.specs.Extract.{numbers}
-use Rattle.rx_literal.proofs.MemberLemmas.{encoded, from-past, from-end, one-found, all-found}
+use Rattle.rx_literal.proofs.lemmas.prefixes.MemberLemmas.{encoded, from-past, from-end, one-found, all-found}
 use Rattle.rx_literal.proofs.members.push_bytes.Goals as goal
 
 pub loop-count-init : goal.loop-count-init

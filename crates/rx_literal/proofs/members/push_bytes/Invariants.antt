@@ -2,7 +2,7 @@ use Rattle.std.proofs.Common.{◌≡◌, ◌-◌, ◌++◌, ◌∷◌, []}
 use Rattle.rx_class.specs.Ranges.{next_byte}
 use Rattle.rx_class.specs.Bytes.{or_past_byte}
 use Rattle.rx_literal.specs.Extract.{numbers}
-use Rattle.rx_literal.proofs.MemberLemmas.{encoded}
+use Rattle.rx_literal.proofs.lemmas.prefixes.MemberLemmas.{encoded}
 use Rattle.rx_literal.proofs.members.push_bytes.Given as goal
 
 abbrev pub invariant-loop-count : goal.invariant-loop-count

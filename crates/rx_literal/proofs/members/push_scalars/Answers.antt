@@ -3,7 +3,7 @@ use Rattle.std.specs.Prelude.{encode_utf8}
 use Rattle.rx_class.specs.Ranges.{next_scalar}
 use Rattle.rx_class.specs.Scalars.{or_past}
 use Rattle.rx_literal.specs.Extract.{numbers}
-use Rattle.rx_literal.proofs.MemberLemmas.{encoded, from-past, from-end, one-found, all-found}
+use Rattle.rx_literal.proofs.lemmas.prefixes.MemberLemmas.{encoded, from-past, from-end, one-found, all-found}
 use Rattle.rx_literal.proofs.members.push_scalars.Goals as goal
 
 pub loop-count-init : goal.loop-count-init

@@ -3,7 +3,7 @@ use Rattle.std.specs.Prelude.{encode_utf8}
 use Rattle.rx_class.specs.Ranges.{next_scalar}
 use Rattle.rx_class.specs.Scalars.{or_past}
 use Rattle.rx_literal.specs.Extract.{numbers}
-use Rattle.rx_literal.proofs.MemberLemmas.{encoded}
+use Rattle.rx_literal.proofs.lemmas.prefixes.MemberLemmas.{encoded}
 use Rattle.rx_literal.proofs.members.push_scalars.Given as goal
 
 abbrev pub invariant-loop-count : goal.invariant-loop-count

@@ -1,5 +1,5 @@
 use Rattle.std.proofs.Common.{◌≤◌, ◌⊎◌, length, sym, ◌∙◌, inl, inr}
-use Rattle.rx_literal.proofs.BeforeLemmas.{before-over}
+use Rattle.rx_literal.proofs.lemmas.trimming.BeforeLemmas.{before-over}
 use Rattle.rx_literal.proofs.order.is_before.Goals as goal
 use Rattle.rx_literal.proofs.order.is_before.Goals.{then-loop-i-test+else-i-second, else-loop-i-test}
 

@@ -1,6 +1,6 @@
 use Rattle.std.proofs.Common.{◌≡◌, suc, ◌+◌, ◌-◌, ◌/◌, ◌<◌, true, false, length, arith, sym, ◌∙◌}
 use Rattle.rx_literal.specs.Order.{before, follows}
-use Rattle.rx_literal.proofs.OrderedLemmas.{all-up_to, none-on}
+use Rattle.rx_literal.proofs.lemmas.trimming.OrderedLemmas.{all-up_to, none-on}
 use Rattle.rx_literal.proofs.order.position.Goals as goal
 
 pub loop-low-preserved-then-is_before : goal.loop-low-preserved-then-is_before

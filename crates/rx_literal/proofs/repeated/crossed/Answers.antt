@@ -1,6 +1,6 @@
 use Rattle.std.proofs.Common.{◌+◌, ◌-◌, ap, sym, ◌∙◌}
 use Rattle.rx_literal.specs.Literals.{cross_times}
-use Rattle.rx_literal.proofs.TurnLemmas.{cross_times-done, times-step, times-end}
+use Rattle.rx_literal.proofs.lemmas.prefixes.TurnLemmas.{cross_times-done, times-step, times-end}
 use Rattle.rx_literal.proofs.repeated.crossed.Goals as goal
 
 pub returns-then-not-has_exact : goal.returns-then-not-has_exact

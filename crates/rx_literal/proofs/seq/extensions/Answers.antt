@@ -1,5 +1,5 @@
 use Rattle.std.proofs.Common.{◌∙◌, sym}
-use Rattle.rx_literal.proofs.LiteralLemmas.{extensions-exact, extensions-inexact}
+use Rattle.rx_literal.proofs.lemmas.prefixes.LiteralLemmas.{extensions-exact, extensions-inexact}
 use Rattle.rx_literal.proofs.seq.extensions.Goals as goal
 
 pub returns-then-is_exact : goal.returns-then-is_exact

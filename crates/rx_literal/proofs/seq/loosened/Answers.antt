@@ -1,6 +1,6 @@
 use Rattle.std.proofs.Common.{◌≡◌, suc, ◌+◌, ◌<◌, length, get_or, ap, ◌∙◌, subst, arith}
 use lib.ListN.{set}
-use Rattle.rx_literal.proofs.LiteralLemmas.{loose-step}
+use Rattle.rx_literal.proofs.lemmas.prefixes.LiteralLemmas.{loose-step}
 use Rattle.rx_literal.proofs.seq.loosened.Goals as goal
 
 pub loop-i-preserved : goal.loop-i-preserved

@@ -1,7 +1,7 @@
 use Rattle.std.proofs.Common.{length, take, inr, arith}
 use Rattle.std.specs.Prelude.{reverse}
 use Rattle.rx_literal.specs.Trim.{common_prefix}
-use Rattle.rx_literal.proofs.BehindLemmas.{len-more, len-differ, len-over}
+use Rattle.rx_literal.proofs.lemmas.suffixes.BehindLemmas.{len-more, len-differ, len-over}
 use Rattle.rx_literal.proofs.suffix.common_len.Goals as goal
 
 pub returns-then-first-len-clause-value : goal.returns-then-first-len-clause-value

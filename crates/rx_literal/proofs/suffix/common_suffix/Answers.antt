@@ -1,7 +1,7 @@
 use Rattle.std.proofs.Common.{◌-◌, length, ap, sym, ◌∙◌, arith}
 use Rattle.std.specs.Prelude.{reverse}
 use Rattle.rx_literal.specs.Trim.{common_from_behind}
-use Rattle.rx_literal.proofs.BehindLemmas.{behind-step, behind-end, last-bytes, take-rest, whole-behind}
+use Rattle.rx_literal.proofs.lemmas.suffixes.BehindLemmas.{behind-step, behind-end, last-bytes, take-rest, whole-behind}
 use Rattle.rx_literal.proofs.suffix.common_suffix.Goals as goal
 
 pub loop-other-init : goal.loop-other-init

@@ -3,7 +3,7 @@ use Rattle.std.specs.Prelude.{◌==◌, reverse}
 use Rattle.std.proofs.lemmas.Bool.Decides.{nat_tests}
 use Rattle.rx_literal.specs.Literals.{bytes_of}
 use Rattle.rx_literal.specs.Trim.{common_from_behind}
-use Rattle.rx_literal.proofs.BehindLemmas.{suffix-some, suffix-none, take-rest}
+use Rattle.rx_literal.proofs.lemmas.suffixes.BehindLemmas.{suffix-some, suffix-none, take-rest}
 use Rattle.rx_literal.proofs.suffix.suffix_of_all.Goals as goal
 
 pub returns-then-is_empty : goal.returns-then-is_empty

@@ -3,7 +3,7 @@ use Rattle.std.specs.Prelude.{nat_eq}
 use Rattle.std.specs.List.{starts_with}
 use Rattle.rx_literal.specs.Literals.{bytes_of}
 use Rattle.rx_literal.specs.Trim.{past_longer}
-use Rattle.rx_literal.proofs.PartedLemmas.{longer-removed, longer-done, longer-over}
+use Rattle.rx_literal.proofs.lemmas.trimming.PartedLemmas.{longer-removed, longer-done, longer-over}
 use Rattle.rx_literal.proofs.trim.drop_longer.Goals as goal
 
 pub loop-literals-preserved : goal.loop-literals-preserved

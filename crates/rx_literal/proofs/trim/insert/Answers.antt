@@ -4,7 +4,7 @@ use Rattle.std.specs.List.{list_all, list_any}
 use lib.ListN.{set}
 use Rattle.rx_literal.specs.declared.order.Order.TheVariants.{Bytes as by_bytes}
 use Rattle.rx_literal.specs.Order.{follows}
-use Rattle.rx_literal.proofs.InsertLemmas.{insert-new, insert-exact, insert-inexact}
+use Rattle.rx_literal.proofs.lemmas.trimming.InsertLemmas.{insert-new, insert-exact, insert-inexact}
 use Rattle.rx_literal.proofs.trim.insert.Goals as goal
 
 pub returns-then-not-stands_at : goal.returns-then-not-stands_at

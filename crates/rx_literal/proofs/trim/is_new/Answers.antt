@@ -6,7 +6,7 @@ use Rattle.rx_literal.specs.Literals.{bytes_of}
 use Rattle.rx_literal.specs.declared.order.Order.TheVariants.{Branches as by_branches}
 use Rattle.rx_literal.specs.Order.{follows, InOrder}
 use Rattle.rx_literal.specs.Trim.{has_prefix_in}
-use Rattle.rx_literal.proofs.PartedLemmas.{prefix-found, covered-before, covered-after, parted-whole, put-there, rest-apart}
+use Rattle.rx_literal.proofs.lemmas.trimming.PartedLemmas.{prefix-found, covered-before, covered-after, parted-whole, put-there, rest-apart}
 use Rattle.rx_literal.proofs.trim.is_new.Goals as goal
 
 pub returns : goal.returns

@@ -1,6 +1,6 @@
 use Rattle.std.proofs.Common.{[], ap, ◌∙◌}
 use Rattle.rx_literal.specs.Trim.{preferred}
-use Rattle.rx_literal.proofs.PartedLemmas.{keep-step, skip-step, keep-end}
+use Rattle.rx_literal.proofs.lemmas.trimming.PartedLemmas.{keep-step, skip-step, keep-end}
 use Rattle.rx_literal.proofs.trim.preferred.Goals as goal
 use Rattle.rx_literal.proofs.trim.preferred.Goals.{then-branch+in_ok-clone+in_ok-push, else-branch}
 

@@ -3,7 +3,7 @@ use Rattle.rx_hir.proofs.JoinedLemmas.{drop-past}
 use Rattle.rx_literal.specs.declared.order.Order.TheVariants.{Bytes as by_bytes}
 use Rattle.rx_literal.specs.Order.{InOrder}
 use Rattle.rx_literal.specs.Trim.{sorted}
-use Rattle.rx_literal.proofs.InsertLemmas.{sorted-step, insert-ordered}
+use Rattle.rx_literal.proofs.lemmas.trimming.InsertLemmas.{sorted-step, insert-ordered}
 use Rattle.rx_literal.proofs.trim.sorted.Goals as goal
 
 pub loop-i-init : goal.loop-i-init

@@ -1,4 +1,4 @@
-use Rattle.rx_model.proofs.BesideLemmas.{holds-alike}
+use Rattle.rx_model.proofs.lemmas.meaning.BesideLemmas.{holds-alike}
 use Rattle.rx_model.proofs.looks.a_look_around_holds_alike.Goals as goal
 
 pub returns : goal.returns

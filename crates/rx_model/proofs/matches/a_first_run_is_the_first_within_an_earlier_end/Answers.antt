@@ -1,4 +1,4 @@
-use Rattle.rx_model.proofs.NarrowLemmas.{where-nearer, patterns-nearer, next-narrowed}
+use Rattle.rx_model.proofs.lemmas.matches.NarrowLemmas.{where-nearer, patterns-nearer, next-narrowed}
 use Rattle.rx_model.proofs.matches.a_first_run_is_the_first_within_an_earlier_end.Goals as goal
 
 pub returns-clause-pattern : goal.returns-clause-pattern

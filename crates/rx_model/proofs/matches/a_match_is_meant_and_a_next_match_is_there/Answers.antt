@@ -1,4 +1,4 @@
-use Rattle.rx_model.proofs.WithinLemmas.{match-next, match-earliest, match-within, match-means}
+use Rattle.rx_model.proofs.lemmas.matches.WithinLemmas.{match-next, match-earliest, match-within, match-means}
 use Rattle.rx_model.proofs.matches.a_match_is_meant_and_a_next_match_is_there.Goals as goal
 
 pub returns-clause-next : goal.returns-clause-next

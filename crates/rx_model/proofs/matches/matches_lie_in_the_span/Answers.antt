@@ -1,4 +1,4 @@
-use Rattle.rx_model.proofs.MatchLemmas.{next-within}
+use Rattle.rx_model.proofs.lemmas.matches.MatchLemmas.{next-within}
 use Rattle.rx_model.proofs.matches.matches_lie_in_the_span.Goals as goal
 
 pub returns : goal.returns

@@ -1,4 +1,4 @@
-use Rattle.rx_model.proofs.SuccessionLemmas.{matches-successive, matches-enough, matches-rise, matches-within}
+use Rattle.rx_model.proofs.lemmas.matches.SuccessionLemmas.{matches-successive, matches-enough, matches-rise, matches-within}
 use Rattle.rx_model.proofs.matches.successive_matches_go_on.Goals as goal
 
 pub returns-clause-successive : goal.returns-clause-successive

@@ -1,4 +1,4 @@
-use Rattle.rx_model.proofs.BetweenLemmas.{between-none, between-permitted, match-empty, between-free, between-anchored}
+use Rattle.rx_model.proofs.lemmas.matches.BetweenLemmas.{between-none, between-permitted, match-empty, between-free, between-anchored}
 use Rattle.rx_model.proofs.matches.the_next_match_between_characters.Goals as goal
 
 pub returns-clause-none : goal.returns-clause-none

@@ -1,4 +1,4 @@
-use Rattle.rx_model.proofs.MatchLemmas.{next-is, next-none, is-next}
+use Rattle.rx_model.proofs.lemmas.matches.MatchLemmas.{next-is, next-none, is-next}
 use Rattle.rx_model.proofs.matches.the_search_finds_the_next_match.Goals as goal
 
 pub returns-clause-found : goal.returns-clause-found

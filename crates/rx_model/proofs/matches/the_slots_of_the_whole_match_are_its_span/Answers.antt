@@ -1,4 +1,4 @@
-use Rattle.rx_model.proofs.WithinLemmas.{next-run, match-slots, match-own, match-others}
+use Rattle.rx_model.proofs.lemmas.matches.WithinLemmas.{next-run, match-slots, match-own, match-others}
 use Rattle.rx_model.proofs.matches.the_slots_of_the_whole_match_are_its_span.Goals as goal
 
 pub returns-clause-next : goal.returns-clause-next

@@ -1,4 +1,4 @@
-use Rattle.rx_model.proofs.CharLemmas.{member_len-is, member_len-of, byte_len-is, byte_len-of}
+use Rattle.rx_model.proofs.lemmas.meaning.CharLemmas.{member_len-is, member_len-of, byte_len-is, byte_len-of}
 use Rattle.rx_model.proofs.meaning.a_class_means_its_members.Goals as goal
 
 pub returns-clause-scalars : goal.returns-clause-scalars

@@ -1,4 +1,4 @@
-use Rattle.rx_model.proofs.SievedLemmas.{where-pattern, where-permitted, where-end, where-means, where-none}
+use Rattle.rx_model.proofs.lemmas.graphs.SievedLemmas.{where-pattern, where-permitted, where-end, where-means, where-none}
 use Rattle.rx_model.proofs.meaning.the_first_permitted_run_is_meant.Goals as goal
 
 pub returns-clause-some : goal.returns-clause-some

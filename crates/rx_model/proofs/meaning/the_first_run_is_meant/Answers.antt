@@ -1,4 +1,4 @@
-use Rattle.rx_model.proofs.GraphLemmas.{first-pattern, first-end, first-means, first-none}
+use Rattle.rx_model.proofs.lemmas.graphs.GraphLemmas.{first-pattern, first-end, first-means, first-none}
 use Rattle.rx_model.proofs.meaning.the_first_run_is_meant.Goals as goal
 
 pub returns-clause-some : goal.returns-clause-some

@@ -1,4 +1,4 @@
-use Rattle.rx_model.proofs.LengthLemmas.{means-long}
+use Rattle.rx_model.proofs.lemmas.meaning.LengthLemmas.{means-long}
 use Rattle.rx_model.proofs.meaning.the_least_length_is_a_lower_bound.Goals as goal
 
 pub returns : goal.returns

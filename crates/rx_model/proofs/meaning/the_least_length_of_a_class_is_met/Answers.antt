@@ -1,4 +1,4 @@
-use Rattle.rx_model.proofs.LengthLemmas.{scalars-met, scalars-none, bytes-met, bytes-none}
+use Rattle.rx_model.proofs.lemmas.meaning.LengthLemmas.{scalars-met, scalars-none, bytes-met, bytes-none}
 use Rattle.rx_model.proofs.meaning.the_least_length_of_a_class_is_met.Goals as goal
 
 pub returns-clause-scalar : goal.returns-clause-scalar

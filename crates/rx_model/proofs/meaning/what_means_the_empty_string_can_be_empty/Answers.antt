@@ -1,4 +1,4 @@
-use Rattle.rx_model.proofs.EmptyLemmas.{means-empty}
+use Rattle.rx_model.proofs.lemmas.meaning.EmptyLemmas.{means-empty}
 use Rattle.rx_model.proofs.meaning.what_means_the_empty_string_can_be_empty.Goals as goal
 
 pub returns : goal.returns

@@ -1,4 +1,4 @@
-use Rattle.rx_model.proofs.PlainLemmas.{first-plain}
+use Rattle.rx_model.proofs.lemmas.runs.PlainLemmas.{first-plain}
 use Rattle.rx_model.proofs.parts.the_first_run_goes_by_the_parts.Goals as goal
 
 pub returns : goal.returns

@@ -1,5 +1,5 @@
 use Rattle.std.proofs.Common.{sym}
-use Rattle.rx_model.proofs.FoundLemmas.{found-prune, found-forget}
+use Rattle.rx_model.proofs.lemmas.runs.FoundLemmas.{found-prune, found-forget}
 use Rattle.rx_model.proofs.runs.dead_ends_may_count_as_passed.Goals as goal
 
 pub returns-clause-pruned : goal.returns-clause-pruned

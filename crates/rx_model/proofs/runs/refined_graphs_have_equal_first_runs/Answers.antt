@@ -1,5 +1,5 @@
 use Rattle.std.proofs.Common.{IsTrue}
-use Rattle.rx_model.proofs.RefineLemmas.{Refines-found, Refines-sieved}
+use Rattle.rx_model.proofs.lemmas.graphs.RefineLemmas.{Refines-found, Refines-sieved}
 use Rattle.rx_model.proofs.runs.refined_graphs_have_equal_first_runs.Goals as goal
 
 pub returns-clause-runs : goal.returns-clause-runs

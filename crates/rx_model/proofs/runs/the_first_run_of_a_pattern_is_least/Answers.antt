@@ -1,4 +1,4 @@
-use Rattle.rx_model.proofs.LeastLemmas.{first-some, first-only, first-no_run, where-some, where-only, where-no_run}
+use Rattle.rx_model.proofs.lemmas.runs.LeastLemmas.{first-some, first-only, first-no_run, where-some, where-only, where-no_run}
 use Rattle.rx_model.proofs.runs.the_first_run_of_a_pattern_is_least.Goals as goal
 
 pub returns-clause-some : goal.returns-clause-some

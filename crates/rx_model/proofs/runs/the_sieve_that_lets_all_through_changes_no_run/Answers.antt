@@ -1,6 +1,6 @@
 use Rattle.std.proofs.Common.{ap}
 use Rattle.rx_model.specs.Runs.{first_trace}
-use Rattle.rx_model.proofs.SieveLemmas.{sieved-everywhere, first-everywhere, first_of_patterns-everywhere}
+use Rattle.rx_model.proofs.lemmas.graphs.SieveLemmas.{sieved-everywhere, first-everywhere, first_of_patterns-everywhere}
 use Rattle.rx_model.proofs.runs.the_sieve_that_lets_all_through_changes_no_run.Goals as goal
 
 pub returns-clause-graph : goal.returns-clause-graph

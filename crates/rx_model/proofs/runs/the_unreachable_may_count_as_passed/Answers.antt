@@ -1,5 +1,5 @@
 use Rattle.std.proofs.Common.{IsTrue, sym, ◌∙◌, true≢false}
-use Rattle.rx_model.proofs.ReachLemmas.{found-reach, found-outside}
+use Rattle.rx_model.proofs.lemmas.runs.ReachLemmas.{found-reach, found-outside}
 use Rattle.rx_model.proofs.runs.the_unreachable_may_count_as_passed.Goals as goal
 
 pub returns-clause-alike : goal.returns-clause-alike

@@ -1,4 +1,4 @@
-use Rattle.rx_model.proofs.WriteLemmas.{found-alike}
+use Rattle.rx_model.proofs.lemmas.runs.WriteLemmas.{found-alike}
 use Rattle.rx_model.proofs.runs.writes_choose_no_run.Goals as goal
 
 pub returns : goal.returns

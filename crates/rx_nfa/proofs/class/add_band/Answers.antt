@@ -4,9 +4,9 @@ use Rattle.rx_search.specs.Limits.{id_limit}
 use Rattle.rx_nfa.specs.Row.{IsReader}
 use Rattle.rx_nfa.specs.Trie.{IsRow, IsReady}
 use Rattle.rx_nfa.specs.Ranges.{RisesFrom, StaysBelow, size_of_block, whole_depths, ends_in, clip}
-use Rattle.rx_nfa.proofs.RowLemmas.{AddsReaders-trans}
-use Rattle.rx_nfa.proofs.BlockLemmas.{IsReady-grows}
-use Rattle.rx_nfa.proofs.ClassLemmas.{RisesFrom-clip, StaysBelow-clip, StaysBelow-more, parts_cost}
+use Rattle.rx_nfa.proofs.lemmas.classes.RowLemmas.{AddsReaders-trans}
+use Rattle.rx_nfa.proofs.lemmas.classes.BlockLemmas.{IsReady-grows}
+use Rattle.rx_nfa.proofs.lemmas.classes.ClassLemmas.{RisesFrom-clip, StaysBelow-clip, StaysBelow-more, parts_cost}
 use Rattle.rx_nfa.proofs.class.add_band.Goals as goal
 
 pub deepen-requires-clause-rises : goal.deepen-requires-clause-rises

@@ -2,8 +2,8 @@ use Rattle.std.proofs.Common.{◌∙◌, ap, sym, subst, length, map, arith}
 use Rattle.std.proofs.lemmas.List.{take_all}
 use Rattle.rx_nfa.specs.Ranges.{StaysBelow}
 use Rattle.rx_nfa.specs.Row.{transition_to, Ascends, RoutesBelow, IsReader}
-use Rattle.rx_nfa.proofs.RangesLemmas.{AreByteRanges-rise}
-use Rattle.rx_nfa.proofs.ByteLemmas.{transitions-ascend, transitions-below, transitions-push, IsByteClass-from, StaysBelow-next}
+use Rattle.rx_nfa.proofs.lemmas.classes.RangesLemmas.{AreByteRanges-rise}
+use Rattle.rx_nfa.proofs.lemmas.classes.ByteLemmas.{transitions-ascend, transitions-below, transitions-push, IsByteClass-from, StaysBelow-next}
 use Rattle.rx_nfa.proofs.class.compile_bytes.Goals as goal
 
 pub loop-start-preserved : goal.loop-start-preserved

@@ -2,10 +2,10 @@ use Rattle.std.proofs.Common.{arith, length, refl}
 use Rattle.rx_nfa.specs.Ranges.{size_of_block, cost_of_class}
 use Rattle.rx_nfa.specs.Row.{IsReader}
 use Rattle.rx_nfa.specs.Trie.{IsReady}
-use Rattle.rx_nfa.proofs.RowLemmas.{AddsReaders-trans, Ascends-more, IsReader-grows, IsReader-lower, RoutesBelow-none, RoutesBelow-more}
-use Rattle.rx_nfa.proofs.BlockLemmas.{IsReady-one, IsRow-map, row-below}
-use Rattle.rx_nfa.proofs.RangesLemmas.{AreScalarRanges-rise}
-use Rattle.rx_nfa.proofs.ClassLemmas.{IsClass-from}
+use Rattle.rx_nfa.proofs.lemmas.classes.RowLemmas.{AddsReaders-trans, Ascends-more, IsReader-grows, IsReader-lower, RoutesBelow-none, RoutesBelow-more}
+use Rattle.rx_nfa.proofs.lemmas.classes.BlockLemmas.{IsReady-one, IsRow-map, row-below}
+use Rattle.rx_nfa.proofs.lemmas.classes.RangesLemmas.{AreScalarRanges-rise}
+use Rattle.rx_nfa.proofs.lemmas.classes.ClassLemmas.{IsClass-from}
 use Rattle.rx_nfa.proofs.class.compile_class.Goals as goal
 
 pub add_band-requires-clause-rises : goal.add_band-requires-clause-rises

@@ -1,4 +1,4 @@
-use Rattle.rx_nfa.proofs.RefinedLemmas.{IsClass-reads, IsByteClass-reads}
+use Rattle.rx_nfa.proofs.lemmas.runs.RefinedLemmas.{IsClass-reads, IsByteClass-reads}
 use Rattle.rx_nfa.proofs.class.the_states_read_the_class.Goals as goal
 
 pub returns-clause-scalars : goal.returns-clause-scalars

@@ -9,10 +9,10 @@ use Rattle.rx_nfa.specs.Nfa.{Nfa, HasRuns}
 use Rattle.rx_search.specs.GroupInfo.{slot_count}
 use Rattle.rx_hir.specs.Names.{group_names}
 use Rattle.rx_hir.proofs.SoundLemmas.{IsSound-ordered}
-use Rattle.rx_nfa.proofs.GroupLemmas.{slots-counted}
-use Rattle.rx_nfa.proofs.NextMatchLemmas.{written-none}
-use Rattle.rx_nfa.proofs.PatternLemmas.{HasRuns-from, StartsAll-kept}
-use Rattle.rx_nfa.proofs.SlotLemmas.{written-within}
+use Rattle.rx_nfa.proofs.lemmas.runs.GroupLemmas.{slots-counted}
+use Rattle.rx_nfa.proofs.lemmas.runs.NextMatchLemmas.{written-none}
+use Rattle.rx_nfa.proofs.lemmas.runs.PatternLemmas.{HasRuns-from, StartsAll-kept}
+use Rattle.rx_nfa.proofs.lemmas.parts.SlotLemmas.{written-within}
 use Rattle.rx_nfa.proofs.compiler.build.Goals as goal
 
 pub finish-requires-clause-slots : goal.finish-requires-clause-slots

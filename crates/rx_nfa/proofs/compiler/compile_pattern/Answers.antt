@@ -5,9 +5,9 @@ use Rattle.rx_nfa.specs.Built.{Built, bound, build_bounds, slot_from}
 use Rattle.rx_search.specs.GroupInfo.{groups_at}
 use Rattle.rx_nfa.specs.Draft.{Draft}
 use Rattle.rx_nfa.specs.Slots.{IsSlotOf}
-use Rattle.rx_nfa.proofs.GroupLemmas.{whole-own, whole-own-last}
-use Rattle.rx_nfa.proofs.PatternLemmas.{HasPart-pattern}
-use Rattle.rx_nfa.proofs.SlotLemmas.{Built-bounds}
+use Rattle.rx_nfa.proofs.lemmas.runs.GroupLemmas.{whole-own, whole-own-last}
+use Rattle.rx_nfa.proofs.lemmas.runs.PatternLemmas.{HasPart-pattern}
+use Rattle.rx_nfa.proofs.lemmas.parts.SlotLemmas.{Built-bounds}
 use Rattle.rx_nfa.proofs.compiler.compile_pattern.Goals as goal
 
 pub returns-clause-has : goal.returns-clause-has

@@ -9,12 +9,12 @@ use Rattle.rx_search.specs.GroupInfo.{groups_at, slot_of_group}
 use Rattle.rx_hir.specs.Names.{group_names}
 use Rattle.rx_nfa.specs.Compiled.{patterns_of, groups_of, slots_of, slots_written}
 use Rattle.rx_nfa.specs.Config.{captures_kind}
-use Rattle.rx_nfa.proofs.ExpressionLemmas.{nfa_states-drop, nfa_states-none}
-use Rattle.rx_nfa.proofs.BuiltLemmas.{Extends-trans}
-use Rattle.rx_nfa.proofs.CompileLemmas.{below-more}
-use Rattle.rx_nfa.proofs.GroupLemmas.{groups_at-names, first_slot-group}
-use Rattle.rx_nfa.proofs.PatternLemmas.{HasPatterns-more, sound-more}
-use Rattle.rx_nfa.proofs.SlotLemmas.{groups-inside, groups-there, whole-inside, whole-is, written-within, first_slot-more, part-is, room-more}
+use Rattle.rx_nfa.proofs.lemmas.parts.ExpressionLemmas.{nfa_states-drop, nfa_states-none}
+use Rattle.rx_nfa.proofs.lemmas.parts.BuiltLemmas.{Extends-trans}
+use Rattle.rx_nfa.proofs.lemmas.parts.CompileLemmas.{below-more}
+use Rattle.rx_nfa.proofs.lemmas.runs.GroupLemmas.{groups_at-names, first_slot-group}
+use Rattle.rx_nfa.proofs.lemmas.runs.PatternLemmas.{HasPatterns-more, sound-more}
+use Rattle.rx_nfa.proofs.lemmas.parts.SlotLemmas.{groups-inside, groups-there, whole-inside, whole-is, written-within, first_slot-more, part-is, room-more}
 use Rattle.rx_nfa.proofs.compiler.compile_patterns.Goals as goal
 
 pub compile_pattern-requires-clause-room : goal.compile_pattern-requires-clause-room

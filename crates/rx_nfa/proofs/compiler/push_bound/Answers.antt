@@ -4,8 +4,8 @@ use Rattle.rx_model.specs.Graph.{build_state}
 use Rattle.rx_nfa.specs.Built.{Built, bound}
 use Rattle.rx_nfa.specs.Draft.{pushed}
 use Rattle.rx_nfa.specs.declared.state.State.TheVariants.{Union, Capture as Slot}
-use Rattle.rx_nfa.proofs.ResultLemmas.{IfOk-both}
-use Rattle.rx_nfa.proofs.SlotLemmas.{Built-slot, Built-way}
+use Rattle.rx_nfa.proofs.lemmas.parts.ResultLemmas.{IfOk-both}
+use Rattle.rx_nfa.proofs.lemmas.parts.SlotLemmas.{Built-slot, Built-way}
 use Rattle.rx_nfa.proofs.compiler.push_bound.Goals as goal
 
 pub returns-in-Some-clause-built : goal.returns-in-Some-clause-built

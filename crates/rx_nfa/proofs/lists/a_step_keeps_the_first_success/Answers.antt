@@ -1,4 +1,4 @@
-use Rattle.rx_nfa.proofs.TargetLemmas.{step-first, end-first}
+use Rattle.rx_nfa.proofs.lemmas.lists.TargetLemmas.{step-first, end-first}
 use Rattle.rx_nfa.proofs.lists.a_step_keeps_the_first_success.Goals as goal
 
 pub returns-clause-byte : goal.returns-clause-byte

@@ -1,4 +1,4 @@
-use Rattle.rx_nfa.proofs.ClosureLemmas.{threads-first}
+use Rattle.rx_nfa.proofs.lemmas.lists.ClosureLemmas.{threads-first}
 use Rattle.rx_nfa.proofs.lists.the_closure_keeps_the_first_success.Goals as goal
 
 pub returns : goal.returns

@@ -4,7 +4,7 @@ use Rattle.std.specs.Option.{option_or}
 use Rattle.rx_model.specs.Runs.{nowhere}
 use Rattle.rx_search.specs.Matches.{half_match_value}
 use Rattle.rx_nfa.specs.Ordered.{first_on, first_of_starts, where_there}
-use Rattle.rx_nfa.proofs.LaterLemmas.{list_search-first, list_search_of-next}
+use Rattle.rx_nfa.proofs.lemmas.lists.LaterLemmas.{list_search-first, list_search_of-next}
 use Rattle.rx_nfa.proofs.lists.the_first_success_on_the_list_and_then_later_starts.Goals as goal
 
 pub returns-clause-list : goal.returns-clause-list

@@ -1,5 +1,5 @@
 use Rattle.rx_nfa.specs.Automaton.{forwards}
-use Rattle.rx_nfa.proofs.StepLemmas.{target-reached}
+use Rattle.rx_nfa.proofs.lemmas.runs.StepLemmas.{target-reached}
 use Rattle.rx_nfa.proofs.runs.a_byte_leads_to_its_target.Goals as goal
 
 pub returns-clause-over : goal.returns-clause-over

@@ -1,4 +1,4 @@
-use Rattle.rx_nfa.proofs.StepLemmas.{successors-alike, accepted-alike}
+use Rattle.rx_nfa.proofs.lemmas.runs.StepLemmas.{successors-alike, accepted-alike}
 use Rattle.rx_nfa.proofs.runs.a_step_depends_on_the_byte_and_the_look_arounds.Goals as goal
 
 pub returns-clause-leads : goal.returns-clause-leads

@@ -1,4 +1,4 @@
-use Rattle.rx_nfa.proofs.SpanLemmas.{reached-means, means-reached}
+use Rattle.rx_nfa.proofs.lemmas.runs.SpanLemmas.{reached-means, means-reached}
 use Rattle.rx_nfa.proofs.runs.the_runs_of_one_span_are_meant.Goals as goal
 
 pub returns : goal.returns

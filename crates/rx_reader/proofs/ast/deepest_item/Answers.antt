@@ -1,6 +1,6 @@
 use Rattle.std.proofs.Common.{◌≡◌, max, arith}
 use Rattle.std.proofs.lemmas.Grind.{common_steps}
-use Rattle.rx_reader.proofs.ItemLemmas.{deepest-step}
+use Rattle.rx_reader.proofs.lemmas.branches.ItemLemmas.{deepest-step}
 use Rattle.rx_reader.proofs.ast.deepest_item.Goals as goal
 
 pub loop-item-preserved : goal.loop-item-preserved

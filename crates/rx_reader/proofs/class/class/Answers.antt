@@ -2,7 +2,7 @@ use Rattle.std.proofs.Common.{arith, true}
 use Rattle.std.proofs.lemmas.Grind.{common_steps}
 use Rattle.std.proofs.lemmas.Result.{err_from_is_err_and}
 use Rattle.rx_reader.specs.Input.{place}
-use Rattle.rx_reader.proofs.ReadsLemmas.{refuses_from, refuses}
+use Rattle.rx_reader.proofs.lemmas.places.ReadsLemmas.{refuses_from, refuses}
 use Rattle.rx_reader.specs.Classes.{class, all_class_items}
 use Rattle.rx_reader.proofs.class.class.Goals as goal
 

@@ -5,8 +5,8 @@ use Rattle.rx_reader.specs.declared.class_item.ClassItem.{ClassItem}
 use Rattle.rx_reader.specs.Input.{place}
 use Rattle.rx_reader.specs.Reading.{Place, Read}
 use Rattle.rx_reader.specs.Classes.{class_item}
-use Rattle.rx_reader.proofs.ReadsLemmas.{refuses_from, refuses}
-use Rattle.rx_reader.proofs.ClassItemLemmas.{after_item, after_close, after_refused}
+use Rattle.rx_reader.proofs.lemmas.places.ReadsLemmas.{refuses_from, refuses}
+use Rattle.rx_reader.proofs.lemmas.tokens.ClassItemLemmas.{after_item, after_close, after_refused}
 use Rattle.rx_reader.proofs.class.class_items.Goals as goal
 
 abbrev found : Option ClassItem → Place → Read (Option ClassItem)

@@ -2,7 +2,7 @@ use Rattle.std.proofs.Common.{◌≡◌, ◌≤◌, true}
 use Rattle.rx_reader.specs.Reading.{Place}
 use Rattle.rx_reader.specs.Input.{place, unread, IsPieceAt}
 use Rattle.rx_reader.specs.Classes.{all_class_items}
-use Rattle.rx_reader.proofs.ClassItemLemmas.{after}
+use Rattle.rx_reader.proofs.lemmas.tokens.ClassItemLemmas.{after}
 use Rattle.rx_reader.proofs.class.class_items.Given as goal
 
 abbrev pub invariant-loop-items : goal.invariant-loop-items

@@ -2,7 +2,7 @@ use Rattle.std.proofs.Common.{arith, ◌≡◌, sym, subst}
 use Rattle.std.proofs.lemmas.Grind.{common_steps}
 use Rattle.std.proofs.lemmas.Result.{err_from_is_err_and}
 use Rattle.rx_reader.specs.Input.{place, Reads}
-use Rattle.rx_reader.proofs.ReadsLemmas.{refuses_from, refuses}
+use Rattle.rx_reader.proofs.lemmas.places.ReadsLemmas.{refuses_from, refuses}
 use Rattle.rx_reader.specs.Classes.{item_at, posix, class_range, member}
 use Rattle.rx_reader.proofs.class.item_at.Goals as goal
 

@@ -9,8 +9,8 @@ use Rattle.rx_reader.specs.declared.error.SyntaxErrorKind.TheVariants.{Unsupport
 use Rattle.rx_reader.specs.declared.class_item.ClassItem.{ClassItem}
 use Rattle.rx_reader.specs.declared.class_item.ClassItem.TheVariants.{Posix}
 use Rattle.rx_reader.specs.Reading.{Place, Read, past}
-use Rattle.rx_reader.proofs.ReadsLemmas.{refuse_at}
-use Rattle.rx_reader.proofs.ClassLemmas.{by_name}
+use Rattle.rx_reader.proofs.lemmas.places.ReadsLemmas.{refuse_at}
+use Rattle.rx_reader.proofs.lemmas.tokens.ClassLemmas.{by_name}
 use Rattle.rx_reader.proofs.class.posix_name.Goals as goal
 
 abbrev found : ClassAsciiKind → Bool → Place → Read ClassItem

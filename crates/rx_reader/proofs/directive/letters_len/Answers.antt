@@ -3,7 +3,7 @@ use Rattle.std.proofs.lemmas.Grind.{common_steps}
 use Rattle.std.proofs.lemmas.Bool.Decides.{nat_tests}
 use Rattle.std.proofs.lemmas.List.{drop_all, take_more}
 use Rattle.rx_reader.specs.Flags.{is_letter, has, letters, letters_after}
-use Rattle.rx_reader.proofs.FrontLemmas.{letters_go, letters_stop, letters_end, front_goes, front_stops, front_len}
+use Rattle.rx_reader.proofs.lemmas.places.FrontLemmas.{letters_go, letters_stop, letters_end, front_goes, front_stops, front_len}
 use Rattle.rx_reader.proofs.directive.letters_len.Goals as goal
 
 pub returns-then-not-is_letter-clause-value : goal.returns-then-not-is_letter-clause-value

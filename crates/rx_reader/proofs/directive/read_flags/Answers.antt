@@ -4,8 +4,8 @@ use Rattle.rx_reader.specs.declared.error.SyntaxErrorKind.TheVariants.{UnclosedG
 use Rattle.rx_reader.specs.Input.{place}
 use Rattle.rx_reader.specs.Reading.{at_end, past}
 use Rattle.rx_reader.specs.Flags.{letters, ends_with_hyphen, may_end_at, changed}
-use Rattle.rx_reader.proofs.ReadsLemmas.{refuse_at}
-use Rattle.rx_reader.proofs.PartLemmas.{flags_cut, flags_fail, flags_done, letters_len_at, letters_taken_at}
+use Rattle.rx_reader.proofs.lemmas.places.ReadsLemmas.{refuse_at}
+use Rattle.rx_reader.proofs.lemmas.tokens.PartLemmas.{flags_cut, flags_fail, flags_done, letters_len_at, letters_taken_at}
 use Rattle.rx_reader.proofs.directive.read_flags.Goals as goal
 
 pub returns-then-is_at_end-clause-value : goal.returns-then-is_at_end-clause-value

@@ -4,7 +4,7 @@ use Rattle.rx_reader.specs.Input.{place}
 use Rattle.rx_reader.specs.Reading.{past}
 use Rattle.rx_reader.specs.Ahead.{past_n}
 use Rattle.rx_reader.specs.Escapes.{digits}
-use Rattle.rx_reader.proofs.EscapeLemmas.{digit-number, digit-many, digits-stop, digits-none, room, room_within, digit_fits, past_n-more, past_shortens}
+use Rattle.rx_reader.proofs.lemmas.tokens.EscapeLemmas.{digit-number, digit-many, digits-stop, digits-none, room, room_within, digit_fits, past_n-more, past_shortens}
 use Rattle.rx_reader.proofs.escape.read_digits.Goals as goal
 
 pub loop-count-init : goal.loop-count-init

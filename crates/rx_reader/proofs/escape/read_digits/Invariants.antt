@@ -3,7 +3,7 @@ use Rattle.std.specs.Str.Parse.{digits_value, digits_value_after}
 use Rattle.rx_reader.specs.Input.{place, unread}
 use Rattle.rx_reader.specs.Escapes.{digits}
 use Rattle.rx_reader.specs.Ahead.{past_n}
-use Rattle.rx_reader.proofs.EscapeLemmas.{room}
+use Rattle.rx_reader.proofs.lemmas.tokens.EscapeLemmas.{room}
 use Rattle.rx_reader.proofs.escape.read_digits.Given as goal
 
 abbrev pub invariant-loop-count : goal.invariant-loop-count

@@ -3,8 +3,8 @@ use Rattle.std.proofs.lemmas.List.{append-nil}
 use Rattle.rx_reader.specs.Input.{place, unread}
 use Rattle.rx_reader.specs.Reading.{passes, past_all}
 use Rattle.rx_reader.specs.Escapes.{in_name}
-use Rattle.rx_reader.proofs.PlaceLemmas.{past_all_goes, past_all_stops}
-use Rattle.rx_reader.proofs.EscapeLemmas.{leading-stops, push_leading}
+use Rattle.rx_reader.proofs.lemmas.places.PlaceLemmas.{past_all_goes, past_all_stops}
+use Rattle.rx_reader.proofs.lemmas.tokens.EscapeLemmas.{leading-stops, push_leading}
 use Rattle.rx_reader.proofs.escape.read_name.Goals as goal
 
 pub loop-inside-preserved : goal.loop-inside-preserved

@@ -1,5 +1,5 @@
 use Rattle.std.proofs.Common.{arith}
-use Rattle.rx_reader.proofs.FrontLemmas.{name_from_start}
+use Rattle.rx_reader.proofs.lemmas.places.FrontLemmas.{name_from_start}
 use Rattle.rx_reader.proofs.name.name_len.Goals as goal
 
 pub loop-n-init : goal.loop-n-init

@@ -1,6 +1,6 @@
 use Rattle.std.proofs.Common.{◌≡◌, ◌-◌, ◌≤◌, ◌==◌, ◌++◌, length, take, drop}
 use Rattle.rx_reader.specs.Names.{name_of}
-use Rattle.rx_reader.proofs.FrontLemmas.{name_from}
+use Rattle.rx_reader.proofs.lemmas.places.FrontLemmas.{name_from}
 use Rattle.rx_reader.proofs.name.name_len.Given as goal
 
 abbrev pub invariant-loop-n : goal.invariant-loop-n

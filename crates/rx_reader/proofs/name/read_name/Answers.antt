@@ -4,8 +4,8 @@ use Rattle.rx_reader.specs.declared.error.SyntaxErrorKind.TheVariants.{GroupName
 use Rattle.rx_reader.specs.Input.{place}
 use Rattle.rx_reader.specs.Reading.{Place, is_at, past, has_name, add_name}
 use Rattle.rx_reader.specs.Names.{name_of}
-use Rattle.rx_reader.proofs.ReadsLemmas.{refuse_at}
-use Rattle.rx_reader.proofs.PartLemmas.{name_fails, name_taken, name_read, name_len_at, name_taken_at}
+use Rattle.rx_reader.proofs.lemmas.places.ReadsLemmas.{refuse_at}
+use Rattle.rx_reader.proofs.lemmas.tokens.PartLemmas.{name_fails, name_taken, name_read, name_len_at, name_taken_at}
 use Rattle.rx_reader.proofs.name.read_name.Goals as goal
 
 pub returns-then-count-eq0-clause-value : goal.returns-then-count-eq0-clause-value

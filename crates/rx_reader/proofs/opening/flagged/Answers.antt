@@ -6,8 +6,8 @@ use Rattle.rx_reader.specs.declared.group_kind.GroupKind.TheVariants.{NonCapturi
 use Rattle.rx_reader.specs.Input.{place}
 use Rattle.rx_reader.specs.Reading.{is_at}
 use Rattle.rx_reader.specs.Flags.{read_flags}
-use Rattle.rx_reader.proofs.ReadsLemmas.{refuses_from, refuses}
-use Rattle.rx_reader.proofs.PartLemmas.{flagged_refused, flagged_read}
+use Rattle.rx_reader.proofs.lemmas.places.ReadsLemmas.{refuses_from, refuses}
+use Rattle.rx_reader.proofs.lemmas.tokens.PartLemmas.{flagged_refused, flagged_read}
 use Rattle.rx_reader.proofs.opening.flagged.Goals as goal
 
 pub returns-in_err-flags-clause-value : goal.returns-in_err-flags-clause-value

@@ -5,8 +5,8 @@ use Rattle.rx_reader.specs.declared.group_kind.GroupKind.TheVariants.{CaptureNam
 use Rattle.rx_reader.specs.Input.{place}
 use Rattle.rx_reader.specs.Names.{read_name}
 use Rattle.rx_reader.specs.Openings.{named}
-use Rattle.rx_reader.proofs.ReadsLemmas.{refuses_from, refuses}
-use Rattle.rx_reader.proofs.PartLemmas.{named_refused, named_read}
+use Rattle.rx_reader.proofs.lemmas.places.ReadsLemmas.{refuses_from, refuses}
+use Rattle.rx_reader.proofs.lemmas.tokens.PartLemmas.{named_refused, named_read}
 use Rattle.rx_reader.proofs.opening.named.Goals as goal
 
 pub returns-in_err-name-clause-value : goal.returns-in_err-name-clause-value

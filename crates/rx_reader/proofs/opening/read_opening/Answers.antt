@@ -5,7 +5,7 @@ use Rattle.rx_reader.specs.Input.{place, Reads}
 use Rattle.rx_reader.specs.Reading.{Place, begins, past, count_group}
 use Rattle.rx_reader.specs.Groups.{number_after}
 use Rattle.rx_reader.specs.Openings.{is_look_ahead, is_look_behind, is_reference}
-use Rattle.rx_reader.proofs.PartLemmas.{opens_ahead, opens_behind, opens_reference, opens_named, opens_short, opens_flagged, opens_plain}
+use Rattle.rx_reader.proofs.lemmas.tokens.PartLemmas.{opens_ahead, opens_behind, opens_reference, opens_named, opens_short, opens_flagged, opens_plain}
 use Rattle.rx_reader.proofs.opening.read_opening.Goals as goal
 
 pub returns-then-is_look_ahead-clause-value : goal.returns-then-is_look_ahead-clause-value

@@ -2,8 +2,8 @@ use Rattle.std.proofs.Common.{sym, subst}
 use Rattle.std.proofs.lemmas.Result.{err_from_is_err_and}
 use Rattle.rx_reader.specs.Input.{place, Reads}
 use Rattle.rx_reader.specs.Counts.{read_number, max_after}
-use Rattle.rx_reader.proofs.ReadsLemmas.{refuses_from, refuses}
-use Rattle.rx_reader.proofs.PartLemmas.{counts_refused, counts_max_refused, counts_closed}
+use Rattle.rx_reader.proofs.lemmas.places.ReadsLemmas.{refuses_from, refuses}
+use Rattle.rx_reader.proofs.lemmas.tokens.PartLemmas.{counts_refused, counts_max_refused, counts_closed}
 use Rattle.rx_reader.proofs.operator.read_counts.Goals as goal
 
 pub returns-in_err-min-clause-value : goal.returns-in_err-min-clause-value

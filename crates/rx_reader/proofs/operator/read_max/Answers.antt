@@ -3,8 +3,8 @@ use Rattle.std.proofs.lemmas.Result.{err_from_is_err_and}
 use Rattle.rx_reader.specs.Input.{place}
 use Rattle.rx_reader.specs.Reading.{is_at}
 use Rattle.rx_reader.specs.Counts.{read_number}
-use Rattle.rx_reader.proofs.ReadsLemmas.{refuses_from, refuses}
-use Rattle.rx_reader.proofs.PartLemmas.{max_none, max_refused, max_some}
+use Rattle.rx_reader.proofs.lemmas.places.ReadsLemmas.{refuses_from, refuses}
+use Rattle.rx_reader.proofs.lemmas.tokens.PartLemmas.{max_none, max_refused, max_some}
 use Rattle.rx_reader.proofs.operator.read_max.Goals as goal
 
 pub returns-then-is_at-clause-value : goal.returns-then-is_at-clause-value

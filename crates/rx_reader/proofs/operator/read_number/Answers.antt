@@ -5,8 +5,8 @@ use Rattle.rx_reader.specs.declared.error.SyntaxErrorKind.TheVariants.{RepeatCou
 use Rattle.rx_reader.specs.Input.{place}
 use Rattle.rx_reader.specs.Reading.{Place}
 use Rattle.rx_reader.specs.Counts.{within, numeral, number_of, number_at}
-use Rattle.rx_reader.proofs.ReadsLemmas.{refuse_at}
-use Rattle.rx_reader.proofs.PartLemmas.{number_read}
+use Rattle.rx_reader.proofs.lemmas.places.ReadsLemmas.{refuse_at}
+use Rattle.rx_reader.proofs.lemmas.tokens.PartLemmas.{number_read}
 use Rattle.rx_reader.proofs.operator.read_number.Goals as goal
 
 pub returns-in-Some-clause-value : goal.returns-in-Some-clause-value

@@ -5,8 +5,8 @@ use Rattle.rx_reader.specs.Input.{place}
 use Rattle.rx_reader.specs.Reading.{Place, first, is_at, begins}
 use Rattle.rx_reader.specs.Ahead.{past_n, skip}
 use Rattle.rx_reader.specs.Counts.{counts_of, read_counts}
-use Rattle.rx_reader.proofs.ReadsLemmas.{refuses_from, refuses, refuse_at}
-use Rattle.rx_reader.proofs.PartLemmas.{operator_simple, operator_without_min, operator_refused, operator_counted, operator_is}
+use Rattle.rx_reader.proofs.lemmas.places.ReadsLemmas.{refuses_from, refuses, refuse_at}
+use Rattle.rx_reader.proofs.lemmas.tokens.PartLemmas.{operator_simple, operator_without_min, operator_refused, operator_counted, operator_is}
 use Rattle.rx_reader.proofs.operator.read_operator.Goals as goal
 
 pub returns-then-is_at-clause-value : goal.returns-then-is_at-clause-value

@@ -5,8 +5,8 @@ use Rattle.rx_reader.specs.Input.{place}
 use Rattle.rx_reader.specs.Config.{limit_of}
 use Rattle.rx_reader.specs.Syntax.{Syntax, depth}
 use Rattle.rx_reader.specs.Grammar.{is_operator, repeated_by}
-use Rattle.rx_reader.proofs.BranchLemmas.{all_repetitions-step}
-use Rattle.rx_reader.proofs.RepeatLemmas.{repeated_from, repeat_goes}
+use Rattle.rx_reader.proofs.lemmas.branches.BranchLemmas.{all_repetitions-step}
+use Rattle.rx_reader.proofs.lemmas.branches.RepeatLemmas.{repeated_from, repeat_goes}
 use Rattle.rx_reader.proofs.parser.repetitions.Goals as goal
 
 pub loop-flags-init : goal.loop-flags-init

@@ -1,7 +1,7 @@
 use Rattle.std.proofs.Common.{◌≡◌, ◌≤◌}
 use Rattle.rx_reader.specs.Input.{place, unread}
 use Rattle.rx_reader.specs.Grammar.{all_repetitions}
-use Rattle.rx_reader.proofs.RepeatLemmas.{repeated_from}
+use Rattle.rx_reader.proofs.lemmas.branches.RepeatLemmas.{repeated_from}
 use Rattle.rx_reader.proofs.parser.repetitions.Given as goal
 
 abbrev pub invariant-loop-flags : goal.invariant-loop-flags

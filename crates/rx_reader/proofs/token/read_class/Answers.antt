@@ -1,8 +1,8 @@
 use Rattle.std.proofs.lemmas.Result.{err_from_is_err_and}
 use Rattle.rx_reader.specs.Input.{place}
 use Rattle.rx_reader.specs.Classes.{class}
-use Rattle.rx_reader.proofs.ReadsLemmas.{refuses_from, refuses}
-use Rattle.rx_reader.proofs.TokenLemmas.{piece_between, bracketed-err, bracketed-ok}
+use Rattle.rx_reader.proofs.lemmas.places.ReadsLemmas.{refuses_from, refuses}
+use Rattle.rx_reader.proofs.lemmas.tokens.TokenLemmas.{piece_between, bracketed-err, bracketed-ok}
 use Rattle.rx_reader.proofs.token.read_class.Goals as goal
 
 pub returns-in_err-atom-clause-value : goal.returns-in_err-atom-clause-value

@@ -1,8 +1,8 @@
 use Rattle.std.proofs.lemmas.Result.{err_from_is_err_and}
 use Rattle.rx_reader.specs.Input.{place}
 use Rattle.rx_reader.specs.Openings.{opening}
-use Rattle.rx_reader.proofs.ReadsLemmas.{refuses_from, refuses}
-use Rattle.rx_reader.proofs.TokenLemmas.{opens-err, opens-ok}
+use Rattle.rx_reader.proofs.lemmas.places.ReadsLemmas.{refuses_from, refuses}
+use Rattle.rx_reader.proofs.lemmas.tokens.TokenLemmas.{opens-err, opens-ok}
 use Rattle.rx_reader.proofs.token.read_opens.Goals as goal
 
 pub returns-in_err-opening-clause-value : goal.returns-in_err-opening-clause-value

@@ -4,7 +4,7 @@ use Rattle.std.proofs.lemmas.Bool.Decides.{nat_tests}
 use Rattle.rx_reader.specs.Input.{place}
 use Rattle.rx_reader.specs.Reading.{first}
 use Rattle.rx_reader.specs.Grammar.{token_of}
-use Rattle.rx_reader.proofs.TokenLemmas.{begins-bar, begins-close, begins-opens, begins-class, begins-escape, begins-dot, begins-start, begins-end}
+use Rattle.rx_reader.proofs.lemmas.tokens.TokenLemmas.{begins-bar, begins-close, begins-opens, begins-class, begins-escape, begins-dot, begins-start, begins-end}
 use Rattle.rx_reader.proofs.token.read_some_token.Goals as goal
 
 pub returns-in-124-clause-value : goal.returns-in-124-clause-value

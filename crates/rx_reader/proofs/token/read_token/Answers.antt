@@ -2,8 +2,8 @@ use Rattle.std.proofs.Common.{◌≡◌, ◌∙◌, sym, true, false}
 use Rattle.rx_reader.specs.Input.{place}
 use Rattle.rx_reader.specs.Reading.{at_end}
 use Rattle.rx_reader.specs.Grammar.{is_operator}
-use Rattle.rx_reader.proofs.BranchLemmas.{token-end}
-use Rattle.rx_reader.proofs.TokenLemmas.{token-stray, token-some}
+use Rattle.rx_reader.proofs.lemmas.branches.BranchLemmas.{token-end}
+use Rattle.rx_reader.proofs.lemmas.tokens.TokenLemmas.{token-stray, token-some}
 use Rattle.rx_reader.proofs.token.read_token.Goals as goal
 
 pub returns-then-is_at_end-clause-value : goal.returns-then-is_at_end-clause-value

@@ -4,7 +4,7 @@ use Rattle.rx_model.specs.Look.{holds}
 use Rattle.rx_search.specs.Look.{kind_of}
 use Rattle.rx_nfa.specs.Automaton.{at, forwards, byte_at, target_of}
 use Rattle.rx_nfa.specs.declared.state.Transition.{Transition}
-use Rattle.rx_nfa.proofs.StateLemmas.{accepted-is, state-known, names-known}
+use Rattle.rx_nfa.proofs.lemmas.runs.StateLemmas.{accepted-is, state-known, names-known}
 use Rattle.rx_engines.specs.Search.{graph_for}
 use Rattle.rx_engines.specs.Onward.{onto}
 use Rattle.rx_engines.proofs.CloseLemmas.{going-onto}

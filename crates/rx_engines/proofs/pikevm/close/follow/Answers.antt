@@ -1,13 +1,13 @@
 use Rattle.std.proofs.Common.{◌≡◌, ◌<◌, length, refl, sym, ◌∙◌, arith}
 use Rattle.std.specs.Prelude.{false}
 use Rattle.rx_nfa.specs.Automaton.{forwards}
-use Rattle.rx_nfa.proofs.AutomatonLemmas.{automaton-bounded}
+use Rattle.rx_nfa.proofs.lemmas.runs.AutomatonLemmas.{automaton-bounded}
 use Rattle.rx_nfa.specs.Ordered.{has, passed_at}
 use Rattle.rx_engines.proofs.CloseLemmas.{not-true, not-false}
 use Rattle.rx_engines.proofs.LineLemmas.{frames-less}
-use Rattle.rx_nfa.proofs.ClosureLemmas.{found-rests}
-use Rattle.rx_nfa.proofs.LaterLemmas.{automaton-steps}
-use Rattle.rx_nfa.proofs.PlaceLemmas.{left-less, passed_at-has, passed_at-elsewhere}
+use Rattle.rx_nfa.proofs.lemmas.lists.ClosureLemmas.{found-rests}
+use Rattle.rx_nfa.proofs.lemmas.lists.LaterLemmas.{automaton-steps}
+use Rattle.rx_nfa.proofs.lemmas.lists.PlaceLemmas.{left-less, passed_at-has, passed_at-elsewhere}
 use Rattle.rx_engines.proofs.SimulationLemmas.{Waits-passed, Waits-moves, Waits-rests}
 use Rattle.rx_engines.proofs.pikevm.close.follow.Goals as goal
 

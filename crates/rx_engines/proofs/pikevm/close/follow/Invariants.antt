@@ -5,7 +5,7 @@ use Rattle.rx_engines.specs.Search.{graph_until}
 use Rattle.rx_engines.specs.declared.frame.Frame.TheVariants.{Explore}
 use Rattle.rx_engines.specs.Walk.{AllWithin}
 use Rattle.rx_nfa.specs.Ordered.{IsStable, passed_at}
-use Rattle.rx_nfa.proofs.PlaceLemmas.{left_at}
+use Rattle.rx_nfa.proofs.lemmas.lists.PlaceLemmas.{left_at}
 use Rattle.rx_engines.specs.Simulation.{Hit, Waits, frames_to_come, room_of}
 use Rattle.rx_engines.proofs.pikevm.close.follow.Given as goal
 

@@ -1,7 +1,7 @@
 use Rattle.std.proofs.Common.{◌∷◌, refl, ◌∙◌, ap, arith, length}
 use Rattle.rx_model.specs.Look.{holds}
 use Rattle.rx_search.specs.Look.{kind_of}
-use Rattle.rx_nfa.proofs.StateLemmas.{state-known, names-known}
+use Rattle.rx_nfa.proofs.lemmas.runs.StateLemmas.{state-known, names-known}
 use Rattle.rx_engines.specs.declared.frame.Frame.TheVariants.{Explore}
 use Rattle.rx_engines.specs.Threads.{Frames}
 use Rattle.rx_nfa.specs.Ordered.{is_resting}

@@ -2,7 +2,7 @@ use Rattle.std.proofs.Common.{◌≡◌, ◌+◌, ◌≤◌, ℕ, length, refl, 
 use Rattle.std.specs.Prelude.{true, None, replicate, option_map, is_some, nat_lt}
 use Rattle.std.proofs.lemmas.Bool.Decides.{nat_tests}
 use Rattle.rx_model.specs.Runs.{nowhere}
-use Rattle.rx_model.proofs.RunLemmas.{by_test}
+use Rattle.rx_model.proofs.lemmas.runs.RunLemmas.{by_test}
 use Rattle.rx_engines.specs.Threads.{StateSet}
 use Rattle.rx_engines.specs.Search.{graph_until, next_until}
 use Rattle.rx_nfa.specs.Ordered.{passed_at}

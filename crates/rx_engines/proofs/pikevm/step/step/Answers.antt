@@ -1,7 +1,7 @@
 use Rattle.std.proofs.Common.{◌+◌, drop, refl, sym, ◌∙◌, arith}
 use Rattle.rx_nfa.specs.Automaton.{automaton, forwards}
-use Rattle.rx_nfa.proofs.AutomatonLemmas.{automaton-bounded}
-use Rattle.rx_nfa.proofs.AutomatonLemmas.{automaton-rises}
+use Rattle.rx_nfa.proofs.lemmas.runs.AutomatonLemmas.{automaton-bounded}
+use Rattle.rx_nfa.proofs.lemmas.runs.AutomatonLemmas.{automaton-rises}
 use Rattle.rx_engines.proofs.StepLemmas.{onward, onward-stable, Stepping-accepts, Stepping-reads, Stepping-ends, Stepping-over, Stepping-begun, acts-known, idle-known, idle-ends, idle-accepts, among-over}
 use Rattle.rx_engines.specs.declared.onward.Onward.TheVariants.{To, Back}
 use Rattle.rx_engines.proofs.pikevm.step.step.Goals as goal

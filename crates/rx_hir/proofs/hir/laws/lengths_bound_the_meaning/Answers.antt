@@ -1,6 +1,6 @@
 use Rattle.std.proofs.Common.{arith}
 use Rattle.rx_model.specs.Length.{minimum_len}
-use Rattle.rx_model.proofs.LengthLemmas.{means-long}
+use Rattle.rx_model.proofs.lemmas.meaning.LengthLemmas.{means-long}
 use Rattle.rx_hir.specs.Length.{maximum_len}
 use Rattle.rx_hir.proofs.SpanLemmas.{means-short, saturated-some, in_64_bits-some}
 use Rattle.rx_hir.proofs.hir.laws.lengths_bound_the_meaning.Goals as goal

@@ -1,6 +1,6 @@
 use Rattle.std.proofs.Common.{◌∙◌, ap, sym}
 use Rattle.rx_literal.specs.Literals.{inexact, literal_of}
-use Rattle.rx_literal.proofs.LiteralLemmas.{cut-long, cut-short}
+use Rattle.rx_literal.proofs.lemmas.prefixes.LiteralLemmas.{cut-long, cut-short}
 use Rattle.rx_literal.proofs.literal.Literal.cut.Goals as goal
 
 pub returns-then-bytes-most : goal.returns-then-bytes-most

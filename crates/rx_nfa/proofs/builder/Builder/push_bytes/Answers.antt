@@ -3,7 +3,7 @@ use Rattle.rx_model.specs.Graph.{build_state, set}
 use Rattle.rx_model.specs.Text.{byte_ranges}
 use Rattle.rx_nfa.specs.Built.{Built}
 use Rattle.rx_nfa.specs.Draft.{Draft}
-use Rattle.rx_nfa.proofs.SetLemmas.{Built-bytes, AreInRange-adds}
+use Rattle.rx_nfa.proofs.lemmas.parts.SetLemmas.{Built-bytes, AreInRange-adds}
 use Rattle.rx_nfa.proofs.builder.Builder.push_bytes.Goals as goal
 
 pub invariant_of-self-2 : goal.invariant_of-self-2

@@ -1,7 +1,7 @@
 use Rattle.std.proofs.Common.{sym, ap}
 use Rattle.rx_model.specs.Graph.{build_state, set}
 use Rattle.rx_class.specs.ClassViews.{class_view}
-use Rattle.rx_nfa.proofs.CompileLemmas.{Built-same}
+use Rattle.rx_nfa.proofs.lemmas.parts.CompileLemmas.{Built-same}
 use Rattle.rx_nfa.proofs.builder.Builder.push_class.Goals as goal
 
 pub returns-in-Unicode-clause-built : goal.returns-in-Unicode-clause-built

@@ -3,8 +3,8 @@ use Rattle.rx_model.specs.Graph.{build_state, set}
 use Rattle.rx_model.specs.Text.{scalar_ranges}
 use Rattle.rx_nfa.specs.Built.{Built}
 use Rattle.rx_nfa.specs.Draft.{Draft}
-use Rattle.rx_nfa.proofs.SetLemmas.{Built-scalars, AreInRange-adds}
-use Rattle.rx_nfa.proofs.AccountedLemmas.{cost_of_class-accounted}
+use Rattle.rx_nfa.proofs.lemmas.parts.SetLemmas.{Built-scalars, AreInRange-adds}
+use Rattle.rx_nfa.proofs.lemmas.parts.AccountedLemmas.{cost_of_class-accounted}
 use Rattle.rx_nfa.proofs.builder.Builder.push_scalars.Goals as goal
 
 pub compile_class-requires-clause-room : goal.compile_class-requires-clause-room

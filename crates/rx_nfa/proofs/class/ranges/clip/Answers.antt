@@ -2,7 +2,7 @@ use Rattle.std.proofs.Common.{ℕ, ◌+◌, ◌<◌, ◌≤◌, ◌⊎◌, ◌++
 use Rattle.std.proofs.lemmas.Grind.{common_steps}
 use Rattle.std.proofs.lemmas.List.{append_assoc}
 use Rattle.rx_nfa.specs.Ranges.{clip}
-use Rattle.rx_nfa.proofs.RangesLemmas.{clip-skip, clip-keep, clip-all}
+use Rattle.rx_nfa.proofs.lemmas.classes.RangesLemmas.{clip-skip, clip-keep, clip-all}
 use Rattle.rx_nfa.proofs.class.ranges.clip.Goals.{then-last-low, else-last-low, then-not-high-first+in_ok-push, else-not-high-first}
 use Rattle.rx_nfa.proofs.class.ranges.clip.Goals as goal
 

@@ -1,6 +1,6 @@
 use Rattle.std.proofs.Common.{arith}
 use Rattle.rx_nfa.specs.Ranges.{size_of_block}
-use Rattle.rx_nfa.proofs.RangesLemmas.{size_of_block-pos, sizes, first_block, small_size}
+use Rattle.rx_nfa.proofs.lemmas.classes.RangesLemmas.{size_of_block-pos, sizes, first_block, small_size}
 use Rattle.rx_nfa.proofs.class.ranges.has_block.Goals as goal
 
 pub overflow_sub-result : goal.overflow_sub-result

@@ -1,7 +1,7 @@
 use Rattle.std.proofs.Common.{arith}
 use Rattle.std.proofs.lemmas.Grind.{common_steps}
 use Rattle.std.proofs.lemmas.List.{take_rest}
-use Rattle.rx_nfa.proofs.RangesLemmas.{IsRest-same, IsRest-next, EndsFrom-at, EndsFrom-past}
+use Rattle.rx_nfa.proofs.lemmas.classes.RangesLemmas.{IsRest-same, IsRest-next, EndsFrom-at, EndsFrom-past}
 use Rattle.rx_nfa.proofs.class.ranges.skip_below.Goals.{then-loop-skipped-test+else-ranges-skipped, else-loop-skipped-test}
 use Rattle.rx_nfa.proofs.class.ranges.skip_below.Goals as goal
 

@@ -2,7 +2,7 @@ use Rattle.std.proofs.Common.{◌≡◌, ◌∙◌, sym, ap, arith}
 use Rattle.std.proofs.lemmas.Grind.{common_steps}
 use Rattle.std.specs.Prelude.{true, false}
 use Rattle.rx_nfa.specs.Ranges.{has_block, whole_depth}
-use Rattle.rx_nfa.proofs.RangesLemmas.{whole_depth-next, whole_depth-here, whole_depth-zero}
+use Rattle.rx_nfa.proofs.lemmas.classes.RangesLemmas.{whole_depth-next, whole_depth-here, whole_depth-zero}
 use Rattle.rx_nfa.proofs.class.ranges.whole_depth.Goals as goal
 
 pub loop-depth-preserved : goal.loop-depth-preserved

@@ -1,4 +1,4 @@
-use Rattle.rx_nfa.proofs.RowLemmas.{Adds-nothing}
+use Rattle.rx_nfa.proofs.lemmas.classes.RowLemmas.{Adds-nothing}
 use Rattle.rx_nfa.proofs.class.row.add_target.Goals as goal
 
 pub returns-in-None-clause-ascends : goal.returns-in-None-clause-ascends

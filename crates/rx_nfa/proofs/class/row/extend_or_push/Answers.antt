@@ -1,6 +1,6 @@
 use Rattle.rx_nfa.specs.Automaton.{route}
 use Rattle.rx_nfa.specs.Row.{Ascends}
-use Rattle.rx_nfa.proofs.RowLemmas.{Ascends-end, Adds-push, Adds-extend, element-same}
+use Rattle.rx_nfa.proofs.lemmas.classes.RowLemmas.{Ascends-end, Adds-push, Adds-extend, element-same}
 use Rattle.std.proofs.Common.{◌≡◌, ◌+◌, ◌-◌, ◌∙◌, ap, sym, subst, refl, arith, set}
 use Rattle.std.specs.Prelude.{Some, if◌then◌else◌, ◌==◌}
 use Rattle.std.proofs.lemmas.Grind.{common_steps}

@@ -2,7 +2,7 @@ use Rattle.std.proofs.Common.{◌≡◌, sym, subst, length, arith}
 use Rattle.std.proofs.lemmas.Grind.{common_steps}
 use Rattle.rx_nfa.specs.Row.{AddsReaders, IsReader}
 use Rattle.rx_nfa.specs.States.{AreClosed}
-use Rattle.rx_nfa.proofs.RowLemmas.{AreClosed-reader, AddsReaders-push, IsReader-push}
+use Rattle.rx_nfa.proofs.lemmas.classes.RowLemmas.{AreClosed-reader, AddsReaders-push, IsReader-push}
 use Rattle.rx_nfa.proofs.class.row.push_reader.Goals as goal
 
 pub returns-clause-reads : goal.returns-clause-reads

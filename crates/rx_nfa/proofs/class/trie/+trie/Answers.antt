@@ -6,9 +6,9 @@ use Rattle.rx_search.specs.Limits.{id_limit}
 use Rattle.rx_nfa.specs.Ranges.{size_of_block, ends_in}
 use Rattle.rx_nfa.specs.Row.{Ascends, IsReader}
 use Rattle.rx_nfa.specs.Trie.{IsBlock, IsRow}
-use Rattle.rx_nfa.proofs.RowLemmas.{Ascends-more, IsReader-grows, IsReader-lower, AddsReaders-same, AddsReaders-trans, RoutesBelow-none}
-use Rattle.rx_nfa.proofs.RangesLemmas.{size_of_block-pos, size_of_block-suc, IsRest-same, IsRest-trans, IsRest-later}
-use Rattle.rx_nfa.proofs.BlockLemmas.{IsRow-none, IsRow-map, IsBlock-same, IsBlock-none, IsBlock-row, IsRow-next, IsReady-grows, aligned-part, aligned-at, aligned-64, HasEnd-deep, HasEnd-counts, covered-depth, CoversUpTo-less, count-one, count-next, count-within, row-below}
+use Rattle.rx_nfa.proofs.lemmas.classes.RowLemmas.{Ascends-more, IsReader-grows, IsReader-lower, AddsReaders-same, AddsReaders-trans, RoutesBelow-none}
+use Rattle.rx_nfa.proofs.lemmas.classes.RangesLemmas.{size_of_block-pos, size_of_block-suc, IsRest-same, IsRest-trans, IsRest-later}
+use Rattle.rx_nfa.proofs.lemmas.classes.BlockLemmas.{IsRow-none, IsRow-map, IsBlock-same, IsBlock-none, IsBlock-row, IsRow-next, IsReady-grows, aligned-part, aligned-at, aligned-64, HasEnd-deep, HasEnd-counts, covered-depth, CoversUpTo-less, count-one, count-next, count-within, row-below}
 use Rattle.rx_nfa.proofs.class.trie.+trie.Goals as goal
 
 pub block-coverage_of-requires-clause-some : goal.block-coverage_of-requires-clause-some

@@ -2,8 +2,8 @@ use Rattle.std.proofs.Common.{◌≡◌, ◌+◌, arith, refl, inl, inr}
 use Rattle.std.specs.Prelude.{[]}
 use Rattle.std.proofs.lemmas.Grind.{common_steps}
 use Rattle.std.proofs.lemmas.List.{nil_from_length}
-use Rattle.rx_nfa.proofs.RangesLemmas.{no_member_before}
-use Rattle.rx_nfa.proofs.BlockLemmas.{HasEnd-from}
+use Rattle.rx_nfa.proofs.lemmas.classes.RangesLemmas.{no_member_before}
+use Rattle.rx_nfa.proofs.lemmas.classes.BlockLemmas.{HasEnd-from}
 use Rattle.rx_nfa.proofs.class.trie.coverage_of.Goals.{else-ranges-start-via-then-ranges-start+else-end-ranges-2, else-ranges-start-via-else-ranges-start, then-is_empty-via-then-is_empty, then-is_empty-via-else-is_empty+then-end-ranges}
 use Rattle.rx_nfa.proofs.class.trie.coverage_of.Goals as goal
 

@@ -1,7 +1,7 @@
 use Rattle.std.proofs.Common.{◌≡◌, ◌+◌, ◌++◌, ◌∷◌, [], ap, arith, length, get_or, take}
 use Rattle.rx_nfa.specs.Ranges.{whole_depths}
-use Rattle.rx_nfa.proofs.RowLemmas.{AddsReaders-same, AddsReaders-trans}
-use Rattle.rx_nfa.proofs.RangesLemmas.{CoversUpTo-nil, CoversUpTo-more, CoversUpTo-push, whole_depths-push, whole_depths-take, whole_depth-le, take-next, RisesFrom-at, StaysBelow-at}
+use Rattle.rx_nfa.proofs.lemmas.classes.RowLemmas.{AddsReaders-same, AddsReaders-trans}
+use Rattle.rx_nfa.proofs.lemmas.classes.RangesLemmas.{CoversUpTo-nil, CoversUpTo-more, CoversUpTo-push, whole_depths-push, whole_depths-take, whole_depth-le, take-next, RisesFrom-at, StaysBelow-at}
 use Rattle.rx_nfa.proofs.class.trie.deepen.Goals as goal
 
 pub loop-range-init : goal.loop-range-init

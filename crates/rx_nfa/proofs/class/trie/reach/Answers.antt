@@ -1,8 +1,8 @@
 use Rattle.std.proofs.Common.{◌≡◌, ◌≤◌, ◌+◌, ◌-◌, ◌∷◌, [], ◌∙◌, ap, arith, length, slice_index}
 use Rattle.std.proofs.lemmas.Grind.{common_steps}
 use Rattle.std.proofs.lemmas.List.{length_push}
-use Rattle.rx_nfa.proofs.RowLemmas.{AddsReaders-trans, RoutesBelow-one}
-use Rattle.rx_nfa.proofs.BlockLemmas.{IsReady-push, whole-inside}
+use Rattle.rx_nfa.proofs.lemmas.classes.RowLemmas.{AddsReaders-trans, RoutesBelow-one}
+use Rattle.rx_nfa.proofs.lemmas.classes.BlockLemmas.{IsReady-push, whole-inside}
 use Rattle.rx_nfa.proofs.class.trie.reach.Goals as goal
 
 pub loop-alloc-preserved : goal.loop-alloc-preserved

@@ -1,5 +1,5 @@
 use Rattle.std.proofs.Common.{arith}
-use Rattle.rx_nfa.proofs.ExpressionLemmas.{nfa_states-drop, nfa_states-none}
+use Rattle.rx_nfa.proofs.lemmas.parts.ExpressionLemmas.{nfa_states-drop, nfa_states-none}
 use Rattle.rx_nfa.proofs.compiler.accounting.nfa_states.Goals as goal
 
 pub loop-hir-preserved : goal.loop-hir-preserved

@@ -1,5 +1,5 @@
 use Rattle.std.proofs.Common.{arith}
-use Rattle.rx_nfa.proofs.ExpressionLemmas.{groups_before-more}
+use Rattle.rx_nfa.proofs.lemmas.parts.ExpressionLemmas.{groups_before-more}
 use Rattle.rx_nfa.proofs.compiler.accounting.slot_len.Goals as goal
 
 pub loop-hir-preserved : goal.loop-hir-preserved

@@ -16,21 +16,21 @@ use Rattle.rx_hir.specs.Depth.{depth}
 use Rattle.rx_class.specs.ClassViews.{class_view}
 use Rattle.rx_hir.specs.HirViews.{kind_view}
 use Rattle.rx_nfa.specs.Built.{Built, slot_from}
-use Rattle.rx_nfa.proofs.AccountedLemmas.{accounted_in-more, accounted_in-least, copies-accounted, times-more}
+use Rattle.rx_nfa.proofs.lemmas.parts.AccountedLemmas.{accounted_in-more, accounted_in-least, copies-accounted, times-more}
 use Rattle.rx_nfa.specs.Room.{HasRoom}
-use Rattle.rx_nfa.proofs.ExpressionLemmas.{depth_at, expressions-more, expressions-none}
-use Rattle.rx_nfa.proofs.BuiltLemmas.{Built-nothing}
-use Rattle.rx_nfa.proofs.CompileLemmas.{Built-same, HasRoom-kept, HasRoom-less, greatest-at, BuiltEach-next, below-more}
+use Rattle.rx_nfa.proofs.lemmas.parts.ExpressionLemmas.{depth_at, expressions-more, expressions-none}
+use Rattle.rx_nfa.proofs.lemmas.parts.BuiltLemmas.{Built-nothing}
+use Rattle.rx_nfa.proofs.lemmas.parts.CompileLemmas.{Built-same, HasRoom-kept, HasRoom-less, greatest-at, BuiltEach-next, below-more}
 use Rattle.rx_nfa.specs.Draft.{Draft, pushed}
 use Rattle.rx_nfa.specs.Repeated.{tail, leading}
 use Rattle.rx_nfa.specs.Slots.{IsSlotOf}
 use Rattle.rx_nfa.specs.declared.state.State.TheVariants.{Union, Capture as Slot, Fail}
-use Rattle.rx_nfa.proofs.ResultLemmas.{IfOk-both}
-use Rattle.rx_nfa.proofs.BuiltLemmas.{Built-then, pushed-length}
-use Rattle.rx_nfa.proofs.GroupLemmas.{named-own}
-use Rattle.rx_nfa.proofs.SlotLemmas.{Built-group}
-use Rattle.rx_nfa.proofs.ChoiceLemmas.{BuiltEach, Built-choice}
-use Rattle.rx_nfa.proofs.CompileLemmas.{patched-length, loop-closed, optional-closed, option-closed, copy-more, tail-star}
+use Rattle.rx_nfa.proofs.lemmas.parts.ResultLemmas.{IfOk-both}
+use Rattle.rx_nfa.proofs.lemmas.parts.BuiltLemmas.{Built-then, pushed-length}
+use Rattle.rx_nfa.proofs.lemmas.runs.GroupLemmas.{named-own}
+use Rattle.rx_nfa.proofs.lemmas.parts.SlotLemmas.{Built-group}
+use Rattle.rx_nfa.proofs.lemmas.parts.ChoiceLemmas.{BuiltEach, Built-choice}
+use Rattle.rx_nfa.proofs.lemmas.parts.CompileLemmas.{patched-length, loop-closed, optional-closed, option-closed, copy-more, tail-star}
 use Rattle.rx_nfa.proofs.compiler.expression.+compile.Goals as goal
 
 pub compile-compile_repetition-requires : goal.compile-compile_repetition-requires

@@ -7,7 +7,7 @@ use Rattle.rx_hir.specs.Normal.{expressions}
 use Rattle.rx_hir.specs.Depth.{depth, greatest_depth}
 use Rattle.rx_nfa.specs.Built.{Built, slot_from}
 use Rattle.rx_nfa.specs.Repeated.{tail, states_of_tail}
-use Rattle.rx_nfa.proofs.ChoiceLemmas.{BuiltEach}
+use Rattle.rx_nfa.proofs.lemmas.parts.ChoiceLemmas.{BuiltEach}
 use Rattle.rx_nfa.proofs.compiler.expression.+compile.Given as goal
 
 abbrev pub invariant-compile_concat-loop-left : goal.invariant-compile_concat-loop-left

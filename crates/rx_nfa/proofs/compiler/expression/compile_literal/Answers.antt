@@ -3,8 +3,8 @@ use Rattle.rx_nfa.specs.Draft.{Draft, Extends, pushed}
 use Rattle.rx_nfa.specs.States.{Stands}
 use Rattle.rx_nfa.specs.Built.{IsChain}
 use Rattle.rx_nfa.specs.declared.state.State.TheVariants.{ByteRange}
-use Rattle.rx_nfa.proofs.BuiltLemmas.{Extends-trans, Extends-pushed, pushed-length}
-use Rattle.rx_nfa.proofs.TextLemmas.{IsChain-more, Built-text}
+use Rattle.rx_nfa.proofs.lemmas.parts.BuiltLemmas.{Extends-trans, Extends-pushed, pushed-length}
+use Rattle.rx_nfa.proofs.lemmas.parts.TextLemmas.{IsChain-more, Built-text}
 use Rattle.rx_nfa.proofs.compiler.expression.compile_literal.Goals as goal
 
 pub loop-left-preserved : goal.loop-left-preserved

@@ -4,8 +4,8 @@ use Rattle.rx_search.specs.Look.{kind_of}
 use Rattle.rx_nfa.specs.Built.{Built}
 use Rattle.rx_nfa.specs.Draft.{pushed}
 use Rattle.rx_nfa.specs.declared.state.State.TheVariants.{Look}
-use Rattle.rx_nfa.proofs.ResultLemmas.{IfOk-both}
-use Rattle.rx_nfa.proofs.LookLemmas.{Built-look}
+use Rattle.rx_nfa.proofs.lemmas.parts.ResultLemmas.{IfOk-both}
+use Rattle.rx_nfa.proofs.lemmas.parts.LookLemmas.{Built-look}
 use Rattle.rx_nfa.proofs.compiler.expression.compile_look.Goals as goal
 
 pub returns-clause-built : goal.returns-clause-built

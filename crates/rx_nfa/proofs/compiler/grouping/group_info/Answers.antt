@@ -3,7 +3,7 @@ use Rattle.std.specs.Prelude.{All}
 use Rattle.std.proofs.lemmas.List.{take_all, take_more, map_push}
 use Rattle.rx_search.specs.GroupInfo.{groups_of, names_of, slot_count, BeginsUnnamed}
 use Rattle.rx_hir.specs.Names.{group_names}
-use Rattle.rx_nfa.proofs.GroupLemmas.{groups-begin, slots-counted}
+use Rattle.rx_nfa.proofs.lemmas.runs.GroupLemmas.{groups-begin, slots-counted}
 use Rattle.rx_nfa.proofs.compiler.grouping.group_info.Goals as goal
 
 pub loop-hir-preserved : goal.loop-hir-preserved

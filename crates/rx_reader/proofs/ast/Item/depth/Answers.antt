@@ -1,7 +1,7 @@
 use Rattle.std.proofs.Common.{sym, ap, [], ◌∷◌}
 use Rattle.rx_reader.specs.declared.ast.Item.{Item}
 use Rattle.rx_reader.specs.AstViews.{expanded}
-use Rattle.rx_reader.proofs.ItemLemmas.{deepest-run}
+use Rattle.rx_reader.proofs.lemmas.branches.ItemLemmas.{deepest-run}
 use Rattle.rx_reader.proofs.ast.Item.depth.Goals as goal
 
 pub returns-in-Literals : goal.returns-in-Literals

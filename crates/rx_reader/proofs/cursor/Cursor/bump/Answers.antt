@@ -1,5 +1,5 @@
 use Rattle.std.proofs.Common.{arith, ◌≡◌, ◌<◌, length, drop, ◌∙◌, sym, ◌+◌, drop-drop}
-use Rattle.rx_reader.proofs.PlaceLemmas.{past_at, encodes_at}
+use Rattle.rx_reader.proofs.lemmas.places.PlaceLemmas.{past_at, encodes_at}
 use Rattle.std.specs.Prelude.{slice_index}
 use Rattle.std.specs.Char.{len_utf8}
 use Rattle.std.proofs.Common.{ap}

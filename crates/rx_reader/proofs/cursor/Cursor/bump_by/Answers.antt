@@ -2,7 +2,7 @@ use Rattle.std.proofs.Common.{arith, ◌≡◌, ◌<◌, ◌≤◌, ◌-◌, ◌
 use Rattle.std.proofs.lemmas.Grind.{common_steps}
 use Rattle.std.proofs.lemmas.Bool.Decides.{nat_tests}
 use Rattle.rx_reader.specs.Input.{place, unread}
-use Rattle.rx_reader.proofs.AheadLemmas.{by_zero, past_none, past_more, past_shorter}
+use Rattle.rx_reader.proofs.lemmas.places.AheadLemmas.{by_zero, past_none, past_more, past_shorter}
 use Rattle.rx_reader.proofs.cursor.Cursor.bump_by.Goals as goal
 
 pub loop-preserved : goal.loop-preserved

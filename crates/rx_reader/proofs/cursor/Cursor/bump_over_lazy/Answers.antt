@@ -1,6 +1,6 @@
 use Rattle.std.proofs.Common.{◌∙◌}
 use Rattle.rx_reader.specs.Input.{place}
-use Rattle.rx_reader.proofs.AheadLemmas.{lazy_at}
+use Rattle.rx_reader.proofs.lemmas.places.AheadLemmas.{lazy_at}
 use Rattle.rx_reader.proofs.cursor.Cursor.bump_over_lazy.Goals as goal
 
 pub returns-then-lazy-clause-value : goal.returns-then-lazy-clause-value

@@ -1,5 +1,5 @@
 use Rattle.std.proofs.Common.{arith}
-use Rattle.rx_reader.proofs.NumberLemmas.{number_is}
+use Rattle.rx_reader.proofs.lemmas.tokens.NumberLemmas.{number_is}
 use Rattle.rx_reader.proofs.cursor.Cursor.count_group.Goals as goal
 
 pub returns-clause-number : goal.returns-clause-number

@@ -3,7 +3,7 @@ use Rattle.std.proofs.lemmas.Grind.{common_steps}
 use Rattle.std.specs.Prelude.{slice_index}
 use Rattle.std.specs.Char.{len_utf8}
 use Rattle.rx_reader.specs.Input.{text_from}
-use Rattle.rx_reader.proofs.PlaceLemmas.{encodes_at}
+use Rattle.rx_reader.proofs.lemmas.places.PlaceLemmas.{encodes_at}
 use Rattle.rx_reader.proofs.cursor.Cursor.here.Goals as goal
 
 pub overflow_add-result : goal.overflow_add-result

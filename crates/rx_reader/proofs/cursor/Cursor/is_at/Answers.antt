@@ -1,5 +1,5 @@
 use Rattle.std.proofs.Common.{◌∙◌, sym}
-use Rattle.rx_reader.proofs.PlaceLemmas.{is_at_of}
+use Rattle.rx_reader.proofs.lemmas.places.PlaceLemmas.{is_at_of}
 use Rattle.rx_reader.specs.Input.{place}
 use Rattle.rx_reader.proofs.cursor.Cursor.is_at.Goals as goal
 

@@ -1,6 +1,6 @@
 use Rattle.std.proofs.Common.{◌∙◌, ap, ℕ, List, drop}
 use Rattle.rx_reader.specs.Input.{text_from}
-use Rattle.rx_reader.proofs.AheadLemmas.{rest_from}
+use Rattle.rx_reader.proofs.lemmas.places.AheadLemmas.{rest_from}
 use Rattle.rx_reader.proofs.cursor.Cursor.rest.Goals as goal
 
 pub returns : goal.returns

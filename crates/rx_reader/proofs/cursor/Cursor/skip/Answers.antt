@@ -1,7 +1,7 @@
 use Rattle.std.proofs.Common.{◌≡◌, sym, false, arith}
 use Rattle.std.proofs.lemmas.Grind.{common_steps}
 use Rattle.rx_reader.specs.Input.{place}
-use Rattle.rx_reader.proofs.AheadLemmas.{skip_none}
+use Rattle.rx_reader.proofs.lemmas.places.AheadLemmas.{skip_none}
 use Rattle.rx_reader.proofs.cursor.Cursor.skip.Goals as goal
 
 pub returns-then-not-flags-clause-value : goal.returns-then-not-flags-clause-value

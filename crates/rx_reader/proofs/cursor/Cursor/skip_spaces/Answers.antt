@@ -2,7 +2,7 @@ use Rattle.std.proofs.Common.{◌≡◌, ◌<◌, ◌∙◌, ap, sym, arith, tru
 use Rattle.std.specs.Char.{is_whitespace}
 use Rattle.rx_reader.specs.Input.{place, unread}
 use Rattle.rx_reader.specs.Reading.{passes, past_all}
-use Rattle.rx_reader.proofs.PlaceLemmas.{past_all_goes, past_all_stops}
+use Rattle.rx_reader.proofs.lemmas.places.PlaceLemmas.{past_all_goes, past_all_stops}
 use Rattle.rx_reader.proofs.cursor.Cursor.skip_spaces.Goals as goal
 
 pub loop-self-preserved : goal.loop-self-preserved

@@ -3,7 +3,7 @@ use Rattle.std.proofs.lemmas.Grind.{common_steps}
 use Rattle.std.proofs.lemmas.List.{drop_all}
 use Rattle.std.proofs.lemmas.Bool.Decides.{nat_tests}
 use Rattle.rx_reader.specs.Ahead.{is_blank, is_commented, blank_len}
-use Rattle.rx_reader.proofs.FrontLemmas.{blank_goes, blank_stops, blank_ends}
+use Rattle.rx_reader.proofs.lemmas.places.FrontLemmas.{blank_goes, blank_stops, blank_ends}
 use Rattle.rx_reader.proofs.cursor.ahead.blank_len.Goals as goal
 
 pub returns-then-not-is_blank-clause-value : goal.returns-then-not-is_blank-clause-value

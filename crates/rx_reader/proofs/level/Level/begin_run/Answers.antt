@@ -1,7 +1,7 @@
 use Rattle.std.proofs.Common.{◌∙◌, ap, sym, List}
 use Rattle.rx_reader.specs.Syntax.{Syntax}
-use Rattle.rx_reader.proofs.FlagsLemmas.{flags-same}
-use Rattle.rx_reader.proofs.ItemLemmas.{with_run-none}
+use Rattle.rx_reader.proofs.lemmas.tokens.FlagsLemmas.{flags-same}
+use Rattle.rx_reader.proofs.lemmas.branches.ItemLemmas.{with_run-none}
 use Rattle.rx_reader.proofs.level.Level.begin_run.Goals as goal
 
 pub returns-clause-same : goal.returns-clause-same

@@ -1,6 +1,6 @@
 use Rattle.std.proofs.Common.{◌≡◌, ap, refl, List, []}
 use Rattle.rx_reader.specs.Syntax.{Syntax}
-use Rattle.rx_reader.proofs.ItemLemmas.{with_run-ended}
+use Rattle.rx_reader.proofs.lemmas.branches.ItemLemmas.{with_run-ended}
 use Rattle.rx_reader.proofs.level.Level.end_run.Goals as goal
 
 pub returns-clause-same : goal.returns-clause-same

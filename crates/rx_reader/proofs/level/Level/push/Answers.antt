@@ -1,5 +1,5 @@
 use Rattle.rx_reader.specs.Gathered.{gathered}
-use Rattle.rx_reader.proofs.ItemLemmas.{gathered-item}
+use Rattle.rx_reader.proofs.lemmas.branches.ItemLemmas.{gathered-item}
 use Rattle.rx_reader.proofs.level.Level.push.Goals as goal
 
 pub returns : goal.returns

@@ -2,7 +2,7 @@ use Rattle.std.proofs.Common.{◌∙◌, ap, List}
 use Rattle.rx_reader.specs.Syntax.{Syntax, literal}
 use Rattle.rx_reader.specs.declared.flags.Flags.{Flags}
 use Rattle.rx_reader.specs.Gathered.{Gathered, gathered, push_item}
-use Rattle.rx_reader.proofs.ItemLemmas.{with_run-character}
+use Rattle.rx_reader.proofs.lemmas.branches.ItemLemmas.{with_run-character}
 use Rattle.rx_reader.proofs.level.Level.push_literal.Goals as goal
 
 pub returns : goal.returns

@@ -4,7 +4,7 @@ use Rattle.std.specs.List.{list_any}
 use Rattle.std.specs.Ordering.{nat_cmp}
 use Rattle.std.specs.Cmp.Lexicographic.{slice_cmp}
 use Rattle.std.specs.BTreeSet.{insert_key}
-use Rattle.rx_reader.proofs.NamesLemmas.{map-insert_key, contains-names}
+use Rattle.rx_reader.proofs.lemmas.tokens.NamesLemmas.{map-insert_key, contains-names}
 use Rattle.rx_reader.proofs.names.Names.insert.Goals as goal
 
 pub returns-clause-fresh : goal.returns-clause-fresh

@@ -11,8 +11,8 @@ use Rattle.rx_reader.specs.declared.error.SyntaxErrorKind.TheVariants.{UnopenedG
 use Rattle.rx_reader.specs.Grammar.{all_branches, no_items, item_then}
 use Rattle.rx_reader.specs.declared.level.Level.{Level}
 use Rattle.rx_reader.specs.Stack.{Around, around, gathered, gathered_whole, innermost, resume, answer}
-use Rattle.rx_reader.proofs.ReadsLemmas.{refuse_at}
-use Rattle.rx_reader.proofs.StackLemmas.{stack_of, resume-too_deep, resume-group, resume-unopened}
+use Rattle.rx_reader.proofs.lemmas.places.ReadsLemmas.{refuse_at}
+use Rattle.rx_reader.proofs.lemmas.branches.StackLemmas.{stack_of, resume-too_deep, resume-group, resume-unopened}
 use Rattle.rx_reader.proofs.parser.Parser.close_group.Goals as goal
 
 deep_if : (a b : Syntax) (limit least d : ℕ) → a ≡ b → d ≡ depth a → least ≡ limit → least ≤ d → nat_lt limit (depth b + 1) ≡ true

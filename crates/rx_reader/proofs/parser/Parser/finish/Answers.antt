@@ -4,7 +4,7 @@ use Rattle.rx_reader.specs.Input.{place}
 use Rattle.rx_reader.specs.Syntax.{Syntax}
 use Rattle.rx_reader.specs.Grammar.{no_items}
 use Rattle.rx_reader.specs.Stack.{Around, around, gathered, innermost, resume}
-use Rattle.rx_reader.proofs.StackLemmas.{stack_of, resume-unclosed, resume-finished, resume-end}
+use Rattle.rx_reader.proofs.lemmas.branches.StackLemmas.{stack_of, resume-unclosed, resume-finished, resume-end}
 use Rattle.rx_reader.proofs.parser.Parser.finish.Goals as goal
 
 pub returns-in-Some : goal.returns-in-Some

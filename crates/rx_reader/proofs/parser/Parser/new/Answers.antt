@@ -1,6 +1,6 @@
 use Rattle.std.proofs.Common.{ap}
 use Rattle.rx_reader.specs.Stack.{innermost}
-use Rattle.rx_reader.proofs.StackLemmas.{resume-start}
+use Rattle.rx_reader.proofs.lemmas.branches.StackLemmas.{resume-start}
 use Rattle.rx_reader.proofs.parser.Parser.new.Goals as goal
 
 pub returns : goal.returns

@@ -8,8 +8,8 @@ use Rattle.rx_reader.specs.declared.error.SyntaxErrorKind.TheVariants.{NestLimit
 use Rattle.rx_reader.specs.Config.{limit_of}
 use Rattle.rx_reader.specs.Grammar.{all_branches, group_then}
 use Rattle.rx_reader.specs.Stack.{Gathered, Around, gathered, innermost, resume}
-use Rattle.rx_reader.proofs.ReadsLemmas.{refuse_at}
-use Rattle.rx_reader.proofs.StackLemmas.{stack_of, innermost-length, resume-too_many, resume-pushed}
+use Rattle.rx_reader.proofs.lemmas.places.ReadsLemmas.{refuse_at}
+use Rattle.rx_reader.proofs.lemmas.branches.StackLemmas.{stack_of, innermost-length, resume-too_many, resume-pushed}
 use Rattle.rx_reader.proofs.parser.Parser.open_group.Goals as goal
 
 around_same : (g h : Gathered) (s t e f : ℕ) (kind : GroupKind) (flags : Flags) → g ≡ h → s ≡ t → e ≡ f → ◌≡◌ {A = Around} (record { gathered = g; start = s; end = e; kind = kind; flags = flags }) (record { gathered = h; start = t; end = f; kind = kind; flags = flags })

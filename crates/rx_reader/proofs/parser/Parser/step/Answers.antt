@@ -5,7 +5,7 @@ use Rattle.rx_reader.specs.Syntax.{Syntax}
 use Rattle.rx_reader.specs.declared.error.SyntaxError.{SyntaxError}
 use Rattle.rx_reader.specs.Grammar.{token_then, all_branches}
 use Rattle.rx_reader.specs.Stack.{gathered, innermost, resume, opened_in, answer}
-use Rattle.rx_reader.proofs.BranchLemmas.{all_branches-step}
+use Rattle.rx_reader.proofs.lemmas.branches.BranchLemmas.{all_branches-step}
 use Rattle.rx_reader.proofs.parser.Parser.step.Goals as goal
 
 pub returns-clause-value : goal.returns-clause-value

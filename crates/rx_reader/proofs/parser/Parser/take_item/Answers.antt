@@ -3,8 +3,8 @@ use Rattle.std.proofs.lemmas.Result.{err_from_is_err_and}
 use Rattle.rx_reader.specs.Input.{place}
 use Rattle.rx_reader.specs.Grammar.{all_repetitions}
 use Rattle.rx_reader.specs.Stack.{Gathered, gathered, innermost, resume, reads_on}
-use Rattle.rx_reader.proofs.ReadsLemmas.{refuses_from, refuses}
-use Rattle.rx_reader.proofs.StackLemmas.{resume-item, resume-item_err}
+use Rattle.rx_reader.proofs.lemmas.places.ReadsLemmas.{refuses_from, refuses}
+use Rattle.rx_reader.proofs.lemmas.branches.StackLemmas.{resume-item, resume-item_err}
 use Rattle.rx_reader.proofs.parser.Parser.take_item.Goals as goal
 
 pub returns-in_err-item-clause-value : goal.returns-in_err-item-clause-value

@@ -7,9 +7,9 @@ use Rattle.rx_reader.specs.declared.token.Token.TheVariants.{End, Bar}
 use Rattle.rx_reader.specs.Tokens.{is_end}
 use Rattle.rx_reader.specs.Grammar.{token}
 use Rattle.rx_reader.specs.Stack.{Gathered, gathered, innermost, resume, opened_in, reads_on}
-use Rattle.rx_reader.proofs.ReadsLemmas.{refuses_from, refuses}
-use Rattle.rx_reader.proofs.BranchLemmas.{token-end}
-use Rattle.rx_reader.proofs.StackLemmas.{resume-token, resume-token_err, resume-bar, resume-end}
+use Rattle.rx_reader.proofs.lemmas.places.ReadsLemmas.{refuses_from, refuses}
+use Rattle.rx_reader.proofs.lemmas.branches.BranchLemmas.{token-end}
+use Rattle.rx_reader.proofs.lemmas.branches.StackLemmas.{resume-token, resume-token_err, resume-bar, resume-end}
 use Rattle.rx_reader.proofs.parser.Parser.take_token.Goals as goal
 
 found : Token → Place → Read Token

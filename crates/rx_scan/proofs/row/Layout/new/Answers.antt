@@ -1,7 +1,7 @@
 use Rattle.std.proofs.Common.{◌≡◌, ℕ, suc, ◌<◌, ◌∷◌, [], ◌++◌, length, Option, Some, None, sym, subst, ap, ◌∙◌, refl, arith, add-one}
 use Rattle.std.specs.Prelude.{IsSome, MatchOption, nat_lt}
 use Rattle.std.proofs.lemmas.Bool.{ltb-true, ltb-false}
-use Rattle.rx_model.proofs.RunLemmas.{by_test}
+use Rattle.rx_model.proofs.lemmas.runs.RunLemmas.{by_test}
 use Rattle.rx_search.specs.GroupInfo.{groups_at}
 use Rattle.rx_scan.specs.Layout.{all_explicit_slots, explicit_slots}
 use Rattle.rx_scan.proofs.LayoutLemmas.{patterns-few}

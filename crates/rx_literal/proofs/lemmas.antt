@@ -1,0 +1,4 @@
+pub mod prefixes
+pub mod suffixes
+pub mod trimming
+pub mod first_runs

@@ -1,0 +1,36 @@
+-- Literals cut and extended.
+use Rattle.std.proofs.Common.{◌≡◌, ℕ, zero, suc, ◌<◌, ◌≤◌, Bool, true, false, List, [], ◌∷◌, ◌++◌, length, map, take, drop, get_or, refl, sym, ap, ◌∙◌, arith, true≢false}
+use lib.ListN.{set}
+use Rattle.std.specs.Prelude.{nat_lt}
+use Rattle.std.proofs.lemmas.Bool.Decides.{nat_tests}
+use Rattle.std.proofs.lemmas.List.{length-map}
+use Rattle.rx_model.proofs.lemmas.runs.RunLemmas.{by_test}
+use Rattle.rx_literal.specs.Literals.{Literal, exact, inexact, literal_of, is_exact, loose, outer_bytes, cut, extended, extended_by_each}
+use Rattle.rx_literal.specs.declared.side.Side.{Side}
+
+pub cut-long : (side : Side) (n : ℕ) (b : Bool) (bytes : List ℕ) → n < length bytes → cut side n (literal_of b bytes) ≡ inexact (outer_bytes side n bytes)
+unfolding cut
+cut-long side n true bytes lt = by_test (nat_lt n (length bytes)) (λ e. rw e refl) (λ e. absurd (grind (arith, nat_tests)))
+cut-long side n false bytes lt = by_test (nat_lt n (length bytes)) (λ e. rw e refl) (λ e. absurd (grind (arith, nat_tests)))
+
+pub cut-short : (side : Side) (n : ℕ) (b : Bool) (bytes : List ℕ) → length bytes ≤ n → cut side n (literal_of b bytes) ≡ literal_of b bytes
+unfolding cut
+cut-short side n true bytes le = by_test (nat_lt n (length bytes)) (λ e. absurd (grind (arith, nat_tests))) (λ e. rw e refl)
+cut-short side n false bytes le = by_test (nat_lt n (length bytes)) (λ e. absurd (grind (arith, nat_tests))) (λ e. rw e refl)
+
+pub extensions-exact : (side : Side) (ts : List Literal) (l : Literal) → is_exact l ≡ true → length (extended_by_each side ts l) ≡ length ts
+unfolding extended_by_each
+extensions-exact side ts (exact s) e = length-map ts (λ t. cut side 100 (extended side s t))
+extensions-exact side ts (inexact s) e = absurd (true≢false (sym e))
+
+pub extensions-inexact : (side : Side) (ts : List Literal) (l : Literal) → is_exact l ≡ false → length (extended_by_each side ts l) ≡ 1
+unfolding extended_by_each
+extensions-inexact side ts (exact s) e = absurd (true≢false e)
+extensions-inexact side ts (inexact s) e = refl
+
+-- one literal more is inexact
+pub loose-step : (xs : List Literal) (i : ℕ) (l m : Literal) → i < length xs → l ≡ get_or (map loose (take i xs) ++ drop i xs) i l → m ≡ loose l
+    → set (map loose (take i xs) ++ drop i xs) i m ≡ map loose (take (suc i) xs) ++ drop (suc i) xs
+loose-step [] i l m lt at is = absurd (omega arith)
+loose-step (x ∷ xs) zero l m lt at is = ap (λ y. y ∷ xs) (is ∙ ap loose at)
+loose-step (x ∷ xs) (suc i) l m lt at is = ap (λ ys. loose x ∷ ys) (loose-step xs i l m (omega arith) at is)

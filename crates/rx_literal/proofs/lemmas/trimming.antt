@@ -1,0 +1,6 @@
+pub mod TrimLemmas
+pub mod FirstTrimLemmas
+pub mod BeforeLemmas
+pub mod OrderedLemmas
+pub mod PartedLemmas
+pub mod InsertLemmas

@@ -1,0 +1,4 @@
+pub mod runs
+pub mod graphs
+pub mod meaning
+pub mod matches

@@ -1,0 +1,6 @@
+pub mod SieveLemmas
+pub mod PlacedLemmas
+pub mod RefineLemmas
+pub mod GraphLemmas
+pub mod SievedLemmas
+pub mod LocalLemmas

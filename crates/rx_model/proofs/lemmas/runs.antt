@@ -1,0 +1,12 @@
+pub mod OptionLemmas
+pub mod RunLemmas
+pub mod FirstLemmas
+pub mod MachineLemmas
+pub mod FoundLemmas
+pub mod MemberLemmas
+pub mod ReachLemmas
+pub mod WriteLemmas
+pub mod LeastLemmas
+pub mod RiseLemmas
+pub mod OrderLemmas
+pub mod PlainLemmas

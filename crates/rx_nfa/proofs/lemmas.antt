@@ -1,0 +1,4 @@
+pub mod parts
+pub mod classes
+pub mod runs
+pub mod lists

@@ -1,0 +1,5 @@
+pub mod PlaceLemmas
+pub mod ListLemmas
+pub mod ClosureLemmas
+pub mod TargetLemmas
+pub mod LaterLemmas

@@ -1,0 +1,11 @@
+pub mod AccountedLemmas
+pub mod BuiltLemmas
+pub mod LoopLemmas
+pub mod ExpressionLemmas
+pub mod TextLemmas
+pub mod ResultLemmas
+pub mod SlotLemmas
+pub mod ChoiceLemmas
+pub mod CompileLemmas
+pub mod SetLemmas
+pub mod LookLemmas

@@ -1,0 +1,11 @@
+pub mod AutomatonLemmas
+pub mod ChainLemmas
+pub mod ImageLemmas
+pub mod GroupLemmas
+pub mod SilentLemmas
+pub mod PatternLemmas
+pub mod SpanLemmas
+pub mod StateLemmas
+pub mod StepLemmas
+pub mod RefinedLemmas
+pub mod NextMatchLemmas

@@ -1,0 +1,4 @@
+pub mod places
+pub mod tokens
+pub mod branches
+pub mod patterns

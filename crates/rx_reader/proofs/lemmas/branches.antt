@@ -1,0 +1,5 @@
+pub mod BranchLemmas
+pub mod EndLemmas
+pub mod ItemLemmas
+pub mod RepeatLemmas
+pub mod StackLemmas

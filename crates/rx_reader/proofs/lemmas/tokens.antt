@@ -1,0 +1,13 @@
+pub mod ClassItemLemmas
+pub mod ClassLemmas
+pub mod EscapeEnds
+pub mod EscapeKeeps
+pub mod EscapeLemmas
+pub mod FlagsLemmas
+pub mod NamesLemmas
+pub mod NumberLemmas
+pub mod PartLemmas
+pub mod TokenEnds
+pub mod TokenGroups
+pub mod TokenKeeps
+pub mod TokenLemmas
