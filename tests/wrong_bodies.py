@@ -19,7 +19,11 @@ MORE = os.path.join(TESTS, 'wrong-bodies')
 
 
 def main():
-    names = sys.argv[1:] or sorted(os.listdir(MORE))
+    there = sorted(os.listdir(MORE))
+    names = sys.argv[1:] or there
+    if not set(names) <= set(there):
+        print(__doc__)
+        return 2
     failed = []
     with tempfile.TemporaryDirectory() as copy:
         for part in ('crates', 'crates.txt', 'HANDLES'):
