@@ -6,6 +6,7 @@ mod compile;
 mod engine;
 mod failure;
 mod finders;
+mod literals;
 
 use engine::Engine;
 use failure::Failure;
@@ -31,6 +32,9 @@ fn bench<R: Runtime + AllocGlobal>(rt: &R) -> Result<(), Failure> {
     let [engine, pattern] = words.as_slice() else {
         return Err(Failure::Usage);
     };
+    if engine.as_str() == "literals" {
+        return literals::time(rt, pattern.as_str());
+    }
     let mut engine = Engine::new(rt.alloc(), engine.as_str(), pattern.as_str())?;
     let text = io::read_to_string(rt.alloc(), rt.reader())?;
     let start = Instant::now(rt)?;
