@@ -1,5 +1,6 @@
 //! `rx_bench ENGINE PATTERN` searches each line of standard input for the successive matches of the pattern, and prints
-//! their number, the bytes of the lines, and the time that the searches took.
+//! their number, the bytes of the lines, and the time that the searches took. `rx_bench literals PATTERN` prints times of
+//! the literals of the pattern.
 #![tactic(auto)]
 
 mod compile;
