@@ -1,8 +1,7 @@
 -- Literals that are lent: a list of references, as the list of what they point to.
 use Rattle.std.proofs.Common.{◌≡◌, ℕ, zero, suc, ◌<◌, Bool, true, false, List, [], ◌∷◌, ◌++◌, length, take, drop, get_or, Bor, refl, sym, ap, subst, ◌∙◌, arith}
 use Rattle.std.specs.List.{list_any, list_all, remove}
-use lib.ListN.{set}
-use Rattle.std.proofs.lemmas.List.{get_or-map, length-map, map-set}
+use Rattle.std.proofs.lemmas.List.{get_or-map}
 use Rattle.rx_literal.specs.declared.order.Order.{Order}
 use Rattle.rx_literal.specs.Literals.{Literal}
 use Rattle.rx_literal.specs.Order.{lent, follows, InOrder}
