@@ -2,7 +2,7 @@
 ghost use Rattle.std.specs.Prelude.{◌≡◌, ◌∷◌, [], IfOk};
 ghost use Rattle.rx_hir.specs.HirViews.{kind_view};
 ghost use Rattle.rx_hir.specs.Normal.{expressions};
-ghost use Rattle.rx_literal.specs.Literals.{exact, finite, cut, one_empty};
+ghost use Rattle.rx_literal.specs.Literals.{exact, finite, cut, one_empty, union};
 ghost use Rattle.rx_literal.specs.declared.side.Side.TheVariants.{Front as front, Back as back};
 ghost use Rattle.rx_literal.specs.Extract.{literals, in_turn, of_one, prefixes, suffixes, prefixes_of};
 
@@ -123,8 +123,20 @@ fn of_one(alloc: Global, side: Side, subs: &[Hir]) -> Result<Seq, Memory>
         if !seq.is_finite() {
             return Ok(seq);
         }
-        let more = literals(alloc, side, sub)?;
-        seq = seq.union(more)?;
+        seq = with_literals(alloc, side, seq, sub)?;
     }
     Ok(seq)
+}
+
+/// The sequence, and then the literals of the expression. That of a text is added as it stands.
+#[cycle(literals)]
+fn with_literals(alloc: Global, side: Side, seq: Seq, hir: &Hir) -> Result<Seq, Memory>
+    ensures { IfOk result (λ s. s ≡ union seq (literals side hir.now)) }
+{
+    let kind = hir.kind();
+    if let HirKind::Literal(bytes) = kind {
+        return seq.with(Literal::cut(alloc, side, 100, bytes, true)?);
+    }
+    let more = literals_of_kind(alloc, side, kind)?;
+    seq.union(more)
 }

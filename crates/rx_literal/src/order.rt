@@ -1,7 +1,7 @@
 //! Literals in order.
 ghost use Rattle.std.specs.Prelude.{◌≡◌, ◌≤◌, ◌&&◌, nat_lt, true, false, length, take, drop};
 ghost use Rattle.std.specs.List.{list_all, list_any};
-ghost use Rattle.rx_literal.specs.Order.{has_prefix_first, before, follows, InOrder};
+ghost use Rattle.rx_literal.specs.Order.{lent, has_prefix_first, before, follows, InOrder};
 
 use crate::literal::Literal;
 
@@ -39,11 +39,11 @@ fn is_prefix_before(order: Order, prefix_len: usize, len: usize) -> bool
 }
 
 /// How many of the literals, which are in order, come before this one.
-pub(crate) fn position(order: Order, literals: &[Literal], literal: &Literal) -> usize
-    requires { InOrder order literals.now }
+pub(crate) fn position(order: Order, literals: &[&Literal], literal: &Literal) -> usize
+    requires { InOrder order (lent literals.now) }
     ensures bound { result ≤ length literals.now }
-    ensures before { list_all (follows order literal.now) (take result literals.now) ≡ true }
-    ensures after { list_any (follows order literal.now) (drop result literals.now) ≡ false }
+    ensures before { list_all (follows order literal.now) (take result (lent literals.now)) ≡ true }
+    ensures after { list_any (follows order literal.now) (drop result (lent literals.now)) ≡ false }
 {
     let mut low = 0;
     let mut high = literals.len();

@@ -1,5 +1,5 @@
 //! Sequences of literals.
-ghost use Rattle.std.specs.Prelude.{◌≡◌, ◌++◌, [], nat_lt, length, map, option_map, IfOk, OnOk};
+ghost use Rattle.std.specs.Prelude.{◌≡◌, ◌∷◌, ◌++◌, [], nat_lt, length, map, option_map, IfOk, OnOk};
 ghost use Rattle.std.specs.List.{flat_map, list_any, list_all};
 ghost use Rattle.std.specs.Vec.{vec_items};
 ghost use Rattle.rx_literal.specs.Literals.{seq_of, infinite, finite, is_finite, is_exact, is_empty, loose, one_empty, loosened, limited, union, extended_by_each, stopped, cross, some_exact};
@@ -114,6 +114,16 @@ impl Seq {
         }
     }
 
+    /// These, and then one more; infinitely many, where they are more than 250.
+    pub(crate) fn with(self, literal: Literal) -> Result<Seq, Memory>
+        ensures { IfOk result (λ s. s ≡ union self (finite (literal ∷ []))) }
+    {
+        match self.literals {
+            Some(literals) => with_one(literals, literal),
+            None => Ok(Seq::infinite()),
+        }
+    }
+
     /// Each exact literal extended by each of the others, where these are no more than 250.
     #[tactic(auto, unfolding(crate::specs::Literals::cross))]
     pub(crate) fn cross(self, alloc: Global, side: Side, others: &Seq) -> Result<Seq, Memory>
@@ -167,6 +177,18 @@ fn with_others(literals: Vec<Literal>, others: Seq) -> Result<Seq, Memory>
         Some(more) => both(literals, more),
         None => Ok(Seq::infinite()),
     }
+}
+
+#[tactic(auto, unfolding(crate::specs::Literals::limited))]
+fn with_one(literals: Vec<Literal>, literal: Literal) -> Result<Seq, Memory>
+    ensures { IfOk result (λ s. s ≡ limited (literals.items ++ literal ∷ [])) }
+{
+    let mut literals = literals;
+    literals.push(literal)?;
+    if literals.len() > MOST {
+        return Ok(Seq::infinite());
+    }
+    Ok(Seq::finite(literals))
 }
 
 #[tactic(auto, unfolding(crate::specs::Literals::limited))]

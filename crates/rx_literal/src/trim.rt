@@ -5,7 +5,7 @@ ghost use Rattle.rx_literal.specs.Literals.{finite, bytes_of, is_exact, cut};
 ghost use Rattle.rx_literal.specs.Literals as model;
 ghost use Rattle.rx_literal.specs.declared.side.Side.TheVariants.{Front as front};
 ghost use Rattle.rx_literal.specs.declared.order.Order.TheVariants.{Bytes as by_bytes, Branches as by_branches};
-ghost use Rattle.rx_literal.specs.Order.{follows, InOrder};
+ghost use Rattle.rx_literal.specs.Order.{lent, follows, InOrder};
 ghost use Rattle.rx_literal.specs.Trim.{has_prefix_in, preferred, few, trimmed_by_preference, past_longer, insert, sorted, trimmed_for_all};
 
 use crate::literal::Literal;
@@ -92,7 +92,7 @@ pub(crate) fn are_exact(literals: &[Literal]) -> bool
     true
 }
 
-/// The literals that have no earlier one as their prefix.
+/// The literals that have no earlier one as their prefix. Only they are cloned.
 fn preferred(alloc: Global, literals: &[Literal]) -> Result<Vec<Literal>, Memory>
     ensures { IfOk result (λ v. v.items ≡ preferred [] literals.now) }
 {
@@ -109,25 +109,25 @@ fn preferred(alloc: Global, literals: &[Literal]) -> Result<Vec<Literal>, Memory
 /// Whether none of the least literals is a prefix of this one, which is then one of them, in place of those
 /// that it is a prefix of. None of them is a prefix of another, and they stand in order, so that a search by
 /// halves finds the only one that may be a prefix.
-fn is_new(least: &mut Vec<Literal>, literal: &Literal) -> Result<bool, Memory>
-    requires { InOrder by_branches least.old.items }
-    ensures parted { OnOk result (InOrder by_branches least.new.items) }
-    ensures value { IfOk result (λ b. b ≡ not (has_prefix_in least.old.items literal.now)) }
-    ensures covered { OnOk result ((x : model.Literal) → has_prefix_in least.new.items x
-        ≡ (has_prefix_in least.old.items x || starts_with nat_eq (bytes_of x) (bytes_of literal.now))) }
+fn is_new<'a>(least: &mut Vec<&'a Literal>, literal: &'a Literal) -> Result<bool, Memory>
+    requires { InOrder by_branches (lent least.old.items) }
+    ensures parted { OnOk result (InOrder by_branches (lent least.new.items)) }
+    ensures value { IfOk result (λ b. b ≡ not (has_prefix_in (lent least.old.items) literal.now)) }
+    ensures covered { OnOk result ((x : model.Literal) → has_prefix_in (lent least.new.items) x
+        ≡ (has_prefix_in (lent least.old.items) x || starts_with nat_eq (bytes_of x) (bytes_of literal.now))) }
 {
     let at = position(Order::Branches, least, literal);
     if has_prefix_at(least, at, literal) {
         return Ok(false);
     }
     drop_longer(least, at, literal);
-    least.insert(at, literal.clone()?)?;
+    least.insert(at, literal)?;
     Ok(true)
 }
 
 /// Whether the literal at this index, if there is one, is a prefix of the other.
-fn has_prefix_at(literals: &[Literal], at: usize, literal: &Literal) -> bool
-    ensures { result ≡ has_prefix_in (take 1 (drop at literals.now)) literal.now }
+fn has_prefix_at(literals: &[&Literal], at: usize, literal: &Literal) -> bool
+    ensures { result ≡ has_prefix_in (take 1 (drop at (lent literals.now))) literal.now }
 {
     if at >= literals.len() {
         return false;
@@ -136,9 +136,10 @@ fn has_prefix_at(literals: &[Literal], at: usize, literal: &Literal) -> bool
 }
 
 /// Drops the literals from this index on, as far as the literal is a prefix of them.
-fn drop_longer(literals: &mut Vec<Literal>, at: usize, literal: &Literal)
+fn drop_longer(literals: &mut Vec<&Literal>, at: usize, literal: &Literal)
     requires { at ≤ length literals.old.items }
-    ensures { literals.new.items ≡ take at literals.old.items ++ past_longer literal.now (drop at literals.old.items) }
+    ensures { lent literals.new.items
+        ≡ take at (lent literals.old.items) ++ past_longer literal.now (drop at (lent literals.old.items)) }
 {
     while at < literals.len() {
         if !literals[at].as_bytes().starts_with(literal.as_bytes()) {
@@ -158,28 +159,39 @@ fn sorted(alloc: Global, literals: &[Literal]) -> Result<Vec<Literal>, Memory>
         i -= 1;
         insert(&mut found, &literals[i])?;
     }
-    Ok(found)
+    cloned(alloc, &found)
+}
+
+/// The literals that are lent.
+fn cloned(alloc: Global, literals: &[&Literal]) -> Result<Vec<Literal>, Memory>
+    ensures { IfOk result (λ v. v.items ≡ lent literals.now) }
+{
+    let mut clones = Vec::new(alloc);
+    for literal in literals {
+        clones.push((*literal).clone()?)?;
+    }
+    Ok(clones)
 }
 
 /// Adds a literal to sorted ones.
-fn insert(found: &mut Vec<Literal>, literal: &Literal) -> Result<(), Memory>
-    requires { InOrder by_bytes found.old.items }
-    ensures { OnOk result (found.new.items ≡ insert literal.now found.old.items) }
+fn insert<'a>(found: &mut Vec<&'a Literal>, literal: &'a Literal) -> Result<(), Memory>
+    requires { InOrder by_bytes (lent found.old.items) }
+    ensures { OnOk result (lent found.new.items ≡ insert literal.now (lent found.old.items)) }
 {
     let at = position(Order::Bytes, found, literal);
     if !stands_at(found, at, literal) {
-        found.insert(at, literal.clone()?)?;
+        found.insert(at, literal)?;
         return Ok(());
     }
     if !literal.is_exact() {
-        found[at].loosen();
+        found[at] = literal;
     }
     Ok(())
 }
 
 /// Whether the literal at this index, if there is one, does not come after the other.
-fn stands_at(found: &[Literal], at: usize, literal: &Literal) -> bool
-    ensures value { result ≡ list_any (λ m. not (follows by_bytes m literal.now)) (take 1 (drop at found.now)) }
+fn stands_at(found: &[&Literal], at: usize, literal: &Literal) -> bool
+    ensures value { result ≡ list_any (λ m. not (follows by_bytes m literal.now)) (take 1 (drop at (lent found.now))) }
     ensures within { IsTrue result → at < length found.now }
 {
     if at >= found.len() {

@@ -4,3 +4,4 @@ pub mod BeforeLemmas
 pub mod OrderedLemmas
 pub mod PartedLemmas
 pub mod InsertLemmas
+pub mod LentLemmas

@@ -231,3 +231,19 @@ characters :
     × (trimmed_by_preference (finite (some (λ n. inexact (97 ∷ 98 ∷ 0xC3 ∷ n ∷ [])) 65)) ≡ finite (inexact (97 ∷ 98 ∷ 0xC3 ∷ []) ∷ []))
 unfolding literals limited cut stopped cross cross_on extended_by_each copies repeated members each_exact class_literals trimmed_by_preference preferred few lib.Utf8.encode
 characters = (refl, refl, refl, refl, refl, refl, refl, refl)
+
+-- a class of 10 and of 11 in a cross; 250 and 251 literals of a cross with an inexact one, and of an option; 11 copies and more
+at_the_limits :
+    (size (prefixes (turn (text "x" ∷ digit ∷ []))) ≡ (10, true))
+    × (prefixes (turn (text "x" ∷ class (byte_ranges ((48, 58) ∷ [])) ∷ [])) ≡ finite (i "x" ∷ []))
+    × (suffixes (turn (class (byte_ranges ((48, 58) ∷ [])) ∷ text "x" ∷ [])) ≡ finite (i "x" ∷ []))
+    × (prefixes (either (text "a" ∷ turn (text "b" ∷ word ∷ []) ∷ [])) ≡ finite (e "a" ∷ i "b" ∷ []))
+    × (size (prefixes (turn (either (text "a" ∷ turn (text "b" ∷ word ∷ []) ∷ []) ∷ some_letters 249 ∷ []))) ≡ (250, false))
+    × (prefixes (turn (either (text "a" ∷ turn (text "b" ∷ word ∷ []) ∷ []) ∷ some_letters 250 ∷ [])) ≡ finite (i "a" ∷ i "b" ∷ []))
+    × (size (prefixes (maybe (some_letters 249))) ≡ (250, true))
+    × (prefixes (maybe (some_letters 250)) ≡ infinite)
+    × (prefixes (repetition 11 (Some 12) true (text "a")) ≡ finite (i "aaaaaaaaaa" ∷ []))
+    × (prefixes (turn (times 10 (text "a") ∷ text "b" ∷ [])) ≡ finite (e "aaaaaaaaaab" ∷ []))
+    × (prefixes (turn (times 11 (text "a") ∷ text "b" ∷ [])) ≡ finite (i "aaaaaaaaaa" ∷ []))
+unfolding literals limited cut stopped cross cross_on extended_by_each copies repeated members each_exact class_literals lib.Utf8.encode
+at_the_limits = (refl, refl, refl, refl, refl, refl, refl, refl, refl, refl, refl)

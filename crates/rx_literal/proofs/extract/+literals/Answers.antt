@@ -125,8 +125,8 @@ of_one-loop-sub-init t c =
       few = subst IsFew (sym none) (omega arith);
     }
 
-pub of_one-literals-requires : goal.of_one-literals-requires
-of_one-literals-requires t c =
+pub of_one-with_literals-requires : goal.of_one-with_literals-requires
+of_one-with_literals-requires t c =
     let below = depth-below c.args.subs.now c.loop-sub.sub-index c.sub-item.result c.loop-sub-test.true c.sub-item.is in
     (omega arith, tt)
 
@@ -137,9 +137,9 @@ of_one-loop-sub-preserved t c =
     let seq = c.loop-sub.seq in
     let rest = of_one c.args.side (expressions (drop (c.loop-sub.sub-index + 1) c.args.subs.now)) in
     record {
-      so_far = ap (λ x. union x rest) (c.in_ok-seq.ensures ∙ ap (union seq) c.in_ok-more.ensures) ∙ union-assoc seq (literals side h) rest
+      so_far = ap (λ x. union x rest) c.in_ok-seq.ensures ∙ union-assoc seq (literals side h) rest
           ∙ ap (union seq) (sym (one-step side c.args.subs.now c.loop-sub.sub-index h c.loop-sub-test.true c.sub-item.is)) ∙ c.loop-sub.invariant.so_far;
-      few = subst IsFew (sym c.in_ok-seq.ensures) (union-few seq c.in_ok-more.more);
+      few = subst IsFew (sym c.in_ok-seq.ensures) (union-few seq (literals side h));
     }
 
 pub of_one-returns : goal.of_one-returns
@@ -149,3 +149,11 @@ of_one-returns t c =
     sym (union-nothing seq c.loop-sub.invariant.few)
     ∙ ap (union seq) (sym (ap (λ ys. of_one c.args.side (expressions ys)) (drop-past c.args.subs.now c.loop-sub.sub-index c.loop-sub-test.false)))
     ∙ c.loop-sub.invariant.so_far
+
+pub with_literals-returns-in-Literal : goal.with_literals-returns-in-Literal
+unfolding literals
+with_literals-returns-in-Literal t c =
+    let text =
+    ap (λ l. finite (l ∷ [])) c.in_ok-cut.ensures ∙ ap (λ bytes. finite (cut c.args.side 100 (exact bytes) ∷ [])) c.deref.ensures.value
+    ∙ sym (ap (λ k. literals c.args.side (kind_view k)) c.in-Literal.is) ∙ ap (literals c.args.side) c.kind-kind.ensures.value in
+    subst (λ v. IfOk c.with.result (λ s. s ≡ v)) (λ k. union (c.seq.view_is k) (text k)) c.with.ensures

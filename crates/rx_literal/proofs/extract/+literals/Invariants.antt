@@ -43,3 +43,6 @@ decreases-from_the_back l = 4 * greatest_depth (expressions l.subs.now)
 
 abbrev pub decreases-of_one : goal.decreases-of_one
 decreases-of_one l = 4 * greatest_depth (expressions l.subs.now)
+
+abbrev pub decreases-with_literals : goal.decreases-with_literals
+decreases-with_literals l = 4 * depth l.hir.now + 3

@@ -6,7 +6,7 @@ use lib.ListN.{set}
 use Rattle.std.proofs.lemmas.Bool.{and_parts, not-true, not-false}
 use Rattle.std.proofs.lemmas.List.{drop_more}
 use Rattle.rx_model.proofs.lemmas.runs.RunLemmas.{by_test}
-use Rattle.rx_literal.specs.Literals.{Literal, exact, inexact, bytes_of, is_exact, loose}
+use Rattle.rx_literal.specs.Literals.{Literal, exact, inexact, bytes_of, is_exact}
 use Rattle.rx_literal.specs.declared.order.Order.TheVariants.{Bytes as by_bytes}
 use Rattle.rx_literal.specs.Order.{before, follows, InOrder}
 use Rattle.rx_literal.specs.Trim.{comes_before, one_of_both, insert, sorted}
@@ -39,7 +39,7 @@ or-left : (a b : Bool) → (a || b) ≡ false → a ≡ false
 or-left true b h = absurd (true≢false h)
 or-left false b h = refl
 
-or-single : (a : Bool) → (a || false) ≡ a
+pub or-single : (a : Bool) → (a || false) ≡ a
 or-single true = refl
 or-single false = refl
 
@@ -59,9 +59,9 @@ both-exact : (l m : Literal) → is_exact l ≡ true → one_of_both l m ≡ m
 both-exact (exact s) m h = refl
 both-exact (inexact s) m h = absurd (true≢false (sym h))
 
-both-inexact : (l m : Literal) → is_exact l ≡ false → bytes_of l ≡ bytes_of m → one_of_both l m ≡ loose m
-both-inexact (exact s) m h same = absurd (true≢false h)
-both-inexact (inexact s) m h same = ap inexact same
+both-inexact : (l m : Literal) → is_exact l ≡ false → one_of_both l m ≡ l
+both-inexact (exact s) m h = absurd (true≢false h)
+both-inexact (inexact s) m h = refl
 
 -- where one is the same, an exact literal changes nothing
 pub insert-exact : (l : Literal) (ms : List Literal) (k : ℕ) → list_all (follows by_bytes l) (take k ms) ≡ true → list_any (follows by_bytes l) (drop k ms) ≡ false
@@ -76,19 +76,18 @@ insert-exact l (m ∷ ms) (suc k) a b c h =
     let both = and_parts (follows by_bytes l m) (list_all (follows by_bytes l) (take k ms)) a in
     ap (λ ys. m ∷ ys) (insert-exact l ms k both.1 b c h) ∙ sym (insert-later l m ms both.0)
 
--- and an inexact one makes it inexact
-pub insert-inexact : (l : Literal) (ms : List Literal) (k : ℕ) (m : Literal) → m ≡ get_or ms k m → list_all (follows by_bytes l) (take k ms) ≡ true
-    → list_any (follows by_bytes l) (drop k ms) ≡ false → list_any (λ y. not (follows by_bytes y l)) (take 1 (drop k ms)) ≡ true → is_exact l ≡ false
-    → set ms k (loose m) ≡ insert l ms
-insert-inexact l [] zero m at a b c h = absurd (true≢false (sym c))
-insert-inexact l [] (suc k) m at a b c h = absurd (true≢false (sym c))
-insert-inexact l (x ∷ ms) zero m at a b c h =
+-- and an inexact one stands in its place
+pub insert-inexact : (l : Literal) (ms : List Literal) (k : ℕ) → list_all (follows by_bytes l) (take k ms) ≡ true → list_any (follows by_bytes l) (drop k ms) ≡ false
+    → list_any (λ y. not (follows by_bytes y l)) (take 1 (drop k ms)) ≡ true → is_exact l ≡ false → set ms k l ≡ insert l ms
+insert-inexact l [] zero a b c h = absurd (true≢false (sym c))
+insert-inexact l [] (suc k) a b c h = absurd (true≢false (sym c))
+insert-inexact l (x ∷ ms) zero a b c h =
     let p = not-true (follows by_bytes x l) (sym (or-single (not (follows by_bytes x l))) ∙ c) in
     let q = or-left (follows by_bytes l x) (list_any (follows by_bytes l) ms) b in
-    ap (λ y. loose y ∷ ms) at ∙ sym (insert-here l x ms p q ∙ ap (λ y. y ∷ ms) (both-inexact l x h (bytes-same (bytes_of l) (bytes_of x) p q)))
-insert-inexact l (x ∷ ms) (suc k) m at a b c h =
+    sym (insert-here l x ms p q ∙ ap (λ y. y ∷ ms) (both-inexact l x h))
+insert-inexact l (x ∷ ms) (suc k) a b c h =
     let both = and_parts (follows by_bytes l x) (list_all (follows by_bytes l) (take k ms)) a in
-    ap (λ ys. x ∷ ys) (insert-inexact l ms k m at both.1 b c h) ∙ sym (insert-later l x ms both.0)
+    ap (λ ys. x ∷ ys) (insert-inexact l ms k both.1 b c h) ∙ sym (insert-later l x ms both.0)
 
 both-bytes : (l m : Literal) → bytes_of l ≡ bytes_of m → bytes_of (one_of_both l m) ≡ bytes_of m
 both-bytes (exact s) m same = refl

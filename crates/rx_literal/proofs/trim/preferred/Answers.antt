@@ -1,4 +1,5 @@
 use Rattle.std.proofs.Common.{[], ap, ◌∙◌}
+use Rattle.rx_literal.specs.Order.{lent}
 use Rattle.rx_literal.specs.Trim.{preferred}
 use Rattle.rx_literal.proofs.lemmas.trimming.PartedLemmas.{keep-step, skip-step, keep-end}
 use Rattle.rx_literal.proofs.trim.preferred.Goals as goal
@@ -6,8 +7,8 @@ use Rattle.rx_literal.proofs.trim.preferred.Goals.{then-branch+in_ok-clone+in_ok
 
 pub loop-literal-preserved : goal.loop-literal-preserved
 loop-literal-preserved c =
-    let es = c.loop-literal.least.items in
-    let fs = c.is_new.new.least.items in
+    let es = lent c.loop-literal.least.items in
+    let fs = lent c.is_new.new.least.items in
     let ls = c.args.literals.now in
     let i = c.loop-literal.literal-index in
     let l = c.literal-item.result in
@@ -27,4 +28,4 @@ loop-literal-preserved c =
     }
 
 pub returns : goal.returns
-returns c = keep-end c.loop-literal.least.items c.args.literals.now c.loop-literal.literal-index c.loop-literal.kept.items (preferred [] c.args.literals.now) c.loop-literal-test.false c.loop-literal.invariant.so_far
+returns c = keep-end (lent c.loop-literal.least.items) c.args.literals.now c.loop-literal.literal-index c.loop-literal.kept.items (preferred [] c.args.literals.now) c.loop-literal-test.false c.loop-literal.invariant.so_far
