@@ -9,7 +9,7 @@ use memchr::arch::all::packedpair::{DefaultFrequencyRank, HeuristicFrequencyRank
 use memchr::{memchr, memchr2, memchr3};
 
 /// One, two or three bytes.
-#[derive(Clone, Copy, Debug)]
+#[derive(Clone, Copy)]
 pub enum Few {
     One(u8),
     Two(u8, u8),
@@ -17,7 +17,7 @@ pub enum Few {
 }
 
 /// Few bytes, one of which stands at this offset of each needle.
-#[derive(Clone, Copy, Debug)]
+#[derive(Clone, Copy)]
 pub struct Jump {
     pub offset: usize,
     pub bytes: Few,

@@ -45,22 +45,41 @@ impl PlaceTable {
         })
     }
 
-    /// Where the first needle of the list lies that begins at the least place from `from` on. It stays a function of
-    /// its own, and so does `place_by_place`, so that its loop runs in registers.
-    #[inline(never)]
+    /// Where the first needle of the list lies that begins at the least place from `from` on.
     pub fn find(&self, text: &[u8], from: usize) -> Option<Span>
         requires table { IsPlaceTable self.now }
         requires within { from ≤ length text.now }
         ensures { result ≡ first_span (map vec_items self.now.needles.items) text.now from }
     {
-        let mut at = from;
+        let mut at = self.pass(text, from);
         while self.stride + self.stride < text.len() - at {
             if let Some(span) = self.in_two_windows(text, at) {
                 return Some(span);
             }
-            at += self.stride + self.stride;
+            at = self.pass(text, at + (self.stride + self.stride));
         }
         self.window_by_window(text, at)
+    }
+
+    /// A place from `from` on before which no needle begins: where one may begin in the next two windows, or where the
+    /// text has no two more. It stays a function of its own, so that its loop runs in registers.
+    #[inline(never)]
+    fn pass(&self, text: &[u8], from: usize) -> usize
+        requires table { IsPlaceTable self.now }
+        requires within { from ≤ length text.now }
+        ensures order { from ≤ result }
+        ensures within { result ≤ length text.now }
+        ensures same { first_span (map vec_items self.now.needles.items) text.now from
+            ≡ first_span (map vec_items self.now.needles.items) text.now result }
+    {
+        let mut at = from;
+        while self.stride + self.stride < text.len() - at {
+            if self.marks(text, at) | self.marks(text, at + self.stride) != 0 {
+                return at;
+            }
+            at += self.stride + self.stride;
+        }
+        at
     }
 
     /// The same, a window at a time.
@@ -79,16 +98,12 @@ impl PlaceTable {
         None
     }
 
-    /// The same among the places of two windows from `at` on, with one test for both.
-    #[inline(always)]
+    /// The same among the places of two windows from `at` on.
     fn in_two_windows(&self, text: &[u8], at: usize) -> Option<Span>
         requires table { IsPlaceTable self.now }
         requires within { at + (self.now.stride + self.now.stride) < length text.now }
         ensures { result ≡ span_among (map vec_items self.now.needles.items) text.now at (self.now.stride + self.now.stride) }
     {
-        if self.marks(text, at) | self.marks(text, at + self.stride) == 0 {
-            return None;
-        }
         if let Some(span) = self.in_window(text, at) {
             return Some(span);
         }

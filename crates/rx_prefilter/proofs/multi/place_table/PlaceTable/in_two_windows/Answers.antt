@@ -1,14 +1,7 @@
 use Rattle.std.proofs.Common.{map, sym, ◌∙◌}
 use Rattle.std.specs.Vec.{vec_items}
-use Rattle.rx_prefilter.proofs.PlaceLemmas.{neither, two_found, two_next}
+use Rattle.rx_prefilter.proofs.PlaceLemmas.{two_found, two_next}
 use Rattle.rx_prefilter.proofs.multi.place_table.PlaceTable.in_two_windows.Goals as goal
-
-pub returns-then-marks-eq0 : goal.returns-then-marks-eq0
-returns-then-marks-eq0 c =
-    let needles = map vec_items c.args.self.now.needles.items in
-    let text = c.args.text.now in
-    let none = neither c.marks.result c.marks-2.result c.if-marks-eq0.true in
-    sym (two_next needles text c.args.at c.args.self.now.stride (c.marks.ensures none.0) ∙ c.marks-2.ensures none.1)
 
 pub returns-in-Some : goal.returns-in-Some
 returns-in-Some c =
