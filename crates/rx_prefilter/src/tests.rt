@@ -39,8 +39,20 @@ const ROWS: [(&[u8], &[u8], usize, usize, &[u8]); 50] = [
     (b"aba,bab", b"xbabab", 0, 6, b"multi 1..4 -"),
     (b"foo,fob", b"fxfxfxfxfxfxfob", 0, 15, b"multi 12..15 -"),
     (b"foo,fob", b"fxfxfxfxfxfxfob", 0, 14, b"multi - -"),
-    (b"abcd,efgh,ijkl,mnop", b"xxijklmnop", 0, 10, b"multi 2..6 -"),
-    (b"abcd,efgh,ijkl,mnop", b"xxijklmnop", 3, 10, b"multi 6..10 -"),
+    (
+        b"abcd,efgh,ijkl,mnop",
+        b"xxijklmnop",
+        0,
+        10,
+        b"multi 2..6 -",
+    ),
+    (
+        b"abcd,efgh,ijkl,mnop",
+        b"xxijklmnop",
+        3,
+        10,
+        b"multi 6..10 -",
+    ),
     (b"abcd,efgh,ijkl,mnop", b"xxijklmnop", 3, 9, b"multi - -"),
     (
         b"Sherlock,Watson",
@@ -135,8 +147,22 @@ fn searches_by_hand(rt: HostRuntime) -> Result<(), Fail> {
 /// Literals, parted by commas; a text; the part of it that is searched; what a prefilter of their prefixes tells as
 /// above, where the matches go by preference, and where all of them are told.
 const PREFIX_ROWS: [(&[u8], &[u8], usize, usize, &[u8], &[u8]); 6] = [
-    (b"foo,bar", b"xbarfoo", 0, 7, b"multi 1..4 -", b"multi 1..4 -"),
-    (b"foo,bar", b"xbarfoo", 1, 7, b"multi 1..4 1..4", b"multi 1..4 1..4"),
+    (
+        b"foo,bar",
+        b"xbarfoo",
+        0,
+        7,
+        b"multi 1..4 -",
+        b"multi 1..4 -",
+    ),
+    (
+        b"foo,bar",
+        b"xbarfoo",
+        1,
+        7,
+        b"multi 1..4 1..4",
+        b"multi 1..4 1..4",
+    ),
     (b"a", b"ba", 1, 1, b"memchr - -", b"memchr - -"),
     (b"ab,abc", b"xabc", 0, 4, b"memmem 1..3 -", b"multi 1..3 -"),
     (b"abc,ab", b"xabc", 0, 4, b"multi 1..4 -", b"multi 1..3 -"),
