@@ -1,11 +1,11 @@
 -- What a search finds is the first span.
-use Rattle.std.proofs.Common.{◌≡◌, ℕ, zero, suc, ◌+◌, ◌-◌, ◌<◌, ◌≤◌, true, false, List, [], ◌∷◌, Option, None, Some, MatchOption, length, take, refl, sym, ap, subst, ◌∙◌, arith, ⊎_elim}
+use Rattle.std.proofs.Common.{◌≡◌, ℕ, zero, suc, ◌+◌, ◌-◌, ◌<◌, ◌≤◌, List, [], ◌∷◌, Option, None, Some, MatchOption, length, refl, sym, ap, subst, ◌∙◌, arith, ⊎_elim}
 use Rattle.std.specs.Option.{option_or}
 use Rattle.std.proofs.lemmas.Bool.{cases_Bool, cases_eq}
 use Rattle.std.proofs.lemmas.Option.{none-some}
 use Rattle.memchr.specs.Find.{occurs_at}
 use Rattle.rx_search.specs.declared.span.Span.{Span}
-use Rattle.rx_prefilter.specs.Needles.{needle_span, span_at, span_among, first_span, NoneLies, LiesAt, IsFirstSpan}
+use Rattle.rx_prefilter.specs.Needles.{span_at, span_among, first_span, NoneLies, LiesAt, IsFirstSpan}
 use Rattle.rx_prefilter.proofs.NeedleLemmas.{span_at-nil, span_at-here, span_at-next}
 
 start_of : Option Span → ℕ

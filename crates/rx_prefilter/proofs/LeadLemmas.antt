@@ -1,5 +1,5 @@
 -- What bytes may be left for.
-use Rattle.std.proofs.Common.{◌≡◌, ◌≢◌, ℕ, zero, suc, ◌+◌, ◌-◌, ◌<◌, ◌≤◌, List, [], ◌∷◌, ◌++◌, All, length, drop, get_or, slice_index, refl, sym, ap, subst, ◌∙◌, arith, ⊎_elim}
+use Rattle.std.proofs.Common.{◌≡◌, ℕ, ◌+◌, ◌-◌, ◌<◌, ◌≤◌, List, [], ◌∷◌, ◌++◌, length, drop, get_or, slice_index, refl, sym, ap, subst, ◌∙◌, arith, ⊎_elim}
 use Rattle.std.proofs.lemmas.Bool.{cases_lt}
 use Rattle.std.proofs.lemmas.List.{get_or_append_left, get_or-append_right, get_or_push, get_or-drop, length-append, length-drop, same_lists, get_or_default}
 use Rattle.std.proofs.lemmas.List.Elements.{All-head, All-tail}

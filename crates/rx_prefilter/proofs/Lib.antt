@@ -7,3 +7,4 @@ pub mod FirstLemmas
 pub mod LeadLemmas
 pub mod LinkLemmas
 pub mod AutomatonLemmas
+pub mod JumpLemmas

@@ -1,11 +1,11 @@
 -- How a trie becomes an automaton, place by place.
-use Rattle.std.proofs.Common.{◌≡◌, ◌≢◌, ℕ, ◌+◌, ◌-◌, ◌*◌, ◌/◌, ◌%◌, ◌<◌, ◌≤◌, Bool, true, false, List, [], ◌∷◌, ◌++◌, All, length, drop, replicate, get_or, set, slice_index, slice_index_or, refl, sym, ap, subst, ◌∙◌, arith, ⊎_elim}
+use Rattle.std.proofs.Common.{◌≡◌, ◌≢◌, ℕ, ◌+◌, ◌-◌, ◌*◌, ◌/◌, ◌%◌, ◌<◌, ◌≤◌, Bool, false, List, [], ◌∷◌, ◌++◌, All, length, drop, replicate, set, slice_index, slice_index_or, refl, sym, ap, subst, ◌∙◌, arith, ⊎_elim}
 use Rattle.std.proofs.lemmas.Bool.{cases_lt, cases_eq, false≢true}
 use Rattle.std.proofs.lemmas.List.{get_or_append_left, get_or_push, get_or-set_same, get_or-set_other, get_or-replicate, length-set, length-append, length-replicate, append_assoc}
 use Rattle.std.proofs.lemmas.List.Elements.{All-weaker}
 use Rattle.memchr.specs.Find.{OccursAt}
 use Rattle.rx_prefilter.specs.Tries.{stop, word_of, word_at, StandsAt, Walks, IsTrieOf, HasNeedleOf}
-use Rattle.rx_prefilter.specs.Automata.{NoneBegins, NoneWithin, Leads, IsPlace, IsFail, IsAutomatonOf, IsLinkedOf, IsLater}
+use Rattle.rx_prefilter.specs.Automata.{NoneBegins, NoneWithin, Leads, IsPlace, IsFail, IsLinkedOf, IsLater}
 use Rattle.rx_prefilter.proofs.TrieLemmas.{walks-after, walks-one}
 use Rattle.rx_prefilter.proofs.LeadLemmas.{leads-same, leads-past, leads-step, dead, occurs_same, occurs_whole, begins-split}
 

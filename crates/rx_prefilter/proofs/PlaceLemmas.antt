@@ -55,6 +55,13 @@ all_longer_more s t ns ms needle le here is before =
     let Q : List ℕ → Type 0 = λ n. t < length n in
     All-same Q ms (ns ++ needle ∷ []) is (All-push Q ns needle (All-weaker P Q (λ n l. omega arith) ns before) here)
 
+-- the bits of a number that is doubled, and has one more
+odd : (n : ℕ) → bit_at (2 * n + 1) 0 ≡ 1
+odd n = omega arith
+
+doubled : (n i : ℕ) → bit_at (2 * n + 1) (suc i) ≡ bit_at n i
+doubled n i = let half : (2 * n + 1) / 2 ≡ n = omega arith in bit_at-suc (2 * n + 1) i ∙ ap (λ m. bit_at m i) half
+
 -- a pair that isn't marked at place j rules out a needle that begins j places before
 module _ (places : List ℕ) (stride : ℕ) (text : List ℕ) where
   lies_marked : (needle : List ℕ) (at j : ℕ) → IsMarked places stride needle → j < stride → OccursAt text needle at → bit_at (slice_index places (pair_at text (at + j))) j ≡ 1
@@ -86,44 +93,31 @@ module _ (places : List ℕ) (stride : ℕ) (text : List ℕ) where
       let e : stride + 0 ≡ stride = omega arith in
       ap (span_among needles text at) (sym e) ∙ span_among-skip needles text stride at 0 none ∙ span_among-zero needles text (at + stride)
 
-  -- a pair that stands at no place of a needle rules out a whole window
-  pub window_none : (needles : List (List ℕ)) (at : ℕ) → All (IsMarked places stride) needles → 0 < stride
-      → slice_index places (pair_at text (at + stride - 1)) ≡ 0 → span_among needles text at stride ≡ None
-  window_none needles at marked some zero_is = none_among needles at (λ k a b.
-      let j = at + stride - 1 - k in
-      let here : k + j ≡ at + stride - 1 = omega arith in
-      let empty : bit_at 0 j ≡ 0 = bit_at-zero j in
-      unmarked_none needles k j marked (omega arith) (λ one. absurd (omega (arith, rw (here, zero_is, empty) at one))))
-
-  -- so does one that is no needle's first, where a window has one place
-  pub low_none : (needles : List (List ℕ)) (at here : ℕ) → All (IsMarked places stride) needles → stride ≡ 1
-      → here ≡ slice_index places (pair_at text (at + stride - 1)) → bit_at here 0 ≡ 0 → span_among needles text at stride ≡ None
-  low_none needles at here marked one is low = none_among needles at (λ k a b.
-      let place : at + stride - 1 ≡ k + 0 = omega (arith, one) in
-      unmarked_none needles k 0 marked (omega (arith, one))
-      (λ set_is. absurd (omega (arith, low, ap (λ n. bit_at n 0) (is ∙ ap (λ p. slice_index places (pair_at text p)) place) ∙ set_is))))
-
-  -- and one that is no needle's first, where the pair before it stands at no place before that of this one
-  pub tested_none : (needles : List (List ℕ)) (at before here : ℕ) → All (IsMarked places stride) needles → 1 < stride
-      → here ≡ slice_index places (pair_at text (at + stride - 1)) → before ≡ slice_index places (pair_at text (at + stride - 2))
-      → bit_at here 0 ≡ 0 → bit_and before (here / 2) ≡ 0 → span_among needles text at stride ≡ None
-  tested_none needles at before here marked more is before_is low apart = none_among needles at (λ k a b.
+  -- The pair at the last place of a window rules out each place from which it is not marked, and so does the pair
+  -- before it.
+  pub unmarked_window : (needles : List (List ℕ)) (at before here : ℕ) → All (IsMarked places stride) needles → 0 < stride
+      → here ≡ slice_index places (pair_at text (at + stride - 1)) → (1 < stride → before ≡ slice_index places (pair_at text (at + stride - 2)))
+      → bit_and here (2 * before + 1) ≡ 0 → span_among needles text at stride ≡ None
+  unmarked_window needles at before here marked some here_is before_is apart = none_among needles at (λ k a b.
       let j = at + stride - 1 - k in
       let place : at + stride - 1 ≡ k + j = omega arith in
+      let both : 0 ≡ min (bit_at here j) (bit_at (2 * before + 1) j) = sym (bit_at-zero j) ∙ ap (λ n. bit_at n j) (sym apart) ∙ bit_at_and here (2 * before + 1) j in
+      let small = bit_at-lt here j in
       let clear : bit_at here j ≡ 0 → NoneLies needles text k = λ zero_is. unmarked_none needles k j marked (omega arith)
-      (λ one. absurd (omega (arith, zero_is, ap (λ n. bit_at n j) (is ∙ ap (λ p. slice_index places (pair_at text p)) place) ∙ one))) in
+      (λ one. absurd (omega (arith, zero_is, ap (λ n. bit_at n j) (here_is ∙ ap (λ p. slice_index places (pair_at text p)) place) ∙ one))) in
       ⊎_elim
-      (λ (first : j ≡ 0). clear (ap (bit_at here) first ∙ low))
+      (λ (first : j ≡ 0).
+      let low : bit_at (2 * before + 1) j ≡ 1 = ap (bit_at (2 * before + 1)) first ∙ odd before in
+      clear (omega (arith, both, low, small)))
       (λ (later : j ≡ 0 → ⊥).
       let i = j - 1 in
       let next : j ≡ suc i = omega (arith, later) in
-      let place_before : at + stride - 2 ≡ k + i = omega (arith, later, more) in
-      let both : 0 ≡ min (bit_at before i) (bit_at (here / 2) i) = sym (bit_at-zero i) ∙ ap (λ n. bit_at n i) (sym apart) ∙ bit_at_and before (here / 2) i in
-      let shifted : bit_at here j ≡ bit_at (here / 2) i = ap (bit_at here) next ∙ bit_at-suc here i in
+      let place_before : at + stride - 2 ≡ k + i = omega (arith, later) in
+      let shifted : bit_at (2 * before + 1) j ≡ bit_at before i = ap (bit_at (2 * before + 1)) next ∙ doubled before i in
       ⊎_elim
-      (λ (one : bit_at before i ≡ 1). clear (let small = bit_at-lt (here / 2) i in omega (arith, both, one, shifted, small)))
+      (λ (one : bit_at before i ≡ 1). clear (omega (arith, both, one, shifted, small)))
       (λ (other : bit_at before i ≡ 1 → ⊥). unmarked_none needles k i marked (omega (arith, later))
-      (λ one. absurd (other (ap (λ n. bit_at n i) (before_is ∙ ap (λ p. slice_index places (pair_at text p)) place_before) ∙ one))))
+      (λ one. absurd (other (ap (λ n. bit_at n i) (before_is (omega (arith, later)) ∙ ap (λ p. slice_index places (pair_at text p)) place_before) ∙ one))))
       (cases_eq (bit_at before i) 1))
       (cases_eq j 0))
 

@@ -1,5 +1,5 @@
 -- The automaton of a list of needles: the trie with a state at each place of its table at which no needle lies yet.
-use Rattle.std.specs.Prelude.{◌≡◌, ◌≢◌, ◌⊎◌, ℕ, ◌+◌, ◌-◌, ◌*◌, ◌<◌, ◌≤◌, Bool, true, false, List, [], ◌∷◌, ◌++◌, All, map, length, drop, slice_index, slice_index_or}
+use Rattle.std.specs.Prelude.{◌≡◌, ◌≢◌, ◌⊎◌, ℕ, ◌+◌, ◌-◌, ◌*◌, ◌<◌, ◌≤◌, Bool, false, List, [], All, map, length, drop, slice_index, slice_index_or}
 use Rattle.std.specs.Vec.{vec_items}
 use Rattle.memchr.specs.Find.{OccursAt}
 use Rattle.rx_prefilter.specs.Needles.{first_span}

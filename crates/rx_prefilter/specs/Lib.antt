@@ -3,6 +3,7 @@ pub mod Choices
 pub mod Bytes
 pub mod Kinds
 pub mod Places
+pub mod Jumps
 pub mod Tries
 pub mod Automata
 pub mod Prefixes

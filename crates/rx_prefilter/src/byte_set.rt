@@ -39,13 +39,15 @@ impl ByteSet {
         requires { from ≤ length text.now }
         ensures { result ≡ first_span self.now text.now from }
     {
-        for at in from..text.len() {
+        let mut at = from;
+        while at < text.len() {
             if self.is_needle[text[at] as usize] {
                 return Some(Span {
                     start: at,
                     end: at + 1,
                 });
             }
+            at += 1;
         }
         None
     }

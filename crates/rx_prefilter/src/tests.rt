@@ -1,6 +1,7 @@
 //! Searches, worked out by hand, and what a prefilter says of itself.
 
 use crate::{Choice, Prefilter};
+use rx_hir::Hir;
 use rx_search::{MatchKind, Span};
 use std::alloc::Global;
 use std::process::Abort;
@@ -8,7 +9,7 @@ use std::test::Fail;
 
 /// Needles, parted by commas; a text; the part of it that is searched; and the kind of search, what `find` answers and
 /// what `prefix` answers.
-const ROWS: [(&[u8], &[u8], usize, usize, &[u8]); 44] = [
+const ROWS: [(&[u8], &[u8], usize, usize, &[u8]); 50] = [
     (b"a", b"ba", 0, 2, b"memchr 1..2 -"),
     (b"a", b"ba", 1, 1, b"memchr - -"),
     (b"a", b"ba", 1, 2, b"memchr 1..2 1..2"),
@@ -35,6 +36,24 @@ const ROWS: [(&[u8], &[u8], usize, usize, &[u8]); 44] = [
     (b"bcd,abcd", b"xabcd", 0, 5, b"multi 1..5 -"),
     (b"abcd,bc", b"xabcx", 0, 5, b"multi 2..4 -"),
     (b"ba,ab", b"aab", 0, 3, b"multi 1..3 -"),
+    (b"aba,bab", b"xbabab", 0, 6, b"multi 1..4 -"),
+    (b"foo,fob", b"fxfxfxfxfxfxfob", 0, 15, b"multi 12..15 -"),
+    (b"foo,fob", b"fxfxfxfxfxfxfob", 0, 14, b"multi - -"),
+    (
+        b"abcd,efgh,ijkl,mnop",
+        b"xxijklmnop",
+        0,
+        10,
+        b"multi 2..6 -",
+    ),
+    (
+        b"abcd,efgh,ijkl,mnop",
+        b"xxijklmnop",
+        3,
+        10,
+        b"multi 6..10 -",
+    ),
+    (b"abcd,efgh,ijkl,mnop", b"xxijklmnop", 3, 9, b"multi - -"),
     (
         b"Sherlock,Watson",
         b"to Watson, Sherlock",
@@ -95,16 +114,15 @@ fn span_text(alloc: Global, found: Option<Span>) -> Result<String, Fail> {
 fn told(
     rt: &impl Abort,
     alloc: Global,
-    needles: &[u8],
+    made: Option<Prefilter>,
     text: &[u8],
     start: usize,
     end: usize,
 ) -> Result<String, Fail> {
     assert!(rt; start <= end);
     assert!(rt; end <= text.len());
-    let needles = needles_of(alloc, needles)?;
     let span = Span { start, end };
-    let Some(prefilter) = Prefilter::new(alloc, MatchKind::LeftmostFirst, &needles)? else {
+    let Some(prefilter) = made else {
         return Ok(format!(in alloc; "none")?);
     };
     let found = span_text(alloc, prefilter.find(text, span))?;
@@ -114,9 +132,66 @@ fn told(
 
 #[test]
 fn searches_by_hand(rt: HostRuntime) -> Result<(), Fail> {
+    let alloc = rt.alloc();
     for (needles, text, start, end, expected) in ROWS {
-        let told = told(&rt, rt.alloc(), needles, text, start, end)?;
-        assert_eq!(rt; told.as_bytes(), expected);
+        let needles = needles_of(alloc, needles)?;
+        for kind in [MatchKind::LeftmostFirst, MatchKind::All] {
+            let made = Prefilter::new(alloc, kind, &needles)?;
+            let told = told(&rt, alloc, made, text, start, end)?;
+            assert_eq!(rt; told.as_bytes(), expected);
+        }
+    }
+    Ok(())
+}
+
+/// Literals, parted by commas; a text; the part of it that is searched; what a prefilter of their prefixes tells as
+/// above, where the matches go by preference, and where all of them are told.
+const PREFIX_ROWS: [(&[u8], &[u8], usize, usize, &[u8], &[u8]); 6] = [
+    (
+        b"foo,bar",
+        b"xbarfoo",
+        0,
+        7,
+        b"multi 1..4 -",
+        b"multi 1..4 -",
+    ),
+    (
+        b"foo,bar",
+        b"xbarfoo",
+        1,
+        7,
+        b"multi 1..4 1..4",
+        b"multi 1..4 1..4",
+    ),
+    (b"a", b"ba", 1, 1, b"memchr - -", b"memchr - -"),
+    (b"ab,abc", b"xabc", 0, 4, b"memmem 1..3 -", b"multi 1..3 -"),
+    (b"abc,ab", b"xabc", 0, 4, b"multi 1..4 -", b"multi 1..3 -"),
+    (b"abc,", b"xabc", 0, 4, b"none", b"none"),
+];
+
+/// The literals that a text has, parted by commas.
+fn literals_of(alloc: Global, text: &[u8]) -> Result<Vec<Hir>, Fail> {
+    let mut literals = Vec::new(alloc);
+    for literal in needles_of(alloc, text)? {
+        literals.push(Hir::literal(literal))?;
+    }
+    Ok(literals)
+}
+
+#[test]
+fn prefixes_by_hand(rt: HostRuntime) -> Result<(), Fail> {
+    let alloc = rt.alloc();
+    for (literals, text, start, end, preferred, all) in PREFIX_ROWS {
+        let hirs = literals_of(alloc, literals)?;
+        let alternation = Hir::alternation(alloc, literals_of(alloc, literals)?)?;
+        for (kind, expected) in [(MatchKind::LeftmostFirst, preferred), (MatchKind::All, all)] {
+            let one = Prefilter::from_hir_prefix(alloc, kind, &alternation)?;
+            let told_of_one = told(&rt, alloc, one, text, start, end)?;
+            assert_eq!(rt; told_of_one.as_bytes(), expected);
+            let several = Prefilter::from_hirs_prefix(alloc, kind, &hirs)?;
+            let told_of_several = told(&rt, alloc, several, text, start, end)?;
+            assert_eq!(rt; told_of_several.as_bytes(), expected);
+        }
     }
     Ok(())
 }

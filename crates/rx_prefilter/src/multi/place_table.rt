@@ -1,5 +1,4 @@
-ghost use Rattle.std.specs.Prelude.{◌≡◌, ℕ, ◌+◌, ◌<◌, ◌≤◌, true, All, length, map, slice_index, IfOk};
-ghost use Rattle.std.specs.Int.{bit_at};
+ghost use Rattle.std.specs.Prelude.{◌≡◌, ◌+◌, ◌<◌, ◌≤◌, true, length, map, None, IfOk};
 ghost use Rattle.std.specs.List.{list_all};
 ghost use Rattle.std.specs.Vec.{vec_items};
 ghost use Rattle.rx_prefilter.specs.Choices.{has_bytes};
@@ -46,22 +45,41 @@ impl PlaceTable {
         })
     }
 
-    /// Where the first needle of the list lies that begins at the least place from `from` on. It stays a function of
-    /// its own, and so does `place_by_place`, so that its loop runs in registers.
-    #[inline(never)]
+    /// Where the first needle of the list lies that begins at the least place from `from` on.
     pub fn find(&self, text: &[u8], from: usize) -> Option<Span>
         requires table { IsPlaceTable self.now }
         requires within { from ≤ length text.now }
         ensures { result ≡ first_span (map vec_items self.now.needles.items) text.now from }
     {
-        let mut at = from;
+        let mut at = self.pass(text, from);
         while self.stride + self.stride < text.len() - at {
             if let Some(span) = self.in_two_windows(text, at) {
                 return Some(span);
             }
-            at += self.stride + self.stride;
+            at = self.pass(text, at + (self.stride + self.stride));
         }
         self.window_by_window(text, at)
+    }
+
+    /// A place from `from` on before which no needle begins: where one may begin in the next two windows, or where the
+    /// text has no two more. It stays a function of its own, so that its loop runs in registers.
+    #[inline(never)]
+    fn pass(&self, text: &[u8], from: usize) -> usize
+        requires table { IsPlaceTable self.now }
+        requires within { from ≤ length text.now }
+        ensures order { from ≤ result }
+        ensures within { result ≤ length text.now }
+        ensures same { first_span (map vec_items self.now.needles.items) text.now from
+            ≡ first_span (map vec_items self.now.needles.items) text.now result }
+    {
+        let mut at = from;
+        while self.stride + self.stride < text.len() - at {
+            if self.marks(text, at) | self.marks(text, at + self.stride) != 0 {
+                return at;
+            }
+            at += self.stride + self.stride;
+        }
+        at
     }
 
     /// The same, a window at a time.
@@ -80,49 +98,44 @@ impl PlaceTable {
         None
     }
 
-    /// The same among the places of two windows from `at` on, with one test for both.
-    #[inline(always)]
+    /// The same among the places of two windows from `at` on.
     fn in_two_windows(&self, text: &[u8], at: usize) -> Option<Span>
         requires table { IsPlaceTable self.now }
         requires within { at + (self.now.stride + self.now.stride) < length text.now }
         ensures { result ≡ span_among (map vec_items self.now.needles.items) text.now at (self.now.stride + self.now.stride) }
     {
-        let first = self.places[pair_at(text, at + self.stride - 1)];
-        let second = self.places[pair_at(text, at + self.stride + self.stride - 1)];
-        if first | second == 0 {
-            return None;
-        }
         if let Some(span) = self.in_window(text, at) {
             return Some(span);
         }
         self.in_window(text, at + self.stride)
     }
 
-    /// The same among the `stride` places from `at` on. The pair at the last of them tells which of them may begin a
-    /// needle.
-    #[inline(always)]
+    /// The same among the `stride` places from `at` on.
     fn in_window(&self, text: &[u8], at: usize) -> Option<Span>
         requires table { IsPlaceTable self.now }
         requires within { at + self.now.stride < length text.now }
         ensures { result ≡ span_among (map vec_items self.now.needles.items) text.now at self.now.stride }
     {
-        let last = self.places[pair_at(text, at + self.stride - 1)];
-        if last == 0 {
-            return None;
-        }
-        if last & 1 != 0 {
-            return self.place_by_place(text, at);
-        }
-        if self.stride == 1 {
-            return None;
-        }
-        if self.places[pair_at(text, at + self.stride - 2)] & (last >> 1) == 0 {
+        if self.marks(text, at) == 0 {
             return None;
         }
         self.place_by_place(text, at)
     }
 
-    /// The same, place by place.
+    /// Nothing where no needle begins at one of the `stride` places from `at` on. The pair at the last of them tells
+    /// which may begin one, and the pair before it has to stand a place earlier, but for the first place of a needle.
+    #[inline(always)]
+    fn marks(&self, text: &[u8], at: usize) -> usize
+        requires table { IsPlaceTable self.now }
+        requires within { at + self.now.stride < length text.now }
+        ensures { result ≡ 0 → span_among (map vec_items self.now.needles.items) text.now at self.now.stride ≡ None }
+    {
+        let here = self.places[pair_at(text, at + self.stride - 1)] as usize;
+        let before = self.places[pair_at(text, at + self.stride.max(2) - 2)] as usize;
+        here & (2 * before + 1)
+    }
+
+    /// The same as in a window, place by place.
     #[inline(never)]
     fn place_by_place(&self, text: &[u8], at: usize) -> Option<Span>
         requires table { IsPlaceTable self.now }
@@ -130,25 +143,26 @@ impl PlaceTable {
         ensures { result ≡ span_among (map vec_items self.now.needles.items) text.now at self.now.stride }
     {
         for i in 0..self.stride {
-            if let Some(span) = self.at_place(text, at + i, self.stride - 1 - i) {
+            if let Some(span) = self.at_place(text, at + i) {
                 return Some(span);
             }
         }
         None
     }
 
-    /// Where the first needle of the list lies that begins at `at`, by the pairs at that place and `j` further on.
-    fn at_place(&self, text: &[u8], at: usize, j: usize) -> Option<Span>
+    /// Where the first needle of the list lies that begins at `at`, by the pairs at its first places.
+    pub fn at_place(&self, text: &[u8], at: usize) -> Option<Span>
         requires table { IsPlaceTable self.now }
-        requires place { j < self.now.stride }
-        requires within { at + j + 1 < length text.now }
+        requires within { at ≤ length text.now }
         ensures { result ≡ span_at (map vec_items self.now.needles.items) text.now at }
     {
-        if self.places[pair_at(text, at + j)] >> j & 1 == 0 {
+        if text.len() - at <= self.stride {
             return None;
         }
-        if self.places[pair_at(text, at)] & 1 == 0 {
-            return None;
+        for j in 0..self.stride {
+            if self.places[pair_at(text, at + j)] >> j & 1 == 0 {
+                return None;
+            }
         }
         needles::span_at(&self.needles, text, at)
     }

@@ -18,8 +18,10 @@ loop-at-preserved c =
     let text = c.args.text.now in
     let stride = c.args.self.now.stride in
     let invariant = c.loop-at.invariant in
-    let inside : c.loop-at.at + (stride + stride) ≤ length text + 1 = omega arith in
-    (omega arith, invariant.1 ∙ first_span-window_next needles text c.loop-at.at (stride + stride) inside (sym c.in_two_windows.ensures ∙ c.in_default.is))
+    let inside : c.loop-at.at + (stride + stride) ≤ length text + 1 = omega arith in (
+      c.pass-at-in-loop-at.ensures.within,
+      invariant.1 ∙ first_span-window_next needles text c.loop-at.at (stride + stride) inside (sym c.in_two_windows.ensures ∙ c.in_default.is) ∙ c.pass-at-in-loop-at.ensures.same,
+    )
 
 pub returns : goal.returns
 returns c = let invariant = c.loop-at.invariant in c.window_by_window.ensures ∙ sym invariant.1
