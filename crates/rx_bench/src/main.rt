@@ -1,13 +1,11 @@
 //! `rx_bench ENGINE PATTERN` searches each line of standard input for the successive matches of the pattern, and prints
-//! their number, the bytes of the lines, and the time that the searches took. `rx_bench literals PATTERN` prints times of
-//! the literals of the pattern.
+//! their number, the bytes of the lines, and the time that the searches took.
 #![tactic(auto)]
 
 mod compile;
 mod engine;
 mod failure;
 mod finders;
-mod literals;
 
 use engine::Engine;
 use failure::Failure;
@@ -33,9 +31,6 @@ fn bench<R: Runtime + AllocGlobal>(rt: &R) -> Result<(), Failure> {
     let [engine, pattern] = words.as_slice() else {
         return Err(Failure::Usage);
     };
-    if engine.as_str() == "literals" {
-        return literals::time(rt, pattern.as_str());
-    }
     let mut engine = Engine::new(rt.alloc(), engine.as_str(), pattern.as_str())?;
     let text = io::read_to_string(rt.alloc(), rt.reader())?;
     let start = Instant::now(rt)?;
