@@ -15,6 +15,8 @@ pub mod Input
 pub mod Names
 pub mod Openings
 pub mod Plain
+pub mod Printable
+pub mod Printed
 pub mod Reading
 pub mod Refusal
 pub mod Stack

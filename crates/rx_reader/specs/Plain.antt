@@ -10,9 +10,13 @@ use Rattle.rx_reader.specs.Syntax.{Syntax, literal, cat, alt, syntaxes}
 abbrev pub is_meta : ℕ → Bool
 is_meta c = c ∈ "\\.+*?()|[]{}^$#&-~"
 
+-- the character, after a backslash if it is such a one
+abbrev pub escaped_one : ℕ → List ℕ
+escaped_one c = if is_meta c then codes "\\" ++ c ∷ [] else c ∷ []
+
 -- the text in which each such character stands after a backslash
 abbrev pub escaped_text : List ℕ → List ℕ
-escaped_text cs = flat_map (λ c. if is_meta c then codes "\\" ++ c ∷ [] else c ∷ []) cs
+escaped_text cs = flat_map escaped_one cs
 
 -- white space stands in the text, and is skipped
 abbrev pub has_skipped : Flags → List ℕ → Bool

@@ -5,11 +5,13 @@ ghost use Rattle.std.specs.List.{list_any, range_with_len};
 ghost use lib.Utf8.{scalars};
 ghost use Rattle.rx_reader.specs.declared.config.Config.{Config};
 ghost use Rattle.rx_reader.specs.Characters.{AllIn};
-ghost use Rattle.rx_reader.specs.Config.{flags_of};
+ghost use Rattle.rx_reader.specs.Config.{flags_of, limit_of};
 ghost use Rattle.rx_reader.specs.Grammar.{read};
 ghost use Rattle.rx_reader.specs.Groups.{IsGroup, group_numbers};
 ghost use Rattle.rx_reader.specs.Plain.{is_meta, escaped_text, has_skipped, characters};
-ghost use Rattle.rx_reader.specs.Syntax.{Syntax};
+ghost use Rattle.rx_reader.specs.Printable.{bare, IsPattern};
+ghost use Rattle.rx_reader.specs.Printed.{printed};
+ghost use Rattle.rx_reader.specs.Syntax.{Syntax, depth};
 
 /// The capturing groups of a pattern are numbered from 1 on in the order of their opening parentheses, each with a
 /// number of its own and none left out. A number stands always with the same name, or always without one, and no name
@@ -41,4 +43,14 @@ pub fn escaped_text_reads_as_its_characters()
 /// escape writes by a number.
 pub fn each_character_of_a_pattern_is_a_scalar()
     ensures { (config : Config) (text : List ℕ) (s : Syntax) → scalars text ≡ true → read config text ≡ Ok s → AllIn IsScalar s }
+{}
+
+/// A syntax has a text that reads back as it, where no flag `x` skips anything and the depth is within the limit: a
+/// character stands for itself, after a backslash if it means something else; items stand one after another, branches
+/// between bars, groups in parentheses; and an operator comes after its item. So it is told what each of these reads as,
+/// whatever stands in it. What is read has its own pieces, and its groups are numbered in order.
+pub fn printed_text_reads_back()
+    ensures { (config : Config) (s : Syntax) → IsPattern (flags_of config) s → (flags_of config).ignore_whitespace ≡ false
+        → depth s ≤ limit_of config
+        → (t : Syntax) × (bare t ≡ bare s) × (read config (printed (flags_of config).swap_greed s) ≡ Ok t) }
 {}

@@ -38,7 +38,7 @@ pub use flags::Flags;
 pub use group_kind::GroupKind;
 pub use laws::{
     each_character_of_a_pattern_is_a_scalar, escaped_text_reads_as_its_characters,
-    groups_are_numbered_and_named_apart,
+    groups_are_numbered_and_named_apart, printed_text_reads_back,
 };
 pub use parser::read;
 pub use piece::Piece;

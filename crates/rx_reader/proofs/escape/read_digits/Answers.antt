@@ -4,7 +4,8 @@ use Rattle.rx_reader.specs.Input.{place}
 use Rattle.rx_reader.specs.Reading.{past}
 use Rattle.rx_reader.specs.Ahead.{past_n}
 use Rattle.rx_reader.specs.Escapes.{digits}
-use Rattle.rx_reader.proofs.lemmas.tokens.EscapeLemmas.{digit-number, digit-many, digits-stop, digits-none, room, room_within, digit_fits, past_n-more, past_shortens}
+use Rattle.rx_reader.proofs.lemmas.tokens.EscapeLemmas.{digit-number, digit-many, digits-stop, digits-none, room, room_within, digit_fits, past_n-more}
+use Rattle.rx_reader.proofs.lemmas.places.AheadLemmas.{past_shorter}
 use Rattle.rx_reader.proofs.escape.read_digits.Goals as goal
 
 pub loop-count-init : goal.loop-count-init
@@ -33,7 +34,7 @@ loop-count-preserved c =
       number = s.invariant.number ∙ digit-number radix (c.args.most - s.count) left s.value c.in-Some.digit p q e c.in-Some.ensures.1 c.in-Some.ensures.2 c.bump.ensures.value;
       many = omega (arith, s.invariant.many, many);
       here = c.bump.ensures.value ∙ ap past s.invariant.here ∙ sym (past_n-more s.count (place c.args.cursor.now));
-      moves = omega (arith, s.invariant.moves, past_shortens p q c.bump.ensures.value);
+      moves = omega (arith, s.invariant.moves, past_shorter p q c.bump.ensures.value);
       small = digit_fits s.value radix c.in-Some.digit s.count s.invariant.small c.requires.small c.in-Some.ensures.3;
       few = omega (arith, c.loop-count-test.true);
     }

@@ -9,6 +9,7 @@ use Rattle.std.specs.BTreeSet.{insert_key}
 use Rattle.std.proofs.lemmas.Bool.{cases_lt}
 use Rattle.std.proofs.lemmas.Map.Text.{is_eq-slice_cmp}
 use Rattle.std.proofs.lemmas.Slice.Eq.{bytes_eq-Decides}
+use Rattle.rx_class.proofs.RangeLemmas.{or-swap}
 use Rattle.rx_reader.specs.Reading.{Place}
 use Rattle.rx_reader.proofs.lemmas.places.GivesLemmas.{IsAt}
 
@@ -19,11 +20,6 @@ is_in x ns = list_any (bytes_eq x) ns
 or-absorbs : (a b : Bool) → (a || b) ≡ (a || (a || b))
 or-absorbs true b = refl
 or-absorbs false b = refl
-
-or-swaps : (a b c : Bool) → (a || (b || c)) ≡ (b || (a || c))
-or-swaps true true c = refl
-or-swaps true false c = refl
-or-swaps false b c = refl
 
 -- a name more
 pub in-insert : (x name : List ℕ) (ns : List (List ℕ)) → is_in x (insert_key (slice_cmp nat_cmp) ns name) ≡ (bytes_eq x name || is_in x ns)
@@ -36,7 +32,7 @@ in-insert x name (y ∷ ns) = by (slice_cmp nat_cmp name y) refl (in-insert x na
     by Equal is h =
         let same : name ≡ y = (bytes_eq-Decides name y).0 (sym (is_eq-slice_cmp name y) ∙ ap is_eq (sym is)) in
         or-absorbs (bytes_eq x y) (is_in x ns) ∙ ap (λ (z : List ℕ). bytes_eq x z || (bytes_eq x y || is_in x ns)) (sym same)
-    by Greater is h = ap (λ (b : Bool). bytes_eq x y || b) h ∙ or-swaps (bytes_eq x y) (bytes_eq x name) (is_in x ns)
+    by Greater is h = ap (λ (b : Bool). bytes_eq x y || b) h ∙ or-swap (bytes_eq x y) (bytes_eq x name) (is_in x ns)
 
 pub kept_in : (x name : List ℕ) (ns : List (List ℕ)) → is_in x ns ≡ true → is_in x (insert_key (slice_cmp nat_cmp) ns name) ≡ true
 kept_in x name ns h = in-insert x name ns ∙ ap (λ (b : Bool). bytes_eq x name || b) h ∙ or-true (bytes_eq x name)

@@ -19,6 +19,7 @@ use Rattle.rx_reader.specs.Plain.{is_meta, escaped_text, has_skipped, characters
 use Rattle.rx_reader.specs.Grammar.{escaped_atom, escaped, is_operator, token_of, token, all_repetitions, Branches, add_item, whole, branches_at, token_then, all_branches, to_end, read}
 use Rattle.rx_reader.proofs.lemmas.branches.BranchLemmas.{token-end, all_repetitions-step, all_branches-step}
 use Rattle.rx_reader.proofs.lemmas.places.PlaceLemmas.{not_at_end}
+use Rattle.rx_reader.proofs.lemmas.printed.TextLemmas.{same-number, differ}
 use Rattle.rx_reader.proofs.lemmas.branches.RepeatLemmas.{repeated_from, repeat_stops}
 use Rattle.rx_reader.proofs.lemmas.tokens.TokenLemmas.{token-some, begins-escape}
 
@@ -31,9 +32,6 @@ abbrev Each : (ℕ → Type 0) → List ℕ → Type 0
 Each P [] = Unit {0}
 Each P (d ∷ ds) = P d × Each P ds
 
-same-number : (c d : ℕ) → (c == d) ≡ true → c ≡ d
-same-number c d h = grind (arith, nat_tests)
-
 among-each : (P : ℕ → Type 0) (c : ℕ) (s : List ℕ) → is_among c s ≡ true → Each P s → P c
 among-each P c [] h each = cc
 among-each P c (d ∷ []) h each = subst P (sym (same-number c d h)) each.0
@@ -44,22 +42,18 @@ among-each P c (d ∷ e ∷ rest) h each = by (c == d) refl h (λ g. among-each 
     by false is g later = later g
 
 -- a character that isn't among them is none of them
-apart : (c d : ℕ) → is_meta c ≡ false → is_meta d ≡ true → (c == d) ≡ false
-apart c d plain meta = by (c == d) refl
-  where
-    by : (b : Bool) → (c == d) ≡ b → b ≡ false
-    by false is = refl
-    by true is = absurd (true≢false (sym meta ∙ ap is_meta (sym (same-number c d is)) ∙ plain))
+pub apart : (c d : ℕ) → is_meta c ≡ false → is_meta d ≡ true → (c == d) ≡ false
+apart c d plain meta = differ is_meta false c d plain meta
 
 -- an escape, by whether the pattern ends after its backslash
-escape_if : (ends octal : Bool) → (p q : Place) → Read Escaped
+unfoldable pub escape_if : (ends octal : Bool) → (p q : Place) → Read Escaped
 escape_if ends octal p q =
     if ends then refuse Escape p q
     else if octal && is_digit (first q) 8 then octal_digits p q
     else if not octal && is_ascii_digit (first q) then refuse Unsupported p (past q)
     else lettered p q
 
-escape-goes : (octal : Bool) (p : Place) → at_end (past p) ≡ false → escape octal p ≡ escape_if false octal p (past p)
+pub escape-goes : (octal : Bool) (p : Place) → at_end (past p) ≡ false → escape octal p ≡ escape_if false octal p (past p)
 unfolding escape escape_if
 escape-goes octal p more = ap (λ ends. escape_if ends octal p (past p)) more
 
@@ -114,8 +108,26 @@ module _ (g : ℕ) (ns : List (List ℕ)) where
 
   escapes : (octal : Bool) (rest : List ℕ) (a : ℕ) → Each (IsEscape octal rest a) metas
   unfolding escape_if lettered one_letter
-  escapes true rest a = (refl, (refl, (refl, (refl, (refl, (refl, (refl, (refl, (refl, (refl, (refl, (refl, (refl, (refl, (refl, (refl, (refl, (refl, tt))))))))))))))))))
-  escapes false rest a = (refl, (refl, (refl, (refl, (refl, (refl, (refl, (refl, (refl, (refl, (refl, (refl, (refl, (refl, (refl, (refl, (refl, (refl, tt))))))))))))))))))
+  escapes true rest a = (
+    refl,
+    (
+      refl,
+      (refl, (refl, (refl, (refl, (refl, (refl, (refl, (refl, (refl, (refl, (refl, (refl, (refl, (refl, (refl, (refl, tt)))))))))))))))),
+    ),
+  )
+  escapes false rest a = (
+    refl,
+    (
+      refl,
+      (refl, (refl, (refl, (refl, (refl, (refl, (refl, (refl, (refl, (refl, (refl, (refl, (refl, (refl, (refl, (refl, tt)))))))))))))))),
+    ),
+  )
+
+  pub escape-itself : (octal : Bool) (c : ℕ) (rest : List ℕ) (a : ℕ) → is_meta c ≡ true
+      → escape octal (spot (92 ∷ c ∷ rest) a) ≡ Ok (character false c, past (past (spot (92 ∷ c ∷ rest) a)))
+  escape-itself octal c rest a meta =
+      let p : Place = spot (92 ∷ c ∷ rest) a in
+      escape-goes octal p (goes-on c rest (past p).at) ∙ among-each (IsEscape octal rest a) c metas meta (escapes octal rest a)
 
   no-operator : (cs : List ℕ) (a : ℕ) → is_operator (spot (escaped_text cs) a) ≡ false
   no-operator [] a = refl
@@ -127,29 +139,37 @@ module _ (g : ℕ) (ns : List (List ℕ)) where
 
   module _ (config : Config) (flags : Flags) where
     -- the next token is the character c, and these stand after it
-    IsNext : ℕ → List ℕ → Place → Type 0
+    unfoldable pub IsNext : ℕ → List ℕ → Place → Type 0
     IsNext c rest p = (b : ℕ) × (token config flags p ≡ Ok (One (literal flags c), spot rest b))
 
-    next-escaped : (c : ℕ) (rest : List ℕ) (a : ℕ) → is_meta c ≡ true → IsNext c rest (spot (92 ∷ c ∷ rest) a)
+    pub next-escaped : (c : ℕ) (rest : List ℕ) (a : ℕ) → is_meta c ≡ true → IsNext c rest (spot (92 ∷ c ∷ rest) a)
     unfolding IsNext escaped
     next-escaped c rest a meta =
         let p : Place = spot (92 ∷ c ∷ rest) a in
-        let is : escape (octal_of config) p ≡ Ok (character false c, past (past p)) =
-        escape-goes (octal_of config) p (goes-on c rest (past p).at)
-        ∙ among-each (IsEscape (octal_of config) rest a) c metas meta (escapes (octal_of config) rest a) in
+        let is : escape (octal_of config) p ≡ Ok (character false c, past (past p)) = escape-itself (octal_of config) c rest a meta in
         let alone : is_operator p ≡ false = rw (goes-on 92 (c ∷ rest) a) refl in (
           (past (past p)).at,
           token-some config flags p (goes-on 92 (c ∷ rest) a) alone ∙ begins-escape config 92 flags p refl
               ∙ ap (λ (r : Read Escaped). r >>= λ (e, q). Ok (One (escaped_atom flags (piece_of p q) e), q)) is,
         )
 
-    next-plain : (c : ℕ) (rest : List ℕ) (a : ℕ) → is_meta c ≡ false → IsNext c rest (spot (c ∷ rest) a)
+    pub next-plain : (c : ℕ) (rest : List ℕ) (a : ℕ) → is_meta c ≡ false → IsNext c rest (spot (c ∷ rest) a)
     unfolding IsNext token_of
     next-plain c rest a plain =
         let p : Place = spot (c ∷ rest) a in
-        let alone : is_operator p ≡ false = rw (goes-on c rest a, apart c 42 plain refl, apart c 43 plain refl, apart c 63 plain refl, apart c 123 plain refl) refl in
+        let alone : is_operator p ≡ false = rw
+        (goes-on c rest a, apart c 42 plain refl, apart c 43 plain refl, apart c 63 plain refl, apart c 123 plain refl) refl in
         let is : token_of config c flags p ≡ Ok (One (literal flags c), past p) =
-        rw (apart c 124 plain refl, apart c 41 plain refl, apart c 40 plain refl, apart c 91 plain refl, apart c 92 plain refl, apart c 46 plain refl, apart c 94 plain refl, apart c 36 plain refl) refl in
+        rw (
+          apart c 124 plain refl,
+          apart c 41 plain refl,
+          apart c 40 plain refl,
+          apart c 91 plain refl,
+          apart c 92 plain refl,
+          apart c 46 plain refl,
+          apart c 94 plain refl,
+          apart c 36 plain refl,
+        ) refl in
         ((past p).at, token-some config flags p (goes-on c rest a) alone ∙ is)
 
     next : (c : ℕ) (cs : List ℕ) (a : ℕ) → IsNext c (escaped_text cs) (spot (escaped_text (c ∷ cs)) a)
@@ -172,7 +192,8 @@ module _ (g : ℕ) (ns : List (List ℕ)) where
     stands cs a solid = skip-none flags (spot (escaped_text cs) a) (skips-nothing flags cs solid)
 
     -- no operator follows an item there
-    stays : (item : Syntax) (cs : List ℕ) (a : ℕ) → has_skipped flags cs ≡ false → all_repetitions config flags item (spot (escaped_text cs) a) ≡ Ok (item, spot (escaped_text cs) a)
+    stays : (item : Syntax) (cs : List ℕ) (a : ℕ) → has_skipped flags cs ≡ false
+        → all_repetitions config flags item (spot (escaped_text cs) a) ≡ Ok (item, spot (escaped_text cs) a)
     stays item cs a solid =
         let p : Place = spot (escaped_text cs) a in
         all_repetitions-step config flags item p
@@ -198,10 +219,12 @@ module _ (g : ℕ) (ns : List (List ℕ)) where
         all_branches-step config flags opened p
         ∙ ap (λ (q : Place). token_then config (all_branches config) flags opened q) (stands (c ∷ cs) a solid)
         ∙ ap (λ (r : Read Token). r >>= branches_at config (all_branches config) flags opened p) is
-        ∙ ap (λ (r : Read Syntax). r >>= λ (item, q). all_branches config flags opened q >>= λ (b, r). Ok (add_item item b, r)) (stays (literal flags c) cs b later) in
+        ∙ ap (λ (r : Read Syntax). r >>= λ (item, q). all_branches config flags opened q >>= λ (b, r). Ok (add_item item b, r))
+        (stays (literal flags c) cs b later) in
         subst (IsRow (c ∷ cs)) (sym same) (add-row c cs (all_branches config flags opened q) (rows opened cs b later))
 
-pub escaped-reads : (config : Config) (cs : List ℕ) → has_skipped (flags_of config) cs ≡ false → read config (escaped_text cs) ≡ Ok (characters (flags_of config) cs)
+pub escaped-reads : (config : Config) (cs : List ℕ) → has_skipped (flags_of config) cs ≡ false
+    → read config (escaped_text cs) ≡ Ok (characters (flags_of config) cs)
 unfolding read IsRow
 escaped-reads config cs solid =
     let (q, ends, is) = rows 0 [] config (flags_of config) 0 cs 0 solid in
@@ -214,9 +237,11 @@ plain-same : (cs : List ℕ) → list_any is_meta cs ≡ false → escaped_text 
 plain-same [] h = refl
 plain-same (c ∷ cs) h = by (is_meta c) h (λ g. plain-same cs g)
   where
-    by : (b : Bool) → (b || list_any is_meta cs) ≡ false → (list_any is_meta cs ≡ false → escaped_text cs ≡ cs) → (if b then codes "\\" ++ c ∷ [] else c ∷ []) ++ escaped_text cs ≡ c ∷ cs
+    by : (b : Bool) → (b || list_any is_meta cs) ≡ false → (list_any is_meta cs ≡ false → escaped_text cs ≡ cs)
+        → (if b then codes "\\" ++ c ∷ [] else c ∷ []) ++ escaped_text cs ≡ c ∷ cs
     by true g more = absurd (true≢false g)
     by false g more = ap (λ rest. c ∷ rest) (more g)
 
-pub plain-reads : (config : Config) (cs : List ℕ) → has_skipped (flags_of config) cs ≡ false → list_any is_meta cs ≡ false → read config cs ≡ Ok (characters (flags_of config) cs)
+pub plain-reads : (config : Config) (cs : List ℕ) → has_skipped (flags_of config) cs ≡ false → list_any is_meta cs ≡ false
+    → read config cs ≡ Ok (characters (flags_of config) cs)
 plain-reads config cs solid plain = ap (read config) (sym (plain-same cs plain)) ∙ escaped-reads config cs solid

@@ -132,7 +132,7 @@ posix_name-ends n from negated p lt =
     let q = past_all (in_name Brackets) p in
     test (begins ":]" q) (λ _. posix_named-ends n from negated (ascii_named (leading (in_name Brackets) p.text)) q (omega (arith, lt, past_while-le (in_name Brackets) (length p.text) p))) (λ _. refused _ _)
 
-past_n-lt : (n : ℕ) (p : Place) → 0 < length p.text → length (past_n (suc n) p).text < length p.text
+pub past_n-lt : (n : ℕ) (p : Place) → 0 < length p.text → length (past_n (suc n) p).text < length p.text
 unfolding past_n
 past_n-lt n p more = omega (arith, past_n-le n (past p), past_lt p more)
 

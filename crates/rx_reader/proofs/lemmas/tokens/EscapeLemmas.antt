@@ -4,7 +4,7 @@ use Rattle.std.specs.Prelude.{slice_index}
 use Rattle.std.specs.List.{prefix_len}
 use Rattle.std.specs.Char.{is_digit, digit_value}
 use Rattle.std.specs.Str.Parse.{digits_value_after}
-use Rattle.std.proofs.lemmas.List.{append_assoc, length-drop}
+use Rattle.std.proofs.lemmas.List.{append_assoc}
 use Rattle.std.proofs.lemmas.Bool.Decides.{nat_tests}
 use Rattle.rx_reader.specs.Reading.{Place, first, past, passes}
 use Rattle.rx_reader.specs.Ahead.{past_n}
@@ -114,9 +114,6 @@ push_leading test p q name more c goes next pushed here =
     let rest : leading test p.text ≡ c ∷ leading test q.text =
     leading-goes test p goes ∙ ap (λ d. d ∷ leading test (past p).text) (sym here) ∙ ap (λ (r : Place). c ∷ leading test r.text) (sym next) in
     ap (λ l. name ++ l) rest ∙ sym (append_assoc name (c ∷ []) (leading test q.text)) ∙ ap (λ l. l ++ leading test q.text) (sym pushed)
-
-pub past_shortens : (p q : Place) → q ≡ past p → length q.text ≤ length p.text
-past_shortens p q e = rw e (omega (arith, length-drop 1 p.text))
 
 -- the digit at p, and those from q on
 digit-first : (radix n m digit : ℕ) (p q : Place) → n ≡ suc m → passes (λ c. is_digit c radix) p ≡ true → q ≡ past p

@@ -1,5 +1,6 @@
 -- Flags that are compared.
 use Rattle.std.proofs.Common.{◌≡◌, Bool, true, false, ◌&&◌, refl, sym, true≢false}
+use Rattle.std.proofs.lemmas.Bool.{and_parts}
 use Rattle.std.specs.Bool.{beq}
 use Rattle.rx_reader.specs.declared.flags.Flags.{Flags}
 
@@ -9,19 +10,15 @@ beq-same false false h = refl
 beq-same true false h = absurd (true≢false (sym h))
 beq-same false true h = absurd (true≢false (sym h))
 
-both : (a b : Bool) → (a && b) ≡ true → (a ≡ true) × (b ≡ true)
-both true b h = (refl, h)
-both false b h = absurd (true≢false (sym h))
-
 -- equal in each flag
 pub flags-same : (f g : Flags) → (beq f.case_insensitive g.case_insensitive && (beq f.multi_line g.multi_line && (beq f.dot_matches_new_line g.dot_matches_new_line && (beq f.swap_greed g.swap_greed && (beq f.unicode g.unicode && (beq f.crlf g.crlf && beq f.ignore_whitespace g.ignore_whitespace)))))) ≡ true → f ≡ g
 flags-same f g h =
-    let a = both (beq f.case_insensitive g.case_insensitive) (beq f.multi_line g.multi_line && (beq f.dot_matches_new_line g.dot_matches_new_line && (beq f.swap_greed g.swap_greed && (beq f.unicode g.unicode && (beq f.crlf g.crlf && beq f.ignore_whitespace g.ignore_whitespace))))) h in
-    let b = both (beq f.multi_line g.multi_line) (beq f.dot_matches_new_line g.dot_matches_new_line && (beq f.swap_greed g.swap_greed && (beq f.unicode g.unicode && (beq f.crlf g.crlf && beq f.ignore_whitespace g.ignore_whitespace)))) a.1 in
-    let c = both (beq f.dot_matches_new_line g.dot_matches_new_line) (beq f.swap_greed g.swap_greed && (beq f.unicode g.unicode && (beq f.crlf g.crlf && beq f.ignore_whitespace g.ignore_whitespace))) b.1 in
-    let d = both (beq f.swap_greed g.swap_greed) (beq f.unicode g.unicode && (beq f.crlf g.crlf && beq f.ignore_whitespace g.ignore_whitespace)) c.1 in
-    let e = both (beq f.unicode g.unicode) (beq f.crlf g.crlf && beq f.ignore_whitespace g.ignore_whitespace) d.1 in
-    let k = both (beq f.crlf g.crlf) (beq f.ignore_whitespace g.ignore_whitespace) e.1 in
+    let a = and_parts (beq f.case_insensitive g.case_insensitive) (beq f.multi_line g.multi_line && (beq f.dot_matches_new_line g.dot_matches_new_line && (beq f.swap_greed g.swap_greed && (beq f.unicode g.unicode && (beq f.crlf g.crlf && beq f.ignore_whitespace g.ignore_whitespace))))) h in
+    let b = and_parts (beq f.multi_line g.multi_line) (beq f.dot_matches_new_line g.dot_matches_new_line && (beq f.swap_greed g.swap_greed && (beq f.unicode g.unicode && (beq f.crlf g.crlf && beq f.ignore_whitespace g.ignore_whitespace)))) a.1 in
+    let c = and_parts (beq f.dot_matches_new_line g.dot_matches_new_line) (beq f.swap_greed g.swap_greed && (beq f.unicode g.unicode && (beq f.crlf g.crlf && beq f.ignore_whitespace g.ignore_whitespace))) b.1 in
+    let d = and_parts (beq f.swap_greed g.swap_greed) (beq f.unicode g.unicode && (beq f.crlf g.crlf && beq f.ignore_whitespace g.ignore_whitespace)) c.1 in
+    let e = and_parts (beq f.unicode g.unicode) (beq f.crlf g.crlf && beq f.ignore_whitespace g.ignore_whitespace) d.1 in
+    let k = and_parts (beq f.crlf g.crlf) (beq f.ignore_whitespace g.ignore_whitespace) e.1 in
     λ i. record {
       case_insensitive = beq-same f.case_insensitive g.case_insensitive a.0 i;
       multi_line = beq-same f.multi_line g.multi_line b.0 i;

@@ -15,14 +15,10 @@ use Rattle.rx_reader.specs.Names.{name_of, read_name}
 use Rattle.rx_reader.specs.Openings.{is_look_ahead, is_look_behind, is_reference, named, flagged, opening}
 use Rattle.rx_reader.specs.Counts.{number_of, number_at, read_number, read_max, max_after, is_below, close_counts, read_counts, counts_of, operator_of, operator}
 use Rattle.rx_reader.specs.Grammar.{opens, escaped, bracketed, is_operator, stray_operator, token_of, token}
-use Rattle.rx_reader.proofs.lemmas.tokens.EscapeEnds.{past_n-le, past_white-le, escape-ends, class-ends}
+use Rattle.rx_reader.proofs.lemmas.tokens.EscapeEnds.{past_n-le, past_n-lt, past_white-le, escape-ends, class-ends}
 use Rattle.rx_reader.proofs.lemmas.branches.EndLemmas.{EndsBelow, refused, reads, bind, test, weaker, at_end_of, past_le, past_lt}
 
 -- what is skipped
-
-pub past_n-lt : (n : ℕ) (p : Place) → 0 < length p.text → length (past_n (suc n) p).text < length p.text
-unfolding past_n
-past_n-lt n p more = omega (arith, past_n-le n (past p), past_lt p more)
 
 pub skip-le : (flags : Flags) (p : Place) → length (skip flags p).text ≤ length p.text
 skip-le flags p = past_n-le (skipped_len flags p.text) p
