@@ -1,15 +1,15 @@
 -- The places that a match leaves in the slots lie within it.
-use Rattle.std.proofs.Common.{◌≡◌, ◌⊎◌, ℕ, ◌≤◌, List, [], ◌∷◌, length, get_or, refl, sym, ◌∙◌, ap, inl, inr, arith}
+use Rattle.std.proofs.Common.{◌≡◌, ◌⊎◌, ℕ, ◌≤◌, List, [], ◌∷◌, length, get_or, sym, ◌∙◌, ap, inl, inr, arith}
 use Rattle.std.proofs.lemmas.Bool.Decides.{nat_tests}
 use Rattle.std.proofs.lemmas.List.{get_or_past, get_or-replicate, length-replicate}
-use Rattle.std.specs.Prelude.{Bool, Option, Some, None, IfSome, replicate, nat_lt, ◌==◌}
+use Rattle.std.specs.Prelude.{Bool, Option, Some, None, replicate, nat_lt, ◌==◌}
 use Rattle.rx_model.specs.Runs.{Configuration, PriorityGraph, Passed, nowhere, and_at, IsRun, IsBounded, NeverFalls, Trace, trace, with_write, last_write, first_past, first_trace}
 use Rattle.rx_model.specs.Search.{Anchor, Match, is_permitted, starts, slot_value}
 use Rattle.rx_model.proofs.lemmas.runs.RunLemmas.{by_test}
 use Rattle.rx_model.proofs.lemmas.runs.FirstLemmas.{found-is_run, none-is-some, some-is, tells}
 use Rattle.rx_model.proofs.lemmas.runs.RiseLemmas.{trace-end, run-rises, mapped-some}
 use Rattle.rx_search.specs.Input.{InputValue}
-use Rattle.rx_search.specs.Told.{HasSlots, AreWithin}
+use Rattle.rx_search.specs.Told.{AreWithin}
 use Rattle.rx_nfa.specs.Automaton.{at, automaton, forwards}
 use Rattle.rx_nfa.specs.Nfa.{Nfa}
 use Rattle.rx_nfa.specs.NextMatch.{start_of, first_from, next_match_of}
@@ -85,15 +85,3 @@ empty-within v n slots is k place told = none-is-some (sym (ap (λ (s : Slots). 
         by_test (nat_lt k n)
         (λ e. get_or-replicate n k nothing nothing (grind (arith, nat_tests)))
         (λ e. let past : n ≤ k = grind (arith, nat_tests) in get_or_past no_places k nothing (omega arith))
-
--- the slots of what is told up to a place of the span
-pub told-within : (nfa : Nfa) (utf8_empty : Bool) (v : InputValue) (stop : ℕ) → stop ≤ v.end → (o : Option Match) → o ≡ next_match_of nfa utf8_empty v.haystack v.anchor stop v.start
-    → (slots : Slots) → IfSome o (HasSlots slots) → (n : ℕ) → (o ≡ None → slots ≡ replicate n None) → AreWithin v slots
-told-within nfa utf8_empty v stop le None e slots has n none k place told = empty-within v n slots (none refl) k place told
-told-within nfa utf8_empty v stop le (Some m) e slots has n none k place told =
-    by_test (nat_lt k (length slots))
-    (λ lt.
-    let x = next_match_of-places nfa utf8_empty v.haystack v.anchor stop v.start m (sym e) k place (sym (has k (grind (arith, nat_tests))) ∙ told) in
-    let high = x.1 in
-    (x.0, omega arith))
-    (λ past. none-is-some (sym (get_or_past slots k None (grind (arith, nat_tests))) ∙ told))
