@@ -24,7 +24,7 @@ use Rattle.rx_meta.specs.Regex.{RegexValue}
 use Rattle.rx_meta.specs.declared.error.BuildError.{BuildError}
 use Rattle.rx_meta.specs.declared.error.BuildError.TheVariants.{Syntax, NFA, Memory}
 
-few-of : (hs : List Expression) → AreFewStates hs → AreFew hs
+pub few-of : (hs : List Expression) → AreFewStates hs → AreFew hs
 few-of hs few = record { patterns = few.patterns; slots = few.slots }
 
 allowed-of : (c : Config) (hs : List Expression) → AreAllowedStates (compiler_of c) hs → AreAllowed c hs

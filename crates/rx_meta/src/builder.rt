@@ -9,7 +9,6 @@ use crate::reading::read_patterns;
 use crate::regex::Regex;
 use rx_hir::Hir;
 use rx_strategy::{Config, Strategy};
-use rx_thompson::PATTERN_LIMIT;
 use std::alloc::Global;
 use std::slice;
 
@@ -60,18 +59,13 @@ impl Builder {
     /// The regex of these patterns, which are numbered from 0 on.
     ///
     /// All patterns are read, up to the 2147483647th, before any is translated. Refused are, in this order: the first
-    /// pattern that reading refuses, the first that translation refuses, and what `build_many_from_hir` refuses.
+    /// pattern that reading refuses, the first that translation refuses, and what `build_many_from_hir` refuses. What is
+    /// refused is found before an expression is made.
     pub fn build_many(&self, alloc: Global, patterns: &[&str]) -> Result<Regex, BuildError>
         ensures built { IfOk result (IsBuiltOf self.now.syntax self.now.config (map (λ p. p.now) patterns.now)) }
         ensures refused { IfErr result (IsRefusedFor self.now.syntax self.now.config (map (λ p. p.now) patterns.now)) }
     {
-        let exprs = read_patterns(alloc, patterns, &self.syntax)?;
-        if patterns.len() > PATTERN_LIMIT {
-            return Err(BuildError::NFA(rx_thompson::BuildError::TooManyPatterns {
-                given: patterns.len(),
-                limit: PATTERN_LIMIT,
-            }));
-        }
+        let exprs = read_patterns(alloc, patterns, &self.syntax, &self.config)?;
         self.build_many_from_hir(alloc, &exprs)
     }
 

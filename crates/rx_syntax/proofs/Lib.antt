@@ -13,3 +13,5 @@ pub mod TranslationLemmas
 pub mod RefusalLemmas
 pub mod ToldLemmas
 pub mod Utf8Lemmas
+pub mod WeightLemmas
+pub mod WeighLemmas

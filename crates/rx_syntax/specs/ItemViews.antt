@@ -2,7 +2,7 @@
 use Rattle.std.specs.Prelude.{ℕ, suc, List, [], ◌∷◌, map, Result, Ok, if◌then◌else◌}
 use lib.Utf8.{encodes}
 use Rattle.rx_model.specs.Expression.{Expression}
-use Rattle.rx_hir.specs.Normal.{literal_of}
+use Rattle.rx_hir.specs.Normal.{literal_of, concat_of, alternation_of}
 use Rattle.rx_reader.specs.Reading.{◌>>=◌}
 use Rattle.rx_reader.specs.Syntax.{Syntax}
 use Rattle.rx_reader.specs.Coded.{syntax_size}
@@ -30,6 +30,14 @@ all_parts config items = gathered (item_parts config) items
 -- the expression of a branch, as a list of one
 abbrev pub branch_parts : Config → Syntax → Result (List Expression) SyntaxError
 branch_parts config branch = translated config branch >>= λ e. Ok (e ∷ [])
+
+-- the expression of the items, one after another
+abbrev pub row_of : Config → List Item → Result Expression SyntaxError
+row_of config items = all_parts config items >>= λ es. Ok (concat_of es)
+
+-- the expression of one of the branches
+abbrev pub choice_of : Config → List Syntax → Result Expression SyntaxError
+choice_of config branches = gathered (branch_parts config) branches >>= λ es. Ok (alternation_of es)
 
 -- one more than that of its syntax; a run of characters has none
 abbrev pub item_size : Item → ℕ

@@ -7,3 +7,5 @@ pub mod Translation
 pub mod ItemViews
 pub mod Pattern
 pub mod Patterns
+pub mod Weight
+pub mod Row

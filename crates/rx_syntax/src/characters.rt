@@ -48,7 +48,7 @@ fn push_each(alloc: Global, subs: &mut Vec<Hir>, flags: Flags, run: &[char]) -> 
 }
 
 /// The character in either case.
-fn in_either_case(alloc: Global, flags: Flags, c: char) -> Result<Hir, Memory>
+pub(crate) fn in_either_case(alloc: Global, flags: Flags, c: char) -> Result<Hir, Memory>
     ensures { IfOk result (λ h. h ≡ in_either_case flags c) }
 {
     if flags.unicode {
@@ -77,7 +77,7 @@ pub(crate) fn byte(alloc: Global, b: u8) -> Result<ClassBytes, Memory>
 }
 
 /// The literal of these characters' encodings.
-fn literal(alloc: Global, chars: &[char]) -> Result<Hir, Memory>
+pub(crate) fn literal(alloc: Global, chars: &[char]) -> Result<Hir, Memory>
     ensures { IfOk result (λ h. h ≡ literal_of (encodes chars.now)) }
 {
     Ok(Hir::literal(text(alloc, chars)?.into_bytes()))

@@ -18,12 +18,16 @@ mod set;
 #[cfg(test)]
 mod tests;
 mod translate;
+mod weight;
 
 pub use laws::{
     each_group_of_a_pattern_has_one_name, escaped_text_means_itself,
     patterns_read_under_utf8_mean_utf8, the_counts_of_a_pattern_are_in_order,
 };
 pub use pattern::{parse, parse_with, read_with, translate_with};
-pub use patterns::{PatternsError, parse_all, parse_each, parse_many, parse_many_with};
+pub use patterns::{
+    PatternsError, parse_all, parse_each, parse_many, parse_many_with, read_all, translate_all,
+};
 pub use rx_hir::{Capture, Class, Hir, HirKind, Look, Properties, Repetition, cost};
+pub use weight::{Weights, weigh_all, weigh_each};
 pub use rx_reader::{Ast, Config, ParseError, SyntaxError, SyntaxErrorKind};

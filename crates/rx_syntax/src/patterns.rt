@@ -41,7 +41,7 @@ impl<T: Drop> From<AllocFailed<T>> for PatternsError {
 }
 
 /// The error of the pattern of this number.
-fn refused(pattern: usize, error: ParseError) -> PatternsError
+pub(crate) fn refused(pattern: usize, error: ParseError) -> PatternsError
     ensures { result ≡ error_at pattern error }
 {
     match error {
@@ -117,8 +117,8 @@ pub fn parse_all(
     translate_all(alloc, &asts, config)
 }
 
-/// The syntax trees of the patterns.
-fn read_all(alloc: Global, patterns: &[&str], config: &Config) -> Result<Vec<Ast>, PatternsError>
+/// The syntax trees of the patterns, or the refusal of the first pattern that reading refuses.
+pub fn read_all(alloc: Global, patterns: &[&str], config: &Config) -> Result<Vec<Ast>, PatternsError>
     ensures value { MatchResult result
         (λ asts. all_syntaxes config.now (map (λ p. p.now) patterns.now) ≡ Ok asts.items)
         (λ e. RefusesAll e (all_syntaxes config.now (map (λ p. p.now) patterns.now))) }
@@ -135,8 +135,8 @@ fn read_all(alloc: Global, patterns: &[&str], config: &Config) -> Result<Vec<Ast
     Ok(asts)
 }
 
-/// The expressions of the syntax trees.
-fn translate_all(alloc: Global, asts: &[Ast], config: &Config) -> Result<Vec<Hir>, PatternsError>
+/// The expressions of the syntax trees, or the refusal of the first pattern that translation refuses.
+pub fn translate_all(alloc: Global, asts: &[Ast], config: &Config) -> Result<Vec<Hir>, PatternsError>
     ensures value { MatchResult result
         (λ exprs. all_translated config.now asts.now ≡ Ok exprs.items)
         (λ e. RefusesAll e (all_translated config.now asts.now)) }

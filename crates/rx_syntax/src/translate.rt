@@ -19,7 +19,7 @@ use std::alloc::Global;
 use std::num::NonZeroUsize;
 
 /// What an atom stands for under the flags at it.
-fn atom(
+pub(crate) fn atom(
     alloc: Global,
     config: &Config,
     flags: Flags,

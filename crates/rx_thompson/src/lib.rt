@@ -7,9 +7,11 @@
 
 mod compiler;
 mod error;
+mod limits;
 
 pub use compiler::Compiler;
 pub use error::BuildError;
+pub use limits::read_within;
 pub use rx_nfa::{
     Alternates, Config, NFA, PATTERN_LIMIT, State, Transition, Transitions, WhichCaptures,
     matches_byte,

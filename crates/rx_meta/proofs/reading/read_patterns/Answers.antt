@@ -1,15 +1,29 @@
-use Rattle.std.proofs.Common.{sym, ap, ◌∙◌}
-use Rattle.rx_meta.specs.Error.{error_of}
-use Rattle.rx_meta.proofs.ReadingLemmas.{first-read, first-count, refused-first}
+use Rattle.std.proofs.Common.{ℕ, List, Bor, length, map, sym, subst}
+use Rattle.std.proofs.lemmas.List.{length-map}
+use Rattle.std.specs.Prelude.{take}
+use Rattle.rx_search.specs.Limits.{id_limit}
+use Rattle.rx_nfa.specs.declared.compiler.config.Config.{Config}
+use Rattle.rx_syntax.specs.Patterns.{all_read}
+use Rattle.rx_strategy.specs.Config.{compiler_of}
+use Rattle.rx_thompson.specs.Build.{IsRefusedAfter}
+use Rattle.rx_meta.specs.Build.{IsRefusedFor}
+use Rattle.rx_meta.specs.Reading.{reading_of}
+use Rattle.rx_meta.specs.declared.error.BuildError.{BuildError}
+use Rattle.rx_meta.proofs.ReadingLemmas.{refused-within}
 use Rattle.rx_meta.proofs.reading.read_patterns.Goals as goal
 
 pub returns-in-Ok : goal.returns-in-Ok
-returns-in-Ok c = (
-  sym (first-read c.args.config.now c.args.patterns.now c.min.result c.min.ensures) ∙ c.in-Ok.ensures.value,
-  λ few. first-count c.args.patterns.now c.min.result _ c.min.ensures c.in-Ok.ensures.count few,
-)
+unfolding reading_of
+returns-in-Ok c = c.in-Ok.ensures
 
 pub returns-in-Err : goal.returns-in-Err
-returns-in-Err c = λ config.
-    refused-first c.args.config.now config c.args.patterns.now c.min.result c.in-Err.error c.from.result c.min.ensures
-    (c.from.ensures ∙ ap error_of c.of_patterns.ensures) c.in-Err.ensures.value
+returns-in-Err c =
+    let syntax = c.args.syntax.now in
+    let config = c.args.config.now in
+    let ps = c.args.patterns.now in
+    let texts = map (λ (p : Bor (List ℕ)). p.now) ps in
+    let reading = all_read syntax (take id_limit texts) in
+    let e = c.in-Err.error in
+    let own = subst (λ (k : Config). IsRefusedAfter reading k (length ps) e) c.compiler.ensures c.in-Err.ensures in
+    let all = subst (λ (n : ℕ). IsRefusedAfter reading (compiler_of config) n e) (sym (length-map ps (λ (p : Bor (List ℕ)). p.now))) own in
+    subst (λ (b : BuildError). IsRefusedFor syntax config texts b) (sym c.from.ensures) (refused-within syntax config texts e all)
