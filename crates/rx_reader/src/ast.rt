@@ -165,6 +165,8 @@ impl Ast {
     pub(crate) fn concat(items: Vec<Item>) -> Ast
         ensures { result ≡ cat (syntaxes (expanded items.items)) }
     {
+        let mut items = items;
+        items.shrink_to_fit();
         let nesting = deepest_item(&items);
         Ast {
             kind: AstKind::Concat(items),
@@ -175,6 +177,8 @@ impl Ast {
     pub(crate) fn alternation(branches: Vec<Ast>) -> Ast
         ensures { result ≡ alt (syntaxes branches.items) }
     {
+        let mut branches = branches;
+        branches.shrink_to_fit();
         let nesting = deepest(&branches);
         Ast {
             kind: AstKind::Alternation(branches),

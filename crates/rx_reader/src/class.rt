@@ -264,6 +264,6 @@ pub(crate) fn class(cursor: &mut Cursor, syntax: ClassSyntax) -> Result<Atom, Pa
     let items = class_items(cursor, syntax, opening)?;
     Ok(Atom::Bracketed {
         negated,
-        items: ClassItems::new(items),
+        items: ClassItems::new(cursor.alloc(), items)?,
     })
 }

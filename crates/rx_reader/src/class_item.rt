@@ -1,9 +1,10 @@
 //! What may stand between the brackets of a class.
-ghost use Rattle.std.specs.Prelude.{◌≡◌};
+ghost use Rattle.std.specs.Prelude.{◌≡◌, IfOk};
 
 use crate::piece::Piece;
 use crate::text::Text;
 use rx_sets::{ClassAsciiKind, ClassPerlKind};
+use std::alloc::{AllocError, Global};
 use std::marker::Model;
 
 /// A character in a class.
@@ -40,10 +41,10 @@ pub enum ClassItem {
     },
 }
 
-/// The items of a class in brackets, which a contract sees as their list.
+/// The items of a class in brackets, which a contract sees as their list. They lie apart, so that an atom stays small.
 #[derive(Drop)]
 pub struct ClassItems {
-    items: Vec<ClassItem>,
+    items: Box<Vec<ClassItem>>,
 }
 
 impl Model for ClassItems {
@@ -52,20 +53,24 @@ impl Model for ClassItems {
 
     ghost Value = { List ClassItem };
 
-    ghost view = { λ c. c.items.items };
+    ghost view = { λ c. c.items.value.items };
 }
 
 impl ClassItems {
-    pub(crate) fn new(items: Vec<ClassItem>) -> ClassItems
-        ensures { result ≡ items.items }
+    pub(crate) fn new(alloc: Global, items: Vec<ClassItem>) -> Result<ClassItems, AllocError>
+        ensures { IfOk result (λ c. c ≡ items.items) }
     {
-        ClassItems { items }
+        let mut items = items;
+        items.shrink_to_fit();
+        Ok(ClassItems {
+            items: Box::new(alloc, items)?,
+        })
     }
 
     /// The items.
     pub fn as_slice(&self) -> &[ClassItem]
         ensures { result.now ≡ self.now }
     {
-        &self.items
+        self.items.as_slice()
     }
 }

@@ -209,7 +209,8 @@ fn property_in_braces(
     ensures value { (from : Place) → start ≡ from.at → Reads result (property_in_braces from negated (place cursor.old)) (place cursor.new) }
     ensures progress { unread cursor.new ≤ unread cursor.old }
 {
-    let name = Text::new(read_name(cursor, NameIn::Braces)?);
+    let chars = read_name(cursor, NameIn::Braces)?;
+    let name = Text::new(cursor.alloc(), chars)?;
     if cursor.is_at_end() {
         return Err(cursor.refuse_from(start, SyntaxErrorKind::Escape));
     }
@@ -228,7 +229,7 @@ fn property_of_letter(cursor: &mut Cursor, negated: bool) -> Result<Escaped, All
     name.push(cursor.first())?;
     cursor.bump();
     Ok(Escaped::Property {
-        name: Text::new(name),
+        name: Text::new(cursor.alloc(), name)?,
         negated,
     })
 }

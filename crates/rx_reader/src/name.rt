@@ -45,5 +45,5 @@ pub(crate) fn read_name(cursor: &mut Cursor) -> Result<Text, ParseError>
     if !cursor.add_name(&name)? {
         return Err(piece.refuse(SyntaxErrorKind::GroupNameTwice));
     }
-    Ok(Text::new(name))
+    Ok(Text::new(cursor.alloc(), name)?)
 }

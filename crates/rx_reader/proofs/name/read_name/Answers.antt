@@ -48,6 +48,6 @@ returns-clause-value c =
     let name : c.deref.result.now ≡ name_of p.text = c.deref.ensures.value ∙ c.in_ok-name.ensures.items_if_clones_equal (λ x y h. h) ∙ name_taken_at p c.rest.result.now c.rest-2.result.now n c.rest.ensures c.rest-2.ensures c.name_len-count.ensures.value in
     let fresh : not (has_name (name_of p.text) q) ≡ c.in_ok-add_name.field-0 = sym (c.in_ok-add_name.ensures.fresh ∙ ap (λ (x : Place). not (has_name c.deref.result.now x)) c.bump.ensures.value ∙ ap (λ (cs : List ℕ). not (has_name cs q)) name) in
     let taken : has_name (name_of p.text) q ≡ false = grind (arith, common_steps) in
-    let known : c.new.result ≡ name_of p.text = c.new.ensures ∙ sym c.deref.ensures.value ∙ name in
+    let known : c.in_ok-new.field-0 ≡ name_of p.text = c.in_ok-new.ensures ∙ sym c.deref.ensures.value ∙ name in
     let added : place c.add_name.new.self ≡ add_name (name_of p.text) (past q) = c.in_ok-add_name.ensures.value ∙ ap (λ (cs : List ℕ). add_name cs (place c.bump.new.self)) name ∙ ap (add_name (name_of p.text)) c.bump.ensures.value in
-    name_read p q n len c.bump_by.ensures.value fails taken ∙ ap (λ (cs : List ℕ). Ok (cs, add_name (name_of p.text) (past q))) (sym known) ∙ ap (λ (x : Place). Ok (c.new.result, x)) (sym added)
+    name_read p q n len c.bump_by.ensures.value fails taken ∙ ap (λ (cs : List ℕ). Ok (cs, add_name (name_of p.text) (past q))) (sym known) ∙ ap (λ (x : Place). Ok (c.in_ok-new.field-0, x)) (sym added)
