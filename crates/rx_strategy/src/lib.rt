@@ -5,6 +5,7 @@
 #![tactic(auto)]
 
 mod cache;
+mod choose;
 mod config;
 mod found;
 mod info;
