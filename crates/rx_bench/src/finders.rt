@@ -30,7 +30,7 @@ impl PikeVM {
     /// The engine of this NFA.
     pub fn new(alloc: Global, nfa: NFA) -> Result<PikeVM, Memory> {
         let slots = empty_slots(alloc, &nfa)?;
-        let vm = pikevm::PikeVM::build_from_nfa(nfa, MatchKind::LeftmostFirst);
+        let vm = pikevm::PikeVM::build_from_nfa(nfa, MatchKind::LeftmostFirst, None);
         let cache = vm.create_cache(alloc)?;
         Ok(PikeVM { vm, cache, slots })
     }
@@ -52,7 +52,7 @@ impl Backtrack {
     /// The engine of this NFA.
     pub fn new(alloc: Global, nfa: NFA) -> Result<Backtrack, Memory> {
         let slots = empty_slots(alloc, &nfa)?;
-        let backtracker = backtrack::BoundedBacktracker::build_from_nfa(nfa);
+        let backtracker = backtrack::BoundedBacktracker::build_from_nfa(nfa, None);
         let cache = backtracker.create_cache(alloc)?;
         Ok(Backtrack {
             backtracker,

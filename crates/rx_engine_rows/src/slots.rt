@@ -56,7 +56,7 @@ fn told(
 fn simulated(alloc: Global, nfa: NFA, input: &Input<'_>) -> Result<String, Fail> {
     let none = None;
     let mut slots = vec![in alloc; none; nfa.slot_len()]?;
-    let vm = PikeVM::build_from_nfa(nfa, MatchKind::LeftmostFirst);
+    let vm = PikeVM::build_from_nfa(nfa, MatchKind::LeftmostFirst, None);
     let mut cache = vm.create_cache(alloc)?;
     let found = vm.find_slots(&mut cache, input, &mut slots);
     told(alloc, found, &slots)
@@ -71,7 +71,7 @@ fn backtracked(
 ) -> Result<String, Fail> {
     let none = None;
     let mut slots = vec![in alloc; none; nfa.slot_len()]?;
-    let backtracker = BoundedBacktracker::build_from_nfa(nfa);
+    let backtracker = BoundedBacktracker::build_from_nfa(nfa, None);
     let mut cache = backtracker.create_cache(alloc)?;
     let found = backtracker.try_find_slots(&mut cache, input, &mut slots);
     told(

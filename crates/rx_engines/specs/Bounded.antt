@@ -1,11 +1,16 @@
 -- What a bounded backtracker is to a contract, and what its searches answer.
-use Rattle.std.specs.Prelude.{◌≡◌, ℕ, ◌+◌, ◌-◌, ◌*◌, ◌/◌, ◌<◌, ◌≤◌, length, max, refl}
+use Rattle.std.specs.Prelude.{◌≡◌, ℕ, ◌+◌, ◌-◌, ◌*◌, ◌/◌, ◌<◌, ◌≤◌, List, length, Option, max, refl}
 use Rattle.std.specs.Coded.{Coded, code_by, coded×, coded_ℕ}
 use Rattle.rx_search.specs.Input.{InputValue, span_len}
 use Rattle.rx_search.specs.declared.match_error.MatchError.{MatchError}
 use Rattle.rx_search.specs.declared.match_error.MatchError.TheVariants.{Quit, GaveUp, HaystackTooLong, UnsupportedAnchored, Memory}
 use Rattle.rx_nfa.specs.Nfa.{Nfa}
 use Rattle.rx_engines.specs.Simulation.{frames_of_states}
+
+pub record BacktrackerValue : Type 0 where
+  pub nfa : Nfa
+  -- the needles of its prefilter, if it has one
+  pub pre : Option (List (List ℕ))
 
 -- The length of the longest span that is searched: 2097152 bits have one for each accounted state at each place, of
 -- which there is one more than bytes.

@@ -15,6 +15,8 @@ pub record PikeVMValue : Type 0 where
   pub nfa : Nfa
   -- which of the matches that begin at one place is reported
   pub kind : MatchKind
+  -- the needles of its prefilter, if it has one
+  pub pre : Option (List (List ℕ))
 
 -- the next match of the engine's NFA that starts in the input's span and ends by `end`
 abbrev pub next_match_by : PikeVMValue → InputValue → (end : ℕ) → Option Match

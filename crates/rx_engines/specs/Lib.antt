@@ -6,5 +6,6 @@ pub mod Simulation
 pub mod Search
 pub mod Room
 pub mod Engine
+pub mod Needles
 pub mod Backtrack
 pub mod Bounded

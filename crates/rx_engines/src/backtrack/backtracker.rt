@@ -9,12 +9,14 @@ ghost use Rattle.rx_nfa.specs.NextMatch.{next_match_in};
 ghost use Rattle.rx_engines.specs.Engine.{accounted_memory};
 ghost use Rattle.rx_engines.specs.Simulation.{frames_of_states};
 ghost use Rattle.rx_engines.specs.Bounded.{max_len, IsRefusal, Fits};
+ghost use Rattle.rx_engines.specs.Needles.{BeginsEachRun};
 
 use crate::backtrack::cache::Cache;
 use crate::room::frames_of_all;
 use crate::search::Search;
 use crate::slots::empty;
 use rx_nfa::NFA;
+use rx_prefilter::Prefilter;
 use rx_search::{Input, Match, MatchError, Memory, NonMaxUsize, PatternID};
 use std::alloc::Global;
 use std::marker::Model;
@@ -24,63 +26,65 @@ const BITS: usize = 2097152;
 
 /// An engine that searches an NFA depth first, and tries each state at each place of the span once: by its form, its
 /// work is bounded by the places times the transitions, and no clause says it. It keeps a bit for each state at each
-/// place, and so takes only spans of at most `max_haystack_len` bytes. A contract sees it as its NFA.
+/// place, and so takes only spans of at most `max_haystack_len` bytes. A contract sees it as its
+/// NFA, and the needles of its prefilter.
 ///
 /// A search writes to a `Cache`, which serves the engine whatever it held before. It answers the next match
 /// whether or not the input asks for `earliest`.
 #[derive(Drop)]
 pub struct BoundedBacktracker {
     nfa: NFA,
+    pre: Option<Prefilter>,
     /// The frames that a search may leave on the stack at one place.
     frames: usize,
 }
 
 impl Model for BoundedBacktracker {
     ghost use Rattle.std.specs.Prelude.{◌≡◌, ◌-◌, ◌^◌, min, length};
-    ghost use Rattle.rx_nfa.specs.Nfa.{Nfa};
     ghost use Rattle.rx_engines.specs.Simulation.{frames_of_states};
+    ghost use Rattle.rx_engines.specs.Bounded.{BacktrackerValue};
 
-    ghost Value = { Nfa };
+    ghost Value = { BacktrackerValue };
 
-    ghost view = { λ b. b.nfa };
+    ghost view = { λ b. record { nfa = b.nfa; pre = b.pre } };
 
     ghost invariant = { λ b. b.frames ≡ min (2 ^ 64 - 1) (frames_of_states b.nfa.states (length b.nfa.states)) };
 }
 
 impl BoundedBacktracker {
     /// The engine of this NFA.
-    pub fn build_from_nfa(nfa: NFA) -> BoundedBacktracker
-        ensures { result ≡ nfa }
+    pub fn build_from_nfa(nfa: NFA, pre: Option<Prefilter>) -> BoundedBacktracker
+        ensures { result ≡ record { nfa = nfa; pre = pre } }
     {
         let frames = frames_of_all(nfa.states());
-        BoundedBacktracker { nfa, frames }
+        BoundedBacktracker { nfa, pre, frames }
     }
 
     /// The NFA.
     pub fn get_nfa(&self) -> &NFA
-        ensures { result.now ≡ self.now }
+        ensures { result.now ≡ self.now.nfa }
     {
         &self.nfa
     }
 
     /// The frames that a search may leave on the stack at one place, or the greatest `usize` where they are more.
     pub(crate) fn frames(&self) -> usize
-        ensures { result ≡ min (2 ^ 64 - 1) (frames_of_states self.now.states (length self.now.states)) }
+        ensures { result ≡ min (2 ^ 64 - 1) (frames_of_states self.now.nfa.states (length self.now.nfa.states)) }
     {
         self.frames
     }
 
     /// A cache that serves this engine.
     pub fn create_cache(&self, alloc: Global) -> Result<Cache, Memory>
-        ensures fits { IfOk result (Fits self.now) }
-        ensures memory { IfOk result (λ c. c.memory ≡ accounted_memory self.now) }
+        ensures fits { IfOk result (Fits self.now.nfa) }
+        ensures memory { IfOk result (λ c. c.memory ≡ accounted_memory self.now.nfa) }
     {
         Cache::new(alloc, self)
     }
 
     /// The bytes of the longest span that is searched.
     pub fn max_haystack_len(&self) -> usize
-        ensures { result ≡ max_len self.now }
+        ensures { result ≡ max_len self.now.nfa }
     {
         (BITS / self.nfa.accounted_states().max(1)).saturating_sub(1)
     }
@@ -97,18 +101,19 @@ impl BoundedBacktracker {
         input: &Input<'_>,
         slots: &mut [Option<NonMaxUsize>],
     ) -> Result<Option<PatternID>, MatchError>
-        requires { Fits self.now cache.old }
-        ensures value { IfOk result (λ r. r
-            ≡ option_map matched_pattern (next_match_in self.now input.now)) }
-        ensures short { IfOk result (λ _. span_len input.now ≤ max_len self.now) }
-        ensures err { IfErr result (IsRefusal self.now input.now) }
-        ensures patterns { (r : Patterns) → IsNfaOf self.now r
-            → next_match_in self.now input.now ≡ option_map (told_of r.which_captures) (next_in r input.now) }
-        ensures slots { IfOk result (λ _. IfSome (next_match_in self.now input.now) (HasSlots slots.new)) }
+        requires { Fits self.now.nfa cache.old }
+        ensures value { BeginsEachRun self.now.pre self.now.nfa input.now → IfOk result (λ r. r
+            ≡ option_map matched_pattern (next_match_in self.now.nfa input.now)) }
+        ensures short { IfOk result (λ _. span_len input.now ≤ max_len self.now.nfa) }
+        ensures err { IfErr result (IsRefusal self.now.nfa input.now) }
+        ensures patterns { (r : Patterns) → IsNfaOf self.now.nfa r
+            → next_match_in self.now.nfa input.now ≡ option_map (told_of r.which_captures) (next_in r input.now) }
+        ensures slots { BeginsEachRun self.now.pre self.now.nfa input.now
+            → IfOk result (λ _. IfSome (next_match_in self.now.nfa input.now) (HasSlots slots.new)) }
         ensures none { IfOk result (λ r. IfNone r (slots.new ≡ replicate (length slots.old) None)) }
         ensures refused { IfErr result (λ _. slots.new ≡ replicate (length slots.old) None) }
         ensures slots_within { AreWithin input.now slots.new }
-        ensures cache { Fits self.now cache.new }
+        ensures cache { Fits self.now.nfa cache.new }
         ensures memory { cache.new.memory ≡ cache.old.memory }
     {
         match self.try_find_slots(cache, input, slots) {
@@ -129,18 +134,20 @@ impl BoundedBacktracker {
         input: &Input<'_>,
         slots: &mut [Option<NonMaxUsize>],
     ) -> Result<Option<Match>, MatchError>
-        requires { Fits self.now cache.old }
-        ensures value { IfOk result (λ r. r ≡ option_map match_value (next_match_in self.now input.now)) }
-        ensures short { IfOk result (λ _. span_len input.now ≤ max_len self.now) }
-        ensures err { IfErr result (IsRefusal self.now input.now) }
-        ensures patterns { (r : Patterns) → IsNfaOf self.now r
-            → next_match_in self.now input.now ≡ option_map (told_of r.which_captures) (next_in r input.now) }
-        ensures slots { IfOk result (λ _. IfSome (next_match_in self.now input.now) (HasSlots slots.new)) }
+        requires { Fits self.now.nfa cache.old }
+        ensures value { BeginsEachRun self.now.pre self.now.nfa input.now
+            → IfOk result (λ r. r ≡ option_map match_value (next_match_in self.now.nfa input.now)) }
+        ensures short { IfOk result (λ _. span_len input.now ≤ max_len self.now.nfa) }
+        ensures err { IfErr result (IsRefusal self.now.nfa input.now) }
+        ensures patterns { (r : Patterns) → IsNfaOf self.now.nfa r
+            → next_match_in self.now.nfa input.now ≡ option_map (told_of r.which_captures) (next_in r input.now) }
+        ensures slots { BeginsEachRun self.now.pre self.now.nfa input.now
+            → IfOk result (λ _. IfSome (next_match_in self.now.nfa input.now) (HasSlots slots.new)) }
         ensures none { IfOk result (λ r. IfNone r (slots.new ≡ replicate (length slots.old) None)) }
         ensures refused { IfErr result (λ _. slots.new ≡ replicate (length slots.old) None) }
         ensures slots_within { AreWithin input.now slots.new }
         ensures within { IfOk result (λ r. IfSome r (LiesIn input.now)) }
-        ensures cache { Fits self.now cache.new }
+        ensures cache { Fits self.now.nfa cache.new }
         ensures memory { cache.new.memory ≡ cache.old.memory }
     {
         let len = input.end().saturating_sub(input.start());

@@ -45,8 +45,8 @@ impl Model for Cache {
 impl Cache {
     /// A cache that serves this engine.
     pub fn new(alloc: Global, backtracker: &BoundedBacktracker) -> Result<Cache, Memory>
-        ensures fits { IfOk result (Fits backtracker.now) }
-        ensures memory { IfOk result (λ c. c.memory ≡ accounted_memory backtracker.now) }
+        ensures fits { IfOk result (Fits backtracker.now.nfa) }
+        ensures memory { IfOk result (λ c. c.memory ≡ accounted_memory backtracker.now.nfa) }
     {
         let nfa = backtracker.get_nfa();
         let places = backtracker.max_haystack_len() + 1;
@@ -65,11 +65,11 @@ impl Cache {
     /// Makes the cache one that serves this engine, and keeps each buffer that is large enough. Where there is no memory,
     /// it serves the engines that it served, with its accounted number as it was.
     pub fn reset(&mut self, alloc: Global, backtracker: &BoundedBacktracker) -> Result<(), Memory>
-        ensures fits { OnOk result (Fits backtracker.now self.new) }
-        ensures memory { OnOk result (self.new.memory ≡ accounted_memory backtracker.now) }
+        ensures fits { OnOk result (Fits backtracker.now.nfa self.new) }
+        ensures memory { OnOk result (self.new.memory ≡ accounted_memory backtracker.now.nfa) }
         ensures kept { (other : Nfa) → Fits other self.old → Fits other self.new }
         ensures err { OnErr result (self.new.memory ≡ self.old.memory) }
-        ensures sure { Fits backtracker.now self.old → IsOk result }
+        ensures sure { Fits backtracker.now.nfa self.old → IsOk result }
     {
         let nfa = backtracker.get_nfa();
         let places = backtracker.max_haystack_len() + 1;

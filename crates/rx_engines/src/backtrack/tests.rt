@@ -13,7 +13,7 @@ use std::test::Fail;
 /// The engine of the expression.
 fn engine(rt: &impl Abort, alloc: Global, expression: &Hir) -> BoundedBacktracker {
     let nfa = Compiler::new().build_from_hir(alloc, expression);
-    BoundedBacktracker::build_from_nfa(nfa.ok().expect(rt, "an NFA"))
+    BoundedBacktracker::build_from_nfa(nfa.ok().expect(rt, "an NFA"), None)
 }
 
 /// Whether the engine finds a match of its first pattern, which leaves these places in as many slots.
@@ -24,8 +24,8 @@ fn tells(
     haystack: &[u8],
     places: &[Option<usize>],
 ) -> Result<bool, Fail>
-    requires { Fits backtracker.now cache.old }
-    ensures { Fits backtracker.now cache.new }
+    requires { Fits backtracker.now.nfa cache.old }
+    ensures { Fits backtracker.now.nfa cache.new }
 {
     let none = None;
     let mut slots = vec![in alloc; none; places.len()]?;
@@ -41,8 +41,8 @@ fn tells_nothing(
     haystack: &[u8],
     places: &[Option<usize>],
 ) -> Result<bool, Fail>
-    requires { Fits backtracker.now cache.old }
-    ensures { Fits backtracker.now cache.new }
+    requires { Fits backtracker.now.nfa cache.old }
+    ensures { Fits backtracker.now.nfa cache.new }
 {
     let none = None;
     let mut slots = vec![in alloc; none; places.len()]?;

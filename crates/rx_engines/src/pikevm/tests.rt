@@ -13,7 +13,7 @@ use std::test::Fail;
 /// The engine of the expression.
 fn engine(rt: &impl Abort, alloc: Global, expression: &Hir, kind: MatchKind) -> PikeVM {
     let nfa = Compiler::new().build_from_hir(alloc, expression);
-    PikeVM::build_from_nfa(nfa.ok().expect(rt, "an NFA"), kind)
+    PikeVM::build_from_nfa(nfa.ok().expect(rt, "an NFA"), kind, None)
 }
 
 /// Whether the engine finds a match of its first pattern, which leaves these places in as many slots.

@@ -6,6 +6,7 @@ ghost use Rattle.rx_search.specs.Told.{IsMatchWith, HasSlots, AreWithin, LiesIn,
 ghost use Rattle.rx_nfa.specs.Nfa.{IsNfaOf};
 ghost use Rattle.rx_nfa.specs.NextMatch.{next_match_in};
 ghost use Rattle.rx_engines.specs.Simulation.{frames_of_states};
+ghost use Rattle.rx_engines.specs.Needles.{BeginsEachRun};
 ghost use Rattle.rx_engines.specs.Engine.{PikeVMValue, answer_in, Fits, accounted_memory};
 
 use crate::pikevm::cache::Cache;
@@ -13,6 +14,7 @@ use crate::room::frames_of_all;
 use crate::search::Search;
 use crate::slots::empty;
 use rx_nfa::NFA;
+use rx_prefilter::Prefilter;
 use rx_search::{Input, Match, MatchKind, Memory, NonMaxUsize, PatternID};
 use std::alloc::Global;
 use std::marker::Model;
@@ -25,6 +27,7 @@ use std::marker::Model;
 pub struct PikeVM {
     nfa: NFA,
     kind: MatchKind,
+    pre: Option<Prefilter>,
     /// The frames that a search may leave on the stack.
     frames: usize,
 }
@@ -36,7 +39,7 @@ impl Model for PikeVM {
 
     ghost Value = { PikeVMValue };
 
-    ghost view = { λ v. record { nfa = v.nfa; kind = v.kind } };
+    ghost view = { λ v. record { nfa = v.nfa; kind = v.kind; pre = v.pre } };
 
     ghost invariant = { λ v. v.frames ≡ min (2 ^ 64 - 1) (frames_of_states v.nfa.states (length v.nfa.states)) };
 }
@@ -44,11 +47,16 @@ impl Model for PikeVM {
 impl PikeVM {
     /// The engine of this NFA, which reports matches of this kind. Whether they may start inside an encoded
     /// character is the NFA's to say.
-    pub fn build_from_nfa(nfa: NFA, kind: MatchKind) -> PikeVM
-        ensures { result ≡ record { nfa = nfa; kind = kind } }
+    pub fn build_from_nfa(nfa: NFA, kind: MatchKind, pre: Option<Prefilter>) -> PikeVM
+        ensures { result ≡ record { nfa = nfa; kind = kind; pre = pre } }
     {
         let frames = frames_of_all(nfa.states());
-        PikeVM { nfa, kind, frames }
+        PikeVM {
+            nfa,
+            kind,
+            pre,
+            frames,
+        }
     }
 
     /// The NFA.
@@ -76,7 +84,8 @@ impl PikeVM {
     /// Whether there is a match in the input's span, under each kind of match. It stops as soon as it knows.
     pub fn is_match(&self, cache: &mut Cache, input: &Input<'_>) -> bool
         requires { Fits self.now cache.old }
-        ensures value { result ≡ is_some (next_match_in self.now.nfa input.now) }
+        ensures value { BeginsEachRun self.now.pre self.now.nfa input.now
+            → result ≡ is_some (next_match_in self.now.nfa input.now) }
         ensures patterns { (r : Patterns) → IsNfaOf self.now.nfa r
             → next_match_in self.now.nfa input.now ≡ option_map (told_of r.which_captures) (next_in r input.now) }
         ensures cache { Fits self.now cache.new }
@@ -93,11 +102,13 @@ impl PikeVM {
     /// `LeftmostFirst`.
     pub fn find(&self, cache: &mut Cache, input: &Input<'_>) -> Option<Match>
         requires { Fits self.now cache.old }
-        ensures value { result ≡ option_map match_value (answer_in self.now input.now) }
-        ensures any { is_some result ≡ is_some (next_match_in self.now.nfa input.now) }
+        ensures value { BeginsEachRun self.now.pre self.now.nfa input.now
+            → result ≡ option_map match_value (answer_in self.now input.now) }
+        ensures any { BeginsEachRun self.now.pre self.now.nfa input.now
+            → is_some result ≡ is_some (next_match_in self.now.nfa input.now) }
         ensures patterns { (r : Patterns) → IsNfaOf self.now.nfa r
             → next_match_in self.now.nfa input.now ≡ option_map (told_of r.which_captures) (next_in r input.now) }
-        ensures is_match { (r : Patterns) → IsNfaOf self.now.nfa r
+        ensures is_match { (r : Patterns) → IsNfaOf self.now.nfa r → BeginsEachRun self.now.pre self.now.nfa input.now
             → IfSome result (λ found. IsMatchWith r input.now (λ m. found ≡ match_value m)) }
         ensures within { IfSome result (LiesIn input.now) }
         ensures cache { Fits self.now cache.new }
@@ -115,13 +126,16 @@ impl PikeVM {
         slots: &mut [Option<NonMaxUsize>],
     ) -> Option<PatternID>
         requires { Fits self.now cache.old }
-        ensures value { result ≡ option_map matched_pattern (answer_in self.now input.now) }
-        ensures any { is_some result ≡ is_some (next_match_in self.now.nfa input.now) }
+        ensures value { BeginsEachRun self.now.pre self.now.nfa input.now
+            → result ≡ option_map matched_pattern (answer_in self.now input.now) }
+        ensures any { BeginsEachRun self.now.pre self.now.nfa input.now
+            → is_some result ≡ is_some (next_match_in self.now.nfa input.now) }
         ensures patterns { (r : Patterns) → IsNfaOf self.now.nfa r
             → next_match_in self.now.nfa input.now ≡ option_map (told_of r.which_captures) (next_in r input.now) }
-        ensures is_match { (r : Patterns) → IsNfaOf self.now.nfa r
+        ensures is_match { (r : Patterns) → IsNfaOf self.now.nfa r → BeginsEachRun self.now.pre self.now.nfa input.now
             → IfSome result (λ p. IsMatchWith r input.now (λ m. (p ≡ matched_pattern m) × HasSlots slots.new m)) }
-        ensures slots { IfSome (answer_in self.now input.now) (HasSlots slots.new) }
+        ensures slots { BeginsEachRun self.now.pre self.now.nfa input.now
+            → IfSome (answer_in self.now input.now) (HasSlots slots.new) }
         ensures none { IfNone result (slots.new ≡ replicate (length slots.old) None) }
         ensures slots_within { AreWithin input.now slots.new }
         ensures cache { Fits self.now cache.new }
@@ -141,13 +155,16 @@ impl PikeVM {
         slots: &mut [Option<NonMaxUsize>],
     ) -> Option<Match>
         requires { Fits self.now cache.old }
-        ensures value { result ≡ option_map match_value (answer_in self.now input.now) }
-        ensures any { is_some result ≡ is_some (next_match_in self.now.nfa input.now) }
+        ensures value { BeginsEachRun self.now.pre self.now.nfa input.now
+            → result ≡ option_map match_value (answer_in self.now input.now) }
+        ensures any { BeginsEachRun self.now.pre self.now.nfa input.now
+            → is_some result ≡ is_some (next_match_in self.now.nfa input.now) }
         ensures patterns { (r : Patterns) → IsNfaOf self.now.nfa r
             → next_match_in self.now.nfa input.now ≡ option_map (told_of r.which_captures) (next_in r input.now) }
-        ensures is_match { (r : Patterns) → IsNfaOf self.now.nfa r
+        ensures is_match { (r : Patterns) → IsNfaOf self.now.nfa r → BeginsEachRun self.now.pre self.now.nfa input.now
             → IfSome result (λ found. IsMatchWith r input.now (λ m. (found ≡ match_value m) × HasSlots slots.new m)) }
-        ensures slots { IfSome (answer_in self.now input.now) (HasSlots slots.new) }
+        ensures slots { BeginsEachRun self.now.pre self.now.nfa input.now
+            → IfSome (answer_in self.now input.now) (HasSlots slots.new) }
         ensures none { IfNone result (slots.new ≡ replicate (length slots.old) None) }
         ensures slots_within { AreWithin input.now slots.new }
         ensures within { IfSome result (LiesIn input.now) }

@@ -76,7 +76,7 @@ impl Core {
     {
         let backtrack = backtracker(config, &nfa)?;
         Ok(Core {
-            pikevm: PikeVM::build_from_nfa(nfa, config.get_match_kind()),
+            pikevm: PikeVM::build_from_nfa(nfa, config.get_match_kind(), None),
             backtrack,
             which_captures: config.get_which_captures(),
             info,
@@ -258,7 +258,7 @@ fn backtracker(config: &Config, nfa: &NFA) -> Result<Option<BoundedBacktracker>,
     if !config.has_backtracker() {
         return Ok(None);
     }
-    Ok(Some(BoundedBacktracker::build_from_nfa(nfa.clone()?)))
+    Ok(Some(BoundedBacktracker::build_from_nfa(nfa.clone()?, None)))
 }
 
 /// What is accounted for the backtracker's cache, where there is one.

@@ -3,73 +3,73 @@ use Rattle.std.specs.Prelude.{option_map, IfSome}
 use Rattle.rx_search.specs.Matches.{match_value}
 use Rattle.rx_search.specs.Told.{HasSlots}
 use Rattle.rx_search.specs.Input.{span_len}
-use Rattle.rx_engines.specs.Bounded.{max_len}
+use Rattle.rx_engines.specs.Bounded.{BacktrackerValue, max_len}
 use Rattle.rx_engines.proofs.EngineLemmas.{search-inside, next-is}
 use Rattle.rx_engines.proofs.BoundedLemmas.{patterns-met, found-in_span, slots-met, extent-small, extent-fits, frames-fit}
 use Rattle.rx_engines.proofs.SpanLemmas.{empty-within, told-within}
 use Rattle.rx_engines.proofs.backtrack.backtracker.BoundedBacktracker.try_find_slots.Goals as goal
 
 pub returns-then-len-max_haystack_len-clause-patterns : goal.returns-then-len-max_haystack_len-clause-patterns
-returns-then-len-max_haystack_len-clause-patterns c = patterns-met c.args.self.now c.args.input.now c.end.ensures.spanned.end
+returns-then-len-max_haystack_len-clause-patterns c = patterns-met c.args.self.now.nfa c.args.input.now c.end.ensures.spanned.end
 
 pub returns-in_default-clause-patterns : goal.returns-in_default-clause-patterns
-returns-in_default-clause-patterns c = patterns-met c.args.self.now c.args.input.now c.end.ensures.spanned.end
+returns-in_default-clause-patterns c = patterns-met c.args.self.now.nfa c.args.input.now c.end.ensures.spanned.end
 
 pub returns-clause-patterns : goal.returns-clause-patterns
-returns-clause-patterns c = patterns-met c.args.self.now c.args.input.now c.end.ensures.spanned.end
+returns-clause-patterns c = patterns-met c.args.self.now.nfa c.args.input.now c.end.ensures.spanned.end
 
 -- there is nothing to search
 
 pub returns-in_default-clause-value : goal.returns-in_default-clause-value
-returns-in_default-clause-value c =
-    let same = c.self.view_is in
+returns-in_default-clause-value c begins =
+    let same = ap (λ (e : BacktrackerValue). e.nfa) c.self.view_is in
     sym (ap (option_map match_value) ((rw same at c.in_default.ensures.none) c.args.input.now.end (omega arith)))
 
 pub returns-in_default-clause-slots : goal.returns-in_default-clause-slots
-returns-in_default-clause-slots c =
-    let same = c.self.view_is in
+returns-in_default-clause-slots c begins =
+    let same = ap (λ (e : BacktrackerValue). e.nfa) c.self.view_is in
     subst (λ o. IfSome o (HasSlots c.empty-in_default.new.slots)) (sym ((rw same at c.in_default.ensures.none) c.args.input.now.end (omega arith))) tt
 
 -- the search
 
 pub find-requires-clause-search : goal.find-requires-clause-search
 find-requires-clause-search c =
-    let same = c.self.view_is in
-    search-inside c.args.self.now c.args.input.now c.in-Some.search (rw same at c.in-Some.ensures.some) (rw same at c.of.ensures.in_range) c.of.ensures.spanned.end
+    let same = ap (λ (e : BacktrackerValue). e.nfa) c.self.view_is in
+    search-inside c.args.self.now.nfa c.args.input.now c.in-Some.search (rw same at c.in-Some.ensures.some) (rw same at c.of.ensures.in_range) c.of.ensures.spanned.end
 
 pub find-requires-clause-small : goal.find-requires-clause-small
 find-requires-clause-small c =
-    let same = c.self.view_is in
-    let short : span_len c.args.input.now ≤ max_len c.args.self.now = grind (arith, c.saturating_sub-len.ensures, c.if-len-max_haystack_len.false, c.max_haystack_len.ensures, c.end.ensures.value, c.start.ensures.value) in
-    extent-small c.args.self.now c.args.input.now c.in-Some.search (rw same at c.in-Some.ensures.some) short (rw same at c.of.ensures.in_range.few_states)
+    let same = ap (λ (e : BacktrackerValue). e.nfa) c.self.view_is in
+    let short : span_len c.args.input.now ≤ max_len c.args.self.now.nfa = grind (arith, c.saturating_sub-len.ensures, c.if-len-max_haystack_len.false, c.max_haystack_len.ensures, c.end.ensures.value, c.start.ensures.value) in
+    extent-small c.args.self.now.nfa c.args.input.now c.in-Some.search (rw same at c.in-Some.ensures.some) short (rw same at c.of.ensures.in_range.few_states)
 
 pub find-requires-clause-room : goal.find-requires-clause-room
 find-requires-clause-room c =
-    let same = c.self.view_is in
-    let short : span_len c.args.input.now ≤ max_len c.args.self.now = grind (arith, c.saturating_sub-len.ensures, c.if-len-max_haystack_len.false, c.max_haystack_len.ensures, c.end.ensures.value, c.start.ensures.value) in
-    extent-fits c.args.self.now c.args.input.now c.in-Some.search (rw same at c.in-Some.ensures.some) short c.requires.bits
+    let same = ap (λ (e : BacktrackerValue). e.nfa) c.self.view_is in
+    let short : span_len c.args.input.now ≤ max_len c.args.self.now.nfa = grind (arith, c.saturating_sub-len.ensures, c.if-len-max_haystack_len.false, c.max_haystack_len.ensures, c.end.ensures.value, c.start.ensures.value) in
+    extent-fits c.args.self.now.nfa c.args.input.now c.in-Some.search (rw same at c.in-Some.ensures.some) short c.requires.bits
 
 pub find-requires-clause-frames : goal.find-requires-clause-frames
 find-requires-clause-frames c =
-    let same = c.self.view_is in
-    let short : span_len c.args.input.now ≤ max_len c.args.self.now = grind (arith, c.saturating_sub-len.ensures, c.if-len-max_haystack_len.false, c.max_haystack_len.ensures, c.end.ensures.value, c.start.ensures.value) in
-    frames-fit c.args.self.now c.args.input.now c.in-Some.search (rw same at c.in-Some.ensures.some) short c.requires.stack
+    let same = ap (λ (e : BacktrackerValue). e.nfa) c.self.view_is in
+    let short : span_len c.args.input.now ≤ max_len c.args.self.now.nfa = grind (arith, c.saturating_sub-len.ensures, c.if-len-max_haystack_len.false, c.max_haystack_len.ensures, c.end.ensures.value, c.start.ensures.value) in
+    frames-fit c.args.self.now.nfa c.args.input.now c.in-Some.search (rw same at c.in-Some.ensures.some) short c.requires.stack
 
 pub returns-clause-value : goal.returns-clause-value
-returns-clause-value c =
-    let same = c.self.view_is in
-    c.find.ensures.value ∙ ap (option_map match_value) (next-is c.args.self.now c.args.input.now c.in-Some.search (rw same at c.in-Some.ensures.some))
+returns-clause-value c begins =
+    let same = ap (λ (e : BacktrackerValue). e.nfa) c.self.view_is in
+    c.find.ensures.value ∙ ap (option_map match_value) (next-is c.args.self.now.nfa c.args.input.now c.in-Some.search (rw same at c.in-Some.ensures.some))
 
 pub returns-clause-slots : goal.returns-clause-slots
-returns-clause-slots c =
-    let same = c.self.view_is in
-    let m = next-is c.args.self.now c.args.input.now c.in-Some.search (rw same at c.in-Some.ensures.some) in
-    slots-met c.args.self.now c.args.input.now (rw same at c.of.ensures.in_range) (rw same at c.in-Some.ensures.some).slots _ m c.find.new.slots c.find.ensures.slots
+returns-clause-slots c begins =
+    let same = ap (λ (e : BacktrackerValue). e.nfa) c.self.view_is in
+    let m = next-is c.args.self.now.nfa c.args.input.now c.in-Some.search (rw same at c.in-Some.ensures.some) in
+    slots-met c.args.self.now.nfa c.args.input.now (rw same at c.of.ensures.in_range) (rw same at c.in-Some.ensures.some).slots _ m c.find.new.slots c.find.ensures.slots
 
 pub returns-clause-within : goal.returns-clause-within
 returns-clause-within c =
-    let same = c.self.view_is in
-    found-in_span c.args.self.now c.args.input.now _ (next-is c.args.self.now c.args.input.now c.in-Some.search (rw same at c.in-Some.ensures.some)) c.find.result c.find.ensures.value
+    let same = ap (λ (e : BacktrackerValue). e.nfa) c.self.view_is in
+    found-in_span c.args.self.now.nfa c.args.input.now _ (next-is c.args.self.now.nfa c.args.input.now c.in-Some.search (rw same at c.in-Some.ensures.some)) c.find.result c.find.ensures.value
 
 -- the slots lie in the span
 
@@ -81,8 +81,8 @@ returns-in_default-clause-slots_within c = empty-within c.args.input.now _ c.emp
 
 pub returns-clause-slots_within : goal.returns-clause-slots_within
 returns-clause-slots_within c =
-    let same = c.self.view_is in
-    let m = next-is c.args.self.now c.args.input.now c.in-Some.search (rw same at c.in-Some.ensures.some) in
-    told-within c.args.self.now c.args.self.now.utf8 c.args.input.now c.args.input.now.end (omega arith) _ refl c.find.new.slots
-    (slots-met c.args.self.now c.args.input.now (rw same at c.of.ensures.in_range) (rw same at c.in-Some.ensures.some).slots _ m c.find.new.slots c.find.ensures.slots)
+    let same = ap (λ (e : BacktrackerValue). e.nfa) c.self.view_is in
+    let m = next-is c.args.self.now.nfa c.args.input.now c.in-Some.search (rw same at c.in-Some.ensures.some) in
+    told-within c.args.self.now.nfa c.args.self.now.nfa.utf8 c.args.input.now c.args.input.now.end (omega arith) _ refl c.find.new.slots
+    (slots-met c.args.self.now.nfa c.args.input.now (rw same at c.of.ensures.in_range) (rw same at c.in-Some.ensures.some).slots _ m c.find.new.slots c.find.ensures.slots)
     _ (λ none. rw (c.find.ensures.value ∙ ap (option_map match_value) (m ∙ none)) at c.find.ensures.none)

@@ -16,17 +16,17 @@ returns-clause-patterns c = patterns-agree c.args.self.now c.args.input.now c.of
 -- there is nothing to search
 
 pub returns-in_default-clause-value : goal.returns-in_default-clause-value
-returns-in_default-clause-value c =
+returns-in_default-clause-value c begins =
     let same = ap (λ (e : PikeVMValue). e.nfa) c.self.view_is in
     sym (ap (option_map match_value) (answer_in-none c.args.self.now c.args.input.now (rw same at c.in_default.ensures.none)))
 
 pub returns-in_default-clause-any : goal.returns-in_default-clause-any
-returns-in_default-clause-any c =
+returns-in_default-clause-any c begins =
     let same = ap (λ (e : PikeVMValue). e.nfa) c.self.view_is in
     sym (ap is_some ((rw same at c.in_default.ensures.none) c.args.input.now.end (omega arith)))
 
 pub returns-in_default-clause-slots : goal.returns-in_default-clause-slots
-returns-in_default-clause-slots c =
+returns-in_default-clause-slots c begins =
     let same = ap (λ (e : PikeVMValue). e.nfa) c.self.view_is in
     subst (λ o. IfSome o (HasSlots c.empty.new.slots)) (sym (answer_in-none c.args.self.now c.args.input.now (rw same at c.in_default.ensures.none))) tt
 
@@ -46,23 +46,23 @@ find-requires-clause-room c =
     room-met c.args.self.now.nfa c.args.input.now c.in-Some.search (rw same at c.in-Some.ensures.some) c.args.cache.now c.requires
 
 pub returns-clause-value : goal.returns-clause-value
-returns-clause-value c =
+returns-clause-value c begins =
     let same = ap (λ (e : PikeVMValue). e.nfa) c.self.view_is in
     c.find.ensures.value ∙ ap (option_map match_value) (answer-is c.args.self.now c.args.input.now c.in-Some.search (rw same at c.in-Some.ensures.some) c.get_earliest.ensures)
 
 pub returns-clause-any : goal.returns-clause-any
-returns-clause-any c =
+returns-clause-any c begins =
     let same = ap (λ (e : PikeVMValue). e.nfa) c.self.view_is in
     c.find.ensures.any ∙ ap is_some (next-is c.args.self.now.nfa c.args.input.now c.in-Some.search (rw same at c.in-Some.ensures.some))
 
 pub returns-clause-slots : goal.returns-clause-slots
-returns-clause-slots c =
+returns-clause-slots c begins =
     let same = ap (λ (e : PikeVMValue). e.nfa) c.self.view_is in
     let told = answer-is c.args.self.now c.args.input.now c.in-Some.search (rw same at c.in-Some.ensures.some) c.get_earliest.ensures in
     slots-told c.args.self.now c.args.input.now (rw same at c.of.ensures.in_range) (rw same at c.in-Some.ensures.some).slots _ told c.find.new.slots c.find.ensures.slots
 
 pub returns-clause-is_match : goal.returns-clause-is_match
-returns-clause-is_match c r of =
+returns-clause-is_match c r of begins =
     let same = ap (λ (e : PikeVMValue). e.nfa) c.self.view_is in
     let told = answer-is c.args.self.now c.args.input.now c.in-Some.search (rw same at c.in-Some.ensures.some) c.get_earliest.ensures in
     let slots = slots-told c.args.self.now c.args.input.now (rw same at c.of.ensures.in_range) (rw same at c.in-Some.ensures.some).slots _ told c.find.new.slots c.find.ensures.slots in

@@ -5,7 +5,7 @@ use Rattle.rx_engines.proofs.EngineLemmas.{patterns-agree, search-inside, room-m
 use Rattle.rx_engines.proofs.pikevm.vm.PikeVM.is_match.Goals as goal
 
 pub returns-in_default-clause-value : goal.returns-in_default-clause-value
-returns-in_default-clause-value c =
+returns-in_default-clause-value c begins =
     let same = ap (λ (e : PikeVMValue). e.nfa) c.self.view_is in
     sym (ap is_some ((rw same at c.in_default.ensures.none) c.args.input.now.end (omega arith)))
 
@@ -23,7 +23,7 @@ find-requires-clause-search c =
     search-inside c.args.self.now.nfa c.args.input.now c.in-Some.search (rw same at c.in-Some.ensures.some) (rw same at c.of.ensures.in_range) c.of.ensures.spanned.end
 
 pub returns-clause-value : goal.returns-clause-value
-returns-clause-value c =
+returns-clause-value c begins =
     let same = ap (λ (e : PikeVMValue). e.nfa) c.self.view_is in
     c.is_some.ensures ∙ c.find.ensures.any ∙ ap is_some (next-is c.args.self.now.nfa c.args.input.now c.in-Some.search (rw same at c.in-Some.ensures.some))
 
