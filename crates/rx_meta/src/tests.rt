@@ -174,7 +174,8 @@ fn without_captures(rt: &impl Abort, alloc: Global) -> Regex {
     let mut builder = Builder::new();
     builder.configure(Config::new().which_captures(WhichCaptures::None));
     builder.configure(Config::new().utf8_empty(false));
-    let built = builder.clone().build(alloc, "a");
+    let again = builder.clone().ok().expect(rt, "memory");
+    let built = again.build(alloc, "a");
     built.ok().expect(rt, "a regex")
 }
 

@@ -1,3 +1,4 @@
+pub mod NeedleLemmas
 pub mod AnswerLemmas
 pub mod StrategyLemmas
 pub mod ImpossibleLemmas

@@ -5,11 +5,11 @@
 #![tactic(auto)]
 
 mod cache;
-mod choose;
 mod config;
 mod found;
 mod info;
 mod laws;
+mod prefilter;
 mod strategy;
 
 pub use cache::Cache;

@@ -8,4 +8,4 @@ pub returns-in-Ok-clause-built : goal.returns-in-Ok-clause-built
 returns-in-Ok-clause-built c =
     let with_config : Config → RegexValue = λ k. record { config = k; strategy = c.in-Ok.strategy } in
     built c.args.self.now.config c.args.exprs.now c.in-Ok.strategy c.from_parts.result c.in-Ok.ensures.made c.in-Ok.ensures.allowed
-    (c.from_parts.ensures ∙ ap with_config c.clone.ensures)
+    (c.from_parts.ensures ∙ ap with_config c.in-Ok-in_ok-config.ensures)
