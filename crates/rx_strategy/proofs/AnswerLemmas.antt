@@ -181,6 +181,6 @@ module _ (c : CoreValue) (v : InputValue) where
   }
 
   -- whether there is a match, of the NFA or of its patterns
-  pub core-whether : (there : Bool) → (BeginsEachRun c.pre c.nfa v → there ≡ is_some (next_match_in c.nfa v)) → v.end ≤ length v.haystack
-      → ((r : Patterns) → IsNfaOf c.nfa r → next_match_in c.nfa v ≡ option_map (told_of r.which_captures) (next_in r v)) → TellsWhether (λ r. IsCoreFor c r) v there
-  core-whether there is within patterns r p = is (core-begins within r p.is_for) ∙ ap is_some (patterns r p.is_for.nfa) ∙ is_some-map (told_of r.which_captures) (next_in r v)
+  pub core-whether : (there : Bool) → (BeginsEachRun c.pre c.nfa v → there ≡ is_some (next_match_in c.nfa v)) → v.end ≤ length v.haystack → TellsWhether (λ r. IsCoreFor c r) v there
+  core-whether there is within r p =
+      is (core-begins within r p.is_for) ∙ ap is_some (agree c.nfa v within r p.is_for.nfa) ∙ is_some-map (told_of r.which_captures) (next_in r v)

@@ -91,6 +91,7 @@ was-some f (Some x) some = (x, refl)
 
 -- what begins a part of the span begins the span
 begins-longer : (text : List ℕ) (i j k : ℕ) → j ≤ k → (needles : List (List ℕ)) → OneBegins text i j needles → OneBegins text i k needles
+begins-longer text i j k le [] none = none
 begins-longer text i j k le (needle ∷ needles) (inl here) = inl (here.0, let ends = here.1 in omega arith)
 begins-longer text i j k le (needle ∷ needles) (inr later) = inr (begins-longer text i j k le needles later)
 
@@ -110,7 +111,7 @@ module _ (needles : List (List ℕ)) (nfa : Nfa) (r : Patterns) (v : InputValue)
   patterns-begin told_run is some =
       let x = was-some (told r.which_captures) (first_of_patterns r v.haystack v.end 0 r.expressions i) (ap is_some (sym is) ∙ some) in
       let y = first_of_patterns-some r v.haystack v.end i 0 r.expressions x.0 x.1 in
-      pattern-begins y.0 y.0 y.1 y.2 x.0 y.3
+      pattern-begins (0 + y.0) y.0 y.1 y.2 x.0 y.3
 
   -- and the pattern that is asked for
   named-begins : (p : ℕ) (o : Option Expression) → slice_get r.expressions p ≡ o → is_some (first_from nfa.terminator nfa.states v.haystack v.end (slice_get nfa.starts p) i) ≡ true → OneBegins v.haystack i v.end needles
@@ -141,3 +142,14 @@ pub begins-run : (needles : Option (List (List ℕ))) (nfa : Nfa) (r : Patterns)
     → v.end ≤ length v.haystack → BeginsEachMatch needles r → BeginsEachRun needles nfa v
 begins-run None nfa r v of ordered within begins = tt
 begins-run (Some needles) nfa r v of ordered within begins = λ i low high some. anchor-begins needles nfa r v of ordered within begins i v.anchor some
+
+-- which prefilter the patterns have, by the tests of the choice
+module _ (config : Config) (hs : List Expression) where
+  pub chosen-none : is_always_anchored_start (alternation (expressions hs)) ≡ true → None ≡ prefilter_for config hs
+  chosen-none starts = rw starts refl
+
+  pub chosen-given : (needles : List (List ℕ)) → is_always_anchored_start (alternation (expressions hs)) ≡ false → prefilter_of config ≡ Some needles → Some needles ≡ prefilter_for config hs
+  chosen-given needles starts given = rw (starts, given) refl
+
+  pub chosen-made : is_always_anchored_start (alternation (expressions hs)) ≡ false → prefilter_of config ≡ None → automatic_prefilter config hs ≡ prefilter_for config hs
+  chosen-made starts given = rw (starts, given) refl

@@ -41,69 +41,77 @@ impl Config {
     }
 
     /// Sets which of the matches that begin at one place is reported.
-    pub fn match_kind(mut self, kind: MatchKind) -> Config
+    pub fn match_kind(self, kind: MatchKind) -> Config
         ensures { result ≡ record self { match_kind = Some kind } }
     {
-        self.match_kind = Some(kind);
-        self
+        let mut config = self;
+        config.match_kind = Some(kind);
+        config
     }
 
     /// Sets whether no match may start inside an encoded character.
-    pub fn utf8_empty(mut self, yes: bool) -> Config
+    pub fn utf8_empty(self, yes: bool) -> Config
         ensures { result ≡ record self { utf8_empty = Some yes } }
     {
-        self.utf8_empty = Some(yes);
-        self
+        let mut config = self;
+        config.utf8_empty = Some(yes);
+        config
     }
 
     /// Sets whether a prefilter is made of what each match of the patterns begins with, where none is handed in. It
     /// changes no answer that is promised.
-    pub fn auto_prefilter(mut self, yes: bool) -> Config
+    pub fn auto_prefilter(self, yes: bool) -> Config
         ensures { result ≡ record self { auto_prefilter = Some yes } }
     {
-        self.auto_prefilter = Some(yes);
-        self
+        let mut config = self;
+        config.auto_prefilter = Some(yes);
+        config
     }
 
     /// Sets the prefilter to search with. Each match of the patterns has to begin with one of its needles: where one
     /// does not, no search promises its answer. None: none is handed in.
-    pub fn prefilter(mut self, pre: Option<Prefilter>) -> Config
+    pub fn prefilter(self, pre: Option<Prefilter>) -> Config
         ensures { result ≡ record self { prefilter = Some pre } }
     {
-        self.prefilter = Some(pre);
-        self
+        let mut config = self;
+        config.prefilter = Some(pre);
+        config
     }
 
     /// Sets which groups are told.
-    pub fn which_captures(mut self, which: WhichCaptures) -> Config
+    pub fn which_captures(self, which: WhichCaptures) -> Config
         ensures { result ≡ record self { which_captures = Some which } }
     {
-        self.which_captures = Some(which);
-        self
+        let mut config = self;
+        config.which_captures = Some(which);
+        config
     }
 
     /// Sets the most bytes that the NFA may have, by what is accounted for it. None: there is no limit.
-    pub fn nfa_size_limit(mut self, limit: Option<usize>) -> Config
+    pub fn nfa_size_limit(self, limit: Option<usize>) -> Config
         ensures { result ≡ record self { nfa_size_limit = Some limit } }
     {
-        self.nfa_size_limit = Some(limit);
-        self
+        let mut config = self;
+        config.nfa_size_limit = Some(limit);
+        config
     }
 
     /// Sets the byte that ends a line, for anchors at lines.
-    pub fn line_terminator(mut self, byte: u8) -> Config
+    pub fn line_terminator(self, byte: u8) -> Config
         ensures { result ≡ record self { line_terminator = Some byte } }
     {
-        self.line_terminator = Some(byte);
-        self
+        let mut config = self;
+        config.line_terminator = Some(byte);
+        config
     }
 
     /// Sets whether the bounded backtracker may be used. It changes no answer that is promised.
-    pub fn backtrack(mut self, yes: bool) -> Config
+    pub fn backtrack(self, yes: bool) -> Config
         ensures { result ≡ record self { backtrack = Some yes } }
     {
-        self.backtrack = Some(yes);
-        self
+        let mut config = self;
+        config.backtrack = Some(yes);
+        config
     }
 
     /// Which of the matches that begin at one place is reported; by default the first in order of preference.
@@ -234,7 +242,7 @@ impl Config {
 
 /// The same prefilter, where there is one. It shares the tables.
 pub(crate) fn shared(pre: Option<&Prefilter>) -> Result<Option<Prefilter>, Memory>
-    ensures { IfOk result (λ copy. copy ≡ option_copied pre) }
+    ensures { IfOk result (λ copy. copy ≡ option_copied pre.entry) }
 {
     match pre {
         Some(pre) => Ok(Some(pre.clone()?)),
