@@ -1,10 +1,10 @@
 -- The starts of a bounded search, and what it reports.
-use Rattle.std.proofs.Common.{◌≡◌, ℕ, suc, ◌+◌, ◌-◌, ◌*◌, ◌≤◌, ◌<◌, length, get_or, refl, sym, ◌∙◌, ap, subst, arith}
+use Rattle.std.proofs.Common.{◌≡◌, ℕ, zero, suc, ◌+◌, ◌-◌, ◌*◌, ◌≤◌, ◌<◌, length, get_or, refl, sym, ◌∙◌, ap, subst, arith}
 use Rattle.std.proofs.Math.Nat.{div-le_self}
 use Rattle.std.proofs.lemmas.Nat.{mul-le}
 use Rattle.std.proofs.lemmas.List.{length-replicate}
 use Rattle.std.proofs.lemmas.Bool.Decides.{nat_tests}
-use Rattle.std.specs.Prelude.{max, true, false, Option, Some, None, option_map, IfSome, replicate, nat_lt, if◌then◌else◌, ◌^◌}
+use Rattle.std.specs.Prelude.{max, Bool, true, false, Option, Some, None, option_map, IfSome, replicate, nat_lt, if◌then◌else◌, ◌^◌}
 use Rattle.rx_model.specs.Runs.{Trace, nowhere, first_trace}
 use Rattle.rx_model.specs.Search.{Patterns, told_of, Match, is_permitted, first_start, slot_value}
 use Rattle.rx_model.proofs.lemmas.runs.RunLemmas.{by_test}
@@ -21,7 +21,7 @@ use Rattle.rx_nfa.proofs.lemmas.runs.NextMatchLemmas.{next_match_of-patterns, ne
 use Rattle.rx_engines.specs.Engine.{IsSearchOf}
 use Rattle.rx_engines.specs.Walk.{Slots, Answer, answer, write_all}
 use Rattle.rx_engines.specs.Backtrack.{extent, frames_of_span, returned}
-use Rattle.rx_engines.specs.Search.{graph_for}
+use Rattle.rx_engines.specs.Search.{graph_for, is_offered, may_start}
 use Rattle.rx_engines.specs.Simulation.{frames_of_states}
 use Rattle.rx_engines.specs.Bounded.{max_len}
 use Rattle.rx_engines.specs.declared.search.Search.{Search}
@@ -29,7 +29,7 @@ use Rattle.rx_engines.proofs.SlotLemmas.{slot-of_match, length-write_all}
 
 -- the next match that starts at place i or after it
 abbrev pub next_from : Search → ℕ → Option Match
-next_from s i = first_start (is_permitted s.utf8 s.text.now) (λ j. first_trace (graph_for s) (at s.start j)) (s.last + 1 - i) i
+next_from s i = first_start (may_start s) (λ j. first_trace (graph_for s) (at s.start j)) (s.last + 1 - i) i
 
 module _ (s : Search) (i : ℕ) where
   abbrev here : Option Trace
@@ -38,21 +38,46 @@ module _ (s : Search) (i : ℕ) where
   one_more : i ≤ s.last → s.last + 1 - i ≡ suc (s.last + 1 - (i + 1))
   one_more le = omega arith
 
-  next-here : (t : Trace) → i ≤ s.last → is_permitted s.utf8 s.text.now i ≡ true → here ≡ Some t → next_from s i ≡ Some (record { start = i; trace = t })
+  next-here : (t : Trace) → i ≤ s.last → may_start s i ≡ true → here ≡ Some t → next_from s i ≡ Some (record { start = i; trace = t })
   unfolding first_start
   next-here t le allowed found = rw (one_more le, allowed, found) refl
 
   pub next-none_here : i ≤ s.last → here ≡ None → next_from s (i + 1) ≡ next_from s i
   unfolding first_start
-  next-none_here le none = rw (one_more le, none) (by_test (is_permitted s.utf8 s.text.now i) (λ e. rw e refl) (λ e. rw e refl))
+  next-none_here le none = rw (one_more le, none) (by_test (may_start s i) (λ e. rw e refl) (λ e. rw e refl))
 
-  pub next-not_allowed : i ≤ s.last → is_permitted s.utf8 s.text.now i ≡ false → next_from s (i + 1) ≡ next_from s i
+  pub next-not_allowed : i ≤ s.last → may_start s i ≡ false → next_from s (i + 1) ≡ next_from s i
   unfolding first_start
   next-not_allowed le e = rw (one_more le, e) refl
 
   pub next-over : s.last < i → next_from s i ≡ None
   unfolding first_start
   next-over lt = let e : s.last + 1 - i ≡ 0 = omega arith in rw e refl
+
+-- places that are not offered are passed
+pub next-passed : (s : Search) (n i : ℕ) → ((j : ℕ) → i ≤ j → j < i + n → is_offered s j ≡ false) → next_from s i ≡ next_from s (i + n)
+next-passed s zero i none = let same : i ≡ i + 0 = omega arith in ap (next_from s) same
+next-passed s (suc n) i none =
+    let place : i + 1 + n ≡ i + suc n = omega arith in
+    by_test (nat_lt s.last i)
+    (λ e. next-over s i (grind (arith, nat_tests)) ∙ sym (next-over s (i + suc n) (grind (arith, nat_tests))))
+    (λ e.
+    let here = none i (omega arith) (omega arith) in
+    sym (next-not_allowed s i (grind (arith, nat_tests)) (rw here refl))
+    ∙ next-passed s n (i + 1) (λ j low high. none j (omega arith) (omega arith)) ∙ ap (next_from s) place)
+
+pub next-from_here : (s : Search) (i k : ℕ) (goal : Option Match) → i ≤ k → ((j : ℕ) → i ≤ j → j + 1 ≤ k → is_offered s j ≡ false) → next_from s i ≡ goal → next_from s k ≡ goal
+next-from_here s i k goal le none is =
+    let place : i + (k - i) ≡ k = omega arith in
+    sym (next-passed s (k - i) i (λ j low high. none j low (omega arith)) ∙ ap (next_from s) place) ∙ is
+
+pub next-nowhere : (s : Search) (i : ℕ) (goal : Option Match) → i ≤ s.end → s.last ≤ s.end → ((j : ℕ) → i ≤ j → j ≤ s.end → is_offered s j ≡ false) → next_from s i ≡ goal → goal ≡ None
+next-nowhere s i goal le inside none is =
+    sym (next-from_here s i (s.end + 1) goal (omega arith) (λ j low high. none j low (omega arith)) is) ∙ next-over s (s.end + 1) (omega arith)
+
+-- a thread starts at a place that is offered exactly where a match may begin there
+pub starts-allowed : (s : Search) (i : ℕ) (b : Bool) → is_offered s i ≡ true → is_permitted s.utf8 s.text.now i ≡ b → may_start s i ≡ b
+starts-allowed s i b offered permitted = rw (offered, permitted) refl
 
 -- what an attempt returned
 pub returned-none : (slots slots' : Slots) (o : Option Trace) → returned None slots' ≡ answer slots o → o ≡ None
@@ -81,7 +106,7 @@ pub record Answered (goal : Option Match) (pattern start end : ℕ) (slots : Slo
   pub slots_are : IfSome goal (λ m. (k : ℕ) → k < length slots → get_or slots k None ≡ slot_value m k)
 
 pub match-answered : (s : Search) (i n : ℕ) (r : HalfMatchValue) (slots slots' : Slots) (goal : Option Match)
-    → returned (Some r) slots' ≡ answer slots (first_trace (graph_for s) (at s.start i)) → i ≤ s.last → is_permitted s.utf8 s.text.now i ≡ true → slots ≡ replicate n None
+    → returned (Some r) slots' ≡ answer slots (first_trace (graph_for s) (at s.start i)) → i ≤ s.last → may_start s i ≡ true → slots ≡ replicate n None
     → next_from s i ≡ goal → Answered goal r.pattern i r.offset slots'
 match-answered s i n r slots slots' goal is le allowed empty next =
     let x = returned-some r slots slots' (first_trace (graph_for s) (at s.start i)) is in
@@ -99,20 +124,6 @@ match-answered s i n r slots slots' goal is le allowed empty next =
 module _ (nfa : Nfa) (v : InputValue) where
   pub patterns-met : v.end ≤ length v.haystack → (r : Patterns) → IsNfaOf nfa r → next_match_in nfa v ≡ option_map (told_of r.which_captures) (next_in r v)
   patterns-met within r of = next_match_of-patterns nfa r v.haystack v.end within of.runs nfa.utf8 v.anchor v.start of.utf8
-
-  pub found-in_span : (o : Option Match) → o ≡ next_match_in nfa v → (result : Option MatchValue) → result ≡ option_map match_value o → IfSome result (λ m. (v.start ≤ m.start) × (m.end ≤ v.end))
-  found-in_span None e result is = rw is tt
-  found-in_span (Some m) e result is = let within = next_match_of-within nfa nfa.utf8 v.haystack v.anchor v.end v.start m (sym e) in rw is (within.0, within.2)
-
-  -- a slot that the engine has no room for stays empty
-  pub slots-met : IsInRange nfa → {room : ℕ} → room ≡ nfa.slots → (o : Option Match) → o ≡ next_match_in nfa v → (slots : Slots)
-      → IfSome o (λ m. (k : ℕ) → k < length slots → get_or slots k None ≡ (if nat_lt k room then slot_value m k else None)) → IfSome (next_match_in nfa v) (HasSlots slots)
-  slots-met range {room} wide None e slots told = subst (λ x. IfSome x (HasSlots slots)) e tt
-  slots-met range {room} wide (Some m) e slots told =
-      subst (λ x. IfSome x (HasSlots slots)) e
-      (λ k lt. by_test (nat_lt k room)
-      (λ t. rw t at (told k lt))
-      (λ t. (rw t at (told k lt)) ∙ sym (next_match_of-slot nfa range v.haystack v.end k (grind (arith, nat_tests)) nfa.utf8 v.anchor v.start m (sym e))))
 
 -- the search of a span that is not too long
 module _ (nfa : Nfa) (v : InputValue) (s : Search) (of : IsSearchOf nfa v s) (short : span_len v ≤ max_len nfa) where

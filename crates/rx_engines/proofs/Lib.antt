@@ -10,6 +10,9 @@ pub mod StepLemmas
 pub mod StartLemmas
 pub mod StageLemmas
 pub mod SpanLemmas
+pub mod NeedleLemmas
+pub mod CandidateLemmas
+pub mod StartBytesLemmas
 pub mod EngineLemmas
 pub mod BitLemmas
 pub mod SearchingLemmas

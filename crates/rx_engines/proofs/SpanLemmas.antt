@@ -85,15 +85,3 @@ empty-within v n slots is k place told = none-is-some (sym (ap (λ (s : Slots). 
         by_test (nat_lt k n)
         (λ e. get_or-replicate n k nothing nothing (grind (arith, nat_tests)))
         (λ e. let past : n ≤ k = grind (arith, nat_tests) in get_or_past no_places k nothing (omega arith))
-
--- the slots of what is told up to a place of the span
-pub told-within : (nfa : Nfa) (utf8_empty : Bool) (v : InputValue) (stop : ℕ) → stop ≤ v.end → (o : Option Match) → o ≡ next_match_of nfa utf8_empty v.haystack v.anchor stop v.start
-    → (slots : Slots) → IfSome o (HasSlots slots) → (n : ℕ) → (o ≡ None → slots ≡ replicate n None) → AreWithin v slots
-told-within nfa utf8_empty v stop le None e slots has n none k place told = empty-within v n slots (none refl) k place told
-told-within nfa utf8_empty v stop le (Some m) e slots has n none k place told =
-    by_test (nat_lt k (length slots))
-    (λ lt.
-    let x = next_match_of-places nfa utf8_empty v.haystack v.anchor stop v.start m (sym e) k place (sym (has k (grind (arith, nat_tests))) ∙ told) in
-    let high = x.1 in
-    (x.0, omega arith))
-    (λ past. none-is-some (sym (get_or_past slots k None (grind (arith, nat_tests))) ∙ told))

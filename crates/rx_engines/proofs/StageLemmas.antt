@@ -1,25 +1,26 @@
 -- The stages of a search, for each end that it might have: what the threads at a place and the starts to come
 -- lead to is the next match that ends by there.
-use Rattle.std.proofs.Common.{◌≡◌, ℕ, zero, suc, ◌+◌, ◌-◌, ◌≤◌, ◌<◌, List, [], refl, sym, ◌∙◌, ap, arith, true≢false}
+use Rattle.std.proofs.Common.{◌≡◌, ℕ, zero, suc, ◌+◌, ◌-◌, ◌≤◌, ◌<◌, List, [], ◌∷◌, length, refl, sym, ◌∙◌, ap, subst, arith, true≢false}
 use Rattle.std.specs.Prelude.{Bool, true, false, ◌&&◌, Option, Some, None, option_map, is_some, nat_lt, IfSome}
 use Rattle.std.specs.Option.{option_or}
 use Rattle.std.proofs.lemmas.Bool.Decides.{nat_tests}
 use Rattle.rx_model.specs.Runs.{Passed, nowhere, first_trace}
-use Rattle.rx_model.specs.Search.{Match, is_permitted}
+use Rattle.rx_model.specs.Search.{Match}
 use Rattle.rx_model.proofs.lemmas.runs.RunLemmas.{by_test}
 use Rattle.rx_model.proofs.lemmas.runs.FirstLemmas.{none-is-some, some-is}
 use Rattle.rx_model.proofs.lemmas.runs.RiseLemmas.{found-end}
 use Rattle.rx_search.specs.Matches.{MatchValue}
 use Rattle.rx_nfa.specs.Automaton.{at, forwards, byte_at}
+use Rattle.rx_nfa.specs.Ordered.{passed_at}
 use Rattle.rx_nfa.proofs.lemmas.runs.AutomatonLemmas.{automaton-bounded, automaton-rises, automaton-accepts-within}
 use Rattle.rx_nfa.proofs.lemmas.runs.NextMatchLemmas.{first_start-from}
 use Rattle.rx_engines.specs.Walk.{Slots}
 use Rattle.rx_engines.specs.Threads.{Row}
-use Rattle.rx_engines.specs.Simulation.{Hit, hit_of, best_hit, until, among, later_starts}
-use Rattle.rx_engines.specs.Search.{graph_until, next_until, next_of, first_place, answer_of}
+use Rattle.rx_engines.specs.Simulation.{Hit, hit_of, best_hit, until, among, from_starts, later_starts, MayPass}
+use Rattle.rx_engines.specs.Search.{graph_until, is_offered, may_start, next_until, next_of, first_place, answer_of}
 use Rattle.rx_engines.specs.declared.search.Search.{Search}
 use Rattle.rx_engines.specs.declared.pikevm.step.Accepted.{Accepted}
-use Rattle.rx_engines.proofs.StartLemmas.{over-matched, over-past, over-end, starts-beyond}
+use Rattle.rx_engines.proofs.StartLemmas.{over-matched, over-past, over-end, starts-beyond, starts-skip, none-left}
 
 -- The first place at which a test holds.
 
@@ -81,8 +82,17 @@ found-none (Some f) best best' i better none = none-is-some (sym none ∙ better
 -- a match ends where it began or after it
 until-in_order : (s : Search) (end : ℕ) (m : Match) → next_until s end ≡ Some m → m.start ≤ m.trace.end
 until-in_order s end m h =
-    let x = first_start-from (is_permitted s.utf8 s.text.now) (λ i. first_trace (graph_until s end) (at s.start i)) (s.last + 1 - s.first) s.first m h in
+    let x = first_start-from (may_start s) (λ i. first_trace (graph_until s end) (at s.start i)) (s.last + 1 - s.first) s.first m h in
     (found-end (graph_until s end) (automaton-bounded (forwards s.matcher s.text.now) s.states.now end) (automaton-rises (forwards s.matcher s.text.now) s.states.now end) end (automaton-accepts-within (forwards s.matcher s.text.now) s.states.now end) nowhere (at s.start m.start) m.trace x.1).0
+
+-- and it begins by the end
+pub until-starts : (s : Search) (end : ℕ) (m : Match) → next_until s end ≡ Some m → m.start ≤ end
+until-starts s end m h =
+    let x = first_start-from (may_start s) (λ i. first_trace (graph_until s end) (at s.start i)) (s.last + 1 - s.first) s.first m h in
+    let ends = found-end (graph_until s end) (automaton-bounded (forwards s.matcher s.text.now) s.states.now end) (automaton-rises (forwards s.matcher s.text.now) s.states.now end) end (automaton-accepts-within (forwards s.matcher s.text.now) s.states.now end) nowhere (at s.start m.start) m.trace x.1 in
+    let low = ends.0 in
+    let high = ends.1 in
+    omega arith
 
 module _ (s : Search) (width : ℕ) where
   abbrev pub Stage : (end : ℕ) → Option Hit → (place next : ℕ) → Passed → List Row → List ℕ → Type 0
@@ -99,6 +109,46 @@ module _ (s : Search) (width : ℕ) where
   seed-fits end best i p rows rows' items items' same seeds value =
       (λ j. option_or (among s.states.now (graph_until s end) nowhere i rows' items') (later_starts s end (sym same j) best (i + 1) nowhere))
       ∙ seeds ((λ j. option_or (among s.states.now (graph_until s end) nowhere i rows items) (later_starts s end (same j) best i p)) ∙ value)
+
+  -- places are passed at which none is alive, and none starts
+  pub stage-passed : (end : ℕ) (best : Option MatchValue) (slots : Slots) (items : List ℕ) (rows : List Row) (i k : ℕ) → i ≤ k → {m : Bool} → m ≡ is_some best → {n : ℕ} → n ≡ length items → MayPass s m n i k
+      → Stage end (best_hit best slots) i i (passed_at items i) rows items → Stage end (best_hit best slots) k k (passed_at items k) rows items
+  stage-passed end best slots items rows i k le m_is n_is may value =
+      by_test (nat_lt i k)
+      (λ e.
+      let lt : i < k = grind (arith, nat_tests) in
+      let here = may i (omega arith) lt in
+      passed best items (not-some best (sym m_is ∙ here.0)) (none-left items (sym n_is ∙ here.1)) value)
+      (λ e. let same : i ≡ k = grind (arith, nat_tests) in subst (λ k. Stage end (best_hit best slots) k k (passed_at items k) rows items) same value)
+    where
+      passed : (best : Option MatchValue) (items : List ℕ) → best ≡ None → items ≡ []
+          → Stage end (best_hit best slots) i i (passed_at items i) rows items → Stage end (best_hit best slots) k k (passed_at items k) rows items
+      passed (Some b) items none empty value = none-is-some (sym none)
+      passed None (q ∷ qs) none empty value = absurd (let e = ap length empty in omega arith)
+      passed None [] none empty value =
+          let place : i + (k - i) ≡ k = omega arith in
+          ap (λ m. option_map (hit_of width) m)
+          (sym (starts-skip s end width (passed_at [] i) (k - i) i (λ j low high. (may j low (omega arith)).2)
+          ∙ ap (from_starts s end (passed_at [] i)) place)) ∙ value
+
+  -- and where that leads past the end, there is no match
+  pub stage-passed_over : (end : ℕ) (best : Option MatchValue) (slots : Slots) (items : List ℕ) (rows : List Row) (i k : ℕ) → i < k → end < k → {m : Bool} → m ≡ is_some best → {n : ℕ} → n ≡ length items → MayPass s m n i k
+      → Stage end (best_hit best slots) i i (passed_at items i) rows items → next_until s end ≡ None
+  stage-passed_over end best slots items rows i k lt over m_is n_is may value =
+      let here = may i (omega arith) lt in
+      passed best items (not-some best (sym m_is ∙ here.0)) (none-left items (sym n_is ∙ here.1)) value
+    where
+      passed : (best : Option MatchValue) (items : List ℕ) → best ≡ None → items ≡ []
+          → Stage end (best_hit best slots) i i (passed_at items i) rows items → next_until s end ≡ None
+      passed (Some b) items none empty value = none-is-some (sym none)
+      passed None (q ∷ qs) none empty value = absurd (let e = ap length empty in omega arith)
+      passed None [] none empty value =
+          let place : i + (k - i) ≡ k = omega arith in
+          unmapped (hit_of width) (next_until s end)
+          (sym (sym (ap (option_map (hit_of width))
+          (starts-skip s end width nowhere (k - i) i (λ j low high. (may j low (omega arith)).2)
+          ∙ ap (from_starts s end nowhere) place
+          ∙ starts-beyond s end width k over)) ∙ value))
 
   -- no thread is left, and there is a match
   pub stage-matched : (end : ℕ) (best : Option MatchValue) (slots : Slots) (items : List ℕ) (rows : List Row) (i : ℕ) → items ≡ [] → is_some best ≡ true

@@ -5,7 +5,7 @@ use Rattle.std.proofs.lemmas.List.{length-replicate, get_or_past}
 use Rattle.std.proofs.lemmas.Bool.Decides.{nat_tests}
 use Rattle.std.specs.Option.{option_or}
 use Rattle.rx_model.specs.Runs.{PriorityGraph, Passed, nowhere, Trace, found}
-use Rattle.rx_model.specs.Search.{Match, is_permitted, first_start, slot_value}
+use Rattle.rx_model.specs.Search.{Match, first_start, slot_value}
 use Rattle.rx_model.proofs.lemmas.runs.RunLemmas.{by_test}
 use Rattle.rx_model.proofs.lemmas.runs.FirstLemmas.{none-is-some, some-is, tells}
 use Rattle.rx_model.proofs.lemmas.runs.RiseLemmas.{found-end}
@@ -13,7 +13,7 @@ use Rattle.rx_model.proofs.lemmas.runs.FoundLemmas.{option_map-or}
 use Rattle.rx_search.specs.Matches.{MatchValue, match_value}
 use Rattle.rx_nfa.specs.Automaton.{at, automaton, state_at, forwards}
 use Rattle.rx_engines.specs.Walk.{Slots, answer, pending}
-use Rattle.rx_engines.specs.Search.{graph_until}
+use Rattle.rx_engines.specs.Search.{graph_until, is_offered, may_start}
 use Rattle.rx_nfa.specs.declared.state.State.{State}
 use Rattle.rx_engines.specs.declared.frame.Frame.TheVariants.{Explore}
 use Rattle.rx_nfa.proofs.lemmas.runs.AutomatonLemmas.{automaton-rises, automaton-accepts-within}
@@ -82,13 +82,13 @@ module _ (s : Search) (end width : ℕ) where
   pub later-stable : (best : Option Hit) (i : ℕ) → IsStable g (later best i)
   later-stable best i p x nothing =
       ap (λ m. option_or best (option_map (hit_of width) m))
-      (first_of_starts-stable g (is_permitted s.utf8 s.text.now) s.start (s.last + 1 - i) i p x nothing)
+      (first_of_starts-stable g (may_start s) s.start (s.last + 1 - i) i p x nothing)
 
   -- what was passed before a start doesn't matter
   pub later-forget : (best : Option Hit) (items : List ℕ) (i : ℕ) → later best (i + 1) (passed_at items i) ≡ later best (i + 1) nowhere
   later-forget best items i =
       ap (λ m. option_or best (option_map (hit_of width) m))
-      (first_of_starts-forget g (is_permitted s.utf8 s.text.now) s.start (automaton-rises (forwards s.matcher s.text.now) s.states.now end) items (s.last + 1 - (i + 1)) i)
+      (first_of_starts-forget g (may_start s) s.start (automaton-rises (forwards s.matcher s.text.now) s.states.now end) items (s.last + 1 - (i + 1)) i)
 
   pub starts-over : (p : Passed) (i : ℕ) → s.last < i → starts p i ≡ None
   unfolding first_start
@@ -97,15 +97,27 @@ module _ (s : Search) (end width : ℕ) where
   one-more : (i : ℕ) → i ≤ s.last → s.last + 1 - i ≡ suc (s.last + 1 - (i + 1))
   one-more i le = omega arith
 
-  starts-here : (p : Passed) (i : ℕ) → i ≤ s.last → is_permitted s.utf8 s.text.now i ≡ true → starts p i ≡ option_or (option_map (λ t. record { start = i; trace = t }) (found g p (at s.start i))) (starts p (i + 1))
+  starts-here : (p : Passed) (i : ℕ) → i ≤ s.last → may_start s i ≡ true → starts p i ≡ option_or (option_map (λ t. record { start = i; trace = t }) (found g p (at s.start i))) (starts p (i + 1))
   starts-here p i le allowed =
-      ap (λ n. first_of_starts g (is_permitted s.utf8 s.text.now) s.start n i p) (one-more i le)
-      ∙ first_of_starts-here g (is_permitted s.utf8 s.text.now) s.start (s.last + 1 - (i + 1)) i p allowed
+      ap (λ n. first_of_starts g (may_start s) s.start n i p) (one-more i le)
+      ∙ first_of_starts-here g (may_start s) s.start (s.last + 1 - (i + 1)) i p allowed
 
-  starts-not_here : (p : Passed) (i : ℕ) → i ≤ s.last → is_permitted s.utf8 s.text.now i ≡ false → starts p i ≡ starts p (i + 1)
+  starts-not_here : (p : Passed) (i : ℕ) → i ≤ s.last → may_start s i ≡ false → starts p i ≡ starts p (i + 1)
   starts-not_here p i le forbidden =
-      ap (λ n. first_of_starts g (is_permitted s.utf8 s.text.now) s.start n i p) (one-more i le)
-      ∙ first_of_starts-not_here g (is_permitted s.utf8 s.text.now) s.start (s.last + 1 - (i + 1)) i p forbidden
+      ap (λ n. first_of_starts g (may_start s) s.start n i p) (one-more i le)
+      ∙ first_of_starts-not_here g (may_start s) s.start (s.last + 1 - (i + 1)) i p forbidden
+
+  -- none of the next places is offered as a start
+  pub starts-skip : (p : Passed) (n i : ℕ) → ((j : ℕ) → i ≤ j → j < i + n → is_offered s j ≡ false) → starts p i ≡ starts p (i + n)
+  starts-skip p zero i none = let same : i ≡ i + 0 = omega arith in ap (starts p) same
+  starts-skip p (suc n) i none =
+      let place : i + 1 + n ≡ i + suc n = omega arith in
+      by_test (nat_lt s.last i)
+      (λ e. starts-over p i (grind (arith, nat_tests)) ∙ sym (starts-over p (i + suc n) (grind (arith, nat_tests))))
+      (λ e.
+      let here = none i (omega arith) (omega arith) in
+      starts-not_here p i (grind (arith, nat_tests)) (rw here refl)
+      ∙ starts-skip p n (i + 1) (λ j low high. none j (omega arith) (omega arith)) ∙ ap (starts p) place)
 
   -- nothing starts here: there is a match already,
   pub unseeded-matched : (best front goal : Option Hit) (p p' : Passed) (i : ℕ) → true ≡ is_some best → option_or front (later best i p) ≡ goal → option_or front (later best (i + 1) p') ≡ goal
@@ -116,12 +128,12 @@ module _ (s : Search) (end width : ℕ) where
   unseeded-past best front goal p p' i lt value = rw (starts-over p' (i + 1) (omega arith)) (rw (starts-over p i lt) at value)
 
   -- or none may be here
-  pub unseeded-forbidden : (best front goal : Option Hit) (items : List ℕ) (i : ℕ) → i ≤ s.last → is_permitted s.utf8 s.text.now i ≡ false → option_or front (later best i (passed_at items i)) ≡ goal → option_or front (later best (i + 1) nowhere) ≡ goal
+  pub unseeded-forbidden : (best front goal : Option Hit) (items : List ℕ) (i : ℕ) → i ≤ s.last → may_start s i ≡ false → option_or front (later best i (passed_at items i)) ≡ goal → option_or front (later best (i + 1) nowhere) ≡ goal
   unseeded-forbidden best front goal items i le forbidden value =
       ap (option_or front) (sym (later-forget best items i)) ∙ rw (starts-not_here (passed_at items i) i le forbidden) at value
 
   -- a thread starts here
-  pub seeding : (best goal : Option Hit) (items : List ℕ) (rows : List Row) (i : ℕ) → false ≡ is_some best → i ≤ s.last → is_permitted s.utf8 s.text.now i ≡ true
+  pub seeding : (best goal : Option Hit) (items : List ℕ) (rows : List Row) (i : ℕ) → false ≡ is_some best → i ≤ s.last → may_start s i ≡ true
       → option_or (threads i rows items) (later best i (passed_at items i)) ≡ goal
       → Waits s.states.now g i i (later best (i + 1)) items rows (Explore s.start i ∷ []) (replicate width None) goal
   unfolding pending
@@ -170,7 +182,7 @@ module _ (s : Search) (end width : ℕ) where
 
   -- nothing starts past the end
   pub starts-beyond : (i : ℕ) → end < i → starts nowhere i ≡ None
-  starts-beyond i lt = first_start-none (is_permitted s.utf8 s.text.now) (λ j. found g nowhere (at s.start j)) (s.last + 1 - i) i (λ j le. found-beyond s.matcher s.states.now s.text.now end s.start j (omega arith))
+  starts-beyond i lt = first_start-none (may_start s) (λ j. found g nowhere (at s.start j)) (s.last + 1 - i) i (λ j le. found-beyond s.matcher s.states.now s.text.now end s.start j (omega arith))
 
   -- or the span is over
   pub over-end : (best : Option MatchValue) (slots : Slots) (items : List ℕ) (rows : List Row) (p : Passed) (i : ℕ) (goal : Option Hit) → end < i → s.last < i

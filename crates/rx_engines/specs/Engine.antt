@@ -1,5 +1,5 @@
 -- What an engine is to a contract, and what its searches answer.
-use Rattle.std.specs.Prelude.{◌≡◌, ℕ, ◌-◌, ◌*◌, ◌^◌, ◌≤◌, min, List, length, Option, Some, None, is_some, if◌then◌else◌}
+use Rattle.std.specs.Prelude.{◌≡◌, ℕ, ◌-◌, ◌*◌, ◌^◌, ◌≤◌, min, List, length, Option, Some, None, not, is_some, if◌then◌else◌}
 use Rattle.rx_model.specs.Search.{Match, is_anchored}
 use Rattle.rx_search.specs.Input.{InputValue}
 use Rattle.rx_search.specs.declared.anchored.MatchKind.{MatchKind}
@@ -42,6 +42,7 @@ pub record IsSearchOf (nfa : Nfa) (v : InputValue) (s : Search) : Type 0 where
   pub text : s.text.now ≡ v.haystack
   pub matcher : s.matcher ≡ nfa.terminator
   pub utf8 : s.utf8 ≡ nfa.utf8
+  pub free : s.free ≡ not (is_anchored v.anchor)
   pub first : s.first ≡ v.start
   pub last : s.last ≡ last_start v
   pub end : s.end ≡ v.end

@@ -7,5 +7,7 @@ pub mod Search
 pub mod Room
 pub mod Engine
 pub mod Needles
+pub mod StartBytes
+pub mod Candidates
 pub mod Backtrack
 pub mod Bounded

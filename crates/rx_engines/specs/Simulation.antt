@@ -1,8 +1,8 @@
 -- A simulation by ordered threads: what the threads at a place lead to, and what a step keeps true.
-use Rattle.std.specs.Prelude.{◌≡◌, ℕ, zero, suc, ◌+◌, ◌-◌, ◌≤◌, Bool, true, false, List, [], ◌∷◌, length, replicate, Option, Some, None, option_map}
+use Rattle.std.specs.Prelude.{◌≡◌, ℕ, zero, suc, ◌+◌, ◌-◌, ◌≤◌, ◌<◌, Bool, true, false, List, [], ◌∷◌, length, replicate, Option, Some, None, MatchOption, option_map}
 use Rattle.std.specs.Option.{option_or}
 use Rattle.rx_model.specs.Runs.{Configuration, PriorityGraph, Passed, nowhere, found}
-use Rattle.rx_model.specs.Search.{Match, is_permitted}
+use Rattle.rx_model.specs.Search.{Match}
 use Rattle.rx_model.proofs.lemmas.runs.RunLemmas.{weight}
 use Rattle.rx_search.specs.Matches.{MatchValue}
 use Rattle.rx_nfa.specs.Automaton.{at, automaton, state_at, target_of}
@@ -16,7 +16,7 @@ use Rattle.rx_engines.specs.Threads.{Row, row_at}
 use Rattle.rx_engines.specs.Onward.{onto}
 use Rattle.rx_engines.specs.declared.onward.Onward.{Onward}
 use Rattle.rx_engines.specs.declared.onward.Onward.TheVariants.{Stop, To, Back}
-use Rattle.rx_engines.specs.Search.{graph_until}
+use Rattle.rx_engines.specs.Search.{graph_until, is_offered, may_start}
 use Rattle.rx_engines.specs.declared.search.Search.{Search}
 use Rattle.rx_engines.specs.declared.pikevm.step.Accepted.{Accepted}
 use Rattle.rx_engines.specs.declared.pikevm.threads.Threads.{Threads}
@@ -115,10 +115,18 @@ Stepped (Some r) states g i later items rows slots goal =
 abbrev pub hit_of : ℕ → Match → Hit
 hit_of width m = (m.start, record { pattern = m.trace.pattern; end = m.trace.end; slots = write_all m.trace.writes (replicate width None) })
 
+-- The places from i up to k may be passed: there is no match, no thread is alive, and none starts there.
+abbrev pub MayPass : Search → (matched : Bool) → (threads i k : ℕ) → Type 0
+MayPass s matched threads i k = (j : ℕ) → i ≤ j → j < k → (matched ≡ false) × (threads ≡ 0) × (is_offered s j ≡ false)
+
+-- where a search goes on from place i, up to which places may be passed; it ends where all that are left may be
+abbrev pub GoesOn : Search → (matched : Bool) → (threads i : ℕ) → Option ℕ → Type 0
+GoesOn s matched threads i r = MatchOption r (MayPass s matched threads i (s.end + 1)) (λ k. (i ≤ k) × (k ≤ s.end) × MayPass s matched threads i k)
+
 module _ (s : Search) (end : ℕ) where
   -- the first match that starts at i or after it, past what was passed
   abbrev pub from_starts : Passed → (i : ℕ) → Option Match
-  from_starts p i = first_of_starts (graph_until s end) (is_permitted s.utf8 s.text.now) s.start (s.last + 1 - i) i p
+  from_starts p i = first_of_starts (graph_until s end) (may_start s) s.start (s.last + 1 - i) i p
 
   -- the best match so far, and else the starts to come
   abbrev pub later_starts : (width : ℕ) → Option Hit → (i : ℕ) → Passed → Option Hit

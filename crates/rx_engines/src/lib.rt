@@ -6,6 +6,7 @@
 
 mod accounting;
 pub mod backtrack;
+mod candidates;
 #[cfg(test)]
 mod expressions;
 mod frame;

@@ -6,8 +6,11 @@ ghost use Rattle.rx_search.specs.Look.{kind_of};
 ghost use Rattle.rx_nfa.specs.Nfa.{IsInRange};
 ghost use Rattle.rx_nfa.specs.Automaton.{byte_at, target_of};
 ghost use Rattle.rx_engines.specs.Engine.{IsSearchOf, HasNoMatch};
+ghost use Rattle.rx_engines.specs.Candidates.{IsNext};
+ghost use Rattle.rx_engines.specs.Search.{is_offered, may_start};
 
-use crate::starts::{latest_start, start_state};
+use crate::candidates::Candidates;
+use crate::starts::{is_allowed, latest_start, start_state};
 use rx_nfa::{NFA, State, Transition, matches_byte};
 use rx_search::{Input, Look, LookMatcher, StateID};
 
@@ -22,6 +25,10 @@ pub struct Search<'a> {
     pub matcher: LookMatcher,
     /// No match starts inside an encoded character.
     pub utf8: bool,
+    /// Where matches may begin.
+    pub candidates: &'a Candidates,
+    /// A match may begin at other places than the first one. Where it may not, the candidates are not asked.
+    pub free: bool,
     /// The first place of the span, which is the first at which a match may start.
     pub first: usize,
     /// The place at which a match may start at the latest.
@@ -35,8 +42,13 @@ pub struct Search<'a> {
 impl<'a> Search<'a> {
     /// The search of the input's span for a match of the NFA. There is none where the pattern that the input asks for
     /// is not there, or its span has no place left.
-    pub fn of(nfa: &'a NFA, input: &'a Input<'a>) -> Option<Search<'a>>
+    pub fn of(
+        nfa: &'a NFA,
+        candidates: &'a Candidates,
+        input: &'a Input<'a>,
+    ) -> Option<Search<'a>>
         ensures some { IfSome result (IsSearchOf nfa.now input.now) }
+        ensures known { IfSome result (λ s. s.candidates.now ≡ candidates.now) }
         ensures none { IfNone result (HasNoMatch nfa.now input.now) }
         ensures spanned { IsSpanned input.now }
         ensures in_range { IsInRange nfa.now }
@@ -52,11 +64,45 @@ impl<'a> Search<'a> {
             text,
             matcher: *nfa.look_matcher(),
             utf8: nfa.is_utf8(),
+            candidates,
+            free: !input.get_anchored().is_anchored(),
             first: input.start(),
             last: latest_start(input),
             end: input.end(),
             slots: nfa.slot_len(),
         })
+    }
+
+    /// Whether a thread starts at the place.
+    pub fn may_start(&self, place: usize) -> bool
+        requires { (place ≤ self.now.end) × (self.now.end ≤ length self.now.text.now) }
+        ensures { result ≡ may_start self.now place }
+    {
+        self.is_offered(place) && is_allowed(self.text, self.utf8, place)
+    }
+
+    /// Whether a match may begin at the place, by what is known before the search.
+    fn is_offered(&self, place: usize) -> bool
+        requires { (place ≤ self.now.end) × (self.now.end ≤ length self.now.text.now) }
+        ensures { result ≡ is_offered self.now place }
+    {
+        if self.free {
+            self.candidates.has(self.text, self.end, place)
+        } else {
+            true
+        }
+    }
+
+    /// The first place from here on at which a match may begin, by what is known before the search.
+    pub fn next_start(&self, place: usize) -> Option<usize>
+        requires { (place ≤ self.now.end) × (self.now.end ≤ length self.now.text.now) }
+        ensures { IsNext (is_offered self.now) self.now.end place result }
+    {
+        if self.free {
+            self.candidates.next(self.text, self.end, place)
+        } else {
+            Some(place)
+        }
     }
 
     /// The byte at the place, if it lies before the end.

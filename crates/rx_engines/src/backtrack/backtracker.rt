@@ -12,6 +12,7 @@ ghost use Rattle.rx_engines.specs.Bounded.{max_len, IsRefusal, Fits};
 ghost use Rattle.rx_engines.specs.Needles.{BeginsEachRun};
 
 use crate::backtrack::cache::Cache;
+use crate::candidates::Candidates;
 use crate::room::frames_of_all;
 use crate::search::Search;
 use crate::slots::empty;
@@ -34,7 +35,7 @@ const BITS: usize = 2097152;
 #[derive(Drop)]
 pub struct BoundedBacktracker {
     nfa: NFA,
-    pre: Option<Prefilter>,
+    candidates: Candidates,
     /// The frames that a search may leave on the stack at one place.
     frames: usize,
 }
@@ -43,12 +44,14 @@ impl Model for BoundedBacktracker {
     ghost use Rattle.std.specs.Prelude.{◌≡◌, ◌-◌, ◌^◌, min, length};
     ghost use Rattle.rx_engines.specs.Simulation.{frames_of_states};
     ghost use Rattle.rx_engines.specs.Bounded.{BacktrackerValue};
+    ghost use Rattle.rx_engines.specs.Candidates.{needles_of, AreOf};
 
     ghost Value = { BacktrackerValue };
 
-    ghost view = { λ b. record { nfa = b.nfa; pre = b.pre } };
+    ghost view = { λ b. record { nfa = b.nfa; pre = needles_of b.candidates } };
 
-    ghost invariant = { λ b. b.frames ≡ min (2 ^ 64 - 1) (frames_of_states b.nfa.states (length b.nfa.states)) };
+    ghost invariant = { λ b. (b.frames ≡ min (2 ^ 64 - 1) (frames_of_states b.nfa.states (length b.nfa.states)))
+        × AreOf b.nfa b.candidates };
 }
 
 impl BoundedBacktracker {
@@ -57,7 +60,12 @@ impl BoundedBacktracker {
         ensures { result ≡ record { nfa = nfa; pre = pre } }
     {
         let frames = frames_of_all(nfa.states());
-        BoundedBacktracker { nfa, pre, frames }
+        let candidates = Candidates::of(&nfa, pre);
+        BoundedBacktracker {
+            nfa,
+            candidates,
+            frames,
+        }
     }
 
     /// The NFA.
@@ -155,7 +163,7 @@ impl BoundedBacktracker {
             empty(slots);
             return Err(MatchError::HaystackTooLong { len });
         }
-        let Some(search) = Search::of(&self.nfa, input) else {
+        let Some(search) = Search::of(&self.nfa, &self.candidates, input) else {
             empty(slots);
             return Ok(None);
         };

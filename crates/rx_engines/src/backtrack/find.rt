@@ -32,16 +32,24 @@ pub fn find(
 {
     visited.clear();
     clear(slots);
-    for place in search.first..search.last + 1 {
-        if is_allowed(search.text, search.utf8, place) {
-            if let Some(found) = attempt(search, place, visited, stack, slots) {
+    let mut place = search.first;
+    while place <= search.last {
+        let Some(start) = search.next_start(place) else {
+            return None;
+        };
+        if search.last < start {
+            return None;
+        }
+        if is_allowed(search.text, search.utf8, start) {
+            if let Some(found) = attempt(search, start, visited, stack, slots) {
                 let span = Span {
-                    start: place,
+                    start,
                     end: found.offset(),
                 };
                 return Some(Match::new(found.pattern(), span));
             }
         }
+        place = start + 1;
     }
     None
 }

@@ -10,7 +10,6 @@ use crate::pikevm::threads::Threads;
 use crate::search::Search;
 use crate::slots::{Slot, clear};
 use crate::stack::Stack;
-use crate::starts::is_allowed;
 
 /// Starts a thread here, after the others, unless there is a match already or none may start here.
 pub fn seed(
@@ -22,7 +21,7 @@ pub fn seed(
     slots: &mut [Slot],
 )
     requires search { IsInside search.now }
-    requires place { place ≤ length search.now.text.now }
+    requires place { place ≤ search.now.end }
     requires set { threads.old.set.room ≡ length search.now.states.now }
     requires table { length threads.old.table.items ≡ length search.now.states.now }
     requires width { length slots.old ≡ threads.old.table.width }
@@ -45,7 +44,7 @@ pub fn seed(
     ensures empty { stack.new.items ≡ [] }
     ensures stack { stack.new.room ≡ stack.old.room }
 {
-    if matched || search.last < place || !is_allowed(search.text, search.utf8, place) {
+    if matched || search.last < place || !search.may_start(place) {
         return;
     }
     clear(slots);

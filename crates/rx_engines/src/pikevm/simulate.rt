@@ -1,6 +1,6 @@
 ghost use Rattle.std.specs.Prelude.{◌≡◌, ℕ, ◌+◌, ◌<◌, ◌≤◌, List, [], length, min, nat_lt, if◌then◌else◌, All, Bool, ◌&&◌, is_some, Option, Some, None, IfSome, IfNone, option_map, replicate, slice_index_or};
 ghost use Rattle.std.specs.Option.{option_or};
-ghost use Rattle.rx_engines.specs.Simulation.{frames_of_states, best_hit, hit_of, until, room_of};
+ghost use Rattle.rx_engines.specs.Simulation.{frames_of_states, best_hit, hit_of, until, room_of, GoesOn};
 ghost use Rattle.rx_model.specs.Search.{slot_value};
 ghost use Rattle.rx_search.specs.Matches.{match_value};
 ghost use Rattle.rx_engines.specs.Search.{IsInside, next_of, answer_of};
@@ -97,25 +97,47 @@ fn simulate(
 {
     clear(slots);
     let mut best = None;
-    for place in search.first..search.end + 1 {
-        seed(search, place, best.is_some(), curr, stack, row);
+    let mut place = search.first;
+    while place <= search.end {
+        let matched = best.is_some();
+        let threads = curr.set.len();
+        let Some(here) = goes_on_at(search, place, matched, threads) else {
+            return None;
+        };
+        seed(search, here, matched, curr, stack, row);
         if curr.set.len() == 0 {
-            if best.is_some() {
+            if matched {
                 return best;
             }
-            if search.last <= place {
+            if search.last <= here {
                 return None;
             }
         }
         next.set.clear();
-        let found = step(search, place, curr, next, stack, row, slots);
-        best = better(best, found, place);
+        let found = step(search, here, curr, next, stack, row, slots);
+        best = better(best, found, here);
         if is_enough(earliest, &best) {
             return best;
         }
         mem::swap(curr, next);
+        place = here + 1;
     }
     best
+}
+
+/// Where the search goes on from the place: there, while there is a match or a thread is alive, and else where a match may
+/// begin next. None where there is no such place.
+fn goes_on_at(search: &Search<'_>, place: usize, matched: bool, threads: usize) -> Option<usize>
+    requires { (place ≤ search.now.end) × (search.now.end ≤ length search.now.text.now) }
+    ensures { GoesOn search.now matched threads place result }
+{
+    if matched {
+        return Some(place);
+    }
+    if threads > 0 {
+        return Some(place);
+    }
+    search.next_start(place)
 }
 
 /// Whether the search may stop at the first match that was found, and there is one.

@@ -9,6 +9,7 @@ ghost use Rattle.rx_engines.specs.Simulation.{frames_of_states};
 ghost use Rattle.rx_engines.specs.Needles.{BeginsEachRun};
 ghost use Rattle.rx_engines.specs.Engine.{PikeVMValue, answer_in, Fits, accounted_memory};
 
+use crate::candidates::Candidates;
 use crate::pikevm::cache::Cache;
 use crate::room::frames_of_all;
 use crate::search::Search;
@@ -27,7 +28,7 @@ use std::marker::Model;
 pub struct PikeVM {
     nfa: NFA,
     kind: MatchKind,
-    pre: Option<Prefilter>,
+    candidates: Candidates,
     /// The frames that a search may leave on the stack.
     frames: usize,
 }
@@ -36,12 +37,14 @@ impl Model for PikeVM {
     ghost use Rattle.std.specs.Prelude.{◌≡◌, ◌-◌, ◌^◌, min, length};
     ghost use Rattle.rx_engines.specs.Simulation.{frames_of_states};
     ghost use Rattle.rx_engines.specs.Engine.{PikeVMValue};
+    ghost use Rattle.rx_engines.specs.Candidates.{needles_of, AreOf};
 
     ghost Value = { PikeVMValue };
 
-    ghost view = { λ v. record { nfa = v.nfa; kind = v.kind; pre = v.pre } };
+    ghost view = { λ v. record { nfa = v.nfa; kind = v.kind; pre = needles_of v.candidates } };
 
-    ghost invariant = { λ v. v.frames ≡ min (2 ^ 64 - 1) (frames_of_states v.nfa.states (length v.nfa.states)) };
+    ghost invariant = { λ v. (v.frames ≡ min (2 ^ 64 - 1) (frames_of_states v.nfa.states (length v.nfa.states)))
+        × AreOf v.nfa v.candidates };
 }
 
 impl PikeVM {
@@ -51,10 +54,11 @@ impl PikeVM {
         ensures { result ≡ record { nfa = nfa; kind = kind; pre = pre } }
     {
         let frames = frames_of_all(nfa.states());
+        let candidates = Candidates::of(&nfa, pre);
         PikeVM {
             nfa,
             kind,
-            pre,
+            candidates,
             frames,
         }
     }
@@ -91,7 +95,7 @@ impl PikeVM {
         ensures cache { Fits self.now cache.new }
         ensures memory { cache.new.memory ≡ cache.old.memory }
     {
-        let Some(search) = Search::of(&self.nfa, input) else {
+        let Some(search) = Search::of(&self.nfa, &self.candidates, input) else {
             return false;
         };
         cache.find(&search, true, &mut []).is_some()
@@ -171,7 +175,7 @@ impl PikeVM {
         ensures cache { Fits self.now cache.new }
         ensures memory { cache.new.memory ≡ cache.old.memory }
     {
-        let Some(search) = Search::of(&self.nfa, input) else {
+        let Some(search) = Search::of(&self.nfa, &self.candidates, input) else {
             empty(slots);
             return None;
         };

@@ -1,4 +1,4 @@
-use Rattle.std.proofs.Common.{◌≡◌, ◌≤◌, ◌<◌, ℕ, [], length}
+use Rattle.std.proofs.Common.{◌≡◌, ◌+◌, ◌-◌, ◌≤◌, ◌<◌, ℕ, [], length}
 use Rattle.std.specs.Prelude.{true, None, replicate, IfNone}
 use Rattle.rx_engines.specs.Search.{next_until}
 use Rattle.rx_nfa.specs.Ordered.{passed_at}
@@ -8,6 +8,7 @@ use Rattle.rx_engines.proofs.pikevm.simulate.simulate.Given as goal
 
 abbrev pub invariant-loop-place : goal.invariant-loop-place
 invariant-loop-place l = record {
+  first : l.search.first ≤ l.place;
   value : Stage l.search (length l.fn.slots) l.search.end (best_hit l.best l.slots) l.place l.place (passed_at l.curr.set.items l.place) l.curr.table.items l.curr.set.items;
   values : (e : ℕ) → l.place ≤ e → e ≤ l.search.end
       → Stage l.search (length l.fn.slots) e (best_hit l.best l.slots) l.place l.place (passed_at l.curr.set.items l.place) l.curr.table.items l.curr.set.items;
@@ -27,3 +28,6 @@ invariant-loop-place l = record {
   empty : l.stack.items ≡ [];
   stack_room : l.stack.room ≡ l.fn.stack.room;
 }
+
+abbrev pub decreases-loop-place : goal.decreases-loop-place
+decreases-loop-place l = l.search.end + 1 - l.place

@@ -4,9 +4,10 @@ use Rattle.rx_search.specs.Matches.{match_value}
 use Rattle.rx_search.specs.Told.{HasSlots}
 use Rattle.rx_search.specs.Input.{span_len}
 use Rattle.rx_engines.specs.Bounded.{BacktrackerValue, max_len}
-use Rattle.rx_engines.proofs.EngineLemmas.{search-inside, next-is}
-use Rattle.rx_engines.proofs.BoundedLemmas.{patterns-met, found-in_span, slots-met, extent-small, extent-fits, frames-fit}
-use Rattle.rx_engines.proofs.SpanLemmas.{empty-within, told-within}
+use Rattle.rx_engines.proofs.EngineLemmas.{search-inside, next-is, found-within, found-slots, found-places}
+use Rattle.rx_engines.proofs.CandidateLemmas.{passes-no_run}
+use Rattle.rx_engines.proofs.BoundedLemmas.{patterns-met, extent-small, extent-fits, frames-fit}
+use Rattle.rx_engines.proofs.SpanLemmas.{empty-within}
 use Rattle.rx_engines.proofs.backtrack.backtracker.BoundedBacktracker.try_find_slots.Goals as goal
 
 pub returns-then-len-max_haystack_len-clause-patterns : goal.returns-then-len-max_haystack_len-clause-patterns
@@ -58,18 +59,23 @@ find-requires-clause-frames c =
 pub returns-clause-value : goal.returns-clause-value
 returns-clause-value c begins =
     let same = ap (λ (e : BacktrackerValue). e.nfa) c.self.view_is in
-    c.find.ensures.value ∙ ap (option_map match_value) (next-is c.args.self.now.nfa c.args.input.now c.in-Some.search (rw same at c.in-Some.ensures.some))
+    let of = rw same at c.in-Some.ensures.some in
+    let passes = passes-no_run c.args.self.now.nfa c.args.input.now c.in-Some.search of c.end.ensures.spanned.end c.self.inside.candidates c.in-Some.ensures.known (rw same at c.self.invariant.1) (ap (λ (e : BacktrackerValue). e.pre) c.self.view_is) begins in
+    c.find.ensures.value ∙ ap (option_map match_value) (next-is c.args.self.now.nfa c.args.input.now c.in-Some.search of passes)
 
 pub returns-clause-slots : goal.returns-clause-slots
 returns-clause-slots c begins =
     let same = ap (λ (e : BacktrackerValue). e.nfa) c.self.view_is in
-    let m = next-is c.args.self.now.nfa c.args.input.now c.in-Some.search (rw same at c.in-Some.ensures.some) in
-    slots-met c.args.self.now.nfa c.args.input.now (rw same at c.of.ensures.in_range) (rw same at c.in-Some.ensures.some).slots _ m c.find.new.slots c.find.ensures.slots
+    let of = rw same at c.in-Some.ensures.some in
+    let passes = passes-no_run c.args.self.now.nfa c.args.input.now c.in-Some.search of c.end.ensures.spanned.end c.self.inside.candidates c.in-Some.ensures.known (rw same at c.self.invariant.1) (ap (λ (e : BacktrackerValue). e.pre) c.self.view_is) begins in
+    subst (λ o. IfSome o (HasSlots c.find.new.slots)) (next-is c.args.self.now.nfa c.args.input.now c.in-Some.search of passes)
+    (found-slots c.args.self.now.nfa c.args.input.now c.in-Some.search of (rw same at c.of.ensures.in_range) _ _ refl c.find.new.slots c.find.ensures.slots)
 
 pub returns-clause-within : goal.returns-clause-within
 returns-clause-within c =
     let same = ap (λ (e : BacktrackerValue). e.nfa) c.self.view_is in
-    found-in_span c.args.self.now.nfa c.args.input.now _ (next-is c.args.self.now.nfa c.args.input.now c.in-Some.search (rw same at c.in-Some.ensures.some)) c.find.result c.find.ensures.value
+    let of = rw same at c.in-Some.ensures.some in
+    found-within c.args.self.now.nfa c.args.input.now c.in-Some.search of _ (let end = of.end in omega arith) _ refl c.find.result c.find.ensures.value
 
 -- the slots lie in the span
 
@@ -82,7 +88,7 @@ returns-in_default-clause-slots_within c = empty-within c.args.input.now _ c.emp
 pub returns-clause-slots_within : goal.returns-clause-slots_within
 returns-clause-slots_within c =
     let same = ap (λ (e : BacktrackerValue). e.nfa) c.self.view_is in
-    let m = next-is c.args.self.now.nfa c.args.input.now c.in-Some.search (rw same at c.in-Some.ensures.some) in
-    told-within c.args.self.now.nfa c.args.self.now.nfa.utf8 c.args.input.now c.args.input.now.end (omega arith) _ refl c.find.new.slots
-    (slots-met c.args.self.now.nfa c.args.input.now (rw same at c.of.ensures.in_range) (rw same at c.in-Some.ensures.some).slots _ m c.find.new.slots c.find.ensures.slots)
-    _ (λ none. rw (c.find.ensures.value ∙ ap (option_map match_value) (m ∙ none)) at c.find.ensures.none)
+    let of = rw same at c.in-Some.ensures.some in
+    found-places c.args.self.now.nfa c.args.input.now c.in-Some.search of _ (let end = of.end in omega arith) _ refl c.find.new.slots
+    (found-slots c.args.self.now.nfa c.args.input.now c.in-Some.search of (rw same at c.of.ensures.in_range) _ _ refl c.find.new.slots c.find.ensures.slots)
+    _ (λ none. rw (c.find.ensures.value ∙ ap (option_map match_value) none) at c.find.ensures.none)

@@ -2,6 +2,7 @@ use Rattle.std.proofs.Common.{sym, ◌∙◌, ap, arith}
 use Rattle.std.specs.Prelude.{is_some}
 use Rattle.rx_engines.specs.Engine.{PikeVMValue}
 use Rattle.rx_engines.proofs.EngineLemmas.{patterns-agree, search-inside, room-met, next-is}
+use Rattle.rx_engines.proofs.CandidateLemmas.{passes-no_run}
 use Rattle.rx_engines.proofs.pikevm.vm.PikeVM.is_match.Goals as goal
 
 pub returns-in_default-clause-value : goal.returns-in_default-clause-value
@@ -25,7 +26,9 @@ find-requires-clause-search c =
 pub returns-clause-value : goal.returns-clause-value
 returns-clause-value c begins =
     let same = ap (λ (e : PikeVMValue). e.nfa) c.self.view_is in
-    c.is_some.ensures ∙ c.find.ensures.any ∙ ap is_some (next-is c.args.self.now.nfa c.args.input.now c.in-Some.search (rw same at c.in-Some.ensures.some))
+    let of = rw same at c.in-Some.ensures.some in
+    let passes = passes-no_run c.args.self.now.nfa c.args.input.now c.in-Some.search of c.of.ensures.spanned.end c.self.inside.candidates c.in-Some.ensures.known (rw same at c.self.invariant.1) (ap (λ (e : PikeVMValue). e.pre) c.self.view_is) begins in
+    c.is_some.ensures ∙ c.find.ensures.any ∙ ap is_some (next-is c.args.self.now.nfa c.args.input.now c.in-Some.search of passes)
 
 pub returns-clause-patterns : goal.returns-clause-patterns
 returns-clause-patterns c = patterns-agree c.args.self.now c.args.input.now c.of.ensures.spanned.end
