@@ -4,7 +4,7 @@ use Rattle.std.proofs.Math.Nat.{div-le_self}
 use Rattle.std.proofs.lemmas.Nat.{mul-le}
 use Rattle.std.proofs.lemmas.List.{length-replicate}
 use Rattle.std.proofs.lemmas.Bool.Decides.{nat_tests}
-use Rattle.std.specs.Prelude.{max, Bool, true, false, Option, Some, None, option_map, IfSome, replicate, nat_lt, if◌then◌else◌, ◌^◌}
+use Rattle.std.specs.Prelude.{max, Bool, true, false, Option, Some, None, option_map, IfSome, replicate, nat_lt, ◌^◌}
 use Rattle.rx_model.specs.Runs.{Trace, nowhere, first_trace}
 use Rattle.rx_model.specs.Search.{Patterns, told_of, Match, is_permitted, first_start, slot_value}
 use Rattle.rx_model.proofs.lemmas.runs.RunLemmas.{by_test}
@@ -12,12 +12,11 @@ use Rattle.rx_model.proofs.lemmas.runs.FirstLemmas.{none-is-some, some-is}
 use Rattle.rx_model.proofs.lemmas.runs.RiseLemmas.{found-end}
 use Rattle.rx_search.specs.Input.{InputValue, next_in, span_len}
 use Rattle.rx_search.specs.Matches.{match_value, MatchValue, HalfMatchValue}
-use Rattle.rx_search.specs.Told.{HasSlots}
 use Rattle.rx_nfa.specs.NextMatch.{next_match_in}
 use Rattle.rx_nfa.specs.Automaton.{at, forwards}
-use Rattle.rx_nfa.specs.Nfa.{Nfa, IsInRange, IsNfaOf}
+use Rattle.rx_nfa.specs.Nfa.{Nfa, IsNfaOf}
 use Rattle.rx_nfa.proofs.lemmas.runs.AutomatonLemmas.{automaton-bounded, automaton-rises, automaton-accepts-within}
-use Rattle.rx_nfa.proofs.lemmas.runs.NextMatchLemmas.{next_match_of-patterns, next_match_of-slot, next_match_of-within}
+use Rattle.rx_nfa.proofs.lemmas.runs.NextMatchLemmas.{next_match_of-patterns}
 use Rattle.rx_engines.specs.Engine.{IsSearchOf}
 use Rattle.rx_engines.specs.Walk.{Slots, Answer, answer, write_all}
 use Rattle.rx_engines.specs.Backtrack.{extent, frames_of_span, returned}

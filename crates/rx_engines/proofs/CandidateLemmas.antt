@@ -1,17 +1,15 @@
 -- Where a place is no candidate, no run starts there.
-use Rattle.std.proofs.Common.{◌≡◌, ℕ, ◌+◌, ◌≤◌, ◌<◌, List, [], ◌∷◌, length, take, drop, Option, Some, None, refl, sym, ◌∙◌, ap, subst, inl, inr, arith, true≢false}
+use Rattle.std.proofs.Common.{◌≡◌, ℕ, ◌≤◌, ◌<◌, List, [], ◌∷◌, length, Option, Some, None, refl, sym, ◌∙◌, ap, subst, inl, inr, arith, true≢false}
 use Rattle.std.proofs.lemmas.Bool.Decides.{nat_tests}
-use Rattle.std.specs.Prelude.{Bool, true, false, not, is_some, Contains, nat_lt, nat_le, IsTrue}
-use Rattle.rx_model.specs.Look as model
+use Rattle.std.specs.Prelude.{true, false, not, is_some, Contains, nat_lt}
 use Rattle.rx_model.specs.Runs.{Configuration, PriorityGraph, Passed, nowhere, and_at, IsRun, Trace, trace, first_past, first_trace}
 use Rattle.rx_model.specs.Machine.{is_inside, graph_of}
 use Rattle.rx_model.specs.Search.{Anchor, free, anchored, anchored_to, is_anchored}
-use Rattle.rx_model.specs.Text.{stands_at}
 use Rattle.rx_model.proofs.lemmas.runs.RunLemmas.{by_test}
-use Rattle.rx_model.proofs.lemmas.runs.FirstLemmas.{none-is-some, some-is, found-is_run, run-is_found, tells}
+use Rattle.rx_model.proofs.lemmas.runs.FirstLemmas.{some-is, found-is_run, run-is_found, tells}
 use Rattle.rx_model.proofs.lemmas.runs.RiseLemmas.{mapped-some}
 use Rattle.rx_search.specs.Input.{InputValue}
-use Rattle.rx_nfa.specs.Automaton.{at, automaton, automaton_over, machine, forwards, byte_at, state_at, state_step, read_byte, route, go_on}
+use Rattle.rx_nfa.specs.Automaton.{at, automaton, automaton_over, machine, forwards, state_at, state_step, read_byte}
 use Rattle.rx_nfa.specs.Nfa.{Nfa}
 use Rattle.rx_nfa.specs.NextMatch.{start_of, first_from}
 use Rattle.rx_nfa.specs.declared.state.Transition.{Transition}
@@ -20,9 +18,9 @@ use Rattle.rx_nfa.specs.declared.state.State.TheVariants.{ByteRange, Sparse, Loo
 use Rattle.rx_nfa.proofs.lemmas.runs.AutomatonLemmas.{automaton-bounded, nothing_in}
 use Rattle.rx_engines.specs.StartBytes.{has_byte}
 use Rattle.rx_engines.specs.Candidates.{needles_of, AreOf, is_candidate}
-use Rattle.rx_engines.specs.Needles.{OneBegins, BeginsEachRun}
+use Rattle.rx_engines.specs.Needles.{BeginsEachRun}
 use Rattle.rx_engines.specs.Engine.{IsSearchOf, last_start}
-use Rattle.rx_engines.specs.Search.{graph_until, is_offered, PassesNoRun}
+use Rattle.rx_engines.specs.Search.{graph_until, PassesNoRun}
 use Rattle.rx_engines.specs.declared.candidates.Candidates.{Candidates}
 use Rattle.rx_engines.specs.declared.candidates.Candidates.TheVariants.{Any, Bytes, Needles}
 use Rattle.rx_engines.specs.declared.search.Search.{Search}

@@ -1,6 +1,6 @@
 -- The frames of a closure.
-use Rattle.std.proofs.Common.{◌≡◌, ℕ, ◌+◌, ◌<◌, ◌≤◌, List, [], ◌∷◌, ◌++◌, length, refl, sym, ◌∙◌, ap, subst, arith, true≢false}
-use Rattle.std.specs.Prelude.{map, Bool, true, false, not, Option, Some, None, if◌then◌else◌}
+use Rattle.std.proofs.Common.{◌≡◌, ℕ, ◌<◌, ◌≤◌, List, [], ◌∷◌, ◌++◌, refl, sym, ◌∙◌, ap, subst, arith, true≢false}
+use Rattle.std.specs.Prelude.{Bool, true, false, not, Option, Some, None, if◌then◌else◌}
 use Rattle.rx_nfa.specs.Automaton.{at, automaton}
 use Rattle.rx_engines.specs.Walk.{Slots, AllWithin, explore_all, going_to, Expands}
 use Rattle.rx_engines.specs.Onward.{frames_of, onto}

@@ -1,8 +1,7 @@
--- Needles that begin each match begin each run, and what begins a span lies there.
-use Rattle.std.proofs.Common.{◌≡◌, ◌⊎◌, ℕ, zero, suc, ◌+◌, ◌≤◌, ◌<◌, List, [], ◌∷◌, length, take, drop, map, Option, Some, None, refl, sym, ◌∙◌, ap, inl, inr, arith, get_or, get_or-take, get_or-drop, length-take-le}
+-- A needle that begins a span lies there.
+use Rattle.std.proofs.Common.{◌≡◌, ℕ, ◌+◌, ◌≤◌, List, [], ◌∷◌, length, take, drop, Some, sym, ◌∙◌, ap, inl, inr, arith, get_or, get_or-take, get_or-drop, length-take-le}
 use Rattle.std.proofs.lemmas.List.{get_or_append_left}
-use Rattle.std.proofs.lemmas.Bool.{cases_Bool}
-use Rattle.std.specs.Prelude.{Bool, true, false, is_some}
+use Rattle.std.specs.Prelude.{true, is_some}
 use Rattle.memchr.specs.Find.{OccursAt, occurs_at}
 use Rattle.memchr.proofs.lemmas.MatchLemmas.{occurs_at-true, OccursAt-true}
 use Rattle.rx_model.specs.Text.{stands_at}
@@ -10,23 +9,9 @@ use Rattle.rx_model.proofs.lemmas.runs.RunLemmas.{by_test}
 use Rattle.rx_model.proofs.lemmas.runs.FirstLemmas.{none-is-some}
 use Rattle.rx_search.specs.declared.span.Span.{Span}
 use Rattle.rx_model.proofs.lemmas.meaning.CharLemmas.{stands_at_parts}
-use Rattle.rx_literal.specs.Literals.{Literal, exact, inexact, bytes_of}
-use Rattle.rx_literal.specs.Spans.{Begins, BeginsWith, OneOf}
 use Rattle.rx_prefilter.specs.Needles.{span_at}
 use Rattle.rx_prefilter.proofs.NeedleLemmas.{span_at-nil, span_at-here, span_at-next}
 use Rattle.rx_engines.specs.Needles.{OneBegins}
-
--- a literal that begins the span is a needle that does
-pub with-begins : (text : List ℕ) (i j : ℕ) (ls : List Literal) → OneOf (BeginsWith text i j) ls → OneBegins text i j (map bytes_of ls)
-with-begins text i j [] x = elim x [ ]
-with-begins text i j (l ∷ ls) (inl here) = inl here
-with-begins text i j (l ∷ ls) (inr later) = inr (with-begins text i j ls later)
-
-pub literal-begins : (text : List ℕ) (i j : ℕ) (ls : List Literal) → OneOf (Begins text i j) ls → OneBegins text i j (map bytes_of ls)
-literal-begins text i j [] x = elim x [ ]
-literal-begins text i j (exact s ∷ ls) (inl here) = inl (here.0, let ends = here.1 in omega arith)
-literal-begins text i j (inexact s ∷ ls) (inl here) = inl here
-literal-begins text i j (l ∷ ls) (inr later) = inr (literal-begins text i j ls later)
 
 module _ (text : List ℕ) (end i : ℕ) (within : end ≤ length text) where
   occurs : (needle : List ℕ) → stands_at text i needle ≡ true → i + length needle ≤ end → OccursAt (take end text) needle i

@@ -1,5 +1,5 @@
 -- Sparse sets.
-use Rattle.std.proofs.Common.{◌≡◌, ◌≢◌, ℕ, zero, suc, ◌+◌, ◌-◌, ◌≤◌, ◌<◌, List, [], ◌∷◌, ◌++◌, length, take, refl, sym, ◌∙◌, ap, arith, set, get_or, true≢false, length-append, length-set}
+use Rattle.std.proofs.Common.{◌≡◌, ◌≢◌, ℕ, zero, suc, ◌+◌, ◌-◌, ◌≤◌, ◌<◌, List, [], ◌∷◌, ◌++◌, length, take, refl, sym, ◌∙◌, ap, arith, set, get_or, true≢false, length-append}
 use Rattle.std.proofs.lemmas.List.{get_or-set_same, get_or-set_other, take_more, get_or-take, take_all, length-take, get_or-append_right, get_or_append_left}
 use Rattle.std.proofs.lemmas.Bool.Decides.{nat_tests, Decides-eqb}
 use Rattle.std.specs.Prelude.{true, false, ◌==◌}

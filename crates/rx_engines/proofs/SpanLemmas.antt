@@ -1,15 +1,15 @@
 -- The places that a match leaves in the slots lie within it.
-use Rattle.std.proofs.Common.{◌≡◌, ◌⊎◌, ℕ, ◌≤◌, List, [], ◌∷◌, length, get_or, refl, sym, ◌∙◌, ap, inl, inr, arith}
+use Rattle.std.proofs.Common.{◌≡◌, ◌⊎◌, ℕ, ◌≤◌, List, [], ◌∷◌, length, get_or, sym, ◌∙◌, ap, inl, inr, arith}
 use Rattle.std.proofs.lemmas.Bool.Decides.{nat_tests}
 use Rattle.std.proofs.lemmas.List.{get_or_past, get_or-replicate, length-replicate}
-use Rattle.std.specs.Prelude.{Bool, Option, Some, None, IfSome, replicate, nat_lt, ◌==◌}
+use Rattle.std.specs.Prelude.{Bool, Option, Some, None, replicate, nat_lt, ◌==◌}
 use Rattle.rx_model.specs.Runs.{Configuration, PriorityGraph, Passed, nowhere, and_at, IsRun, IsBounded, NeverFalls, Trace, trace, with_write, last_write, first_past, first_trace}
 use Rattle.rx_model.specs.Search.{Anchor, Match, is_permitted, starts, slot_value}
 use Rattle.rx_model.proofs.lemmas.runs.RunLemmas.{by_test}
 use Rattle.rx_model.proofs.lemmas.runs.FirstLemmas.{found-is_run, none-is-some, some-is, tells}
 use Rattle.rx_model.proofs.lemmas.runs.RiseLemmas.{trace-end, run-rises, mapped-some}
 use Rattle.rx_search.specs.Input.{InputValue}
-use Rattle.rx_search.specs.Told.{HasSlots, AreWithin}
+use Rattle.rx_search.specs.Told.{AreWithin}
 use Rattle.rx_nfa.specs.Automaton.{at, automaton, forwards}
 use Rattle.rx_nfa.specs.Nfa.{Nfa}
 use Rattle.rx_nfa.specs.NextMatch.{start_of, first_from, next_match_of}

@@ -17,7 +17,7 @@ use Rattle.rx_nfa.proofs.lemmas.runs.NextMatchLemmas.{first_start-from}
 use Rattle.rx_engines.specs.Walk.{Slots}
 use Rattle.rx_engines.specs.Threads.{Row}
 use Rattle.rx_engines.specs.Simulation.{Hit, hit_of, best_hit, until, among, from_starts, later_starts, MayPass}
-use Rattle.rx_engines.specs.Search.{graph_until, is_offered, may_start, next_until, next_of, first_place, answer_of}
+use Rattle.rx_engines.specs.Search.{graph_until, may_start, next_until, next_of, first_place, answer_of}
 use Rattle.rx_engines.specs.declared.search.Search.{Search}
 use Rattle.rx_engines.specs.declared.pikevm.step.Accepted.{Accepted}
 use Rattle.rx_engines.proofs.StartLemmas.{over-matched, over-past, over-end, starts-beyond, starts-skip, none-left}

@@ -1,10 +1,10 @@
 -- The bytes that can begin a run.
-use Rattle.std.proofs.Common.{◌≡◌, ◌≢◌, ℕ, zero, suc, ◌+◌, ◌-◌, ◌≤◌, ◌<◌, List, [], ◌∷◌, length, Option, Some, None, refl, sym, ◌∙◌, ap, subst, inl, inr, arith, true≢false, get_or, set, length-set, ⊎_elim}
+use Rattle.std.proofs.Common.{◌≡◌, ℕ, zero, suc, ◌+◌, ◌-◌, ◌<◌, List, [], ◌∷◌, length, Option, Some, None, refl, sym, ◌∙◌, ap, subst, inl, inr, arith, true≢false, get_or, set, ⊎_elim}
 use Rattle.std.proofs.lemmas.Bool.Decides.{nat_tests}
 use Rattle.std.proofs.lemmas.Bool.{cases_eq}
 use Rattle.std.proofs.lemmas.List.{get_or-set_same, get_or-set_other, get_or_default}
-use Rattle.std.specs.Prelude.{Bool, true, false, is_some, Contains, All, IfSome, ⊤, map, nat_lt, nat_le, slice_index, slice_index_or, ◌&&◌, if◌then◌else◌}
-use Rattle.rx_model.specs.Runs.{Configuration, PriorityGraph, Passed, nowhere, and_at, IsRun, Trace, trace, first_past, first_trace}
+use Rattle.std.specs.Prelude.{Bool, true, false, Contains, All, IfSome, ⊤, map, nat_lt, nat_le, slice_index, slice_index_or, ◌&&◌, if◌then◌else◌}
+use Rattle.rx_model.specs.Runs.{Configuration, Passed, nowhere, and_at, IsRun, trace, first_past, first_trace}
 use Rattle.rx_model.specs.Machine.{is_inside, graph_of}
 use Rattle.rx_model.proofs.lemmas.runs.RunLemmas.{by_test}
 use Rattle.rx_model.proofs.lemmas.runs.FirstLemmas.{none-is-some, found-is_run, tells}

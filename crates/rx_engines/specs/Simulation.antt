@@ -11,7 +11,6 @@ use Rattle.rx_engines.specs.Walk.{Slots, Answer, answer, pending, write_all, Exp
 use Rattle.rx_nfa.specs.declared.state.State.{State}
 use Rattle.rx_nfa.specs.declared.state.State.TheVariants.{ByteRange, Sparse, Look, Union, Capture, Fail, Match as Accepts}
 use Rattle.rx_engines.specs.declared.frame.Frame.{Frame}
-use Rattle.rx_engines.specs.declared.frame.Frame.TheVariants.{Explore}
 use Rattle.rx_engines.specs.Threads.{Row, row_at}
 use Rattle.rx_engines.specs.Onward.{onto}
 use Rattle.rx_engines.specs.declared.onward.Onward.{Onward}

@@ -42,11 +42,7 @@ pub struct Search<'a> {
 impl<'a> Search<'a> {
     /// The search of the input's span for a match of the NFA. There is none where the pattern that the input asks for
     /// is not there, or its span has no place left.
-    pub fn of(
-        nfa: &'a NFA,
-        candidates: &'a Candidates,
-        input: &'a Input<'a>,
-    ) -> Option<Search<'a>>
+    pub fn of(nfa: &'a NFA, candidates: &'a Candidates, input: &'a Input<'a>) -> Option<Search<'a>>
         ensures some { IfSome result (IsSearchOf nfa.now input.now) }
         ensures known { IfSome result (λ s. s.candidates.now ≡ candidates.now) }
         ensures none { IfNone result (HasNoMatch nfa.now input.now) }

@@ -1,6 +1,6 @@
-use Rattle.std.proofs.Common.{◌≡◌, ◌≤◌, ◌<◌, ℕ, true, false, Some, None, length, take, arith, sym, ◌∙◌, ap, subst, length-take-le}
+use Rattle.std.proofs.Common.{◌≡◌, length, take, arith, sym, ap, subst, length-take-le}
 use Rattle.std.specs.Prelude.{is_some}
-use Rattle.rx_prefilter.specs.Needles.{span_at, IsFirstSpan}
+use Rattle.rx_prefilter.specs.Needles.{IsFirstSpan}
 use Rattle.rx_prefilter.proofs.FirstLemmas.{first_span-is_first}
 use Rattle.rx_engines.proofs.NeedleLemmas.{span_at-within}
 use Rattle.rx_engines.proofs.candidates.next_needle.Goals as goal

@@ -1,4 +1,4 @@
-use Rattle.std.proofs.Common.{◌≤◌, ◌<◌, ◌+◌, ◌-◌, length, refl, sym, ◌∙◌, ap, arith}
+use Rattle.std.proofs.Common.{◌≤◌, ◌+◌, ◌-◌, length, refl, sym, ◌∙◌, ap, arith}
 use Rattle.std.specs.Prelude.{true, false}
 use Rattle.rx_model.specs.Runs.{found}
 use Rattle.rx_engines.specs.Search.{graph_for, next_of}

@@ -1,4 +1,4 @@
-use Rattle.std.proofs.Common.{◌≡◌, ◌≤◌, ℕ, length, take, drop, arith}
+use Rattle.std.proofs.Common.{◌≡◌, length, take, drop, arith}
 use Rattle.std.proofs.lemmas.List.{length-take, take_at}
 use Rattle.std.specs.Prelude.{min}
 use Rattle.rx_engines.proofs.StartLemmas.{reported-value, reported-slots, reported-none}

@@ -1,4 +1,4 @@
-use Rattle.std.proofs.Common.{◌≡◌, ◌≤◌, ◌<◌, ℕ, true, false, arith, refl, sym, ◌∙◌, nat_lt}
+use Rattle.std.proofs.Common.{◌≡◌, true, arith, refl, sym, nat_lt}
 use Rattle.std.proofs.lemmas.Bool.Decides.{nat_tests}
 use Rattle.rx_model.proofs.lemmas.runs.RunLemmas.{by_test}
 use Rattle.rx_engines.proofs.candidates.start_bytes.StartBytes.next.Goals as goal

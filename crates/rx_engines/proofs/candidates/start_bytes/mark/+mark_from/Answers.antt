@@ -1,4 +1,4 @@
-use Rattle.std.proofs.Common.{◌≡◌, ◌<◌, length, arith, subst, ap}
+use Rattle.std.proofs.Common.{length, arith, subst, ap}
 use Rattle.std.specs.Prelude.{All}
 use Rattle.rx_nfa.specs.declared.state.Transition.{Transition}
 use Rattle.rx_nfa.specs.declared.state.State.TheVariants.{ByteRange, Sparse, Look, Union, Capture, Fail}
@@ -13,19 +13,21 @@ returns-in-ByteRange-clause-marked t c =
 
 pub returns-in-Sparse-clause-marked : goal.returns-in-Sparse-clause-marked
 returns-in-Sparse-clause-marked t c =
-    let is = state-read c.args.states.now c.args.state c.as_usize.result c.index-states-as_usize.result _ c.requires.state c.as_usize.ensures.value c.index-states-as_usize.is c.in-Sparse.is in
-    (omega arith,
-    settled-begins c.args.states.now c.mark_all.new.has c.args.state (Sparse c.in-Sparse.transitions) is
-    (subst (All (λ (t : Transition). HasRange c.mark_all.new.has t.start t.end)) c.as_slice.ensures c.mark_all.ensures.marked))
+    let is = state-read c.args.states.now c.args.state c.as_usize.result c.index-states-as_usize.result _ c.requires.state c.as_usize.ensures.value c.index-states-as_usize.is c.in-Sparse.is in (
+      omega arith,
+      settled-begins c.args.states.now c.mark_all.new.has c.args.state (Sparse c.in-Sparse.transitions) is
+          (subst (All (λ (t : Transition). HasRange c.mark_all.new.has t.start t.end)) c.as_slice.ensures c.mark_all.ensures.marked),
+    )
 
 pub returns-after-loop-k-clause-marked : goal.returns-after-loop-k-clause-marked
 returns-after-loop-k-clause-marked t c =
     let is = state-read c.args.states.now c.args.state c.as_usize.result c.index-states-as_usize.result _ c.requires.state c.as_usize.ensures.value c.index-states-as_usize.is c.in-Union.is in
     let size = ap length c.as_slice-alternates.ensures in
-    let less = c.loop-k.invariant.less in
-    (omega arith,
-    settled-begins c.args.states.now c.loop-k.has c.args.state (Union c.in-Union.alternates) is
-    (subst (All (BeginMarked c.args.states.now c.loop-k.has)) c.as_slice-alternates.ensures (λ k q lt. c.loop-k.invariant.marked k q (omega arith))))
+    let less = c.loop-k.invariant.less in (
+      omega arith,
+      settled-begins c.args.states.now c.loop-k.has c.args.state (Union c.in-Union.alternates) is
+          (subst (All (BeginMarked c.args.states.now c.loop-k.has)) c.as_slice-alternates.ensures (λ k q lt. c.loop-k.invariant.marked k q (omega arith))),
+    )
 
 pub returns-in-Look-clause-marked : goal.returns-in-Look-clause-marked
 returns-in-Look-clause-marked t c =

@@ -1,4 +1,4 @@
-use Rattle.std.proofs.Common.{◌≡◌, ◌<◌, ℕ, get_or}
+use Rattle.std.proofs.Common.{◌<◌, ℕ, get_or}
 use Rattle.rx_engines.specs.StartBytes.{Marks, BeginMarked}
 use Rattle.rx_engines.proofs.candidates.start_bytes.mark.+mark_from.Given as goal
 

@@ -1,4 +1,4 @@
-use Rattle.std.proofs.Common.{◌≡◌, ◌≤◌, ◌<◌, ℕ, true, false, length, get_or, arith, sym, ◌∙◌, subst, nat_lt, length-set, set}
+use Rattle.std.proofs.Common.{◌≡◌, ◌<◌, true, false, length, get_or, arith, ◌∙◌, subst, nat_lt, length-set, set}
 use Rattle.std.proofs.lemmas.Bool.Decides.{nat_tests}
 use Rattle.std.proofs.lemmas.List.{get_or-set_same}
 use Rattle.rx_model.proofs.lemmas.runs.RunLemmas.{by_test}

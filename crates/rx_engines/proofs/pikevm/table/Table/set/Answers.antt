@@ -1,7 +1,7 @@
-use Rattle.std.proofs.Common.{◌≡◌, ◌+◌, ◌*◌, ◌-◌, length, ◌∙◌, ap, arith, rules, ◌<◌, ◌++◌, take, drop, set, length-set}
+use Rattle.std.proofs.Common.{◌≡◌, ◌+◌, ◌*◌, ◌-◌, length, ap, arith, rules, ◌++◌, take, drop, length-set}
 use Rattle.std.proofs.lemmas.Nat.{row_fits}
 use Rattle.std.proofs.lemmas.List.{take_at}
-use Rattle.rx_engines.specs.Threads.{Rows, rows_of}
+use Rattle.rx_engines.specs.Threads.{Rows}
 use Rattle.rx_engines.proofs.TableLemmas.{length-used, used-set, length-row_put}
 use Rattle.rx_engines.proofs.pikevm.table.Table.set.Goals as goal
 
