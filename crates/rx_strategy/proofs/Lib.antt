@@ -4,3 +4,4 @@ pub mod StrategyLemmas
 pub mod ImpossibleLemmas
 pub mod InfoLemmas
 pub mod CacheLemmas
+pub mod CoreLemmas
