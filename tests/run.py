@@ -7,7 +7,7 @@ A table is a text of cases with an empty line between them. A case is made of th
 
     # TEXT            a remark
     $ rxscan WORD..   a run with these words, quoted as for a shell. Several such lines are several runs with the same
-                      input, which end alike; without one there is one run, `rxscan scan`
+                      input, which end alike; without one there are two, `rxscan scan` and `rxscan scan off:p`
     < TEXT            a line of the input
     <= LITERAL * N    bytes of the input, N times, with no newline after them: a string of Python's, as "a\\t\\u00e9", or
                       bytes, as b"\\xff"; N is 1 if left out
@@ -26,6 +26,9 @@ import sys
 
 FOLDER = os.path.dirname(os.path.abspath(__file__))
 SECONDS = 1200
+
+# The runs of a case that names no words: with automatic prefilters and without them.
+WITHOUT_WORDS = [['scan'], ['scan', 'off:p']]
 
 
 class BadTable(Exception):
@@ -132,7 +135,7 @@ def main():
     passed = failed = 0
     try:
         for case in [case for table in tables for case in cases_of(table)]:
-            for words in case.runs or [['scan']]:
+            for words in case.runs or WITHOUT_WORDS:
                 wrong = fault(program, words, case)
                 passed, failed = passed + (not wrong), failed + bool(wrong)
                 if wrong:

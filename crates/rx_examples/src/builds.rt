@@ -1,8 +1,8 @@
 //! Configurations, and patterns that are refused.
 
 use crate::answers::whole;
-use rx_meta::{Builder, Regex};
-use rx_search::Input;
+use rx_meta::{Builder, Prefilter, Regex};
+use rx_search::{Input, MatchKind};
 use rx_syntax::SyntaxErrorKind;
 use std::test::Fail;
 
@@ -19,6 +19,19 @@ fn a_configuration(rt: HostRuntime) -> Result<(), Fail> {
     let regex = builder.build(alloc, "^a$")?;
     let found = regex.find(&rt, alloc, &Input::new(b"x;A;"))?;
     assert_eq!(rt; whole(found), Some((0, 2, 3)));
+    Ok(())
+}
+
+#[test]
+fn a_prefilter(rt: HostRuntime) -> Result<(), Fail> {
+    let alloc = rt.alloc();
+    let needles = [Vec::from_slice(alloc, b"key=")?];
+    let pre = Prefilter::new(alloc, MatchKind::LeftmostFirst, &needles)?;
+    let mut builder = Regex::builder();
+    builder.configure(Regex::config().prefilter(pre));
+    let regex = builder.build(alloc, r"key=\d+|key=on")?;
+    let found = regex.find(&rt, alloc, &Input::new(b"a key=on"))?;
+    assert_eq!(rt; whole(found), Some((0, 2, 8)));
     Ok(())
 }
 

@@ -1,23 +1,26 @@
 -- From what the strategy's maker answers to what a build answers.
-use Rattle.std.proofs.Common.{◌≡◌, ℕ, ◌≤◌, List, length, Ok, refl, sym, ap, ◌∙◌, subst, arith}
+use Rattle.std.proofs.Common.{◌≡◌, ℕ, ◌≤◌, List, length, Option, Ok, refl, sym, ap, ◌∙◌, subst, arith}
 use Rattle.std.proofs.lemmas.List.{take_all}
 use Rattle.std.specs.Prelude.{◌+◌, ◌-◌, ◌*◌, ◌^◌, min, if◌then◌else◌}
 use Rattle.rx_search.specs.Limits.{id_limit}
 use Rattle.rx_model.specs.Expression.{Expression}
-use Rattle.rx_hir.specs.Cost.{state_size}
+use Rattle.rx_hir.specs.Cost.{state_size, nfa_states}
 use Rattle.rx_nfa.specs.Compiled.{AreAllowed as AreAllowedStates, AreFew as AreFewStates, IsRefusal as IsRefusalOfNfa}
 use Rattle.rx_nfa.specs.declared.error.BuildError.{BuildError as NfaError}
 use Rattle.rx_nfa.specs.declared.error.BuildError.TheVariants.{TooManyPatterns as ManyPatterns, TooManyGroups as ManyGroups, TooManyStates as ManyStates, ExceededSizeLimit as ExceededLimit, Memory as NoMemory}
 use Rattle.rx_engines.specs.Engine.{accounted_memory}
+use Rattle.rx_engines.specs.Needles.{BeginsEachMatch}
 use Rattle.rx_reader.specs.declared.config.Config.{Config as Grammar}
 use Rattle.rx_strategy.specs.Config.{utf8_of, compiler_of}
+use Rattle.rx_strategy.specs.Prefilter.{prefilter_for, prefilter_memory}
 use Rattle.rx_strategy.specs.Strategy.{IsMadeOf}
+use Rattle.rx_strategy.proofs.NeedleLemmas.{chosen-begins}
 use Rattle.rx_strategy.specs.declared.config.Config.{Config}
 use Rattle.rx_strategy.specs.declared.strategy.Strategy.{Strategy}
 use Rattle.rx_strategy.specs.declared.strategy.Strategy.TheVariants.{Core}
 use Rattle.rx_syntax.specs.Patterns.{all_read}
 use Rattle.rx_thompson.specs.Error.{error_of as compiler_error_of}
-use Rattle.rx_meta.specs.Build.{AreFew, AreAllowed, engine_memory, IsBuilt, IsBuiltOf, IsRefusal, IsRefused, IsRefusedFor}
+use Rattle.rx_meta.specs.Build.{patterns_for, AreFew, AreAllowed, engine_memory, IsBuilt, IsBuiltOf, IsRefusal, IsRefused, IsRefusedFor}
 use Rattle.rx_meta.specs.Error.{error_of}
 use Rattle.rx_meta.specs.Reading.{reading_of}
 use Rattle.rx_meta.specs.Regex.{RegexValue}
@@ -30,6 +33,10 @@ few-of hs few = record { patterns = few.patterns; slots = few.slots }
 allowed-of : (c : Config) (hs : List Expression) → AreAllowedStates (compiler_of c) hs → AreAllowed c hs
 allowed-of c hs allowed = record { few = few-of hs allowed.few; states = allowed.states; size = allowed.size }
 
+-- a part that was cut at the greatest number of 64 bits cuts no more than the whole
+min-once : (a b c : ℕ) → min (2 ^ 64 - 1) (a + min (2 ^ 64 - 1) (b + c)) ≡ min (2 ^ 64 - 1) (a + b + c)
+min-once a b c = omega arith
+
 pub built : (c : Config) (hs : List Expression) (s : Strategy) (regex : RegexValue) → IsMadeOf c hs s → AreAllowedStates (compiler_of c) hs → regex ≡ record { config = c; strategy = s } → IsBuilt c hs regex
 built c hs (Core core) regex made allowed is =
     let P : RegexValue → Type 0 = IsBuilt c hs in
@@ -38,13 +45,21 @@ built c hs (Core core) regex made allowed is =
     subst P (sym is) (record {
       config = refl;
       kind = made.kind;
-      serves = record { nfa = record { runs = compiled.runs (utf8_of c); utf8 = sym compiled.utf8 }; which_captures = sym made.which_captures };
+      serves = λ given. record {
+        nfa = record { runs = compiled.runs (utf8_of c); utf8 = sym compiled.utf8 };
+        which_captures = sym made.which_captures;
+        ordered = compiled.ordered;
+        needles = subst (λ (pre : Option (List (List ℕ))). BeginsEachMatch pre (patterns_for c hs)) (sym made.pre) (chosen-begins (patterns_for c hs) c given);
+      };
       groups = compiled.groups;
       ordered = compiled.ordered;
       allowed = allowed-of c hs allowed;
-      memory = λ i. 64 * ((compiled.runs (utf8_of c)).patterns i + 1) + state_size * compiled.accounted i;
+      memory =
+          ap (min (2 ^ 64 - 1)) (λ i. 64 * ((compiled.runs (utf8_of c)).patterns i + 1) + min (2 ^ 64 - 1) (prefilter_memory (made.pre i) + state_size * compiled.accounted i))
+          ∙ min-once (64 * (length hs + 1)) (prefilter_memory (prefilter_for c hs)) (state_size * nfa_states hs);
       cache = λ i. min (2 ^ 64 - 1) (one i + (if made.backtracks i then one i else 0));
       properties = made.properties;
+      pre = made.pre;
     })
 
 -- what is refused of an NFA is refused of the regex

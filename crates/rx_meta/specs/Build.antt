@@ -12,9 +12,10 @@ use Rattle.rx_syntax.specs.Patterns.{all_read}
 use Rattle.rx_thompson.specs.declared.error.BuildError.{BuildError as CompilerError}
 use Rattle.rx_thompson.specs.declared.error.BuildError.TheVariants.{Syntax as Refused, TooManyPatterns, TooManyGroups, TooManyStates, ExceededSizeLimit, Memory as NoMemory}
 use Rattle.rx_meta.specs.Cache.{accounted_for}
-use Rattle.rx_meta.specs.Config.{Config, kind_of, utf8_of, terminator_of, captures_of, size_limit_of, has_backtracker}
+use Rattle.rx_meta.specs.Config.{Config, kind_of, utf8_of, prefilter_of, terminator_of, captures_of, size_limit_of, has_backtracker}
+use Rattle.rx_meta.specs.Prefilter.{BeginsEachMatch, prefilter_for, prefilter_memory}
 use Rattle.rx_meta.specs.Reading.{reading_of}
-use Rattle.rx_meta.specs.Regex.{RegexValue, Serves, kind_in, groups_in, properties_in, regex_memory}
+use Rattle.rx_meta.specs.Regex.{RegexValue, Serves, kind_in, groups_in, properties_in, prefilter_in, regex_memory}
 use Rattle.rx_meta.specs.declared.error.BuildError.{BuildError}
 use Rattle.rx_meta.specs.declared.error.BuildError.TheVariants.{Syntax, NFA, Memory}
 
@@ -46,18 +47,21 @@ cache_memory c hs = min (2 ^ 64 - 1) (engine_memory hs + (if has_backtracker c t
 pub record IsBuilt (c : Config) (hs : List Expression) (regex : RegexValue) : Type 0 where
   pub config : regex.config ≡ c
   pub kind : kind_in regex ≡ kind_of c
-  -- it searches for the patterns of these expressions
-  pub serves : Serves regex (patterns_for c hs)
+  -- It searches for the patterns of these expressions. Where a prefilter was handed in, each match of them has to begin
+  -- with one of its needles.
+  pub serves : BeginsEachMatch (prefilter_of c) (patterns_for c hs) → Serves regex (patterns_for c hs)
   pub groups : groups_in regex ≡ pattern_groups hs
   -- the counts of each expression are in order, as the laws on its meaning ask
   pub ordered : (p : ℕ) (h : Expression) → slice_get hs p ≡ Some h → AreOrdered h
   -- no count and no cost passes its limit
   pub allowed : AreAllowed c hs
   -- what is accounted for it, and for its caches
-  pub memory : regex_memory regex ≡ 64 * (length hs + 1) + state_size * nfa_states hs
+  pub memory : regex_memory regex ≡ min (2 ^ 64 - 1) (64 * (length hs + 1) + prefilter_memory (prefilter_for c hs) + state_size * nfa_states hs)
   pub cache : accounted_for regex ≡ cache_memory c hs
   -- its properties are those of the expressions together, so that it is known where no match is possible
   pub properties : AreOf (alternation (expressions hs)) (properties_in regex)
+  -- it searches with the prefilter that these expressions have under the configuration
+  pub pre : prefilter_in regex ≡ prefilter_for c hs
 
 -- Why so many patterns, of which the first ones read as these expressions, pass a limit. Numbers are told up to the
 -- greatest of 64 bits. Neither what the grammar refuses nor want of memory is told so.

@@ -1,4 +1,5 @@
 pub mod Config
+pub mod Prefilter
 pub mod Error
 pub mod Reading
 pub mod Regex

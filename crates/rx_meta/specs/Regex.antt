@@ -1,5 +1,5 @@
 -- What a regex is to a contract. How it searches is its strategy's own: a contract sees it by these definitions alone.
-use Rattle.std.specs.Prelude.{ℕ, ◌+◌, ◌*◌, List, Option}
+use Rattle.std.specs.Prelude.{ℕ, ◌+◌, ◌-◌, ◌*◌, ◌^◌, min, List, Option}
 use Rattle.rx_model.specs.Search.{Patterns, Match}
 use Rattle.rx_search.specs.Input.{InputValue}
 use Rattle.rx_search.specs.declared.anchored.MatchKind.{MatchKind}
@@ -12,7 +12,7 @@ pub record RegexValue : Type 0 where
   pub config : Config
   pub strategy : Strategy
 
--- the regex searches for these patterns
+-- The regex searches for these patterns. Each match of them begins with a needle of its prefilter, if it has one.
 abbrev pub Serves : RegexValue → Patterns → Type 0
 Serves regex r = strategy.IsFor regex.strategy r
 
@@ -35,7 +35,11 @@ pattern_count regex = strategy.pattern_count regex.strategy
 abbrev pub properties_in : RegexValue → Properties
 properties_in regex = strategy.properties_of regex.strategy
 
--- What is accounted for a regex: 64 for the properties of each pattern, 64 for those of all of them, and what is
--- accounted for its strategy.
+-- the needles of its prefilter, if it has one
+abbrev pub prefilter_in : RegexValue → Option (List (List ℕ))
+prefilter_in regex = strategy.prefilter_in regex.strategy
+
+-- What is accounted for a regex, up to the greatest number of 64 bits: 64 for the properties of each pattern, 64 for those
+-- of all of them, and what is accounted for its strategy.
 abbrev pub regex_memory : RegexValue → ℕ
-regex_memory regex = 64 * (pattern_count regex + 1) + strategy.strategy_memory regex.strategy
+regex_memory regex = min (2 ^ 64 - 1) (64 * (pattern_count regex + 1) + strategy.strategy_memory regex.strategy)

@@ -8,8 +8,10 @@ use crate::error::BuildError;
 use crate::reading::read_patterns;
 use crate::regex::Regex;
 use rx_hir::Hir;
+use rx_search::Memory;
 use rx_strategy::{Config, Strategy};
 use std::alloc::Global;
+use std::mem;
 use std::slice;
 
 /// Makes regexes of patterns, under one configuration and one grammar.
@@ -36,7 +38,8 @@ impl Builder {
         ensures config { self.new.config ≡ overwritten self.old.config config }
         ensures syntax { self.new.syntax ≡ self.old.syntax }
     {
-        self.config = self.config.overwrite(&config);
+        let old = mem::replace(&mut self.config, Config::new());
+        self.config = old.overwrite(config);
     }
 
     /// Takes this configuration of the grammar, in place of the one before. A line terminator of it is that of `.`
@@ -86,18 +89,18 @@ impl Builder {
         ensures refused { IfErr result (IsRefused self.now.config exprs.now) }
     {
         match Strategy::new(alloc, &self.config, exprs) {
-            Ok(strategy) => Ok(Regex::from_parts(self.config.clone(), strategy)),
+            Ok(strategy) => Ok(Regex::from_parts(self.config.clone()?, strategy)),
             Err(error) => Err(BuildError::from(rx_thompson::BuildError::from(error))),
         }
     }
 
-    /// The same builder once more.
-    pub fn clone(&self) -> Builder
-        ensures { result ≡ self.now }
+    /// The same builder once more. It shares the prefilter that its configuration sets.
+    pub fn clone(&self) -> Result<Builder, Memory>
+        ensures { IfOk result (λ copy. copy ≡ self.now) }
     {
-        Builder {
-            config: self.config.clone(),
+        Ok(Builder {
+            config: self.config.clone()?,
             syntax: self.syntax,
-        }
+        })
     }
 }

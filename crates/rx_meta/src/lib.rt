@@ -21,6 +21,7 @@ pub use finder::RegexFinder;
 pub use laws::a_search_is_for_its_patterns;
 pub use regex::Regex;
 pub use rx_nfa::WhichCaptures;
+pub use rx_prefilter::{Choice, Prefilter};
 pub use rx_strategy::{Config, impossible_inputs_have_no_match};
 
 #[cfg(test)]

@@ -283,11 +283,12 @@ impl Regex {
     }
 
     /// The bytes that are accounted for the regex: 64 for the properties of each pattern and for those of all of them
-    /// together, and what is accounted for its strategy.
+    /// together, and what is accounted for its prefilter and its NFA; or the greatest `usize` where they are more.
     pub fn memory_usage(&self) -> usize
         ensures { result ≡ regex_memory self.now }
     {
-        PROPERTIES_SIZE * (self.strategy.pattern_len() + 1) + self.strategy.memory_usage()
+        let properties = PROPERTIES_SIZE * (self.strategy.pattern_len() + 1);
+        properties.saturating_add(self.strategy.memory_usage())
     }
 
     /// The groups of each pattern. A group that the configuration leaves out has slots too, which stay empty.

@@ -1,7 +1,12 @@
 ghost use Rattle.rx_meta.specs.Cache.{Fits};
 
-use crate::{BuildError, Builder, Cache, Config, Regex, RegexFinder, WhichCaptures};
-use rx_search::{Anchored, HalfMatch, Input, Match, NonMaxUsize, PatternID, Searcher};
+use crate::{
+    BuildError, Builder, Cache, Config, Prefilter, Regex, RegexFinder, WhichCaptures,
+};
+use rx_hir::Hir;
+use rx_search::{
+    Anchored, HalfMatch, Input, Match, MatchKind, Memory, NonMaxUsize, PatternID, Searcher,
+};
 use rx_syntax::{SyntaxErrorKind, parse};
 use std::alloc::Global;
 use std::process::Abort;
@@ -11,6 +16,13 @@ use std::test::Fail;
 /// The regex of a pattern.
 fn regex_of(rt: &impl Abort, alloc: Global, pattern: &str) -> Regex {
     Regex::new(alloc, pattern).ok().expect(rt, "a regex")
+}
+
+/// The regex of a pattern under this configuration.
+fn configured(rt: &impl Abort, alloc: Global, config: Config, pattern: &str) -> Regex {
+    let mut builder = Builder::new();
+    builder.configure(config);
+    builder.build(alloc, pattern).ok().expect(rt, "a regex")
 }
 
 /// A cache of the regex.
@@ -67,31 +79,87 @@ fn number(found: Option<PatternID>) -> Option<usize> {
     }
 }
 
+/// What the searches of an input tell: the match, the same by another call, its half, its pattern, and what it leaves in
+/// four slots that held places before.
+struct Told {
+    found: Option<(usize, usize, usize)>,
+    again: Option<(usize, usize, usize)>,
+    half: Option<(usize, usize)>,
+    pattern: Option<usize>,
+    span: (Option<usize>, Option<usize>),
+    group: (Option<usize>, Option<usize>),
+}
+
+/// By the calls that make a cache.
+fn told_by<R: Abort + Wait>(rt: &R, alloc: Global, regex: &Regex, input: &Input<'_>) -> Told {
+    let searched = regex.search(rt, alloc, input).ok();
+    let found = regex.find(rt, alloc, input).ok();
+    let ended = regex.search_half(rt, alloc, input).ok();
+    let mut slots = [NonMaxUsize::new(9); 4];
+    let pattern = regex.search_slots(rt, alloc, input, &mut slots).ok();
+    Told {
+        found: whole(searched.expect(rt, "memory")),
+        again: whole(found.expect(rt, "memory")),
+        half: half(ended.expect(rt, "memory")),
+        pattern: number(pattern.expect(rt, "memory")),
+        span: (place(slots[0]), place(slots[1])),
+        group: (place(slots[2]), place(slots[3])),
+    }
+}
+
+/// By the calls that take a cache.
+fn told_with(rt: &impl Abort, regex: &Regex, cache: &mut Cache, input: &Input<'_>) -> Told
+    requires { Fits regex.now cache.old }
+    ensures { Fits regex.now cache.new }
+{
+    let searched = regex.search_with(cache, input).ok();
+    let ended = regex.search_half_with(cache, input).ok();
+    let mut slots = [NonMaxUsize::new(9); 4];
+    let pattern = regex.search_slots_with(cache, input, &mut slots).ok();
+    let mut slots = [NonMaxUsize::new(9); 4];
+    let found = regex.search_match_with(cache, input, &mut slots).ok();
+    Told {
+        found: whole(searched.expect(rt, "memory")),
+        again: whole(found.expect(rt, "memory")),
+        half: half(ended.expect(rt, "memory")),
+        pattern: number(pattern.expect(rt, "memory")),
+        span: (place(slots[0]), place(slots[1])),
+        group: (place(slots[2]), place(slots[3])),
+    }
+}
+
+/// They tell the match of `a(b)?` in `xab`.
+fn is_told(rt: &impl Abort, told: &Told) {
+    assert!(rt; told.found == Some((0, 1, 3)));
+    assert!(rt; told.again == Some((0, 1, 3)));
+    assert!(rt; told.half == Some((0, 3)));
+    assert!(rt; told.pattern == Some(0));
+    assert!(rt; told.span == (Some(1), Some(3)));
+    assert!(rt; told.group == (Some(2), Some(3)));
+}
+
+/// They tell nothing.
+fn is_silent(rt: &impl Abort, told: &Told) {
+    assert!(rt; told.found == None);
+    assert!(rt; told.again == None);
+    assert!(rt; told.half == None);
+    assert!(rt; told.pattern == None);
+    assert!(rt; told.span == (None, None));
+    assert!(rt; told.group == (None, None));
+}
+
+/// Whether there is a match.
+fn matches_in<R: Abort + Wait>(rt: &R, alloc: Global, regex: &Regex, input: &Input<'_>) -> bool {
+    regex.is_match(rt, alloc, input).ok().expect(rt, "memory")
+}
+
 #[test]
 fn each_call_makes_a_cache(rt: HostRuntime) {
     let alloc = rt.alloc();
     let regex = regex_of(&rt, alloc, "a(b)?");
     let input = Input::new(b"xab");
-    assert!(rt; regex.is_match(&rt, alloc, &input) == Ok(true));
-    let found = regex.find(&rt, alloc, &input).ok();
-    assert_eq!(rt; whole(found.expect(&rt, "memory")), Some((0, 1, 3)));
-    let found = regex.search(&rt, alloc, &input).ok();
-    assert_eq!(rt; whole(found.expect(&rt, "memory")), Some((0, 1, 3)));
-    let found = regex.search_half(&rt, alloc, &input).ok();
-    assert_eq!(rt; half(found.expect(&rt, "memory")), Some((0, 3)));
-}
-
-#[test]
-fn a_call_fills_slots(rt: HostRuntime) {
-    let alloc = rt.alloc();
-    let regex = regex_of(&rt, alloc, "a(b)?");
-    let mut slots = [None; 4];
-    let found = regex.search_slots(&rt, alloc, &Input::new(b"xab"), &mut slots);
-    assert_eq!(rt; number(found.ok().expect(&rt, "memory")), Some(0));
-    assert_eq!(rt; place(slots[0]), Some(1));
-    assert_eq!(rt; place(slots[1]), Some(3));
-    assert_eq!(rt; place(slots[2]), Some(2));
-    assert_eq!(rt; place(slots[3]), Some(3));
+    assert!(rt; matches_in(&rt, alloc, &regex, &input));
+    is_told(&rt, &told_by(&rt, alloc, &regex, &input));
 }
 
 #[test]
@@ -99,18 +167,8 @@ fn each_call_takes_a_cache(rt: HostRuntime) {
     let alloc = rt.alloc();
     let regex = regex_of(&rt, alloc, "a(b)?");
     let mut cache = cache_of(&rt, alloc, &regex);
-    let input = Input::new(b"xab");
-    let found = regex.search_with(&mut cache, &input).ok();
-    assert_eq!(rt; whole(found.expect(&rt, "memory")), Some((0, 1, 3)));
-    let found = regex.search_half_with(&mut cache, &input).ok();
-    assert_eq!(rt; half(found.expect(&rt, "memory")), Some((0, 3)));
-    let mut slots = [None; 3];
-    let found = regex.search_slots_with(&mut cache, &input, &mut slots).ok();
-    assert_eq!(rt; number(found.expect(&rt, "memory")), Some(0));
-    assert_eq!(rt; place(slots[2]), Some(2));
-    let found = regex.search_match_with(&mut cache, &input, &mut slots).ok();
-    assert_eq!(rt; whole(found.expect(&rt, "memory")), Some((0, 1, 3)));
-    assert_eq!(rt; place(slots[2]), Some(2));
+    is_told(&rt, &told_with(&rt, &regex, &mut cache, &Input::new(b"xab")));
+    is_silent(&rt, &told_with(&rt, &regex, &mut cache, &Input::new(b"xb")));
 }
 
 #[test]
@@ -122,15 +180,10 @@ fn a_cache_is_reset_for_another_regex(rt: HostRuntime) {
     reset(&rt, alloc, &mut cache, &second);
     let again = cache.clone(alloc).ok().expect(&rt, "a cache");
     assert_eq!(rt; again.memory_usage(), cache.memory_usage());
-    let mut slots = [None; 6];
-    let found = second.search_slots_with(&mut cache, &Input::new(b"xb"), &mut slots);
-    assert_eq!(rt; number(found.ok().expect(&rt, "memory")), Some(0));
-    assert_eq!(rt; place(slots[0]), Some(1));
-    assert_eq!(rt; place(slots[1]), Some(2));
-    assert_eq!(rt; place(slots[2]), Some(1));
-    assert_eq!(rt; place(slots[3]), Some(2));
-    assert_eq!(rt; place(slots[4]), None);
-    assert_eq!(rt; place(slots[5]), None);
+    let told = told_with(&rt, &second, &mut cache, &Input::new(b"xb"));
+    assert!(rt; told.pattern == Some(0));
+    assert!(rt; told.span == (Some(1), Some(2)));
+    assert!(rt; told.group == (Some(1), Some(2)));
 }
 
 #[test]
@@ -174,8 +227,8 @@ fn without_captures(rt: &impl Abort, alloc: Global) -> Regex {
     let mut builder = Builder::new();
     builder.configure(Config::new().which_captures(WhichCaptures::None));
     builder.configure(Config::new().utf8_empty(false));
-    let built = builder.clone().build(alloc, "a");
-    built.ok().expect(rt, "a regex")
+    let again = builder.clone().ok().expect(rt, "memory");
+    again.build(alloc, "a").ok().expect(rt, "a regex")
 }
 
 #[test]
@@ -184,37 +237,19 @@ fn nothing_is_told_without_captures(rt: HostRuntime) {
     let regex = without_captures(&rt, alloc);
     assert!(rt; regex.get_config().get_which_captures() == WhichCaptures::None);
     let input = Input::new(b"a");
-    let found = regex.search(&rt, alloc, &input).ok();
-    assert_eq!(rt; whole(found.expect(&rt, "memory")), None);
-    let found = regex.find(&rt, alloc, &input).ok();
-    assert_eq!(rt; whole(found.expect(&rt, "memory")), None);
-    let found = regex.search_half(&rt, alloc, &input).ok();
-    assert_eq!(rt; half(found.expect(&rt, "memory")), None);
-    let mut slots = [NonMaxUsize::new(9); 2];
-    let found = regex.search_slots(&rt, alloc, &input, &mut slots).ok();
-    assert_eq!(rt; number(found.expect(&rt, "memory")), None);
-    assert_eq!(rt; (place(slots[0]), place(slots[1])), (None, None));
-    assert!(rt; regex.is_match(&rt, alloc, &input) == Ok(true));
+    is_silent(&rt, &told_by(&rt, alloc, &regex, &input));
+    let mut cache = cache_of(&rt, alloc, &regex);
+    is_silent(&rt, &told_with(&rt, &regex, &mut cache, &input));
+    assert!(rt; matches_in(&rt, alloc, &regex, &input));
 }
 
-#[test]
-fn nothing_is_told_without_captures_to_a_cache(rt: HostRuntime) {
-    let alloc = rt.alloc();
-    let regex = without_captures(&rt, alloc);
-    let mut cache = cache_of(&rt, alloc, &regex);
-    let input = Input::new(b"a");
-    let found = regex.search_with(&mut cache, &input).ok();
-    assert_eq!(rt; whole(found.expect(&rt, "memory")), None);
-    let found = regex.search_half_with(&mut cache, &input).ok();
-    assert_eq!(rt; half(found.expect(&rt, "memory")), None);
-    let mut slots = [NonMaxUsize::new(9); 2];
-    let found = regex.search_slots_with(&mut cache, &input, &mut slots).ok();
-    assert_eq!(rt; number(found.expect(&rt, "memory")), None);
-    assert_eq!(rt; (place(slots[0]), place(slots[1])), (None, None));
-    let mut slots = [NonMaxUsize::new(9); 2];
-    let found = regex.search_match_with(&mut cache, &input, &mut slots).ok();
-    assert_eq!(rt; whole(found.expect(&rt, "memory")), None);
-    assert_eq!(rt; (place(slots[0]), place(slots[1])), (None, None));
+/// The next match that the searcher gives.
+fn next<'r>(
+    rt: &impl Abort,
+    searcher: &mut Searcher<'_>,
+    finder: &mut RegexFinder<'r>,
+) -> Option<(usize, usize, usize)> {
+    whole(searcher.advance(finder).ok().expect(rt, "memory"))
 }
 
 #[test]
@@ -224,30 +259,23 @@ fn a_finder_gives_match_after_match(rt: HostRuntime) {
     let mut finder = RegexFinder::new(alloc, &regex).ok().expect(&rt, "memory");
     assert_eq!(rt; finder.regex().pattern_len(), 1);
     let mut searcher = Searcher::new(Input::new(b"abxa"));
-    let found = searcher.advance(&mut finder).ok().expect(&rt, "memory");
-    assert_eq!(rt; whole(found), Some((0, 0, 2)));
+    assert!(rt; next(&rt, &mut searcher, &mut finder) == Some((0, 0, 2)));
     assert_eq!(rt; place_at(finder.slots(), 2), Some(1));
-    let found = searcher.advance(&mut finder).ok().expect(&rt, "memory");
-    assert_eq!(rt; whole(found), Some((0, 3, 4)));
+    assert!(rt; next(&rt, &mut searcher, &mut finder) == Some((0, 3, 4)));
     assert_eq!(rt; place_at(finder.slots(), 2), None);
-    let found = searcher.advance(&mut finder).ok().expect(&rt, "memory");
-    assert_eq!(rt; whole(found), None);
+    assert!(rt; next(&rt, &mut searcher, &mut finder) == None);
 }
 
 #[test]
 fn a_group_that_is_not_told_has_empty_slots(rt: HostRuntime) {
     let alloc = rt.alloc();
-    let mut builder = Builder::new();
-    builder.configure(Config::new().which_captures(WhichCaptures::Implicit));
-    let regex = builder.build(alloc, "a(?P<k>b)").ok();
-    let regex = regex.expect(&rt, "a regex");
+    let config = Config::new().which_captures(WhichCaptures::Implicit);
+    let regex = configured(&rt, alloc, config, "a(?P<k>b)");
     assert_eq!(rt; regex.group_info().to_index(PatternID::ZERO, "k"), Some(1));
     assert_eq!(rt; regex.group_info().slot_len(), 4);
-    let mut slots = [NonMaxUsize::new(9); 4];
-    let found = regex.search_slots(&rt, alloc, &Input::new(b"xab"), &mut slots);
-    assert!(rt; found.ok().expect(&rt, "memory").is_some());
-    assert_eq!(rt; (place(slots[0]), place(slots[1])), (Some(1), Some(3)));
-    assert_eq!(rt; (place(slots[2]), place(slots[3])), (None, None));
+    let told = told_by(&rt, alloc, &regex, &Input::new(b"xab"));
+    assert!(rt; told.span == (Some(1), Some(3)));
+    assert!(rt; told.group == (None, None));
 }
 
 /// Values of this type may go to other threads.
@@ -264,6 +292,17 @@ fn a_regex_crosses_threads(rt: HostRuntime) {
     goes_to_threads(&cache_of(&rt, alloc, &regex));
 }
 
+/// What a search of this input finds.
+fn found_by<R: Abort + Wait>(
+    rt: &R,
+    alloc: Global,
+    regex: &Regex,
+    input: &Input<'_>,
+) -> Option<(usize, usize, usize)> {
+    let found = regex.search(rt, alloc, input).ok();
+    whole(found.expect(rt, "memory"))
+}
+
 /// What the search of `ab` for this one of two patterns finds.
 fn found_of<R: Abort + Wait>(
     rt: &R,
@@ -275,24 +314,29 @@ fn found_of<R: Abort + Wait>(
         .expect(rt, "a regex");
     let pattern = PatternID::new(pattern).expect(rt, "a number of a pattern");
     let input = Input::new(b"ab").anchored(Anchored::Pattern(pattern));
-    let found = regex.search(rt, alloc, &input).ok();
-    whole(found.expect(rt, "memory"))
+    found_by(rt, alloc, &regex, &input)
 }
 
 #[test]
 fn an_anchor_names_a_pattern(rt: HostRuntime) {
     let alloc = rt.alloc();
-    assert_eq!(rt; found_of(&rt, alloc, 0), Some((0, 0, 1)));
-    assert_eq!(rt; found_of(&rt, alloc, 1), Some((1, 0, 2)));
-    assert_eq!(rt; found_of(&rt, alloc, 7), None);
+    assert!(rt; found_of(&rt, alloc, 0) == Some((0, 0, 1)));
+    assert!(rt; found_of(&rt, alloc, 1) == Some((1, 0, 2)));
+    assert!(rt; found_of(&rt, alloc, 7) == None);
+}
+
+/// The expressions `a` and `b`.
+fn a_and_b(rt: &impl Abort, alloc: Global) -> Result<Vec<Hir>, Memory> {
+    let mut exprs = Vec::new(alloc);
+    exprs.push(parse(alloc, "a").ok().expect(rt, "a pattern"))?;
+    exprs.push(parse(alloc, "b").ok().expect(rt, "a pattern"))?;
+    Ok(exprs)
 }
 
 #[test]
-fn a_regex_is_built_of_expressions(rt: HostRuntime) -> Result<(), Fail> {
+fn a_regex_is_built_of_expressions(rt: HostRuntime) {
     let alloc = rt.alloc();
-    let mut exprs = Vec::new(alloc);
-    exprs.push(parse(alloc, "a").ok().expect(&rt, "a pattern"))?;
-    exprs.push(parse(alloc, "b").ok().expect(&rt, "a pattern"))?;
+    let exprs = a_and_b(&rt, alloc).ok().expect(&rt, "memory");
     let builder = Builder::new();
     let one = builder.build_from_hir(alloc, &exprs[0]);
     let one = one.ok().expect(&rt, "a regex");
@@ -303,14 +347,12 @@ fn a_regex_is_built_of_expressions(rt: HostRuntime) -> Result<(), Fail> {
     // three properties; 4 states, and 1 and 3 of each pattern
     assert_eq!(rt; two.memory_usage(), 64 * 3 + 32 * 12);
     let input = Input::new(b"b");
-    assert!(rt; one.is_match(&rt, alloc, &input) == Ok(false));
-    let found = two.find(&rt, alloc, &input).ok();
-    assert_eq!(rt; whole(found.expect(&rt, "memory")), Some((1, 0, 1)));
-    Ok(())
+    assert!(rt; !matches_in(&rt, alloc, &one, &input));
+    assert!(rt; found_by(&rt, alloc, &two, &input) == Some((1, 0, 1)));
 }
 
 #[test]
-fn a_builder_takes_a_grammar_and_a_line_terminator(rt: HostRuntime) -> Result<(), Fail> {
+fn a_builder_takes_a_grammar_and_a_line_terminator(rt: HostRuntime) {
     let alloc = rt.alloc();
     let mut builder = Builder::new();
     builder.syntax(
@@ -319,12 +361,62 @@ fn a_builder_takes_a_grammar_and_a_line_terminator(rt: HostRuntime) -> Result<()
             .multi_line(true),
     );
     builder.configure(Config::new().line_terminator(b';'));
-    let built = builder.build(alloc, "^a$");
-    let regex = built.ok().expect(&rt, "a regex");
+    let regex = builder.build(alloc, "^a$").ok().expect(&rt, "a regex");
     assert_eq!(rt; regex.get_config().get_line_terminator(), b';');
-    let found = regex.find(&rt, alloc, &Input::new(b"x;A;")).ok();
-    assert_eq!(rt; whole(found.expect(&rt, "memory")), Some((0, 2, 3)));
-    Ok(())
+    let found = found_by(&rt, alloc, &regex, &Input::new(b"x;A;"));
+    assert!(rt; found == Some((0, 2, 3)));
+}
+
+/// A configuration into which a prefilter of this needle is handed.
+fn handing_in(alloc: Global, needle: &[u8]) -> Result<Config, Memory> {
+    let needles = [Vec::from_slice(alloc, needle)?];
+    let pre = Prefilter::new(alloc, MatchKind::LeftmostFirst, &needles)?;
+    Ok(Config::new().prefilter(pre))
+}
+
+/// What the regex of the pattern under this configuration finds in the haystack, and what is accounted for it.
+fn told_under<R: Abort + Wait>(
+    rt: &R,
+    alloc: Global,
+    config: Result<Config, Memory>,
+    pattern: &str,
+    haystack: &[u8],
+) -> (Option<(usize, usize, usize)>, usize) {
+    let config = config.ok().expect(rt, "memory");
+    let regex = configured(rt, alloc, config, pattern);
+    let found = found_by(rt, alloc, &regex, &Input::new(haystack));
+    (found, regex.memory_usage())
+}
+
+#[test]
+fn no_prefilter_changes_an_answer(rt: HostRuntime) {
+    let alloc = rt.alloc();
+    let none = Config::new().auto_prefilter(false);
+    let told = told_under(&rt, alloc, Ok(none), "ab", b"ab");
+    // two properties; 4 states, 2 and 3 of the pattern; and the length of the needle
+    assert!(rt; told == (Some((0, 0, 2)), 128 + 288));
+    let told = told_under(&rt, alloc, Ok(Config::new()), "ab", b"ab");
+    assert!(rt; told == (Some((0, 0, 2)), 128 + 290));
+    let told = told_under(&rt, alloc, handing_in(alloc, b"a"), "ab", b"ab");
+    assert!(rt; told == (Some((0, 0, 2)), 128 + 288));
+}
+
+/// What the regex of `a|ab` under this configuration finds in `ab` and in `b`.
+fn prefers_the_first<R: Abort + Wait>(rt: &R, alloc: Global, config: Config) {
+    let regex = configured(rt, alloc, config, "a|ab");
+    let found = found_by(rt, alloc, &regex, &Input::new(b"ab"));
+    assert!(rt; found == Some((0, 0, 1)));
+    let found = found_by(rt, alloc, &regex, &Input::new(b"b"));
+    assert!(rt; found == None);
+}
+
+#[test]
+fn the_first_alternative_is_preferred(rt: HostRuntime) {
+    let alloc = rt.alloc();
+    prefers_the_first(&rt, alloc, Config::new());
+    prefers_the_first(&rt, alloc, Config::new().auto_prefilter(false));
+    let given = handing_in(alloc, b"a").ok().expect(&rt, "memory");
+    prefers_the_first(&rt, alloc, given);
 }
 
 /// What a search of this input for a pattern finds.
@@ -335,8 +427,7 @@ fn found_in<R: Abort + Wait>(
     input: &Input<'_>,
 ) -> Option<(usize, usize, usize)> {
     let regex = regex_of(rt, alloc, pattern);
-    let found = regex.search(rt, alloc, input).ok();
-    whole(found.expect(rt, "memory"))
+    found_by(rt, alloc, &regex, input)
 }
 
 /// What a search of this input for a pattern leaves in the slots of the whole match, which held places before.
@@ -357,11 +448,11 @@ fn each_match_begins_at_the_start(rt: HostRuntime) {
     let alloc = rt.alloc();
     let whole = Input::new(b"aa");
     let later = Input::new(b"aa").range(1..2);
-    assert_eq!(rt; found_in(&rt, alloc, "^a", &whole), Some((0, 0, 1)));
-    assert_eq!(rt; found_in(&rt, alloc, "^a", &later), None);
-    assert_eq!(rt; found_in(&rt, alloc, "^a|a", &later), Some((0, 1, 2)));
-    assert_eq!(rt; slots_in(&rt, alloc, "^a", &whole), (Some(0), Some(1)));
-    assert_eq!(rt; slots_in(&rt, alloc, "^a", &later), (None, None));
+    assert!(rt; found_in(&rt, alloc, "^a", &whole) == Some((0, 0, 1)));
+    assert!(rt; found_in(&rt, alloc, "^a", &later) == None);
+    assert!(rt; found_in(&rt, alloc, "^a|a", &later) == Some((0, 1, 2)));
+    assert!(rt; slots_in(&rt, alloc, "^a", &whole) == (Some(0), Some(1)));
+    assert!(rt; slots_in(&rt, alloc, "^a", &later) == (None, None));
 }
 
 #[test]
@@ -369,11 +460,11 @@ fn each_match_ends_at_the_end(rt: HostRuntime) {
     let alloc = rt.alloc();
     let whole = Input::new(b"aa");
     let shorter = Input::new(b"aa").range(0..1);
-    assert_eq!(rt; found_in(&rt, alloc, "a$", &whole), Some((0, 1, 2)));
-    assert_eq!(rt; found_in(&rt, alloc, "a$", &shorter), None);
-    assert_eq!(rt; found_in(&rt, alloc, "a$|a", &shorter), Some((0, 0, 1)));
-    assert_eq!(rt; slots_in(&rt, alloc, "a$", &whole), (Some(1), Some(2)));
-    assert_eq!(rt; slots_in(&rt, alloc, "a$", &shorter), (None, None));
+    assert!(rt; found_in(&rt, alloc, "a$", &whole) == Some((0, 1, 2)));
+    assert!(rt; found_in(&rt, alloc, "a$", &shorter) == None);
+    assert!(rt; found_in(&rt, alloc, "a$|a", &shorter) == Some((0, 0, 1)));
+    assert!(rt; slots_in(&rt, alloc, "a$", &whole) == (Some(1), Some(2)));
+    assert!(rt; slots_in(&rt, alloc, "a$", &shorter) == (None, None));
 }
 
 #[test]
@@ -381,10 +472,10 @@ fn each_match_has_a_least_length(rt: HostRuntime) {
     let alloc = rt.alloc();
     let two = Input::new(b"aaa").range(0..2);
     let three = Input::new(b"aaa");
-    assert_eq!(rt; found_in(&rt, alloc, "a{3}", &two), None);
-    assert_eq!(rt; found_in(&rt, alloc, "a{3}", &three), Some((0, 0, 3)));
-    assert_eq!(rt; slots_in(&rt, alloc, "a{3}", &two), (None, None));
-    assert_eq!(rt; slots_in(&rt, alloc, "a{3}", &three), (Some(0), Some(3)));
+    assert!(rt; found_in(&rt, alloc, "a{3}", &two) == None);
+    assert!(rt; found_in(&rt, alloc, "a{3}", &three) == Some((0, 0, 3)));
+    assert!(rt; slots_in(&rt, alloc, "a{3}", &two) == (None, None));
+    assert!(rt; slots_in(&rt, alloc, "a{3}", &three) == (Some(0), Some(3)));
 }
 
 #[test]
@@ -392,16 +483,21 @@ fn each_match_is_the_whole_span(rt: HostRuntime) {
     let alloc = rt.alloc();
     let two = Input::new(b"aa");
     let three = Input::new(b"aaa");
-    assert_eq!(rt; found_in(&rt, alloc, "^a{2}$", &two), Some((0, 0, 2)));
-    assert_eq!(rt; found_in(&rt, alloc, "^a{2}$", &three), None);
-    assert_eq!(rt; slots_in(&rt, alloc, "^a{2}$", &three), (None, None));
+    assert!(rt; found_in(&rt, alloc, "^a{2}$", &two) == Some((0, 0, 2)));
+    assert!(rt; found_in(&rt, alloc, "^a{2}$", &three) == None);
+    assert!(rt; slots_in(&rt, alloc, "^a{2}$", &three) == (None, None));
     // without an anchor the match may begin later
-    assert_eq!(rt; found_in(&rt, alloc, "a{2}$", &three), Some((0, 1, 3)));
+    assert!(rt; found_in(&rt, alloc, "a{2}$", &three) == Some((0, 1, 3)));
+}
+
+#[test]
+fn each_anchored_match_is_the_whole_span(rt: HostRuntime) {
+    let alloc = rt.alloc();
     let two = Input::new(b"aa").anchored(Anchored::Yes);
     let three = Input::new(b"aaa").anchored(Anchored::Yes);
-    assert_eq!(rt; found_in(&rt, alloc, "a{2}$", &two), Some((0, 0, 2)));
-    assert_eq!(rt; found_in(&rt, alloc, "a{2}$", &three), None);
-    assert_eq!(rt; slots_in(&rt, alloc, "a{2}$", &three), (None, None));
+    assert!(rt; found_in(&rt, alloc, "a{2}$", &two) == Some((0, 0, 2)));
+    assert!(rt; found_in(&rt, alloc, "a{2}$", &three) == None);
+    assert!(rt; slots_in(&rt, alloc, "a{2}$", &three) == (None, None));
 }
 
 #[test]
@@ -410,8 +506,8 @@ fn no_match_begins_inside_a_character(rt: HostRuntime) {
     for earliest in [false, true] {
         let input = Input::new("a☃b".as_bytes()).earliest(earliest);
         let regex = regex_of(&rt, alloc, r"(?-u:\B)|a☃");
-        assert!(rt; regex.is_match(&rt, alloc, &input) == Ok(true));
+        assert!(rt; matches_in(&rt, alloc, &regex, &input));
         let regex = regex_of(&rt, alloc, r"(?-u:\B)");
-        assert!(rt; regex.is_match(&rt, alloc, &input) == Ok(false));
+        assert!(rt; !matches_in(&rt, alloc, &regex, &input));
     }
 }

@@ -21,7 +21,7 @@ static ROWS: [Row; 6] = [
         text: "1:0:0..0\n1:0:1..2\n",
     },
     Row {
-        words: &["scan", "3", "off:b"],
+        words: &["scan", "3", "off:bp"],
         input: b"b\n(a)|c(d)\n\nab\n\xe2\x98\x83cd",
         status: 0,
         text: "1:1:0..1 1=0..1 2=-\n1:0:1..2\n2:1:3..5 1=- 2=4..5\n",

@@ -5,6 +5,7 @@ use Rattle.std.specs.List.{list_any, starts_with}
 use Rattle.std.specs.Option.{option_or}
 use Rattle.std.specs.Str.{bytes_eq}
 use Rattle.rx_reader.specs.Reading.{◌∈◌}
+use Rattle.rx_meta.specs.Config.{ConfigValue, nothing_set}
 use Rattle.rx_scan.specs.declared.arguments.Command.{Command}
 use Rattle.rx_scan.specs.declared.arguments.Off.{Off}
 
@@ -49,6 +50,10 @@ switched_off letters = record {
   backtrack = has letters "b";
   auto_prefilter = has letters "p";
 }
+
+-- the configuration of a scan's regex without these, in which nothing else is set
+abbrev pub config_without : Off → ConfigValue
+config_without off = record nothing_set { auto_prefilter = Some (not off.auto_prefilter); backtrack = Some (not off.backtrack) }
 
 abbrev pub is_nonempty : List ℕ → Bool
 is_nonempty [] = false

@@ -2,18 +2,18 @@
 ghost use Rattle.std.specs.Prelude.{◌≡◌, ◌<◌, Ok, IfOk, List};
 ghost use Rattle.rx_model.specs.Expression.{Expression};
 ghost use Rattle.rx_meta.specs.Build.{IsBuilt};
-ghost use Rattle.rx_meta.specs.Config.{nothing_set};
+ghost use Rattle.rx_scan.specs.Arguments.{config_without};
 ghost use Rattle.rx_scan.specs.Answer.{too_long, not_utf8, refused, too_big, all_rows, answer_patterns, answer_text, answer_input};
 ghost use Rattle.rx_scan.specs.Input.{lines};
 ghost use Rattle.rx_scan.specs.Patterns.{MeanUtf8};
 
-use crate::arguments::Command;
+use crate::arguments::{Command, Off};
 use crate::haystacks::scan;
 use crate::input::{INPUT_LIMIT, parse_patterns, split_lines};
 use crate::output::{print_haystacks, push_number};
 use crate::status::Status;
 use rx_hir::Hir;
-use rx_meta::{BuildError, Regex};
+use rx_meta::{BuildError, Builder, Regex};
 use rx_search::{Gate, Memory};
 use rx_syntax::{PatternsError, SyntaxErrorKind};
 use std::alloc::Global;
@@ -95,11 +95,20 @@ fn answer_patterns<R: Threads + Wait + Sync, G: Gate + Sync>(
     requires utf8 { MeanUtf8 expressions.now }
     ensures { IfOk result (λ a. a ≡ answer_patterns (Ok expressions.now) (lines haystacks.now)) }
 {
-    match Regex::builder().build_many_from_hir(alloc, expressions) {
+    match builder_without(&command.off).build_many_from_hir(alloc, expressions) {
         Ok(regex) => all_rows(rt, alloc, command, &regex, haystacks, gate),
         Err(BuildError::NFA(_)) => too_big(alloc),
         Err(_) => Err(Memory),
     }
+}
+
+/// A builder of regexes that do without these.
+fn builder_without(off: &Off) -> Builder
+    ensures { result.config ≡ config_without off.now }
+{
+    let mut builder = Regex::builder();
+    builder.configure(off.config());
+    builder
 }
 
 /// The rows of the regex's matches in each line of the haystacks.
@@ -112,7 +121,7 @@ fn all_rows<R: Threads + Wait + Sync, G: Gate + Sync>(
     gate: &G,
 ) -> Result<Answer, Memory>
     requires { 0 < command.now.workers }
-    ensures { (hs : List Expression) → IsBuilt nothing_set hs regex.now → MeanUtf8 hs → IfOk result (λ a. a ≡ all_rows hs (lines haystacks.now)) }
+    ensures { (hs : List Expression) → IsBuilt (config_without command.now.off) hs regex.now → MeanUtf8 hs → IfOk result (λ a. a ≡ all_rows hs (lines haystacks.now)) }
 {
     let haystacks = split_lines(alloc, haystacks)?;
     let rows = scan(rt, alloc, regex, &haystacks, command.workers, gate)?;

@@ -1,7 +1,9 @@
 //! The words of the command line.
 ghost use Rattle.std.specs.Prelude.{◌≡◌, ◌<◌, ◌∷◌, [], codes, map, IfSome};
 ghost use Rattle.std.specs.String.{string_bytes};
-ghost use Rattle.rx_scan.specs.Arguments.{command_of, options_of, digit, is_digit_from, workers_of, off_of, are_letters, is_letter, has, switched_off};
+ghost use Rattle.rx_scan.specs.Arguments.{command_of, options_of, digit, is_digit_from, workers_of, off_of, are_letters, is_letter, has, switched_off, config_without};
+
+use rx_meta::Config;
 
 /// What a scan is to do without. None of it changes a row.
 #[derive(Clone, Copy, Debug, PartialEq, Eq)]
@@ -36,6 +38,15 @@ impl Off {
         backtrack: false,
         auto_prefilter: false,
     };
+
+    /// The configuration of a regex without these. There is no DFA yet that could be switched off.
+    pub fn config(&self) -> Config
+        ensures { result ≡ config_without self.now }
+    {
+        Config::new()
+            .auto_prefilter(!self.auto_prefilter)
+            .backtrack(!self.backtrack)
+    }
 }
 
 /// The number of workers where the words name none.

@@ -8,7 +8,8 @@ ghost use Rattle.rx_model.specs.Utf8.{MeansUtf8};
 ghost use Rattle.rx_search.specs.Told.{tells};
 ghost use Rattle.rx_search.specs.declared.anchored.MatchKind.TheVariants.{LeftmostFirst};
 ghost use Rattle.rx_meta.specs.Build.{IsBuilt, patterns_for};
-ghost use Rattle.rx_meta.specs.Config.{kind_of, utf8_of, captures_of};
+ghost use Rattle.rx_meta.specs.Config.{ConfigValue, kind_of, utf8_of, prefilter_of, captures_of};
+ghost use Rattle.rx_meta.specs.Prefilter.{BeginsEachMatch};
 ghost use Rattle.rx_meta.specs.Regex.{groups_in};
 ghost use Rattle.rx_scan.specs.Haystacks.{FindsRows};
 ghost use Rattle.rx_scan.specs.Row.{scan_rows};
@@ -57,7 +58,8 @@ impl From<ScanError> for Memory {
 /// those of a group that the configuration leaves out are empty. Where the regex asks for no captures, there are no rows.
 ///
 /// That these are the rows is promised under `MatchKind::LeftmostFirst`, and, where no match may start inside a character,
-/// of haystacks that are UTF-8 as all is that the patterns mean in them.
+/// of haystacks that are UTF-8 as all is that the patterns mean in them; and, where a prefilter was handed in, of patterns
+/// each match of which begins with one of its needles.
 ///
 /// It searches one haystack after another on the caller; `workers`, which is above 0, changes nothing yet. `gate` is told
 /// of each haystack before it is searched.
@@ -70,7 +72,8 @@ pub fn scan<R: Threads + Wait + Sync, G: Gate + Sync>(
     gate: &G,
 ) -> Result<Vec<Vec<Row>>, ScanError>
     requires { 0 < workers }
-    ensures { (config : _) (hs : List Expression) → IsBuilt config hs regex.now → kind_of config ≡ LeftmostFirst
+    ensures { (config : ConfigValue) (hs : List Expression) → IsBuilt config hs regex.now → kind_of config ≡ LeftmostFirst
+        → BeginsEachMatch (prefilter_of config) (patterns_for config hs)
         → (utf8_of config ≡ true → All (λ h. MeansUtf8 (patterns_for config hs) h.now) haystacks.now)
         → IfOk result (λ rows. map vec_items rows.items ≡ map (λ h. scan_rows (patterns_for config hs) h.now) haystacks.now) }
 {

@@ -13,7 +13,9 @@ use Rattle.rx_nfa.specs.Nfa.{Nfa, IsNfaOf}
 use Rattle.rx_nfa.specs.NextMatch.{next_match_in}
 use Rattle.rx_nfa.proofs.lemmas.runs.NextMatchLemmas.{next_match_of-patterns}
 use Rattle.rx_search.specs.Answer.{IsAnswer, AreSlotsOfAnswer, TellsWhether}
+use Rattle.rx_engines.specs.Needles.{BeginsEachRun}
 use Rattle.rx_strategy.specs.Core.{CoreValue, IsCoreFor, IsSearched, core_finds}
+use Rattle.rx_strategy.proofs.NeedleLemmas.{begins-run}
 
 -- the next match of an NFA is that of its patterns
 pub agree : (nfa : Nfa) (v : InputValue) → v.end ≤ length v.haystack → (r : Patterns) → IsNfaOf nfa r → next_match_in nfa v ≡ option_map (told_of r.which_captures) (next_in r v)
@@ -138,23 +140,30 @@ module _ (c : CoreValue) (v : InputValue) where
   pub core-none : v.end ≤ length v.haystack → next_match_in c.nfa v ≡ None → (r : Patterns) → IsCoreFor c r → next_in r v ≡ None
   core-none within gone r of = from-none r.which_captures (next_in r v) (sym (agree c.nfa v within r of.nfa) ∙ gone)
 
-  module _ (kind : MatchKind) (slots : List (Option ℕ)) (found : Option MatchValue) (searched : IsSearched c.nfa v slots found) where
+  -- each run begins with a needle, where each match does
+  core-begins : v.end ≤ length v.haystack → (r : Patterns) → IsCoreFor c r → BeginsEachRun c.pre c.nfa v
+  core-begins within r of = begins-run c.pre c.nfa r v of.nfa of.ordered within of.needles
+
+  module _ (kind : MatchKind) (slots : List (Option ℕ)) (found : Option MatchValue) (searched : BeginsEachRun c.pre c.nfa v → IsSearched c.nfa v slots found) (within : v.end ≤ length v.haystack) where
+    searched-for : (r : Patterns) → IsCoreFor c r → IsSearched c.nfa v slots found
+    searched-for r of = searched (core-begins within r of)
+
     next-is : (r : Patterns) → IsCoreFor c r → tells r.which_captures ≡ true → next_match_in c.nfa v ≡ next_in r v
-    next-is r of told = searched.patterns r of.nfa ∙ told-whole r.which_captures told (next_in r v)
+    next-is r of told = (searched-for r of).patterns r of.nfa ∙ told-whole r.which_captures told (next_in r v)
 
     pub core-answers : tells c.which_captures ≡ true → IsAnswer (λ r. IsCoreFor c r) kind v match_value found
     core-answers told = record {
-      value = λ r p. searched.value p.whole ∙ ap (option_map match_value) (next-is r p.premises.is_for p.told);
+      value = λ r p. (searched-for r p.premises.is_for).value p.whole ∙ ap (option_map match_value) (next-is r p.premises.is_for p.told);
       exists = λ r p.
           let heard : tells r.which_captures ≡ true = ap tells p.is_for.which_captures ∙ told in
-          searched.exists ∙ ap is_some (next-is r p.is_for heard ∙ sym (told-yes r v heard));
-      is_match = λ r p. slots-aside r v slots found (searched.is_match r p.is_for.nfa);
+          (searched-for r p.is_for).exists ∙ ap is_some (next-is r p.is_for heard ∙ sym (told-yes r v heard));
+      is_match = λ r p. slots-aside r v slots found ((searched-for r p.is_for).is_match r p.is_for.nfa);
     }
 
     pub core-slots : AreSlotsOfAnswer (λ r. IsCoreFor c r) kind v match_value slots found
     core-slots = record {
-      value = λ r p. subst (λ o. IfSome o (HasSlots slots)) (next-is r p.premises.is_for p.told) (searched.slots p.whole);
-      is_match = λ r p. searched.is_match r p.is_for.nfa;
+      value = λ r p. subst (λ o. IfSome o (HasSlots slots)) (next-is r p.premises.is_for p.told) ((searched-for r p.premises.is_for).slots p.whole);
+      is_match = λ r p. (searched-for r p.is_for).is_match r p.is_for.nfa;
     }
 
   -- nothing is told without captures
@@ -172,5 +181,6 @@ module _ (c : CoreValue) (v : InputValue) where
   }
 
   -- whether there is a match, of the NFA or of its patterns
-  pub core-whether : (there : Bool) → there ≡ is_some (next_match_in c.nfa v) → ((r : Patterns) → IsNfaOf c.nfa r → next_match_in c.nfa v ≡ option_map (told_of r.which_captures) (next_in r v)) → TellsWhether (λ r. IsCoreFor c r) v there
-  core-whether there is patterns r p = is ∙ ap is_some (patterns r p.is_for.nfa) ∙ is_some-map (told_of r.which_captures) (next_in r v)
+  pub core-whether : (there : Bool) → (BeginsEachRun c.pre c.nfa v → there ≡ is_some (next_match_in c.nfa v)) → v.end ≤ length v.haystack → TellsWhether (λ r. IsCoreFor c r) v there
+  core-whether there is within r p =
+      is (core-begins within r p.is_for) ∙ ap is_some (agree c.nfa v within r p.is_for.nfa) ∙ is_some-map (told_of r.which_captures) (next_in r v)

@@ -1,5 +1,7 @@
+pub mod NeedleLemmas
 pub mod AnswerLemmas
 pub mod StrategyLemmas
 pub mod ImpossibleLemmas
 pub mod InfoLemmas
 pub mod CacheLemmas
+pub mod CoreLemmas

@@ -1,5 +1,5 @@
 -- What a configuration asks for.
-use Rattle.std.specs.Prelude.{◌&&◌, ℕ, Bool, true, false, Option, Some, None, unwrap_or}
+use Rattle.std.specs.Prelude.{◌&&◌, ℕ, Bool, true, false, List, Option, Some, None, unwrap_or}
 use Rattle.std.specs.Option.{option_or}
 use Rattle.rx_model.specs.Search as model
 use Rattle.rx_search.specs.declared.anchored.MatchKind.{MatchKind}
@@ -17,6 +17,14 @@ kind_of c = unwrap_or c.match_kind LeftmostFirst
 -- no match may start inside a character
 abbrev pub utf8_of : Config → Bool
 utf8_of c = unwrap_or c.utf8_empty true
+
+-- a prefilter is made of what each match of the patterns begins with, where none is handed in
+abbrev pub auto_prefilter_of : Config → Bool
+auto_prefilter_of c = unwrap_or c.auto_prefilter true
+
+-- the needles of the prefilter that is handed in, if one is
+abbrev pub prefilter_of : Config → Option (List (List ℕ))
+prefilter_of c = unwrap_or c.prefilter None
 
 -- which groups are told
 abbrev pub which_of : Config → WhichCaptures
@@ -56,13 +64,15 @@ has_backtracker c = backtrack_of c && is_leftmost (kind_of c)
 
 -- nothing is set
 abbrev pub nothing_set : Config
-nothing_set = record { match_kind = None; utf8_empty = None; which_captures = None; nfa_size_limit = None; line_terminator = None; backtrack = None }
+nothing_set = record { match_kind = None; utf8_empty = None; auto_prefilter = None; prefilter = None; which_captures = None; nfa_size_limit = None; line_terminator = None; backtrack = None }
 
 -- the new configuration, with what it leaves open as in the old one
 abbrev pub overwritten : (old new : Config) → Config
 overwritten old new = record {
   match_kind = option_or new.match_kind old.match_kind;
   utf8_empty = option_or new.utf8_empty old.utf8_empty;
+  auto_prefilter = option_or new.auto_prefilter old.auto_prefilter;
+  prefilter = option_or new.prefilter old.prefilter;
   which_captures = option_or new.which_captures old.which_captures;
   nfa_size_limit = option_or new.nfa_size_limit old.nfa_size_limit;
   line_terminator = option_or new.line_terminator old.line_terminator;

@@ -1,10 +1,10 @@
 -- What a core is to a contract: the engines over one NFA, and what is known of the patterns.
-use Rattle.std.specs.Prelude.{◌≡◌, ℕ, ◌≤◌, Bool, true, false, ◌&&◌, nat_le, List, length, Option, None, option_map, is_some, IfSome, if◌then◌else◌}
-use Rattle.rx_model.specs.Expression.{Expression, alternation}
+use Rattle.std.specs.Prelude.{◌≡◌, ℕ, ◌≤◌, Bool, true, false, ◌&&◌, nat_le, List, length, Option, Some, None, option_map, is_some, IfSome, slice_get, if◌then◌else◌}
+use Rattle.rx_model.specs.Expression.{Expression, alternation, AreOrdered}
 use Rattle.rx_model.specs.Search.{Patterns, WhichCaptures, Match, told_of}
 use Rattle.rx_search.specs.Input.{InputValue, next_in, span_len}
 use Rattle.rx_search.specs.Matches.{MatchValue, match_value}
-use Rattle.rx_search.specs.Told.{tells, IsMatchWith, HasSlots, AreWithin, LiesIn}
+use Rattle.rx_search.specs.Told.{tells, IsMatchWith, HasSlots}
 use Rattle.rx_search.specs.declared.anchored.MatchKind.{MatchKind}
 use Rattle.rx_hir.specs.Normal.{expressions}
 use Rattle.rx_hir.specs.PropertiesViews.{AreOf}
@@ -12,10 +12,12 @@ use Rattle.rx_hir.specs.declared.hir.properties.Properties.{Properties}
 use Rattle.rx_nfa.specs.Compiled.{IsCompiled}
 use Rattle.rx_nfa.specs.Nfa.{Nfa, IsNfaOf}
 use Rattle.rx_nfa.specs.NextMatch.{next_match_in}
-use Rattle.rx_engines.specs.Bounded.{max_len}
+use Rattle.rx_engines.specs.Bounded.{BacktrackerValue, max_len}
 use Rattle.rx_engines.specs.Engine.{PikeVMValue}
+use Rattle.rx_engines.specs.Needles.{BeginsEachMatch}
 use Rattle.rx_strategy.specs.Config.{kind_of, captures_of, compiler_of, has_backtracker}
 use Rattle.rx_strategy.specs.Impossible.{is_impossible}
+use Rattle.rx_strategy.specs.Prefilter.{prefilter_for}
 use Rattle.rx_strategy.specs.declared.config.Config.{Config}
 
 pub record CoreValue : Type 0 where
@@ -26,21 +28,30 @@ pub record CoreValue : Type 0 where
   pub which_captures : WhichCaptures
   -- there is a backtracker
   pub backtracks : Bool
+  -- the needles of its prefilter, if it has one
+  pub pre : Option (List (List ℕ))
   -- the properties of the patterns together
   pub properties : Properties
 
 -- the core's PikeVM
 abbrev pub pikevm_of : CoreValue → PikeVMValue
-pikevm_of c = record { nfa = c.nfa; kind = c.kind }
+pikevm_of c = record { nfa = c.nfa; kind = c.kind; pre = c.pre }
+
+-- the core's backtracker
+abbrev pub backtracker_of : CoreValue → BacktrackerValue
+backtracker_of c = record { nfa = c.nfa; pre = c.pre }
 
 -- the core's backtracker serves this input: the span is not too long for it
 abbrev pub backtracker_serves : CoreValue → InputValue → Bool
 backtracker_serves c v = c.backtracks && nat_le (span_len v) (max_len c.nfa)
 
--- the core searches for these patterns
+-- The core searches for these patterns. Each match of them begins with a needle of its prefilter, if it has one.
 pub record IsCoreFor (c : CoreValue) (r : Patterns) : Type 0 where
   pub nfa : IsNfaOf c.nfa r
   pub which_captures : r.which_captures ≡ c.which_captures
+  -- the counts of each expression are in order
+  pub ordered : (p : ℕ) (h : Expression) → slice_get r.expressions p ≡ Some h → AreOrdered h
+  pub needles : BeginsEachMatch c.pre r
 
 -- what a search of the core finds: the next match of its NFA, where matches are told
 abbrev pub core_finds : CoreValue → InputValue → Option Match
@@ -53,6 +64,8 @@ pub record IsCoreOf (config : Config) (hs : List Expression) (c : CoreValue) : T
   pub which_captures : c.which_captures ≡ captures_of config
   -- there is a backtracker exactly where the configuration asks for one, and none under `All`
   pub backtracks : c.backtracks ≡ has_backtracker config
+  -- it searches with the prefilter that these expressions have under the configuration
+  pub pre : c.pre ≡ prefilter_for config hs
   -- its properties are those of the expressions together, so that it is known where no match is possible
   pub properties : AreOf (alternation (expressions hs)) c.properties
 
@@ -62,7 +75,8 @@ pub record AreKnownOf (p : Properties) (nfa : Nfa) : Type 0 where
   pub properties : AreOf (alternation (expressions patterns)) p
   pub none : (v : InputValue) → v.end ≤ length v.haystack → is_impossible patterns v ≡ true → next_match_in nfa v ≡ None
 
--- What an engine that always answers tells of a search, in the slots and else, whichever it is.
+-- What an engine that always answers tells of a search, in the slots and else, whichever it is. Where it has a prefilter,
+-- this is known of an input in which each run of the NFA begins with one of its needles.
 pub record IsSearched (nfa : Nfa) (v : InputValue) (told : List (Option ℕ)) (found : Option MatchValue) : Type 0 where
   -- without `earliest` the next match of its NFA
   pub value : v.earliest ≡ false → found ≡ option_map match_value (next_match_in nfa v)
@@ -73,5 +87,3 @@ pub record IsSearched (nfa : Nfa) (v : InputValue) (told : List (Option ℕ)) (f
   -- and it is a match of the patterns
   pub is_match : (r : Patterns) → IsNfaOf nfa r → IfSome found (λ m. IsMatchWith r v (λ n. (m ≡ match_value n) × HasSlots told n))
   pub slots : v.earliest ≡ false → IfSome (next_match_in nfa v) (HasSlots told)
-  pub within : IfSome found (LiesIn v)
-  pub slots_within : AreWithin v told

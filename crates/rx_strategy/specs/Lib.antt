@@ -1,5 +1,6 @@
 pub mod Config
 pub mod Impossible
+pub mod Prefilter
 pub mod Core
 pub mod Nofail
 pub mod Strategy

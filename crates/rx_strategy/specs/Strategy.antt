@@ -1,5 +1,5 @@
 -- What a strategy is to a contract: data by cases, one for each way to search.
-use Rattle.std.specs.Prelude.{ℕ, ◌*◌, ◌≤◌, Bool, List, length, Option}
+use Rattle.std.specs.Prelude.{ℕ, ◌+◌, ◌-◌, ◌*◌, ◌^◌, ◌≤◌, min, Bool, List, length, Option}
 use Rattle.rx_model.specs.Expression.{Expression}
 use Rattle.rx_model.specs.Search.{Patterns, Match}
 use Rattle.rx_search.specs.Input.{InputValue}
@@ -8,6 +8,7 @@ use Rattle.rx_search.specs.declared.anchored.MatchKind.{MatchKind}
 use Rattle.rx_hir.specs.Cost.{state_size}
 use Rattle.rx_hir.specs.declared.hir.properties.Properties.{Properties}
 use Rattle.rx_strategy.specs.Core.{IsCoreFor, IsCoreOf, core_finds}
+use Rattle.rx_strategy.specs.Prefilter.{prefilter_memory}
 use Rattle.rx_strategy.specs.declared.config.Config.{Config}
 use Rattle.rx_strategy.specs.declared.strategy.Strategy.{Strategy}
 use Rattle.rx_strategy.specs.declared.strategy.Strategy.TheVariants.{Core}
@@ -35,14 +36,18 @@ pattern_count (Core core) = length core.nfa.starts
 abbrev pub properties_of : Strategy → Properties
 properties_of (Core core) = core.properties
 
--- the bytes that are accounted for the strategy itself: those of each accounted state of its NFA
-abbrev pub strategy_memory : Strategy → ℕ
-strategy_memory (Core core) = state_size * core.nfa.accounted
+-- the needles of its prefilter, if it has one
+abbrev pub prefilter_in : Strategy → Option (List (List ℕ))
+prefilter_in (Core core) = core.pre
 
--- there are no more patterns, and no more accounted states, than identifiers tell apart
-pub record IsFew (s : Strategy) : Type 0 where
-  pub patterns : pattern_count s ≤ id_limit
-  pub memory : strategy_memory s ≤ state_size * id_limit
+-- The bytes that are accounted for the strategy itself, up to the greatest number of 64 bits: those of its prefilter, and
+-- those of each accounted state of its NFA.
+abbrev pub strategy_memory : Strategy → ℕ
+strategy_memory (Core core) = min (2 ^ 64 - 1) (prefilter_memory core.pre + state_size * core.nfa.accounted)
+
+-- there are no more patterns than identifiers tell apart
+abbrev pub IsFew : Strategy → Type 0
+IsFew s = pattern_count s ≤ id_limit
 
 -- there is a backtracker
 abbrev pub backtracks : Strategy → Bool

@@ -87,7 +87,7 @@ impl RegexInfo {
     }
 
     /// Whether each match begins at the start of the haystack.
-    fn is_always_anchored_start(&self) -> bool
+    pub(crate) fn is_always_anchored_start(&self) -> bool
         ensures { (h : Expression) → AreOf h self.now.properties → result ≡ is_always_anchored_start h }
     {
         self.properties.look_set_prefix().contains(Look::Start)

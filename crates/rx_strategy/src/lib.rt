@@ -9,6 +9,7 @@ mod config;
 mod found;
 mod info;
 mod laws;
+mod prefilter;
 mod strategy;
 
 pub use cache::Cache;

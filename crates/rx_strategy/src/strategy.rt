@@ -21,6 +21,7 @@ use crate::cache::Cache;
 use crate::config::Config;
 use crate::found::half_match;
 use crate::info::RegexInfo;
+use crate::prefilter::choose;
 pub use engines::Core;
 use rx_engines::empty;
 use rx_hir::Hir;
@@ -50,7 +51,8 @@ impl Strategy {
         compiler.configure(config.compiler());
         let nfa = compiler.build_many_from_hir(alloc, exprs)?;
         let info = RegexInfo::new(alloc, exprs)?;
-        Ok(Strategy::Core(Core::new(config, nfa, info)?))
+        let pre = choose(alloc, config, exprs, &info)?;
+        Ok(Strategy::Core(Core::new(config, nfa, info, pre)?))
     }
 
     /// The next match in the input's span. With `earliest` it is some match, and there is one exactly where there is a next
@@ -169,12 +171,13 @@ impl Strategy {
         }
     }
 
-    /// The bytes that are accounted for the strategy itself, which are those of its NFA.
+    /// The bytes that are accounted for the strategy itself, which are those of its prefilter and of its NFA, or the greatest
+    /// `usize` where they are more.
     pub fn memory_usage(&self) -> usize
         ensures { result ≡ strategy_memory self.now }
     {
         match self {
-            Strategy::Core(core) => core.get_nfa().memory_usage(),
+            Strategy::Core(core) => core.memory_usage(),
         }
     }
 

@@ -1,27 +1,32 @@
 //! The strategy that runs engines over an NFA.
-ghost use Rattle.std.specs.Prelude.{◌≡◌, ◌≤◌, List, true, false, length, None, replicate, is_some, IfOk, OnOk, OnErr, IsOk, IfNone, IfSome, IsSomeAnd, IsTrue, MatchOption};
+ghost use Rattle.std.specs.Prelude.{◌≡◌, ◌≤◌, ◌+◌, ◌-◌, ◌*◌, ◌^◌, min, List, true, false, length, None, replicate, is_some, IfOk, OnOk, OnErr, IsOk, IfNone, IfSome, IsSomeAnd, IsTrue, MatchOption};
 ghost use Rattle.rx_model.specs.Expression.{Expression, alternation};
 ghost use Rattle.rx_model.specs.Search.{Patterns};
 ghost use Rattle.rx_search.specs.Input.{IsSpanned, next_in, span_len};
 ghost use Rattle.rx_search.specs.Matches.{match_value};
 ghost use Rattle.rx_search.specs.Told.{tells, AreWithin, LiesIn};
+ghost use Rattle.rx_hir.specs.Cost.{state_size};
 ghost use Rattle.rx_hir.specs.Normal.{expressions};
 ghost use Rattle.rx_hir.specs.PropertiesViews.{AreOf};
 ghost use Rattle.rx_engines.specs.Bounded.{Fits as FitsBounded, max_len};
+ghost use Rattle.rx_engines.specs.Needles.{BeginsEachRun};
 ghost use Rattle.rx_search.specs.Answer.{IsAnswer, AreSlotsOfAnswer, TellsWhether};
 ghost use Rattle.rx_strategy.specs.Cache.{FitsCore, FitsBacktracker, FitsAsBefore, backtrack_memory, memory_of, accounted_backtrack, accounted_core};
 ghost use Rattle.rx_strategy.specs.Config.{kind_of, captures_of, has_backtracker};
 ghost use Rattle.rx_strategy.specs.Core.{CoreValue, IsCoreFor, AreKnownOf, IsSearched};
 ghost use Rattle.rx_strategy.specs.Impossible.{is_impossible};
 ghost use Rattle.rx_strategy.specs.Nofail.{IsAskedFor};
+ghost use Rattle.rx_strategy.specs.Prefilter.{prefilter_memory};
 
 use crate::cache::Cache;
-use crate::config::Config;
+use crate::config::{Config, shared};
 use crate::info::RegexInfo;
+use crate::prefilter::memory_usage as accounted;
 use rx_engines::backtrack::{self, BoundedBacktracker};
 use rx_engines::empty;
 use rx_engines::pikevm::PikeVM;
 use rx_nfa::{NFA, WhichCaptures};
+use rx_prefilter::Prefilter;
 use rx_search::{Input, Match, Memory, NonMaxUsize};
 use std::alloc::Global;
 use std::marker::Model;
@@ -33,6 +38,7 @@ pub struct Core {
     pikevm: PikeVM,
     backtrack: Option<BoundedBacktracker>,
     which_captures: WhichCaptures,
+    pre: Option<Prefilter>,
     info: RegexInfo,
 }
 
@@ -49,11 +55,12 @@ impl Model for Core {
       kind = c.pikevm.kind;
       which_captures = captures_kind c.which_captures;
       backtracks = is_some c.backtrack;
+      pre = c.pre;
       properties = c.info.properties;
     } };
 
-    ghost invariant = { λ c. IfSome c.backtrack (λ nfa. (nfa ≡ c.pikevm.nfa) × (c.pikevm.kind ≡ LeftmostFirst))
-        × AreKnownOf c.info.properties c.pikevm.nfa };
+    ghost invariant = { λ c. IfSome c.backtrack (λ b. (b.nfa ≡ c.pikevm.nfa) × (b.pre ≡ c.pre) × (c.pikevm.kind ≡ LeftmostFirst))
+        × AreKnownOf c.info.properties c.pikevm.nfa × (c.pikevm.pre ≡ c.pre) };
 }
 
 /// An engine that answers each search that it is asked for.
@@ -63,22 +70,31 @@ pub(crate) enum Nofail<'a> {
 }
 
 impl Core {
-    /// The core of this NFA, which was built under the configuration, with what is known of its patterns.
-    pub(crate) fn new(config: &Config, nfa: NFA, info: RegexInfo) -> Result<Core, Memory>
+    /// The core of this NFA, which was built under the configuration, with what is known of its patterns. It searches with
+    /// this prefilter, where there is one.
+    pub(crate) fn new(
+        config: &Config,
+        nfa: NFA,
+        info: RegexInfo,
+        pre: Option<Prefilter>,
+    ) -> Result<Core, Memory>
         requires { AreKnownOf info.properties nfa }
         ensures { IfOk result (λ core. core ≡ record {
           nfa = nfa;
           kind = kind_of config.now;
           which_captures = captures_of config.now;
           backtracks = has_backtracker config.now;
+          pre = pre;
           properties = info.properties;
         }) }
     {
-        let backtrack = backtracker(config, &nfa)?;
+        let backtrack = backtracker(config, &nfa, &pre)?;
+        let own = shared(pre.as_ref())?;
         Ok(Core {
-            pikevm: PikeVM::build_from_nfa(nfa, config.get_match_kind(), None),
+            pikevm: PikeVM::build_from_nfa(nfa, config.get_match_kind(), own),
             backtrack,
             which_captures: config.get_which_captures(),
+            pre,
             info,
         })
     }
@@ -88,6 +104,13 @@ impl Core {
         ensures { result.now ≡ self.now.nfa }
     {
         self.pikevm.get_nfa()
+    }
+
+    /// The bytes that are accounted for the core itself: those of its prefilter and of its NFA.
+    pub(crate) fn memory_usage(&self) -> usize
+        ensures { result ≡ min (2 ^ 64 - 1) (prefilter_memory self.now.pre + state_size * self.now.nfa.accounted) }
+    {
+        accounted(&self.pre).saturating_add(self.get_nfa().memory_usage())
     }
 
     /// Whether it is known that there is no match in the input's span.
@@ -172,7 +195,8 @@ impl Core {
 
     /// Whether there is a match in the input's span, under each kind of match and of captures.
     pub(crate) fn is_match(&self, cache: &mut Cache, input: &Input<'_>) -> bool
-        requires { FitsCore self.now cache.old }
+        requires fits { FitsCore self.now cache.old }
+        requires spanned { IsSpanned input.now }
         ensures value { TellsWhether (IsCoreFor self.now) input.now result }
         ensures cache { FitsCore self.now cache.new }
         ensures memory { memory_of cache.new ≡ memory_of cache.old }
@@ -187,7 +211,8 @@ impl Core {
         input: &Input<'_>,
         slots: &mut [Option<NonMaxUsize>],
     ) -> Option<Match>
-        requires { FitsCore self.now cache.old }
+        requires fits { FitsCore self.now cache.old }
+        requires spanned { IsSpanned input.now }
         ensures answer { IsAnswer (IsCoreFor self.now) self.now.kind input.now match_value result }
         ensures slots { AreSlotsOfAnswer (IsCoreFor self.now) self.now.kind input.now match_value slots.new result }
         ensures within { IfSome result (LiesIn input.now) }
@@ -222,7 +247,9 @@ impl Core {
         slots: &mut [Option<NonMaxUsize>],
     ) -> Option<Match>
         requires { FitsCore self.now cache.old }
-        ensures answer { IsSearched self.now.nfa input.now slots.new result }
+        ensures answer { BeginsEachRun self.now.pre self.now.nfa input.now → IsSearched self.now.nfa input.now slots.new result }
+        ensures within { IfSome result (LiesIn input.now) }
+        ensures slots_within { AreWithin input.now slots.new }
         ensures none { IfNone result (slots.new ≡ replicate (length slots.old) None) }
         ensures cache { FitsCore self.now cache.new }
         ensures memory { memory_of cache.new ≡ memory_of cache.old }
@@ -251,14 +278,20 @@ impl Core {
     }
 }
 
-/// The backtracker, where the configuration has it.
-fn backtracker(config: &Config, nfa: &NFA) -> Result<Option<BoundedBacktracker>, Memory>
-    ensures { IfOk result (λ o. MatchOption o (has_backtracker config.now ≡ false) (λ b. (has_backtracker config.now ≡ true) × (b ≡ nfa.now))) }
+/// The backtracker, where the configuration has it. It shares the prefilter.
+fn backtracker(
+    config: &Config,
+    nfa: &NFA,
+    pre: &Option<Prefilter>,
+) -> Result<Option<BoundedBacktracker>, Memory>
+    ensures { IfOk result (λ o. MatchOption o (has_backtracker config.now ≡ false)
+        (λ b. (has_backtracker config.now ≡ true) × (b.nfa ≡ nfa.now) × (b.pre ≡ pre.now))) }
 {
     if !config.has_backtracker() {
         return Ok(None);
     }
-    Ok(Some(BoundedBacktracker::build_from_nfa(nfa.clone()?, None)))
+    let pre = shared(pre.as_ref())?;
+    Ok(Some(BoundedBacktracker::build_from_nfa(nfa.clone()?, pre)))
 }
 
 /// What is accounted for the backtracker's cache, where there is one.
@@ -278,11 +311,13 @@ fn find_by_backtracking(
     input: &Input<'_>,
     slots: &mut [Option<NonMaxUsize>],
 ) -> Option<Match>
-    requires fits { IsSomeAnd cache.old (FitsBounded engine.now) }
-    requires short { span_len input.now ≤ max_len engine.now }
-    ensures answer { IsSearched engine.now input.now slots.new result }
+    requires fits { IsSomeAnd cache.old (FitsBounded engine.now.nfa) }
+    requires short { span_len input.now ≤ max_len engine.now.nfa }
+    ensures answer { BeginsEachRun engine.now.pre engine.now.nfa input.now → IsSearched engine.now.nfa input.now slots.new result }
+    ensures within { IfSome result (LiesIn input.now) }
+    ensures slots_within { AreWithin input.now slots.new }
     ensures none { IfNone result (slots.new ≡ replicate (length slots.old) None) }
-    ensures cache { IsSomeAnd cache.new (FitsBounded engine.now) }
+    ensures cache { IsSomeAnd cache.new (FitsBounded engine.now.nfa) }
 {
     let Some(cache) = cache else {
         unreachable!();

@@ -18,8 +18,8 @@ loop-index-preserved g c = record {
 }
 
 pub returns : goal.returns
-returns g c = λ config hs built leftmost utf8.
+returns g c = λ config hs built leftmost begins utf8.
     let r = patterns_for config hs in
     let told : tells (captures_of config) ≡ true = ap (λ k. tells (captures_of k)) (sym built.config) ∙ sym c.if-not-tells_matches.ensures in
-    c.loop-index.invariant.told r (λ k d below. serves-finds c.args.regex.now r _ built.serves (built.kind ∙ leftmost) built.groups told (λ on. utf8 on k d below))
+    c.loop-index.invariant.told r (λ k d below. serves-finds c.args.regex.now r _ (built.serves begins) (built.kind ∙ leftmost) built.groups told (λ on. utf8 on k d below))
     ∙ ap (map (λ h. scan_rows r h.now)) (take_all c.loop-index.index c.args.haystacks.now c.loop-index-test.false)

@@ -6,15 +6,13 @@ use Rattle.rx_strategy.proofs.AnswerLemmas.{is_some-map, next-is_match}
 use Rattle.rx_strategy.proofs.strategy.engines.find_by_backtracking.Goals as goal
 
 pub returns-clause-answer : goal.returns-clause-answer
-returns-clause-answer c =
+returns-clause-answer c begins =
     let is = c.in-Ok.ensures in
-    let next = next_match_in c.args.engine.now c.args.input.now in
+    let next = next_match_in c.args.engine.now.nfa c.args.input.now in
     record {
-      value = λ _. is.value;
+      value = λ _. is.value begins;
       patterns = is.patterns;
-      exists = ap is_some is.value ∙ is_some-map match_value next;
-      is_match = λ r of. next-is_match r c.args.input.now c.try_find_slots.new.slots next (is.patterns r of) is.slots c.in-Ok.found is.value;
-      slots = λ _. is.slots;
-      within = is.within;
-      slots_within = is.slots_within;
+      exists = ap is_some (is.value begins) ∙ is_some-map match_value next;
+      is_match = λ r of. next-is_match r c.args.input.now c.try_find_slots.new.slots next (is.patterns r of) (is.slots begins) c.in-Ok.found (is.value begins);
+      slots = λ _. is.slots begins;
     }
