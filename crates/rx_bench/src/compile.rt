@@ -25,11 +25,7 @@ pub fn compile(alloc: Global, pattern: &str) -> Result<NFA, Failure> {
 /// `Pattern` where the grammar refuses the pattern; else only `Memory`.
 pub fn prefilter(alloc: Global, pattern: &str) -> Result<Option<Prefilter>, Failure> {
     match parse(alloc, pattern) {
-        Ok(hir) => Ok(Prefilter::from_hir_prefix(
-            alloc,
-            MatchKind::LeftmostFirst,
-            &hir,
-        )?),
+        Ok(hir) => Ok(Prefilter::from_hir_prefix(alloc, MatchKind::LeftmostFirst, &hir)?),
         Err(ParseError::Memory) => Err(Failure::Memory),
         Err(_) => Err(Failure::Pattern),
     }

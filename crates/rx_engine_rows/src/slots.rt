@@ -551,8 +551,22 @@ fn searches_with_a_prefilter(rt: HostRuntime) -> Result<(), Fail> {
     sought(&rt, alloc, "a|ab", b"a", &Input::new(b"ab"), "0: 0..1")?;
     sought(&rt, alloc, "a|ab", b"a", &Input::new(b"b"), "none")?;
     sought(&rt, alloc, "ab", b"ab", &Input::new(b"ab"), "0: 0..2")?;
-    sought(&rt, alloc, "ab+c", b"ab", &Input::new(b"abxabbc"), "0: 3..7")?;
-    sought(&rt, alloc, "(a)b*c", b"a", &Input::new(b"aabxabc"), "0: 4..7 4..5")?;
+    sought(
+        &rt,
+        alloc,
+        "ab+c",
+        b"ab",
+        &Input::new(b"abxabbc"),
+        "0: 3..7",
+    )?;
+    sought(
+        &rt,
+        alloc,
+        "(a)b*c",
+        b"a",
+        &Input::new(b"aabxabc"),
+        "0: 4..7 4..5",
+    )?;
     sought(&rt, alloc, "ab", b"ab", &Input::new(b"aaaa"), "none")?;
     Ok(())
 }
