@@ -11,8 +11,7 @@ use rx_hir::Hir;
 use rx_search::Memory;
 use rx_strategy::{Config, Strategy};
 use std::alloc::Global;
-use std::mem;
-use std::slice;
+use std::{mem, slice};
 
 /// Makes regexes of patterns, under one configuration and one grammar.
 #[derive(Drop)]

@@ -1,8 +1,6 @@
 ghost use Rattle.rx_meta.specs.Cache.{Fits};
 
-use crate::{
-    BuildError, Builder, Cache, Config, Prefilter, Regex, RegexFinder, WhichCaptures,
-};
+use crate::{BuildError, Builder, Cache, Config, Prefilter, Regex, RegexFinder, WhichCaptures};
 use rx_hir::Hir;
 use rx_search::{
     Anchored, HalfMatch, Input, Match, MatchKind, Memory, NonMaxUsize, PatternID, Searcher,
@@ -167,7 +165,10 @@ fn each_call_takes_a_cache(rt: HostRuntime) {
     let alloc = rt.alloc();
     let regex = regex_of(&rt, alloc, "a(b)?");
     let mut cache = cache_of(&rt, alloc, &regex);
-    is_told(&rt, &told_with(&rt, &regex, &mut cache, &Input::new(b"xab")));
+    is_told(
+        &rt,
+        &told_with(&rt, &regex, &mut cache, &Input::new(b"xab")),
+    );
     is_silent(&rt, &told_with(&rt, &regex, &mut cache, &Input::new(b"xb")));
 }
 

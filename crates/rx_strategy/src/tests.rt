@@ -53,7 +53,12 @@ fn strategy_of(
 
 /// The strategy of `a`, without a backtracker.
 fn of_a(rt: &impl Abort, alloc: Global) -> Strategy {
-    strategy_of(rt, alloc, &Config::new().backtrack(false), text(alloc, b"a"))
+    strategy_of(
+        rt,
+        alloc,
+        &Config::new().backtrack(false),
+        text(alloc, b"a"),
+    )
 }
 
 /// A prefilter of these needles.
@@ -217,7 +222,10 @@ fn a_prefilter_is_chosen(rt: HostRuntime) {
     // 4 states, 2 and 3 of the pattern, with 32 for each; and the lengths of the needles
     let none = Config::new().auto_prefilter(false);
     assert_eq!(rt; memory_of(&rt, alloc, &none, text(alloc, b"ab")), 288);
-    assert_eq!(rt; memory_of(&rt, alloc, &Config::new(), text(alloc, b"ab")), 290);
+    assert_eq!(rt;
+        memory_of(&rt, alloc, &Config::new(), text(alloc, b"ab")),
+        290
+    );
     let given = handing_in(&rt, alloc, b"ab", b"xyz").auto_prefilter(true);
     assert_eq!(rt; memory_of(&rt, alloc, &given, text(alloc, b"ab")), 293);
     // each match begins at the start, so there is no prefilter
