@@ -7,6 +7,7 @@ ghost use Rattle.rx_bench.specs.Failure.{IsOfSearch};
 use crate::compile::{compile, prefilter};
 use crate::failure::Failure;
 use crate::finders::{Backtrack, PikeVM};
+use rx_prefilter::Prefilter;
 use rx_search::{Finder, Input, Match, MatchError, Searcher};
 use std::alloc::Global;
 
@@ -25,24 +26,10 @@ impl Engine {
     /// `Usage` where no engine has the name; `Pattern` where the pattern is refused; else only `Memory`.
     pub fn new(alloc: Global, name: &str, pattern: &str) -> Result<Engine, Failure> {
         match name {
-            "pikevm" => {
-                let nfa = compile(alloc, pattern)?;
-                Ok(Engine::PikeVM(PikeVM::new(alloc, nfa, None)?))
-            }
-            "backtrack" => {
-                let nfa = compile(alloc, pattern)?;
-                Ok(Engine::Backtrack(Backtrack::new(alloc, nfa, None)?))
-            }
-            "pikevm-prefilter" => {
-                let nfa = compile(alloc, pattern)?;
-                let pre = prefilter(alloc, pattern)?;
-                Ok(Engine::PikeVM(PikeVM::new(alloc, nfa, pre)?))
-            }
-            "backtrack-prefilter" => {
-                let nfa = compile(alloc, pattern)?;
-                let pre = prefilter(alloc, pattern)?;
-                Ok(Engine::Backtrack(Backtrack::new(alloc, nfa, pre)?))
-            }
+            "pikevm" => pikevm(alloc, pattern, None),
+            "backtrack" => backtrack(alloc, pattern, None),
+            "pikevm-prefilter" => pikevm(alloc, pattern, prefilter(alloc, pattern)?),
+            "backtrack-prefilter" => backtrack(alloc, pattern, prefilter(alloc, pattern)?),
             _ => Err(Failure::Usage),
         }
     }
@@ -88,4 +75,16 @@ impl Finder for Engine {
             Engine::Backtrack(finder) => finder.find(input),
         }
     }
+}
+
+/// A PikeVM for the pattern, with this prefilter.
+fn pikevm(alloc: Global, pattern: &str, pre: Option<Prefilter>) -> Result<Engine, Failure> {
+    let nfa = compile(alloc, pattern)?;
+    Ok(Engine::PikeVM(PikeVM::new(alloc, nfa, pre)?))
+}
+
+/// A backtracker for the pattern, with this prefilter.
+fn backtrack(alloc: Global, pattern: &str, pre: Option<Prefilter>) -> Result<Engine, Failure> {
+    let nfa = compile(alloc, pattern)?;
+    Ok(Engine::Backtrack(Backtrack::new(alloc, nfa, pre)?))
 }
