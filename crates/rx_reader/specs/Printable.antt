@@ -1,17 +1,17 @@
 -- Which syntaxes have a text from which they are read again, and when two of them are the same but for places.
-use Rattle.std.specs.Prelude.{ℕ, ◌≡◌, ◌≤◌, Bool, false, List, [], ◌∷◌, length, map, ◌<◌, IfSome, Option}
-use Rattle.std.specs.List.{AllByRecursion}
+use Rattle.std.specs.Prelude.{ℕ, ◌≡◌, ◌≤◌, true, false, nat_eq, length, map, codes, ◌<◌, IfSome, Option}
+use Rattle.std.specs.List.{AllByRecursion, list_all, starts_with}
 use Rattle.rx_reader.specs.declared.flags.Flags.{Flags}
 use Rattle.rx_reader.specs.declared.piece.Piece.{Piece}
-use Rattle.rx_reader.specs.declared.assertion.AssertionKind.{AssertionKind}
-use Rattle.rx_reader.specs.declared.assertion.AssertionKind.TheVariants.{StartLine, EndLine, StartText, EndText, WordBoundary, NotWordBoundary, WordBoundaryStart, WordBoundaryEnd, WordBoundaryStartHalf, WordBoundaryEndHalf}
 use Rattle.rx_reader.specs.declared.atom.Atom.{Atom}
 use Rattle.rx_reader.specs.declared.atom.Atom.TheVariants.{HexByte, Dot, Assertion, Perl, Property, Bracketed}
 use Rattle.rx_reader.specs.declared.class_item.ClassItem.{ClassItem}
 use Rattle.rx_reader.specs.declared.class_item.ClassItem.TheVariants as items
+use Rattle.rx_reader.specs.declared.escape.NameIn.TheVariants.{Braces}
 use Rattle.rx_reader.specs.declared.group_kind.GroupKind.{GroupKind}
 use Rattle.rx_reader.specs.declared.group_kind.GroupKind.TheVariants.{NonCapturing, CaptureIndex, CaptureName}
 use Rattle.rx_reader.specs.Counts.{greatest_count, AreInOrder}
+use Rattle.rx_reader.specs.Escapes.{in_name}
 use Rattle.rx_reader.specs.Groups.{number_after}
 use Rattle.rx_reader.specs.Syntax.{Syntax, Syntaxes, literal, atom, repeated, group, cat, alt, nil, cons}
 
@@ -55,32 +55,19 @@ unfoldable mutual
 
 -- Which have such a text.
 
--- an assertion of which a text says that it stands there, whatever follows: after `\b` a brace could go on with it
-abbrev pub HasAssertionText : AssertionKind → Type 0
-HasAssertionText StartLine = Unit {0}
-HasAssertionText EndLine = Unit {0}
-HasAssertionText StartText = Unit {0}
-HasAssertionText EndText = Unit {0}
-HasAssertionText WordBoundary = ⊥
-HasAssertionText NotWordBoundary = Unit {0}
-HasAssertionText WordBoundaryStart = Unit {0}
-HasAssertionText WordBoundaryEnd = Unit {0}
-HasAssertionText WordBoundaryStartHalf = Unit {0}
-HasAssertionText WordBoundaryEndHalf = Unit {0}
-
 abbrev pub HasItemText : ClassItem → Type 0
 HasItemText (items.Range low high) = (low.is_hex_byte ≡ false) × (high.is_hex_byte ≡ false) × (low.character ≤ high.character)
 HasItemText (items.Perl kind negated) = Unit {0}
 HasItemText (items.Posix kind negated) = ⊥
 HasItemText (items.Property piece name negated) = ⊥
 
--- a set of characters that no name and no byte defines
+-- No byte by its number stands there. The name of a set has no closing brace, and no `^` in front, which would complement it.
 abbrev pub HasAtomText : Atom → Type 0
 HasAtomText (HexByte c) = ⊥
 HasAtomText Dot = Unit {0}
-HasAtomText (Assertion kind) = HasAssertionText kind
+HasAtomText (Assertion kind) = Unit {0}
 HasAtomText (Perl kind negated) = Unit {0}
-HasAtomText (Property name negated) = ⊥
+HasAtomText (Property name negated) = (list_all (in_name Braces) name ≡ true) × (starts_with nat_eq name (codes "^") ≡ false)
 HasAtomText (Bracketed negated class) = (0 < length class) × AllByRecursion HasItemText class
 
 -- counts that an operator can say

@@ -1,11 +1,8 @@
 -- A text of a syntax, from which that syntax is read again.
-use Rattle.std.specs.Prelude.{ℕ, ◌≡◌, ◌≤◌, ◌==◌, ◌&&◌, not, Bool, true, false, List, [], ◌∷◌, ◌++◌, length, flat_map, map, codes, decimal, Option, Some, None, if◌then◌else◌}
+use Rattle.std.specs.Prelude.{ℕ, ◌==◌, ◌&&◌, Bool, true, false, List, [], ◌++◌, flat_map, codes, decimal, Option, Some, None, if◌then◌else◌}
 use Rattle.std.specs.Bool.{beq}
-use Rattle.std.specs.List.{All}
 use Rattle.rx_sets.specs.declared.perl.ClassPerlKind.{ClassPerlKind}
 use Rattle.rx_sets.specs.declared.perl.ClassPerlKind.TheVariants.{Digit, Space, Word}
-use Rattle.rx_reader.specs.declared.flags.Flags.{Flags}
-use Rattle.rx_reader.specs.declared.piece.Piece.{Piece}
 use Rattle.rx_reader.specs.declared.assertion.AssertionKind.{AssertionKind}
 use Rattle.rx_reader.specs.declared.assertion.AssertionKind.TheVariants.{StartLine, EndLine, StartText, EndText, WordBoundary, NotWordBoundary, WordBoundaryStart, WordBoundaryEnd, WordBoundaryStartHalf, WordBoundaryEndHalf}
 use Rattle.rx_reader.specs.declared.atom.Atom.{Atom}
@@ -14,8 +11,6 @@ use Rattle.rx_reader.specs.declared.class_item.ClassItem.{ClassItem}
 use Rattle.rx_reader.specs.declared.class_item.ClassItem.TheVariants as items
 use Rattle.rx_reader.specs.declared.group_kind.GroupKind.{GroupKind}
 use Rattle.rx_reader.specs.declared.group_kind.GroupKind.TheVariants.{NonCapturing, CaptureIndex, CaptureName}
-use Rattle.rx_reader.specs.Counts.{greatest_count}
-use Rattle.rx_reader.specs.Groups.{number_after}
 use Rattle.rx_reader.specs.Plain.{escaped_one}
 use Rattle.rx_reader.specs.Syntax.{Syntax, Syntaxes, literal, atom, repeated, group, cat, alt, nil, cons}
 
@@ -59,7 +54,7 @@ atom_text (HexByte c) = []
 atom_text Dot = codes "."
 atom_text (Assertion kind) = assertion_text kind
 atom_text (Perl kind negated) = perl_text kind negated
-atom_text (Property name negated) = []
+atom_text (Property name negated) = (if negated then codes "\\P{" else codes "\\p{") ++ (name ++ codes "}")
 atom_text (Bracketed negated class) = class_text negated class
 
 -- Texts of repetitions and groups.

@@ -45,10 +45,10 @@ pub fn each_character_of_a_pattern_is_a_scalar()
     ensures { (config : Config) (text : List ℕ) (s : Syntax) → scalars text ≡ true → read config text ≡ Ok s → AllIn IsScalar s }
 {}
 
-/// A syntax has a text that reads back as it, where no flag `x` skips anything and the depth is within the limit: a
+/// A syntax tree has a text that reads back as it, where no flag `x` skips anything and the depth is within the limit: a
 /// character stands for itself, after a backslash if it means something else; items stand one after another, branches
 /// between bars, groups in parentheses; and an operator comes after its item. So it is told what each of these reads as,
-/// whatever stands in it. What is read has its own pieces, and its groups are numbered in order.
+/// whatever printed text stands in it. What is read has its own pieces, and its groups are numbered in order.
 pub fn printed_text_reads_back()
     ensures { (config : Config) (s : Syntax) → IsPattern (flags_of config) s → (flags_of config).ignore_whitespace ≡ false
         → depth s ≤ limit_of config

@@ -1,6 +1,7 @@
 -- The text of an atom reads as it.
-use Rattle.std.proofs.Common.{◌≡◌, ℕ, Bool, true, false, not, ◌&&◌, List, [], ◌∷◌, ◌++◌, Ok, refl, ◌∙◌, ap}
-use Rattle.std.specs.Prelude.{codes, if◌then◌else◌}
+use Rattle.std.proofs.Common.{◌≡◌, ℕ, ◌==◌, Bool, true, false, not, ◌&&◌, List, [], ◌∷◌, ◌++◌, Ok, refl, ◌∙◌, ap, true≢false, append_assoc}
+use Rattle.std.specs.Prelude.{codes, nat_eq, if◌then◌else◌}
+use Rattle.std.specs.List.{list_all, starts_with}
 use Rattle.std.specs.Char.{is_digit, is_ascii_digit}
 use Rattle.rx_sets.specs.declared.perl.ClassPerlKind.{ClassPerlKind}
 use Rattle.rx_sets.specs.declared.perl.ClassPerlKind.TheVariants.{Digit, Space, Word}
@@ -12,20 +13,21 @@ use Rattle.rx_reader.specs.declared.assertion.AssertionKind.TheVariants.{StartLi
 use Rattle.rx_reader.specs.declared.atom.Atom.{Atom}
 use Rattle.rx_reader.specs.declared.atom.Atom.TheVariants as atoms
 use Rattle.rx_reader.specs.declared.escape.Escaped.{Escaped}
-use Rattle.rx_reader.specs.declared.escape.Escaped.TheVariants.{Assertion, Perl}
+use Rattle.rx_reader.specs.declared.escape.Escaped.TheVariants.{Assertion, Perl, Property}
+use Rattle.rx_reader.specs.declared.escape.NameIn.TheVariants.{Braces}
+use Rattle.rx_reader.specs.declared.error.SyntaxErrorKind.TheVariants.{Escape}
 use Rattle.rx_reader.specs.declared.token.Token.{Token}
 use Rattle.rx_reader.specs.declared.token.Token.TheVariants.{Atom as One}
 use Rattle.rx_reader.specs.Config.{octal_of}
-use Rattle.rx_reader.specs.Reading.{Place, Read, ◌>>=◌, piece_of, first, past}
+use Rattle.rx_reader.specs.Reading.{Place, Read, ◌>>=◌, refuse, piece_of, at_end, first, past, is_at}
 use Rattle.rx_reader.specs.Ahead.{past_n}
-use Rattle.rx_reader.specs.Escapes.{boundary, one_letter, lettered, escape}
+use Rattle.rx_reader.specs.Escapes.{leading, in_name, property_in_braces, property, boundary, one_letter, lettered, escape}
 use Rattle.rx_reader.specs.Syntax.{Syntax, literal, atom}
 use Rattle.rx_reader.specs.Grammar.{escaped_atom, escaped, token}
 use Rattle.rx_reader.specs.Plain.{is_meta, escaped_one}
-use Rattle.rx_reader.specs.Printable.{HasAssertionText}
-use Rattle.rx_reader.specs.Printed.{perl_text, assertion_text}
+use Rattle.rx_reader.specs.Printed.{perl_text, assertion_text, atom_text}
 use Rattle.rx_reader.proofs.lemmas.patterns.PlainLemmas.{escape_if, escape-goes, IsNext, next-escaped, next-plain}
-use Rattle.rx_reader.proofs.lemmas.printed.TextLemmas.{onto, goes-on, here}
+use Rattle.rx_reader.proofs.lemmas.printed.TextLemmas.{onto, goes-on, here, while-front, past-front, turned, calm, no-word}
 use Rattle.rx_reader.proofs.lemmas.tokens.TokenLemmas.{token-some, begins-escape, begins-dot, begins-start, begins-end}
 
 -- Escapes.
@@ -55,6 +57,19 @@ module _ (octal : Bool) where
   perl-escapes Space true rest p = (past (past (onto (92 ∷ 83 ∷ rest) p)), letter-escapes 83 rest p refl refl)
   perl-escapes Word false rest p = (past (past (onto (92 ∷ 119 ∷ rest) p)), letter-escapes 119 rest p refl refl)
   perl-escapes Word true rest p = (past (past (onto (92 ∷ 87 ∷ rest) p)), letter-escapes 87 rest p refl refl)
+
+-- what stands after `\p`, by the tests of its definition
+property_if : (from : Place) → (negated : Bool) → Place → (ends braces caret : Bool) → Read Escaped
+property_if from negated p ends braces caret =
+    let q = past p in
+    if ends then refuse Escape from p
+    else if not braces then Ok (Property (first p ∷ []) negated, q)
+    else if caret then property_in_braces from (not negated) (past q)
+    else property_in_braces from negated q
+
+-- the name that begins at p and ends before q
+braces_if : (from : Place) → (negated : Bool) → (p q : Place) → (ends : Bool) → Read Escaped
+braces_if from negated p q ends = if ends then refuse Escape from q else Ok (Property (leading (in_name Braces) p.text) negated, past q)
 
 -- Tokens.
 
@@ -115,6 +130,52 @@ module _ (config : Config) (flags : Flags) where
   perl-reads Word false rest p = perl-at 119 Word false rest p (perl-escapes (octal_of config) Word false rest p)
   perl-reads Word true rest p = perl-at 87 Word true rest p (perl-escapes (octal_of config) Word true rest p)
 
+  -- a named set, from the brace on
+  in-braces : (from : Place) (negated : Bool) (name rest : List ℕ) (p : Place) → list_all (in_name Braces) name ≡ true
+      → starts_with nat_eq name (codes "^") ≡ false
+      → (q : Place) × (property from negated (onto (123 ∷ name ++ 125 ∷ rest) p) ≡ Ok (Property name negated, onto rest q))
+  unfolding property property_in_braces property_if braces_if
+  in-braces from negated name rest p all plain =
+      let start : Place = onto (123 ∷ name ++ 125 ∷ rest) p in
+      let inner : Place = past start in
+      let end = past-front (in_name Braces) name 125 rest inner all refl in
+      let bracket : Place = onto (125 ∷ rest) end.0 in (
+        past bracket,
+        ap (λ (b : Bool). property_if from negated start b (is_at "{" start) (is_at "^" inner)) (goes-on 123 (name ++ 125 ∷ rest) p)
+            ∙ ap (λ (b : Bool). property_if from negated start false b (is_at "^" inner)) (here "{" 123 (name ++ 125 ∷ rest) p)
+            ∙ ap (property_if from negated start false true) (no-caret name rest inner plain)
+            ∙ ap (λ (q : Place). braces_if from negated inner q (at_end q)) end.1
+            ∙ ap (braces_if from negated inner bracket) (goes-on 125 rest end.0)
+            ∙ ap (λ (xs : List ℕ). Ok (Property xs negated, past bracket)) (while-front (in_name Braces) name 125 rest all refl),
+      )
+    where
+      no-caret : (name rest : List ℕ) (p : Place) → starts_with nat_eq name (codes "^") ≡ false → is_at "^" (onto (name ++ 125 ∷ rest) p) ≡ false
+      no-caret [] rest p h = here "^" 125 rest p
+      no-caret (c ∷ cs) rest p h = here "^" c (cs ++ 125 ∷ rest) p ∙ turned c 94 (by (94 == c) refl h)
+        where
+          by : (b : Bool) → (94 == c) ≡ b → (b && true) ≡ false → (94 == c) ≡ false
+          by true is g = absurd (true≢false g)
+          by false is g = is
+
+  pub property-reads : (name : List ℕ) (negated : Bool) (rest : List ℕ) (p : Place) → list_all (in_name Braces) name ≡ true
+      → starts_with nat_eq name (codes "^") ≡ false
+      → Atoms (atom_text (atoms.Property name negated)) (atoms.Property name negated) rest p
+  unfolding lettered
+  property-reads name true rest p all plain =
+      let more : List ℕ = 123 ∷ name ++ 125 ∷ rest in
+      let start : Place = onto (92 ∷ 80 ∷ more) p in
+      let found = in-braces start true name rest (past (past start)) all plain in
+      let read = escape-reads 80 more rest p found.0 (Property name true) (atoms.Property name true)
+      (letter-escapes (octal_of config) 80 more p refl refl ∙ found.1) (λ piece. refl) in
+      (read.0, (found.0, ap (λ (t : List ℕ). token config flags (onto (92 ∷ 80 ∷ 123 ∷ t) p)) (append_assoc name (codes "}") rest) ∙ read.1))
+  property-reads name false rest p all plain =
+      let more : List ℕ = 123 ∷ name ++ 125 ∷ rest in
+      let start : Place = onto (92 ∷ 112 ∷ more) p in
+      let found = in-braces start false name rest (past (past start)) all plain in
+      let read = escape-reads 112 more rest p found.0 (Property name false) (atoms.Property name false)
+      (letter-escapes (octal_of config) 112 more p refl refl ∙ found.1) (λ piece. refl) in
+      (read.0, (found.0, ap (λ (t : List ℕ). token config flags (onto (92 ∷ 112 ∷ 123 ∷ t) p)) (append_assoc name (codes "}") rest) ∙ read.1))
+
   -- an assertion after a backslash
   stands-at : (d : ℕ) (more rest : List ℕ) (p q : Place) (kind : AssertionKind) → is_digit d 8 ≡ false → is_ascii_digit d ≡ false
       → lettered (onto (92 ∷ d ∷ more) p) (past (onto (92 ∷ d ∷ more) p)) ≡ Ok (Assertion kind, onto rest q)
@@ -124,9 +185,17 @@ module _ (config : Config) (flags : Flags) where
       (λ piece. refl) in
       (read.0, q, read.1)
 
-  pub assertion-reads : (kind : AssertionKind) (rest : List ℕ) (p : Place) → HasAssertionText kind → Atoms (assertion_text kind) (atoms.Assertion kind) rest p
-  unfolding lettered one_letter boundary past_n
-  assertion-reads StartLine rest p has =
+  boundary_if : Place → (a b c d : Bool) → AssertionKind × Place
+  boundary_if p a b c d =
+      if a then (WordBoundaryStart, past_n 7 p)
+      else if b then (WordBoundaryEnd, past_n 5 p)
+      else if c then (WordBoundaryStartHalf, past_n 12 p)
+      else if d then (WordBoundaryEndHalf, past_n 10 p)
+      else (WordBoundary, p)
+
+  pub assertion-reads : (kind : AssertionKind) (rest : List ℕ) (p : Place) → calm rest ≡ true → Atoms (assertion_text kind) (atoms.Assertion kind) rest p
+  unfolding lettered one_letter boundary past_n boundary_if
+  assertion-reads StartLine rest p h =
       let start : Place = onto (94 ∷ rest) p in (
         piece_of start (past start),
         (
@@ -135,7 +204,7 @@ module _ (config : Config) (flags : Flags) where
               ∙ begins-start config 94 flags start refl,
         ),
       )
-  assertion-reads EndLine rest p has =
+  assertion-reads EndLine rest p h =
       let start : Place = onto (36 ∷ rest) p in (
         piece_of start (past start),
         (
@@ -144,22 +213,29 @@ module _ (config : Config) (flags : Flags) where
               ∙ begins-end config 36 flags start refl,
         ),
       )
-  assertion-reads StartText rest p has = let found = stands-at 65 rest rest p (past_n 2 (onto (codes "\\A" ++ rest) p)) StartText refl refl refl in
+  assertion-reads StartText rest p h = let found = stands-at 65 rest rest p (past_n 2 (onto (codes "\\A" ++ rest) p)) StartText refl refl refl in
       (found.0, (found.1, found.2))
-  assertion-reads EndText rest p has = let found = stands-at 122 rest rest p (past_n 2 (onto (codes "\\z" ++ rest) p)) EndText refl refl refl in
+  assertion-reads EndText rest p h = let found = stands-at 122 rest rest p (past_n 2 (onto (codes "\\z" ++ rest) p)) EndText refl refl refl in
       (found.0, (found.1, found.2))
-  assertion-reads WordBoundary rest p has = absurd has
-  assertion-reads NotWordBoundary rest p has = let found = stands-at 66 rest rest p
+  assertion-reads WordBoundary rest p h =
+      let start : Place = onto (codes "\\b" ++ rest) p in
+      let q : Place = past_n 2 start in
+      let goes : boundary q ≡ (WordBoundary, q) =
+      (λ i. boundary_if q (no-word rest 115 (codes "tart}") h refl i) (no-word rest 101 (codes "nd}") h refl i)
+      (no-word rest 115 (codes "tart-half}") h refl i) (no-word rest 101 (codes "nd-half}") h refl i)) in
+      let found = stands-at 98 rest rest p q WordBoundary refl refl (ap (λ (x : AssertionKind × Place). Ok (Assertion x.0, x.1)) goes) in
+      (found.0, (found.1, found.2))
+  assertion-reads NotWordBoundary rest p h = let found = stands-at 66 rest rest p
       (past_n 2 (onto (codes "\\B" ++ rest) p)) NotWordBoundary refl refl refl in (found.0, (found.1, found.2))
-  assertion-reads WordBoundaryStart rest p has =
+  assertion-reads WordBoundaryStart rest p h =
       let found = stands-at 98 (codes "{start}" ++ rest) rest p (past_n 9 (onto (codes "\\b{start}" ++ rest) p)) WordBoundaryStart refl refl refl in
       (found.0, (found.1, found.2))
-  assertion-reads WordBoundaryEnd rest p has =
+  assertion-reads WordBoundaryEnd rest p h =
       let found = stands-at 98 (codes "{end}" ++ rest) rest p (past_n 7 (onto (codes "\\b{end}" ++ rest) p)) WordBoundaryEnd refl refl refl in
       (found.0, (found.1, found.2))
-  assertion-reads WordBoundaryStartHalf rest p has =
+  assertion-reads WordBoundaryStartHalf rest p h =
       let found = stands-at 98 (codes "{start-half}" ++ rest) rest p
       (past_n 14 (onto (codes "\\b{start-half}" ++ rest) p)) WordBoundaryStartHalf refl refl refl in (found.0, (found.1, found.2))
-  assertion-reads WordBoundaryEndHalf rest p has =
+  assertion-reads WordBoundaryEndHalf rest p h =
       let found = stands-at 98 (codes "{end-half}" ++ rest) rest p
       (past_n 12 (onto (codes "\\b{end-half}" ++ rest) p)) WordBoundaryEndHalf refl refl refl in (found.0, (found.1, found.2))

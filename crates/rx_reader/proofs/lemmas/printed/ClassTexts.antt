@@ -1,5 +1,5 @@
 -- The text of a class in brackets reads as it.
-use Rattle.std.proofs.Common.{◌≡◌, ℕ, ◌+◌, ◌<◌, ◌≤◌, ◌==◌, Bool, true, false, not, ◌&&◌, ◌||◌, List, [], ◌∷◌, ◌++◌, length, Ok, refl, ◌∙◌, ap, sym, subst, append_assoc, arith}
+use Rattle.std.proofs.Common.{◌≡◌, ℕ, ◌<◌, ◌≤◌, ◌==◌, Bool, true, false, not, ◌&&◌, List, [], ◌∷◌, ◌++◌, length, Ok, refl, ◌∙◌, ap, sym, subst, append_assoc, arith}
 use Rattle.std.proofs.lemmas.Bool.Decides.{nat_tests}
 use Rattle.std.specs.Prelude.{codes, nat_eq, nat_lt, flat_map, Option, Some, None, if◌then◌else◌}
 use Rattle.std.specs.List.{AllByRecursion, starts_with}
@@ -18,17 +18,17 @@ use Rattle.rx_reader.specs.declared.error.SyntaxErrorKind.TheVariants.{UnclosedC
 use Rattle.rx_reader.specs.declared.escape.Escaped.{Escaped}
 use Rattle.rx_reader.specs.declared.token.Token.TheVariants as tokens
 use Rattle.rx_reader.specs.Config.{octal_of}
-use Rattle.rx_reader.specs.Reading.{Place, Read, ◌>>=◌, refuse, piece_of, at_end, first, past, ◌∈◌, is_at, begins}
+use Rattle.rx_reader.specs.Reading.{Place, Read, ◌>>=◌, refuse, piece_of, at_end, first, past, is_at, begins}
 use Rattle.rx_reader.specs.Ahead.{past_n}
 use Rattle.rx_reader.specs.Escapes.{escape}
-use Rattle.rx_reader.specs.Classes.{plain, item_of, escaped_member, posix, is_set_operator, range_of, member, next_text, begins_range, class_range, item_at, class_item, with_item, class_items, all_class_items, class}
+use Rattle.rx_reader.specs.Classes.{plain, item_of, escaped_member, posix, is_set_operator, range_of, member, class_range, item_at, class_item, with_item, all_class_items, class}
 use Rattle.rx_reader.specs.Syntax.{atom}
-use Rattle.rx_reader.specs.Grammar.{is_operator, bracketed, token}
+use Rattle.rx_reader.specs.Grammar.{is_operator, bracketed}
 use Rattle.rx_reader.specs.Plain.{is_meta, escaped_one}
 use Rattle.rx_reader.specs.Printable.{HasItemText}
-use Rattle.rx_reader.specs.Printed.{perl_text, range_text, class_item_text, class_text}
+use Rattle.rx_reader.specs.Printed.{perl_text, class_item_text, class_text}
 use Rattle.rx_reader.proofs.lemmas.patterns.PlainLemmas.{apart, escape-itself}
-use Rattle.rx_reader.proofs.lemmas.printed.TextLemmas.{onto, goes-on, here, same-number}
+use Rattle.rx_reader.proofs.lemmas.printed.TextLemmas.{onto, goes-on, here, same-number, turned}
 use Rattle.rx_reader.proofs.lemmas.printed.AtomTexts.{perl-escapes, Atoms}
 use Rattle.rx_reader.proofs.lemmas.tokens.EscapeEnds.{all_class_items-step}
 use Rattle.rx_reader.proofs.lemmas.tokens.TokenLemmas.{token-some, begins-class}
@@ -70,9 +70,6 @@ item-begins (Range low high) more has =
 item-begins (Perl kind negated) more has = perl-begins kind negated more
 item-begins (Posix kind negated) more has = absurd has
 item-begins (Property piece name negated) more has = absurd has
-
-turned : (d c : ℕ) → (c == d) ≡ false → (d == c) ≡ false
-turned d c other = grind (arith, nat_tests, other)
 
 first-other : (d c : ℕ) (cs : List ℕ) → (c == d) ≡ false → starts_with nat_eq (c ∷ cs) (d ∷ []) ≡ false
 first-other d c cs other = rw (turned d c other) refl

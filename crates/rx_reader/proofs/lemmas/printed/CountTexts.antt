@@ -1,13 +1,12 @@
 -- The text of an operator of repetition reads as it.
-use Rattle.std.proofs.Common.{◌≡◌, ℕ, zero, suc, ◌+◌, ◌-◌, ◌*◌, ◌^◌, ◌<◌, ◌≤◌, ◌==◌, Bool, true, false, not, ◌&&◌, List, [], ◌∷◌, ◌++◌, length, cond, Ok, refl, ◌∙◌, ap, sym, subst, true≢false, append_assoc, arith}
+use Rattle.std.proofs.Common.{◌≡◌, ℕ, ◌+◌, ◌-◌, ◌*◌, ◌<◌, ◌≤◌, ◌==◌, Bool, true, false, not, ◌&&◌, List, [], ◌∷◌, ◌++◌, length, Ok, refl, ◌∙◌, ap, sym, subst, append_assoc, arith}
 use Rattle.std.proofs.lemmas.Bool.{and_parts}
 use Rattle.std.proofs.lemmas.Bool.Decides.{nat_tests}
 use Rattle.std.proofs.lemmas.Fmt.{digits_decimal, digits_value-decimal, decimal_nonempty}
-use Rattle.std.proofs.lemmas.List.Sums.{take_while-cons}
-use Rattle.std.proofs.lemmas.Str.Parse.{IsNumeralModel, FoldsDigits, numerals_by_fold, tells_all_ascii_digits}
+use Rattle.std.proofs.lemmas.Str.Parse.{IsNumeralModel, numerals_by_fold, tells_all_ascii_digits}
 use Rattle.std.specs.Bool.{beq}
-use Rattle.std.specs.Prelude.{codes, decimal, fold, nat_eq, nat_lt, Option, Some, None, IfSome, if◌then◌else◌}
-use Rattle.std.specs.List.{starts_with, take_while}
+use Rattle.std.specs.Prelude.{codes, decimal, fold, nat_eq, nat_lt, Option, Some, None, if◌then◌else◌}
+use Rattle.std.specs.List.{list_all, starts_with, take_while}
 use Rattle.std.specs.Char.{is_ascii_digit}
 use Rattle.std.specs.Str.{all_ascii_digits}
 use Rattle.rx_reader.specs.declared.flags.Flags.{Flags}
@@ -20,7 +19,7 @@ use Rattle.rx_reader.specs.Counts.{numeral, greatest_count, within, number_of, n
 use Rattle.rx_reader.specs.Printable.{HasCountsText}
 use Rattle.rx_reader.specs.Printed.{up_to, counts_text, sign_text}
 use Rattle.rx_reader.proofs.lemmas.places.AheadLemmas.{skip_none}
-use Rattle.rx_reader.proofs.lemmas.printed.TextLemmas.{onto, here, past-text, same-number, differ}
+use Rattle.rx_reader.proofs.lemmas.printed.TextLemmas.{onto, here, past-text, while-front, same-number, differ, calm, first-calm}
 
 -- Numbers.
 
@@ -34,13 +33,11 @@ all-digits n small = digits_decimal own n (omega arith)
 
 -- digits in front of something else
 digits-front : (ds : List ℕ) (c : ℕ) (more : List ℕ) → all_ascii_digits ds ≡ true → is_ascii_digit c ≡ false → take_while is_ascii_digit (ds ++ c ∷ more) ≡ ds
-digits-front [] c more digits other =
-    take_while-cons is_ascii_digit c more ∙ ap (λ (b : Bool). cond b (c ∷ take_while is_ascii_digit more) []) other
-digits-front (d ∷ ds) c more digits other =
-    let both = and_parts (is_ascii_digit d) (all_ascii_digits ds) digits in
-    take_while-cons is_ascii_digit d (ds ++ c ∷ more)
-    ∙ ap (λ (b : Bool). cond b (d ∷ take_while is_ascii_digit (ds ++ c ∷ more)) []) both.0
-    ∙ ap (λ (xs : List ℕ). d ∷ xs) (digits-front ds c more both.1 other)
+digits-front ds c more digits other = while-front is_ascii_digit ds c more (each ds ∙ digits) other
+  where
+    each : (xs : List ℕ) → list_all is_ascii_digit xs ≡ all_ascii_digits xs
+    each [] = refl
+    each (x ∷ xs) = ap (λ (b : Bool). is_ascii_digit x && b) (each xs)
 
 number-is : (n : ℕ) → n ≤ greatest_count → number_of (decimal n) ≡ Some n
 number-is n small =
@@ -271,3 +268,29 @@ module _ (flags : Flags) (solid : flags.ignore_whitespace ≡ false) where
           (subst (λ (n : ℕ). Operates (63 ∷ mark greedy ++ rest) 0 (Some n) greedy rest p) (sym (same-number max 1 both.1))
           (sign-operates 63 greedy rest p none refl refl))
       by false is = counts-say min (Some max) greedy rest p none h
+
+-- After an item with such an operator, or after a sign, no word in braces can be meant.
+
+digits-calm : (ds xs m rest : List ℕ) → 0 < length ds → all_ascii_digits ds ≡ true → calm ((123 ∷ (ds ++ xs) ++ m) ++ rest) ≡ true
+digits-calm [] xs m rest some digits = absurd (omega arith)
+digits-calm (d ∷ ds) xs m rest some digits = (and_parts (is_ascii_digit d) (all_ascii_digits ds) digits).0
+
+pub counts-calm : (min : ℕ) (max : Option ℕ) (m rest : List ℕ) → HasCountsText min max → calm ((counts_text min max ++ m) ++ rest) ≡ true
+counts-calm min max m rest h =
+    digits-calm (decimal min) (up_to min max ++ codes "}") m rest (decimal_nonempty min (omega (arith, h.0))) (all-digits min h.0)
+
+pub sign-calm : (min : ℕ) (max : Option ℕ) (m rest : List ℕ) → HasCountsText min max → calm ((sign_text min max ++ m) ++ rest) ≡ true
+sign-calm min None m rest h = star (min == 0)
+  where
+    plus : (b : Bool) → calm (((if b then codes "+" else counts_text min None) ++ m) ++ rest) ≡ true
+    plus true = first-calm 43 (m ++ rest) refl
+    plus false = counts-calm min None m rest h
+
+    star : (b : Bool) → calm (((if b then codes "*" else if min == 1 then codes "+" else counts_text min None) ++ m) ++ rest) ≡ true
+    star true = first-calm 42 (m ++ rest) refl
+    star false = plus (min == 1)
+sign-calm min (Some max) m rest h = by (min == 0 && max == 1)
+  where
+    by : (b : Bool) → calm (((if b then codes "?" else counts_text min (Some max)) ++ m) ++ rest) ≡ true
+    by true = first-calm 63 (m ++ rest) refl
+    by false = counts-calm min (Some max) m rest h

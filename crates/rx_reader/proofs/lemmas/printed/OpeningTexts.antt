@@ -1,22 +1,19 @@
 -- The text before a group's body reads as its opening.
-use Rattle.std.proofs.Common.{◌≡◌, ℕ, Bool, true, false, not, ◌&&◌, ◌||◌, ◌==◌, List, [], ◌∷◌, ◌++◌, Ok, refl, ◌∙◌, ap, sym}
-use Rattle.std.specs.Prelude.{codes, nat_eq, if◌then◌else◌}
-use Rattle.std.specs.List.{starts_with}
+use Rattle.std.proofs.Common.{◌≡◌, ℕ, Bool, true, false, not, ◌&&◌, ◌||◌, ◌==◌, List, [], ◌∷◌, ◌++◌, Ok, refl, ◌∙◌, ap}
+use Rattle.std.specs.Prelude.{codes, if◌then◌else◌}
 use Rattle.rx_reader.specs.declared.config.Config.{Config}
 use Rattle.rx_reader.specs.declared.flags.Flags.{Flags}
 use Rattle.rx_reader.specs.declared.error.SyntaxErrorKind.TheVariants.{UnclosedGroup, Flag}
 use Rattle.rx_reader.specs.declared.group_kind.GroupKind.{GroupKind}
 use Rattle.rx_reader.specs.declared.group_kind.GroupKind.TheVariants.{NonCapturing, CaptureIndex, CaptureName}
-use Rattle.rx_reader.specs.declared.opening.Opening.{Opening}
 use Rattle.rx_reader.specs.declared.opening.Opening.TheVariants.{Group, Directive}
-use Rattle.rx_reader.specs.declared.token.Token.{Token}
 use Rattle.rx_reader.specs.declared.token.Token.TheVariants.{Opens}
-use Rattle.rx_reader.specs.Reading.{Place, Read, ◌>>=◌, refuse, at_end, first, past, ◌∈◌, is_at, begins, count_group}
+use Rattle.rx_reader.specs.Reading.{Place, Read, ◌>>=◌, refuse, past, ◌∈◌, is_at, count_group}
 use Rattle.rx_reader.specs.Ahead.{past_n}
 use Rattle.rx_reader.specs.Flags.{letters_after, changed, ends_with_hyphen, read_flags}
 use Rattle.rx_reader.specs.Openings.{flagged, plain, opening}
 use Rattle.rx_reader.specs.Groups.{number_after}
-use Rattle.rx_reader.specs.Grammar.{opens, token}
+use Rattle.rx_reader.specs.Grammar.{token}
 use Rattle.rx_reader.specs.Printable.{IsUnnamed, bare_kind}
 use Rattle.rx_reader.specs.Printed.{opening_text}
 use Rattle.rx_reader.proofs.lemmas.printed.TextLemmas.{onto, goes-on, here, quiet, no-question}

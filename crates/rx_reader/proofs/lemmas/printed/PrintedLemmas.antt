@@ -1,5 +1,5 @@
 -- The text of a syntax reads as it.
-use Rattle.std.proofs.Common.{◌≡◌, ℕ, ◌+◌, ◌≤◌, ◌==◌, Bool, true, false, not, ◌&&◌, List, [], ◌∷◌, ◌++◌, length, Ok, Err, refl, ◌∙◌, ap, sym, true≢false, append_assoc, arith}
+use Rattle.std.proofs.Common.{◌≡◌, ℕ, ◌+◌, ◌≤◌, Bool, true, false, List, [], ◌∷◌, ◌++◌, Ok, Err, refl, ◌∙◌, ap, sym, true≢false, append_assoc, arith}
 use Rattle.std.proofs.lemmas.Bool.Decides.{nat_tests}
 use Rattle.std.proofs.lemmas.List.{append-nil}
 use Rattle.std.specs.Prelude.{codes, max, nat_eq, nat_lt, Option, if◌then◌else◌}
@@ -11,32 +11,30 @@ use Rattle.rx_reader.specs.declared.assertion.AssertionKind.TheVariants.{StartLi
 use Rattle.rx_reader.specs.declared.atom.Atom.{Atom}
 use Rattle.rx_reader.specs.declared.atom.Atom.TheVariants.{HexByte, Dot, Assertion, Perl, Property, Bracketed}
 use Rattle.rx_reader.specs.declared.config.Config.{Config}
-use Rattle.rx_reader.specs.declared.error.SyntaxErrorKind.TheVariants.{UnclosedGroup, UnopenedGroup, NestLimit}
+use Rattle.rx_reader.specs.declared.error.SyntaxErrorKind.TheVariants.{UnclosedGroup, NestLimit}
 use Rattle.rx_reader.specs.declared.flags.Flags.{Flags}
 use Rattle.rx_reader.specs.declared.group_kind.GroupKind.{GroupKind}
 use Rattle.rx_reader.specs.declared.group_kind.GroupKind.TheVariants.{NonCapturing, CaptureIndex, CaptureName}
 use Rattle.rx_reader.specs.declared.operator.Operator.{Operator}
-use Rattle.rx_reader.specs.declared.piece.Piece.{Piece}
 use Rattle.rx_reader.specs.declared.token.Token.{Token}
 use Rattle.rx_reader.specs.declared.token.Token.TheVariants.{End, Bar, Close, Opens, Atom as One}
 use Rattle.rx_reader.specs.Config.{flags_of, limit_of}
-use Rattle.rx_reader.specs.Reading.{Place, Read, ◌>>=◌, refuse, at_end, first, past, ◌∈◌}
-use Rattle.rx_reader.specs.Ahead.{skip}
+use Rattle.rx_reader.specs.Reading.{Place, Read, ◌>>=◌, refuse, past}
 use Rattle.rx_reader.specs.Counts.{operator}
 use Rattle.rx_reader.specs.Syntax.{Syntax, Syntaxes, literal, atom, repeated, group, cat, alt, nil, cons, syntaxes, depth, deepest}
 use Rattle.rx_reader.specs.Grammar.{is_operator, token, repeated_by, within_limit, all_repetitions, Branches, no_items, add_item, add_branch, whole, close_group, item_then, group_then, branches_at, token_then, all_branches, to_end, read}
 use Rattle.rx_reader.specs.Plain.{is_meta, escaped_one}
-use Rattle.rx_reader.specs.Printable.{bare, each_bare, bare_atom, bare_kind, nowhere, HasAtomText, HasAssertionText, HasCountsText, IsUnnamed, IsItem, IsBranch, IsPattern, AreItems, AreBranches}
-use Rattle.rx_reader.specs.Printed.{perl_text, assertion_text, class_text, atom_text, counts_text, sign_text, is_repeated, operator_text, opening_text, printed, printed_row, printed_branches}
+use Rattle.rx_reader.specs.Printable.{bare, each_bare, bare_atom, nowhere, HasAtomText, HasCountsText, IsUnnamed, IsItem, IsBranch, IsPattern, AreItems, AreBranches}
+use Rattle.rx_reader.specs.Printed.{perl_text, assertion_text, atom_text, counts_text, sign_text, is_repeated, operator_text, opening_text, printed, printed_row, printed_branches}
 use Rattle.rx_reader.proofs.lemmas.branches.BranchLemmas.{token-end, all_repetitions-step, all_branches-step}
 use Rattle.rx_reader.proofs.lemmas.branches.RepeatLemmas.{repeated_from, repeat_stops, repeat_goes}
 use Rattle.rx_reader.proofs.lemmas.patterns.PlainLemmas.{apart}
 use Rattle.rx_reader.proofs.lemmas.places.AheadLemmas.{skip_none}
-use Rattle.rx_reader.proofs.lemmas.printed.AtomTexts.{Atoms, literal-reads, dot-reads, assertion-reads, perl-reads}
+use Rattle.rx_reader.proofs.lemmas.printed.AtomTexts.{Atoms, literal-reads, dot-reads, assertion-reads, perl-reads, property-reads}
 use Rattle.rx_reader.proofs.lemmas.printed.ClassTexts.{bracketed-reads}
-use Rattle.rx_reader.proofs.lemmas.printed.CountTexts.{mark, Operates, counts-say, sign-says}
+use Rattle.rx_reader.proofs.lemmas.printed.CountTexts.{mark, Operates, counts-say, sign-says, counts-calm, sign-calm}
 use Rattle.rx_reader.proofs.lemmas.printed.OpeningTexts.{opening-reads}
-use Rattle.rx_reader.proofs.lemmas.printed.TextLemmas.{onto, goes-on, here, quiet, quiet-place, quiet-question}
+use Rattle.rx_reader.proofs.lemmas.printed.TextLemmas.{onto, goes-on, here, quiet, quiet-place, quiet-question, calm, quiet-calm}
 use Rattle.rx_reader.proofs.lemmas.tokens.TokenLemmas.{token-some, begins-bar, begins-close}
 
 -- Depth is no matter of places.
@@ -93,7 +91,8 @@ quiet-atom (HexByte c) more has = absurd has
 quiet-atom Dot more has = refl
 quiet-atom (Assertion kind) more has = quiet-assertion kind more
 quiet-atom (Perl kind negated) more has = quiet-perl kind negated more
-quiet-atom (Property name negated) more has = absurd has
+quiet-atom (Property name true) more has = refl
+quiet-atom (Property name false) more has = refl
 quiet-atom (Bracketed true items) more has = refl
 quiet-atom (Bracketed false items) more has = refl
 
@@ -226,13 +225,13 @@ module _ (config : Config) (flags : Flags) (solid : flags.ignore_whitespace ≡ 
 
   -- Atoms.
 
-  atom-reads : (a : Atom) (rest : List ℕ) (p : Place) → HasAtomText a → Atoms config flags (atom_text a) a rest p
-  atom-reads (HexByte c) rest p has = absurd has
-  atom-reads Dot rest p has = dot-reads config flags rest p
-  atom-reads (Assertion kind) rest p has = assertion-reads config flags kind rest p has
-  atom-reads (Perl kind negated) rest p has = perl-reads config flags kind negated rest p
-  atom-reads (Property name negated) rest p has = absurd has
-  atom-reads (Bracketed negated items) rest p has = bracketed-reads config flags solid negated items rest p has.0 has.1
+  atom-reads : (a : Atom) (rest : List ℕ) (p : Place) → HasAtomText a → calm rest ≡ true → Atoms config flags (atom_text a) a rest p
+  atom-reads (HexByte c) rest p has h = absurd has
+  atom-reads Dot rest p has h = dot-reads config flags rest p
+  atom-reads (Assertion kind) rest p has h = assertion-reads config flags kind rest p h
+  atom-reads (Perl kind negated) rest p has h = perl-reads config flags kind negated rest p
+  atom-reads (Property name negated) rest p has h = property-reads config flags name negated rest p has.0 has.1
+  atom-reads (Bracketed negated items) rest p has h = bracketed-reads config flags solid negated items rest p has.0 has.1
 
   item-of-token : (opened : ℕ) (s item : Syntax) (text own rest : List ℕ) (p q : Place) → text ≡ own ++ rest → bare item ≡ bare s
       → token config flags (onto (own ++ rest) p) ≡ Ok (One item, onto rest q) → ItemAt opened s text rest p
@@ -250,6 +249,11 @@ module _ (config : Config) (flags : Flags) (solid : flags.ignore_whitespace ≡ 
       → starts_with nat_eq (((if b then counts_text min max else sign_text min max) ++ m) ++ rest) (codes "?") ≡ false
   op-question min max m rest true is = refl
   op-question min max m rest false is = absurd (true≢false (sym is))
+
+  op-calm : (min : ℕ) (max : Option ℕ) (m rest : List ℕ) (b : Bool) → HasCountsText min max
+      → calm (((if b then counts_text min max else sign_text min max) ++ m) ++ rest) ≡ true
+  op-calm min max m rest true has = counts-calm min max m rest has
+  op-calm min max m rest false has = sign-calm min max m rest has
 
   op-says : (min : ℕ) (max : Option ℕ) (greedy : Bool) (rest : List ℕ) (p : Place) (b : Bool) → starts_with nat_eq rest (codes "?") ≡ false
       → HasCountsText min max
@@ -378,22 +382,22 @@ module _ (config : Config) (flags : Flags) (solid : flags.ignore_whitespace ≡ 
     unfolding IsItem bare
 
     item-at : (s : Syntax) (opened : ℕ) (text rest : List ℕ) (p : Place) → IsItem flags s → opened + depth s ≤ limit_of config → text ≡ printed swaps s ++ rest
-        → (is_repeated s ≡ true → starts_with nat_eq rest (codes "?") ≡ false) → ItemAt opened s text rest p
-    item-at (literal own c) opened text rest p has room is none =
+        → (is_repeated s ≡ true → starts_with nat_eq rest (codes "?") ≡ false) → calm rest ≡ true → ItemAt opened s text rest p
+    item-at (literal own c) opened text rest p has room is none after =
         let found = literal-reads config flags c rest p in
         item-of-token opened (literal own c) (literal flags c) text (escaped_one c) rest p found.0 is (ap (λ (f : Flags). literal f c) (sym has)) found.1
-    item-at (atom own piece a) opened text rest p has room is none =
-        let found = atom-reads a rest p has.1 in
+    item-at (atom own piece a) opened text rest p has room is none after =
+        let found = atom-reads a rest p has.1 after in
         item-of-token opened (atom own piece a) (atom flags found.0 a) text (atom_text a) rest p found.1.0 is
         (ap (λ (f : Flags). atom f nowhere (bare_atom a)) (sym has.0)) found.1.1
-    item-at (repeated min max greedy body) opened text rest p has room is none =
+    item-at (repeated min max greedy body) opened text rest p has room is none after =
         let op : List ℕ = operator_text swaps body min max greedy in
         let fits : opened + (depth body + 1) ≤ limit_of config = room in
         let inner : ItemAt opened body text (op ++ rest) p =
         item-at body opened text (op ++ rest) p has.1 (omega (arith, fits)) (is ∙ append_assoc (printed swaps body) op rest)
-        (op-question min max (mark flags solid greedy) rest (is_repeated body)) in
+        (op-question min max (mark flags solid greedy) rest (is_repeated body)) (op-calm min max (mark flags solid greedy) rest (is_repeated body) has.0) in
         repeat-item opened min max greedy body text rest p fits has.0 (none refl) inner
-    item-at (group kind body) opened text rest p has room is none =
+    item-at (group kind body) opened text rest p has room is none after =
         let inner : List ℕ = printed swaps body ++ 41 ∷ rest in
         let fits : opened + (depth body + 1) ≤ limit_of config = room in
         let grouped : text ≡ opening_text kind ++ inner =
@@ -402,8 +406,8 @@ module _ (config : Config) (flags : Flags) (solid : flags.ignore_whitespace ≡ 
         let found = group-item opened kind body rest p fits has.0 (quiet-pattern body (41 ∷ rest) has.1 refl) (λ q.
         pattern-at body (opened + 1) inner (41 ∷ rest) q has.1 (omega (arith, fits)) refl (at-bracket rest) refl) in
         (found.0, found.1, found.2, ap (λ (t : List ℕ). all_branches config flags opened (onto t p)) grouped ∙ found.3)
-    item-at (cat items) opened text rest p has room is none = absurd has
-    item-at (alt branches) opened text rest p has room is none = absurd has
+    item-at (cat items) opened text rest p has room is none after = absurd has
+    item-at (alt branches) opened text rest p has room is none after = absurd has
 
     row-at : (ss : Syntaxes) (opened : ℕ) (text rest : List ℕ) (p : Place) → AreItems flags ss → opened + deepest ss ≤ limit_of config
         → text ≡ printed_row swaps ss ++ rest
@@ -415,7 +419,7 @@ module _ (config : Config) (flags : Flags) (solid : flags.ignore_whitespace ≡ 
         let still : quiet tail ≡ true = quiet-row ss rest has.1 h in
         then-row opened s ss text tail rest p still
         (item-at s opened text tail p has.0 (omega (arith, room)) (is ∙ append_assoc (printed swaps s) (printed_row swaps ss) rest)
-        (λ any. quiet-question tail still))
+        (λ any. quiet-question tail still) (quiet-calm tail still))
         (λ q. row-at ss opened tail rest q has.1 (omega (arith, room)) refl h)
 
     pattern-at : (s : Syntax) (opened : ℕ) (text rest : List ℕ) (p : Place) → IsPattern flags s → opened + depth s ≤ limit_of config
