@@ -130,7 +130,11 @@ greatest-joined (h ∷ hs) = greatest-join h (joined hs) ∙ ap (λ n. max (grea
 
 row-joined : (hs : List Expression) → row_weight hs ≡ row_weight (joined hs)
 row-joined hs = sym (λ k. record {
-  states = capped (states-joined hs k); shape = Other; is_null = null-joined hs k; greatest_group = greatest-joined hs k })
+  states = capped (states-joined hs k);
+  shape = Other;
+  is_null = null-joined hs k;
+  greatest_group = greatest-joined hs k;
+})
 
 join-nil : (h : Expression) → join_literals h [] ≡ h ∷ []
 join-nil (literal a) = refl
@@ -167,7 +171,11 @@ joined-more h i hs = join-more h (joined (i ∷ hs)) (join-something i (joined h
 weight-concat : (h i : Expression) (hs : List Expression) → weight_of (concat (expressions (h ∷ i ∷ hs))) ≡ row_weight (h ∷ i ∷ hs)
 unfolding greatest_group
 weight-concat h i hs = λ k. record {
-  states = capped (states-row (h ∷ i ∷ hs) k); shape = Other; is_null = null-row (h ∷ i ∷ hs) k; greatest_group = greatest-row (h ∷ i ∷ hs) k }
+  states = capped (states-row (h ∷ i ∷ hs) k);
+  shape = Other;
+  is_null = null-row (h ∷ i ∷ hs) k;
+  greatest_group = greatest-row (h ∷ i ∷ hs) k;
+}
 
 weight-literal : (bytes : List ℕ) → weight_of (literal bytes) ≡ row_weight (literal bytes ∷ [])
 unfolding greatest_group
@@ -218,7 +226,11 @@ row-some h [] w is =
     let states : accounted_states h ≡ accounted_states h + 0 = omega arith in
     let greatest : greatest_group h ≡ max (greatest_group h) 0 = omega arith in
     subst P (sym is.weight) (record {
-      something = one-something h is.alone; states = ap capped states; null = sym (and-true (is_zero (maximum_len h))); greatest = greatest })
+      something = one-something h is.alone;
+      states = ap capped states;
+      null = sym (and-true (is_zero (maximum_len h)));
+      greatest = greatest;
+    })
 row-some h (i ∷ hs) w is =
     let P : Weight → Type 0 = IsSome (h ∷ i ∷ hs) in
     subst P (sym is) (record { something = refl; states = refl; null = refl; greatest = refl })
@@ -284,7 +296,10 @@ choice-any h [] w is =
     let states : accounted_states h ≡ accounted_states h + 0 = omega arith in
     let greatest : greatest_group h ≡ max (greatest_group h) 0 = omega arith in
     subst P (sym is.weight) (record {
-      states = only-states h is.normal is.alone ∙ ap capped states; null = sym (and-true (is_zero (maximum_len h))); greatest = greatest })
+      states = only-states h is.normal is.alone ∙ ap capped states;
+      null = sym (and-true (is_zero (maximum_len h)));
+      greatest = greatest;
+    })
 choice-any h (i ∷ hs) w is =
     let P : Weight → Type 0 = IsAny (h ∷ i ∷ hs) in
     subst P (sym is) (any-more h i hs)
@@ -304,7 +319,11 @@ choice-both h i hs xs ys a b p q same =
     let most : max a.greatest_group b.greatest_group ≡ greatest_of (xs ++ ys) = omega (arith, greatest-append xs ys, p.greatest, q.greatest) in
     let greatest : max a.greatest_group b.greatest_group ≡ greatest_in (expressions all) = most ∙ ap greatest_of same ∙ sym (greatest-row all) in
     λ k. record {
-      states = one_more (capped (av + bv)) (accounted_in (expressions all)) inner k; shape = Alternatives (inner k); is_null = null k; greatest_group = greatest k }
+      states = one_more (capped (av + bv)) (accounted_in (expressions all)) inner k;
+      shape = Alternatives (inner k);
+      is_null = null k;
+      greatest_group = greatest k;
+    }
 
 pub choice-append : (xs ys : List Expression) (a b : Weight) → IsChoice xs a → IsChoice ys b → IsChoice (xs ++ ys) (either a b)
 choice-append [] ys a b p q = absurd p
@@ -340,7 +359,11 @@ some-weight : (least : ℕ) (greatest : Option ℕ) (greedy : Bool) (h : Express
     → weight_of (repetition least greatest greedy h) ≡ some_copies least greatest (weight_of h)
 unfolding greatest_group
 some-weight least greatest greedy h null = λ k. record {
-  states = sym (capped-copies least greatest (accounted_states h)) k; shape = Other; is_null = null k; greatest_group = greatest_group h }
+  states = sym (capped-copies least greatest (accounted_states h)) k;
+  shape = Other;
+  is_null = null k;
+  greatest_group = greatest_group h;
+}
 
 endless-weight : (least : ℕ) (greedy : Bool) (h : Expression) → is_zero (maximum_len h) ≡ false
     → weight_of (repetition least None greedy h) ≡ some_copies least None (weight_of h)

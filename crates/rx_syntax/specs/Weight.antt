@@ -46,7 +46,11 @@ is_nothing Other = false
 
 abbrev pub in_row : Weight → Weight → Weight
 in_row a b = record {
-    states = capped (a.states + b.states); shape = Other; is_null = a.is_null && b.is_null; greatest_group = max a.greatest_group b.greatest_group }
+  states = capped (a.states + b.states);
+  shape = Other;
+  is_null = a.is_null && b.is_null;
+  greatest_group = max a.greatest_group b.greatest_group;
+}
 
 -- one after another
 abbrev pub followed : Weight → Weight → Weight

@@ -29,5 +29,5 @@ pub use patterns::{
     PatternsError, parse_all, parse_each, parse_many, parse_many_with, read_all, translate_all,
 };
 pub use rx_hir::{Capture, Class, Hir, HirKind, Look, Properties, Repetition, cost};
-pub use weight::{Weights, weigh_all, weigh_each};
 pub use rx_reader::{Ast, Config, ParseError, SyntaxError, SyntaxErrorKind};
+pub use weight::{Weights, weigh_all, weigh_each};

@@ -118,7 +118,11 @@ pub fn parse_all(
 }
 
 /// The syntax trees of the patterns, or the refusal of the first pattern that reading refuses.
-pub fn read_all(alloc: Global, patterns: &[&str], config: &Config) -> Result<Vec<Ast>, PatternsError>
+pub fn read_all(
+    alloc: Global,
+    patterns: &[&str],
+    config: &Config,
+) -> Result<Vec<Ast>, PatternsError>
     ensures value { MatchResult result
         (λ asts. all_syntaxes config.now (map (λ p. p.now) patterns.now) ≡ Ok asts.items)
         (λ e. RefusesAll e (all_syntaxes config.now (map (λ p. p.now) patterns.now))) }
@@ -136,7 +140,11 @@ pub fn read_all(alloc: Global, patterns: &[&str], config: &Config) -> Result<Vec
 }
 
 /// The expressions of the syntax trees, or the refusal of the first pattern that translation refuses.
-pub fn translate_all(alloc: Global, asts: &[Ast], config: &Config) -> Result<Vec<Hir>, PatternsError>
+pub fn translate_all(
+    alloc: Global,
+    asts: &[Ast],
+    config: &Config,
+) -> Result<Vec<Hir>, PatternsError>
     ensures value { MatchResult result
         (λ exprs. all_translated config.now asts.now ≡ Ok exprs.items)
         (λ e. RefusesAll e (all_translated config.now asts.now)) }

@@ -66,11 +66,7 @@ fn weigh_atom(
 
 /// The weight of one of these, the first preferred.
 #[cycle(weigh)]
-fn weigh_branches(
-    alloc: Global,
-    branches: &[Ast],
-    config: &Config,
-) -> Result<Weight, ParseError>
+fn weigh_branches(alloc: Global, branches: &[Ast], config: &Config) -> Result<Weight, ParseError>
     ensures { Weighs result (choice_of config.now branches.now) }
 {
     let mut whole = None;
@@ -96,12 +92,7 @@ fn weigh_items(alloc: Global, items: &[Item], config: &Config) -> Result<Weight,
 }
 
 /// The weight of what was weighed, and then characters in a row.
-fn with_run(
-    alloc: Global,
-    before: Weight,
-    flags: Flags,
-    run: &[char],
-) -> Result<Weight, Memory>
+fn with_run(alloc: Global, before: Weight, flags: Flags, run: &[char]) -> Result<Weight, Memory>
     ensures { (ps : List Expression) → IsRow ps before → IfOk result (IsRow (ps ++ flat_map parts_of (run_parts flags run.now))) }
 {
     if flags.case_insensitive {
@@ -111,12 +102,7 @@ fn with_run(
     Ok(before.followed(Weight::of(&hir)))
 }
 
-fn with_each(
-    alloc: Global,
-    before: Weight,
-    flags: Flags,
-    run: &[char],
-) -> Result<Weight, Memory>
+fn with_each(alloc: Global, before: Weight, flags: Flags, run: &[char]) -> Result<Weight, Memory>
     ensures { (ps : List Expression) → IsRow ps before → IfOk result (IsRow (ps ++ flat_map parts_of (map (in_either_case flags) run.now))) }
 {
     let mut row = before;

@@ -78,16 +78,16 @@ weigh_items-loop-item-preserved t c =
     let item = c.item-item.result in
     let lt = c.loop-item-test.true in
     elim c.match-item.branch as (λ _. ItemsWeighed config items (k + 1) c.match-item.row) [
-      weigh_items-in-Literals+in_ok-row-in-Literals w ↦
-        let flags = w.in-Literals.flags in
-        let row = w.in_ok-row-in-Literals.row in
-        subst (λ (x : Weight). ItemsWeighed config items (k + 1) x) (sym w.row-is)
-        (items-run config items k item c.loop-item.row row flags w.in-Literals.run' c.loop-item.invariant lt c.item-item.is w.in-Literals.is
-        (λ ps so. subst (λ (xs : List ℕ). IsRow (ps ++ flat_map parts_of (run_parts flags xs)) row) w.deref.ensures.value (w.in_ok-row-in-Literals.ensures ps so)))
-    | weigh_items-in-One+in_ok-weigh-in-One w ↦
-        let own = w.in_ok-weigh-in-One.field-0 in
-        subst (λ (x : Weight). ItemsWeighed config items (k + 1) x) (sym (w.row-is ∙ w.followed-row.ensures))
-        (items-one config items k item c.loop-item.row own w.in-One.ast c.loop-item.invariant lt c.item-item.is w.in-One.is w.in_ok-weigh-in-One.ensures)
+      | weigh_items-in-Literals+in_ok-row-in-Literals w ↦
+          let flags = w.in-Literals.flags in
+          let row = w.in_ok-row-in-Literals.row in
+          subst (λ (x : Weight). ItemsWeighed config items (k + 1) x) (sym w.row-is)
+          (items-run config items k item c.loop-item.row row flags w.in-Literals.run' c.loop-item.invariant lt c.item-item.is w.in-Literals.is
+          (λ ps so. subst (λ (xs : List ℕ). IsRow (ps ++ flat_map parts_of (run_parts flags xs)) row) w.deref.ensures.value (w.in_ok-row-in-Literals.ensures ps so)))
+      | weigh_items-in-One+in_ok-weigh-in-One w ↦
+          let own = w.in_ok-weigh-in-One.field-0 in
+          subst (λ (x : Weight). ItemsWeighed config items (k + 1) x) (sym (w.row-is ∙ w.followed-row.ensures))
+          (items-one config items k item c.loop-item.row own w.in-One.ast c.loop-item.invariant lt c.item-item.is w.in-One.is w.in_ok-weigh-in-One.ensures)
     ]
 
 pub weigh_items-returns : goal.weigh_items-returns
