@@ -2,7 +2,7 @@
 use Rattle.std.proofs.Common.{◌≡◌, ℕ, List, [], ◌∷◌, ◌++◌, ap, sym, ◌∙◌}
 use Rattle.std.specs.Prelude.{All}
 use Rattle.std.proofs.lemmas.List.Elements.{All-weaker, All-push}
-use Rattle.rx_class.specs.Ranges.{next_scalar, fewest, union, HaveScalarEnds}
+use Rattle.rx_class.specs.Ranges.{next_scalar, fewest, HaveScalarEnds}
 use Rattle.rx_class.proofs.EarlyLemmas.{both-ends, fewest-has-ends, fewest-front, union-held, union-twice}
 use Rattle.rx_syntax.specs.declared.named.SetKey.{SetKey}
 use Rattle.rx_syntax.specs.Named.{scalars_of}

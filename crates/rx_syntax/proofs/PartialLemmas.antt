@@ -1,6 +1,6 @@
 -- Classes that are gathered item by item.
 use Rattle.std.proofs.Common.{◌≡◌, ℕ, ◌+◌, ◌<◌, ◌≤◌, List, [], ◌++◌, length, get_or, refl, ap, sym, ◌∙◌}
-use Rattle.std.specs.Prelude.{Result, Ok, Err}
+use Rattle.std.specs.Prelude.{Result, Ok}
 use Rattle.rx_class.specs.Ranges.{next_scalar, fewest}
 use Rattle.rx_reader.specs.Reading.{◌>>=◌}
 use Rattle.rx_reader.specs.Refusal.{Refuses}

@@ -1,4 +1,4 @@
-use Rattle.std.proofs.Common.{◌≡◌, ◌++◌, ◌∙◌, sym}
+use Rattle.std.proofs.Common.{◌∙◌, sym}
 use Rattle.rx_class.proofs.EarlyLemmas.{both-ends}
 use Rattle.rx_syntax.specs.Named.{scalars_of}
 use Rattle.rx_syntax.proofs.HeldLemmas.{sets-held}
