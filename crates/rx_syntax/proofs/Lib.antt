@@ -1,11 +1,14 @@
 pub mod FewestLemmas
 pub mod GatherLemmas
 pub mod GivesLemmas
+pub mod HeldLemmas
+pub mod KeyLemmas
 pub mod AtomLemmas
 pub mod AtomGroups
 pub mod AtomUtf8
 pub mod GroupLemmas
 pub mod OrderedLemmas
+pub mod PartialLemmas
 pub mod PatternsLemmas
 pub mod PlainLemmas
 pub mod SizeLemmas

@@ -3,6 +3,8 @@ pub mod Refused
 pub mod Literals
 pub mod Assertions
 pub mod Classes
+pub mod Named
+pub mod Partial
 pub mod Translation
 pub mod ItemViews
 pub mod Pattern

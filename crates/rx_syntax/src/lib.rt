@@ -9,8 +9,11 @@
 mod assertion;
 mod bytes;
 mod characters;
+mod known;
 mod laws;
 pub mod literal;
+mod named;
+mod partial;
 mod pattern;
 mod patterns;
 mod scalars;

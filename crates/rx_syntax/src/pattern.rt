@@ -6,6 +6,7 @@ ghost use Rattle.rx_syntax.specs.Answers.{Answers};
 ghost use Rattle.rx_syntax.specs.Pattern.{reads};
 ghost use Rattle.rx_syntax.specs.Translation.{translated};
 
+use crate::known::KnownSets;
 use crate::translate::translate;
 use rx_hir::Hir;
 use rx_reader::{Ast, Config, ParseError, read};
@@ -39,5 +40,5 @@ pub fn read_with(alloc: Global, pattern: &str, config: &Config) -> Result<Ast, P
 pub fn translate_with(alloc: Global, ast: &Ast, config: &Config) -> Result<Hir, ParseError>
     ensures { Answers result (translated config.now ast.now) }
 {
-    translate(alloc, ast, config)
+    translate(alloc, ast, config, &mut KnownSets::new(alloc))
 }

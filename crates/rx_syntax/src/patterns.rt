@@ -4,6 +4,7 @@ ghost use Rattle.rx_reader.specs.Config.{default};
 ghost use Rattle.rx_syntax.specs.Answers.{AnswersAs};
 ghost use Rattle.rx_syntax.specs.Patterns.{all_syntaxes, all_translated, all_read, each_read, unnumbered, RefusesAll, IsWithin, error_at};
 
+use crate::known::KnownSets;
 use crate::pattern::parse_with;
 use crate::translate::translate;
 use rx_hir::Hir;
@@ -151,9 +152,10 @@ pub fn translate_all(
     ensures within { IfErr result (λ e. IsWithin e (length asts.now)) }
     ensures count { IfOk result (λ exprs. length exprs.items ≡ length asts.now) }
 {
+    let mut known = KnownSets::new(alloc);
     let mut exprs = Vec::new(alloc);
     for ast in asts {
-        match translate(alloc, ast, config) {
+        match translate(alloc, ast, config, &mut known) {
             Ok(expr) => exprs.push(expr)?,
             Err(error) => return Err(refused(exprs.len(), error)),
         }

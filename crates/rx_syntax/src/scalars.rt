@@ -1,18 +1,19 @@
 //! Classes of scalars, which are meant where the flag `u` is on.
-ghost use Rattle.std.specs.Prelude.{◌≡◌, IfOk, if◌then◌else◌};
-ghost use Rattle.rx_class.specs.Folding.{folded};
+ghost use Rattle.std.specs.Prelude.{◌≡◌, IfOk};
 ghost use Rattle.rx_class.specs.Ranges.{next_scalar, fewest};
-ghost use Rattle.rx_sets.specs.Ascii.{ascii_ranges};
-ghost use Rattle.rx_sets.specs.Members.{scalars_where};
-ghost use Rattle.rx_sets.specs.Perl.{is_perl_char};
 ghost use Rattle.rx_sets.specs.Property.{property};
 ghost use Rattle.rx_syntax.specs.Answers.{Answers, AnswersAs};
-ghost use Rattle.rx_syntax.specs.Classes.{scalars_under, scalars_named, item_scalars, all_scalars};
+ghost use Rattle.rx_syntax.specs.Classes.{scalars_under, scalars_named, item_scalars};
+ghost use Rattle.rx_syntax.specs.Named.{scalars_of};
+ghost use Rattle.rx_syntax.specs.Partial.{ranges_of, class_of_items};
 
+use crate::known::KnownSets;
+use crate::named::{NamedSet, SetKey, under};
+use crate::partial::{Added, PartialClass};
 use rx_class::ClassUnicode;
 use rx_reader::{ClassItem, Flags, ParseError, Piece, SyntaxErrorKind};
 use rx_search::Memory;
-use rx_sets::{ClassAsciiKind, ClassPerlKind, property};
+use rx_sets::PropertySet;
 use std::alloc::Global;
 
 /// What a class holds under the flags at it: with `i` the characters of either case, and then those that are
@@ -25,32 +26,23 @@ pub(crate) fn scalars_under(
 ) -> Result<ClassUnicode, Memory>
     ensures { IfOk result (λ class. class ≡ scalars_under flags negated members) }
 {
-    let all = in_either_case(flags, members)?;
-    if negated {
-        return all.complement(alloc);
-    }
-    Ok(all)
+    under(alloc, flags.case_insensitive, negated, members)
 }
 
-fn in_either_case(flags: Flags, members: ClassUnicode) -> Result<ClassUnicode, Memory>
-    ensures { IfOk result (λ class. class ≡ (if flags.case_insensitive then folded members else members)) }
-{
-    if flags.case_insensitive {
-        return members.case_fold_simple();
-    }
-    Ok(members)
-}
-
-/// What `\d` and its like hold.
-pub(crate) fn perl_scalars(
+/// The set `\p{name}`, if Unicode has a set of that name.
+fn property_key(
     alloc: Global,
     flags: Flags,
-    kind: ClassPerlKind,
+    piece: Piece,
+    name: &[char],
     negated: bool,
-) -> Result<ClassUnicode, Memory>
-    ensures { IfOk result (λ class. class ≡ scalars_under flags negated (scalars_where (is_perl_char kind))) }
+) -> Result<SetKey, ParseError>
+    ensures { AnswersAs scalars_of result (scalars_named flags piece negated (property name.now)) }
 {
-    scalars_under(alloc, flags, negated, kind.unicode(alloc)?)
+    match PropertySet::from_name(alloc, name)? {
+        Some(set) => Ok(SetKey::new(flags, NamedSet::Property(set), negated)),
+        None => Err(piece.refuse(SyntaxErrorKind::Property)),
+    }
 }
 
 /// What `\p{name}` holds, if Unicode has a set of that name.
@@ -60,26 +52,12 @@ pub(crate) fn named_scalars(
     piece: Piece,
     name: &[char],
     negated: bool,
+    known: &mut KnownSets,
 ) -> Result<ClassUnicode, ParseError>
     ensures { Answers result (scalars_named flags piece negated (property name.now)) }
 {
-    match property(alloc, name)? {
-        Some(members) => Ok(scalars_under(alloc, flags, negated, members)?),
-        None => Err(piece.refuse(SyntaxErrorKind::Property)),
-    }
-}
-
-/// What `[:name:]` holds.
-fn ascii_scalars(
-    alloc: Global,
-    flags: Flags,
-    kind: ClassAsciiKind,
-    negated: bool,
-) -> Result<ClassUnicode, Memory>
-    ensures { IfOk result (λ class. class ≡ scalars_under flags negated (fewest next_scalar (ascii_ranges kind))) }
-{
-    let members = class_of_bytes(alloc, kind.ranges())?;
-    scalars_under(alloc, flags, negated, members)
+    let key = property_key(alloc, flags, piece, name, negated)?;
+    Ok(known.scalars(key)?)
 }
 
 /// The characters with the numbers of these bytes.
@@ -93,48 +71,44 @@ pub(crate) fn class_of_bytes(alloc: Global, ranges: &[(u8, u8)]) -> Result<Class
     ClassUnicode::new(alloc, &scalars)
 }
 
-fn item_scalars(
-    alloc: Global,
-    flags: Flags,
-    item: &ClassItem,
-) -> Result<Vec<(char, char)>, ParseError>
-    ensures { AnswersAs (λ v. v.items) result (item_scalars flags item.now) }
+/// What an item adds to a class.
+fn added_by(alloc: Global, flags: Flags, item: &ClassItem) -> Result<Added, ParseError>
+    ensures { AnswersAs ranges_of result (item_scalars flags item.now) }
 {
     match item {
-        ClassItem::Range { low, high } => {
-            Ok(Vec::from_slice(alloc, &[(low.character, high.character)])?)
-        }
+        ClassItem::Range { low, high } => Ok(Added::Range(low.character, high.character)),
         ClassItem::Perl { kind, negated } => {
-            let class = perl_scalars(alloc, flags, *kind, *negated)?;
-            Ok(Vec::from_slice(alloc, class.ranges())?)
+            let set = NamedSet::Perl(*kind);
+            Ok(Added::Set(SetKey::new(flags, set, *negated)))
         }
         ClassItem::Posix { kind, negated } => {
-            let class = ascii_scalars(alloc, flags, *kind, *negated)?;
-            Ok(Vec::from_slice(alloc, class.ranges())?)
+            let set = NamedSet::Posix(*kind);
+            Ok(Added::Set(SetKey::new(flags, set, *negated)))
         }
         ClassItem::Property {
             piece,
             name,
             negated,
         } => {
-            let class = named_scalars(alloc, flags, *piece, name.as_slice(), *negated)?;
-            Ok(Vec::from_slice(alloc, class.ranges())?)
+            let key = property_key(alloc, flags, *piece, name.as_slice(), *negated)?;
+            Ok(Added::Set(key))
         }
     }
 }
 
-/// The ranges of the items of a class.
-pub(crate) fn all_scalars(
+/// The class of the items.
+pub(crate) fn gather(
     alloc: Global,
     flags: Flags,
     items: &[ClassItem],
-) -> Result<Vec<(char, char)>, ParseError>
-    ensures { AnswersAs (λ v. v.items) result (all_scalars flags items.now) }
+    known: &mut KnownSets,
+) -> Result<ClassUnicode, ParseError>
+    ensures { Answers result (class_of_items flags items.now) }
 {
-    let mut ranges = Vec::new(alloc);
+    let mut class = PartialClass::new(alloc);
     for item in items {
-        let mut more = item_scalars(alloc, flags, item)?;
-        ranges.append(&mut more)?;
+        let added = added_by(alloc, flags, item)?;
+        class = class.with(added, known)?;
     }
-    Ok(ranges)
+    Ok(class.build()?)
 }

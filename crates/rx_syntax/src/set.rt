@@ -4,7 +4,9 @@ ghost use Rattle.rx_syntax.specs.Answers.{Answers};
 ghost use Rattle.rx_syntax.specs.Classes.{scalar_class, perl_class, property_class, bracketed, line_ends, has_odd_terminator, dot};
 
 use crate::bytes::{all_bytes, ascii_bytes, byte_class, bytes_under};
-use crate::scalars::{all_scalars, class_of_bytes, named_scalars, perl_scalars, scalars_under};
+use crate::known::KnownSets;
+use crate::named::{NamedSet, SetKey};
+use crate::scalars::{class_of_bytes, gather, named_scalars, scalars_under};
 use rx_class::{Class, ClassBytes, ClassUnicode};
 use rx_hir::Hir;
 use rx_reader::{ClassItem, Config, Flags, ParseError, Piece, SyntaxErrorKind};
@@ -26,6 +28,7 @@ pub(crate) fn perl(
     piece: Piece,
     kind: ClassPerlKind,
     negated: bool,
+    known: &mut KnownSets,
 ) -> Result<Hir, ParseError>
     ensures { Answers result (perl_class config.now flags piece kind negated) }
 {
@@ -33,7 +36,7 @@ pub(crate) fn perl(
         let members = ascii_bytes(alloc, flags, kind.ascii(), negated)?;
         return byte_class(alloc, config, piece, members);
     }
-    let members = perl_scalars(alloc, flags, kind, negated)?;
+    let members = known.scalars(SetKey::new(flags, NamedSet::Perl(kind), negated))?;
     Ok(scalar_class(alloc, members)?)
 }
 
@@ -44,13 +47,14 @@ pub(crate) fn property(
     piece: Piece,
     name: &[char],
     negated: bool,
+    known: &mut KnownSets,
 ) -> Result<Hir, ParseError>
     ensures { Answers result (property_class flags piece name.now negated) }
 {
     if !flags.unicode {
         return Err(piece.refuse(SyntaxErrorKind::UnicodeOff));
     }
-    let members = named_scalars(alloc, flags, piece, name, negated)?;
+    let members = named_scalars(alloc, flags, piece, name, negated, known)?;
     Ok(scalar_class(alloc, members)?)
 }
 
@@ -62,12 +66,12 @@ pub(crate) fn bracketed(
     piece: Piece,
     negated: bool,
     items: &[ClassItem],
+    known: &mut KnownSets,
 ) -> Result<Hir, ParseError>
     ensures { Answers result (bracketed config.now flags piece negated items.now) }
 {
     if flags.unicode {
-        let ranges = all_scalars(alloc, flags, items)?;
-        let members = ClassUnicode::new(alloc, &ranges)?;
+        let members = gather(alloc, flags, items, known)?;
         let class = scalars_under(alloc, flags, negated, members)?;
         return Ok(scalar_class(alloc, class)?);
     }

@@ -11,6 +11,7 @@ ghost use Rattle.rx_syntax.specs.Refused.{gathered};
 use crate::assertion::look_of;
 use crate::bytes::hex_byte;
 use crate::characters::{character, push_run, text};
+use crate::known::KnownSets;
 use crate::set::{bracketed, dot, perl, property};
 use rx_hir::{Capture, Hir, Repetition};
 use rx_reader::{Ast, AstKind, Atom, Config, Flags, GroupKind, Item, ParseError, Piece};
@@ -25,6 +26,7 @@ pub(crate) fn atom(
     flags: Flags,
     piece: Piece,
     atom: &Atom,
+    known: &mut KnownSets,
 ) -> Result<Hir, ParseError>
     ensures { Answers result (atom_of config.now flags piece atom.now) }
 {
@@ -33,12 +35,22 @@ pub(crate) fn atom(
         Atom::HexByte(c) => hex_byte(alloc, config, flags, piece, *c),
         Atom::Dot => dot(alloc, config, flags, piece),
         Atom::Assertion(kind) => Ok(Hir::look(look_of(flags, *kind))),
-        Atom::Perl { kind, negated } => perl(alloc, config, flags, piece, *kind, *negated),
+        Atom::Perl { kind, negated } => {
+            perl(alloc, config, flags, piece, *kind, *negated, known)
+        }
         Atom::Property { name, negated } => {
-            property(alloc, flags, piece, name.as_slice(), *negated)
+            property(alloc, flags, piece, name.as_slice(), *negated, known)
         }
         Atom::Bracketed { negated, items } => {
-            bracketed(alloc, config, flags, piece, *negated, items.as_slice())
+            bracketed(
+                alloc,
+                config,
+                flags,
+                piece,
+                *negated,
+                items.as_slice(),
+                known,
+            )
         }
     }
 }
@@ -91,7 +103,12 @@ fn group(alloc: Global, kind: &GroupKind, sub: Hir) -> Result<Hir, Memory>
 
 /// The expression that a syntax stands for, or the first refusal from left to right.
 #[cycle(translate)]
-pub(crate) fn translate(alloc: Global, ast: &Ast, config: &Config) -> Result<Hir, ParseError>
+pub(crate) fn translate(
+    alloc: Global,
+    ast: &Ast,
+    config: &Config,
+    known: &mut KnownSets,
+) -> Result<Hir, ParseError>
     ensures { Answers result (translated config.now ast.now) }
 {
     match ast.kind() {
@@ -103,26 +120,26 @@ pub(crate) fn translate(alloc: Global, ast: &Ast, config: &Config) -> Result<Hir
             flags,
             piece,
             atom: own,
-        } => atom(alloc, config, *flags, *piece, own),
+        } => atom(alloc, config, *flags, *piece, own, known),
         AstKind::Repetition {
             min,
             max,
             greedy,
             sub,
         } => {
-            let body = translate(alloc, sub, config)?;
+            let body = translate(alloc, sub, config, known)?;
             Ok(repetition(alloc, *min, *max, *greedy, body)?)
         }
         AstKind::Group { kind, sub } => {
-            let body = translate(alloc, sub, config)?;
+            let body = translate(alloc, sub, config, known)?;
             Ok(group(alloc, kind, body)?)
         }
         AstKind::Concat(items) => {
-            let subs = translate_items(alloc, items, config)?;
+            let subs = translate_items(alloc, items, config, known)?;
             Ok(Hir::concat(alloc, subs)?)
         }
         AstKind::Alternation(branches) => {
-            let subs = translate_branches(alloc, branches, config)?;
+            let subs = translate_branches(alloc, branches, config, known)?;
             Ok(Hir::alternation(alloc, subs)?)
         }
     }
@@ -133,25 +150,31 @@ fn translate_branches(
     alloc: Global,
     branches: &[Ast],
     config: &Config,
+    known: &mut KnownSets,
 ) -> Result<Vec<Hir>, ParseError>
     ensures { AnswersAs (λ v. v.items) result (gathered (branch_parts config.now) branches.now) }
 {
     let mut subs = Vec::with_capacity(alloc, branches.len())?;
     for branch in branches {
-        subs.push(translate(alloc, branch, config)?)?;
+        subs.push(translate(alloc, branch, config, known)?)?;
     }
     Ok(subs)
 }
 
 #[cycle(translate)]
-fn translate_items(alloc: Global, items: &[Item], config: &Config) -> Result<Vec<Hir>, ParseError>
+fn translate_items(
+    alloc: Global,
+    items: &[Item],
+    config: &Config,
+    known: &mut KnownSets,
+) -> Result<Vec<Hir>, ParseError>
     ensures { AnswersAs (λ v. v.items) result (all_parts config.now items.now) }
 {
     let mut subs = Vec::with_capacity(alloc, items.len())?;
     for item in items {
         match item {
             Item::Literals { flags, run } => push_run(alloc, &mut subs, *flags, run)?,
-            Item::One(ast) => subs.push(translate(alloc, ast, config)?)?,
+            Item::One(ast) => subs.push(translate(alloc, ast, config, known)?)?,
         }
     }
     Ok(subs)

@@ -1,0 +1,63 @@
+//! Named sets that were looked up before.
+ghost use Rattle.std.specs.Prelude.{◌≡◌, IfOk, IfSome};
+ghost use Rattle.rx_syntax.specs.Named.{scalars_of};
+
+use crate::named::{SetKey, scalars_of};
+use rx_class::ClassUnicode;
+use rx_search::Memory;
+use std::alloc::Global;
+
+/// A named set with its scalars.
+#[derive(Drop)]
+struct KnownSet {
+    key: SetKey,
+    scalars: ClassUnicode,
+    ghost own: { scalars ≡ scalars_of key },
+}
+
+/// The named sets that were looked up so far. Whoever asks for one again shares its scalars.
+#[derive(Drop)]
+pub(crate) struct KnownSets {
+    alloc: Global,
+    sets: Vec<KnownSet>,
+}
+
+impl KnownSets {
+    /// None so far.
+    pub(crate) fn new(alloc: Global) -> KnownSets {
+        KnownSets {
+            alloc,
+            sets: Vec::new(alloc),
+        }
+    }
+
+    fn find(&self, key: SetKey) -> Option<&ClassUnicode>
+        ensures { IfSome result (λ class. class.now ≡ scalars_of key) }
+    {
+        for known in &self.sets {
+            if known.key.is(key) {
+                return Some(&known.scalars);
+            }
+        }
+        None
+    }
+
+    fn look_up(&mut self, key: SetKey) -> Result<ClassUnicode, Memory>
+        ensures { IfOk result (λ class. class ≡ scalars_of key) }
+    {
+        let found = scalars_of(self.alloc, key)?;
+        let scalars = found.clone()?;
+        self.sets.push(KnownSet { key, scalars })?;
+        Ok(found)
+    }
+
+    /// The scalars of a named set.
+    pub(crate) fn scalars(&mut self, key: SetKey) -> Result<ClassUnicode, Memory>
+        ensures { IfOk result (λ class. class ≡ scalars_of key) }
+    {
+        if let Some(known) = self.find(key) {
+            return Ok(known.clone()?);
+        }
+        self.look_up(key)
+    }
+}
