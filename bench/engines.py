@@ -5,8 +5,9 @@ usage: bench/engines.py [MIB [RXSCAN]]   (the size of each input, 1 MiB if left 
 
 It builds `crates/rx_bench` by `rt run`. Each input is cut at spaces into lines of about 4 KiB, since the backtracker
 takes no long ones; no pattern here matches a space, so no match is lost. `rx_bench` times the searches alone, with all
-slots. An rxscan is timed as a whole process: it reads its input and writes its rows too. The runs of an input take
-turns, and the least time of nine counts. The programs must agree on the number of matches.
+slots: each engine without a prefilter, and with one of the pattern's prefixes. An rxscan is timed as a whole process: it
+reads its input and writes its rows too. The runs of an input take turns, and the least time of nine counts. The programs
+must agree on the number of matches.
 """
 import os
 import subprocess
@@ -18,7 +19,7 @@ from compare import TOP, inputs
 
 CRATE = os.path.join(TOP, 'crates', 'rx_bench')
 PROGRAM = os.path.join(CRATE, 'out', 'rx_bench')
-ENGINES = ['pikevm', 'backtrack']
+ENGINES = ['pikevm', 'pikevm-prefilter', 'backtrack', 'backtrack-prefilter']
 LINE = 4096
 RUNS = 9
 

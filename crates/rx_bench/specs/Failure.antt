@@ -5,7 +5,7 @@ use Rattle.rx_bench.specs.declared.failure.Failure.TheVariants.{Usage, Pattern, 
 
 -- what it says
 abbrev pub text_of : Failure → List ℕ
-text_of Usage = codes "usage: rx_bench pikevm|backtrack PATTERN"
+text_of Usage = codes "usage: rx_bench pikevm|backtrack[-prefilter] PATTERN"
 text_of Pattern = codes "the pattern is refused"
 text_of (Line len) = codes "a line of " ++ decimal len ++ codes " bytes is too long"
 text_of Memory = codes "out of memory"

@@ -1,10 +1,10 @@
 ghost use Rattle.std.specs.Prelude.{◌≡◌, length, IfOk, IfErr};
 ghost use Rattle.rx_search.specs.Input.{whole};
-ghost use Rattle.rx_search.specs.Searcher.{successive};
-ghost use Rattle.rx_bench.specs.Engine.{answer_of};
+ghost use Rattle.rx_search.specs.Searcher.{successive, AtEachPlace};
+ghost use Rattle.rx_bench.specs.Engine.{answer_of, begins_each_run};
 ghost use Rattle.rx_bench.specs.Failure.{IsOfSearch};
 
-use crate::compile::compile;
+use crate::compile::{compile, prefilter};
 use crate::failure::Failure;
 use crate::finders::{Backtrack, PikeVM};
 use rx_search::{Finder, Input, Match, MatchError, Searcher};
@@ -18,7 +18,7 @@ pub enum Engine {
 }
 
 impl Engine {
-    /// The engine of this name, for this pattern.
+    /// The engine of this name, for this pattern: with the prefilter of its prefixes, if the name asks for it.
     ///
     /// # Errors
     ///
@@ -27,11 +27,21 @@ impl Engine {
         match name {
             "pikevm" => {
                 let nfa = compile(alloc, pattern)?;
-                Ok(Engine::PikeVM(PikeVM::new(alloc, nfa)?))
+                Ok(Engine::PikeVM(PikeVM::new(alloc, nfa, None)?))
             }
             "backtrack" => {
                 let nfa = compile(alloc, pattern)?;
-                Ok(Engine::Backtrack(Backtrack::new(alloc, nfa)?))
+                Ok(Engine::Backtrack(Backtrack::new(alloc, nfa, None)?))
+            }
+            "pikevm-prefilter" => {
+                let nfa = compile(alloc, pattern)?;
+                let pre = prefilter(alloc, pattern)?;
+                Ok(Engine::PikeVM(PikeVM::new(alloc, nfa, pre)?))
+            }
+            "backtrack-prefilter" => {
+                let nfa = compile(alloc, pattern)?;
+                let pre = prefilter(alloc, pattern)?;
+                Ok(Engine::Backtrack(Backtrack::new(alloc, nfa, pre)?))
             }
             _ => Err(Failure::Usage),
         }
@@ -54,7 +64,7 @@ impl Engine {
 
     /// The number of the successive matches in a line.
     fn count_in(&mut self, line: &[u8]) -> Result<usize, Failure>
-        ensures value { IfOk result (λ n. n ≡ length (successive (answer_of self.old) (whole line.now))) }
+        ensures value { AtEachPlace (begins_each_run self.old) (whole line.now) → IfOk result (λ n. n ≡ length (successive (answer_of self.old) (whole line.now))) }
         ensures err { IfErr result IsOfSearch }
     {
         match Searcher::new(Input::new(line)).count(self) {
@@ -70,7 +80,7 @@ impl Finder for Engine {
 
     ghost searches = { answer_of };
 
-    ghost promises = { λ _ _. Unit {0} };
+    ghost promises = { begins_each_run };
 
     fn find(&mut self, input: &Input<'_>) -> Result<Option<Match>, MatchError> {
         match self {

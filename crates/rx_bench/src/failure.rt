@@ -28,7 +28,7 @@ impl fmt::Display for Failure {
 
     fn fmt<W: fmt::Write>(&self, f: &mut fmt::Formatter<W>) -> fmt::Result {
         match self {
-            Failure::Usage => write!(f, "usage: rx_bench pikevm|backtrack PATTERN"),
+            Failure::Usage => write!(f, "usage: rx_bench pikevm|backtrack[-prefilter] PATTERN"),
             Failure::Pattern => write!(f, "the pattern is refused"),
             Failure::Line { len } => write!(f, "a line of {} bytes is too long", *len),
             Failure::Memory => write!(f, "out of memory"),

@@ -2,9 +2,11 @@
 ghost use Rattle.rx_nfa.specs.NextMatch.{next_match_in};
 ghost use Rattle.rx_engines.specs.Engine.{answer_in, Fits as PikeVMFits};
 ghost use Rattle.rx_engines.specs.Bounded.{Fits as BacktrackFits};
+ghost use Rattle.rx_engines.specs.Needles.{BeginsEachRun};
 
 use rx_engines::{backtrack, pikevm};
 use rx_nfa::NFA;
+use rx_prefilter::Prefilter;
 use rx_search::{Finder, Input, Match, MatchError, MatchKind, Memory, NonMaxUsize};
 use std::alloc::Global;
 
@@ -23,14 +25,14 @@ pub struct Backtrack {
     backtracker: backtrack::BoundedBacktracker,
     cache: backtrack::Cache,
     slots: Vec<Option<NonMaxUsize>>,
-    ghost fits: { BacktrackFits backtracker cache },
+    ghost fits: { BacktrackFits backtracker.nfa cache },
 }
 
 impl PikeVM {
-    /// The engine of this NFA.
-    pub fn new(alloc: Global, nfa: NFA) -> Result<PikeVM, Memory> {
+    /// The engine of this NFA, with this prefilter.
+    pub fn new(alloc: Global, nfa: NFA, pre: Option<Prefilter>) -> Result<PikeVM, Memory> {
         let slots = empty_slots(alloc, &nfa)?;
-        let vm = pikevm::PikeVM::build_from_nfa(nfa, MatchKind::LeftmostFirst, None);
+        let vm = pikevm::PikeVM::build_from_nfa(nfa, MatchKind::LeftmostFirst, pre);
         let cache = vm.create_cache(alloc)?;
         Ok(PikeVM { vm, cache, slots })
     }
@@ -41,7 +43,7 @@ impl Finder for PikeVM {
 
     ghost searches = { λ f v. answer_in f.vm v };
 
-    ghost promises = { λ _ _. Unit {0} };
+    ghost promises = { λ f v. BeginsEachRun f.vm.pre f.vm.nfa v };
 
     fn find(&mut self, input: &Input<'_>) -> Result<Option<Match>, MatchError> {
         Ok(self.vm.find_slots(&mut self.cache, input, &mut self.slots))
@@ -49,10 +51,10 @@ impl Finder for PikeVM {
 }
 
 impl Backtrack {
-    /// The engine of this NFA.
-    pub fn new(alloc: Global, nfa: NFA) -> Result<Backtrack, Memory> {
+    /// The engine of this NFA, with this prefilter.
+    pub fn new(alloc: Global, nfa: NFA, pre: Option<Prefilter>) -> Result<Backtrack, Memory> {
         let slots = empty_slots(alloc, &nfa)?;
-        let backtracker = backtrack::BoundedBacktracker::build_from_nfa(nfa, None);
+        let backtracker = backtrack::BoundedBacktracker::build_from_nfa(nfa, pre);
         let cache = backtracker.create_cache(alloc)?;
         Ok(Backtrack {
             backtracker,
@@ -65,9 +67,9 @@ impl Backtrack {
 impl Finder for Backtrack {
     type Error = MatchError;
 
-    ghost searches = { λ f v. next_match_in f.backtracker v };
+    ghost searches = { λ f v. next_match_in f.backtracker.nfa v };
 
-    ghost promises = { λ _ _. Unit {0} };
+    ghost promises = { λ f v. BeginsEachRun f.backtracker.pre f.backtracker.nfa v };
 
     fn find(&mut self, input: &Input<'_>) -> Result<Option<Match>, MatchError> {
         self.backtracker

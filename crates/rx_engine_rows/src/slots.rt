@@ -2,6 +2,7 @@
 
 use rx_engines::backtrack::BoundedBacktracker;
 use rx_engines::pikevm::PikeVM;
+use rx_prefilter::Prefilter;
 use rx_search::{Anchored, Input, Match, MatchKind, NonMaxUsize, PatternID, Span};
 use rx_thompson::{Compiler, NFA};
 use std::alloc::Global;
@@ -53,10 +54,15 @@ fn told(
 }
 
 /// What the PikeVM finds.
-fn simulated(alloc: Global, nfa: NFA, input: &Input<'_>) -> Result<String, Fail> {
+fn simulated(
+    alloc: Global,
+    nfa: NFA,
+    pre: Option<Prefilter>,
+    input: &Input<'_>,
+) -> Result<String, Fail> {
     let none = None;
     let mut slots = vec![in alloc; none; nfa.slot_len()]?;
-    let vm = PikeVM::build_from_nfa(nfa, MatchKind::LeftmostFirst, None);
+    let vm = PikeVM::build_from_nfa(nfa, MatchKind::LeftmostFirst, pre);
     let mut cache = vm.create_cache(alloc)?;
     let found = vm.find_slots(&mut cache, input, &mut slots);
     told(alloc, found, &slots)
@@ -67,11 +73,12 @@ fn backtracked(
     rt: &impl Abort,
     alloc: Global,
     nfa: NFA,
+    pre: Option<Prefilter>,
     input: &Input<'_>,
 ) -> Result<String, Fail> {
     let none = None;
     let mut slots = vec![in alloc; none; nfa.slot_len()]?;
-    let backtracker = BoundedBacktracker::build_from_nfa(nfa, None);
+    let backtracker = BoundedBacktracker::build_from_nfa(nfa, pre);
     let mut cache = backtracker.create_cache(alloc)?;
     let found = backtracker.try_find_slots(&mut cache, input, &mut slots);
     told(
@@ -89,9 +96,9 @@ fn searched(
     input: &Input<'_>,
     want: &str,
 ) -> Result<(), Fail> {
-    let found = simulated(alloc, nfa(rt, alloc, patterns), input)?;
+    let found = simulated(alloc, nfa(rt, alloc, patterns), None, input)?;
     assert_eq!(rt; found.as_str(), want);
-    let found = backtracked(rt, alloc, nfa(rt, alloc, patterns), input)?;
+    let found = backtracked(rt, alloc, nfa(rt, alloc, patterns), None, input)?;
     assert_eq!(rt; found.as_str(), want);
     Ok(())
 }
@@ -501,9 +508,9 @@ fn one_pattern_of_several(rt: HostRuntime) -> Result<(), Fail> {
 /// Both engines find this in `x` by the NFA.
 fn constant(rt: &impl Abort, alloc: Global, nfa: NFA, want: &str) -> Result<(), Fail> {
     let input = Input::new(b"x");
-    let found = simulated(alloc, nfa.clone()?, &input)?;
+    let found = simulated(alloc, nfa.clone()?, None, &input)?;
     assert_eq!(rt; found.as_str(), want);
-    let found = backtracked(rt, alloc, nfa, &input)?;
+    let found = backtracked(rt, alloc, nfa, None, &input)?;
     assert_eq!(rt; found.as_str(), want);
     Ok(())
 }
@@ -515,4 +522,63 @@ fn constant_nfas(rt: HostRuntime) -> Result<(), Fail> {
     constant(&rt, alloc, always, "0: 0..0")?;
     let never = NFA::never_match(alloc)?;
     constant(&rt, alloc, never, "none")
+}
+
+/// Both engines find this in the input by a prefilter of this needle.
+fn sought(
+    rt: &impl Abort,
+    alloc: Global,
+    pattern: &str,
+    needle: &[u8],
+    input: &Input<'_>,
+    want: &str,
+) -> Result<(), Fail> {
+    let mut needles = Vec::new(alloc);
+    needles.push(Vec::from_slice(alloc, needle)?)?;
+    let pre = Prefilter::new(alloc, MatchKind::LeftmostFirst, &needles)?;
+    let pre = pre.expect(rt, "a needle with bytes");
+    let nfa = nfa(rt, alloc, &[pattern]);
+    let found = simulated(alloc, nfa.clone()?, Some(pre.clone()?), input)?;
+    assert_eq!(rt; found.as_str(), want);
+    let found = backtracked(rt, alloc, nfa, Some(pre), input)?;
+    assert_eq!(rt; found.as_str(), want);
+    Ok(())
+}
+
+#[test]
+fn searches_with_a_prefilter(rt: HostRuntime) -> Result<(), Fail> {
+    let alloc = rt.alloc();
+    sought(&rt, alloc, "a|ab", b"a", &Input::new(b"ab"), "0: 0..1")?;
+    sought(&rt, alloc, "a|ab", b"a", &Input::new(b"b"), "none")?;
+    sought(&rt, alloc, "ab", b"ab", &Input::new(b"ab"), "0: 0..2")?;
+    sought(
+        &rt,
+        alloc,
+        "ab+c",
+        b"ab",
+        &Input::new(b"abxabbc"),
+        "0: 3..7",
+    )?;
+    sought(
+        &rt,
+        alloc,
+        "(a)b*c",
+        b"a",
+        &Input::new(b"aabxabc"),
+        "0: 4..7 4..5",
+    )?;
+    sought(&rt, alloc, "ab", b"ab", &Input::new(b"aaaa"), "none")?;
+    Ok(())
+}
+
+/// A needle that does not begin each match shows where a search begins: at candidates alone, and if it is anchored at its
+/// first place.
+#[test]
+fn searches_begin_at_candidates(rt: HostRuntime) -> Result<(), Fail> {
+    let alloc = rt.alloc();
+    let anchored = Input::new(b"abc").anchored(Anchored::Yes);
+    sought(&rt, alloc, "[a-c]", b"b", &Input::new(b"abc"), "0: 1..2")?;
+    sought(&rt, alloc, "[a-c]", b"x", &Input::new(b"abc"), "none")?;
+    sought(&rt, alloc, "[a-c]", b"b", &anchored, "0: 0..1")?;
+    Ok(())
 }
