@@ -1,5 +1,6 @@
 pub mod Automaton
 pub mod Slots
+pub mod ByteClasses
 pub mod Nfa
 pub mod Inner
 pub mod Config

@@ -9,6 +9,7 @@ use Rattle.rx_search.specs.GroupInfo.{slot_count}
 use Rattle.rx_search.specs.LookSet.{has}
 use Rattle.rx_search.specs.Limits.{id_limit}
 use Rattle.rx_nfa.specs.Automaton.{at, automaton, asks_for, NamesBelow, IsWithin}
+use Rattle.rx_nfa.specs.ByteClasses.{AreClassesOf}
 use Rattle.rx_nfa.specs.Row.{HasSortedTransitions}
 use Rattle.rx_nfa.specs.Slots.{WritesOwnSlots}
 use Rattle.rx_nfa.specs.declared.state.State.{State}
@@ -25,10 +26,14 @@ pub record Nfa : Type 0 where
   pub groups : List (List (Option (List ℕ)))
   -- no match is to start inside a character
   pub utf8 : Bool
+  -- it reads texts backwards
+  pub reverse : Bool
   -- the byte that ends lines, where a look-around asks for that
   pub terminator : ℕ
   -- the kinds of look-around that the states ask for, as a set
   pub looks : ℕ
+  -- the class of each byte
+  pub classes : List ℕ
   -- each of the patterns begins with the start of the text
   pub always_start_anchored : Bool
   -- one of the patterns can match the empty string, where each look-around counts as if it held
@@ -37,7 +42,8 @@ pub record Nfa : Type 0 where
   pub accounted : ℕ
 
 -- every state, pattern and slot that is named is there, the slots are those of the groups, and each that is written is one
--- of its pattern; transitions are sorted, and the look-arounds are those of the states
+-- of its pattern; transitions are sorted, the look-arounds are those of the states, and the classes of bytes tell apart what
+-- they tell apart
 pub record IsInRange (nfa : Nfa) : Type 0 where
   pub start_anchored : nfa.start_anchored < length nfa.states
   pub starts : All (λ q. q < length nfa.states) nfa.starts
@@ -47,6 +53,7 @@ pub record IsInRange (nfa : Nfa) : Type 0 where
   pub own : All (WritesOwnSlots nfa.groups) nfa.states
   pub sorted : All HasSortedTransitions nfa.states
   pub looks : (kind : Look) → has nfa.looks kind ≡ list_any (asks_for kind) nfa.states
+  pub classes : AreClassesOf nfa.terminator nfa.states nfa.classes
   pub few_states : length nfa.states ≤ id_limit
   pub few_patterns : length nfa.starts ≤ id_limit
   pub few_accounted : nfa.accounted ≤ id_limit

@@ -14,6 +14,7 @@ ghost use Rattle.rx_nfa.specs.Slots.{WritesOwnSlots};
 ghost use Rattle.rx_nfa.specs.Nfa.{IsInRange};
 
 use crate::State;
+use crate::byte_classes::classes_of;
 use crate::class::{compile_bytes, compile_class};
 use crate::looks::looks_of;
 use crate::nfa::NFA;
@@ -28,6 +29,7 @@ use std::mem;
 #[derive(Drop)]
 pub struct Facts {
     pub utf8: bool,
+    pub reverse: bool,
     pub look_matcher: LookMatcher,
     pub always_start_anchored: bool,
     pub has_empty: bool,
@@ -181,8 +183,10 @@ impl Builder {
           slots = slot_count self.groups;
           groups = self.groups;
           utf8 = facts.utf8;
+          reverse = facts.reverse;
           terminator = facts.look_matcher;
           looks = nfa.looks;
+          classes = nfa.classes;
           always_start_anchored = facts.always_start_anchored;
           has_empty = facts.has_empty;
           accounted = facts.accounted_states;
@@ -192,6 +196,7 @@ impl Builder {
     {
         let slot_len = self.group_info.slot_len();
         let look_set_any = looks_of(&self.states);
+        let byte_classes = classes_of(&self.states, facts.look_matcher.get_line_terminator());
         let nfa = NFA::new(
             alloc,
             Inner {
@@ -201,8 +206,10 @@ impl Builder {
                 slot_len,
                 group_info: self.group_info,
                 utf8: facts.utf8,
+                reverse: facts.reverse,
                 look_matcher: facts.look_matcher,
                 look_set_any,
+                byte_classes,
                 always_start_anchored: facts.always_start_anchored,
                 has_empty: facts.has_empty,
                 accounted_states: facts.accounted_states,

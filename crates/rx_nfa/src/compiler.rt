@@ -160,6 +160,7 @@ fn build(
     let start = start_of_all(alloc, &mut builder, &starts)?;
     let facts = Facts {
         utf8: config.get_utf8(),
+        reverse: false,
         look_matcher: config.get_look_matcher(),
         always_start_anchored: all_start_anchored(exprs),
         has_empty: one_can_be_empty(exprs),

@@ -1,6 +1,6 @@
 //! Classes of bytes: those that an automaton need not tell apart share a class, and so a column of its table.
 ghost use Rattle.std.specs.Prelude.{◌≡◌, ℕ, ◌+◌, ◌<◌, ◌≤◌, false, [], ◌∷◌, ◌++◌, if◌then◌else◌, IfOk, OnOk, EachIndex, slice_index, slice_index_or};
-ghost use Rattle.rx_search.specs.ByteClasses.{class_of, alphabet_len, IsLeastPower, AreRepresentatives, is_edge_or_end};
+ghost use Rattle.rx_search.specs.ByteClasses.{AreClasses, class_of, alphabet_len, IsLeastPower, AreRepresentatives, is_edge_or_end};
 
 use crate::memory::Memory;
 use std::alloc::Global;
@@ -32,14 +32,16 @@ impl Model for ByteClasses {
 impl ByteClasses {
     /// One class of all bytes.
     pub fn empty() -> ByteClasses
-        ensures { EachIndex result (λ b. slice_index result b ≡ 0) }
+        ensures classes { AreClasses result }
+        ensures value { EachIndex result (λ b. slice_index result b ≡ 0) }
     {
         ByteClassSet::new().byte_classes()
     }
 
     /// A class for each byte.
     pub fn singletons() -> ByteClasses
-        ensures { EachIndex result (λ b. slice_index result b ≡ b) }
+        ensures classes { AreClasses result }
+        ensures value { EachIndex result (λ b. slice_index result b ≡ b) }
     {
         let mut classes = [0; 256];
         for byte in 0..256 {
@@ -144,7 +146,8 @@ impl ByteClassSet {
 
     /// The classes of the bytes that are not told apart.
     pub fn byte_classes(&self) -> ByteClasses
-        ensures { EachIndex result (λ b. slice_index result b ≡ class_of (λ e. slice_index_or self.now e false) b) }
+        ensures classes { AreClasses result }
+        ensures value { EachIndex result (λ b. slice_index result b ≡ class_of (λ e. slice_index_or self.now e false) b) }
     {
         let mut classes = [0; 256];
         let mut class = 0;

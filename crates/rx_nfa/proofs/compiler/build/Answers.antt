@@ -1,6 +1,6 @@
 use Rattle.std.proofs.Common.{◌≡◌, ◌∙◌, sym, ap, subst, refl, arith, length}
 use Rattle.std.proofs.lemmas.List.{length-map}
-use Rattle.std.specs.Prelude.{true}
+use Rattle.std.specs.Prelude.{true, false}
 use Rattle.rx_nfa.specs.Built.{StartsAll, HasPatterns}
 use Rattle.rx_nfa.specs.Compiled.{patterns_of, slots_of, slots_written, groups_of}
 use Rattle.rx_nfa.specs.Config.{terminator_of, captures_of, captures_kind}
@@ -101,8 +101,10 @@ returns c =
             slots = slot_count new.groups;
             groups = new.groups;
             utf8 = c.get_utf8.result;
+            reverse = false;
             terminator = c.get_look_matcher.result;
             looks = nfa.looks;
+            classes = nfa.classes;
             always_start_anchored = c.all_start_anchored.result;
             has_empty = c.one_can_be_empty.result;
             accounted = c.args.states;

@@ -49,6 +49,10 @@ pub invariant_of-result : goal.invariant_of-result
 invariant_of-result c =
     classes-made c.loop-byte.classes (λ e. get_or c.self.inside.ends e false) c.loop-byte.invariant.len (λ b le. c.loop-byte.invariant.each b (omega arith))
 
-pub returns : goal.returns
-returns c = λ b lt.
+pub returns-clause-classes : goal.returns-clause-classes
+returns-clause-classes c =
+    classes-made c.loop-byte.classes (λ e. get_or c.self.inside.ends e false) c.loop-byte.invariant.len (λ b le. c.loop-byte.invariant.each b (omega arith))
+
+pub returns-clause-value : goal.returns-clause-value
+returns-clause-value c = λ b lt.
     c.loop-byte.invariant.each b (let len = c.loop-byte.invariant.len in omega arith) ∙ ap (λ ends. class_of (λ e. get_or ends e false) b) c.self.view_is
