@@ -38,11 +38,11 @@ built c hs (Core core) regex made allowed is =
     subst P (sym is) (record {
       config = refl;
       kind = made.kind;
-      serves = record { nfa = record { runs = compiled.runs (utf8_of c); utf8 = sym compiled.utf8 }; which_captures = sym made.which_captures };
+      serves = record { nfa = record { runs = compiled.runs refl (utf8_of c); utf8 = sym compiled.utf8 }; which_captures = sym made.which_captures };
       groups = compiled.groups;
       ordered = compiled.ordered;
       allowed = allowed-of c hs allowed;
-      memory = λ i. 64 * ((compiled.runs (utf8_of c)).patterns i + 1) + state_size * compiled.accounted i;
+      memory = λ i. 64 * ((compiled.runs refl (utf8_of c)).patterns i + 1) + state_size * compiled.accounted i;
       cache = λ i. min (2 ^ 64 - 1) (one i + (if made.backtracks i then one i else 0));
       properties = made.properties;
     })

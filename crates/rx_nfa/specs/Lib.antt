@@ -12,6 +12,8 @@ pub mod Ranges
 pub mod Trie
 pub mod Reading
 pub mod Built
+pub mod Directed
+pub mod Spans
 pub mod Repeated
 pub mod Room
 pub mod Compiled

@@ -6,6 +6,7 @@
 //! rx_hir.
 #![tactic(auto)]
 
+mod backwards;
 mod builder;
 mod byte_classes;
 mod class;
