@@ -46,7 +46,7 @@ built c hs (Core core) regex made allowed is =
       config = refl;
       kind = made.kind;
       serves = λ given. record {
-        nfa = record { runs = compiled.runs (utf8_of c); utf8 = sym compiled.utf8 };
+        nfa = record { runs = compiled.runs refl (utf8_of c); utf8 = sym compiled.utf8 };
         which_captures = sym made.which_captures;
         ordered = compiled.ordered;
         needles = subst (λ (pre : Option (List (List ℕ))). BeginsEachMatch pre (patterns_for c hs)) (sym made.pre) (chosen-begins (patterns_for c hs) c given);
@@ -55,7 +55,7 @@ built c hs (Core core) regex made allowed is =
       ordered = compiled.ordered;
       allowed = allowed-of c hs allowed;
       memory =
-          ap (min (2 ^ 64 - 1)) (λ i. 64 * ((compiled.runs (utf8_of c)).patterns i + 1) + min (2 ^ 64 - 1) (prefilter_memory (made.pre i) + state_size * compiled.accounted i))
+          ap (min (2 ^ 64 - 1)) (λ i. 64 * ((compiled.runs refl (utf8_of c)).patterns i + 1) + min (2 ^ 64 - 1) (prefilter_memory (made.pre i) + state_size * compiled.accounted i))
           ∙ min-once (64 * (length hs + 1)) (prefilter_memory (prefilter_for c hs)) (state_size * nfa_states hs);
       cache = λ i. min (2 ^ 64 - 1) (one i + (if made.backtracks i then one i else 0));
       properties = made.properties;

@@ -2,3 +2,4 @@ pub mod parts
 pub mod classes
 pub mod runs
 pub mod lists
+pub mod reverse

@@ -1,5 +1,5 @@
 -- What a compile function says of the states that it added for a part of the graph.
-use Rattle.std.specs.Prelude.{◌≡◌, ℕ, suc, ◌+◌, ◌-◌, ◌*◌, ◌<◌, ◌≤◌, Bool, List, [], ◌∷◌, length, map, ⊤, Option, Some, None, option_map, if◌then◌else◌, slice_get, slice_index, ◌⊎◌}
+use Rattle.std.specs.Prelude.{◌≡◌, ℕ, suc, ◌+◌, ◌-◌, ◌*◌, ◌<◌, ◌≤◌, Bool, List, [], ◌∷◌, ◌++◌, length, map, ⊤, Option, Some, None, option_map, if◌then◌else◌, slice_get, slice_index, ◌⊎◌}
 use Rattle.std.specs.List.{AllZip}
 use Rattle.rx_model.specs.Expression.{Expression}
 use Rattle.rx_model.specs.Text.{scalar_ranges, byte_ranges}
@@ -55,6 +55,25 @@ pub record Built (part : graph.Builder) (next : ℕ) (old new : Draft) (start : 
   pub mirrors : (f : ℕ → ℕ) (next' base : ℕ) → f next' ≡ next → Sends f base images
       → Mirrors f (length old.states) new.states (part next' base) images start
 
+-- The same of alternatives, which start at these states.
+pub record BuiltParts (parts : (next base : ℕ) → graph.Parts) (next : ℕ) (old new : Draft) (starts : List ℕ) : Type 0 where
+  pub extends : Extends old new
+  pub images : List ℕ
+  pub rises : Rises (length old.states) (length new.states) images
+  pub starts_are : (f : ℕ → ℕ) (next' base : ℕ) → f next' ≡ next → Sends f base images → map f (parts next' base).starts ≡ starts
+  pub each : (f : ℕ → ℕ) (next' base : ℕ) → f next' ≡ next → Sends f base images → AllZip (IsImage (Stands (length old.states) new.states) f) (parts next' base).states images
+
+-- the alternatives were built, and their starts were appended
+pub record AddsParts (parts : (next base : ℕ) → graph.Parts) (next : ℕ) (old new : Draft) (before after : List ℕ) : Type 0 where
+  pub added : List ℕ
+  pub appended : after ≡ before ++ added
+  pub built : BuiltParts parts next old new added
+
+-- those of each, in turn
+abbrev pub AddsAll : List ((next base : ℕ) → graph.Parts) → (next : ℕ) → (old new : Draft) → (before after : List ℕ) → Type 0
+AddsAll [] next old new before after = (after ≡ before) × (new ≡ old)
+AddsAll (p ∷ ps) next old new before after = (mid : Draft) × (between : List ℕ) × AddsParts p next old mid before between × AddsAll ps next mid new between after
+
 -- the body and the exit of a choice, the preferred one first
 abbrev pub ways : (greedy : Bool) → (body exit : ℕ) → List ℕ
 ways greedy body exit = if greedy then body ∷ exit ∷ [] else exit ∷ body ∷ []
@@ -73,9 +92,10 @@ bound (Some number) next = graph.slot number next
 abbrev pub build_bounds : Option ℕ → graph.Builder → graph.Builder
 build_bounds slot body = graph.build_then (graph.build_state (bound slot)) (graph.build_then body (graph.build_state (bound (option_map suc slot))))
 
--- As the graph of pattern p, with the slots of its whole match from `whole` on, if there are any.
-unfoldable pub compiled_pattern : (whole : Option ℕ) → (slot_of : ℕ → Option ℕ) → ℕ → Expression → graph.Part
-compiled_pattern whole slot_of p h = graph.build_then (build_bounds whole (graph.build slot_of h)) (graph.build_state (λ next. graph.accept p)) 0 0
+-- As the graph of pattern p, whose expression has this part, with the slots of its whole match from `whole` on, if there
+-- are any.
+unfoldable pub compiled_pattern : (whole : Option ℕ) → graph.Builder → (p : ℕ) → graph.Part
+compiled_pattern whole body p = graph.build_then (build_bounds whole body) (graph.build_state (λ next. graph.accept p)) 0 0
 
 -- the first slot of the whole match of pattern p
 abbrev pub whole_slot : WhichCaptures → ℕ → Option ℕ
@@ -85,7 +105,7 @@ whole_slot none p = None
 
 -- the part that stands for pattern p
 abbrev pub part_of : Patterns → ℕ → Expression → graph.Part
-part_of r p h = compiled_pattern (whole_slot r.which_captures p) (slot_of r p) p h
+part_of r p h = compiled_pattern (whole_slot r.which_captures p) (graph.build (slot_of r p) h) p
 
 -- The part stands among the states, and starts at `start`.
 pub record HasPart (states : List State) (part : graph.Part) (start : ℕ) : Type 0 where
@@ -93,10 +113,12 @@ pub record HasPart (states : List State) (part : graph.Part) (start : ℕ) : Typ
   pub rises : Rises 0 (length states) images
   pub mirrors : (f : ℕ → ℕ) → Sends f 0 images → Mirrors f 0 states part images start
 
--- The first n patterns stand among the states, each from its start on.
+-- The first n patterns stand among the states, each by its part, from its start on.
+abbrev pub HasParts : List State → (ℕ → Expression → graph.Part) → List Expression → (n : ℕ) → (starts : List ℕ) → Type 0
+HasParts states part hs n starts = (p : ℕ) (h : Expression) → p < n → slice_get hs p ≡ Some h → HasPart states (part p h) (slice_index starts p)
+
 abbrev pub HasPatterns : List State → Patterns → (n : ℕ) → (starts : List ℕ) → Type 0
-HasPatterns states r n starts =
-    (p : ℕ) (h : Expression) → p < n → slice_get r.expressions p ≡ Some h → HasPart states (part_of r p h) (slice_index starts p)
+HasPatterns states r n starts = HasParts states (part_of r) r.expressions n starts
 
 -- State q starts the runs from all of these starts, the first preferred: it is the only one of them, or a choice between
 -- them, which was added.

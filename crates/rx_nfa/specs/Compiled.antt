@@ -1,5 +1,5 @@
 -- What the compiler answers.
-use Rattle.std.specs.Prelude.{◌≡◌, ℕ, ◌+◌, ◌*◌, ◌<◌, ◌≤◌, Bool, List, length, Option, Some, None, IfSome, slice_get}
+use Rattle.std.specs.Prelude.{◌≡◌, ℕ, ◌+◌, ◌*◌, ◌<◌, ◌≤◌, Bool, true, false, List, length, Option, Some, None, All, IfSome, slice_get}
 use Rattle.std.specs.List.{list_all}
 use Rattle.rx_model.specs.Expression.{Expression, AreOrdered}
 use Rattle.rx_model.specs.Look.{start_text}
@@ -11,9 +11,11 @@ use Rattle.rx_hir.specs.Cost.{state_size, capped}
 use Rattle.rx_hir.specs.Properties.{looks_first}
 pub use Rattle.rx_search.specs.PatternGroups.{pattern_groups as groups_of}
 pub use Rattle.rx_hir.specs.Cost.{nfa_states, slots_of}
-use Rattle.rx_nfa.specs.Config.{utf8_of, size_limit_of, terminator_of, captures_of}
+use Rattle.rx_nfa.specs.Automaton.{state_writes}
+use Rattle.rx_nfa.specs.declared.state.State.{State}
+use Rattle.rx_nfa.specs.Config.{utf8_of, reverse_of, size_limit_of, terminator_of, captures_of}
 use Rattle.rx_nfa.specs.declared.compiler.config.Config.{Config}
-use Rattle.rx_nfa.specs.Nfa.{Nfa, IsInRange, HasRuns}
+use Rattle.rx_nfa.specs.Nfa.{Nfa, IsInRange, HasRuns, HasReverseRuns}
 use Rattle.rx_nfa.specs.declared.error.BuildError.{BuildError}
 use Rattle.rx_nfa.specs.declared.error.BuildError.TheVariants.{TooManyPatterns, TooManyGroups, TooManyStates, ExceededSizeLimit, Memory}
 
@@ -61,8 +63,12 @@ pub record IsCompiled (config : Config) (hs : List Expression) (nfa : Nfa) : Typ
   pub has_empty : nfa.has_empty ≡ one_can_be_empty (expressions hs)
   -- the counts of each expression are in order, as the laws on its meaning ask
   pub ordered : (p : ℕ) (h : Expression) → slice_get hs p ≡ Some h → AreOrdered h
+  pub reverse : nfa.reverse ≡ reverse_of config
   -- a first run does not look at where a match may start
-  pub runs : (utf8_empty : Bool) → HasRuns nfa (patterns_of hs utf8_empty (terminator_of config) (captures_of config))
+  pub runs : reverse_of config ≡ false → (utf8_empty : Bool) → HasRuns nfa (patterns_of hs utf8_empty (terminator_of config) (captures_of config))
+  -- one that reads backwards writes no slot
+  pub silent : reverse_of config ≡ true → All (λ (s : State). state_writes s ≡ None) nfa.states
+  pub reverse_runs : reverse_of config ≡ true → (utf8_empty : Bool) → HasReverseRuns nfa (patterns_of hs utf8_empty (terminator_of config) (captures_of config))
 
 -- Why there is no NFA. Numbers are told up to the greatest of 64 bits.
 abbrev pub IsRefusal : (config : Config) → List Expression → BuildError → Type 0

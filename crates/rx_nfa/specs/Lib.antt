@@ -1,5 +1,6 @@
 pub mod Automaton
 pub mod Slots
+pub mod ByteClasses
 pub mod Nfa
 pub mod Inner
 pub mod Config
@@ -11,6 +12,8 @@ pub mod Ranges
 pub mod Trie
 pub mod Reading
 pub mod Built
+pub mod Directed
+pub mod Spans
 pub mod Repeated
 pub mod Room
 pub mod Compiled

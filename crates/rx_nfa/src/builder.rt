@@ -8,12 +8,15 @@ ghost use Rattle.rx_search.specs.GroupInfo.{slot_count};
 ghost use Rattle.rx_class.specs.ClassViews.{class_view};
 ghost use Rattle.rx_hir.specs.Cost.{states_of_class};
 ghost use Rattle.rx_nfa.specs.Built.{Built};
+ghost use Rattle.rx_nfa.specs.Directed.{build_class};
 ghost use Rattle.rx_nfa.specs.Draft.{pushed, patched};
 ghost use Rattle.rx_nfa.specs.Row.{HasSortedTransitions};
 ghost use Rattle.rx_nfa.specs.Slots.{WritesOwnSlots};
 ghost use Rattle.rx_nfa.specs.Nfa.{IsInRange};
 
 use crate::State;
+use crate::backwards::compile_class_backwards;
+use crate::byte_classes::classes_of;
 use crate::class::{compile_bytes, compile_class};
 use crate::looks::looks_of;
 use crate::nfa::NFA;
@@ -28,6 +31,7 @@ use std::mem;
 #[derive(Drop)]
 pub struct Facts {
     pub utf8: bool,
+    pub reverse: bool,
     pub look_matcher: LookMatcher,
     pub always_start_anchored: bool,
     pub has_empty: bool,
@@ -89,27 +93,47 @@ impl Builder {
     }
 
     /// Appends the states of a class, which go on to the state `next`. Answers where they start. Where there was no
-    /// memory, no states are left.
+    /// memory for a class that is read forwards, no states are left.
     pub fn push_class(
         &mut self,
         alloc: Global,
+        backwards: bool,
         class: &Class,
         next: StateID,
     ) -> Result<StateID, Memory>
         requires next { next < length self.old.states }
         requires room { length self.old.states + states_of_class (class_view class.now) ≤ id_limit }
-        ensures built { IfOk result (λ start. Built (build_state (set (class_view class.now))) next self.old self.new start) }
+        ensures built { IfOk result (λ start. Built (build_class backwards (class_view class.now)) next self.old self.new start) }
         ensures inside { IfOk result (λ start. start < length self.new.states) }
         ensures count { OnOk result (length self.new.states ≤ length self.old.states + states_of_class (class_view class.now)) }
-        ensures err { OnErr result (self.new ≡ record self.old { states = [] }) }
     {
         match class {
-            Class::Unicode(scalars) => self.push_scalars(alloc, scalars, next),
+            Class::Unicode(scalars) => self.push_scalars(alloc, backwards, scalars, next),
             Class::Bytes(bytes) => self.push_bytes(alloc, bytes, next),
         }
     }
 
     fn push_scalars(
+        &mut self,
+        alloc: Global,
+        backwards: bool,
+        scalars: &ClassUnicode,
+        next: StateID,
+    ) -> Result<StateID, Memory>
+        requires next { next < length self.old.states }
+        requires room { length self.old.states + states_of_class (scalar_ranges scalars.now) ≤ id_limit }
+        ensures built { IfOk result (λ start. Built (build_class backwards (scalar_ranges scalars.now)) next self.old self.new start) }
+        ensures inside { IfOk result (λ start. start < length self.new.states) }
+        ensures count { OnOk result (length self.new.states ≤ length self.old.states + states_of_class (scalar_ranges scalars.now)) }
+    {
+        let ranges = scalars.ranges();
+        if backwards {
+            return compile_class_backwards(alloc, self, ranges, next);
+        }
+        self.push_scalars_forwards(alloc, scalars, next)
+    }
+
+    fn push_scalars_forwards(
         &mut self,
         alloc: Global,
         scalars: &ClassUnicode,
@@ -181,8 +205,10 @@ impl Builder {
           slots = slot_count self.groups;
           groups = self.groups;
           utf8 = facts.utf8;
+          reverse = facts.reverse;
           terminator = facts.look_matcher;
           looks = nfa.looks;
+          classes = nfa.classes;
           always_start_anchored = facts.always_start_anchored;
           has_empty = facts.has_empty;
           accounted = facts.accounted_states;
@@ -192,6 +218,7 @@ impl Builder {
     {
         let slot_len = self.group_info.slot_len();
         let look_set_any = looks_of(&self.states);
+        let byte_classes = classes_of(&self.states, facts.look_matcher.get_line_terminator());
         let nfa = NFA::new(
             alloc,
             Inner {
@@ -201,8 +228,10 @@ impl Builder {
                 slot_len,
                 group_info: self.group_info,
                 utf8: facts.utf8,
+                reverse: facts.reverse,
                 look_matcher: facts.look_matcher,
                 look_set_any,
+                byte_classes,
                 always_start_anchored: facts.always_start_anchored,
                 has_empty: facts.has_empty,
                 accounted_states: facts.accounted_states,

@@ -18,7 +18,7 @@ use crate::state::{State, Transition};
 use rx_search::{Memory, StateID};
 use std::alloc::Global;
 
-mod ranges;
+pub(crate) mod ranges;
 mod row;
 mod trie;
 

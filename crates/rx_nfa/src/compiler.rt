@@ -6,9 +6,10 @@ ghost use Rattle.rx_model.specs.Search.{greatest_group};
 ghost use Rattle.rx_search.specs.Limits.{id_limit};
 ghost use Rattle.rx_hir.specs.Cost.{accounted_states};
 ghost use Rattle.rx_hir.specs.Sound.{IsSound};
-ghost use Rattle.rx_nfa.specs.Built.{Built, slot_from, bound, compiled_pattern, HasPart, HasPatterns, StartsAll};
+ghost use Rattle.rx_nfa.specs.Built.{Built, bound, compiled_pattern, HasPart, HasParts, StartsAll};
 ghost use Rattle.rx_nfa.specs.Config.{captures_kind, captures_of, overwritten, nothing_set};
 ghost use Rattle.rx_nfa.specs.Compiled.{patterns_of, groups_of, slots_of, slots_written, nfa_states, AreFew, AreAllowed, IsCompiled, IsRefusal};
+ghost use Rattle.rx_nfa.specs.Directed.{directed_part, part_for};
 ghost use Rattle.rx_nfa.specs.Draft.{Extends};
 ghost use Rattle.rx_nfa.specs.Room.{HasRoom};
 ghost use Rattle.rx_nfa.specs.Slots.{IsSlotOf};
@@ -36,7 +37,7 @@ use grouping::group_info;
 use groups::Groups;
 use rx_hir::{Hir, one_can_be_empty};
 use rx_search::{Memory, PatternID, StateID};
-use slots::{first_slot, second_slot, slot_after, slots_written, whole_slot};
+use slots::{first_slot, second_slot, slot_after, slots_written, whole_slot, written_in};
 use std::alloc::Global;
 use std::slice;
 
@@ -153,13 +154,15 @@ fn build(
     requires few_states { states ≤ id_limit }
     ensures { IfOk result (IsCompiled config exprs.now) }
 {
-    let which = config.get_which_captures();
+    let reverse = config.get_reverse();
+    let which = written_in(reverse, config.get_which_captures());
     let group_info = group_info(alloc, exprs)?;
     let mut builder = Builder::new(alloc, group_info, slots_written(which, exprs, slots));
-    let starts = compile_patterns(alloc, &mut builder, which, exprs)?;
+    let starts = compile_patterns(alloc, &mut builder, reverse, which, exprs)?;
     let start = start_of_all(alloc, &mut builder, &starts)?;
     let facts = Facts {
         utf8: config.get_utf8(),
+        reverse,
         look_matcher: config.get_look_matcher(),
         always_start_anchored: all_start_anchored(exprs),
         has_empty: one_can_be_empty(exprs),
@@ -173,6 +176,7 @@ fn build(
 fn compile_patterns(
     alloc: Global,
     builder: &mut Builder,
+    reverse: bool,
     which: WhichCaptures,
     exprs: &[Hir],
 ) -> Result<Vec<StateID>, Memory>
@@ -182,7 +186,7 @@ fn compile_patterns(
     requires fits { length builder.old.states + nfa_states exprs.now ≤ id_limit }
     ensures extends { OnOk result (Extends builder.old builder.new) }
     ensures len { IfOk result (λ starts. length starts.items ≡ length exprs.now) }
-    ensures has { IfOk result (λ starts. HasPatterns builder.new.states (patterns_of exprs.now true 0 (captures_kind which)) (length exprs.now) starts.items) }
+    ensures has { IfOk result (λ starts. HasParts builder.new.states (directed_part reverse (patterns_of exprs.now true 0 (captures_kind which))) exprs.now (length exprs.now) starts.items) }
     ensures inside { IfOk result (λ starts. All (λ q. q < length builder.new.states) starts.items) }
     ensures count { OnOk result (length builder.new.states + 4 ≤ length builder.old.states + nfa_states exprs.now) }
     ensures sound { OnOk result ((p : ℕ) (h : Expression) → slice_get exprs.now p ≡ Some h → IsSound h) }
@@ -193,6 +197,7 @@ fn compile_patterns(
         let pattern = PatternID::new(starts.len()).unwrap();
         let groups = Groups {
             pattern,
+            reverse,
             whole_slot: whole_slot(which, pattern),
             first_slot,
         };
@@ -216,7 +221,7 @@ fn compile_pattern(
     requires fits { length builder.old.states + (accounted_states hir.now + 3) ≤ id_limit }
     ensures extends { OnOk result (Extends builder.old builder.new) }
     ensures has { IfOk result (λ start. HasPart builder.new.states
-        (compiled_pattern groups.now.whole_slot (slot_from groups.now.first_slot) groups.now.pattern hir.now) start) }
+        (compiled_pattern groups.now.whole_slot (part_for groups.now hir.now) groups.now.pattern) start) }
     ensures inside { IfOk result (λ start. start < length builder.new.states) }
     ensures count { OnOk result (length builder.new.states ≤ length builder.old.states + (accounted_states hir.now + 3)) }
     ensures sound { OnOk result (IsSound hir.now) }

@@ -6,7 +6,9 @@
 //! rx_hir.
 #![tactic(auto)]
 
+mod backwards;
 mod builder;
+mod byte_classes;
 mod class;
 mod compiler;
 mod error;
@@ -17,6 +19,7 @@ mod runs;
 mod sparse;
 mod state;
 
+pub use byte_classes::{a_step_depends_on_the_class_of_the_byte, two_bytes_of_one_class_are_alike};
 pub use class::the_states_read_the_class;
 pub use compiler::{Compiler, Config, PATTERN_LIMIT, WhichCaptures};
 pub use error::BuildError;

@@ -11,7 +11,7 @@ pub(crate) mod inner;
 
 use crate::State;
 use inner::Inner;
-use rx_search::{GroupInfo, LookMatcher, LookSet, Memory, PatternID, StateID};
+use rx_search::{ByteClasses, GroupInfo, LookMatcher, LookSet, Memory, PatternID, StateID};
 use std::alloc::Global;
 use std::marker::Model;
 use std::sync::Arc;
@@ -21,7 +21,8 @@ pub(crate) const STATE_SIZE: usize = rx_hir::STATE_SIZE as usize;
 
 /// An automaton that reads bytes: its states, where the runs of its patterns start, and how many
 /// slots a match has. Every state, pattern and slot that is named is there. A slot that a state writes is one of a group
-/// of the pattern that the state names, and the transitions of a state ascend and share no byte. Clones share their states.
+/// of the pattern that the state names, and the transitions of a state ascend and share no byte. No state tells bytes of
+/// one class apart. Clones share their states.
 #[derive(Drop)]
 pub struct NFA {
     inner: Arc<Inner, Global>,
@@ -72,7 +73,7 @@ impl NFA {
         ensures value { result ≡ slice_get self.now.starts pattern }
         ensures in_range { IsInRange self.now }
     {
-        self.inner.starts.get(pattern.as_usize()).copied()
+        self.starts().get(pattern.as_usize()).copied()
     }
 
     /// Where the runs of each pattern start.
@@ -154,6 +155,15 @@ impl NFA {
         self.inner.look_set_any
     }
 
+    /// The classes of bytes that neither the states tell apart nor the look-arounds that they ask for:
+    /// the law `two_bytes_of_one_class_are_alike`.
+    pub fn byte_classes(&self) -> &ByteClasses
+        ensures value { result.now ≡ self.now.classes }
+        ensures in_range { IsInRange self.now }
+    {
+        &self.inner.byte_classes
+    }
+
     /// Whether one of the patterns can match the empty string, where each look-around counts as if it held. Where it is
     /// false, no match is empty: the law `what_means_the_empty_string_can_be_empty` of rx_model.
     pub fn has_empty(&self) -> bool
@@ -170,11 +180,11 @@ impl NFA {
         self.inner.always_start_anchored
     }
 
-    /// Whether the NFA reads its texts backwards: false, since every NFA is a forward one yet.
+    /// Whether the NFA reads its texts backwards, as it was configured.
     pub fn is_reverse(&self) -> bool
-        ensures { result ≡ false }
+        ensures { result ≡ self.now.reverse }
     {
-        false
+        self.inner.reverse
     }
 
     /// How many states were accounted for the patterns before the NFA was built. The longest haystack of the

@@ -4,3 +4,4 @@ pub mod LookSetLemmas
 pub mod GroupLemmas
 pub mod FaultLemmas
 pub mod GroupSlotLemmas
+pub mod ByteClassLemmas

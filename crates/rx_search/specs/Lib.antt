@@ -12,3 +12,4 @@ pub mod PatternGroups
 pub mod Told
 pub mod Promise
 pub mod Answer
+pub mod ByteClasses

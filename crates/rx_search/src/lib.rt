@@ -10,6 +10,7 @@
 #![tactic(auto)]
 
 mod anchored;
+mod byte_classes;
 mod gate;
 mod group_check;
 mod group_error;
@@ -26,6 +27,7 @@ mod searcher;
 mod span;
 
 pub use anchored::{Anchored, MatchKind};
+pub use byte_classes::{ByteClassSet, ByteClasses};
 pub use gate::{Gate, Open};
 pub use group_error::GroupInfoError;
 pub use group_info::{GroupInfo, slots_are_written};

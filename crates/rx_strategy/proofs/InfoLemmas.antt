@@ -42,6 +42,6 @@ known-of c hs nfa p compiled of =
       patterns = hs;
       properties = of;
       none = λ v within e.
-          agree nfa v within r (record { runs = compiled.runs (utf8_of c); utf8 = sym compiled.utf8 })
+          agree nfa v within r (record { runs = compiled.runs refl (utf8_of c); utf8 = sym compiled.utf8 })
           ∙ ap (option_map (told_of r.which_captures)) (no-next r v compiled.ordered within e);
     }

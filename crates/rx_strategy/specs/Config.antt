@@ -49,6 +49,7 @@ backtrack_of c = unwrap_or c.backtrack true
 abbrev pub compiler_of : Config → CompilerConfig
 compiler_of c = record {
   utf8 = Some (utf8_of c);
+  reverse = None;
   nfa_size_limit = Some (size_limit_of c);
   which_captures = Some (which_of c);
   look_matcher = Some (terminator_of c);

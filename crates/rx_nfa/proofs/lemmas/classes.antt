@@ -5,3 +5,4 @@ pub mod ClassLemmas
 pub mod ByteLemmas
 pub mod Utf8Lemmas
 pub mod ReadLemmas
+pub mod ApartLemmas

@@ -9,3 +9,7 @@ pub mod ChoiceLemmas
 pub mod CompileLemmas
 pub mod SetLemmas
 pub mod LookLemmas
+pub mod OrderLemmas
+pub mod AddsLemmas
+pub mod SpanStates
+pub mod SpanBuilt

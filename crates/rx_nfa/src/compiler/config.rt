@@ -1,5 +1,5 @@
 ghost use Rattle.std.specs.Prelude.{◌≡◌, Some};
-ghost use Rattle.rx_nfa.specs.Config.{utf8_of, size_limit_of, which_of, terminator_of, overwritten, nothing_set};
+ghost use Rattle.rx_nfa.specs.Config.{utf8_of, reverse_of, size_limit_of, which_of, terminator_of, overwritten, nothing_set};
 
 use rx_search::LookMatcher;
 
@@ -18,6 +18,7 @@ pub enum WhichCaptures {
 #[derive(Clone, Copy)]
 pub struct Config {
     utf8: Option<bool>,
+    reverse: Option<bool>,
     nfa_size_limit: Option<Option<usize>>,
     which_captures: Option<WhichCaptures>,
     look_matcher: Option<LookMatcher>,
@@ -30,6 +31,7 @@ impl Config {
     {
         Config {
             utf8: None,
+            reverse: None,
             nfa_size_limit: None,
             which_captures: None,
             look_matcher: None,
@@ -41,6 +43,15 @@ impl Config {
         ensures { result ≡ record self { utf8 = Some yes } }
     {
         self.utf8 = Some(yes);
+        self
+    }
+
+    /// Whether the NFA is to read texts backwards. By default it isn't. A backward NFA writes no slots, whatever groups
+    /// are told: it tells where the matches that end at a place start.
+    pub fn reverse(mut self, yes: bool) -> Config
+        ensures { result ≡ record self { reverse = Some yes } }
+    {
+        self.reverse = Some(yes);
         self
     }
 
@@ -76,6 +87,13 @@ impl Config {
         self.utf8.unwrap_or(true)
     }
 
+    /// Whether the NFA is to read texts backwards.
+    pub fn get_reverse(&self) -> bool
+        ensures { result ≡ reverse_of self.now }
+    {
+        self.reverse.unwrap_or(false)
+    }
+
     /// The most bytes that an NFA may have, if there is a limit.
     pub fn get_nfa_size_limit(&self) -> Option<usize>
         ensures { result ≡ size_limit_of self.now }
@@ -106,6 +124,7 @@ impl Config {
     {
         Config {
             utf8: other.utf8.or(self.utf8),
+            reverse: other.reverse.or(self.reverse),
             nfa_size_limit: other.nfa_size_limit.or(self.nfa_size_limit),
             which_captures: other.which_captures.or(self.which_captures),
             look_matcher: other.look_matcher.or(self.look_matcher),

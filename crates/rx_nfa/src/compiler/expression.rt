@@ -1,8 +1,8 @@
 //! The states of an expression. Each function appends them, for a part that goes on to the state `next`, and answers
 //! where the part starts. There are no more of them than are accounted for it.
-ghost use Rattle.std.specs.Prelude.{◌≡◌, ◌+◌, ◌*◌, ◌-◌, ◌<◌, ◌≤◌, length, IfOk, IfSome, OnOk, None};
+ghost use Rattle.std.specs.Prelude.{◌≡◌, ◌+◌, ◌*◌, ◌-◌, ◌<◌, ◌≤◌, length, map, if◌then◌else◌, IfOk, IfSome, OnOk, None};
 ghost use Rattle.std.specs.Int.NonZero.{non_zero_usize_get};
-ghost use Rattle.rx_model.specs.Graph.{text, assertion, build_state, build_group, build, build_in_turn, build_each, build_choice, build_repetition, loop, loop_once, options};
+ghost use Rattle.rx_model.specs.Graph.{text, assertion, build_state, build_group, build_choice, build_repetition, loop, loop_once, options};
 ghost use Rattle.rx_model.specs.Length.{minimum_len, is_positive};
 ghost use Rattle.rx_model.specs.Search.{greatest_group, greatest_in};
 ghost use Rattle.rx_search.specs.Look.{kind_of};
@@ -11,6 +11,7 @@ ghost use Rattle.rx_hir.specs.Cost.{states_of_copies, accounted_states, accounte
 ghost use Rattle.rx_hir.specs.Normal.{expressions};
 ghost use Rattle.rx_hir.specs.Sound.{IsSound};
 ghost use Rattle.rx_nfa.specs.Built.{Built, slot_from, ways};
+ghost use Rattle.rx_nfa.specs.Directed.{in_order, build_row, build_sides, part_for};
 ghost use Rattle.rx_nfa.specs.Repeated.{star, tail, leading, states_of_tail};
 ghost use Rattle.rx_nfa.specs.Room.{HasRoom};
 ghost use Rattle.rx_nfa.specs.declared.state.State.TheVariants.{Union};
@@ -33,15 +34,15 @@ pub fn compile(
     requires next { next < length builder.old.states }
     requires room { HasRoom builder.old groups.now (greatest_group hir.now) }
     requires fits { length builder.old.states + accounted_states hir.now ≤ id_limit }
-    ensures built { IfOk result (λ start. Built (build (slot_from groups.now.first_slot) hir.now) next builder.old builder.new start) }
+    ensures built { IfOk result (λ start. Built (part_for groups.now hir.now) next builder.old builder.new start) }
     ensures inside { IfOk result (λ start. start < length builder.new.states) }
     ensures count { OnOk result (length builder.new.states ≤ length builder.old.states + accounted_states hir.now) }
     ensures sound { IsSound hir.now }
 {
     match hir.kind() {
         HirKind::Empty => Ok(next),
-        HirKind::Literal(bytes) => compile_literal(builder, bytes, next),
-        HirKind::Class(class) => builder.push_class(alloc, class, next),
+        HirKind::Literal(bytes) => compile_literal(builder, groups.reverse, bytes, next),
+        HirKind::Class(class) => builder.push_class(alloc, groups.reverse, class, next),
         HirKind::Look(look) => compile_look(builder, *look, next),
         HirKind::Repetition(repetition) => {
             compile_repetition(alloc, builder, groups, repetition, next)
@@ -52,12 +53,26 @@ pub fn compile(
     }
 }
 
-/// A state for each byte, the last one first.
-fn compile_literal(builder: &mut Builder, bytes: &[u8], next: StateID) -> Result<StateID, Memory>
+/// The place of the part that is read as this one among so many: the directions are told apart here, and by a class.
+fn place_of(reverse: bool, len: usize, read_as: usize) -> usize
+    requires { read_as < len }
+    ensures value { result ≡ (if reverse then len - 1 - read_as else read_as) }
+    ensures inside { result < len }
+{
+    if reverse { len - 1 - read_as } else { read_as }
+}
+
+/// A state for each byte, the one that is read last first.
+fn compile_literal(
+    builder: &mut Builder,
+    reverse: bool,
+    bytes: &[u8],
+    next: StateID,
+) -> Result<StateID, Memory>
     requires next { next < length builder.old.states }
     requires some { 0 < length bytes.now }
     requires fits { length builder.old.states + length bytes.now ≤ id_limit }
-    ensures built { IfOk result (λ start. Built (build_state (text bytes.now)) next builder.old builder.new start) }
+    ensures built { IfOk result (λ start. Built (build_state (text (in_order reverse bytes.now))) next builder.old builder.new start) }
     ensures inside { IfOk result (λ start. start < length builder.new.states) }
     ensures count { OnOk result (length builder.new.states ≤ length builder.old.states + length bytes.now) }
 {
@@ -65,9 +80,10 @@ fn compile_literal(builder: &mut Builder, bytes: &[u8], next: StateID) -> Result
     let mut left = bytes.len();
     while left > 0 {
         left -= 1;
+        let byte = bytes[place_of(reverse, bytes.len(), left)];
         start = builder.push(State::ByteRange {
-            start: bytes[left],
-            end: bytes[left],
+            start: byte,
+            end: byte,
             next: start,
         })?;
     }
@@ -98,7 +114,7 @@ fn compile_capture(
     requires group { HasRoom builder.old groups.now (non_zero_usize_get capture.now.index) }
     requires room { HasRoom builder.old groups.now (greatest_group capture.now.sub.value) }
     requires fits { length builder.old.states + (accounted_states capture.now.sub.value + 2) ≤ id_limit }
-    ensures built { IfOk result (λ start. Built (build_group (slot_from groups.now.first_slot (non_zero_usize_get capture.now.index)) (build (slot_from groups.now.first_slot) capture.now.sub.value))
+    ensures built { IfOk result (λ start. Built (build_group (slot_from groups.now.first_slot (non_zero_usize_get capture.now.index)) (part_for groups.now capture.now.sub.value))
         next builder.old builder.new start) }
     ensures inside { IfOk result (λ start. start < length builder.new.states) }
     ensures count { OnOk result (length builder.new.states ≤ length builder.old.states + (accounted_states capture.now.sub.value + 2)) }
@@ -120,7 +136,7 @@ fn compile_capture(
     })
 }
 
-/// One expression after another, the last one first.
+/// One expression after another, the one that is read last first.
 #[cycle(compile)]
 fn compile_concat(
     alloc: Global,
@@ -132,7 +148,7 @@ fn compile_concat(
     requires next { next < length builder.old.states }
     requires room { HasRoom builder.old groups.now (greatest_in (expressions subs.now)) }
     requires fits { length builder.old.states + accounted_in (expressions subs.now) ≤ id_limit }
-    ensures built { IfOk result (λ start. Built (build_in_turn (slot_from groups.now.first_slot) (expressions subs.now)) next builder.old builder.new start) }
+    ensures built { IfOk result (λ start. Built (build_row (map (part_for groups.now) (in_order groups.now.reverse subs.now))) next builder.old builder.new start) }
     ensures inside { IfOk result (λ start. start < length builder.new.states) }
     ensures count { OnOk result (length builder.new.states ≤ length builder.old.states + accounted_in (expressions subs.now)) }
 {
@@ -140,7 +156,8 @@ fn compile_concat(
     let mut left = subs.len();
     while left > 0 {
         left -= 1;
-        start = compile(alloc, builder, groups, &subs[left], start)?;
+        let place = place_of(groups.reverse, subs.len(), left);
+        start = compile(alloc, builder, groups, &subs[place], start)?;
     }
     Ok(start)
 }
@@ -157,7 +174,7 @@ fn compile_alternation(
     requires next { next < length builder.old.states }
     requires room { HasRoom builder.old groups.now (greatest_in (expressions subs.now)) }
     requires fits { length builder.old.states + (accounted_in (expressions subs.now) + 1) ≤ id_limit }
-    ensures built { IfOk result (λ start. Built (build_choice (build_each (slot_from groups.now.first_slot) (expressions subs.now))) next builder.old builder.new start) }
+    ensures built { IfOk result (λ start. Built (build_choice (build_sides (map (part_for groups.now) subs.now))) next builder.old builder.new start) }
     ensures inside { IfOk result (λ start. start < length builder.new.states) }
     ensures count { OnOk result (length builder.new.states ≤ length builder.old.states + (accounted_in (expressions subs.now) + 1)) }
 {
@@ -185,7 +202,7 @@ fn compile_repetition(
     requires ordered { IfSome repetition.now.max (λ m. repetition.now.min ≤ m) }
     requires fits { length builder.old.states + states_of_copies repetition.now.min repetition.now.max (accounted_states repetition.now.sub.value) ≤ id_limit }
     ensures built { IfOk result (λ start. Built (build_repetition (is_positive (minimum_len repetition.now.sub.value)) repetition.now.min repetition.now.max
-        repetition.now.greedy (build (slot_from groups.now.first_slot) repetition.now.sub.value)) next builder.old builder.new start) }
+        repetition.now.greedy (part_for groups.now repetition.now.sub.value)) next builder.old builder.new start) }
     ensures inside { IfOk result (λ start. start < length builder.new.states) }
     ensures count { OnOk result (length builder.new.states ≤ length builder.old.states + states_of_copies repetition.now.min repetition.now.max (accounted_states repetition.now.sub.value)) }
 {
@@ -220,7 +237,7 @@ fn compile_tail(
     requires room { HasRoom builder.old groups.now (greatest_group repetition.now.sub.value) }
     requires fits { length builder.old.states + states_of_tail repetition.now.min repetition.now.max (accounted_states repetition.now.sub.value) ≤ id_limit }
     ensures built { IfOk result (λ start. Built (tail (is_positive (minimum_len repetition.now.sub.value)) repetition.now.min repetition.now.max
-        repetition.now.greedy (build (slot_from groups.now.first_slot) repetition.now.sub.value)) next builder.old builder.new start) }
+        repetition.now.greedy (part_for groups.now repetition.now.sub.value)) next builder.old builder.new start) }
     ensures inside { IfOk result (λ start. start < length builder.new.states) }
     ensures count { OnOk result (length builder.new.states ≤ length builder.old.states + states_of_tail repetition.now.min repetition.now.max (accounted_states repetition.now.sub.value)) }
 {
@@ -250,7 +267,7 @@ fn compile_unbounded(
     requires room { HasRoom builder.old groups.now (greatest_group repetition.now.sub.value) }
     requires fits { length builder.old.states + states_of_tail repetition.now.min None (accounted_states repetition.now.sub.value) ≤ id_limit }
     ensures built { IfOk result (λ start. Built (tail (is_positive (minimum_len repetition.now.sub.value)) repetition.now.min None
-        repetition.now.greedy (build (slot_from groups.now.first_slot) repetition.now.sub.value)) next builder.old builder.new start) }
+        repetition.now.greedy (part_for groups.now repetition.now.sub.value)) next builder.old builder.new start) }
     ensures inside { IfOk result (λ start. start < length builder.new.states) }
     ensures count { OnOk result (length builder.new.states ≤ length builder.old.states + states_of_tail repetition.now.min None (accounted_states repetition.now.sub.value)) }
 {
@@ -298,8 +315,8 @@ fn compile_loop(
     requires next { next < length builder.old.states }
     requires room { HasRoom builder.old groups.now (greatest_group repetition.now.sub.value) }
     requires fits { length builder.old.states + (accounted_states repetition.now.sub.value + 1) ≤ id_limit }
-    ensures from_choice { IfOk result (λ turn. Built (loop repetition.now.greedy (build (slot_from groups.now.first_slot) repetition.now.sub.value)) next builder.old builder.new turn.choice) }
-    ensures from_body { IfOk result (λ turn. Built (loop_once repetition.now.greedy (build (slot_from groups.now.first_slot) repetition.now.sub.value)) next builder.old builder.new turn.body) }
+    ensures from_choice { IfOk result (λ turn. Built (loop repetition.now.greedy (part_for groups.now repetition.now.sub.value)) next builder.old builder.new turn.choice) }
+    ensures from_body { IfOk result (λ turn. Built (loop_once repetition.now.greedy (part_for groups.now repetition.now.sub.value)) next builder.old builder.new turn.body) }
     ensures inside { IfOk result (λ turn. (turn.choice < length builder.new.states) × (turn.body < length builder.new.states)) }
     ensures count { OnOk result (length builder.new.states ≤ length builder.old.states + (accounted_states repetition.now.sub.value + 1)) }
 {
@@ -323,7 +340,7 @@ fn compile_options(
     requires next { next < length builder.old.states }
     requires room { HasRoom builder.old groups.now (greatest_group repetition.now.sub.value) }
     requires fits { length builder.old.states + count * (accounted_states repetition.now.sub.value + 1) ≤ id_limit }
-    ensures built { IfOk result (λ start. Built (options repetition.now.greedy count (build (slot_from groups.now.first_slot) repetition.now.sub.value)) next builder.old builder.new start) }
+    ensures built { IfOk result (λ start. Built (options repetition.now.greedy count (part_for groups.now repetition.now.sub.value)) next builder.old builder.new start) }
     ensures inside { IfOk result (λ start. start < length builder.new.states) }
     ensures count { OnOk result (length builder.new.states ≤ length builder.old.states + count * (accounted_states repetition.now.sub.value + 1)) }
 {

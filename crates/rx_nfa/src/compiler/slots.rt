@@ -4,11 +4,18 @@ ghost use Rattle.rx_model.specs.Search.{greatest_group};
 ghost use Rattle.rx_search.specs.Limits.{id_limit, slot_limit};
 ghost use Rattle.rx_nfa.specs.Built.{whole_slot};
 ghost use Rattle.rx_nfa.specs.Compiled.{slots_of, slots_written, first_slot_of};
-ghost use Rattle.rx_nfa.specs.Config.{captures_kind};
+ghost use Rattle.rx_nfa.specs.Config.{captures_kind, written_in};
 
 use crate::compiler::config::WhichCaptures;
 use rx_hir::{Hir, greatest_group};
 use rx_search::PatternID;
+
+/// The groups that states tell: none, where they read backwards.
+pub fn written_in(reverse: bool, which: WhichCaptures) -> WhichCaptures
+    ensures { captures_kind result ≡ written_in reverse (captures_kind which) }
+{
+    if reverse { WhichCaptures::None } else { which }
+}
 
 /// How many of the first slots the states may write, where there are so many slots.
 pub fn slots_written(which: WhichCaptures, exprs: &[Hir], slot_len: usize) -> usize

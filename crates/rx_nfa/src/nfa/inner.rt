@@ -1,5 +1,5 @@
 use crate::State;
-use rx_search::{GroupInfo, LookMatcher, LookSet, StateID};
+use rx_search::{ByteClasses, GroupInfo, LookMatcher, LookSet, StateID};
 
 /// What the clones of an NFA share.
 #[derive(Drop)]
@@ -10,8 +10,10 @@ pub struct Inner {
     pub slot_len: usize,
     pub group_info: GroupInfo,
     pub utf8: bool,
+    pub reverse: bool,
     pub look_matcher: LookMatcher,
     pub look_set_any: LookSet,
+    pub byte_classes: ByteClasses,
     pub always_start_anchored: bool,
     pub has_empty: bool,
     pub accounted_states: usize,

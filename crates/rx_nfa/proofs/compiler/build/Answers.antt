@@ -1,24 +1,29 @@
 use Rattle.std.proofs.Common.{◌≡◌, ◌∙◌, sym, ap, subst, refl, arith, length}
 use Rattle.std.proofs.lemmas.List.{length-map}
-use Rattle.std.specs.Prelude.{true}
-use Rattle.rx_nfa.specs.Built.{StartsAll, HasPatterns}
+use Rattle.std.specs.Prelude.{true, false, All, None as Absent}
+use Rattle.std.proofs.lemmas.List.Elements.{All-weaker}
+use Rattle.rx_nfa.specs.Automaton.{IsWithin, state_writes}
+use Rattle.rx_nfa.specs.declared.state.State.{State}
+use Rattle.rx_nfa.specs.Built.{StartsAll, HasParts}
+use Rattle.rx_nfa.specs.Directed.{directed_part}
 use Rattle.rx_nfa.specs.Compiled.{patterns_of, slots_of, slots_written, groups_of}
-use Rattle.rx_nfa.specs.Config.{terminator_of, captures_of, captures_kind}
+use Rattle.rx_nfa.specs.Config.{reverse_of, terminator_of, captures_of, captures_kind, written_in}
 use Rattle.rx_nfa.specs.Draft.{Draft}
-use Rattle.rx_nfa.specs.Nfa.{Nfa, HasRuns}
+use Rattle.rx_nfa.specs.Nfa.{Nfa, HasRuns, HasReverseRuns}
 use Rattle.rx_search.specs.GroupInfo.{slot_count}
 use Rattle.rx_hir.specs.Names.{group_names}
 use Rattle.rx_hir.proofs.SoundLemmas.{IsSound-ordered}
 use Rattle.rx_nfa.proofs.lemmas.runs.GroupLemmas.{slots-counted}
-use Rattle.rx_nfa.proofs.lemmas.runs.NextMatchLemmas.{written-none}
-use Rattle.rx_nfa.proofs.lemmas.runs.PatternLemmas.{HasRuns-from, StartsAll-kept}
+use Rattle.rx_nfa.proofs.lemmas.runs.NextMatchLemmas.{written-none, writes-none}
+use Rattle.rx_nfa.proofs.lemmas.runs.PatternLemmas.{HasRuns-from, HasPatterns-forwards, StartsAll-kept}
 use Rattle.rx_nfa.proofs.lemmas.parts.SlotLemmas.{written-within}
+use Rattle.rx_nfa.proofs.lemmas.reverse.ReverseLemmas.{HasReverseRuns-from}
 use Rattle.rx_nfa.proofs.compiler.build.Goals as goal
 
 pub finish-requires-clause-slots : goal.finish-requires-clause-slots
 finish-requires-clause-slots c =
     let exprs = c.args.exprs.now in
-    let which = captures_kind c.get_which_captures-which.result in
+    let which = captures_kind c.written_in-which.result in
     let starts = c.in_ok-starts.starts.items in
     let old = c.compile_patterns.new.builder in
     let new = c.start_of_all.new.builder in
@@ -57,7 +62,9 @@ finish-requires-clause-few c =
 pub returns : goal.returns
 returns c =
     let exprs = c.args.exprs.now in
-    let which = captures_of c.args.config in
+    let reverse = reverse_of c.args.config in
+    let which = written_in (reverse_of c.args.config) (captures_of c.args.config) in
+    let which_is : captures_kind c.written_in-which.result ≡ which = c.written_in-which.ensures ∙ (λ i. written_in (c.get_reverse-reverse.ensures i) (captures_kind (c.get_which_captures.ensures i))) in
     let starts = c.in_ok-starts.starts.items in
     let old = c.compile_patterns.new.builder in
     let new = c.start_of_all.new.builder in
@@ -68,13 +75,29 @@ returns c =
     let kept = StartsAll-kept old new starts c.in_ok-start.start all in
     let written : new.slots ≡ slots_written which exprs =
     kept.1 ∙ c.in_ok-starts.ensures.extends.slots ∙ ap (λ (d : Draft). d.slots) c.new-builder.ensures ∙ c.slots_written.ensures
-    ∙ ap (λ w. slots_written w c.args.exprs.now) (ap captures_kind c.get_which_captures-which.ensures) in
+    ∙ ap (λ w. slots_written w c.args.exprs.now) which_is in
     let groups : new.groups ≡ groups_of exprs = kept.0 ∙ c.in_ok-starts.ensures.extends.groups ∙ ap (λ (d : Draft). d.groups) c.new-builder.ensures ∙ c.in_ok-group_info.ensures in
     let slots : nfa.slots ≡ slots_of exprs = ap (λ (n : Nfa). n.slots) is ∙ ap slot_count groups ∙ sym (slots-counted exprs) in
     let states : nfa.states ≡ new.states = ap (λ (n : Nfa). n.states) is in
     let terminator : nfa.terminator ≡ terminator_of c.args.config = ap (λ (n : Nfa). n.terminator) is ∙ c.get_look_matcher.ensures in
-    let has = subst (λ w. HasPatterns c.compile_patterns.new.builder.states (patterns_of c.args.exprs.now true 0 w) (length c.args.exprs.now) c.in_ok-starts.starts.items)
-    (ap captures_kind c.get_which_captures-which.ensures) c.in_ok-starts.ensures.has in
+    let has : HasParts old.states (directed_part reverse (patterns_of exprs true 0 which)) exprs (length exprs) starts =
+    subst (λ b. HasParts c.compile_patterns.new.builder.states (directed_part b (patterns_of c.args.exprs.now true 0 which)) c.args.exprs.now (length c.args.exprs.now) c.in_ok-starts.starts.items) c.get_reverse-reverse.ensures
+    (subst (λ w. HasParts c.compile_patterns.new.builder.states (directed_part c.get_reverse-reverse.result (patterns_of c.args.exprs.now true 0 w)) c.args.exprs.now (length c.args.exprs.now) c.in_ok-starts.starts.items) which_is c.in_ok-starts.ensures.has) in
+    let made : Nfa = record {
+      states = new.states;
+      start_anchored = c.in_ok-start.start;
+      starts = starts;
+      slots = slot_count new.groups;
+      groups = new.groups;
+      utf8 = c.get_utf8.result;
+      reverse = c.get_reverse-reverse.result;
+      terminator = c.get_look_matcher.result;
+      looks = nfa.looks;
+      classes = nfa.classes;
+      always_start_anchored = c.all_start_anchored.result;
+      has_empty = c.one_can_be_empty.result;
+      accounted = c.args.states;
+    } in
     record {
       in_range = c.in_ok-nfa.ensures.in_range;
       few =
@@ -91,22 +114,22 @@ returns c =
       has_empty = ap (λ (n : Nfa). n.has_empty) is ∙ c.one_can_be_empty.ensures;
       accounted = ap (λ (n : Nfa). n.accounted) is ∙ c.requires.states;
       ordered = λ p h at. IsSound-ordered h (c.in_ok-starts.ensures.sound p h at);
-      runs = λ utf8_empty.
-          subst (λ n. HasRuns n (patterns_of exprs utf8_empty (terminator_of c.args.config) which)) (sym is)
-          (HasRuns-from (patterns_of exprs utf8_empty (terminator_of c.args.config) which)
-          (record {
-            states = new.states;
-            start_anchored = c.in_ok-start.start;
-            starts = starts;
-            slots = slot_count new.groups;
-            groups = new.groups;
-            utf8 = c.get_utf8.result;
-            terminator = c.get_look_matcher.result;
-            looks = nfa.looks;
-            always_start_anchored = c.all_start_anchored.result;
-            has_empty = c.one_can_be_empty.result;
-            accounted = c.args.states;
-          })
-          old new has long c.get_look_matcher.ensures refl all
-          (λ none text end x. written-none (length new.groups) new.slots new.states (written ∙ ap (λ w. slots_written w exprs) none) c.in_ok-nfa.ensures.within (terminator_of c.args.config) text end x));
+      reverse = ap (λ (n : Nfa). n.reverse) is ∙ c.get_reverse-reverse.ensures;
+      runs = λ ahead utf8_empty.
+          (let same : which ≡ captures_of c.args.config = ap (λ b. written_in b (captures_of c.args.config)) ahead in
+          subst (λ n. HasRuns n (patterns_of exprs utf8_empty (terminator_of c.args.config) (captures_of c.args.config))) (sym is)
+          (HasRuns-from (patterns_of exprs utf8_empty (terminator_of c.args.config) (captures_of c.args.config)) made old new
+          (HasPatterns-forwards (patterns_of exprs utf8_empty (terminator_of c.args.config) (captures_of c.args.config)) old.states (length exprs) starts
+          (subst (λ w. HasParts old.states (directed_part false (patterns_of exprs true 0 w)) exprs (length exprs) starts) same (subst (λ b. HasParts old.states (directed_part b (patterns_of exprs true 0 which)) exprs (length exprs) starts) ahead has)))
+          long c.get_look_matcher.ensures refl all
+          (λ none text end x. written-none (length new.groups) new.slots new.states (written ∙ ap (λ w. slots_written w exprs) (same ∙ none)) c.in_ok-nfa.ensures.within (terminator_of c.args.config) text end x)));
+      silent = λ behind.
+          (let none : new.slots ≡ 0 = written ∙ ap (λ b. slots_written (written_in b (captures_of c.args.config)) exprs) behind in
+          subst (λ ss. All (λ (s : State). state_writes s ≡ Absent) ss) (sym states)
+          (All-weaker (IsWithin (length new.groups) new.slots) (λ s. state_writes s ≡ Absent) (λ s w. writes-none (length new.groups) new.slots s none w) new.states c.in_ok-nfa.ensures.within));
+      reverse_runs = λ behind utf8_empty.
+          (let runs = HasReverseRuns-from (patterns_of exprs utf8_empty (terminator_of c.args.config) which) made old new
+          (subst (λ b. HasParts old.states (directed_part b (patterns_of exprs true 0 which)) exprs (length exprs) starts) behind has) long c.get_look_matcher.ensures refl all
+          (λ p h at. IsSound-ordered h (c.in_ok-starts.ensures.sound p h at)) in
+          subst (λ n. HasReverseRuns n (patterns_of exprs utf8_empty (terminator_of c.args.config) (captures_of c.args.config))) (sym is) (record { patterns = runs.patterns; each = runs.each; all = runs.all }));
     }

@@ -1,7 +1,8 @@
 use Rattle.std.proofs.Common.{◌<◌, ◌∙◌, sym, ap, subst, arith, length}
 use Rattle.std.specs.Prelude.{IfSome}
-use Rattle.rx_model.specs.Graph.{build, build_state}
-use Rattle.rx_nfa.specs.Built.{Built, bound, build_bounds, slot_from}
+use Rattle.rx_model.specs.Graph.{build_state}
+use Rattle.rx_nfa.specs.Built.{Built, bound, build_bounds}
+use Rattle.rx_nfa.specs.Directed.{part_for}
 use Rattle.rx_search.specs.GroupInfo.{groups_at}
 use Rattle.rx_nfa.specs.Draft.{Draft}
 use Rattle.rx_nfa.specs.Slots.{IsSlotOf}
@@ -13,13 +14,13 @@ use Rattle.rx_nfa.proofs.compiler.compile_pattern.Goals as goal
 pub returns-clause-has : goal.returns-clause-has
 returns-clause-has c =
     let groups = c.args.groups.now in
-    let slot = slot_from c.args.groups.now.first_slot in
+    let body = part_for c.args.groups.now c.args.hir.now in
     let whole = c.args.groups.now.whole_slot in
     let last = subst (λ o. Built (build_state (bound o)) c.in_ok-accept.accept c.push.new.self c.push_bound.new.builder c.in_ok-close.close) c.second_slot-last_slot.ensures c.in_ok-close.ensures.built in
-    let part = Built-bounds (build slot c.args.hir.now) whole c.in_ok-accept.accept c.in_ok-close.close c.in_ok-body.body c.in_ok-open.open
+    let part = Built-bounds body whole c.in_ok-accept.accept c.in_ok-close.close c.in_ok-body.body c.in_ok-open.open
     c.push.new.self c.push_bound.new.builder c.compile.new.builder c.push_bound-2.new.builder last c.in_ok-body.ensures.built c.in_ok-open.ensures.built in
-    HasPart-pattern whole slot c.args.groups.now.pattern c.args.hir.now c.args.builder.now c.push.new.self c.push_bound-2.new.builder c.in_ok-open.open c.in_ok-accept.ensures.states
-    (subst (λ q. Built (build_bounds whole (build slot c.args.hir.now)) q c.push.new.self c.push_bound-2.new.builder c.in_ok-open.open) c.in_ok-accept.ensures.id part)
+    HasPart-pattern whole body c.args.groups.now.pattern c.args.builder.now c.push.new.self c.push_bound-2.new.builder c.in_ok-open.open c.in_ok-accept.ensures.states
+    (subst (λ q. Built (build_bounds whole body) q c.push.new.self c.push_bound-2.new.builder c.in_ok-open.open) c.in_ok-accept.ensures.id part)
 
 pub push_bound-requires-clause-own : goal.push_bound-requires-clause-own
 push_bound-requires-clause-own c =

@@ -4,7 +4,8 @@ use Rattle.std.proofs.lemmas.Option.{slice_get_within}
 use Rattle.std.specs.Prelude.{true, IfSome, option_map}
 use Rattle.rx_model.specs.Search.{greatest_group}
 use Rattle.rx_search.specs.Limits.{slot_limit}
-use Rattle.rx_nfa.specs.Built.{HasPart, part_of}
+use Rattle.rx_nfa.specs.Built.{HasPart}
+use Rattle.rx_nfa.specs.Directed.{directed_part}
 use Rattle.rx_search.specs.GroupInfo.{groups_at, slot_of_group}
 use Rattle.rx_hir.specs.Names.{group_names}
 use Rattle.rx_nfa.specs.Compiled.{patterns_of, groups_of, slots_of, slots_written}
@@ -13,7 +14,7 @@ use Rattle.rx_nfa.proofs.lemmas.parts.ExpressionLemmas.{nfa_states-drop, nfa_sta
 use Rattle.rx_nfa.proofs.lemmas.parts.BuiltLemmas.{Extends-trans}
 use Rattle.rx_nfa.proofs.lemmas.parts.CompileLemmas.{below-more}
 use Rattle.rx_nfa.proofs.lemmas.runs.GroupLemmas.{groups_at-names, first_slot-group}
-use Rattle.rx_nfa.proofs.lemmas.runs.PatternLemmas.{HasPatterns-more, sound-more}
+use Rattle.rx_nfa.proofs.lemmas.runs.PatternLemmas.{HasParts-more, sound-more}
 use Rattle.rx_nfa.proofs.lemmas.parts.SlotLemmas.{groups-inside, groups-there, whole-inside, whole-is, written-within, first_slot-more, part-is, room-more}
 use Rattle.rx_nfa.proofs.compiler.compile_patterns.Goals as goal
 
@@ -79,8 +80,8 @@ loop-hir-preserved c =
     let is = rw c.unwrap-pattern.ensures at c.new.ensures in
     let index : c.unwrap-pattern.result ≡ c.loop-hir.hir-index = is.0 ∙ c.len.ensures ∙ c.loop-hir.invariant.len in
     let e = c.in_ok-start.ensures.extends in
-    let part = part-is r c.unwrap-pattern.result k item c.whole_slot.result c.loop-hir.first_slot c.whole_slot.ensures c.loop-hir.invariant.first_slot index in
-    let has : HasPart new.states (part_of r k item) start = subst (λ p. HasPart c.compile_pattern.new.builder.states p c.in_ok-start.start) part c.in_ok-start.ensures.has in
+    let part = part-is r c.unwrap-pattern.result k item c.whole_slot.result c.loop-hir.first_slot c.whole_slot.ensures c.loop-hir.invariant.first_slot index c.args.reverse in
+    let has : HasPart new.states (directed_part c.args.reverse r k item) start = subst (λ p. HasPart c.compile_pattern.new.builder.states p c.in_ok-start.start) part c.in_ok-start.ensures.has in
     let long = ap length grown in
     let sum = length-append c.loop-hir.starts.items (start ∷ []) in
     record {
@@ -94,7 +95,7 @@ loop-hir-preserved c =
       items = omega arith;
       first_slot = c.slot_after-first_slot.ensures ∙ ap (option_map (λ first. first + 2 * greatest_group c.hir-item.result)) before.first_slot
           ∙ first_slot-more which exprs k item (omega arith) c.hir-item.is;
-      has = HasPatterns-more r k old new c.loop-hir.starts.items c.push.new.self.items start item e before.items grown (omega arith) c.hir-item.is before.has has;
+      has = HasParts-more (directed_part c.args.reverse r) exprs k old new c.loop-hir.starts.items c.push.new.self.items start item e before.items grown (omega arith) c.hir-item.is before.has has;
       inside = below-more (length old.states) (length new.states) c.loop-hir.starts.items c.push.new.self.items start e.longer c.in_ok-start.ensures.inside grown before.inside;
       sound = sound-more exprs k item (omega arith) c.hir-item.is c.in_ok-start.ensures.sound before.sound;
     }

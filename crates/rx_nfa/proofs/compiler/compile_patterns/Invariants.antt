@@ -2,7 +2,8 @@ use Rattle.std.proofs.Common.{◌≡◌, ℕ, ◌<◌, ◌≤◌, ◌+◌, lengt
 use Rattle.std.specs.Prelude.{All, true, Some, slice_get}
 use Rattle.rx_model.specs.Expression.{Expression}
 use Rattle.rx_hir.specs.Sound.{IsSound}
-use Rattle.rx_nfa.specs.Built.{HasPatterns}
+use Rattle.rx_nfa.specs.Built.{HasParts}
+use Rattle.rx_nfa.specs.Directed.{directed_part}
 use Rattle.rx_nfa.specs.Compiled.{patterns_of, first_slot_of, nfa_states}
 use Rattle.rx_nfa.specs.Config.{captures_kind}
 use Rattle.rx_nfa.specs.Draft.{Extends}
@@ -15,7 +16,7 @@ invariant-loop-hir l = record {
   count : length l.builder.states + nfa_states (drop l.hir-index l.exprs) ≤ length l.initial.builder.states + nfa_states l.exprs;
   items : length l.starts.items ≡ l.hir-index;
   first_slot : l.first_slot ≡ first_slot_of (captures_kind l.which) l.exprs l.hir-index;
-  has : HasPatterns l.builder.states (patterns_of l.exprs true 0 (captures_kind l.which)) l.hir-index l.starts.items;
+  has : HasParts l.builder.states (directed_part l.reverse (patterns_of l.exprs true 0 (captures_kind l.which))) l.exprs l.hir-index l.starts.items;
   inside : All (λ q. q < length l.builder.states) l.starts.items;
   sound : (p : ℕ) (h : Expression) → p < l.hir-index → slice_get l.exprs p ≡ Some h → IsSound h;
 }

@@ -188,6 +188,9 @@ sieved-steps ok around states end g has_steps = record {
   accepts = λ q i lt le none. sieved-none ok g (at q i) (has_steps.accepts q i lt le none);
 }
 
+not-past : (a b : ℕ) → a ≤ b → nat_lt b a ≡ false
+not-past a b le = grind (arith, nat_tests)
+
 module _ (nfa : Nfa) (range : IsInRange nfa) (utf8_empty : Bool) (text : List ℕ) (b a : ℕ) (in_order : a ≤ b) (anchor : Anchor) (start : ℕ) (begins : start_of nfa anchor ≡ Some start) where
   abbrev graph : PriorityGraph
   graph = automaton nfa.terminator nfa.states text b
@@ -234,7 +237,7 @@ module _ (nfa : Nfa) (range : IsInRange nfa) (utf8_empty : Bool) (text : List �
   unfolding next_match_of
   list_search_of-next =
       let around = forwards nfa.terminator text in
-      let known : nat_lt b a ≡ false = grind (arith, nat_tests) in
+      let known = not-past a b in_order in
       let qs = begun start (is_anchored anchor && may a) in
       list_search-alike around nfa.states range.names b graph (automaton-steps (forwards nfa.terminator text) nfa.states b) may start inside
       (λ i q. state_accepts (state_at nfa.states q)) (accepts_at graph) (b - a) a (λ j le. accepts j (omega arith)) (not (is_anchored anchor)) qs None

@@ -1,9 +1,9 @@
 -- What the functions of the compiler hand on to one another.
 use Rattle.std.proofs.Common.{◌≡◌, ℕ, zero, suc, ◌+◌, ◌*◌, ◌-◌, ◌≤◌, ◌<◌, List, [], ◌∷◌, ◌++◌, refl, sym, ◌∙◌, ap, subst, arith, length, get_or, take}
-use Rattle.std.specs.Prelude.{Bool, true, false, Option, Some, None, Result, IfOk, IfSome, All, min, ◌^◌, nat_lt}
+use Rattle.std.specs.Prelude.{Bool, true, false, Option, Some, None, Result, IfOk, IfSome, All, min, ◌^◌, nat_lt, map}
 use Rattle.std.proofs.Math.ListN.{length-set}
 use Rattle.std.proofs.lemmas.Bool.Decides.{nat_tests}
-use Rattle.std.proofs.lemmas.List.{take_more}
+use Rattle.std.proofs.lemmas.List.{take_more, map-append}
 use Rattle.std.proofs.lemmas.List.Elements.{All-push, All-weaker}
 use Rattle.rx_model.specs.Expression.{Expression}
 use Rattle.rx_model.specs.Graph as graph
@@ -57,13 +57,13 @@ greatest-at (x ∷ hs) zero h d lt e = let same : greatest_group h ≡ greatest_
 greatest-at (x ∷ hs) (suc k) h d lt e = let later = greatest-at hs k h d (omega arith) e in omega arith
 
 -- one alternative more
-pub BuiltEach-next : (slot : ℕ → Option ℕ) (subs : List Expression) (k : ℕ) (h : Expression) (next : ℕ) (old mid new : Draft) (starts starts' : List ℕ) (q : ℕ) → k < length subs
-    → h ≡ get_or subs k h → starts' ≡ starts ++ q ∷ [] → BuiltEach slot (take k subs) next old mid starts → Built (graph.build slot h) next mid new q
-    → BuiltEach slot (take (k + 1) subs) next old new starts'
-BuiltEach-next slot subs k h next old mid new starts starts' q lt is grown b last =
+pub BuiltEach-next : (f : Expression → graph.Builder) (subs : List Expression) (k : ℕ) (h : Expression) (next : ℕ) (old mid new : Draft) (starts starts' : List ℕ) (q : ℕ) → k < length subs
+    → h ≡ get_or subs k h → starts' ≡ starts ++ q ∷ [] → BuiltEach (map f (take k subs)) next old mid starts → Built (f h) next mid new q
+    → BuiltEach (map f (take (k + 1) subs)) next old new starts'
+BuiltEach-next f subs k h next old mid new starts starts' q lt is grown b last =
     let more : take (k + 1) subs ≡ take k subs ++ h ∷ [] = take_more subs k h lt ∙ ap (λ x. take k subs ++ x ∷ []) (sym is) in
-    subst (λ hs. BuiltEach slot hs next old new starts') (sym more)
-    (subst (BuiltEach slot (take k subs ++ h ∷ []) next old new) (sym grown) (BuiltEach-more slot (take k subs) h next old mid new starts q b last))
+    subst (λ bs. BuiltEach bs next old new starts') (sym (ap (map f) more ∙ map-append f (take k subs) (h ∷ [])))
+    (subst (BuiltEach (map f (take k subs) ++ f h ∷ []) next old new) (sym grown) (BuiltEach-more (map f (take k subs)) (f h) next old mid new starts q b last))
 
 pub below-more : (m n : ℕ) (qs qs' : List ℕ) (q : ℕ) → m ≤ n → q < n → qs' ≡ qs ++ q ∷ [] → All (λ x. x < m) qs → All (λ x. x < n) qs'
 below-more m n qs qs' q le lt grown all =

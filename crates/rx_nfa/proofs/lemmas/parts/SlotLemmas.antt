@@ -1,12 +1,13 @@
 -- Parts that write slots.
 use Rattle.std.proofs.Common.{◌≡◌, ℕ, suc, ◌+◌, ◌*◌, ◌<◌, ◌≤◌, List, [], ◌∷◌, refl, sym, ◌∙◌, ap, subst, arith, length, get_or}
-use Rattle.std.specs.Prelude.{Option, Some, None, option_map, IfSome}
+use Rattle.std.specs.Prelude.{Bool, Option, Some, None, option_map, IfSome}
 use Rattle.rx_model.specs.Expression.{Expression}
 use Rattle.rx_model.specs.Graph as graph
 use Rattle.rx_nfa.specs.Draft.{Draft, pushed}
 use Rattle.rx_nfa.specs.States.{Stands}
 use Rattle.rx_model.specs.Search.{Patterns, WhichCaptures, all, implicit, none, slot_of, groups_before, greatest_group}
-use Rattle.rx_nfa.specs.Built.{Built, bound, build_bounds, compiled_pattern, part_of, slot_from, whole_slot}
+use Rattle.rx_nfa.specs.Built.{Built, bound, build_bounds, compiled_pattern, slot_from, whole_slot}
+use Rattle.rx_nfa.specs.Directed.{build_directed, directed_part}
 use Rattle.rx_nfa.specs.Compiled.{slots_of, slots_written, first_slot_of}
 use Rattle.rx_nfa.proofs.lemmas.parts.ExpressionLemmas.{groups_before-more, groups_before-all}
 use Rattle.rx_nfa.proofs.lemmas.parts.BuiltLemmas.{Stands-pushed, Extends-pushed, Built-state, Built-then, pushed-length}
@@ -91,9 +92,9 @@ first_slot-more none hs k h lt is = refl
 
 -- what was compiled is the part of the pattern at k
 pub part-is : (r : Patterns) (p k : ℕ) (h : Expression) (whole first : Option ℕ) → whole ≡ whole_slot r.which_captures p → first ≡ first_slot_of r.which_captures r.expressions k → p ≡ k
-    → compiled_pattern whole (slot_from first) p h ≡ part_of r k h
-part-is r p k h whole first is at same =
-    λ i. compiled_pattern ((is ∙ ap (whole_slot r.which_captures) same) i) (λ group. (ap (λ o. slot_from o group) at ∙ slot_from-first r k group) i) (same i) h
+    → (backwards : Bool) → compiled_pattern whole (build_directed backwards (slot_from first) h) p ≡ directed_part backwards r k h
+part-is r p k h whole first is at same backwards =
+    λ i. compiled_pattern ((is ∙ ap (whole_slot r.which_captures) same) i) (build_directed backwards (λ group. (ap (λ o. slot_from o group) at ∙ slot_from-first r k group) i) h) (same i)
 
 pub room-more : (o : Option ℕ) (a m n : ℕ) → m ≤ n → IfSome o (λ first. first + a ≤ m) → IfSome o (λ first. first + a ≤ n)
 room-more None a m n le fits = tt

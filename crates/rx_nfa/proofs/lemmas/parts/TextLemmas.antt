@@ -1,11 +1,19 @@
 -- Parts that read bytes.
-use Rattle.std.proofs.Common.{◌≡◌, ℕ, suc, ◌-◌, ◌≤◌, ◌<◌, List, [], ◌∷◌, sym, ◌∙◌, subst, arith, length, get_or, drop, drop-cons}
+use Rattle.std.proofs.Common.{◌≡◌, ℕ, zero, suc, ◌-◌, ◌≤◌, ◌<◌, List, [], ◌∷◌, refl, sym, ◌∙◌, subst, arith, length, get_or, drop, drop-cons}
 use Rattle.rx_model.specs.Graph as graph
 use Rattle.rx_nfa.specs.Draft.{Draft, Extends, pushed}
 use Rattle.rx_nfa.specs.States.{Stands}
 use Rattle.rx_nfa.specs.Built.{IsChain, Built}
 use Rattle.rx_nfa.proofs.lemmas.parts.BuiltLemmas.{IsChain-map, Stands-kept, Stands-from, Stands-pushed, Keeps-extends, Extends-pushed, Built-state}
+use Rattle.rx_nfa.specs.declared.state.State.{State}
 use Rattle.rx_nfa.specs.declared.state.State.TheVariants.{ByteRange}
+
+-- no bytes
+pub IsChain-none : (IsAt : ℕ → State → Type 0) (q : ℕ) (bytes : List ℕ) (n : ℕ) → length bytes ≤ n → IsChain IsAt q (drop n bytes) q
+IsChain-none IsAt q [] zero le = refl
+IsChain-none IsAt q [] (suc n) le = refl
+IsChain-none IsAt q (b ∷ bytes) zero le = absurd (omega arith)
+IsChain-none IsAt q (b ∷ bytes) (suc n) le = IsChain-none IsAt q bytes n (omega arith)
 
 -- one byte more, in front
 pub IsChain-more : (old d new : Draft) (bytes : List ℕ) (k b start next : ℕ) → Extends old d → 0 < k → k ≤ length bytes → b ≡ get_or bytes (k - 1) 0

@@ -84,7 +84,7 @@ image-sends qs n = from (image qs n) 0 qs n (λ k. let e : 0 + k ≡ k = omega a
     )
 
 -- side by side, by the number
-zip-at : (R : graph.State → ℕ → Type 0) (xs : List graph.State) (qs : List ℕ) (n k : ℕ) → AllZip R xs qs → k < length xs → R (graph.state_at xs k) (image qs n k)
+pub zip-at : (R : graph.State → ℕ → Type 0) (xs : List graph.State) (qs : List ℕ) (n k : ℕ) → AllZip R xs qs → k < length xs → R (graph.state_at xs k) (image qs n k)
 unfolding image
 zip-at R [] qs n k z lt = absurd (omega arith)
 zip-at R (x ∷ xs) [] n k z lt = absurd z

@@ -112,7 +112,7 @@ writes-within patterns slots slot (Capture next pattern number) within writes = 
 writes-within patterns slots slot Fail within writes = none-is-some writes
 writes-within patterns slots slot (Accepts pattern) within writes = none-is-some writes
 
-writes-none : (patterns slots : ℕ) (s : State) → slots ≡ 0 → IsWithin patterns slots s → state_writes s ≡ None
+pub writes-none : (patterns slots : ℕ) (s : State) → slots ≡ 0 → IsWithin patterns slots s → state_writes s ≡ None
 writes-none patterns slots (ByteRange low high next) empty within = refl
 writes-none patterns slots (Sparse transitions) empty within = refl
 writes-none patterns slots (Look look next) empty within = refl

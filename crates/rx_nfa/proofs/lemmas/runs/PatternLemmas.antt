@@ -18,7 +18,9 @@ use Rattle.rx_nfa.specs.Automaton.{at, forwards, automaton, state_accepts, state
 use Rattle.rx_nfa.specs.Nfa.{Nfa, HasRuns, HasFirstRuns}
 use Rattle.rx_nfa.specs.Draft.{Draft, Extends, pushed}
 use Rattle.rx_nfa.specs.States.{Stands}
-use Rattle.rx_nfa.specs.Built.{Sends, Mirrors, Built, build_bounds, compiled_pattern, part_of, HasPart, HasPatterns, StartsAll}
+use Rattle.rx_nfa.specs.Built.{Sends, Mirrors, Built, build_bounds, compiled_pattern, whole_slot, part_of, HasPart, HasParts, HasPatterns, StartsAll}
+use Rattle.rx_nfa.specs.Directed.{directed_part}
+use Rattle.rx_nfa.proofs.lemmas.parts.OrderLemmas.{directed-forwards}
 use Rattle.rx_nfa.specs.declared.state.State.{State}
 use Rattle.rx_nfa.specs.declared.state.State.TheVariants.{Union, Match}
 use Rattle.rx_nfa.proofs.lemmas.runs.AutomatonLemmas.{automaton-bounded, automaton-successors, automaton-accepted, automaton-written, automaton-successors-past, automaton-accepted-past}
@@ -35,21 +37,21 @@ HasPart-extends old new part start e h = record {
 }
 
 -- a pattern: its accepting state, and before it the part between its slots
-pub HasPart-pattern : (whole : Option ℕ) (slot : ℕ → Option ℕ) (p : ℕ) (h : Expression) (old mid new : Draft) (start : ℕ) → mid ≡ pushed old (Match p)
-    → Built (build_bounds whole (graph.build slot h)) (length old.states) mid new start → HasPart new.states (compiled_pattern whole slot p h) start
+pub HasPart-pattern : (whole : Option ℕ) (body : graph.Builder) (p : ℕ) (old mid new : Draft) (start : ℕ) → mid ≡ pushed old (Match p)
+    → Built (build_bounds whole body) (length old.states) mid new start → HasPart new.states (compiled_pattern whole body p) start
 unfolding compiled_pattern
-HasPart-pattern whole slot p h old mid new start is b' = record {
+HasPart-pattern whole body p old mid new start is b' = record {
   images = length old.states ∷ b.images;
   rises = (omega arith, Rises-from (suc (length old.states)) (length (pushed old (Match p)).states) (length new.states) b.images (let l = pushed-length old (Match p) in omega arith) b.rises);
   mirrors = λ f sends. mirrors f sends;
 }
   where
-    b : Built (build_bounds whole (graph.build slot h)) (length old.states) (pushed old (Match p)) new start
-    b = subst (λ d. Built (build_bounds whole (graph.build slot h)) (length old.states) d new start) is b'
+    b : Built (build_bounds whole body) (length old.states) (pushed old (Match p)) new start
+    b = subst (λ d. Built (build_bounds whole body) (length old.states) d new start) is b'
 
-    mirrors : (f : ℕ → ℕ) → Sends f 0 (length old.states ∷ b.images) → Mirrors f 0 new.states (compiled_pattern whole slot p h) (length old.states ∷ b.images) start
+    mirrors : (f : ℕ → ℕ) → Sends f 0 (length old.states ∷ b.images) → Mirrors f 0 new.states (compiled_pattern whole body p) (length old.states ∷ b.images) start
     mirrors f sends =
-        let part = build_bounds whole (graph.build slot h) 0 1 in
+        let part = build_bounds whole body 0 1 in
         let m = Mirrors-kept f 0 (length (pushed old (Match p)).states) new.states new.states part b.images start (omega arith) (Keeps-same (length (pushed old (Match p)).states) new.states) (b.mirrors f 0 1 sends.0 sends.1) in
         record {
           start_is = m.start_is;
@@ -189,23 +191,28 @@ module _ (ok : Sieve) (r : Patterns) (text : List ℕ) (end : ℕ) (inside : end
         all-far far (s ∷ qs) = rw (found-far ok r.terminator new.states text end nowhere s i far) (all-far far qs)
 
 -- one pattern more
-pub HasPatterns-more : (r : Patterns) (n : ℕ) (old new : Draft) (starts starts' : List ℕ) (q : ℕ) (h : Expression) → Extends old new → length starts ≡ n → starts' ≡ starts ++ q ∷ []
-    → n < length r.expressions → h ≡ get_or r.expressions n h → HasPatterns old.states r n starts → HasPart new.states (part_of r n h) q → HasPatterns new.states r (n + 1) starts'
-HasPatterns-more r n old new starts starts' q h e long grown inside is has last p x lt here =
+pub HasParts-more : (part : ℕ → Expression → graph.Part) (hs : List Expression) (n : ℕ) (old new : Draft) (starts starts' : List ℕ) (q : ℕ) (h : Expression) → Extends old new → length starts ≡ n → starts' ≡ starts ++ q ∷ []
+    → n < length hs → h ≡ get_or hs n h → HasParts old.states part hs n starts → HasPart new.states (part n h) q → HasParts new.states part hs (n + 1) starts'
+HasParts-more part hs n old new starts starts' q h e long grown inside is has last p x lt here =
     ⊎_elim
     (λ below.
-    subst (HasPart new.states (part_of r p x)) (sym (get_or_append_left starts (q ∷ []) 0 p (omega arith)) ∙ ap (λ qs. get_or qs p 0) (sym grown))
-    (HasPart-extends old new (part_of r p x) (slice_index starts p) e (has p x below here)))
+    subst (HasPart new.states (part p x)) (sym (get_or_append_left starts (q ∷ []) 0 p (omega arith)) ∙ ap (λ qs. get_or qs p 0) (sym grown))
+    (HasPart-extends old new (part p x) (slice_index starts p) e (has p x below here)))
     (λ above.
     let same : p ≡ n = omega arith in
     let none : n - n ≡ 0 = omega arith in
-    let this : x ≡ h = same_Some _ _ (sym here ∙ ap (slice_get r.expressions) same ∙ slice_get-get_or r.expressions n h inside ∙ ap Some (sym is)) in
+    let this : x ≡ h = same_Some _ _ (sym here ∙ ap (slice_get hs) same ∙ slice_get-get_or hs n h inside ∙ ap Some (sym is)) in
     let place : q ≡ get_or starts' p 0 = sym (ap (λ k. get_or starts' k 0) same ∙ ap (λ qs. get_or qs n 0) grown ∙ get_or-append_right starts (q ∷ []) n n 0 long (omega arith) ∙ ap (λ k. get_or (q ∷ []) k 0) none) in
-    subst (HasPart new.states (part_of r p x)) place (moved-part same this last))
+    subst (HasPart new.states (part p x)) place (moved-part same this last))
     (cases_lt p n)
   where
-    moved-part : {p : ℕ} {x : Expression} → p ≡ n → x ≡ h → HasPart new.states (part_of r n h) q → HasPart new.states (part_of r p x) q
-    moved-part {p} {x} same this has = subst (λ k. HasPart new.states (part_of r k x) q) (sym same) (subst (λ y. HasPart new.states (part_of r n y) q) (sym this) has)
+    moved-part : {p : ℕ} {x : Expression} → p ≡ n → x ≡ h → HasPart new.states (part n h) q → HasPart new.states (part p x) q
+    moved-part {p} {x} same this has = subst (λ k. HasPart new.states (part k x) q) (sym same) (subst (λ y. HasPart new.states (part n y) q) (sym this) has)
+
+-- the parts of patterns that are read forwards
+pub HasPatterns-forwards : (r : Patterns) (states : List State) (n : ℕ) (starts : List ℕ) → HasParts states (directed_part false r) r.expressions n starts → HasPatterns states r n starts
+HasPatterns-forwards r states n starts has p h lt is =
+    subst (λ body. HasPart states (compiled_pattern (whole_slot r.which_captures p) body p) (slice_index starts p)) (directed-forwards (slot_of r p) h) (has p h lt is)
 
 -- one sound expression more
 pub sound-more : (hs : List Expression) (n : ℕ) (h : Expression) → n < length hs → h ≡ get_or hs n h → IsSound h

@@ -75,12 +75,12 @@ module _ (t : ℕ) (text : List ℕ) (end : ℕ) where
 
   -- what is told of the part of a pattern is told of its graph
   pub told-part : (ok : Sieve) (which : WhichCaptures) (slot : ℕ → Option ℕ) (p : ℕ) (h : Expression) (i : ℕ)
-      → option_map (told which) (first_trace (sieved ok (graph.runs_of t text end (compiled_pattern (whole_slot which p) slot p h).states)) (graph.at (compiled_pattern (whole_slot which p) slot p h).start i))
+      → option_map (told which) (first_trace (sieved ok (graph.runs_of t text end (compiled_pattern (whole_slot which p) (graph.build slot h) p).states)) (graph.at (compiled_pattern (whole_slot which p) (graph.build slot h) p).start i))
       ≡ option_map (told which) (first_trace (sieved ok (graph.runs_of t text end (graph.build_pattern slot p h).states)) (graph.at (graph.build_pattern slot p h).start i))
   unfolding compiled_pattern graph.build_pattern
   told-part ok all slot p h i = refl
   told-part ok implicit slot p h i = refl
   told-part ok none slot p h i =
-      told-erased ok (compiled_pattern None slot p h).states (graph.build_pattern slot p h).states
+      told-erased ok (compiled_pattern None (graph.build slot h) p).states (graph.build_pattern slot p h).states
       (ap (λ zs. graph.accept p ∷ graph.choice (0 ∷ []) ∷ zs) (last-erased (graph.build slot h 1 2).states (2 * p) (graph.build slot h 1 2).start))
       (graph.at (graph.build_pattern slot p h).start i)

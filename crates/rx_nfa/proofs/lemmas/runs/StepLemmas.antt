@@ -60,38 +60,48 @@ module _ (i j : ℕ) where
   goes None = refl
   goes (Some t) = let one : i + 1 - i ≡ j + 1 - j = omega arith in ap (λ n. (t, n) ∷ []) one
 
-module _ (here there : Surroundings) (end last i j : ℕ) (byte : byte_within here.byte end i ≡ byte_within there.byte last j) where
-  reads-alike : (ts : List Transition) → map (onward i) (read_byte here.byte end ts i) ≡ map (onward j) (read_byte there.byte last ts j)
-  reads-alike ts =
+module _ (here there : Surroundings) (end last i j : ℕ) where
+  -- the bytes at the places have one target
+  abbrev HasTarget : List Transition → Type 0
+  HasTarget ts = target_of ts (byte_within here.byte end i) ≡ target_of ts (byte_within there.byte last j)
+
+  reads-alike : (ts : List Transition) → HasTarget ts → map (onward i) (read_byte here.byte end ts i) ≡ map (onward j) (read_byte there.byte last ts j)
+  reads-alike ts same =
       ap (map (onward i)) (read_byte-target here.byte end ts i)
       ∙ goes i j (target_of ts (byte_within here.byte end i))
-      ∙ ap (λ o. map (onward j) (go_on (target_of ts o) (j + 1))) byte
+      ∙ ap (λ o. map (onward j) (go_on o (j + 1))) same
       ∙ ap (map (onward j)) (sym (read_byte-target there.byte last ts j))
 
-  steps-alike : (s : State) → ((kind : model.Look) → asks_for kind s ≡ true → here.looks kind i ≡ there.looks kind j)
+  steps-alike : (s : State) → ((ts : List Transition) → reading s ≡ Some ts → HasTarget ts) → ((kind : model.Look) → asks_for kind s ≡ true → here.looks kind i ≡ there.looks kind j)
       → map (onward i) (state_step here end s i) ≡ map (onward j) (state_step there last s j)
-  steps-alike (ByteRange low high next) looks = reads-alike (record { start = low; end = high; next = next } ∷ [])
-  steps-alike (Sparse transitions) looks = reads-alike transitions
-  steps-alike (Look look next) looks =
+  steps-alike (ByteRange low high next) targets looks = reads-alike (record { start = low; end = high; next = next } ∷ []) (targets (record { start = low; end = high; next = next } ∷ []) refl)
+  steps-alike (Sparse transitions) targets looks = reads-alike transitions (targets transitions refl)
+  steps-alike (Look look next) targets looks =
       stays i j (here.looks (kind_of look) i) next
       ∙ ap (λ b. map (onward j) (if b then at next j ∷ [] else [])) (looks (kind_of look) (same-kind (kind_of look)))
-  steps-alike (Union alternates) looks = stay i j alternates
-  steps-alike (Capture next pattern slot) looks = stays i j true next
-  steps-alike Fail looks = refl
-  steps-alike (Match pattern) looks = refl
+  steps-alike (Union alternates) targets looks = stay i j alternates
+  steps-alike (Capture next pattern slot) targets looks = stays i j true next
+  steps-alike Fail targets looks = refl
+  steps-alike (Match pattern) targets looks = refl
 
-  pub successors-alike : (states : List State) (q : ℕ) → i ≤ end → j ≤ last → ((kind : model.Look) → asks_for kind (state_at states q) ≡ true → here.looks kind i ≡ there.looks kind j)
+  pub targets-alike : (states : List State) (q : ℕ) → i ≤ end → j ≤ last → ((ts : List Transition) → reading (state_at states q) ≡ Some ts → HasTarget ts)
+      → ((kind : model.Look) → asks_for kind (state_at states q) ≡ true → here.looks kind i ≡ there.looks kind j)
       → map (onward i) ((automaton_over here states end).successors (at q i)) ≡ map (onward j) ((automaton_over there states last).successors (at q j))
-  successors-alike states q le le' looks =
+  targets-alike states q le le' targets looks =
       ⊎_elim
       (λ lt.
       ap (map (onward i)) (automaton-successors here states end q i lt le)
-      ∙ steps-alike (state_at states q) looks
+      ∙ steps-alike (state_at states q) targets looks
       ∙ ap (map (onward j)) (sym (automaton-successors there states last q j lt le')))
       (λ beyond.
       ap (map (onward i)) (automaton-successors-beyond here states end q i beyond)
       ∙ ap (map (onward j)) (sym (automaton-successors-beyond there states last q j beyond)))
       (cases_lt q (length states))
+
+  pub successors-alike : byte_within here.byte end i ≡ byte_within there.byte last j → (states : List State) (q : ℕ) → i ≤ end → j ≤ last
+      → ((kind : model.Look) → asks_for kind (state_at states q) ≡ true → here.looks kind i ≡ there.looks kind j)
+      → map (onward i) ((automaton_over here states end).successors (at q i)) ≡ map (onward j) ((automaton_over there states last).successors (at q j))
+  successors-alike byte states q le le' looks = targets-alike states q le le' (λ ts is. ap (target_of ts) byte) looks
 
 -- a state accepts at both places, or at neither
 pub accepted-alike : (here there : Surroundings) (states : List State) (end last q i j : ℕ) → i ≤ end → j ≤ last

@@ -1,40 +1,31 @@
-use Rattle.std.proofs.Common.{◌≡◌, subst, refl, ap, arith, length}
-use Rattle.rx_model.specs.Graph.{build_state, set}
+use Rattle.std.proofs.Common.{◌≡◌, ◌+◌, ◌≤◌, ◌∙◌, sym, ap, subst, arith, length}
+use Rattle.std.specs.Prelude.{true, false, IfOk, OnOk}
+use Rattle.rx_model.specs.Graph.{build_choice}
 use Rattle.rx_model.specs.Text.{scalar_ranges}
+use Rattle.rx_search.specs.Limits.{id_limit}
 use Rattle.rx_nfa.specs.Built.{Built}
-use Rattle.rx_nfa.specs.Draft.{Draft}
-use Rattle.rx_nfa.proofs.lemmas.parts.SetLemmas.{Built-scalars, AreInRange-adds}
+use Rattle.rx_nfa.specs.Directed.{build_class, build_all, scalar_spans}
+use Rattle.rx_nfa.specs.Ranges.{cost_of_class}
 use Rattle.rx_nfa.proofs.lemmas.parts.AccountedLemmas.{cost_of_class-accounted}
 use Rattle.rx_nfa.proofs.builder.Builder.push_scalars.Goals as goal
 
-pub compile_class-requires-clause-room : goal.compile_class-requires-clause-room
-compile_class-requires-clause-room c =
-    let long : length c.self.inside.states.items ≡ length c.args.self.now.states = ap (λ (d : Draft). length d.states) c.self.view_is in
+pub compile_class_backwards-requires-clause-fits : goal.compile_class_backwards-requires-clause-fits
+compile_class_backwards-requires-clause-fits c =
     let cost = cost_of_class-accounted c.args.scalars.now c.ranges-ranges.ensures.fewest in
     let room = c.requires.room in
-    rw (c.replace-states.ensures.value, c.ranges-ranges.ensures.value) (omega arith)
+    subst (λ rs. length c.args.self.now.states + cost_of_class rs ≤ id_limit) (sym c.ranges-ranges.ensures.value) (omega arith)
 
-pub invariant_of-self-2 : goal.invariant_of-self-2
-invariant_of-self-2 c =
-    let adds = rw c.replace-states.ensures.value at c.in_ok-start.ensures.grows in
-    let closed = rw c.replace-states.ensures.value at c.in_ok-start.ensures.closed in
-    let count = rw (c.replace-states.ensures.value, c.ranges-ranges.ensures.value) at c.in_ok-start.ensures.count in
-    let long : length c.self.inside.states.items ≡ length c.args.self.now.states = ap (λ (d : Draft). length d.states) c.self.view_is in
-    let cost = cost_of_class-accounted c.args.scalars.now c.ranges-ranges.ensures.fewest in
-    let room = c.requires.room in
-    AreInRange-adds c.self.inside.group_info c.self.inside.written_len c.self.inside.states.items c.compile_class.new.states.items c.self.invariant adds (closed (omega arith) c.self.invariant.names) (omega arith)
+pub returns-then-backwards-clause-built : goal.returns-then-backwards-clause-built
+returns-then-backwards-clause-built c =
+    subst (λ b. IfOk c.compile_class_backwards.result (λ start. Built (build_class b (scalar_ranges c.args.scalars.now)) c.args.next c.args.self.now c.compile_class_backwards.new.builder start)) (sym c.if-backwards.true)
+    (subst (λ rs. IfOk c.compile_class_backwards.result (λ start. Built (build_choice (build_all (scalar_spans rs))) c.args.next c.args.self.now c.compile_class_backwards.new.builder start)) c.ranges-ranges.ensures.value c.compile_class_backwards.ensures.built)
+
+pub returns-then-backwards-clause-count : goal.returns-then-backwards-clause-count
+returns-then-backwards-clause-count c =
+    let cost = ap cost_of_class c.ranges-ranges.ensures.value ∙ cost_of_class-accounted c.args.scalars.now c.ranges-ranges.ensures.fewest in
+    subst (λ n. OnOk c.compile_class_backwards.result (length c.compile_class_backwards.new.builder.states ≤ length c.args.self.now.states + n)) cost c.compile_class_backwards.ensures.count
 
 pub returns-clause-built : goal.returns-clause-built
 returns-clause-built c =
-    let adds = rw c.replace-states.ensures.value at c.in_ok-start.ensures.grows in
-    let class = rw (c.replace-states.ensures.value, c.ranges-ranges.ensures.value) at c.in_ok-start.ensures.built in
-    let new : Draft = record { states = c.compile_class.new.states.items; groups = c.self.inside.group_info; slots = c.self.inside.written_len } in
-    subst (λ d. Built (build_state (set (scalar_ranges c.args.scalars.now))) c.args.next d new c.in_ok-start.start) c.self.view_is
-    (Built-scalars c.args.scalars.now c.args.next (record { states = c.self.inside.states.items; groups = c.self.inside.group_info; slots = c.self.inside.written_len }) new c.in_ok-start.start refl refl adds class)
-
-pub returns-clause-count : goal.returns-clause-count
-returns-clause-count c =
-    let count = rw (c.replace-states.ensures.value, c.ranges-ranges.ensures.value) at c.in_ok-start.ensures.count in
-    let long : length c.self.inside.states.items ≡ length c.args.self.now.states = ap (λ (d : Draft). length d.states) c.self.view_is in
-    let cost = cost_of_class-accounted c.args.scalars.now c.ranges-ranges.ensures.fewest in
-    omega arith
+    subst (λ b. IfOk c.push_scalars_forwards.result (λ start. Built (build_class b (scalar_ranges c.args.scalars.now)) c.args.next c.args.self.now c.push_scalars_forwards.new.self start)) (sym c.if-backwards.false)
+    c.push_scalars_forwards.ensures.built

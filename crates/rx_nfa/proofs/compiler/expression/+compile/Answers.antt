@@ -1,14 +1,14 @@
 use Rattle.std.proofs.Common.{◌≡◌, ◌<◌, ◌+◌, ◌-◌, ◌*◌, ◌∙◌, refl, sym, ap, subst, inl, inr, arith, length, drop, take}
-use Rattle.std.specs.Prelude.{max, false, IfOk, IfSome, option_map, string_bytes}
+use Rattle.std.specs.Prelude.{max, false, IfOk, IfSome, map, option_map, string_bytes}
 use Rattle.std.specs.Int.NonZero.{non_zero_usize_get}
 use Rattle.std.proofs.lemmas.List.{take_all}
 use Rattle.rx_model.specs.Length.{minimum_len, is_positive}
 use Rattle.rx_model.specs.Expression.{empty, literal, class, look, repetition, capture, concat, alternation}
-use Rattle.rx_model.specs.Graph.{text, build_state, build_group, build_in_turn, build_each, build_choice, build, loop_once}
+use Rattle.rx_model.specs.Graph.{text, build_state, build_group, build_choice, loop_once}
 use Rattle.rx_model.specs.Search.{greatest_group, greatest_in}
 use Rattle.rx_search.specs.GroupInfo.{groups_at, slot_of_group}
 use Rattle.rx_search.specs.Look.{kind_of}
-use Rattle.rx_hir.specs.Cost.{accounted_states}
+use Rattle.rx_hir.specs.Cost.{accounted_states, accounted_in}
 use Rattle.rx_hir.specs.Sound.{IsSound}
 use Rattle.rx_hir.proofs.CostLemmas.{accounted_in-drop}
 use Rattle.rx_hir.specs.Normal.{expressions}
@@ -21,7 +21,9 @@ use Rattle.rx_nfa.specs.Room.{HasRoom}
 use Rattle.rx_nfa.proofs.lemmas.parts.ExpressionLemmas.{depth_at, expressions-more, expressions-none}
 use Rattle.rx_nfa.proofs.lemmas.parts.BuiltLemmas.{Built-nothing}
 use Rattle.rx_nfa.proofs.lemmas.parts.CompileLemmas.{Built-same, HasRoom-kept, HasRoom-less, greatest-at, BuiltEach-next, below-more}
+use Rattle.rx_nfa.specs.Directed.{in_order, build_row, build_sides, build_directed, part_for}
 use Rattle.rx_nfa.specs.Draft.{Draft, pushed}
+use Rattle.rx_nfa.proofs.lemmas.parts.OrderLemmas.{in_order-length, in_order-is, accounted-in_order, row-more, row-none, concat-directed, alternation-directed}
 use Rattle.rx_nfa.specs.Repeated.{tail, leading}
 use Rattle.rx_nfa.specs.Slots.{IsSlotOf}
 use Rattle.rx_nfa.specs.declared.state.State.TheVariants.{Union, Capture as Slot, Fail}
@@ -96,54 +98,58 @@ compile-compile_alternation-requires t c =
     (omega arith, (c.requires.next, (subst (HasRoom c.args.builder.now c.args.groups.now) (sym groups) c.requires.room, omega arith)))
 
 pub compile-returns-in-Empty-clause-built : goal.compile-returns-in-Empty-clause-built
-unfolding build
+unfolding build_directed
 compile-returns-in-Empty-clause-built t c =
     let is : empty ≡ c.args.hir.now = sym (ap kind_view c.in-Empty.is) ∙ c.kind.ensures.value in
-    subst (λ h. Built (build (slot_from c.args.groups.now.first_slot) h) c.args.next c.args.builder.now c.args.builder.now c.args.next) is (Built-nothing c.args.next c.args.builder.now)
+    subst (λ h. Built (part_for c.args.groups.now h) c.args.next c.args.builder.now c.args.builder.now c.args.next) is (Built-nothing c.args.next c.args.builder.now)
 
 pub compile-returns-in-Literal-clause-built : goal.compile-returns-in-Literal-clause-built
-unfolding build
+unfolding build_directed
 compile-returns-in-Literal-clause-built t c =
     let is : literal c.in-Literal.bytes.items ≡ c.args.hir.now = sym (ap kind_view c.in-Literal.is) ∙ c.kind.ensures.value in
     Built-same _ _ c.args.next c.args.builder.now c.compile_literal.new.builder c.compile_literal.result
-    (ap (λ bytes. build_state (text bytes)) c.deref.ensures.value ∙ ap (build (slot_from c.args.groups.now.first_slot)) is) c.compile_literal.ensures.built
+    (ap (λ bytes. build_state (text (in_order c.args.groups.now.reverse bytes))) c.deref.ensures.value ∙ ap (part_for c.args.groups.now) is) c.compile_literal.ensures.built
 
 pub compile-returns-in-Look-clause-built : goal.compile-returns-in-Look-clause-built
-unfolding build
+unfolding build_directed
 compile-returns-in-Look-clause-built t c =
     let is : look (kind_of c.in-Look.look) ≡ c.args.hir.now = sym (ap kind_view c.in-Look.is) ∙ c.kind.ensures.value in
     Built-same _ _ c.args.next c.args.builder.now c.compile_look.new.builder c.compile_look.result
-    (ap (build (slot_from c.args.groups.now.first_slot)) is) c.compile_look.ensures.built
+    (ap (part_for c.args.groups.now) is) c.compile_look.ensures.built
 
 pub compile-returns-in-Repetition-clause-built : goal.compile-returns-in-Repetition-clause-built
-unfolding build
+unfolding build_directed
 compile-returns-in-Repetition-clause-built t c =
     let r = c.in-Repetition.repetition in
     let is : repetition r.min r.max r.greedy r.sub.value ≡ c.args.hir.now = sym (ap kind_view c.in-Repetition.is) ∙ c.kind.ensures.value in
     Built-same _ _ c.args.next c.args.builder.now c.compile_repetition.new.builder c.compile_repetition.result
-    (ap (build (slot_from c.args.groups.now.first_slot)) is) c.compile_repetition.ensures.built
+    (ap (part_for c.args.groups.now) is) c.compile_repetition.ensures.built
 
 pub compile-returns-in-Capture-clause-built : goal.compile-returns-in-Capture-clause-built
-unfolding build
+unfolding build_directed
 compile-returns-in-Capture-clause-built t c =
     let g = c.in-Capture.capture in
     let is : capture (non_zero_usize_get g.index) (option_map string_bytes g.name) g.sub.value ≡ c.args.hir.now = sym (ap kind_view c.in-Capture.is) ∙ c.kind.ensures.value in
     Built-same _ _ c.args.next c.args.builder.now c.compile_capture.new.builder c.compile_capture.result
-    (ap (build (slot_from c.args.groups.now.first_slot)) is) c.compile_capture.ensures.built
+    (ap (part_for c.args.groups.now) is) c.compile_capture.ensures.built
 
 pub compile-returns-in-Concat-clause-built : goal.compile-returns-in-Concat-clause-built
-unfolding build
+unfolding build_directed
 compile-returns-in-Concat-clause-built t c =
     let is : concat (expressions c.in-Concat.subs.items) ≡ c.args.hir.now = sym (ap kind_view c.in-Concat.is) ∙ c.kind.ensures.value in
     Built-same _ _ c.args.next c.args.builder.now c.compile_concat.new.builder c.compile_concat.result
-    (ap (λ hs. build_in_turn (slot_from c.args.groups.now.first_slot) (expressions hs)) c.deref-in-Concat.ensures.value ∙ ap (build (slot_from c.args.groups.now.first_slot)) is) c.compile_concat.ensures.built
+    (ap (λ hs. build_row (map (part_for c.args.groups.now) (in_order c.args.groups.now.reverse hs))) c.deref-in-Concat.ensures.value
+    ∙ concat-directed c.args.groups.now.reverse (slot_from c.args.groups.now.first_slot) c.in-Concat.subs.items
+    ∙ ap (part_for c.args.groups.now) is) c.compile_concat.ensures.built
 
 pub compile-returns-in-Alternation-clause-built : goal.compile-returns-in-Alternation-clause-built
-unfolding build
+unfolding build_directed
 compile-returns-in-Alternation-clause-built t c =
     let is : alternation (expressions c.in-Alternation.subs.items) ≡ c.args.hir.now = sym (ap kind_view c.in-Alternation.is) ∙ c.kind.ensures.value in
     Built-same _ _ c.args.next c.args.builder.now c.compile_alternation.new.builder c.compile_alternation.result
-    (ap (λ hs. build_choice (build_each (slot_from c.args.groups.now.first_slot) (expressions hs))) c.deref-in-Alternation.ensures.value ∙ ap (build (slot_from c.args.groups.now.first_slot)) is) c.compile_alternation.ensures.built
+    (ap (λ hs. build_choice (build_sides (map (part_for c.args.groups.now) hs))) c.deref-in-Alternation.ensures.value
+    ∙ alternation-directed c.args.groups.now.reverse (slot_from c.args.groups.now.first_slot) c.in-Alternation.subs.items
+    ∙ ap (part_for c.args.groups.now) is) c.compile_alternation.ensures.built
 
 pub compile_alternation-compile-requires : goal.compile_alternation-compile-requires
 compile_alternation-compile-requires t c =
@@ -171,7 +177,7 @@ compile_alternation-loop-sub-preserved t c =
     let longer = b.extends.longer in
     let before = c.loop-sub.invariant in
     record {
-      built = BuiltEach-next (slot_from c.args.groups.now.first_slot) c.args.subs.now c.loop-sub.sub-index c.sub-item.result c.args.next c.args.builder.now c.loop-sub.builder c.compile.new.builder
+      built = BuiltEach-next (part_for c.args.groups.now) c.args.subs.now c.loop-sub.sub-index c.sub-item.result c.args.next c.args.builder.now c.loop-sub.builder c.compile.new.builder
           c.loop-sub.starts.items c.push.new.self.items c.in_ok-start.start (omega arith) c.sub-item.is c.in_ok-push.ensures.items before.built b;
       inside = below-more (length c.loop-sub.builder.states) (length c.compile.new.builder.states) c.loop-sub.starts.items c.push.new.self.items c.in_ok-start.start longer c.in_ok-start.ensures.inside c.in_ok-push.ensures.items before.inside;
       longer = omega arith;
@@ -187,12 +193,11 @@ compile_alternation-loop-sub-preserved t c =
 pub compile_alternation-returns-clause-built : goal.compile_alternation-returns-clause-built
 compile_alternation-returns-clause-built t c =
     let subs = c.args.subs.now in
-    let slot = slot_from c.args.groups.now.first_slot in
     let all : take c.loop-sub.sub-index subs ≡ subs = take_all c.loop-sub.sub-index subs (omega arith) in
-    let b = subst (λ hs. BuiltEach (slot_from c.args.groups.now.first_slot) hs c.args.next c.args.builder.now c.loop-sub.builder c.loop-sub.starts.items) all c.loop-sub.invariant.built in
+    let b = subst (λ hs. BuiltEach (map (part_for c.args.groups.now) hs) c.args.next c.args.builder.now c.loop-sub.builder c.loop-sub.starts.items) all c.loop-sub.invariant.built in
     IfOk-both (λ id. id ≡ length c.loop-sub.builder.states) (λ id. c.push-2.new.self ≡ pushed c.loop-sub.builder (Union c.new.result))
-    (λ start. Built (build_choice (build_each (slot_from c.args.groups.now.first_slot) (expressions c.args.subs.now))) c.args.next c.args.builder.now c.push-2.new.self start) c.push-2.result c.push-2.ensures.id c.push-2.ensures.states
-    (λ start id is. Built-choice (slot_from c.args.groups.now.first_slot) c.args.subs.now c.args.next c.args.builder.now c.loop-sub.builder c.push-2.new.self c.loop-sub.starts.items start b id (is ∙ ap (λ qs. pushed c.loop-sub.builder (Union qs)) c.new.ensures))
+    (λ start. Built (build_choice (build_sides (map (part_for c.args.groups.now) c.args.subs.now))) c.args.next c.args.builder.now c.push-2.new.self start) c.push-2.result c.push-2.ensures.id c.push-2.ensures.states
+    (λ start id is. Built-choice (map (part_for c.args.groups.now) c.args.subs.now) c.args.next c.args.builder.now c.loop-sub.builder c.push-2.new.self c.loop-sub.starts.items start b id (is ∙ ap (λ qs. pushed c.loop-sub.builder (Union qs)) c.new.ensures))
 
 pub compile_capture-push-requires-clause-own : goal.compile_capture-push-requires-clause-own
 compile_capture-push-requires-clause-own t c =
@@ -217,38 +222,45 @@ compile_capture-push-requires-2-clause-own t c =
 pub compile_capture-returns-clause-built : goal.compile_capture-returns-clause-built
 compile_capture-returns-clause-built t c =
     let first = c.in-Some.first in
-    let slot = slot_from c.args.groups.now.first_slot in
     let sub = c.args.capture.now.sub.value in
-    let body = subst (λ h. Built (build (slot_from c.args.groups.now.first_slot) h) c.in_ok-close.close c.push.new.self c.compile-2.new.builder c.in_ok-body.body) c.deref-2.ensures c.in_ok-body.ensures.built in
-    subst (λ number. IfOk c.push-2.result (λ start. Built (build_group (slot_from c.args.groups.now.first_slot number) (build (slot_from c.args.groups.now.first_slot) c.args.capture.now.sub.value)) c.args.next c.args.builder.now c.push-2.new.self start))
+    let body = subst (λ h. Built (part_for c.args.groups.now h) c.in_ok-close.close c.push.new.self c.compile-2.new.builder c.in_ok-body.body) c.deref-2.ensures c.in_ok-body.ensures.built in
+    subst (λ number. IfOk c.push-2.result (λ start. Built (build_group (slot_from c.args.groups.now.first_slot number) (part_for c.args.groups.now c.args.capture.now.sub.value)) c.args.next c.args.builder.now c.push-2.new.self start))
     c.get.ensures.value
-    (subst (λ o. IfOk c.push-2.result (λ start. Built (build_group (slot_from o c.get.result) (build (slot_from c.args.groups.now.first_slot) c.args.capture.now.sub.value)) c.args.next c.args.builder.now c.push-2.new.self start))
+    (subst (λ o. IfOk c.push-2.result (λ start. Built (build_group (slot_from o c.get.result) (part_for c.args.groups.now c.args.capture.now.sub.value)) c.args.next c.args.builder.now c.push-2.new.self start))
     (sym c.in-Some.is)
     (IfOk-both (λ id. id ≡ length c.compile-2.new.builder.states) (λ id. c.push-2.new.self ≡ pushed c.compile-2.new.builder (Slot c.in_ok-body.body c.args.groups.now.pattern (c.in-Some.first + 2 * (c.get.result - 1)))) _
     c.push-2.result c.push-2.ensures.id c.push-2.ensures.states
-    (λ start id is. Built-group (build slot sub) (first + 2 * (c.get.result - 1)) c.args.groups.now.pattern c.args.next c.in_ok-close.close c.in_ok-body.body start
+    (λ start id is. Built-group (part_for c.args.groups.now sub) (first + 2 * (c.get.result - 1)) c.args.groups.now.pattern c.args.next c.in_ok-close.close c.in_ok-body.body start
     c.args.builder.now c.push.new.self c.compile-2.new.builder c.push-2.new.self c.in_ok-close.ensures.id c.in_ok-close.ensures.states body id is)))
 
 pub compile_concat-loop-left-init : goal.compile_concat-loop-left-init
-unfolding build
-compile_concat-loop-left-init t c = record {
-  built =
-      subst (λ hs. Built (build_in_turn (slot_from c.args.groups.now.first_slot) hs) c.args.next c.args.builder.now c.args.builder.now c.args.next) (sym (expressions-none c.args.subs.now))
-      (Built-nothing c.args.next c.args.builder.now);
-  count = omega arith;
-  within = omega arith;
-  inside = c.requires.next;
-}
+compile_concat-loop-left-init t c =
+    let hs = in_order c.args.groups.now.reverse c.args.subs.now in
+    let long = in_order-length c.args.groups.now.reverse c.args.subs.now in
+    record {
+      built =
+          subst (λ bs. Built (build_row bs) c.args.next c.args.builder.now c.args.builder.now c.args.next)
+          (sym (row-none (part_for c.args.groups.now) (in_order c.args.groups.now.reverse c.args.subs.now) (length c.args.subs.now) (omega arith)))
+          (Built-nothing c.args.next c.args.builder.now);
+      count = omega arith;
+      within = omega arith;
+      inside = c.requires.next;
+    }
 
 pub compile_concat-compile-requires : goal.compile_concat-compile-requires
 compile_concat-compile-requires t c =
-    let item = c.index-subs-left.result in
-    let k = c.loop-left.left - 1 in
-    let lt : c.loop-left.left - 1 < length c.args.subs.now = omega arith in
-    let deep = depth_at c.args.subs.now (c.loop-left.left - 1) item item lt c.index-subs-left.is in
+    let item = c.index-subs-place.result in
+    let hs = in_order c.args.groups.now.reverse c.args.subs.now in
+    let long = in_order-length c.args.groups.now.reverse c.args.subs.now in
+    let there = c.place_of-place.ensures.inside in
+    let lt : c.place_of-place.result < length c.args.subs.now = omega arith in
+    let deep = depth_at c.args.subs.now c.place_of-place.result item item lt c.index-subs-place.is in
     let b = c.loop-left.invariant.built.extends in
-    let states = accounted_in-more c.args.subs.now c.loop-left.left item item (omega arith) c.loop-left.invariant.within c.index-subs-left.is in
-    let least = accounted_in-least c.args.subs.now (c.loop-left.left - 1) in
+    let within = c.loop-left.invariant.within in
+    let at = in_order-is c.args.groups.now.reverse c.args.subs.now (length c.args.subs.now) (c.loop-left.left - 1) c.place_of-place.result item item refl (omega arith) c.place_of-place.ensures.value c.index-subs-place.is in
+    let states = accounted_in-more hs c.loop-left.left item item (omega arith) (omega arith) at in
+    let least = accounted_in-least hs (c.loop-left.left - 1) in
+    let all = accounted-in_order c.args.groups.now.reverse c.args.subs.now in
     let count = c.loop-left.invariant.count in
     let fits = c.requires.fits in (
       omega arith,
@@ -256,25 +268,27 @@ compile_concat-compile-requires t c =
         c.loop-left.invariant.inside,
         (
           HasRoom-kept c.args.builder.now c.loop-left.builder c.args.groups.now (greatest_in (expressions c.args.subs.now)) (greatest_group item) b.groups b.slots
-              (greatest-at c.args.subs.now (c.loop-left.left - 1) item item lt c.index-subs-left.is) c.requires.room,
+              (greatest-at c.args.subs.now c.place_of-place.result item item lt c.index-subs-place.is) c.requires.room,
           omega arith,
         ),
       ),
     )
 
 pub compile_concat-loop-left-preserved : goal.compile_concat-loop-left-preserved
-unfolding build
 compile_concat-loop-left-preserved t c =
-    let slot = slot_from c.args.groups.now.first_slot in
-    let item = c.index-subs-left.result in
-    let rest = expressions (drop c.loop-left.left c.args.subs.now) in
-    let more = expressions-more c.args.subs.now c.loop-left.left item item (omega arith) c.loop-left.invariant.within c.index-subs-left.is in
+    let item = c.index-subs-place.result in
+    let hs = in_order c.args.groups.now.reverse c.args.subs.now in
+    let long = in_order-length c.args.groups.now.reverse c.args.subs.now in
+    let within = c.loop-left.invariant.within in
+    let at = in_order-is c.args.groups.now.reverse c.args.subs.now (length c.args.subs.now) (c.loop-left.left - 1) c.place_of-place.result item item refl (omega arith) c.place_of-place.ensures.value c.index-subs-place.is in
+    let more = row-more (part_for c.args.groups.now) hs c.loop-left.left item item (omega arith) (omega arith) at in
     record {
       built =
-          subst (λ hs. Built (build_in_turn (slot_from c.args.groups.now.first_slot) hs) c.args.next c.args.builder.now c.compile.new.builder c.in_ok-start.start) (sym more)
-          (Built-then (build slot item) (build_in_turn slot rest) c.args.next c.loop-left.start c.in_ok-start.start c.args.builder.now c.loop-left.builder c.compile.new.builder c.loop-left.invariant.built c.in_ok-start.ensures.built);
+          subst (λ bs. Built (build_row bs) c.args.next c.args.builder.now c.compile.new.builder c.in_ok-start.start) (sym more)
+          (Built-then (part_for c.args.groups.now item) (build_row (map (part_for c.args.groups.now) (drop c.loop-left.left hs))) c.args.next c.loop-left.start c.in_ok-start.start c.args.builder.now c.loop-left.builder c.compile.new.builder
+          c.loop-left.invariant.built c.in_ok-start.ensures.built);
       count =
-          (let states = accounted_in-more c.args.subs.now c.loop-left.left item item (omega arith) c.loop-left.invariant.within c.index-subs-left.is in
+          (let states = accounted_in-more hs c.loop-left.left item item (omega arith) (omega arith) at in
           let one = c.in_ok-start.ensures.count in
           let count = c.loop-left.invariant.count in
           omega arith);
@@ -282,24 +296,32 @@ compile_concat-loop-left-preserved t c =
       inside = c.in_ok-start.ensures.inside;
     }
 
+pub compile_concat-returns-clause-count : goal.compile_concat-returns-clause-count
+compile_concat-returns-clause-count t c =
+    let none : c.loop-left.left ≡ 0 = omega arith in
+    let same = ap (λ n. accounted_in (expressions (drop n (in_order c.args.groups.now.reverse c.args.subs.now)))) none in
+    let all = accounted-in_order c.args.groups.now.reverse c.args.subs.now in
+    let count = c.loop-left.invariant.count in
+    omega arith
+
 pub compile_loop-returns-clause-from_choice : goal.compile_loop-returns-clause-from_choice
 compile_loop-returns-clause-from_choice t c =
     let r = c.args.repetition.now in
-    let body = subst (λ h. Built (build (slot_from c.args.groups.now.first_slot) h) c.in_ok-choice.choice c.push.new.self c.compile.new.builder c.in_ok-body.body) c.deref.ensures c.in_ok-body.ensures.built in
-    (loop-closed r.greedy (build (slot_from c.args.groups.now.first_slot) r.sub.value) c.args.next c.in_ok-choice.choice c.in_ok-body.body c.args.builder.now c.push.new.self c.compile.new.builder c.patch.new.self Fail c.in_ok-state.state
+    let body = subst (λ h. Built (part_for c.args.groups.now h) c.in_ok-choice.choice c.push.new.self c.compile.new.builder c.in_ok-body.body) c.deref.ensures c.in_ok-body.ensures.built in
+    (loop-closed r.greedy (part_for c.args.groups.now r.sub.value) c.args.next c.in_ok-choice.choice c.in_ok-body.body c.args.builder.now c.push.new.self c.compile.new.builder c.patch.new.self Fail c.in_ok-state.state
     c.in_ok-choice.ensures.id c.in_ok-choice.ensures.states c.in_ok-state.ensures c.patch.ensures body).0
 
 pub compile_loop-returns-clause-from_body : goal.compile_loop-returns-clause-from_body
 compile_loop-returns-clause-from_body t c =
     let r = c.args.repetition.now in
-    let body = subst (λ h. Built (build (slot_from c.args.groups.now.first_slot) h) c.in_ok-choice.choice c.push.new.self c.compile.new.builder c.in_ok-body.body) c.deref.ensures c.in_ok-body.ensures.built in
-    (loop-closed r.greedy (build (slot_from c.args.groups.now.first_slot) r.sub.value) c.args.next c.in_ok-choice.choice c.in_ok-body.body c.args.builder.now c.push.new.self c.compile.new.builder c.patch.new.self Fail c.in_ok-state.state
+    let body = subst (λ h. Built (part_for c.args.groups.now h) c.in_ok-choice.choice c.push.new.self c.compile.new.builder c.in_ok-body.body) c.deref.ensures c.in_ok-body.ensures.built in
+    (loop-closed r.greedy (part_for c.args.groups.now r.sub.value) c.args.next c.in_ok-choice.choice c.in_ok-body.body c.args.builder.now c.push.new.self c.compile.new.builder c.patch.new.self Fail c.in_ok-state.state
     c.in_ok-choice.ensures.id c.in_ok-choice.ensures.states c.in_ok-state.ensures c.patch.ensures body).1
 
 pub compile_options-loop-option-preserved : goal.compile_options-loop-option-preserved
 compile_options-loop-option-preserved t c =
     let r = c.args.repetition.now in
-    let body = subst (λ h. Built (build (slot_from c.args.groups.now.first_slot) h) c.loop-option.start c.push.new.self c.compile.new.builder c.in_ok-body.body) c.deref.ensures c.in_ok-body.ensures.built in
+    let body = subst (λ h. Built (part_for c.args.groups.now h) c.loop-option.start c.push.new.self c.compile.new.builder c.in_ok-body.body) c.deref.ensures c.in_ok-body.ensures.built in
     let grown = ap (λ (d : Draft). length d.states) c.in_ok-choice.ensures.states in
     let one = pushed-length c.loop-option.builder Fail in
     let longer = c.in_ok-body.ensures.built.extends.longer in
@@ -307,7 +329,7 @@ compile_options-loop-option-preserved t c =
     let same = patched-length c.compile.new.builder c.in_ok-choice.choice c.in_ok-option.option in
     let id = c.in_ok-choice.ensures.id in
     record {
-      built = option-closed r.greedy c.loop-option._option (build (slot_from c.args.groups.now.first_slot) r.sub.value) c.args.next c.loop-option.start c.in_ok-choice.choice c.in_ok-body.body c.args.builder.now c.loop-option.builder c.push.new.self
+      built = option-closed r.greedy c.loop-option._option (part_for c.args.groups.now r.sub.value) c.args.next c.loop-option.start c.in_ok-choice.choice c.in_ok-body.body c.args.builder.now c.loop-option.builder c.push.new.self
           c.compile.new.builder c.patch.new.self Fail c.in_ok-option.option c.in_ok-choice.ensures.id c.in_ok-choice.ensures.states c.in_ok-option.ensures c.patch.ensures c.loop-option.invariant.built body;
       count =
           (let states = ap accounted_states c.deref.ensures in
@@ -348,10 +370,9 @@ compile_repetition-returns-clause-count t c =
 pub compile_repetition-loop-copy-preserved : goal.compile_repetition-loop-copy-preserved
 compile_repetition-loop-copy-preserved t c =
     let r = c.args.repetition.now in
-    let slot = slot_from c.args.groups.now.first_slot in
-    let body = subst (λ h. Built (build (slot_from c.args.groups.now.first_slot) h) c.loop-copy.start c.loop-copy.builder c.compile.new.builder c.in_ok-start-2.start) c.deref.ensures c.in_ok-start-2.ensures.built in
+    let body = subst (λ h. Built (part_for c.args.groups.now h) c.loop-copy.start c.loop-copy.builder c.compile.new.builder c.in_ok-start-2.start) c.deref.ensures c.in_ok-start-2.ensures.built in
     record {
-      built = copy-more c.loop-copy._copy (build slot r.sub.value) (tail (is_positive (minimum_len r.sub.value)) r.min r.max r.greedy (build slot r.sub.value)) c.args.next c.loop-copy.start c.in_ok-start-2.start
+      built = copy-more c.loop-copy._copy (part_for c.args.groups.now r.sub.value) (tail (is_positive (minimum_len r.sub.value)) r.min r.max r.greedy (part_for c.args.groups.now r.sub.value)) c.args.next c.loop-copy.start c.in_ok-start-2.start
           c.args.builder.now c.loop-copy.builder c.compile.new.builder c.loop-copy.invariant.built body;
       count =
           (let states = ap accounted_states c.deref.ensures in
@@ -364,7 +385,7 @@ compile_repetition-loop-copy-preserved t c =
 pub compile_unbounded-returns-clause-built : goal.compile_unbounded-returns-clause-built
 compile_unbounded-returns-clause-built t c =
     let r = c.args.repetition.now in
-    let body = build (slot_from c.args.groups.now.first_slot) c.args.repetition.now.sub.value in
+    let body = part_for c.args.groups.now c.args.repetition.now.sub.value in
     let none : c.args.repetition.now.min ≡ 0 = omega arith in
     let empty : is_positive (minimum_len c.args.repetition.now.sub.value) ≡ false = ap (λ h. is_positive (minimum_len h)) (sym c.deref.ensures) ∙ sym c.takes_bytes.ensures ∙ c.if-takes_bytes.false in
     subst (λ part. Built part c.args.next c.args.builder.now c.patch.new.self c.in_ok-choice.choice) (tail-star (is_positive (minimum_len c.args.repetition.now.sub.value)) c.args.repetition.now.min r.greedy body none empty)
@@ -372,8 +393,8 @@ compile_unbounded-returns-clause-built t c =
     c.in_ok-choice.ensures.id c.in_ok-choice.ensures.states c.in_ok-state.ensures c.patch.ensures c.in_ok-inner.ensures.from_body)
 
 pub compile-returns-in-Class-clause-built : goal.compile-returns-in-Class-clause-built
-unfolding build
+unfolding build_directed
 compile-returns-in-Class-clause-built t c =
     let is : class (class_view c.in-Class.class) ≡ c.args.hir.now = sym (ap kind_view c.in-Class.is) ∙ c.kind.ensures.value in
     Built-same _ _ c.args.next c.args.builder.now c.push_class.new.self c.push_class.result
-    (ap (build (slot_from c.args.groups.now.first_slot)) is) c.push_class.ensures.built
+    (ap (part_for c.args.groups.now) is) c.push_class.ensures.built

@@ -1,0 +1,8 @@
+pub mod AmongLemmas
+pub mod PartLemmas
+pub mod WalkLemmas
+pub mod BackLemmas
+pub mod DigitLemmas
+pub mod ScalarLemmas
+pub mod MeaningLemmas
+pub mod ReverseLemmas
