@@ -1,3 +1,5 @@
+//! The NFA of the pattern that is timed.
+
 use crate::failure::Failure;
 use rx_prefilter::Prefilter;
 use rx_search::MatchKind;

@@ -1,3 +1,4 @@
+//! The engine that is timed, as a finder.
 ghost use Rattle.std.specs.Prelude.{◌≡◌, length, IfOk, IfErr};
 ghost use Rattle.rx_search.specs.Input.{whole};
 ghost use Rattle.rx_search.specs.Searcher.{successive, AtEachPlace};

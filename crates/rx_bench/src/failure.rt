@@ -1,3 +1,4 @@
+//! Why there are no figures.
 ghost use Rattle.std.specs.Prelude.{◌≡◌};
 ghost use Rattle.rx_bench.specs.Failure.{code_of};
 ghost use Rattle.rx_bench.specs.declared.failure.Failure.TheVariants.{Memory as OutOfMemory, System};

@@ -1,3 +1,4 @@
+//! The bytes that are accounted for a cache.
 ghost use Rattle.std.specs.Prelude.{◌≡◌};
 ghost use Rattle.rx_engines.specs.Engine.{accounted_memory};
 

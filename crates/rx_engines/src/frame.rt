@@ -1,3 +1,5 @@
+//! Frames: what a walk over the states comes back to.
+
 use crate::slots::Slot;
 use rx_search::StateID;
 

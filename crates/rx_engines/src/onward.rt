@@ -1,3 +1,4 @@
+//! What a walk over the states does next.
 ghost use Rattle.std.specs.Prelude.{◌≡◌};
 ghost use Rattle.rx_engines.specs.Onward.{onto};
 

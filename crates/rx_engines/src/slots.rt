@@ -1,3 +1,4 @@
+//! Slots of a search, each in one word.
 ghost use Rattle.std.specs.Prelude.{◌≡◌, ℕ, ◌<◌, length, None, Some, replicate, slice_set, slice_index_or};
 
 use rx_search::NonMaxUsize;

@@ -1,3 +1,4 @@
+//! The stack of frames, within a fixed room.
 ghost use Rattle.std.specs.Prelude.{◌≡◌, ◌+◌, ◌-◌, ◌^◌, ◌<◌, ◌≤◌, max, vec_capacity, [], ◌∷◌, ◌++◌, length, map, reverse, IfOk, OnOk, OnErr, IsOk, IfSome, IfNone};
 ghost use Rattle.rx_nfa.specs.Automaton.{at};
 ghost use Rattle.rx_engines.specs.Walk.{explore_all, going_to};

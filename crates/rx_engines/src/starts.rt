@@ -1,3 +1,4 @@
+//! Where a search may start.
 ghost use Rattle.std.specs.Prelude.{◌≡◌, ◌≤◌, length};
 ghost use Rattle.rx_model.specs.Search.{is_permitted};
 ghost use Rattle.rx_search.specs.Anchored.{anchor_of};

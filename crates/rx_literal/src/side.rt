@@ -1,3 +1,5 @@
+//! Prefixes or suffixes.
+
 /// The end of a match at which its literals lie.
 #[derive(Clone, Copy)]
 pub enum Side {

@@ -51,6 +51,23 @@ impl Builder {
     }
 
     /// The regex of one pattern. It is refused as by `build_many`.
+    ///
+    /// # Errors
+    ///
+    /// As by `build_many`.
+    ///
+    /// # Examples
+    ///
+    /// ```
+    /// let mut builder = Builder::new();
+    /// builder.syntax(
+    ///     rx_syntax::Config::new()
+    ///         .case_insensitive(true)
+    ///         .multi_line(true),
+    /// );
+    /// builder.configure(Regex::config().line_terminator(b';'));
+    /// let regex = builder.build(alloc, "^a$")?;
+    /// ```
     pub fn build(&self, alloc: Global, pattern: &str) -> Result<Regex, BuildError>
         ensures built { IfOk result (IsBuiltOf self.now.syntax self.now.config (pattern.now ∷ [])) }
         ensures refused { IfErr result (IsRefusedFor self.now.syntax self.now.config (pattern.now ∷ [])) }
@@ -63,6 +80,11 @@ impl Builder {
     /// All patterns are read, up to the 2147483647th, before any is translated. Refused are, in this order: the first
     /// pattern that reading refuses, the first that translation refuses, and what `build_many_from_hir` refuses. What is
     /// refused is found before an expression is made.
+    ///
+    /// # Errors
+    ///
+    /// `Syntax`, the first refusal, with the number of its pattern, or `NFA`, the limit that is passed, in the
+    /// order above; `Memory`, where there was no memory.
     pub fn build_many(&self, alloc: Global, patterns: &[&str]) -> Result<Regex, BuildError>
         ensures built { IfOk result (IsBuiltOf self.now.syntax self.now.config (map (λ p. p.now) patterns.now)) }
         ensures refused { IfErr result (IsRefusedFor self.now.syntax self.now.config (map (λ p. p.now) patterns.now)) }
@@ -72,6 +94,10 @@ impl Builder {
     }
 
     /// The regex of one expression. It is refused as by `build_many_from_hir`.
+    ///
+    /// # Errors
+    ///
+    /// As by `build_many_from_hir`.
     pub fn build_from_hir(&self, alloc: Global, hir: &Hir) -> Result<Regex, BuildError>
         ensures built { IfOk result (IsBuilt self.now.config (hir.now ∷ [])) }
         ensures refused { IfErr result (IsRefused self.now.config (hir.now ∷ [])) }
@@ -83,6 +109,10 @@ impl Builder {
     ///
     /// Refused are, in this order: more than 2147483647 patterns, more than 2147483646 slots, more than 2147483647
     /// states accounted, more bytes accounted than the configured limit. Want of memory comes last.
+    ///
+    /// # Errors
+    ///
+    /// `NFA`, the limit that is passed, in the order above; `Memory`, where there was no memory.
     pub fn build_many_from_hir(&self, alloc: Global, exprs: &[Hir]) -> Result<Regex, BuildError>
         ensures built { IfOk result (IsBuilt self.now.config exprs.now) }
         ensures refused { IfErr result (IsRefused self.now.config exprs.now) }

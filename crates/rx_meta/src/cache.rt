@@ -1,3 +1,4 @@
+//! What the searches of a regex write to.
 ghost use Rattle.std.specs.Prelude.{◌≡◌, IfOk, OnOk, OnErr, IsOk};
 ghost use Rattle.rx_meta.specs.Cache.{Fits, FitsAsBefore, memory_of, accounted_for};
 
@@ -24,6 +25,10 @@ impl Model for Cache {
 
 impl Cache {
     /// A cache that serves this regex.
+    ///
+    /// # Errors
+    ///
+    /// `Memory`, where there was no memory for it.
     pub fn new(alloc: Global, regex: &Regex) -> Result<Cache, Memory>
         ensures fits { IfOk result (Fits regex.now) }
         ensures memory { IfOk result (λ c. memory_of c ≡ accounted_for regex.now) }
@@ -34,6 +39,10 @@ impl Cache {
     /// Makes any cache one that serves this regex. It takes memory where its room does not suffice, and keeps what it has:
     /// for a part that this regex lacks nothing is accounted. Where there is no memory, it serves what it served before,
     /// with its number as before.
+    ///
+    /// # Errors
+    ///
+    /// `Memory`, where there was no memory for more room; the cache is then as it was.
     pub fn reset(&mut self, alloc: Global, regex: &Regex) -> Result<(), Memory>
         ensures fits { OnOk result (Fits regex.now self.new) }
         ensures memory { OnOk result (memory_of self.new ≡ accounted_for regex.now) }
@@ -54,6 +63,10 @@ impl Cache {
     }
 
     /// A cache of its own with the same room.
+    ///
+    /// # Errors
+    ///
+    /// `Memory`, where there was no memory for it.
     pub fn clone(&self, alloc: Global) -> Result<Cache, Memory>
         ensures { IfOk result (λ c. c ≡ self.now) }
     {

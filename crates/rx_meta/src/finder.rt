@@ -25,6 +25,10 @@ pub struct RegexFinder<'r> {
 
 impl<'r> RegexFinder<'r> {
     /// Before the first search with this regex.
+    ///
+    /// # Errors
+    ///
+    /// `Memory`, where there was no memory for the cache and the slots.
     pub fn new(alloc: Global, regex: &'r Regex) -> Result<RegexFinder<'r>, Memory>
         ensures { IfOk result (λ f. f.regex.now ≡ regex.now) }
     {

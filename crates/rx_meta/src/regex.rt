@@ -52,6 +52,10 @@ impl Model for Regex {
 
 impl Regex {
     /// The regex of one pattern, under the default configuration. It is refused as by `new_many`.
+    ///
+    /// # Errors
+    ///
+    /// As by `Builder::build_many`.
     pub fn new(alloc: Global, pattern: &str) -> Result<Regex, BuildError>
         ensures built { IfOk result (IsBuiltOf default nothing_set (pattern.now ∷ [])) }
         ensures refused { IfErr result (IsRefusedFor default nothing_set (pattern.now ∷ [])) }
@@ -61,6 +65,18 @@ impl Regex {
 
     /// The regex of these patterns, numbered from 0 on, under the default configuration. It is refused as by
     /// `Builder::build_many`.
+    ///
+    /// # Errors
+    ///
+    /// As by `Builder::build_many`.
+    ///
+    /// # Examples
+    ///
+    /// ```
+    /// let regex = Regex::new_many(alloc, &["[a-z]+", "[0-9]+", "a"])?;
+    /// let found = regex.find(&rt, alloc, &Input::new(b"7a"))?;
+    /// assert_eq!(rt; whole(found), Some((1, 0, 1)));
+    /// ```
     pub fn new_many(alloc: Global, patterns: &[&str]) -> Result<Regex, BuildError>
         ensures built { IfOk result (IsBuiltOf default nothing_set (map (λ p. p.now) patterns.now)) }
         ensures refused { IfErr result (IsRefusedFor default nothing_set (map (λ p. p.now) patterns.now)) }
@@ -92,7 +108,9 @@ impl Regex {
 
     /// Whether there is a match in the input's span, under every configuration.
     ///
-    /// `Memory`: there was no memory for a cache.
+    /// # Errors
+    ///
+    /// `Memory`, where there was no memory for a cache.
     pub fn is_match<R: Wait>(
         &self,
         _rt: &R,
@@ -109,7 +127,20 @@ impl Regex {
         self.strategy.is_match(&mut cache.rooms, input)
     }
 
-    /// As `search`, errors included.
+    /// As `search`.
+    ///
+    /// # Errors
+    ///
+    /// `Memory`, where there was no memory for a cache.
+    ///
+    /// # Examples
+    ///
+    /// ```
+    /// let regex = Regex::new(alloc, r"\d{4}-\d{2}-\d{2}")?;
+    /// let input = Input::new(b"on 2024-02-29.");
+    /// assert_eq!(rt; regex.is_match(&rt, alloc, &input)?, true);
+    /// assert_eq!(rt; whole(regex.find(&rt, alloc, &input)?), Some((0, 3, 13)));
+    /// ```
     pub fn find<R: Wait>(
         &self,
         rt: &R,
@@ -126,7 +157,9 @@ impl Regex {
     /// The next match in the input's span. With `earliest` it is some match, and there is one exactly where there is a next
     /// match. No match is told where the configuration asks for no captures.
     ///
-    /// `Memory`: there was no memory for a cache.
+    /// # Errors
+    ///
+    /// `Memory`, where there was no memory for a cache.
     pub fn search<R: Wait>(
         &self,
         _rt: &R,
@@ -146,7 +179,9 @@ impl Regex {
 
     /// The pattern and the end of the match that `search` answers.
     ///
-    /// `Memory`: there was no memory for a cache.
+    /// # Errors
+    ///
+    /// `Memory`, where there was no memory for a cache.
     pub fn search_half<R: Wait>(
         &self,
         _rt: &R,
@@ -167,7 +202,22 @@ impl Regex {
     /// The pattern of the match that `search` answers. Each slot gets the place that the match leaves in it, and None where
     /// there is no match, no such slot, or no memory.
     ///
-    /// `Memory`: there was no memory for a cache.
+    /// # Errors
+    ///
+    /// `Memory`, where there was no memory for a cache.
+    ///
+    /// # Examples
+    ///
+    /// ```
+    /// let groups = regex.group_info();
+    /// let mut slots = vec![in alloc; None; groups.slot_len()]?;
+    /// let found = regex.search_slots(&rt, alloc, &Input::new(b"n=10"), &mut slots)?;
+    /// let pattern = found.ok_or("no match")?;
+    /// let group = groups.to_index(pattern, "value").ok_or("no such name")?;
+    /// let (start, end) = groups.slots(pattern, group).ok_or("no such group")?;
+    /// assert_eq!(rt; place(&slots, start), Some(2));
+    /// assert_eq!(rt; place(&slots, end), Some(4));
+    /// ```
     pub fn search_slots<R: Wait>(
         &self,
         _rt: &R,
@@ -194,6 +244,10 @@ impl Regex {
     }
 
     /// As `search`, with a cache that serves this regex.
+    ///
+    /// # Errors
+    ///
+    /// `Memory`, where there was no memory for the search.
     pub fn search_with(&self, cache: &mut Cache, input: &Input<'_>) -> Result<Option<Match>, Memory>
         requires { Fits self.now cache.old }
         ensures answer { IfOk result (IsAnswer self.now input.now match_value) }
@@ -206,6 +260,10 @@ impl Regex {
     }
 
     /// As `search_half`, with a cache that serves this regex.
+    ///
+    /// # Errors
+    ///
+    /// `Memory`, where there was no memory for the search.
     pub fn search_half_with(
         &self,
         cache: &mut Cache,
@@ -222,6 +280,10 @@ impl Regex {
     }
 
     /// As `search_slots`, with a cache that serves this regex.
+    ///
+    /// # Errors
+    ///
+    /// `Memory`, where there was no memory for the search.
     pub fn search_slots_with(
         &self,
         cache: &mut Cache,
@@ -243,6 +305,10 @@ impl Regex {
     }
 
     /// As `search_slots_with`, with the whole match.
+    ///
+    /// # Errors
+    ///
+    /// `Memory`, where there was no memory for the search.
     pub fn search_match_with(
         &self,
         cache: &mut Cache,
@@ -265,6 +331,18 @@ impl Regex {
     }
 
     /// A cache that serves this regex.
+    ///
+    /// # Errors
+    ///
+    /// `Memory`, where there was no memory for it.
+    ///
+    /// # Examples
+    ///
+    /// ```
+    /// let mut cache = regex.create_cache(alloc)?;
+    /// let first = regex.search_with(&mut cache, &Input::new(b"Error: 1"))?;
+    /// let second = regex.search_with(&mut cache, &Input::new(b"an ERROR"))?;
+    /// ```
     pub fn create_cache(&self, alloc: Global) -> Result<Cache, Memory>
         ensures fits { IfOk result (Fits self.now) }
         ensures memory { IfOk result (λ c. memory_of c ≡ accounted_for self.now) }

@@ -1,3 +1,4 @@
+//! Tests of regexes.
 ghost use Rattle.rx_meta.specs.Cache.{Fits};
 
 use crate::{BuildError, Builder, Cache, Config, Prefilter, Regex, RegexFinder, WhichCaptures};

@@ -1,3 +1,4 @@
+//! Why there is no NFA.
 ghost use Rattle.std.specs.Prelude.{◌≡◌};
 ghost use Rattle.rx_nfa.specs.declared.error.BuildError.TheVariants.{Memory as OutOfMemory};
 

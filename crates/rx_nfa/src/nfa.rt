@@ -1,3 +1,4 @@
+//! NFAs: states that read bytes.
 ghost use Rattle.std.specs.Prelude.{◌≡◌, ◌*◌, ◌<◌, length, slice_get, IfOk, false};
 ghost use Rattle.std.specs.List.{list_any};
 ghost use Rattle.rx_model.specs.Look.{Look};

@@ -1,3 +1,4 @@
+//! Where a byte leads by several transitions.
 ghost use Rattle.std.specs.Prelude.{◌≡◌};
 ghost use Rattle.rx_nfa.specs.Automaton.{route};
 

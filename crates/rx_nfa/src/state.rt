@@ -1,3 +1,4 @@
+//! States and transitions.
 ghost use Rattle.std.specs.Prelude.{◌≡◌, List};
 
 use rx_search::{Look, PatternID, StateID};

@@ -1,3 +1,4 @@
+//! Searches for any number of needles, by an automaton.
 ghost use Rattle.std.specs.Prelude.{◌≡◌, ◌≤◌, ℕ, List, length, map, IfOk};
 ghost use Rattle.std.specs.Vec.{vec_items};
 ghost use Rattle.rx_prefilter.specs.Needles.{span_at, first_span};

@@ -1,3 +1,4 @@
+//! Searches for needles of one byte.
 ghost use Rattle.std.specs.Prelude.{◌≡◌, ◌≤◌, ℕ, List, [], length, map, IfOk};
 ghost use Rattle.rx_prefilter.specs.Needles.{span_at, first_span};
 ghost use Rattle.rx_prefilter.specs.Bytes.{single, HasTable};

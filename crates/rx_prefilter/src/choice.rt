@@ -1,3 +1,4 @@
+//! The kinds of search that a prefilter may be.
 ghost use Rattle.std.specs.Prelude.{◌≡◌, map};
 ghost use Rattle.std.specs.List.{list_all, list_any};
 ghost use Rattle.std.specs.Vec.{vec_items};

@@ -1,3 +1,4 @@
+//! Prefilters: searches for needles.
 ghost use Rattle.std.specs.Prelude.{◌≡◌, ℕ, List, Option, map, IfOk};
 ghost use Rattle.std.specs.Vec.{vec_items};
 ghost use Rattle.rx_prefilter.specs.Needles.{IsPart, find_in, prefix_in};

@@ -63,6 +63,22 @@ impl From<ScanError> for Memory {
 ///
 /// It searches one haystack after another on the caller; `workers`, which is above 0, changes nothing yet. `gate` is told
 /// of each haystack before it is searched.
+///
+/// # Errors
+///
+/// `Memory`, where there was no memory for a cache, a search or the rows.
+///
+/// # Examples
+///
+/// ```
+/// for rows in &scan(&rt, alloc, &regex, &[line], 1, &Open)? {
+///     for row in rows {
+///         if let [_, _, Some(start), Some(end), ..] = row.slots.as_slice() {
+///             keys.push((start.get(), end.get()))?;
+///         }
+///     }
+/// }
+/// ```
 pub fn scan<R: Threads + Wait + Sync, G: Gate + Sync>(
     _rt: &R,
     alloc: Global,

@@ -34,6 +34,18 @@ const USAGE: &str = "usage: rxscan scan [W] [off:LETTERS]\n";
 /// | 8 | none | there was no memory |
 ///
 /// The whole text is made before the first write. `gate` is told of each haystack before it is searched.
+///
+/// # Examples
+///
+/// ```
+/// let mut words = Vec::new(alloc);
+/// words.push(String::from_str(alloc, "scan")?)?;
+/// let mut source = BytesSure::new(Vec::from_slice(alloc, b"a(b)?\n\nxab\na\n")?);
+/// let mut sink = KeptSure::new(alloc);
+/// let status = run(&rt, alloc, &words, &mut source, &mut sink, &Open);
+/// assert_eq!(rt; status, 0);
+/// assert!(rt; sink.held() == Some(b"1:0:1..3 1=2..3\n2:0:0..1 1=-\n".as_slice()));
+/// ```
 pub fn run<R: Threads + Wait + Sync, S: Source, K: Sink, G: Gate + Sync>(
     rt: &R,
     alloc: Global,

@@ -66,6 +66,10 @@ impl Slots {
     }
 
     /// The slots, in order, in a vector. Two are put into a new one, which takes memory; any others are in one already.
+    ///
+    /// # Errors
+    ///
+    /// `Memory`, where there was no memory for two slots in a vector.
     pub fn into_vec(self, alloc: Global) -> Result<Vec<Option<NonMaxUsize>>, Memory>
         ensures value { IfOk result (λ slots. slots.items ≡ self) }
         ensures sure { length self ≢ 2 → IsOk result }
@@ -116,6 +120,10 @@ pub struct Layout<'g> {
 
 impl<'g> Layout<'g> {
     /// That of these groups.
+    ///
+    /// # Errors
+    ///
+    /// `Memory`, where there was no memory for it.
     pub fn new(alloc: Global, groups: &'g GroupInfo) -> Result<Layout<'g>, Memory>
         ensures { IfOk result (λ layout. layout.groups.now ≡ groups.now) }
     {
@@ -131,6 +139,10 @@ impl<'g> Layout<'g> {
 
     /// The row of a match of this pattern that a search left in these slots. It takes memory at most once, and none where
     /// the pattern has no groups.
+    ///
+    /// # Errors
+    ///
+    /// `Memory`, where there was no memory for the slots.
     pub fn row(
         &self,
         alloc: Global,

@@ -1,3 +1,4 @@
+//! Where a match may begin, and which is reported.
 ghost use Rattle.std.specs.Prelude.{◌≡◌};
 ghost use Rattle.rx_model.specs.Search.{is_anchored};
 ghost use Rattle.rx_search.specs.Anchored.{anchor_of, named_pattern};

@@ -1,3 +1,5 @@
+//! The gate of a scan.
+
 /// Where a worker of a scan reports that it comes to a haystack. It holds a worker up in a test; it means
 /// nothing, and no answer depends on it.
 pub trait Gate {

@@ -1,3 +1,4 @@
+//! Why there is no `GroupInfo`.
 ghost use Rattle.std.specs.Prelude.{◌≡◌};
 ghost use Rattle.rx_search.specs.declared.group_error.GroupInfoError.TheVariants.{Memory as OutOfMemory};
 

@@ -1,3 +1,4 @@
+//! The groups of patterns, their names and slots.
 ghost use Rattle.std.specs.Prelude.{◌≡◌, ◌+◌, ◌-◌, ◌*◌, ◌≤◌, ◌<◌, IfOk, IfSome, MatchResult, All, map, length, sum, option_map, option_copied, string_bytes, position, slice_range, MatchOption, Some, None, ◌∷◌, ◌++◌, drop};
 ghost use Rattle.rx_search.specs.Limits.{slot_limit};
 ghost use Rattle.rx_search.specs.GroupInfo.{names_of, groups_of, unnamed_groups, is_named, BeginsUnnamed, refusal, IsRefusal, SlotsAreWritten};

@@ -1,3 +1,4 @@
+//! Kinds of look-around.
 ghost use Rattle.std.specs.Prelude.{◌≡◌, ◌^◌, option_map};
 ghost use Rattle.rx_model.specs.Look.{look_number, look_of};
 ghost use Rattle.rx_search.specs.Look.{kind_of};

@@ -1,3 +1,4 @@
+//! Where look-arounds hold.
 ghost use Rattle.std.specs.Prelude.{◌≡◌, ◌≤◌, ◌↔◌, IsTrue, Bool, true, length};
 ghost use Rattle.unicode.specs.Perl.{is_word_char, is_word_byte};
 ghost use Rattle.rx_model.specs.Look.{holds, is_some_and};

@@ -1,3 +1,4 @@
+//! Sets of kinds of look-around.
 ghost use Rattle.std.specs.Prelude.{◌≡◌, ◌||◌, ◌&&◌, not, false, ◌↔◌, IsTrue};
 ghost use Rattle.std.specs.Iterator.{YieldsFirstBy, item_count};
 ghost use Rattle.rx_model.specs.Look as model;

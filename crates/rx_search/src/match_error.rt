@@ -1,3 +1,4 @@
+//! Why a search gives no answer.
 ghost use Rattle.std.specs.Prelude.{◌≡◌};
 ghost use Rattle.rx_search.specs.declared.match_error.MatchError.TheVariants.{Memory as OutOfMemory};
 

@@ -1,3 +1,4 @@
+//! Matches.
 ghost use Rattle.std.specs.Prelude.{◌≡◌, ◌-◌, ◌≤◌, ◌↔◌, IsTrue};
 
 use crate::primitives::PatternID;

@@ -1,3 +1,4 @@
+//! Want of memory.
 ghost use Rattle.std.specs.Prelude.{◌≡◌};
 ghost use Rattle.rx_search.specs.declared.memory.Memory.{Memory};
 

@@ -1,3 +1,4 @@
+//! Identifiers of patterns and states.
 ghost use Rattle.std.specs.Prelude.{◌≡◌, ◌≤◌, ◌<◌, IfSome, IfNone, MatchOption};
 ghost use Rattle.rx_search.specs.Limits.{id_limit};
 

@@ -1,3 +1,4 @@
+//! Finders, and the matches in an input one after another.
 ghost use Rattle.std.specs.Prelude.{◌≡◌, ◌⊎◌, ℕ, ◌≤◌, ◌<◌, false, Option, IfOk, IfErr, OnOk, OnErr, OnSome, IfSome, MatchOption, option_map, map, length};
 ghost use Rattle.rx_model.specs.Search.{Match as ModelMatch, Patterns, matches};
 ghost use Rattle.rx_search.specs.Matches.{MatchValue, match_value};

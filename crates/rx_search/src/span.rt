@@ -1,3 +1,4 @@
+//! Spans of a haystack.
 ghost use Rattle.std.specs.Prelude.{◌≡◌, ◌+◌, ◌-◌, ◌^◌, ◌<◌, ◌≤◌, ◌↔◌, IsTrue};
 
 /// A part of a haystack, in byte offsets: from `start` on, and before `end`.

@@ -1,3 +1,4 @@
+//! Tests of searchers over finders of their own.
 ghost use Rattle.std.specs.Prelude.{◌≡◌, ◌≤◌, ◌<◌, IfOk, IfSome, IsOk, map, option_map, length, slice_index};
 ghost use Rattle.rx_search.specs.Example.{optional_byte, end_of};
 ghost use Rattle.rx_search.specs.Input.{whole, span_len};

@@ -1,3 +1,5 @@
+//! Tests of named sets.
+
 use super::*;
 use std::test::Fail;
 

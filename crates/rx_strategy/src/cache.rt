@@ -1,3 +1,4 @@
+//! What the engines of a strategy write to.
 ghost use Rattle.std.specs.Prelude.{◌≡◌, IfOk, OnOk, OnErr, IsOk};
 ghost use Rattle.rx_strategy.specs.Cache.{Fits, FitsAsBefore, memory_of, accounted_for};
 

@@ -1,3 +1,4 @@
+//! Tests of strategies.
 ghost use Rattle.rx_strategy.specs.Cache.{Fits};
 
 use crate::{Cache, Config, Strategy};

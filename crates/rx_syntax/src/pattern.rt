@@ -14,6 +14,10 @@ use std::alloc::Global;
 
 /// The expression of a pattern under the default configuration, or the first refusal, with its kind and its
 /// piece in bytes. `Memory` comes only where memory runs out.
+///
+/// # Errors
+///
+/// `Syntax`, the first refusal, with its kind and its piece in bytes; `Memory`, where there was no memory.
 pub fn parse(alloc: Global, pattern: &str) -> Result<Hir, ParseError>
     ensures { Answers result (reads default (chars pattern.now)) }
 {
@@ -22,6 +26,10 @@ pub fn parse(alloc: Global, pattern: &str) -> Result<Hir, ParseError>
 
 /// The expression of a pattern under a configuration, or the first refusal: of its reading, and else of its
 /// translation. `Memory` comes only where memory runs out.
+///
+/// # Errors
+///
+/// `Syntax`, the first refusal, with its kind and its piece in bytes; `Memory`, where there was no memory.
 pub fn parse_with(alloc: Global, pattern: &str, config: &Config) -> Result<Hir, ParseError>
     ensures { Answers result (reads config.now (chars pattern.now)) }
 {
@@ -30,6 +38,10 @@ pub fn parse_with(alloc: Global, pattern: &str, config: &Config) -> Result<Hir, 
 }
 
 /// What a pattern reads as, before it is translated: for a caller that reads all its patterns first.
+///
+/// # Errors
+///
+/// `Syntax`, the first refusal, with its kind and its piece in bytes; `Memory`, where there was no memory.
 pub fn read_with(alloc: Global, pattern: &str, config: &Config) -> Result<Ast, ParseError>
     ensures { Answers result (read config.now (chars pattern.now)) }
 {
@@ -37,6 +49,10 @@ pub fn read_with(alloc: Global, pattern: &str, config: &Config) -> Result<Ast, P
 }
 
 /// The expression of a pattern that was read under the same configuration.
+///
+/// # Errors
+///
+/// `Syntax`, the first refusal, with its kind and its piece in bytes; `Memory`, where there was no memory.
 pub fn translate_with(alloc: Global, ast: &Ast, config: &Config) -> Result<Hir, ParseError>
     ensures { Answers result (translated config.now ast.now) }
 {

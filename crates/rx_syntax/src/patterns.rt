@@ -52,6 +52,10 @@ pub(crate) fn refused(pattern: usize, error: ParseError) -> PatternsError
 }
 
 /// The expressions of patterns under the default configuration, or the first refusal, as by `parse_many_with`.
+///
+/// # Errors
+///
+/// `Syntax`, the first refusal, with its kind and its piece in bytes; `Memory`, where there was no memory.
 pub fn parse_many(alloc: Global, patterns: &[&str]) -> Result<Vec<Hir>, ParseError>
     ensures { AnswersAs (λ v. v.items) result (unnumbered (each_read default (map (λ p. p.now) patterns.now))) }
 {
@@ -60,6 +64,10 @@ pub fn parse_many(alloc: Global, patterns: &[&str]) -> Result<Vec<Hir>, ParseErr
 
 /// The expressions of patterns under a configuration, or the refusal of the first pattern that `parse_with` refuses:
 /// as `parse_each` answers, without the pattern's number.
+///
+/// # Errors
+///
+/// `Syntax`, the first refusal, with its kind and its piece in bytes; `Memory`, where there was no memory.
 pub fn parse_many_with(
     alloc: Global,
     patterns: &[&str],
@@ -78,6 +86,11 @@ pub fn parse_many_with(
 ///
 /// A pattern is read and translated before the next one is read. So the refusal is that of the first pattern that
 /// `parse_with` refuses.
+///
+/// # Errors
+///
+/// `Syntax`, the number of the first pattern that is refused, counted from 0, with its refusal; `Memory`, where
+/// there was no memory.
 pub fn parse_each(
     alloc: Global,
     patterns: &[&str],
@@ -103,6 +116,11 @@ pub fn parse_each(
 ///
 /// All patterns are read before any is translated. So the refusal is that of the first pattern that reading refuses;
 /// where all are read, that of the first pattern that translation refuses.
+///
+/// # Errors
+///
+/// `Syntax`, the number of the first pattern that is refused, counted from 0, with its refusal; `Memory`, where
+/// there was no memory.
 pub fn parse_all(
     alloc: Global,
     patterns: &[&str],

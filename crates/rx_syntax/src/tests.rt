@@ -1,3 +1,5 @@
+//! Tests of translation.
+
 use crate::*;
 use rx_class::Class;
 use rx_hir::{Hir, HirKind, cost};

@@ -1,3 +1,5 @@
+//! Tests of the compiler of patterns.
+
 use crate::*;
 use rx_hir::Hir;
 use rx_search::PatternID;

@@ -1,3 +1,4 @@
+//! The depth-first search from one start.
 ghost use Rattle.std.specs.Prelude.{◌≡◌, ◌^◌, ◌+◌, ◌-◌, ◌*◌, ◌<◌, ◌≤◌, ◌∷◌, length, Option, IfNone};
 ghost use Rattle.rx_model.specs.Runs.{Passed, first_trace};
 ghost use Rattle.rx_nfa.specs.Automaton.{at};

@@ -1,3 +1,4 @@
+//! The bounded backtracker.
 ghost use Rattle.std.specs.Prelude.{◌≡◌, ◌-◌, ◌^◌, ◌≤◌, min, length, None, replicate, IfOk, IfNone, IfSome, option_map};
 ghost use Rattle.std.specs.Result.{IfErr};
 ghost use Rattle.rx_model.specs.Search.{Patterns, told_of};

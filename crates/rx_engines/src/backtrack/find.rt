@@ -1,3 +1,4 @@
+//! The search of the backtracker, start by start.
 ghost use Rattle.std.specs.Prelude.{◌≡◌, ◌^◌, ℕ, ◌*◌, ◌<◌, ◌≤◌, length, None, IfSome, IfNone, option_map, replicate, slice_index_or};
 ghost use Rattle.rx_model.specs.Search.{slot_value};
 ghost use Rattle.rx_search.specs.Matches.{match_value};

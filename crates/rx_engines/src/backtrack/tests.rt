@@ -1,3 +1,4 @@
+//! Tests of the backtracker.
 ghost use Rattle.rx_engines.specs.Bounded.{Fits};
 
 use crate::backtrack::BoundedBacktracker;

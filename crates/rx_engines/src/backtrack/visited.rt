@@ -1,3 +1,4 @@
+//! Which states were tried at which places.
 ghost use Rattle.std.specs.Prelude.{◌≡◌, ◌*◌, ◌+◌, ◌<◌, ◌≤◌, ℕ, Bool, false, not, ◌||◌, ◌==◌, length, IfOk, OnOk, IsOk, ◌^◌};
 ghost use Rattle.rx_engines.specs.Backtrack.{is_set};
 

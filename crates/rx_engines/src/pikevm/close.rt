@@ -1,3 +1,4 @@
+//! The walk over states that read nothing.
 ghost use Rattle.std.specs.Prelude.{◌≡◌, ℕ, ◌+◌, ◌<◌, ◌≤◌, List, [], ◌∷◌, length, Option};
 ghost use Rattle.rx_model.specs.Runs.{Passed};
 ghost use Rattle.rx_nfa.specs.Automaton.{state_at};

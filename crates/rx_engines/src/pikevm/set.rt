@@ -1,3 +1,4 @@
+//! Sets of states in order.
 ghost use Rattle.std.specs.Prelude.{◌≡◌, ◌^◌, ◌<◌, ◌≤◌, vec_capacity, [], ◌∷◌, ◌++◌, not, length, IfOk, slice_index};
 ghost use Rattle.std.specs.Bool.{MatchBool};
 ghost use Rattle.rx_nfa.specs.Ordered.{has};

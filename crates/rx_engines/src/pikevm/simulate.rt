@@ -1,3 +1,4 @@
+//! The search of the PikeVM, place by place.
 ghost use Rattle.std.specs.Prelude.{◌≡◌, ℕ, ◌+◌, ◌<◌, ◌≤◌, List, [], length, min, nat_lt, if◌then◌else◌, All, Bool, ◌&&◌, is_some, Option, Some, None, IfSome, IfNone, option_map, replicate, slice_index_or};
 ghost use Rattle.std.specs.Option.{option_or};
 ghost use Rattle.rx_engines.specs.Simulation.{frames_of_states, best_hit, hit_of, until, room_of, GoesOn};

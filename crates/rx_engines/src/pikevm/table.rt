@@ -1,3 +1,4 @@
+//! Where the threads began, and their slots.
 ghost use Rattle.std.specs.Prelude.{◌≡◌, ◌+◌, ◌*◌, ◌^◌, ◌<◌, ◌≤◌, length, take, IfOk, slice_set};
 ghost use Rattle.rx_engines.specs.Threads.{Rows, rows_code, rows_of, row_at};
 

@@ -1,3 +1,4 @@
+//! Tests of the PikeVM.
 ghost use Rattle.rx_engines.specs.Engine.{Fits};
 
 use crate::expressions::{a_in_group_then_b, a_or_ab, abcd_or_c, hold, some_a, text};

@@ -1,3 +1,4 @@
+//! The threads at a place.
 ghost use Rattle.std.specs.Prelude.{◌≡◌, ◌*◌, ◌<◌, ◌^◌, ◌≤◌, [], length, IfOk};
 
 use crate::pikevm::set::SparseSet;

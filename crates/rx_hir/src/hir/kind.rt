@@ -1,3 +1,4 @@
+//! What an expression is made of.
 ghost use Rattle.std.specs.Prelude.{◌≡◌};
 ghost use Rattle.rx_hir.specs.HirViews.{kind_view};
 ghost use Rattle.rx_hir.specs.PropertiesViews.{AreOf};

@@ -1,3 +1,4 @@
+//! How NFAs are built.
 ghost use Rattle.std.specs.Prelude.{◌≡◌, Some};
 ghost use Rattle.rx_nfa.specs.Config.{utf8_of, reverse_of, size_limit_of, which_of, terminator_of, overwritten, nothing_set};
 

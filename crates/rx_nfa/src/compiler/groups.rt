@@ -1,3 +1,5 @@
+//! The slots of a pattern that is compiled.
+
 use rx_search::PatternID;
 
 /// A pattern, whether it is read backwards, and its slots, if it has any: the first of its whole match, and the first of

@@ -1,3 +1,5 @@
+//! Tests of the compiler.
+
 use crate::{BuildError, Compiler, Config, NFA, State, WhichCaptures};
 use rx_hir::{Capture, Hir};
 use rx_search::{Look, LookMatcher, LookSet, PatternID};

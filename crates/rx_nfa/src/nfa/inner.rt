@@ -1,3 +1,5 @@
+//! What the clones of an NFA share.
+
 use crate::State;
 use rx_search::{ByteClasses, GroupInfo, LookMatcher, LookSet, StateID};
 

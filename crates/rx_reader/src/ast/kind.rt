@@ -1,3 +1,4 @@
+//! What a node of a syntax tree is, and whether its counts are in order.
 ghost use Rattle.std.specs.Prelude.{◌≡◌};
 ghost use Rattle.rx_reader.specs.AstViews.{kind_view, IsWellFormed};
 

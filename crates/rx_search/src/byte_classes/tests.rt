@@ -1,3 +1,5 @@
+//! Tests of byte classes.
+
 use super::*;
 use std::process::Abort;
 

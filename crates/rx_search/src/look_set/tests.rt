@@ -1,3 +1,5 @@
+//! Tests of sets of look-arounds.
+
 use super::LookSet;
 use crate::look::Look;
 

@@ -1,3 +1,5 @@
+//! What a walk over epsilon steps marks: the bytes that begin a run.
+
 ghost use Rattle.std.specs.Prelude.{◌≡◌, ◌≤◌, ◌<◌, length, All, IfSome};
 ghost use Rattle.rx_nfa.specs.Automaton.{NamesBelow};
 ghost use Rattle.rx_engines.specs.StartBytes.{Marks, HasRange, BeginMarked};
