@@ -1,11 +1,13 @@
 //! `rx_bench ENGINE PATTERN` searches each line of standard input for the successive matches of the pattern, and prints
-//! their number, the bytes of the lines, and the time that the searches took.
+//! their number, the bytes of the lines, and the time that the searches took. `rx_bench needles LIST` times a search for
+//! needles, which commas part, beside the kit's.
 #![tactic(auto)]
 
 mod compile;
 mod engine;
 mod failure;
 mod finders;
+mod prefilters;
 
 use engine::Engine;
 use failure::Failure;
@@ -25,13 +27,21 @@ fn main(rt: HostRuntime) -> ExitCode {
     }
 }
 
-/// Reads the words and the lines, and prints the figures.
+/// Reads the words, and does what they ask for.
 fn bench<R: Runtime + AllocGlobal>(rt: &R) -> Result<(), Failure> {
     let words = words(rt)?;
-    let [engine, pattern] = words.as_slice() else {
+    let [command, argument] = words.as_slice() else {
         return Err(Failure::Usage);
     };
-    let mut engine = Engine::new(rt.alloc(), engine.as_str(), pattern.as_str())?;
+    if command.as_str() == "needles" {
+        return prefilters::bench(rt, argument.as_str());
+    }
+    searches(rt, command.as_str(), argument.as_str())
+}
+
+/// Reads the lines, and prints the figures of an engine's searches.
+fn searches<R: Runtime + AllocGlobal>(rt: &R, engine: &str, pattern: &str) -> Result<(), Failure> {
+    let mut engine = Engine::new(rt.alloc(), engine, pattern)?;
     let text = io::read_to_string(rt.alloc(), rt.reader())?;
     let start = Instant::now(rt)?;
     let count = engine.count_in_lines(text.as_str())?;

@@ -93,6 +93,10 @@ impl Compiler {
     /// meant, from each pattern's start and from that of all: `the_runs_of_one_span_are_meant`,
     /// `the_common_start_has_the_runs_of_each_pattern`.
     ///
+    /// Where the configuration asks for it the NFA reads texts backwards. Then its walks lead from a place to exactly
+    /// those places at which a match starts that ends there, from the start of each pattern and from that of all. It
+    /// writes no slot.
+    ///
     /// Refused before anything is built, in this order: more than 2147483647 patterns, more than 2147483646 slots,
     /// more than 2147483647 states accounted, more bytes accounted than the configured limit. Want of
     /// memory comes last, and is then the only reason left.

@@ -2,8 +2,8 @@
 //!
 //! An `NFA` is a list of states. A priority graph gives it its meaning: the runs of its states over
 //! the places of a text. The compiler's contract says that its first runs are those of the graphs
-//! of the expressions, with pattern, end and slots, wherever acceptance is permitted. It stands on
-//! rx_hir.
+//! of the expressions, with pattern, end and slots, wherever acceptance is permitted. One that reads
+//! backwards tells where the matches start that end at a place. It stands on rx_hir.
 #![tactic(auto)]
 
 mod backwards;

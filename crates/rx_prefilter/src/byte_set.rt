@@ -35,7 +35,9 @@ impl ByteSet {
         ByteSet { bytes, is_needle }
     }
 
-    /// The first place from `from` on at which one of the bytes stands.
+    /// The first place from `from` on at which one of the bytes stands. It stays a function of its own, so that its loop
+    /// is short.
+    #[inline(never)]
     pub(crate) fn find(&self, text: &[u8], from: usize) -> Option<Span>
         requires { from ≤ length text.now }
         ensures { result ≡ first_span self.now text.now from }

@@ -6,7 +6,8 @@
 //! `Match` is what a search answers. A `Searcher` asks a `Finder` for one match after another, and what it
 //! gives is the list of successive matches. A `GroupInfo` has the capturing groups of patterns, with their names
 //! and slots, and contracts see it as the list of names of each pattern's groups. A `MatchError` says why a search
-//! gives no answer. A `LookMatcher` tells where look-arounds hold.
+//! gives no answer. A `LookMatcher` tells where look-arounds hold. `ByteClasses`
+//! has the class of each byte.
 #![tactic(auto)]
 
 mod anchored;

@@ -7,6 +7,7 @@ ghost use Rattle.rx_syntax.specs.Weight.{Weighs, AreWeightsOf};
 
 use super::syntax::weigh;
 use super::{Weight, Weights};
+use crate::known::KnownSets;
 use crate::patterns::{PatternsError, refused};
 use rx_reader::{Ast, Config, ParseError, read};
 use std::alloc::Global;
@@ -22,8 +23,9 @@ pub fn weigh_all(alloc: Global, asts: &[Ast], config: &Config) -> Result<Weights
 {
     let mut count = 0;
     let mut sum = Sum::new();
+    let mut known = KnownSets::new(alloc);
     for ast in asts {
-        match weigh(alloc, ast, config) {
+        match weigh(alloc, ast, config, &mut known) {
             Ok(weight) => {
                 sum = sum.with(weight);
                 count += 1;
@@ -66,7 +68,7 @@ fn weigh_text(alloc: Global, pattern: &str, config: &Config) -> Result<Weight, P
     ensures { Weighs result (reads config.now (chars pattern.now)) }
 {
     let ast = read(alloc, pattern, config)?;
-    weigh(alloc, &ast, config)
+    weigh(alloc, &ast, config, &mut KnownSets::new(alloc))
 }
 
 /// Sums over patterns: half of their slots, and their states.

@@ -11,6 +11,7 @@ ghost use Rattle.rx_syntax.specs.Row.{IsRow};
 
 use super::{Weight, choice_weight, either_of};
 use crate::characters::{character, in_either_case, literal};
+use crate::known::KnownSets;
 use crate::translate::atom;
 use rx_reader::{Ast, AstKind, Atom, Config, Flags, Item, ParseError, Piece};
 use rx_search::Memory;
@@ -18,7 +19,12 @@ use std::alloc::Global;
 
 /// The weight of the expression that a syntax stands for, or the first refusal from left to right.
 #[cycle(weigh)]
-pub(super) fn weigh(alloc: Global, ast: &Ast, config: &Config) -> Result<Weight, ParseError>
+pub(super) fn weigh(
+    alloc: Global,
+    ast: &Ast,
+    config: &Config,
+    known: &mut KnownSets,
+) -> Result<Weight, ParseError>
     ensures { Weighs result (translated config.now ast.now) }
 {
     match ast.kind() {
@@ -30,17 +36,17 @@ pub(super) fn weigh(alloc: Global, ast: &Ast, config: &Config) -> Result<Weight,
             flags,
             piece,
             atom: own,
-        } => weigh_atom(alloc, config, *flags, *piece, own),
+        } => weigh_atom(alloc, config, *flags, *piece, own, known),
         AstKind::Repetition { min, max, sub, .. } => {
-            let body = weigh(alloc, sub, config)?;
+            let body = weigh(alloc, sub, config, known)?;
             Ok(body.repeated(*min, *max))
         }
         AstKind::Group { kind, sub } => {
-            let body = weigh(alloc, sub, config)?;
+            let body = weigh(alloc, sub, config, known)?;
             Ok(body.grouped(kind))
         }
-        AstKind::Concat(items) => weigh_items(alloc, items, config),
-        AstKind::Alternation(branches) => weigh_branches(alloc, branches, config),
+        AstKind::Concat(items) => weigh_items(alloc, items, config, known),
+        AstKind::Alternation(branches) => weigh_branches(alloc, branches, config, known),
     }
 }
 
@@ -57,35 +63,46 @@ fn weigh_atom(
     flags: Flags,
     piece: Piece,
     own: &Atom,
+    known: &mut KnownSets,
 ) -> Result<Weight, ParseError>
     ensures { Weighs result (atom_of config.now flags piece own.now) }
 {
-    let hir = atom(alloc, config, flags, piece, own)?;
+    let hir = atom(alloc, config, flags, piece, own, known)?;
     Ok(Weight::of(&hir))
 }
 
 /// The weight of one of these, the first preferred.
 #[cycle(weigh)]
-fn weigh_branches(alloc: Global, branches: &[Ast], config: &Config) -> Result<Weight, ParseError>
+fn weigh_branches(
+    alloc: Global,
+    branches: &[Ast],
+    config: &Config,
+    known: &mut KnownSets,
+) -> Result<Weight, ParseError>
     ensures { Weighs result (choice_of config.now branches.now) }
 {
     let mut whole = None;
     for branch in branches {
-        whole = Some(either_of(whole, weigh(alloc, branch, config)?));
+        whole = Some(either_of(whole, weigh(alloc, branch, config, known)?));
     }
     Ok(choice_weight(whole))
 }
 
 /// The weight of these, one after another.
 #[cycle(weigh)]
-fn weigh_items(alloc: Global, items: &[Item], config: &Config) -> Result<Weight, ParseError>
+fn weigh_items(
+    alloc: Global,
+    items: &[Item],
+    config: &Config,
+    known: &mut KnownSets,
+) -> Result<Weight, ParseError>
     ensures { Weighs result (row_of config.now items.now) }
 {
     let mut row = Weight::empty();
     for item in items {
         match item {
             Item::Literals { flags, run } => row = with_run(alloc, row, *flags, run)?,
-            Item::One(ast) => row = row.followed(weigh(alloc, ast, config)?),
+            Item::One(ast) => row = row.followed(weigh(alloc, ast, config, known)?),
         }
     }
     Ok(row)
