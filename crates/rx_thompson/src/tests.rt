@@ -1,3 +1,5 @@
+mod backwards;
+
 use crate::*;
 use rx_hir::Hir;
 use rx_search::PatternID;
