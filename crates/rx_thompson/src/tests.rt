@@ -1,4 +1,5 @@
 //! Tests of the compiler of patterns.
+mod backwards;
 
 use crate::*;
 use rx_hir::Hir;
