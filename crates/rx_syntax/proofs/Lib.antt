@@ -11,6 +11,7 @@ pub mod OrderedLemmas
 pub mod PartialLemmas
 pub mod PatternsLemmas
 pub mod PlainLemmas
+pub mod SetLemmas
 pub mod SizeLemmas
 pub mod TranslationLemmas
 pub mod RefusalLemmas

@@ -44,6 +44,13 @@ fn same_posix(a: ClassAsciiKind, b: ClassAsciiKind) -> bool
     a == b
 }
 
+/// Both are the same set.
+fn same_property(a: PropertySet, b: PropertySet) -> bool
+    ensures { IsTrue result → a ≡ b }
+{
+    a == b
+}
+
 fn same_flag(a: bool, b: bool) -> bool
     ensures { IsTrue result → a ≡ b }
 {
@@ -63,7 +70,10 @@ impl NamedSet {
                 NamedSet::Posix(other) => same_posix(kind, other),
                 _ => false,
             },
-            NamedSet::Property(_) => false,
+            NamedSet::Property(set) => match other {
+                NamedSet::Property(other) => same_property(set, other),
+                _ => false,
+            },
         }
     }
 }
