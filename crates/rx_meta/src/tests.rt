@@ -80,6 +80,7 @@ fn number(found: Option<PatternID>) -> Option<usize> {
 
 /// What the searches of an input tell: the match, the same by another call, its half, its pattern, and what it leaves in
 /// four slots that held places before.
+#[derive(Clone, Copy)]
 struct Told {
     found: Option<(usize, usize, usize)>,
     again: Option<(usize, usize, usize)>,
