@@ -39,15 +39,49 @@ fn bench<R: Runtime + AllocGlobal>(rt: &R) -> Result<(), Failure> {
     searches(rt, command.as_str(), argument.as_str())
 }
 
+/// What the searches of an engine came to.
+#[derive(Clone, Copy)]
+struct Figures {
+    matches: usize,
+    nanoseconds: u128,
+}
+
 /// Reads the lines, and prints the figures of an engine's searches.
 fn searches<R: Runtime + AllocGlobal>(rt: &R, engine: &str, pattern: &str) -> Result<(), Failure> {
-    let mut engine = Engine::new(rt.alloc(), engine, pattern)?;
     let text = io::read_to_string(rt.alloc(), rt.reader())?;
-    let start = Instant::now(rt)?;
-    let count = engine.count_in_lines(text.as_str())?;
-    let time = start.elapsed(rt)?.as_nanos();
-    println!(rt; "matches {count} bytes {} nanoseconds {time}", text.len())?;
+    let figures = searched(rt, engine, pattern, text.as_str())?;
+    println!(rt;
+        "matches {} bytes {} nanoseconds {}",
+        figures.matches,
+        text.len(),
+        figures.nanoseconds
+    )?;
     Ok(())
+}
+
+/// The figures of an engine of this name. A function of its own, so that one way leads out while there is an engine.
+fn searched<R: Runtime + AllocGlobal>(
+    rt: &R,
+    engine: &str,
+    pattern: &str,
+    text: &str,
+) -> Result<Figures, Failure> {
+    let mut engine = Engine::new(rt.alloc(), engine, pattern)?;
+    timed(rt, &mut engine, text)
+}
+
+fn timed<R: Runtime + AllocGlobal>(
+    rt: &R,
+    engine: &mut Engine,
+    text: &str,
+) -> Result<Figures, Failure> {
+    let start = Instant::now(rt)?;
+    let matches = engine.count_in_lines(text)?;
+    let nanoseconds = start.elapsed(rt)?.as_nanos();
+    Ok(Figures {
+        matches,
+        nanoseconds,
+    })
 }
 
 /// The words after the program's name.
