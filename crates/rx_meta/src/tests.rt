@@ -341,7 +341,8 @@ fn a_regex_is_built_of_expressions(rt: HostRuntime) {
     let alloc = rt.alloc();
     let exprs = a_and_b(&rt, alloc).ok().expect(&rt, "memory");
     let builder = Builder::new();
-    let one = builder.build_from_hir(alloc, &exprs[0]);
+    let first = exprs.first().expect(&rt, "two expressions");
+    let one = builder.build_from_hir(alloc, first);
     let one = one.ok().expect(&rt, "a regex");
     let two = builder.build_many_from_hir(alloc, &exprs);
     let two = two.ok().expect(&rt, "a regex");
