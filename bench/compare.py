@@ -1,20 +1,20 @@
 #!/usr/bin/env python3
-"""Times the built rxscan beside outside tools that do the same job, and prints a table of ratios.
+"""Times the built rxscan beside other tools that do the same job, and prints a table of ratios.
 
-usage: bench/compare.py [MIB [RXSCAN [BEFORE]]]   (the size of each input, 2 MiB if left out; a built rxscan in place of
-ours; one of an earlier commit, to stand beside it)
+usage: bench/compare.py [MIB [RXSCAN [OTHER..]]]   (the size of each input, 2 MiB if left out; a built rxscan in place of
+ours; programs that read the same input and print the same rows, as an rxscan of an earlier commit)
 
 Build the program first: `cd crates/rxscan && rt run`. Each input is made from a fixed seed. `grep -aobE` prints the
 places of the matches of one pattern; Python's `re` prints the places of the matches and their groups. The jobs of an
-input take turns, each five times, and the least time of each counts. A ratio is rxscan's time over the tool's: below 1,
-rxscan is the faster one.
+input take turns, each five times, and the least processor time of each counts. All print into a file, since `grep` stops
+at the first match where it prints into the null device. A ratio is rxscan's time over the tool's: below 1, rxscan is the
+faster one. The rows of the other programs are compared with rxscan's.
 """
 import os
 import random
 import subprocess
 import sys
 import tempfile
-import time
 
 TOP = os.path.dirname(os.path.dirname(os.path.abspath(__file__)))
 PROGRAM = os.path.join(TOP, 'crates', 'rxscan', 'out', 'rxscan')
@@ -63,17 +63,24 @@ def inputs(size):
     ]
 
 
-def run_time(command, stdin=None):
-    given = open(stdin, 'rb') if stdin else subprocess.DEVNULL
-    begin = time.perf_counter()
-    subprocess.run(command, stdin=given, stdout=subprocess.DEVNULL, stderr=subprocess.DEVNULL, check=False)
-    return time.perf_counter() - begin
+def run_time(command, stdin, stdout):
+    """The processor time of the command, in seconds."""
+    with open(stdin, 'rb') as given, open(stdout, 'wb') as told:
+        child = subprocess.Popen(command, stdin=given, stdout=told, stderr=subprocess.DEVNULL)
+        _, status, used = os.wait4(child.pid, 0)
+    child.returncode = os.waitstatus_to_exitcode(status)
+    return used.ru_utime + used.ru_stime
 
 
 def least_times(jobs):
-    """The least time of each job, a command with what it reads."""
-    runs = [[run_time(command, stdin) for command, stdin in jobs] for _ in range(RUNS)]
+    """The least time of each job: a command, what it reads, and what it writes to."""
+    runs = [[run_time(*job) for job in jobs] for _ in range(RUNS)]
     return [min(times) for times in zip(*runs)]
+
+
+def contents(path):
+    with open(path, 'rb') as file:
+        return file.read()
 
 
 def main():
@@ -81,25 +88,28 @@ def main():
     program = os.path.abspath(sys.argv[2]) if len(sys.argv) > 2 else PROGRAM
     if not os.path.exists(program):
         sys.exit('build the program first: cd crates/rxscan && rt run')
-    before = os.path.abspath(sys.argv[3]) if len(sys.argv) > 3 else None
-    tools = ['grep -aobE', 'Python re'] + (['before'] if before else [])
-    print('| input | pattern | %s |' % ' | '.join('rxscan / ' + tool for tool in tools))
-    print('|---' * (2 + len(tools)) + '|')
+    others = [os.path.abspath(path) for path in sys.argv[3:]]
+    tools = ['grep -aobE', 'Python re'] + [os.path.basename(path) for path in others]
+    print('| input | pattern | ns a byte | %s |' % ' | '.join('rxscan / ' + tool for tool in tools))
+    print('|---' * (3 + len(tools)) + '|')
     with tempfile.TemporaryDirectory() as folder:
         for name, pattern, text in inputs(size):
             hay, given = os.path.join(folder, 'hay'), os.path.join(folder, 'given')
             open(hay, 'w').write(text)
             open(given, 'w').write(pattern + '\n\n' + text)
+            told = [os.path.join(folder, 'told%d' % number) for number in range(3 + len(others))]
             jobs = [
-                ([program, 'scan'], given),
-                (['grep', '-aobE', pattern, hay], None),
-                ([sys.executable, '-c', PYTHON, pattern, hay], None),
+                ([program, 'scan'], given, told[0]),
+                (['grep', '-aobE', pattern, hay], os.devnull, told[1]),
+                ([sys.executable, '-c', PYTHON, pattern, hay], os.devnull, told[2]),
             ]
-            if before:
-                jobs.append(([before, 'scan'], given))
+            jobs += [([other, 'scan'], given, path) for other, path in zip(others, told[3:])]
             ours, *theirs = least_times(jobs)
+            if any(contents(path) != contents(told[0]) for path in told[3:]):
+                sys.exit('%s: the programs print different rows' % name)
             ratios = ' | '.join('%.2f' % (ours / other) for other in theirs)
-            print('| %s | `%s` | %s |' % (name, pattern.replace('|', '\\|'), ratios), flush=True)
+            figure = '%.2f' % (ours * 1e9 / len(text))
+            print('| %s | `%s` | %s | %s |' % (name, pattern.replace('|', '\\|'), figure, ratios), flush=True)
 
 
 if __name__ == '__main__':

@@ -1,13 +1,13 @@
 #!/usr/bin/env python3
 """Times the engines on the inputs of compare.py, and prints a table of nanoseconds per byte.
 
-usage: bench/engines.py [MIB [RXSCAN]]   (the size of each input, 1 MiB if left out; a built rxscan to stand beside)
+usage: bench/engines.py [MIB [RXSCAN [RX_BENCH]]]   (the size of each input, 1 MiB if left out; a built rxscan to stand
+beside; a built rx_bench in place of ours, which `rt run` builds)
 
-It builds `crates/rx_bench` by `rt run`. Each input is cut at spaces into lines of about 4 KiB, since the backtracker
-takes no long ones; no pattern here matches a space, so no match is lost. `rx_bench` times the searches alone, with all
-slots: each engine without a prefilter, and with one of the pattern's prefixes. An rxscan is timed as a whole process: it
-reads its input and writes its rows too. The runs of an input take turns, and the least time of nine counts. The programs
-must agree on the number of matches.
+Each input is cut at spaces into lines of about 4 KiB, since the backtracker takes no long ones; no pattern here matches a
+space, so no match is lost. `rx_bench` times the searches alone, with all slots: each engine without a prefilter, and with
+one of the pattern's prefixes. An rxscan is timed as a whole process: it reads its input and writes its rows too. The runs
+of an input take turns, and the least time of nine counts. The programs must agree on the number of matches.
 """
 import os
 import subprocess
@@ -15,20 +15,12 @@ import sys
 import tempfile
 import time
 
-from compare import TOP, inputs
+from compare import inputs
+from programs import existing, rx_bench
 
-CRATE = os.path.join(TOP, 'crates', 'rx_bench')
-PROGRAM = os.path.join(CRATE, 'out', 'rx_bench')
 ENGINES = ['pikevm', 'pikevm-prefilter', 'backtrack', 'backtrack-prefilter']
 LINE = 4096
 RUNS = 9
-
-
-def build():
-    """Builds the program, whose run without words ends with status 2."""
-    done = subprocess.run(['rt', 'run'], cwd=CRATE, stdin=subprocess.DEVNULL, stdout=subprocess.PIPE, stderr=subprocess.STDOUT)
-    if not os.path.exists(PROGRAM):
-        sys.exit('no program at %s\n%s' % (PROGRAM, done.stdout.decode(errors='replace')))
 
 
 def cut(text):
@@ -43,10 +35,10 @@ def cut(text):
     return '\n'.join(out + [rest])
 
 
-def engine_run(engine, pattern, hay):
+def engine_run(program, engine, pattern, hay):
     """The matches that the engine finds in the file, and the nanoseconds of its searches."""
     with open(hay, 'rb') as given:
-        done = subprocess.run([PROGRAM, engine, pattern], stdin=given, stdout=subprocess.PIPE, check=True)
+        done = subprocess.run([program, engine, pattern], stdin=given, stdout=subprocess.PIPE, check=True)
     words = done.stdout.split()
     return int(words[1]), int(words[5])
 
@@ -75,9 +67,9 @@ def least_times(jobs):
 
 
 def main():
-    build()
+    program = rx_bench(sys.argv[3:])
     size = int(sys.argv[1] if len(sys.argv) > 1 else 1) << 20
-    rxscan = os.path.abspath(sys.argv[2]) if len(sys.argv) > 2 else None
+    rxscan = existing(sys.argv[2]) if len(sys.argv) > 2 else None
     names = ENGINES + (['rxscan'] if rxscan else [])
     print('| input | pattern | matches | %s |' % ' | '.join(names))
     print('|---' * (3 + len(names)) + '|')
@@ -89,7 +81,7 @@ def main():
                 file.write(text)
             with open(given, 'w') as file:
                 file.write(pattern + '\n\n' + text)
-            jobs = [lambda engine=engine: engine_run(engine, pattern, hay) for engine in ENGINES]
+            jobs = [lambda engine=engine: engine_run(program, engine, pattern, hay) for engine in ENGINES]
             if rxscan:
                 jobs.append(lambda: rxscan_run(rxscan, given, rows))
             count, least = least_times(jobs)

@@ -5,7 +5,7 @@ usage: bench/grammar.py [MIB [RXSCAN]]   (the size of each input, 1 MiB if left 
 
 Build the program first: `cd crates/rxscan && rt run`. Each input is made from a fixed seed. `grep -aobP` prints the
 places of the matches of one pattern; Python's `re` prints the places of the matches as it counts them, in characters.
-The jobs of an input take turns, and the least time of each counts. A ratio is rxscan's time over the tool's: below 1,
+The jobs of an input take turns, and the least processor time of each counts. A ratio is rxscan's time over the tool's: below 1,
 rxscan is the faster one. The second table has the whole run over a pattern and no haystack, in milliseconds.
 """
 import os
@@ -56,9 +56,9 @@ def inputs(size):
     ]
 
 
-def ratios(ours, tools):
-    """The least time of ours over that of each tool; `-` where there is none."""
-    least, *others = least_times([ours] + [(tool, None) for tool in tools if tool])
+def ratios(ours, tools, told):
+    """The least time of ours over that of each tool; `-` where there is none. All print into the file `told`."""
+    least, *others = least_times([(*ours, told)] + [(tool, os.devnull, told) for tool in tools if tool])
     rest = iter(others)
     return ['%.2f' % (least / next(rest)) if tool else '-' for tool in tools]
 
@@ -72,20 +72,20 @@ def main():
     print('| input | pattern | matches | rxscan / grep -aobP | rxscan / Python re |')
     print('|---|---|---|---|---|')
     with tempfile.TemporaryDirectory() as folder:
-        hay, given = os.path.join(folder, 'hay'), os.path.join(folder, 'given')
+        hay, given, told = (os.path.join(folder, name) for name in ('hay', 'given', 'told'))
         for name, pattern, perl, python, text in inputs(size):
             open(hay, 'w', encoding='utf-8', newline='').write(text)
             open(given, 'w', encoding='utf-8', newline='').write(pattern + '\n\n' + text)
             rows = subprocess.run([program, 'scan'], stdin=open(given, 'rb'), stdout=subprocess.PIPE, check=True).stdout
             tools = [perl and ['grep', '-aobP', perl, hay], [sys.executable, '-c', PYTHON, python, hay]]
-            beside = ratios(([program, 'scan'], given), tools)
+            beside = ratios(([program, 'scan'], given), tools, told)
             print('| %s | `%s` | %d | %s |' % (
                 name, pattern.replace('|', '\\|'), rows.count(b'\n'), ' | '.join(beside)), flush=True)
         print('\n| pattern | status | milliseconds |\n|---|---|---|')
         for pattern in ['a', r'\w{50}', r'\pL{20}', r'\w{1000}{1000}', r'(?i)\pL']:
             open(given, 'w', encoding='utf-8').write(pattern + '\n\n')
             status = subprocess.run([program, 'scan'], stdin=open(given, 'rb'), stdout=subprocess.DEVNULL, check=False).returncode
-            print('| `%s` | %d | %.1f |' % (pattern, status, 1000 * least_times([([program, 'scan'], given)])[0]), flush=True)
+            print('| `%s` | %d | %.1f |' % (pattern, status, 1000 * least_times([([program, 'scan'], given, told)])[0]), flush=True)
 
 
 if __name__ == '__main__':

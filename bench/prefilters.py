@@ -1,12 +1,13 @@
 #!/usr/bin/env python3
 """Times the prefilters beside the kit's own searches, the same loops in Rust, and `grep -F`, and prints tables of ratios.
 
-usage: bench/prefilters.py [MIB]   (the size of the text, 16 MiB if left out)
+usage: bench/prefilters.py [MIB [RX_BENCH]]   (the size of the text, 16 MiB if left out; a built rx_bench in place of ours,
+which `rt run` builds)
 
-It builds `crates/rx_bench` by `rt run`, and `bench/loops.rs` by `rustc -O`. `rx_bench needles LIST` searches its input for
-needles, by a prefilter and by the kit's search in turns, each nine times. A ratio is that of the least times, or of the
-least of three runs where two programs take turns. Below 1, the prefilter is the faster one. Kinds that have no search of
-the kit's stand beside its `memchr3` for three bytes that the text has not.
+It builds `bench/loops.rs` by `rustc -O`. `rx_bench needles LIST` searches its input for needles, by a prefilter and by the
+kit's search in turns, each nine times. A ratio is that of the least times, or of the least of three runs where two programs
+take turns. Below 1, the prefilter is the faster one. Kinds that have no search of the kit's stand beside its `memchr3` for
+three bytes that the text has not.
 """
 import os
 import random
@@ -16,19 +17,15 @@ import tempfile
 import time
 
 from compare import TOP, letters, words
+from programs import rx_bench
 
-CRATE = os.path.join(TOP, 'crates', 'rx_bench')
-PROGRAM = os.path.join(CRATE, 'out', 'rx_bench')
 TURNS = 3
 NAMES = 'Holmes,Watson,Moriarty,Adler,Lestrade,Hudson,Mycroft,Gregson'
 MORE = [a + b for a in 'ABCDEFGHIJ' for b in ('', 'ckermann', 'dams', 'elwyn', 'ond', 'rown', 'ughes')]
 
 
 def build(folder):
-    """Builds both programs. A run of rx_bench without words ends with status 2."""
-    done = subprocess.run(['rt', 'run'], cwd=CRATE, stdin=subprocess.DEVNULL, stdout=subprocess.PIPE, stderr=subprocess.STDOUT)
-    if not os.path.exists(PROGRAM):
-        sys.exit('no program at %s\n%s' % (PROGRAM, done.stdout.decode(errors='replace')))
+    """The loops in Rust, built in the folder."""
     loops = os.path.join(folder, 'loops')
     subprocess.run(['rustc', '-O', '-o', loops, os.path.join(TOP, 'bench', 'loops.rs')], check=True)
     return loops
@@ -40,10 +37,10 @@ def text_with(size, share, chosen):
     return words(rng, size, lambda r: r.choice(chosen) if r.random() < share else letters(r, 1, 9))
 
 
-def prefilter_run(needles, text):
+def prefilter_run(program, needles, text):
     """The kind, the needles found, and the least nanoseconds of the prefilter and of the kit's search."""
     with open(text, 'rb') as given:
-        done = subprocess.run([PROGRAM, 'needles', needles], stdin=given, stdout=subprocess.PIPE, check=True)
+        done = subprocess.run([program, 'needles', needles], stdin=given, stdout=subprocess.PIPE, check=True)
     first, *rounds = done.stdout.decode().splitlines()
     rows = [[int(word) for word in line.split() if word.isdigit()] for line in rounds]
     return first.split()[0], int(first.split()[-1]), rows[0][0], min(row[1] for row in rows), min(row[3] for row in rows)
@@ -64,11 +61,12 @@ def grep_run(needles, text):
     return time.perf_counter_ns() - begin
 
 
-def row(loops, name, needles, text, outside):
+def row(programs, name, needles, text, outside):
     """A line of the table: the prefilter beside the kit's search, the loop in Rust and grep, as far as they are wanted."""
+    program, loops = programs
     ours, kit, loop, grep = [], [], [], []
     for _ in range(TURNS):
-        kind, _, found, time_of_ours, time_of_kit = prefilter_run(needles, text)
+        kind, _, found, time_of_ours, time_of_kit = prefilter_run(program, needles, text)
         ours.append(time_of_ours)
         kit.append(time_of_kit)
         if outside == 'loop':
@@ -85,8 +83,9 @@ def row(loops, name, needles, text, outside):
 
 def main():
     size = int(sys.argv[1] if len(sys.argv) > 1 else 16) << 20
+    program = rx_bench(sys.argv[2:])
     with tempfile.TemporaryDirectory() as folder:
-        loops = build(folder)
+        programs = program, build(folder)
         plain, few, many = (os.path.join(folder, name) for name in ('plain', 'few', 'many'))
         chosen = NAMES.split(',') + list('WXYZ') + MORE[:7]
         for path, share in ((plain, 0), (few, 0.001), (many, 0.2)):
@@ -95,27 +94,27 @@ def main():
         print('| kind | needles | found | ns a byte | kit | loop in Rust | grep -F |')
         print('|---' * 7 + '|')
         for where, path in (('none', plain), ('few', few), ('many', many)):
-            row(loops, where, 'Z', path, None)
-            row(loops, where, 'Y,Z', path, None)
-            row(loops, where, 'X,Y,Z', path, None)
-            row(loops, where, 'Holmes', path, None)
-            row(loops, where, NAMES, path, 'grep' if path == plain else None)
-            row(loops, where + ', one first byte', 'Holmes,Hudson,House', path, 'grep' if path == plain else None)
-            row(loops, where, 'W,X,Y,Z', path, 'loop')
-            row(loops, where + ', 70 needles', ','.join(MORE), path, 'loop')
-        row(loops, 'letters', 'e', plain, None)
-        row(loops, 'letters', 'e,t', plain, None)
-        row(loops, 'letters', 'e,t,a', plain, None)
-        row(loops, 'two letters', 'th', plain, None)
-        row(loops, 'two letters', 'th,he,in,er', plain, None)
-        row(loops, 'letters', 'e,t,a,o', plain, 'loop')
-        row(loops, 'letters', 'e,th,in,er', plain, 'loop')
+            row(programs, where, 'Z', path, None)
+            row(programs, where, 'Y,Z', path, None)
+            row(programs, where, 'X,Y,Z', path, None)
+            row(programs, where, 'Holmes', path, None)
+            row(programs, where, NAMES, path, 'grep' if path == plain else None)
+            row(programs, where + ', one first byte', 'Holmes,Hudson,House', path, 'grep' if path == plain else None)
+            row(programs, where, 'W,X,Y,Z', path, 'loop')
+            row(programs, where + ', 70 needles', ','.join(MORE), path, 'loop')
+        row(programs, 'letters', 'e', plain, None)
+        row(programs, 'letters', 'e,t', plain, None)
+        row(programs, 'letters', 'e,t,a', plain, None)
+        row(programs, 'two letters', 'th', plain, None)
+        row(programs, 'two letters', 'th,he,in,er', plain, None)
+        row(programs, 'letters', 'e,t,a,o', plain, 'loop')
+        row(programs, 'letters', 'e,th,in,er', plain, 'loop')
         empty = os.path.join(folder, 'empty')
         with open(empty, 'w'):
             pass
         for count in (1000, 10000):
             needles = ','.join('%08d' % (number * 7919 % 100000000) for number in range(count))
-            times = [prefilter_run(needles, empty)[1] for _ in range(TURNS)]
+            times = [prefilter_run(program, needles, empty)[1] for _ in range(TURNS)]
             print('%d needles of 8 bytes: built in %.1f ns a byte' % (count, min(times) / (8 * count)))
 
 

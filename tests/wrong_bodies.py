@@ -1,9 +1,9 @@
 #!/usr/bin/env python3
-"""Tries the wrong bodies of wrong-bodies/, which the gate does not try.
+"""Tries the wrong bodies of wrong-bodies/, which the full check (.ci/run) does not try.
 
 usage: tests/wrong_bodies.py [CRATE..]   (every crate that has some, if none is named)
 
-The gate tries about ten wrong bodies a crate, those of its folder must-fail/. The others stand here, in a folder for each
+The full check tries about ten wrong bodies a crate, those of its folder must-fail/. The others stand here, in a folder for each
 crate. They are put in place of those of must-fail/ in a copy of the repository, and `rt must-fail` tries them. Ends with
 status 1 where a crate has one that is not refused.
 """

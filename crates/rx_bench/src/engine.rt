@@ -52,7 +52,8 @@ impl Engine {
 
     /// The number of the successive matches in a line.
     fn count_in(&mut self, line: &[u8]) -> Result<usize, Failure>
-        ensures value { AtEachPlace (begins_each_run self.old) (whole line.now) → IfOk result (λ n. n ≡ length (successive (answer_of self.old) (whole line.now))) }
+        ensures value { AtEachPlace (begins_each_run self.old) (whole line.now)
+            → IfOk result (λ n. n ≡ length (successive (answer_of self.old) (whole line.now))) }
         ensures err { IfErr result IsOfSearch }
     {
         match Searcher::new(Input::new(line)).count(self) {

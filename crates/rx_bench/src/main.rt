@@ -1,12 +1,14 @@
 //! `rx_bench ENGINE PATTERN` searches each line of standard input for the successive matches of the pattern, and prints
 //! their number, the bytes of the lines, and the time that the searches took. `rx_bench needles LIST` times a search for
-//! needles, which commas part, beside the kit's.
+//! needles, which commas part, beside the kit's. `rx_bench literals` times the literals of the patterns that it reads, one
+//! a line, beside their NFA.
 #![tactic(auto)]
 
 mod compile;
 mod engine;
 mod failure;
 mod finders;
+mod literals;
 mod prefilters;
 
 use engine::Engine;
@@ -30,13 +32,31 @@ fn main(rt: HostRuntime) -> ExitCode {
 /// Reads the words, and does what they ask for.
 fn bench<R: Runtime + AllocGlobal>(rt: &R) -> Result<(), Failure> {
     let words = words(rt)?;
-    let [command, argument] = words.as_slice() else {
-        return Err(Failure::Usage);
-    };
-    if command.as_str() == "needles" {
-        return prefilters::bench(rt, argument.as_str());
+    match words.as_slice() {
+        [command] => alone(rt, command.as_str()),
+        [command, argument] => with_argument(rt, command.as_str(), argument.as_str()),
+        _ => Err(Failure::Usage),
     }
-    searches(rt, command.as_str(), argument.as_str())
+}
+
+/// Does what a word alone asks for.
+fn alone<R: Runtime + AllocGlobal>(rt: &R, command: &str) -> Result<(), Failure> {
+    match command {
+        "literals" => literals::bench(rt),
+        _ => Err(Failure::Usage),
+    }
+}
+
+/// Does what a word asks for, with its argument.
+fn with_argument<R: Runtime + AllocGlobal>(
+    rt: &R,
+    command: &str,
+    argument: &str,
+) -> Result<(), Failure> {
+    match command {
+        "needles" => prefilters::bench(rt, argument),
+        _ => searches(rt, command, argument),
+    }
 }
 
 /// What the searches of an engine came to.

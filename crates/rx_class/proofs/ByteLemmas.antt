@@ -63,7 +63,8 @@ or-itself : (x : Bool) → (x || false) ≡ (x || x)
 or-itself true = refl
 or-itself false = refl
 
-letter-cases : (rs : List (ℕ × ℕ)) (b : ℕ) (letter : Bool) → is_letter b ≡ letter → (is_member rs b || (letter && is_member rs (other_case b))) ≡ (is_member rs b || is_member rs (other_case b))
+letter-cases : (rs : List (ℕ × ℕ)) (b : ℕ) (letter : Bool) → is_letter b ≡ letter
+    → (is_member rs b || (letter && is_member rs (other_case b))) ≡ (is_member rs b || is_member rs (other_case b))
 letter-cases rs b true is = refl
 letter-cases rs b false is =
     let same : other_case b ≡ b = grind (arith, nat_tests) in

@@ -6,7 +6,7 @@ use Rattle.std.proofs.lemmas.List.Elements.{All-append, All-nil, All-cons}
 use Rattle.std.proofs.lemmas.List.Folds.{list_any-append}
 use Rattle.rx_model.specs.Text.{is_member}
 use Rattle.rx_class.specs.Ranges.{next_scalar, next_byte, fewest, union, HaveScalarEnds, AreScalarRanges}
-use Rattle.rx_class.proofs.RangeLemmas.{or-assoc, or-swap, IsSuccessor, Ends, fewest-unique, fewest-fewest, fewest-ends, fewest-members}
+use Rattle.rx_class.proofs.RangeLemmas.{IsSuccessor, Ends, fewest-unique, fewest-fewest, fewest-ends, fewest-members}
 use Rattle.rx_class.proofs.SuccessorLemmas.{scalars-succeed, bytes-succeed, IsAny, ends-any, ends-from-scalars, scalars-from-ends}
 
 pub both-ends : (xs ys : List (ℕ × ℕ)) → HaveScalarEnds xs → HaveScalarEnds ys → HaveScalarEnds (xs ++ ys)
@@ -17,7 +17,8 @@ member-append xs ys n = list_any-append _ xs ys
 
 module _ (next : ℕ → ℕ) (Counts : ℕ → Type 0) (succ : IsSuccessor next Counts) where
   -- ranges with the same members among the numbers that count have the same fewest ranges
-  pub fewest-alike : (xs ys : List (ℕ × ℕ)) → Ends Counts xs → Ends Counts ys → ((n : ℕ) → Counts n → is_member xs n ≡ is_member ys n) → fewest next xs ≡ fewest next ys
+  pub fewest-alike : (xs ys : List (ℕ × ℕ)) → Ends Counts xs → Ends Counts ys → ((n : ℕ) → Counts n → is_member xs n ≡ is_member ys n)
+      → fewest next xs ≡ fewest next ys
   fewest-alike xs ys ex ey same =
       fewest-unique next Counts succ (fewest next xs) (fewest next ys) (fewest-fewest next Counts succ xs) (fewest-fewest next Counts succ ys)
       (fewest-ends next Counts succ xs ex) (fewest-ends next Counts succ ys ey)
@@ -31,12 +32,14 @@ module _ (next : ℕ → ℕ) (Counts : ℕ → Type 0) (succ : IsSuccessor next
 
 pub union-ends : (xs ys : List (ℕ × ℕ)) → HaveScalarEnds xs → HaveScalarEnds ys → HaveScalarEnds (union next_scalar xs ys)
 union-ends xs ys h k =
-    scalars-from-ends (fewest next_scalar (xs ++ ys)) (fewest-ends next_scalar IsScalar scalars-succeed (xs ++ ys) (ends-from-scalars (xs ++ ys) (both-ends xs ys h k)))
+    scalars-from-ends (fewest next_scalar (xs ++ ys)) (fewest-ends next_scalar IsScalar scalars-succeed (xs ++ ys)
+    (ends-from-scalars (xs ++ ys) (both-ends xs ys h k)))
 
 pub fewest-has-ends : (xs : List (ℕ × ℕ)) → HaveScalarEnds xs → HaveScalarEnds (fewest next_scalar xs)
 fewest-has-ends xs h = scalars-from-ends (fewest next_scalar xs) (fewest-ends next_scalar IsScalar scalars-succeed xs (ends-from-scalars xs h))
 
-scalars-alike : (xs ys : List (ℕ × ℕ)) → HaveScalarEnds xs → HaveScalarEnds ys → ((n : ℕ) → IsScalar n → is_member xs n ≡ is_member ys n) → fewest next_scalar xs ≡ fewest next_scalar ys
+scalars-alike : (xs ys : List (ℕ × ℕ)) → HaveScalarEnds xs → HaveScalarEnds ys → ((n : ℕ) → IsScalar n → is_member xs n ≡ is_member ys n)
+    → fewest next_scalar xs ≡ fewest next_scalar ys
 scalars-alike xs ys h k same = fewest-alike next_scalar IsScalar scalars-succeed xs ys (ends-from-scalars xs h) (ends-from-scalars ys k) same
 
 scalar-members : (xs : List (ℕ × ℕ)) → HaveScalarEnds xs → (n : ℕ) → IsScalar n → is_member (fewest next_scalar xs) n ≡ is_member xs n
@@ -56,7 +59,8 @@ one-has-ends low high first last =
     All-cons (λ (r : ℕ × ℕ). IsScalar r.0 × IsScalar r.1) (low, high) [] (first, last) (All-nil (λ (r : ℕ × ℕ). IsScalar r.0 × IsScalar r.1))
 
 -- a front that is already merged
-pub fewest-front : (xs ys : List (ℕ × ℕ)) → HaveScalarEnds xs → HaveScalarEnds ys → fewest next_scalar (fewest next_scalar xs ++ ys) ≡ fewest next_scalar (xs ++ ys)
+pub fewest-front : (xs ys : List (ℕ × ℕ)) → HaveScalarEnds xs → HaveScalarEnds ys
+    → fewest next_scalar (fewest next_scalar xs ++ ys) ≡ fewest next_scalar (xs ++ ys)
 fewest-front xs ys h k =
     scalars-alike (fewest next_scalar xs ++ ys) (xs ++ ys) (both-ends (fewest next_scalar xs) ys (fewest-has-ends xs h) k) (both-ends xs ys h k)
     (front-members next_scalar IsScalar scalars-succeed xs ys (ends-from-scalars xs h))

@@ -74,7 +74,7 @@ fold_pairs-scalars = rises-scalar 0 fold_pairs fold_pairs-rises
 
 -- The ends of what is joined.
 
-ends-append : (xs ys : List (ℕ × ℕ)) → Ends IsScalar xs → Ends IsScalar ys → Ends IsScalar (xs ++ ys)
+pub ends-append : (xs ys : List (ℕ × ℕ)) → Ends IsScalar xs → Ends IsScalar ys → Ends IsScalar (xs ++ ys)
 ends-append [] ys h k = k
 ends-append (x ∷ xs) ys h k = (h.0, h.1, ends-append xs ys h.2 k)
 
@@ -90,7 +90,8 @@ joined-ends n (p ∷ ps) rs rises =
 
 all-joined-ends : (rs qs : List (ℕ × ℕ)) → Ends IsScalar (flat_map (joined_to_one fold_pairs) rs)
 all-joined-ends [] qs = tt
-all-joined-ends (r ∷ rs) qs = ends-append (joined_to_one fold_pairs r) (flat_map (joined_to_one fold_pairs) rs) (joined-ends 0 fold_pairs (r ∷ []) fold_pairs-rises) (all-joined-ends rs qs)
+all-joined-ends (r ∷ rs) qs = ends-append (joined_to_one fold_pairs r) (flat_map (joined_to_one fold_pairs) rs)
+    (joined-ends 0 fold_pairs (r ∷ []) fold_pairs-rises) (all-joined-ends rs qs)
 
 folded-ends : (rs : List (ℕ × ℕ)) → HaveScalarEnds rs → Ends IsScalar (rs ++ joined_to fold_pairs rs)
 folded-ends rs ends = ends-append rs (joined_to fold_pairs rs) (ends-from-scalars rs ends) (joined-ends 0 fold_pairs rs fold_pairs-rises)
@@ -145,7 +146,8 @@ shares-to rs c m own same true is =
     ap (λ b. b || list_any (joins rs c) fold_pairs) (ap (is_member rs) (sym (eqb-true m c is)) ∙ own)
 shares-to rs c m own same false is =
     let pair = (IsFoldPairs-fold_pairs m c).1 ((λ (e : m ≡ c). grind (arith, nat_tests)), same) in
-    let joined = list_any-from_Contains (joins rs c) fold_pairs (m, c) pair (ap (λ b. b && inside (c, c) c) own ∙ inside-true (c, c) c (omega arith) (omega arith)) in
+    let joined =
+    list_any-from_Contains (joins rs c) fold_pairs (m, c) pair (ap (λ b. b && inside (c, c) c) own ∙ inside-true (c, c) c (omega arith) (omega arith)) in
     ap (λ b. is_member rs c || b) joined ∙ or-right (is_member rs c)
 
 pub folded-orbits : (rs : List (ℕ × ℕ)) → HaveScalarEnds rs → (c : ℕ) → IsScalar c → IsTrue (is_member (folded rs) c) ↔ SharesFolding rs c

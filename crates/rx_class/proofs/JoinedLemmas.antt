@@ -19,7 +19,8 @@ single p = (p.1, p.1)
 abbrev pub joins : List (ℕ × ℕ) → ℕ → ℕ × ℕ → Bool
 joins rs n p = is_member rs p.0 && inside (p.1, p.1) n
 
-first-joined : (b : Bool) (p : ℕ × ℕ) (ps : List (ℕ × ℕ)) (n : ℕ) → is_member (map single (cond b (p ∷ ps) ps)) n ≡ ((b && inside (p.1, p.1) n) || is_member (map single ps) n)
+first-joined : (b : Bool) (p : ℕ × ℕ) (ps : List (ℕ × ℕ)) (n : ℕ) → is_member (map single (cond b (p ∷ ps) ps))
+    n ≡ ((b && inside (p.1, p.1) n) || is_member (map single ps) n)
 first-joined true p ps n = refl
 first-joined false p ps n = refl
 
@@ -41,7 +42,8 @@ joins-none : (ps : List (ℕ × ℕ)) (n : ℕ) → list_any (joins [] n) ps ≡
 joins-none [] n = refl
 joins-none (p ∷ ps) n = joins-none ps n
 
-joins-cons : (ps : List (ℕ × ℕ)) (r : ℕ × ℕ) (rs : List (ℕ × ℕ)) (n : ℕ) → list_any (joins (r ∷ rs) n) ps ≡ (list_any (joins (r ∷ []) n) ps || list_any (joins rs n) ps)
+joins-cons : (ps : List (ℕ × ℕ)) (r : ℕ × ℕ) (rs : List (ℕ × ℕ)) (n : ℕ)
+    → list_any (joins (r ∷ rs) n) ps ≡ (list_any (joins (r ∷ []) n) ps || list_any (joins rs n) ps)
 joins-cons [] r rs n = refl
 joins-cons (p ∷ ps) r rs n =
     ap (λ b. joins (r ∷ rs) n p || b) (joins-cons ps r rs n)
@@ -101,14 +103,16 @@ joined-none (p ∷ ps) r high =
     joined-left p r ps (inside-after r p.0 (high 0 (0, 0) (omega arith))) ∙ joined-none ps r (λ j d lt. high (suc j) d (omega arith))
 
 -- the pair at i joins a member
-pub joined-step : (ps found more : List (ℕ × ℕ)) (i : ℕ) (r p d : ℕ × ℕ) → i < length ps → p ≡ get_or ps i d → r.0 ≤ p.0 → p.0 ≤ r.1 → more ≡ found ++ (p.1, p.1) ∷ []
+pub joined-step : (ps found more : List (ℕ × ℕ)) (i : ℕ) (r p d : ℕ × ℕ) → i < length ps → p ≡ get_or ps i d → r.0 ≤ p.0 → p.0 ≤ r.1
+    → more ≡ found ++ (p.1, p.1) ∷ []
     → more ++ joined_to_one (drop (i + 1) ps) r ≡ found ++ joined_to_one (drop i ps) r
 joined-step ps found more i r p d lt is low high more_is =
     let here : drop i ps ≡ p ∷ drop (suc i) ps = drop-cons ps i d lt ∙ ap (λ (x : ℕ × ℕ). x ∷ drop (suc i) ps) (sym is) in
     rw (more_is, add-one, here, joined-kept p r (drop (suc i) ps) low high) (append_assoc found ((p.1, p.1) ∷ []) (joined_to_one (drop (suc i) ps) r))
 
 -- from the pair at i on none joins a member
-pub joined-done : (ps : List (ℕ × ℕ)) (i : ℕ) (r d : ℕ × ℕ) → IsNonDecreasingBy (λ (p : ℕ × ℕ). p.0) ps → i < length ps → r.1 < (get_or ps i d).0 → joined_to_one (drop i ps) r ≡ []
+pub joined-done : (ps : List (ℕ × ℕ)) (i : ℕ) (r d : ℕ × ℕ) → IsNonDecreasingBy (λ (p : ℕ × ℕ). p.0) ps → i < length ps → r.1 < (get_or ps i d).0
+    → joined_to_one (drop i ps) r ≡ []
 joined-done ps i r d up lt high =
     joined-none (drop i ps) r (λ j e within.
     let inside_ps : i + j < length ps = omega (arith, length-drop i ps) in

@@ -7,7 +7,7 @@ use Rattle.std.proofs.lemmas.Bool.Decides.{nat_tests}
 use Rattle.rx_model.specs.Text.{is_member}
 use Rattle.rx_class.specs.Ranges.{fewest, BeginPast, AreFewest}
 use Rattle.rx_class.specs.Merged.{extend, add, add_all}
-use Rattle.rx_class.proofs.RangeLemmas.{inside, inside-joined, inside-none, or-swap, or-assoc, IsSuccessor, Ends, max-counts, fewest-unique, fewest-fewest, fewest-ends, fewest-members}
+use Rattle.rx_class.proofs.RangeLemmas.{inside, inside-joined, inside-none, or-swap, or-assoc, IsSuccessor, Ends, max-counts, fewest-unique, fewest-fewest, fewest-ends, fewest-members, choose}
 
 -- every range begins at n or before
 abbrev BeginUpTo : ℕ → List (ℕ × ℕ) → Type 0
@@ -32,10 +32,6 @@ or-false : (b : Bool) → b ≡ (b || false)
 or-false true = refl
 or-false false = refl
 
-choose : (P : List (ℕ × ℕ) → Type 0) (b : Bool) (x y : List (ℕ × ℕ)) → (b ≡ true → P x) → (b ≡ false → P y) → P (if b then x else y)
-choose P true x y f g = f refl
-choose P false x y f g = g refl
-
 module _ (next : ℕ → ℕ) (Counts : ℕ → Type 0) (succ : IsSuccessor next Counts) where
   extend-past : (n low high : ℕ) (r : ℕ × ℕ) (rs : List (ℕ × ℕ)) → n < r.0 → BeginPast n (extend next (r ∷ rs) low high)
   extend-past n low high r [] past = choose (BeginPast n) (nat_lt (next r.1) low) _ _ (λ _. past) (λ _. past)
@@ -50,7 +46,8 @@ module _ (next : ℕ → ℕ) (Counts : ℕ → Type 0) (succ : IsSuccessor next
   extend-ends : (low high : ℕ) (rs : List (ℕ × ℕ)) → Counts low → Counts high → Ends Counts rs → Ends Counts (extend next rs low high)
   extend-ends low high [] first last ends = (first, last, tt)
   extend-ends low high (r ∷ []) first last ends =
-      choose (Ends Counts) (nat_lt (next r.1) low) _ _ (λ _. (ends.0, ends.1, (first, last, tt))) (λ _. (ends.0, max-counts next Counts succ r.1 high ends.1 last, tt))
+      choose (Ends Counts) (nat_lt (next r.1) low) _ _ (λ _. (ends.0, ends.1, (first, last, tt)))
+      (λ _. (ends.0, max-counts next Counts succ r.1 high ends.1 last, tt))
   extend-ends low high (r ∷ s ∷ rs) first last ends = (ends.0, ends.1, extend-ends low high (s ∷ rs) first last ends.2)
 
   extend-begin : (low high : ℕ) (rs : List (ℕ × ℕ)) → BeginUpTo low rs → BeginUpTo low (extend next rs low high)
@@ -81,14 +78,17 @@ module _ (next : ℕ → ℕ) (Counts : ℕ → Type 0) (succ : IsSuccessor next
     ends : Ends Counts all
     members : (n : ℕ) → Counts n → is_member all n ≡ (is_member xs n || is_member ys n)
 
-  added : (low : ℕ) (rs qs : List (ℕ × ℕ)) → AreFewest next rs → Ends Counts rs → BeginUpTo low rs → Rise low qs → Ends Counts qs → Hold rs qs (add_all next rs qs)
+  added : (low : ℕ) (rs qs : List (ℕ × ℕ)) → AreFewest next rs → Ends Counts rs → BeginUpTo low rs → Rise low qs → Ends Counts qs
+      → Hold rs qs (add_all next rs qs)
   added low rs [] h ends begin rise more = record { are_fewest = h; ends = ends; members = λ n counts. or-false (is_member rs n) }
   added low rs (q ∷ qs) h ends begin rise more =
       let begun : BeginUpTo q.0 rs = begin-later low q.0 rs rise.0 begin in
       choose (λ ys. Hold rs (q ∷ qs) (add_all next ys qs)) (nat_le q.0 q.1) _ _
       (λ e.
       let le = leb-true q.0 q.1 e in
-      let rest = added q.0 (extend next rs q.0 q.1) qs (extend-fewest q.0 q.1 rs le h) (extend-ends q.0 q.1 rs more.0 more.1 ends) (extend-begin q.0 q.1 rs begun) rise.1 more.2 in
+      let rest =
+      added q.0 (extend next rs q.0 q.1) qs (extend-fewest q.0 q.1 rs le h) (extend-ends q.0 q.1 rs more.0 more.1 ends) (extend-begin q.0 q.1 rs begun) rise.1
+      more.2 in
       record {
         are_fewest = rest.are_fewest;
         ends = rest.ends;
@@ -106,12 +106,14 @@ module _ (next : ℕ → ℕ) (Counts : ℕ → Type 0) (succ : IsSuccessor next
 
   -- sorted ranges, added one by one, are the fewest ranges of the same ranges in any order
   pub add_all-fewest : (sorted ranges : List (ℕ × ℕ)) → Rise 0 sorted → Ends Counts sorted → Ends Counts ranges
-      → ((n : ℕ) → is_member ranges n ≡ is_member sorted n) → AreFewest next (add_all next [] sorted) × Ends Counts (add_all next [] sorted) × (add_all next [] sorted ≡ fewest next ranges)
+      → ((n : ℕ) → is_member ranges n ≡ is_member sorted n) → AreFewest next (add_all next [] sorted) × Ends Counts (add_all next [] sorted)
+      × (add_all next [] sorted ≡ fewest next ranges)
   add_all-fewest sorted ranges rise ends all same =
       let held = added 0 [] sorted tt tt tt rise ends in (
         held.are_fewest,
         held.ends,
-        fewest-unique next Counts succ (add_all next [] sorted) (fewest next ranges) held.are_fewest (fewest-fewest next Counts succ ranges) held.ends (fewest-ends next Counts succ ranges all)
+        fewest-unique next Counts succ (add_all next [] sorted) (fewest next ranges) held.are_fewest (fewest-fewest next Counts succ ranges) held.ends
+            (fewest-ends next Counts succ ranges all)
             (λ n counts. held.members n counts ∙ sym (same n) ∙ sym (fewest-members next Counts succ ranges all n counts)),
       )
 
@@ -120,7 +122,8 @@ extend-last next [] r low high = refl
 extend-last next (q ∷ []) r low high = refl
 extend-last next (q ∷ s ∷ rs) r low high = ap (λ ys. q ∷ ys) (extend-last next (s ∷ rs) r low high)
 
-pub add-last : (next : ℕ → ℕ) (all rs : List (ℕ × ℕ)) (r : ℕ × ℕ) (low high : ℕ) → all ≡ rs ++ r ∷ [] → low ≤ high → add next all low high ≡ rs ++ extend next (r ∷ []) low high
+pub add-last : (next : ℕ → ℕ) (all rs : List (ℕ × ℕ)) (r : ℕ × ℕ) (low high : ℕ) → all ≡ rs ++ r ∷ [] → low ≤ high
+    → add next all low high ≡ rs ++ extend next (r ∷ []) low high
 add-last next all rs r low high e le =
     let ordered : nat_le low high ≡ true = grind (arith, nat_tests) in
     ap (λ b. if b then extend next all low high else all) ordered ∙ ap (λ ys. extend next ys low high) e ∙ extend-last next rs r low high

@@ -90,7 +90,11 @@ module _ (next previous : ℕ → ℕ) (greatest : ℕ) (Counts MayBegin : ℕ �
       let earlier = previous-below r.0 first (omega arith) in
       let above = order.successor.above r.1 in
       record {
-        are_fewest = (order.previous_from low r.0 may below, subst (λ (n : ℕ). BeginPast n rest) (sym joins) (others.begin r.0 (omega (arith, h.0))), others.are_fewest);
+        are_fewest = (
+          order.previous_from low r.0 may below,
+          subst (λ (n : ℕ). BeginPast n rest) (sym joins) (others.begin r.0 (omega (arith, h.0))),
+          others.are_fewest,
+        );
         ends = (order.begins_before low r.0 may first below, order.previous_counts r.0 first (omega arith), others.ends);
         begin = λ n less. less;
         members = λ n counts ge upto. elim (cases_lt n r.0) [

@@ -56,7 +56,8 @@ inside-joined a b low high n le ordered meets follows =
     let second = inside (a, b) n in
     elim (cases_lt b n) [
       | inl past ↦ elim (cases_lt high n) [
-        | inl beyond ↦ same-neither both first second (inside-after (min low a, max high b) n (omega arith)) (inside-after (low, high) n beyond) (inside-after (a, b) n past)
+        | inl beyond ↦ same-neither both first second (inside-after (min low a, max high b) n (omega arith)) (inside-after (low, high) n beyond)
+            (inside-after (a, b) n past)
         | inr within ↦
             let from : low ≤ n = meets past in
             same-first both first second (inside-true (min low a, max high b) n (omega arith) (omega arith)) (inside-true (low, high) n from within)
@@ -64,7 +65,8 @@ inside-joined a b low high n le ordered meets follows =
       | inr upto ↦ elim (cases_lt n a) [
         | inr from ↦ same-second both first second (inside-true (min low a, max high b) n (omega arith) (omega arith)) (inside-true (a, b) n from upto)
         | inl early ↦ elim (cases_lt n low) [
-          | inl before ↦ same-neither both first second (inside-before (min low a, max high b) n (omega arith)) (inside-before (low, high) n before) (inside-before (a, b) n early)
+          | inl before ↦ same-neither both first second (inside-before (min low a, max high b) n (omega arith)) (inside-before (low, high) n before)
+              (inside-before (a, b) n early)
           | inr since ↦
               let within : n ≤ high = elim (cases_lt high n) [ inl beyond ↦ let from = follows beyond in absurd (omega arith) | inr fits ↦ fits ] in
               same-first both first second (inside-true (min low a, max high b) n (omega arith) (omega arith)) (inside-true (low, high) n since within)
@@ -93,11 +95,16 @@ abbrev pub Ends : (ℕ → Type 0) → List (ℕ × ℕ) → Type 0
 Ends Counts [] = Unit {0}
 Ends Counts (r ∷ rs) = Counts r.0 × Counts r.1 × Ends Counts rs
 
-module _ (next : ℕ → ℕ) (Counts : ℕ → Type 0) (succ : IsSuccessor next Counts) where
-  past-weaker : (m n : ℕ) (rs : List (ℕ × ℕ)) → m ≤ n → BeginPast n rs → BeginPast m rs
-  past-weaker m n [] le past = tt
-  past-weaker m n (r ∷ rs) le past = omega arith
+-- what holds of both choices
+pub choose : (P : List (ℕ × ℕ) → Type 0) (b : Bool) (x y : List (ℕ × ℕ)) → (b ≡ true → P x) → (b ≡ false → P y) → P (if b then x else y)
+choose P true x y f g = f refl
+choose P false x y f g = g refl
 
+pub past-weaker : (m n : ℕ) (rs : List (ℕ × ℕ)) → m ≤ n → BeginPast n rs → BeginPast m rs
+past-weaker m n [] le past = tt
+past-weaker m n (r ∷ rs) le past = omega arith
+
+module _ (next : ℕ → ℕ) (Counts : ℕ → Type 0) (succ : IsSuccessor next Counts) where
   past-tail : (n : ℕ) (r : ℕ × ℕ) (rs : List (ℕ × ℕ)) → n ≤ r.1 → AreFewest next (r ∷ rs) → BeginPast n rs
   past-tail n r rs le h = past-weaker n (next r.1) rs (omega (arith, succ.above r.1)) h.1
 
@@ -221,7 +228,9 @@ module _ (next : ℕ → ℕ) (Counts : ℕ → Type 0) (succ : IsSuccessor next
   insert-members low high [] le first last h ends n counts = refl
   insert-members low high (r ∷ rs) le first last h ends n counts =
       let after = insert-members low high rs le first last h.2 ends.2 n counts in
-      let rest = insert-members (min low r.0) (max high r.1) rs (omega (arith, h.0)) (min-counts low r.0 first ends.0) (max-counts high r.1 last ends.1) h.2 ends.2 n counts in
+      let rest =
+      insert-members (min low r.0) (max high r.1) rs (omega (arith, h.0)) (min-counts low r.0 first ends.0) (max-counts high r.1 last ends.1) h.2 ends.2 n
+      counts in
       places (λ ys. is_member ys n ≡ (inside (low, high) n || is_member (r ∷ rs) n)) (nat_lt (next high) r.0) (nat_lt (next r.1) low) _ _ _
       (λ _. refl)
       (λ _. ap (λ b. inside r n || b) after ∙ or-swap (inside r n) (inside (low, high) n) (is_member rs n))
@@ -233,21 +242,17 @@ module _ (next : ℕ → ℕ) (Counts : ℕ → Type 0) (succ : IsSuccessor next
 
   -- Fewest ranges of any.
 
-  kept : (P : List (ℕ × ℕ) → Type 0) (b : Bool) (x y : List (ℕ × ℕ)) → (b ≡ true → P x) → (b ≡ false → P y) → P (if b then x else y)
-  kept P true x y f g = f refl
-  kept P false x y f g = g refl
-
   pub fewest-fewest : (rs : List (ℕ × ℕ)) → AreFewest next (fewest next rs)
   unfolding fewest
   fewest-fewest [] = tt
   fewest-fewest (r ∷ rs) =
-      kept (AreFewest next) (nat_le r.0 r.1) _ _ (λ e. insert-fewest r.0 r.1 (fewest next rs) (leb-true r.0 r.1 e) (fewest-fewest rs)) (λ _. fewest-fewest rs)
+      choose (AreFewest next) (nat_le r.0 r.1) _ _ (λ e. insert-fewest r.0 r.1 (fewest next rs) (leb-true r.0 r.1 e) (fewest-fewest rs)) (λ _. fewest-fewest rs)
 
   pub fewest-ends : (rs : List (ℕ × ℕ)) → Ends Counts rs → Ends Counts (fewest next rs)
   unfolding fewest
   fewest-ends [] ends = tt
   fewest-ends (r ∷ rs) ends =
-      kept (Ends Counts) (nat_le r.0 r.1) _ _ (λ _. insert-ends r.0 r.1 (fewest next rs) ends.0 ends.1 (fewest-ends rs ends.2)) (λ _. fewest-ends rs ends.2)
+      choose (Ends Counts) (nat_le r.0 r.1) _ _ (λ _. insert-ends r.0 r.1 (fewest next rs) ends.0 ends.1 (fewest-ends rs ends.2)) (λ _. fewest-ends rs ends.2)
 
   pub inside-none : (r : ℕ × ℕ) (n : ℕ) → nat_le r.0 r.1 ≡ false → inside r n ≡ false
   inside-none r n e = grind (arith, nat_tests)
@@ -257,8 +262,9 @@ module _ (next : ℕ → ℕ) (Counts : ℕ → Type 0) (succ : IsSuccessor next
   fewest-members [] ends n counts = refl
   fewest-members (r ∷ rs) ends n counts =
       let rest = fewest-members rs ends.2 n counts in
-      kept (λ ys. is_member ys n ≡ is_member (r ∷ rs) n) (nat_le r.0 r.1) _ _
-      (λ e. insert-members r.0 r.1 (fewest next rs) (leb-true r.0 r.1 e) ends.0 ends.1 (fewest-fewest rs) (fewest-ends rs ends.2) n counts ∙ ap (λ b. inside r n || b) rest)
+      choose (λ ys. is_member ys n ≡ is_member (r ∷ rs) n) (nat_le r.0 r.1) _ _
+      (λ e. insert-members r.0 r.1 (fewest next rs) (leb-true r.0 r.1 e) ends.0 ends.1 (fewest-fewest rs) (fewest-ends rs ends.2) n counts
+      ∙ ap (λ b. inside r n || b) rest)
       (λ e. rest ∙ sym (ap (λ b. b || is_member rs n) (inside-none r n e)))
 
   -- ranges with the same members have the same fewest ranges
@@ -274,7 +280,8 @@ module _ (next : ℕ → ℕ) (Counts : ℕ → Type 0) (succ : IsSuccessor next
   last-tells r (s ∷ rs) n d h =
       last-tells s rs n d h.2
       ∙ follows (nat_le r.1 n) (list_all (λ (q : ℕ × ℕ). nat_le q.1 n) (s ∷ rs))
-      (λ all. le-test r.1 n (omega (arith, succ.above r.1, h.1, h.2.0, leb-true s.1 n (and_parts (nat_le s.1 n) (list_all (λ (q : ℕ × ℕ). nat_le q.1 n) rs) all).0)))
+      (λ all. le-test r.1 n
+      (omega (arith, succ.above r.1, h.1, h.2.0, leb-true s.1 n (and_parts (nat_le s.1 n) (list_all (λ (q : ℕ × ℕ). nat_le q.1 n) rs) all).0)))
 
   pub last-decides : (rs : List (ℕ × ℕ)) (n : ℕ) (last d : ℕ × ℕ) → AreFewest next rs → 0 < length rs → last ≡ get_or rs (length rs - 1) d
       → nat_le last.1 n ≡ list_all (λ (q : ℕ × ℕ). nat_le q.1 n) rs

@@ -58,7 +58,8 @@ scalars-ordered = record {
 
 -- Complements.
 
-complement-outside : (rs : List (ℕ × ℕ)) → AreScalarRanges rs → IsOutside next_scalar previous_scalar 0x10FFFF IsScalar IsApart scalars-ordered 0 rs (complement rs)
+complement-outside : (rs : List (ℕ × ℕ)) → AreScalarRanges rs → IsOutside next_scalar previous_scalar 0x10FFFF IsScalar IsApart scalars-ordered 0 rs
+    (complement rs)
 complement-outside rs h = outside-holds next_scalar previous_scalar 0x10FFFF IsScalar IsApart scalars-ordered rs (ends-from-scalars rs h.1) h.0
 
 pub AreScalarRanges-complement : (rs : List (ℕ × ℕ)) → AreScalarRanges rs → AreScalarRanges (complement rs)

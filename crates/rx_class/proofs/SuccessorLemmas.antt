@@ -11,7 +11,7 @@ use Rattle.rx_class.specs.Merged.{add_all}
 use Rattle.rx_class.proofs.MergeLemmas.{rise-sorted, add_all-fewest}
 use Rattle.rx_class.proofs.RangeLemmas.{IsSuccessor, Ends}
 
-next_scalar-above : (c : ℕ) → c < next_scalar c
+pub next_scalar-above : (c : ℕ) → c < next_scalar c
 next_scalar-above c = grind (arith, nat_tests)
 
 next_scalar-between : (m n : ℕ) → IsScalar m → IsScalar n → m < n → next_scalar m ≤ n
@@ -49,8 +49,11 @@ scalars-from-ends (r ∷ rs) ends = All-cons (λ (r : ℕ × ℕ). IsScalar r.0 
 pub sorted-scalars : (ranges sorted : List (ℕ × ℕ)) → IsPermutation ranges sorted → IsNonDecreasingBy (λ (r : ℕ × ℕ). r.0) sorted → HaveScalarEnds sorted
     → AreScalarRanges (add_all next_scalar [] sorted) × (add_all next_scalar [] sorted ≡ fewest next_scalar ranges)
 sorted-scalars ranges sorted moved up ends =
-    let before : HaveScalarEnds ranges = All-permutation (λ (r : ℕ × ℕ). IsScalar r.0 × IsScalar r.1) sorted ranges (IsPermutation-sym ranges sorted moved) ends in
-    let held = add_all-fewest next_scalar IsScalar scalars-succeed sorted ranges (rise-sorted 0 sorted (λ d lt. omega arith) up) (ends-from-scalars sorted ends) (ends-from-scalars ranges before)
+    let before : HaveScalarEnds ranges =
+    All-permutation (λ (r : ℕ × ℕ). IsScalar r.0 × IsScalar r.1) sorted ranges (IsPermutation-sym ranges sorted moved) ends in
+    let held =
+    add_all-fewest next_scalar IsScalar scalars-succeed sorted ranges (rise-sorted 0 sorted (λ d lt. omega arith) up) (ends-from-scalars sorted ends)
+    (ends-from-scalars ranges before)
     (λ n. list_any-IsPermutation (λ (r : ℕ × ℕ). nat_le r.0 n && nat_le n r.1) ranges sorted moved) in
     ((held.0, scalars-from-ends (add_all next_scalar [] sorted) held.1), held.2)
 

@@ -92,6 +92,7 @@ fn settled(
             merge_at,
         });
     }
+    // They have doubled since the last time (DECISIONS: copies of a class share its ranges).
     let ranges = merged(alloc, &ranges)?;
     let merge_at = ranges.len().saturating_mul(2).max(FIRST_MERGE);
     Ok(GatheredUnicode {

@@ -10,8 +10,6 @@ mod folding;
 mod gathered;
 mod laws;
 mod scalars;
-#[cfg(test)]
-mod tests;
 
 pub use class::{Class, ClassBytes, ClassUnicode};
 pub use gathered::GatheredUnicode;

@@ -1,5 +1,13 @@
-//! Tests of both engines on one table of searches, below the regex that chooses between them.
+//! Tests of engines and strategies, below the regex that hides them.
 #![tactic(auto)]
 
 #[cfg(test)]
+mod backtrack;
+#[cfg(test)]
+mod expressions;
+#[cfg(test)]
+mod pikevm;
+#[cfg(test)]
 mod slots;
+#[cfg(test)]
+mod strategy;

@@ -582,3 +582,22 @@ fn searches_begin_at_candidates(rt: HostRuntime) -> Result<(), Fail> {
     sought(&rt, alloc, "[a-c]", b"b", &anchored, "0: 0..1")?;
     Ok(())
 }
+
+/// While a thread is alive the PikeVM asks no prefilter: a thread starts where a byte can begin a run. A needle that does not
+/// begin each match shows it.
+#[test]
+fn starts_beside_a_thread_go_by_the_byte(rt: HostRuntime) -> Result<(), Fail> {
+    let alloc = rt.alloc();
+    let mut needles = Vec::new(alloc);
+    needles.push(Vec::from_slice(alloc, b"a")?)?;
+    let pre = Prefilter::new(alloc, MatchKind::LeftmostFirst, &needles)?;
+    let pre = pre.expect(&rt, "a needle with bytes");
+    let nfa = nfa(&rt, alloc, &["a[bc]*d|b"]);
+    let found = simulated(alloc, nfa.clone()?, Some(pre.clone()?), &Input::new(b"abx"))?;
+    assert_eq!(&rt; found.as_str(), "0: 1..2");
+    let found = simulated(alloc, nfa.clone()?, Some(pre.clone()?), &Input::new(b"xbx"))?;
+    assert_eq!(&rt; found.as_str(), "none");
+    let found = backtracked(&rt, alloc, nfa, Some(pre), &Input::new(b"abx"))?;
+    assert_eq!(&rt; found.as_str(), "none");
+    Ok(())
+}

@@ -1,5 +1,5 @@
 -- A depth-first search that tries each state at each place of a span once.
-use Rattle.std.specs.Prelude.{◌≡◌, ◌⊎◌, ℕ, zero, suc, ◌+◌, ◌-◌, ◌*◌, ◌/◌, ◌%◌, ◌≤◌, Bool, ◌&&◌, ◌==◌, List, [], ◌∷◌, ◌++◌, length, Option, Some, None, nat_lt, nat_le, slice_index, slice_index_or, slice_set, if◌then◌else◌}
+use Rattle.std.specs.Prelude.{◌≡◌, ℕ, zero, suc, ◌+◌, ◌-◌, ◌*◌, ◌/◌, ◌%◌, Bool, ◌&&◌, ◌==◌, List, [], ◌∷◌, length, Option, Some, None, nat_lt, nat_le, slice_index, slice_set, if◌then◌else◌}
 use Rattle.std.specs.Int.{bit_at}
 use Rattle.rx_model.specs.Runs.{Configuration, PriorityGraph, Passed, found, first_trace}
 use Rattle.rx_model.specs.Machine.{grid}
@@ -8,7 +8,7 @@ use Rattle.rx_search.specs.Matches.{HalfMatchValue}
 use Rattle.rx_nfa.specs.Automaton.{state_at}
 use Rattle.rx_nfa.specs.declared.state.State.{State}
 use Rattle.rx_engines.specs.Simulation.{frames_of_state, frames_of_states}
-use Rattle.rx_engines.specs.Walk.{Slots, Answer, AllWithin, pending, explore_all}
+use Rattle.rx_engines.specs.Walk.{Slots, Answer, AllWithin, Yields, pending}
 use Rattle.rx_engines.specs.declared.frame.Frame.{Frame}
 use Rattle.rx_engines.specs.declared.frame.Frame.TheVariants.{Explore, Restore}
 use Rattle.rx_engines.specs.Search.{graph_for}
@@ -57,18 +57,6 @@ IsDead g passed = (c : Configuration) → found g passed c ≡ first_trace g c
 
 abbrev pub AllInside : Search → List Frame → Type 0
 AllInside s frames = AllWithin (length s.states.now) s.first s.end frames
-
--- the place is in the slot, and its old value on the stack, where there is room for the slot
-abbrev pub Saves : (slot place : ℕ) → (frames frames' : List Frame) → (slots slots' : Slots) → Type 0
-Saves slot place frames frames' slots slots' =
-    ((length slots ≤ slot) × (frames' ≡ frames) × (slots' ≡ slots))
-    ⊎ ((frames' ≡ Restore slot (slice_index_or slots slot None) ∷ frames) × (slots' ≡ slice_set slots slot (Some place)))
-
--- c, which doesn't accept, gives way to its successors. Where it writes a slot that is there, the old value is kept.
-pub record Yields (g : PriorityGraph) (c : Configuration) (frames frames' : List Frame) (slots slots' : Slots) : Type 0 where
-  pub accepts : g.accepted c ≡ None
-  pub goes_on : (((k : ℕ) → g.written c ≡ Some k → length slots ≤ k) × (frames' ≡ explore_all (g.successors c) ++ frames) × (slots' ≡ slots))
-      ⊎ ((k : ℕ) × (g.written c ≡ Some k) × (frames' ≡ explore_all (g.successors c) ++ (Restore k (slice_index_or slots k None) ∷ frames)) × (slots' ≡ slice_set slots k (Some c.place)))
 
 -- what the search did at c: the frames and the slots before and after
 abbrev pub Stepped : PriorityGraph → Configuration → Onward ℕ → (frames frames' : List Frame) → (slots slots' : Slots) → Type 0

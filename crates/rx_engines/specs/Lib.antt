@@ -5,6 +5,7 @@ pub mod Threads
 pub mod Simulation
 pub mod Search
 pub mod Room
+pub mod Buffers
 pub mod Engine
 pub mod Needles
 pub mod StartBytes

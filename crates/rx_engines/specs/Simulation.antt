@@ -1,5 +1,5 @@
 -- A simulation by ordered threads: what the threads at a place lead to, and what a step keeps true.
-use Rattle.std.specs.Prelude.{◌≡◌, ℕ, zero, suc, ◌+◌, ◌-◌, ◌≤◌, ◌<◌, Bool, true, false, List, [], ◌∷◌, length, replicate, Option, Some, None, MatchOption, option_map}
+use Rattle.std.specs.Prelude.{◌≡◌, ℕ, zero, suc, ◌+◌, ◌-◌, ◌≤◌, ◌<◌, Bool, true, false, List, [], ◌∷◌, length, replicate, Option, Some, None, is_some, MatchOption, option_map}
 use Rattle.std.specs.Option.{option_or}
 use Rattle.rx_model.specs.Runs.{Configuration, PriorityGraph, Passed, nowhere, found}
 use Rattle.rx_model.specs.Search.{Match}
@@ -7,7 +7,7 @@ use Rattle.rx_model.proofs.lemmas.runs.RunLemmas.{weight}
 use Rattle.rx_search.specs.Matches.{MatchValue}
 use Rattle.rx_nfa.specs.Automaton.{at, automaton, state_at, target_of}
 use Rattle.rx_nfa.specs.Ordered.{is_resting, line, passed_at, first_told, first_then, at_rest, first_of_starts}
-use Rattle.rx_engines.specs.Walk.{Slots, Answer, answer, pending, write_all, Expands}
+use Rattle.rx_engines.specs.Walk.{Slots, Answer, answer, pending, write_all, Yields}
 use Rattle.rx_nfa.specs.declared.state.State.{State}
 use Rattle.rx_nfa.specs.declared.state.State.TheVariants.{ByteRange, Sparse, Look, Union, Capture, Fail, Match as Accepts}
 use Rattle.rx_engines.specs.declared.frame.Frame.{Frame}
@@ -15,10 +15,9 @@ use Rattle.rx_engines.specs.Threads.{Row, row_at}
 use Rattle.rx_engines.specs.Onward.{onto}
 use Rattle.rx_engines.specs.declared.onward.Onward.{Onward}
 use Rattle.rx_engines.specs.declared.onward.Onward.TheVariants.{Stop, To, Back}
-use Rattle.rx_engines.specs.Search.{graph_until, is_offered, may_start}
+use Rattle.rx_engines.specs.Search.{graph_until, is_offered, may_start, OffersAll, answer_of, next_of}
 use Rattle.rx_engines.specs.declared.search.Search.{Search}
 use Rattle.rx_engines.specs.declared.pikevm.step.Accepted.{Accepted}
-use Rattle.rx_engines.specs.declared.pikevm.threads.Threads.{Threads}
 
 -- how many frames a state leaves on the stack: the alternates after the first, and the old value of a slot
 abbrev pub frames_of_state : State → ℕ
@@ -42,10 +41,6 @@ frames_at states c = frames_of_state (state_at states c.state)
 abbrev pub frames_to_come : List State → (i : ℕ) → List ℕ → ℕ
 frames_to_come states i items = weight (frames_at states) (line (length states) i) (passed_at items i)
 
--- for how many states the threads have room, for how many rows, and for how many slots in all
-abbrev pub room_of : Threads → ℕ × (ℕ × ℕ)
-room_of t = (t.set.capacity, (t.table.capacity, t.table.cells))
-
 -- an answer with the start of its match
 abbrev pub Hit : Type 0
 Hit = ℕ × Answer
@@ -66,18 +61,25 @@ abbrev pub among : List State → PriorityGraph → Passed → ℕ → List Row 
 among states g p i rows qs = first_told (thread states g p i rows) qs
 
 -- the threads at place i, then what the frames lead to, then what comes later
-pub record Waits (states : List State) (g : PriorityGraph) (i start : ℕ) (later : Passed → Option Hit) (items : List ℕ) (rows : List Row) (frames : List Frame) (slots : Slots) (goal : Option Hit) : Type 0 where
+pub record Waits (states : List State) (g : PriorityGraph) (i start : ℕ) (later : Passed → Option Hit) (items : List ℕ) (rows : List Row) (frames : List Frame)
+    (slots : Slots) (goal : Option Hit) : Type 0 where
   pub value : first_then (thread states g nowhere i rows) items i (λ p. option_or (hit start (pending (found g p) frames slots)) (later p)) ≡ goal
 
 -- the threads at place i, and then what comes later
-pub record Closed (states : List State) (g : PriorityGraph) (i : ℕ) (later : Passed → Option Hit) (items : List ℕ) (rows : List Row) (goal : Option Hit) : Type 0 where
+pub record Closed (states : List State) (g : PriorityGraph) (i : ℕ) (later : Passed → Option Hit) (items : List ℕ) (rows : List Row)
+    (goal : Option Hit) : Type 0 where
   pub value : first_then (thread states g nowhere i rows) items i later ≡ goal
+
+-- A thread from state q adds none at a place where these states were passed.
+abbrev pub IsVain : List State → (items : List ℕ) → (q : ℕ) → Type 0
+IsVain states items q =
+    (terminator : ℕ) (text : List ℕ) (end i : ℕ) → i ≤ end → found (automaton terminator states text end) (passed_at items i) (at q i) ≡ None
 
 -- the state rests, or gives way to others
 abbrev pub Visited : (terminator : ℕ) → List State → List ℕ → ℕ → ℕ → Bool → List Frame → List Frame → Slots → Slots → Type 0
 Visited terminator states text q i true frames frames' slots slots' = (is_resting (state_at states q) ≡ true) × (frames' ≡ frames) × (slots' ≡ slots)
 Visited terminator states text q i false frames frames' slots slots' =
-    (is_resting (state_at states q) ≡ false) × ((end : ℕ) → i ≤ end → Expands (automaton terminator states text end) (at q i) frames frames' slots slots')
+    (is_resting (state_at states q) ≡ false) × ((end : ℕ) → i ≤ end → Yields (automaton terminator states text end) (at q i) frames frames' slots slots')
 
 -- the state that was looked at rests
 abbrev pub rests : {T : Type 0} → Onward T → Bool
@@ -122,11 +124,18 @@ MayPass s matched threads i k = (j : ℕ) → i ≤ j → j < k → (matched ≡
 abbrev pub GoesOn : Search → (matched : Bool) → (threads i : ℕ) → Option ℕ → Type 0
 GoesOn s matched threads i r = MatchOption r (MayPass s matched threads i (s.end + 1)) (λ k. (i ≤ k) × (k ≤ s.end) × MayPass s matched threads i k)
 
-module _ (s : Search) (end : ℕ) where
+module _ (offered : ℕ → Bool) (s : Search) (end : ℕ) where
   -- the first match that starts at i or after it, past what was passed
   abbrev pub from_starts : Passed → (i : ℕ) → Option Match
-  from_starts p i = first_of_starts (graph_until s end) (may_start s) s.start (s.last + 1 - i) i p
+  from_starts p i = first_of_starts (graph_until s end) (may_start offered s) s.start (s.last + 1 - i) i p
 
   -- the best match so far, and else the starts to come
   abbrev pub later_starts : (width : ℕ) → Option Hit → (i : ℕ) → Passed → Option Hit
   later_starts width best i p = option_or best (option_map (hit_of width) (from_starts p i))
+
+-- What was found: for some test that offers all candidates, the match of the places that are offered, with so many slots.
+pub record IsFound (s : Search) (earliest : Bool) (width : ℕ) (result : Option MatchValue) (slots : Slots) : Type 0 where
+  pub offered : ℕ → Bool
+  pub offers : OffersAll s offered
+  pub value : best_hit result slots ≡ option_map (hit_of width) (answer_of offered s earliest)
+  pub any : is_some result ≡ is_some (next_of offered s)

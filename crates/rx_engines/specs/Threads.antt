@@ -49,6 +49,16 @@ rows_of width (start ∷ starts) cells = (start, take width cells) ∷ rows_of w
 abbrev pub row_at : List Row → ℕ → Row
 row_at rows q = slice_index_or rows q (0, [])
 
+-- slots, within a room
+pub record Cells : Type 0 where
+  pub items : Slots
+  pub room : ℕ
+
+abbrev pub cells_code : Coded Cells
+cells_code =
+    code_by (List (Option ℕ) × ℕ) (coded× (coded_list (coded_option coded_ℕ)) coded_ℕ) (λ c. (c.items, c.room))
+    (λ p. record { items = p.0; room = p.1 }) (λ _. refl)
+
 -- frames, the top first, within a room
 pub record Frames : Type 0 where
   pub items : List Frame
@@ -69,5 +79,6 @@ frame_parts_back (Restore slot old) = refl
 abbrev pub frames_code : Coded Frames
 frames_code =
     code_by (List Frame × ℕ)
-    (coded× (coded_list (code_by ((ℕ × ℕ) ⊎ (ℕ × Option ℕ)) (coded⊎ (coded× coded_ℕ coded_ℕ) (coded× coded_ℕ (coded_option coded_ℕ))) frame_parts frame_of frame_parts_back)) coded_ℕ)
+    (coded× (coded_list (code_by ((ℕ × ℕ) ⊎ (ℕ × Option ℕ)) (coded⊎ (coded× coded_ℕ coded_ℕ) (coded× coded_ℕ (coded_option coded_ℕ))) frame_parts frame_of
+    frame_parts_back)) coded_ℕ)
     (λ s. (s.items, s.room)) (λ p. record { items = p.0; room = p.1 }) (λ _. refl)

@@ -1,5 +1,5 @@
 -- A walk over the states, depth first: what its frames lead to.
-use Rattle.std.specs.Prelude.{◌≡◌, ◌<◌, ◌≤◌, ℕ, ◌⊎◌, List, [], ◌∷◌, ◌++◌, Option, Some, None, slice_set, slice_index_or}
+use Rattle.std.specs.Prelude.{◌≡◌, ◌<◌, ◌≤◌, ℕ, ◌⊎◌, List, [], ◌∷◌, ◌++◌, length, Option, Some, None, slice_set, slice_index_or}
 use Rattle.std.specs.Option.{option_or}
 use Rattle.rx_model.specs.Runs.{Configuration, PriorityGraph, Trace}
 use Rattle.rx_engines.specs.declared.frame.Frame.{Frame}
@@ -46,8 +46,15 @@ AllWithin n first end [] = Unit {0}
 AllWithin n first end (Explore q i ∷ rest) = (q < n) × (first ≤ i) × (i ≤ end) × AllWithin n first end rest
 AllWithin n first end (Restore slot old ∷ rest) = AllWithin n first end rest
 
--- c, which doesn't accept, gives way to its successors: the frames and the slots before and after
-pub record Expands (g : PriorityGraph) (c : Configuration) (frames frames' : List Frame) (slots slots' : Slots) : Type 0 where
+-- the place is in the slot, and its old value on the stack, where there is room for the slot
+abbrev pub Saves : (slot place : ℕ) → (frames frames' : List Frame) → (slots slots' : Slots) → Type 0
+Saves slot place frames frames' slots slots' =
+    ((length slots ≤ slot) × (frames' ≡ frames) × (slots' ≡ slots))
+    ⊎ ((frames' ≡ Restore slot (slice_index_or slots slot None) ∷ frames) × (slots' ≡ slice_set slots slot (Some place)))
+
+-- c, which doesn't accept, gives way to its successors. Where it writes a slot that is there, the old value is kept.
+pub record Yields (g : PriorityGraph) (c : Configuration) (frames frames' : List Frame) (slots slots' : Slots) : Type 0 where
   pub accepts : g.accepted c ≡ None
-  pub goes_on : ((g.written c ≡ None) × (frames' ≡ explore_all (g.successors c) ++ frames) × (slots' ≡ slots))
-      ⊎ ((k : ℕ) × (g.written c ≡ Some k) × (frames' ≡ explore_all (g.successors c) ++ (Restore k (slice_index_or slots k None) ∷ frames)) × (slots' ≡ slice_set slots k (Some c.place)))
+  pub goes_on : (((k : ℕ) → g.written c ≡ Some k → length slots ≤ k) × (frames' ≡ explore_all (g.successors c) ++ frames) × (slots' ≡ slots))
+      ⊎ ((k : ℕ) × (g.written c ≡ Some k) × (frames' ≡ explore_all (g.successors c) ++ (Restore k (slice_index_or slots k None) ∷ frames))
+      × (slots' ≡ slice_set slots k (Some c.place)))

@@ -11,6 +11,3 @@ mod visited;
 
 pub use backtracker::BoundedBacktracker;
 pub use cache::Cache;
-
-#[cfg(test)]
-mod tests;

@@ -1,7 +1,7 @@
 //! The places at which a match may begin, by what an engine knows before a search.
 ghost use Rattle.std.specs.Prelude.{◌≡◌, ◌≤◌, length, take, is_some};
 ghost use Rattle.rx_prefilter.specs.Needles.{span_at};
-ghost use Rattle.rx_engines.specs.Candidates.{needles_of, AreOf, is_candidate, IsNext};
+ghost use Rattle.rx_engines.specs.Candidates.{AreOf, is_begun, is_candidate, IsNext};
 
 mod start_bytes;
 
@@ -10,55 +10,52 @@ use rx_prefilter::Prefilter;
 use rx_search::Span;
 use start_bytes::StartBytes;
 
-/// What an engine knows beforehand of where its matches begin: each begins at a candidate.
+// The same of both engines (DECISIONS: both engines begin threads at candidates).
+/// What an engine knows beforehand of where its matches begin.
 #[derive(Drop)]
-pub enum Candidates {
-    /// Any place is a candidate.
-    Any,
-    /// Those at which a byte of the set stands.
-    Bytes(StartBytes),
-    /// Those at which a needle of the prefilter lies.
-    Needles(Prefilter),
+pub struct Candidates {
+    /// A needle of it lies where a match begins.
+    pub needles: Option<Prefilter>,
+    /// One of these bytes stands where a match begins.
+    pub bytes: Option<StartBytes>,
 }
 
 impl Candidates {
-    /// What is known of an NFA: by the prefilter, if there is one, and else by the bytes that begin its runs.
+    /// What is known of an NFA, with the prefilter that was handed in, if one was.
     pub fn of(nfa: &NFA, pre: Option<Prefilter>) -> Candidates
-        ensures needles { needles_of result ≡ pre }
+        ensures needles { result.needles ≡ pre }
         ensures known { AreOf nfa.now result }
     {
-        match pre {
-            Some(prefilter) => Candidates::Needles(prefilter),
-            None => match StartBytes::of(nfa.states(), nfa.start_anchored()) {
-                Some(bytes) => Candidates::Bytes(bytes),
-                None => Candidates::Any,
-            },
+        let bytes = StartBytes::of(nfa.states(), nfa.start_anchored());
+        Candidates {
+            needles: pre,
+            bytes,
         }
     }
 
-    /// Whether the place is a candidate, in a search up to `end`.
-    pub fn has(&self, text: &[u8], end: usize, place: usize) -> bool
+    /// Whether a match may begin at the place, in a search up to `end`, by one look at the byte there.
+    pub fn may_begin(&self, text: &[u8], end: usize, place: usize) -> bool
         requires { (place ≤ end) × (end ≤ length text.now) }
-        ensures { result ≡ is_candidate self.now text.now end place }
+        ensures { result ≡ is_begun self.now text.now end place }
     {
-        match self {
-            Candidates::Any => true,
-            Candidates::Bytes(bytes) => bytes.stand_at(text, end, place),
-            Candidates::Needles(prefilter) => prefilter
-                .prefix(text, Span { start: place, end })
-                .is_some(),
+        match &self.bytes {
+            Some(bytes) => bytes.stand_at(text, end, place),
+            None => true,
         }
     }
 
-    /// The first candidate from the place on, in a search up to `end`.
+    /// The first candidate from the place on, in a search up to `end`. A candidate is a place at which a needle lies, and
+    /// without needles one at which a match may begin by its byte.
     pub fn next(&self, text: &[u8], end: usize, place: usize) -> Option<usize>
         requires { (place ≤ end) × (end ≤ length text.now) }
         ensures { IsNext (is_candidate self.now text.now end) end place result }
     {
-        match self {
-            Candidates::Any => Some(place),
-            Candidates::Bytes(bytes) => bytes.next(text, end, place),
-            Candidates::Needles(prefilter) => next_needle(prefilter, text, end, place),
+        match &self.needles {
+            Some(prefilter) => next_needle(prefilter, text, end, place),
+            None => match &self.bytes {
+                Some(bytes) => bytes.next(text, end, place),
+                None => Some(place),
+            },
         }
     }
 }

@@ -4,11 +4,10 @@
 //! The contract of both is the next match, with slots.
 #![tactic(auto)]
 
+// For any NFA that has the runs of patterns, whoever made it (DECISIONS: the engines stand in a crate of their own).
 mod accounting;
 pub mod backtrack;
 mod candidates;
-#[cfg(test)]
-mod expressions;
 mod frame;
 mod onward;
 pub mod pikevm;
@@ -17,5 +16,6 @@ mod search;
 mod slots;
 mod stack;
 mod starts;
+mod threads;
 
 pub use slots::empty;

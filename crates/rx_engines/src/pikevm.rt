@@ -1,8 +1,10 @@
 //! A simulation of an NFA by an ordered list of threads, each with its slots. It looks at each place once, and
 //! there at each state at most once: by its form, its work is bounded by the places times the transitions.
 
+mod buffers;
 mod cache;
 mod close;
+mod row;
 mod seed;
 mod set;
 mod simulate;
@@ -10,9 +12,7 @@ mod step;
 mod table;
 mod threads;
 mod vm;
+mod walk;
 
 pub use cache::Cache;
 pub use vm::PikeVM;
-
-#[cfg(test)]
-mod tests;

@@ -7,13 +7,14 @@ ghost use Rattle.rx_nfa.specs.Nfa.{IsInRange};
 ghost use Rattle.rx_nfa.specs.Automaton.{byte_at, target_of};
 ghost use Rattle.rx_engines.specs.Engine.{IsSearchOf, HasNoMatch};
 ghost use Rattle.rx_engines.specs.Candidates.{IsNext};
-ghost use Rattle.rx_engines.specs.Search.{is_offered, may_start};
+ghost use Rattle.rx_engines.specs.Search.{is_offered, may_begin};
 
 use crate::candidates::Candidates;
-use crate::starts::{is_allowed, latest_start, start_state};
+use crate::starts::{latest_start, start_state};
 use rx_nfa::{NFA, State, Transition, matches_byte};
 use rx_search::{Input, Look, LookMatcher, StateID};
 
+// One of them serves the PikeVM and the backtracker (DECISIONS: both engines have one `Search`).
 /// What is searched for a match, and where.
 #[derive(Drop)]
 pub struct Search<'a> {
@@ -25,7 +26,7 @@ pub struct Search<'a> {
     pub matcher: LookMatcher,
     /// No match starts inside an encoded character.
     pub utf8: bool,
-    /// Where matches may begin.
+    /// Where matches may begin, by what is known before the search.
     pub candidates: &'a Candidates,
     /// A match may begin at other places than the first one. Where it may not, the candidates are not asked.
     pub free: bool,
@@ -61,6 +62,7 @@ impl<'a> Search<'a> {
             matcher: *nfa.look_matcher(),
             utf8: nfa.is_utf8(),
             candidates,
+            // There is one place to look at (DECISIONS: a search that is anchored asks no candidates).
             free: !input.get_anchored().is_anchored(),
             first: input.start(),
             last: latest_start(input),
@@ -69,21 +71,13 @@ impl<'a> Search<'a> {
         })
     }
 
-    /// Whether a thread starts at the place.
-    pub fn may_start(&self, place: usize) -> bool
+    /// Whether a match may begin at the place, by one look at the byte there.
+    pub fn may_begin(&self, place: usize) -> bool
         requires { (place ≤ self.now.end) × (self.now.end ≤ length self.now.text.now) }
-        ensures { result ≡ may_start self.now place }
-    {
-        self.is_offered(place) && is_allowed(self.text, self.utf8, place)
-    }
-
-    /// Whether a match may begin at the place, by what is known before the search.
-    fn is_offered(&self, place: usize) -> bool
-        requires { (place ≤ self.now.end) × (self.now.end ≤ length self.now.text.now) }
-        ensures { result ≡ is_offered self.now place }
+        ensures { result ≡ may_begin self.now place }
     {
         if self.free {
-            self.candidates.has(self.text, self.end, place)
+            self.candidates.may_begin(self.text, self.end, place)
         } else {
             true
         }

@@ -78,6 +78,18 @@ pub fn clear(slots: &mut [Slot])
     }
 }
 
+/// Copies the slots over as many others. Where there are none, nothing is done.
+pub fn copy(from: &[Slot], to: &mut [Slot])
+    requires { length from.now ≡ length to.old }
+    ensures { to.new ≡ from.now }
+{
+    if from.len() == 0 {
+        return;
+    }
+    to.copy_from_slice(from);
+}
+
+// Callers see the type of the original (DECISIONS: slots are `Option<NonMaxUsize>`).
 /// Copies the slots as far as they go, and leaves None in those after them.
 pub fn report(slots: &[Slot], to: &mut [Option<NonMaxUsize>])
     ensures { (k : ℕ) → k < length to.new

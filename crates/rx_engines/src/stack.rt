@@ -1,10 +1,11 @@
 //! The stack of frames, within a fixed room.
 ghost use Rattle.std.specs.Prelude.{◌≡◌, ◌+◌, ◌-◌, ◌^◌, ◌<◌, ◌≤◌, max, vec_capacity, [], ◌∷◌, ◌++◌, length, map, reverse, IfOk, OnOk, OnErr, IsOk, IfSome, IfNone};
 ghost use Rattle.rx_nfa.specs.Automaton.{at};
-ghost use Rattle.rx_engines.specs.Walk.{explore_all, going_to};
+ghost use Rattle.rx_engines.specs.Walk.{explore_all, going_to, Saves};
 ghost use Rattle.rx_engines.specs.Threads.{Frames, frames_code};
 
 use crate::frame::Frame;
+use crate::slots::Slot;
 use rx_search::{Memory, StateID};
 use std::alloc::Global;
 use std::marker::Model;
@@ -99,4 +100,23 @@ pub fn choose(alternates: &[StateID], place: usize, stack: &mut Stack) -> Option
         });
     }
     Some(*first)
+}
+
+/// Writes the place into the slot, where there is room for it. The old value is on the stack.
+pub fn save(stack: &mut Stack, slots: &mut [Slot], slot: usize, place: usize)
+    requires place { place < usize.MAX }
+    requires room { length stack.old.items < stack.old.room }
+    ensures saved { Saves slot place stack.old.items stack.new.items slots.old slots.new }
+    ensures frames { length stack.new.items ≤ 1 + length stack.old.items }
+    ensures room { stack.new.room ≡ stack.old.room }
+    ensures width { length slots.new ≡ length slots.old }
+{
+    if slot >= slots.len() {
+        return;
+    }
+    stack.push(Frame::Restore {
+        slot,
+        old: slots[slot],
+    });
+    slots[slot] = Slot::at(place);
 }

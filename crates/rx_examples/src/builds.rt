@@ -54,7 +54,7 @@ fn a_refusal_says_which_pattern_and_why(rt: HostRuntime) -> Result<(), Fail> {
     let alloc = rt.alloc();
     let error = Regex::new_many(alloc, &["a", "(b"]).err();
     let error = error.ok_or("no refusal")?;
-    let cause = error.syntax_error().ok_or("no memory")?;
+    let cause = error.syntax_error().ok_or("no cause")?;
     let text = format!(in alloc; "{error}: {} at {}", cause.kind, cause.start)?;
     assert_eq!(rt;
         text.as_str(),

@@ -1,4 +1,4 @@
-//! The examples of docs/GUIDE.md and README.md, as tests: what the documents show is run by the gate.
+//! The examples of docs/GUIDE.md and README.md, as tests: what the documents show is run by the full check.
 #![tactic(auto)]
 
 #[cfg(test)]
@@ -9,3 +9,5 @@ mod builds;
 mod scans;
 #[cfg(test)]
 mod searches;
+#[cfg(test)]
+mod values;

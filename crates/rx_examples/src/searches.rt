@@ -33,7 +33,7 @@ fn several_patterns_at_once(rt: HostRuntime) -> Result<(), Fail> {
     let regex = Regex::new_many(alloc, &["[a-z]+", "[0-9]+", "a"])?;
     let found = regex.find(&rt, alloc, &Input::new(b"7a"))?;
     assert_eq!(rt; whole(found), Some((1, 0, 1)));
-    // At one start the least pattern is told.
+    // At one start the pattern of least number is told.
     let found = regex.find(&rt, alloc, &Input::new(b"a7"))?;
     assert_eq!(rt; whole(found), Some((0, 0, 1)));
     Ok(())

@@ -6,37 +6,30 @@ use Rattle.std.specs.List.{All, list_all}
 use Rattle.std.proofs.lemmas.Bool.Decides.{nat_tests}
 use Rattle.std.proofs.lemmas.List.Elements.{All-cons}
 use Rattle.std.proofs.lemmas.Str.{len_utf8_bounds}
+use Rattle.std.proofs.Math.Bool.{and-true}
 use Rattle.rx_model.specs.Text.{scalar_ranges, byte_ranges}
 use Rattle.rx_model.specs.Length.{shorter, shortest_of, shortest_scalar, shortest_byte}
-use Rattle.rx_model.proofs.lemmas.meaning.LengthLemmas.{shortest-first}
+use Rattle.rx_model.proofs.lemmas.meaning.LengthLemmas.{shortest-first, len_utf8-rises}
 use Rattle.rx_hir.specs.Length.{longer, longest_of, longest_scalar, scalar_until, saturated, in_64_bits}
 use Rattle.rx_model.specs.Expression.{class}
 use Rattle.rx_hir.specs.PropertiesViews.{AreOf, AreSimple}
 use Rattle.rx_hir.specs.declared.hir.properties.Properties.{Properties}
 use Rattle.rx_class.specs.Ranges.{next_scalar, BeginPast, AreFewest, HaveScalarEnds, AreScalarRanges, AreByteRanges}
-
-next_scalar-above : (c : ℕ) → c < next_scalar c
-next_scalar-above c = grind (arith, nat_tests)
-
-begin-past : (m n : ℕ) (rs : List (ℕ × ℕ)) → m ≤ n → BeginPast n rs → BeginPast m rs
-begin-past m n [] le past = tt
-begin-past m n (r ∷ rs) le past = omega arith
+use Rattle.rx_class.proofs.SuccessorLemmas.{next_scalar-above}
+use Rattle.rx_class.proofs.RangeLemmas.{past-weaker}
 
 -- the ranges begin from n on
 begin-from : (n : ℕ) (rs : List (ℕ × ℕ)) → BeginPast n rs → AreFewest next_scalar rs → All (λ (q : ℕ × ℕ). n ≤ q.0) rs
 begin-from n [] past fewest = λ k d lt. absurd (omega arith)
 begin-from n (r ∷ rs) past fewest =
     let above = next_scalar-above r.1 in
-    All-cons (λ (q : ℕ × ℕ). n ≤ q.0) r rs (omega arith) (begin-from n rs (begin-past n (next_scalar r.1) rs (omega (arith, fewest.0)) fewest.1) fewest.2)
+    All-cons (λ (q : ℕ × ℕ). n ≤ q.0) r rs (omega arith) (begin-from n rs (past-weaker n (next_scalar r.1) rs (omega (arith, fewest.0)) fewest.1) fewest.2)
 
 pub shortest_scalar-first : (r : ℕ × ℕ) (rs : List (ℕ × ℕ)) → AreScalarRanges (r ∷ rs) → shortest_of shortest_scalar (r ∷ rs) ≡ Some (len_utf8 r.0)
 shortest_scalar-first r rs h =
     let above = next_scalar-above r.1 in
     let ends = h.1 0 r (omega arith) in
-    shortest-first r rs ends.0 h.0.0 (begin-from r.0 rs (begin-past r.0 (next_scalar r.1) rs (omega (arith, h.0.0)) h.0.1) h.0.2)
-
-len_utf8-rises : (a b : ℕ) → a ≤ b → len_utf8 a ≤ len_utf8 b
-len_utf8-rises a b le = grind (arith, nat_tests)
+    shortest-first r rs ends.0 h.0.0 (begin-from r.0 rs (past-weaker r.0 (next_scalar r.1) rs (omega (arith, h.0.0)) h.0.1) h.0.2)
 
 longest_scalar-end : (r : ℕ × ℕ) → IsScalar r.1 → r.0 ≤ r.1 → longest_scalar r ≡ Some (len_utf8 r.1)
 longest_scalar-end r s le =
@@ -112,11 +105,7 @@ byte-rest r s rs h = omega (arith, h.1, h.2.0)
 -- where the last is below a number, all are
 below-last : (r : ℕ × ℕ) (rs : List (ℕ × ℕ)) (d : ℕ × ℕ) → AreByteRanges (r ∷ rs)
     → (list_all (λ (q : ℕ × ℕ). nat_lt q.1 0x80) (r ∷ rs) ≡ nat_lt (get_or (r ∷ rs) (length rs) d).1 0x80) × (r.1 ≤ (get_or (r ∷ rs) (length rs) d).1)
-below-last r [] d h = (and-true_right (nat_lt r.1 0x80), omega arith)
-  where
-    and-true_right : (b : Bool) → (b && true) ≡ b
-    and-true_right true = refl
-    and-true_right false = refl
+below-last r [] d h = (and-true (nat_lt r.1 0x80), omega arith)
 below-last r (s ∷ rs) d h =
     let later = below-last s rs d h.2 in
     let up = byte-rest r s rs h in

@@ -59,7 +59,8 @@ module _ (terminator : ℕ) (text : List ℕ) where
         let long = length-encode r.0 in
         let count : m.0 ≡ len_utf8 r.0 = is.3 ∙ ap len_utf8 c in
         let ends = m.2 in
-        let goes : drop i text ≡ encode_utf8 r.0 ++ drop m.0 (drop i text) = sym (take-drop m.0 (drop i text)) ∙ ap (λ bs. bs ++ drop m.0 (drop i text)) bytes in
+        let goes : drop i text ≡ encode_utf8 r.0 ++ drop m.0 (drop i text) =
+        sym (take-drop m.0 (drop i text)) ∙ ap (λ bs. bs ++ drop m.0 (drop i text)) bytes in
         (stands_at_from text i (encode_utf8 r.0) (drop m.0 (drop i text)) goes, omega arith),
   )
     where
@@ -70,7 +71,10 @@ module _ (terminator : ℕ) (text : List ℕ) where
 
   pub scalars-mean : (rs : List (ℕ × ℕ)) → AreScalarRanges rs → Same (M (class_of (scalar_ranges rs))) (M (class (scalar_ranges rs)))
   unfolding Means
-  scalars-mean [] are = λ i j. (λ m. absurd (fail-means terminator text i j m), λ m. (let is = member_len-is text [] i m.0 m.1 in absurd (true≢false (sym is.2))))
+  scalars-mean [] are = λ i j. (
+    λ m. absurd (fail-means terminator text i j m),
+    λ m. (let is = member_len-is text [] i m.0 m.1 in absurd (true≢false (sym is.2))),
+  )
   scalars-mean (r ∷ []) are =
       let ends = are.1 0 r (omega arith) in
       by_test (r.0 == r.1)
@@ -139,7 +143,8 @@ module _ (terminator : ℕ) (text : List ℕ) where
       once (suc zero) le few p = subst (M sub i) p.2 p.1
       once (suc (suc n)) le few p = absurd (omega arith)
 
-  copies-mean : (least : ℕ) (greatest : Option ℕ) (greedy : Bool) (sub : Expression) → Same (M (copies_of least greatest greedy sub)) (M (repetition least greatest greedy sub))
+  copies-mean : (least : ℕ) (greatest : Option ℕ) (greedy : Bool) (sub : Expression)
+      → Same (M (copies_of least greatest greedy sub)) (M (repetition least greatest greedy sub))
   unfolding Means
   copies-mean zero None greedy sub = same-itself (M (repetition zero None greedy sub))
   copies-mean zero (Some zero) greedy sub = no-copies greedy sub
@@ -185,7 +190,8 @@ module _ (terminator : ℕ) (text : List ℕ) where
   enough zero least = 0
   enough (suc n) least = max least 1
 
-  enough-count : (least : ℕ) (greatest : Option ℕ) (n : ℕ) → IfSome greatest (λ m. least ≤ m) → IsCount (min least 1) (Some (at_most_one greatest)) n → IsCount least greatest (enough n least)
+  enough-count : (least : ℕ) (greatest : Option ℕ) (n : ℕ) → IfSome greatest (λ m. least ≤ m) → IsCount (min least 1) (Some (at_most_one greatest)) n
+      → IsCount least greatest (enough n least)
   enough-count least None zero ordered c = let le = c.0 in (omega arith, tt)
   enough-count least None (suc n) ordered c = (omega arith, tt)
   enough-count least (Some m) zero ordered c = let le = c.0 in (omega arith, omega arith)
@@ -217,7 +223,8 @@ module _ (terminator : ℕ) (text : List ℕ) where
       → Same (M (repetition_of least greatest greedy sub)) (M (repetition least greatest greedy sub))
   repetition-means least greatest greedy sub ordered =
       by_test (is_zero (maximum_len sub))
-      (λ e. rw e (same-then (M (copies_of (min least 1) (Some (at_most_one greatest)) greedy sub)) (M (repetition (min least 1) (Some (at_most_one greatest)) greedy sub)) (M (repetition least greatest greedy sub))
+      (λ e. rw e (same-then (M (copies_of (min least 1) (Some (at_most_one greatest)) greedy sub))
+      (M (repetition (min least 1) (Some (at_most_one greatest)) greedy sub)) (M (repetition least greatest greedy sub))
       (copies-mean (min least 1) (Some (at_most_one greatest)) greedy sub)
       (empty-copies least greatest greedy sub ordered (zero-len (maximum_len sub) e))))
       (λ e. rw e (copies-mean least greatest greedy sub))

@@ -18,7 +18,8 @@ join-one : (a : List ℕ) (y h : Expression) → join_literals (literal a) (and_
 join-one a (literal b) (literal c) = ap (λ bytes. literal bytes ∷ []) (sym (append_assoc a b c))
 join-one a y h = refl
 
-join-more : (a : List ℕ) (y z : Expression) (ys : List Expression) (h : Expression) → join_literals (literal a) (and_then (y ∷ z ∷ ys) h) ≡ and_then (join_literals (literal a) (y ∷ z ∷ ys)) h
+join-more : (a : List ℕ) (y z : Expression) (ys : List Expression) (h : Expression)
+    → join_literals (literal a) (and_then (y ∷ z ∷ ys) h) ≡ and_then (join_literals (literal a) (y ∷ z ∷ ys)) h
 join-more a (literal b) z ys h = refl
 join-more a y z ys h = refl
 
@@ -39,7 +40,8 @@ joined-and_then (x ∷ xs) h = ap (λ ys. join_literals x ys) (joined-and_then x
 
 pub joined-append : (xs ys : List Expression) → joined (xs ++ ys) ≡ and_then_all (joined xs) ys
 joined-append xs [] = ap joined (append-nil xs)
-joined-append xs (y ∷ ys) = ap joined (sym (append_assoc xs (y ∷ []) ys)) ∙ joined-append (xs ++ y ∷ []) ys ∙ ap (λ zs. and_then_all zs ys) (joined-and_then xs y)
+joined-append xs (y ∷ ys) = ap joined (sym (append_assoc xs (y ∷ []) ys)) ∙ joined-append (xs ++ y ∷ []) ys
+    ∙ ap (λ zs. and_then_all zs ys) (joined-and_then xs y)
 
 pub and_then-last : (xs : List Expression) (g h : Expression) → and_then (xs ++ g ∷ []) h ≡ xs ++ join_literals g (h ∷ [])
 and_then-last [] g h = refl
@@ -109,7 +111,8 @@ apart-other parts hs all bytes h before other is = record {
   apart = ap ends_in_literal is ∙ ends-other (with_bytes parts bytes) h other;
 }
 
-pub expressions-drop : (hs : List Expression) (i : ℕ) (h : Expression) → i < length hs → h ≡ get_or hs i h → expressions (drop i hs) ≡ cons h (expressions (drop (i + 1) hs))
+pub expressions-drop : (hs : List Expression) (i : ℕ) (h : Expression) → i < length hs → h ≡ get_or hs i h
+    → expressions (drop i hs) ≡ cons h (expressions (drop (i + 1) hs))
 expressions-drop hs i h lt e = at_drop_more expressions hs i h lt ∙ ap (λ g. cons g (expressions (drop (i + 1) hs))) (sym e)
 
 pub drop-past : {A : Type 0} (xs : List A) (i : ℕ) → length xs ≤ i → drop i xs ≡ []

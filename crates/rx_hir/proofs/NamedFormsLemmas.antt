@@ -42,7 +42,8 @@ module _ (g : ℕ) (n : Option (List ℕ)) where
   copies-named (suc zero) (Some (suc (suc m))) greedy sub s = s
   copies-named (suc (suc least)) greatest greedy sub s = s
 
-  pub repetition-named : (least : ℕ) (greatest : Option ℕ) (greedy : Bool) (sub : Expression) → IsNamed g n (repetition_of least greatest greedy sub) → IsNamed g n sub
+  pub repetition-named : (least : ℕ) (greatest : Option ℕ) (greedy : Bool) (sub : Expression) → IsNamed g n (repetition_of least greatest greedy sub)
+      → IsNamed g n sub
   repetition-named least greatest greedy sub s =
       by_test (is_zero (maximum_len sub))
       (λ e. copies-named (min least 1) (Some (at_most_one greatest)) greedy sub (rw e at s))
@@ -77,7 +78,8 @@ module _ (g : ℕ) (n : Option (List ℕ)) where
   parts-named (capture group name sub) s = only-named (capture group name sub) s
   parts-named (alternation subs) s = only-named (alternation subs) s
 
-  flat-named : (f : Expression → List Expression) → ((h : Expression) → Some_has (f h) → IsNamed g n h) → (hs : List Expression) → Some_has (flat_map f hs) → Some_has hs
+  flat-named : (f : Expression → List Expression) → ((h : Expression) → Some_has (f h) → IsNamed g n h) → (hs : List Expression) → Some_has (flat_map f hs)
+      → Some_has hs
   unfolding IsNamed
   flat-named f each [] s = s
   flat-named f each (h ∷ hs) s =

@@ -65,7 +65,8 @@ only-there group name g other = cond-false (g == group) name None (grind (arith,
 
 only-past : (group : ℕ) (name : Option (List ℕ)) (g : ℕ) (xs : List (Option (List ℕ))) → group < g → filled (only_at group name) g xs ≡ xs
 only-past group name g [] lt = refl
-only-past group name g (x ∷ xs) lt = λ i. (ap (option_or x) (only-there group name g (λ e. omega arith)) ∙ or-none x) i ∷ only-past group name (g + 1) xs (omega arith) i
+only-past group name g (x ∷ xs) lt = λ i. (ap (option_or x) (only-there group name g (λ e. omega arith)) ∙ or-none x) i ∷ only-past group name (g + 1) xs
+    (omega arith) i
 
 pub set-filled : (xs : List (Option (String Global))) (i g group : ℕ) (d new : Option (String Global)) → i < length xs → group ≡ g + i
     → option_map string_bytes (get_or xs i d) ≡ None
@@ -74,16 +75,19 @@ set-filled [] i g group d new lt e none = absurd (omega arith)
 set-filled (x ∷ xs) zero g group d new lt e none =
     let name = option_map string_bytes new in
     let is : group ≡ g = omega arith in
-    let first : option_or (option_map string_bytes x) (only_at group name g) ≡ name = ap (λ o. option_or o (only_at group name g)) none ∙ only-here group name g is in
+    let first : option_or (option_map string_bytes x) (only_at group name g) ≡ name =
+    ap (λ o. option_or o (only_at group name g)) none ∙ only-here group name g is in
     let rest = only-past group name (g + 1) (names_of xs) (omega arith) in
     λ k. sym first k ∷ sym rest k
 set-filled (x ∷ xs) (suc i) g group d new lt e none =
     let name = option_map string_bytes new in
-    let first : option_or (option_map string_bytes x) (only_at group name g) ≡ option_map string_bytes x = ap (option_or (option_map string_bytes x)) (only-there group name g (λ is. omega arith)) ∙ or-none (option_map string_bytes x) in
+    let first : option_or (option_map string_bytes x) (only_at group name g) ≡ option_map string_bytes x =
+    ap (option_or (option_map string_bytes x)) (only-there group name g (λ is. omega arith)) ∙ or-none (option_map string_bytes x) in
     let rest = set-filled xs i (g + 1) group d new (omega arith) (omega arith) none in
     λ k. sym first k ∷ rest k
 
-pub kept-filled : (xs : List (Option (String Global))) (i g group : ℕ) (d : Option (String Global)) (old : List ℕ) (name : Option (List ℕ)) → i < length xs → group ≡ g + i
+pub kept-filled : (xs : List (Option (String Global))) (i g group : ℕ) (d : Option (String Global)) (old : List ℕ) (name : Option (List ℕ)) → i < length xs
+    → group ≡ g + i
     → option_map string_bytes (get_or xs i d) ≡ Some old
     → names_of xs ≡ filled (only_at group name) g (names_of xs)
 kept-filled [] i g group d old name lt e some = absurd (omega arith)
@@ -93,7 +97,8 @@ kept-filled (x ∷ xs) zero g group d old name lt e some =
     let rest = only-past group name (g + 1) (names_of xs) (omega arith) in
     λ k. sym first k ∷ sym rest k
 kept-filled (x ∷ xs) (suc i) g group d old name lt e some =
-    let first : option_or (option_map string_bytes x) (only_at group name g) ≡ option_map string_bytes x = ap (option_or (option_map string_bytes x)) (only-there group name g (λ is. omega arith)) ∙ or-none (option_map string_bytes x) in
+    let first : option_or (option_map string_bytes x) (only_at group name g) ≡ option_map string_bytes x =
+    ap (option_or (option_map string_bytes x)) (only-there group name g (λ is. omega arith)) ∙ or-none (option_map string_bytes x) in
     let rest = kept-filled xs i (g + 1) group d old name (omega arith) (omega arith) some in
     λ k. sym first k ∷ rest k
 

@@ -31,7 +31,8 @@ class-ordered members = or-ordered (set_of members) (set-ordered members) (only_
 
 -- Repetitions.
 
-copies-ordered : (least : ℕ) (greatest : Option ℕ) (greedy : Bool) (sub : Expression) → IfSome greatest (λ m. least ≤ m) → AreOrdered sub → AreOrdered (copies_of least greatest greedy sub)
+copies-ordered : (least : ℕ) (greatest : Option ℕ) (greedy : Bool) (sub : Expression) → IfSome greatest (λ m. least ≤ m) → AreOrdered sub
+    → AreOrdered (copies_of least greatest greedy sub)
 unfolding AreOrdered
 copies-ordered zero None greedy sub in_order own = (in_order, own)
 copies-ordered zero (Some zero) greedy sub in_order own = tt
@@ -43,7 +44,7 @@ copies-ordered (suc zero) (Some (suc (suc m))) greedy sub in_order own = (in_ord
 copies-ordered (suc (suc least)) greatest greedy sub in_order own = (in_order, own)
 
 -- where no more than one copy counts
-at-most-one : (least : ℕ) (greatest : Option ℕ) → IfSome greatest (λ m. least ≤ m) → min least 1 ≤ at_most_one greatest
+pub at-most-one : (least : ℕ) (greatest : Option ℕ) → IfSome greatest (λ m. least ≤ m) → min least 1 ≤ at_most_one greatest
 at-most-one least None in_order = omega arith
 at-most-one least (Some m) in_order = omega arith
 
@@ -51,7 +52,8 @@ either-ordered : (b : Bool) (x y : Expression) → AreOrdered x → AreOrdered y
 either-ordered true x y first other = first
 either-ordered false x y first other = other
 
-pub repetition-ordered : (least : ℕ) (greatest : Option ℕ) (greedy : Bool) (sub : Expression) → IfSome greatest (λ m. least ≤ m) → AreOrdered sub → AreOrdered (repetition_of least greatest greedy sub)
+pub repetition-ordered : (least : ℕ) (greatest : Option ℕ) (greedy : Bool) (sub : Expression) → IfSome greatest (λ m. least ≤ m) → AreOrdered sub
+    → AreOrdered (repetition_of least greatest greedy sub)
 repetition-ordered least greatest greedy sub in_order own =
     either-ordered (is_zero (maximum_len sub)) _ _
     (copies-ordered (min least 1) (Some (at_most_one greatest)) greedy sub (at-most-one least greatest in_order) own)
@@ -80,7 +82,8 @@ list-ordered (cons h hs) own = (own.0, list-ordered hs own.1)
 only-ordered : (h : Expression) → AreOrdered h → HaveOrder (h ∷ [])
 only-ordered h own = cons-ordered h [] own none-ordered
 
-flat-ordered : (f : Expression → List Expression) → ((h : Expression) → AreOrdered h → HaveOrder (f h)) → (hs : List Expression) → HaveOrder hs → HaveOrder (flat_map f hs)
+flat-ordered : (f : Expression → List Expression) → ((h : Expression) → AreOrdered h → HaveOrder (f h)) → (hs : List Expression) → HaveOrder hs
+    → HaveOrder (flat_map f hs)
 unfolding AreOrdered
 flat-ordered f each [] own = tt
 flat-ordered f each (h ∷ hs) own = append-ordered (f h) (flat_map f hs) (each h own.0) (flat-ordered f each hs own.1)

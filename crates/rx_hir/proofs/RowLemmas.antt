@@ -15,7 +15,7 @@ same-itself R i j = (λ m. m, λ m. m)
 pub same-then : (R S T : ℕ → ℕ → Type 0) → Same R S → Same S T → Same R T
 same-then R S T a b i j = (λ m. (b i j).0 ((a i j).0 m), λ m. (a i j).1 ((b i j).1 m))
 
-expressions-list_of : (hs : Expressions) → expressions (list_of hs) ≡ hs
+pub expressions-list_of : (hs : Expressions) → expressions (list_of hs) ≡ hs
 expressions-list_of nil = refl
 expressions-list_of (cons h hs) = ap (cons h) (expressions-list_of hs)
 
@@ -67,7 +67,8 @@ module _ (terminator : ℕ) (text : List ℕ) where
     λ m. row-append (parts_of h) (flat_map parts_of hs) i m.0 j ((row-parts h i m.0).1 m.1) ((row-flat hs m.0 j).1 m.2),
   )
 
-  literal-split : (a b : List ℕ) (i j : ℕ) → Means terminator text (literal (a ++ b)) i j → (k : ℕ) × Means terminator text (literal a) i k × Means terminator text (literal b) k j
+  literal-split : (a b : List ℕ) (i j : ℕ) → Means terminator text (literal (a ++ b)) i j
+      → (k : ℕ) × Means terminator text (literal a) i k × Means terminator text (literal b) k j
   unfolding Means
   literal-split a b i j m =
       let rest = drop (i + length (a ++ b)) text in
@@ -85,7 +86,8 @@ module _ (terminator : ℕ) (text : List ℕ) where
           same-rest [] ys xs e = e
           same-rest (x ∷ a) ys xs e = same-rest a ys xs (ap (drop 1) e)
 
-  literal-join : (a b : List ℕ) (i k j : ℕ) → Means terminator text (literal a) i k → Means terminator text (literal b) k j → Means terminator text (literal (a ++ b)) i j
+  literal-join : (a b : List ℕ) (i k j : ℕ) → Means terminator text (literal a) i k → Means terminator text (literal b) k j
+      → Means terminator text (literal (a ++ b)) i j
   unfolding Means
   literal-join a b i k j first later =
       let place = first.1 in
@@ -93,7 +95,8 @@ module _ (terminator : ℕ) (text : List ℕ) where
       let long = length-append a b in
       let rest = drop (k + length b) text in
       let whole : drop i text ≡ (a ++ b) ++ rest =
-      stands_at_parts text i a first.0 ∙ ap (λ n. a ++ drop n text) place ∙ ap (λ bs. a ++ bs) (stands_at_parts text k b later.0) ∙ sym (append_assoc a b rest) in
+      stands_at_parts text i a first.0 ∙ ap (λ n. a ++ drop n text) place ∙ ap (λ bs. a ++ bs) (stands_at_parts text k b later.0)
+      ∙ sym (append_assoc a b rest) in
       (stands_at_from text i (a ++ b) rest whole, omega arith)
 
   row-join : (h : Expression) (hs : List Expression) → Same (Row (join_literals h hs)) (Row (h ∷ hs))

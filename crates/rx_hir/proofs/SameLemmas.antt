@@ -13,6 +13,7 @@ use Rattle.rx_hir.specs.declared.hir.Repetition.{Repetition}
 use Rattle.rx_hir.specs.declared.hir.Capture.{Capture}
 use Rattle.rx_hir.specs.declared.hir.HirKind.{HirKind}
 use Rattle.rx_hir.specs.declared.hir.HirKind.TheVariants.{Empty, Literal, Class as Set, Look as Assertion, Repetition as Copies, Capture as Group, Concat, Alternation}
+use Rattle.std.proofs.lemmas.Bool.{and_right}
 
 pub other-empty : (kind : HirKind) → (kind ≡ Empty → ⊥) → is_same empty (kind_view kind) ≡ false
 unfolding is_same
@@ -46,12 +47,14 @@ unfolding is_same
 other-capture group name sub (Group g) other = absurd (other g refl)
 other-capture group name sub kind other = refl
 
-pub other-concat : (subs : Expressions) (kind : HirKind) → ((hs : Vec Expression Global) → kind ≡ Concat hs → ⊥) → is_same (concat subs) (kind_view kind) ≡ false
+pub other-concat : (subs : Expressions) (kind : HirKind) → ((hs : Vec Expression Global) → kind ≡ Concat hs → ⊥)
+    → is_same (concat subs) (kind_view kind) ≡ false
 unfolding is_same
 other-concat subs (Concat hs) other = absurd (other hs refl)
 other-concat subs kind other = refl
 
-pub other-alternation : (subs : Expressions) (kind : HirKind) → ((hs : Vec Expression Global) → kind ≡ Alternation hs → ⊥) → is_same (alternation subs) (kind_view kind) ≡ false
+pub other-alternation : (subs : Expressions) (kind : HirKind) → ((hs : Vec Expression Global) → kind ≡ Alternation hs → ⊥)
+    → is_same (alternation subs) (kind_view kind) ≡ false
 unfolding is_same
 other-alternation subs (Alternation hs) other = absurd (other hs refl)
 other-alternation subs kind other = refl
@@ -59,17 +62,13 @@ other-alternation subs kind other = refl
 pub and-no : (a b : Bool) → a ≡ false → (a && b) ≡ false
 and-no a b e = rw e refl
 
-no-and : (a b : Bool) → b ≡ false → (a && b) ≡ false
-no-and true b e = e
-no-and false b e = refl
-
 -- lists of other lengths
 pub long-apart : (gs hs : List Expression) → length gs ≢ length hs → are_same (expressions gs) (expressions hs) ≡ false
 unfolding is_same
 long-apart [] [] apart = absurd (apart refl)
 long-apart [] (h ∷ hs) apart = refl
 long-apart (g ∷ gs) [] apart = refl
-long-apart (g ∷ gs) (h ∷ hs) apart = no-and (is_same g h) (are_same (expressions gs) (expressions hs)) (long-apart gs hs (λ e. apart (omega arith)))
+long-apart (g ∷ gs) (h ∷ hs) apart = and_right (is_same g h) (are_same (expressions gs) (expressions hs)) (long-apart gs hs (λ e. apart (omega arith)))
 
 pub sames-drop : (gs hs : List Expression) (i : ℕ) (g h : Expression) → i < length gs → i < length hs → g ≡ get_or gs i g → h ≡ get_or hs i h
     → are_same (expressions (drop i gs)) (expressions (drop i hs)) ≡ (is_same g h && are_same (expressions (drop (i + 1) gs)) (expressions (drop (i + 1) hs)))

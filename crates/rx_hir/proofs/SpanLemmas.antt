@@ -8,10 +8,11 @@ use Rattle.std.specs.Char.{IsScalar, len_utf8}
 use Rattle.rx_model.specs.Text.{Class, scalar_ranges, byte_ranges, is_member, member_len}
 use Rattle.rx_model.specs.Expression.{Expression, Expressions, empty, literal, class, look, repetition, capture, concat, alternation, nil, cons}
 use Rattle.rx_model.specs.Meaning.{Pieces, Means, MeansInTurn, MeansOne}
-use Rattle.rx_model.specs.Length.{plus, shortest_byte}
+use Rattle.rx_model.specs.Length.{shortest_byte}
 use Rattle.rx_model.proofs.lemmas.runs.RunLemmas.{by_test}
 use Rattle.rx_model.proofs.lemmas.meaning.CharLemmas.{member_len-is, byte_len-is}
 use Rattle.rx_hir.specs.Length.{times, greater, longer, scalar_until, longest_scalar, longest_of, longest_member, maximum_len, sum_of_maximum_len, greatest_maximum_len, saturated, in_64_bits}
+use Rattle.rx_model.proofs.lemmas.meaning.LengthLemmas.{len_utf8-rises, plus-some}
 
 -- a length that is known, and at least n
 abbrev IsReached : Option ℕ → ℕ → Type 0
@@ -27,15 +28,13 @@ longer-right None b n h = h
 longer-right (Some x) None n h = absurd (none-some h.0 h.1)
 longer-right (Some x) (Some y) n h = let e : y ≡ h.0 = same_Some y h.0 h.1 in let le = h.2 in (max x y, refl, omega arith)
 
-longest-reached : (longest : ℕ × ℕ → Option ℕ) (rs : List (ℕ × ℕ)) (c n : ℕ) → ((r : ℕ × ℕ) → r.0 ≤ c → c ≤ r.1 → IsReached (longest r) n) → is_member rs c ≡ true → IsReached (longest_of longest rs) n
+longest-reached : (longest : ℕ × ℕ → Option ℕ) (rs : List (ℕ × ℕ)) (c n : ℕ) → ((r : ℕ × ℕ) → r.0 ≤ c → c ≤ r.1 → IsReached (longest r) n)
+    → is_member rs c ≡ true → IsReached (longest_of longest rs) n
 longest-reached longest [] c n each h = absurd (true≢false (sym h))
 longest-reached longest (r ∷ rs) c n each h =
     by_test (nat_le r.0 c && nat_le c r.1)
     (λ e. longer-left (longest r) (longest_of longest rs) n (each r (grind (arith, nat_tests)) (grind (arith, nat_tests))))
     (λ e. longer-right (longest r) (longest_of longest rs) n (longest-reached longest rs c n each (rw e at h)))
-
-len_utf8-rises : (c d : ℕ) → c ≤ d → len_utf8 c ≤ len_utf8 d
-len_utf8-rises c d le = grind (arith, nat_tests)
 
 longest_scalar-reached : (r : ℕ × ℕ) (c : ℕ) → IsScalar c → r.0 ≤ c → c ≤ r.1 → IsReached (longest_scalar r) (len_utf8 c)
 longest_scalar-reached r c s low high =
@@ -56,11 +55,6 @@ class-reached text (byte_ranges rs) i n h =
     let m = byte_len-is text rs i n h in
     let x = longest-reached shortest_byte rs _ 1 (λ r low high. shortest_byte-reached r _ low high) m.2 in
     (x.0, x.1, (let le = x.2 in let e = m.0 in omega arith))
-
-plus-some : (a b : Option ℕ) (n : ℕ) → plus a b ≡ Some n → (x y : ℕ) × (a ≡ Some x) × (b ≡ Some y) × (x + y ≡ n)
-plus-some None b n h = absurd (none-some n h)
-plus-some (Some x) None n h = absurd (none-some n h)
-plus-some (Some x) (Some y) n h = (x, y, refl, refl, same_Some (x + y) n h)
 
 greater-some : (a b : Option ℕ) (n : ℕ) → greater a b ≡ Some n → (x y : ℕ) × (a ≡ Some x) × (b ≡ Some y) × (x ≤ n) × (y ≤ n)
 greater-some None b n h = absurd (none-some n h)

@@ -8,13 +8,15 @@ use Rattle.rx_hir.specs.declared.hir.properties.Properties.{Properties}
 use Rattle.rx_hir.proofs.JoinedLemmas.{drop-past}
 
 -- without patterns there are no expressions
-pub union-none : (hs : List Expression) (ps : List Properties) (p : Properties) → length ps ≤ 0 → AreOf (alternation nil) p → AreOfEach hs ps → AreOf (alternation (expressions hs)) p
+pub union-none : (hs : List Expression) (ps : List Properties) (p : Properties) → length ps ≤ 0 → AreOf (alternation nil) p → AreOfEach hs ps
+    → AreOf (alternation (expressions hs)) p
 union-none [] ps p le none each = none
 union-none (h ∷ hs) [] p le none each = absurd each
 union-none (h ∷ hs) (q ∷ ps) p le none each = absurd (omega arith)
 
 -- the last
-last-of : (hs : List Expression) (q : Properties) (ps : List Properties) (p : Properties) → ps ≡ [] → ((h : Expression) → AreOf h q → AreOf (alternation (cons h nil)) p)
+last-of : (hs : List Expression) (q : Properties) (ps : List Properties) (p : Properties) → ps ≡ []
+    → ((h : Expression) → AreOf h q → AreOf (alternation (cons h nil)) p)
     → AreOfEach hs (q ∷ ps) → AreOf (alternation (expressions hs)) p
 last-of [] q ps p none alone each = absurd each
 last-of (h ∷ []) q ps p none alone each = alone h each.0

@@ -55,7 +55,8 @@ only-byte : (rs : List (ℕ × ℕ)) → is_utf8_class (byte_ranges rs) ≡ true
 only-byte [] is = tt
 only-byte (r ∷ []) is = if-one (r.0 == r.1) r.0 r.1 refl (and_parts (nat_lt r.1 0x80) true is).0
   where
-    if-one : (b : Bool) (low high : ℕ) → (low == high) ≡ b → nat_lt high 0x80 ≡ true → IfSome (option_map (λ (b : ℕ). b ∷ []) (if b then Some low else None)) IsUtf8
+    if-one : (b : Bool) (low high : ℕ) → (low == high) ≡ b → nat_lt high 0x80 ≡ true
+        → IfSome (option_map (λ (b : ℕ). b ∷ []) (if b then Some low else None)) IsUtf8
     if-one true low high one small = one-ascii low (grind (arith, nat_tests))
     if-one false low high one small = tt
 only-byte (r ∷ s ∷ rs) is = tt
@@ -117,7 +118,8 @@ parts-utf8 (repetition least greatest greedy sub) is = only-utf8 (repetition lea
 parts-utf8 (capture group name sub) is = only-utf8 (capture group name sub) is
 parts-utf8 (alternation subs) is = only-utf8 (alternation subs) is
 
-flat-utf8 : (f : Expression → List Expression) → ((h : Expression) → HasUtf8 h → HaveUtf8 (f h)) → (hs : List Expression) → HaveUtf8 hs → HaveUtf8 (flat_map f hs)
+flat-utf8 : (f : Expression → List Expression) → ((h : Expression) → HasUtf8 h → HaveUtf8 (f h)) → (hs : List Expression) → HaveUtf8 hs
+    → HaveUtf8 (flat_map f hs)
 flat-utf8 f each [] are = refl
 flat-utf8 f each (h ∷ hs) are =
     let both = and_parts (is_utf8 h) (are_utf8 (expressions hs)) are in

@@ -59,7 +59,8 @@ one-ascii b lt = IsUtf8-from_ascii (b ∷ []) (each)
     each zero = lt
     each (suc i) = omega arith
 
-class-utf8 : (text : List ℕ) (members : Class) → is_utf8_class members ≡ true → (i n j : ℕ) → member_len text members i ≡ Some n → i + n ≡ j → IsUtf8 (part text i j)
+class-utf8 : (text : List ℕ) (members : Class) → is_utf8_class members ≡ true → (i n j : ℕ) → member_len text members i ≡ Some n → i + n ≡ j
+    → IsUtf8 (part text i j)
 class-utf8 text (scalar_ranges rs) all i n j h e =
     let m = member_len-is text rs i n h in
     part-len text i n j _ e m.4 (IsUtf8-encode m.0 m.1)
@@ -69,7 +70,8 @@ class-utf8 text (byte_ranges rs) all i n j h e =
     let one : take n (drop i text) ≡ b ∷ [] = ap (λ k. take k (drop i text)) m.0 ∙ one-byte text i m.1 in
     part-len text i n j (b ∷ []) e one (one-ascii b (small-member rs b all m.2))
 
-pieces-utf8 : (text : List ℕ) (R : ℕ → ℕ → Type 0) → ((i j : ℕ) → R i j → (i ≤ j) × IsUtf8 (part text i j)) → (n i j : ℕ) → Pieces R n i j → (i ≤ j) × IsUtf8 (part text i j)
+pieces-utf8 : (text : List ℕ) (R : ℕ → ℕ → Type 0) → ((i j : ℕ) → R i j → (i ≤ j) × IsUtf8 (part text i j)) → (n i j : ℕ) → Pieces R n i j
+    → (i ≤ j) × IsUtf8 (part text i j)
 pieces-utf8 text R each zero i j e = (omega arith, part-nothing text i j e)
 pieces-utf8 text R each (suc n) i j h =
     let first = each i h.0 h.1 in

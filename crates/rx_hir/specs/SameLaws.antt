@@ -20,7 +20,8 @@ same-range q r = (
       let low = (unsigned_Decides q.0 r.0).0 both.0 in
       let high = (unsigned_Decides q.1 r.1).0 both.1 in
       λ i. (low i, high i),
-  λ e. and_from (nat_eq q.0 r.0) (nat_eq q.1 r.1) ((unsigned_Decides q.0 r.0).1 (ap (λ (p : ℕ × ℕ). p.0) e)) ((unsigned_Decides q.1 r.1).1 (ap (λ (p : ℕ × ℕ). p.1) e)),
+  λ e. and_from (nat_eq q.0 r.0) (nat_eq q.1 r.1) ((unsigned_Decides q.0 r.0).1 (ap (λ (p : ℕ × ℕ). p.0) e))
+      ((unsigned_Decides q.1 r.1).1 (ap (λ (p : ℕ × ℕ). p.1) e)),
 )
 
 same-class-to : (a b : Class) → same_class a b ≡ true → a ≡ b
@@ -95,7 +96,8 @@ mutual
   same-itself (repetition least greatest greedy a) =
       and_from ((least == least) && (same_count greatest greatest && beq greedy greedy)) (is_same a a)
       (and_from (least == least) (same_count greatest greatest && beq greedy greedy) ((unsigned_Decides least least).1 refl)
-      (and_from (same_count greatest greatest) (beq greedy greedy) (same-option-itself nat_eq unsigned_Decides greatest) ((booleans_Decides greedy greedy).1 refl)))
+      (and_from (same_count greatest greatest) (beq greedy greedy) (same-option-itself nat_eq unsigned_Decides greatest)
+      ((booleans_Decides greedy greedy).1 refl)))
       (same-itself a)
   same-itself (capture group name a) =
       and_from ((group == group) && same_name name name) (is_same a a)

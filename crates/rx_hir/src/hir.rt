@@ -58,6 +58,7 @@ pub enum HirKind {
     Look(Look),
     /// Copies of the body, one after another.
     Repetition(Repetition),
+    // Its number is above 0 by its type (DECISIONS: a group's number is a `NonZeroUsize`).
     /// A capture group.
     Capture(Capture),
     /// One after another.

@@ -18,6 +18,3 @@ pub use hir::{
 };
 pub use rx_class::{Class, ClassBytes, ClassUnicode, fewest_ranges_hold_the_members};
 pub use rx_search::Look;
-
-#[cfg(test)]
-mod tests;

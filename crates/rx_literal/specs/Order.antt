@@ -1,14 +1,9 @@
 -- The orders in which literals stand while a sequence is trimmed.
-use denote.Ref.{Bor}
-use Rattle.std.specs.Prelude.{◌≡◌, ℕ, Bool, true, false, ◌&&◌, ◌||◌, List, [], ◌∷◌, map, nat_lt, nat_eq}
+use Rattle.std.specs.Prelude.{◌≡◌, ℕ, Bool, true, false, ◌&&◌, ◌||◌, List, [], ◌∷◌, nat_lt, nat_eq}
 use Rattle.std.specs.List.{list_all}
 use Rattle.rx_literal.specs.declared.order.Order.{Order}
 use Rattle.rx_literal.specs.declared.order.Order.TheVariants.{Bytes as by_bytes, Branches as by_branches}
 use Rattle.rx_literal.specs.Literals.{Literal, bytes_of}
-
--- the literals that are lent
-abbrev pub lent : List (Bor Literal) → List Literal
-lent ls = map (λ l. l.now) ls
 
 -- a prefix comes before what it begins
 abbrev pub has_prefix_first : Order → Bool

@@ -13,6 +13,12 @@ unfoldable pub preferred : (earlier : List Literal) → List Literal → List Li
 preferred earlier [] = []
 preferred earlier (l ∷ ls) = let rest = preferred (l ∷ earlier) ls in if has_prefix_in earlier l then rest else l ∷ rest
 
+-- the literals that are marked
+abbrev pub picked : List Literal → (marks : List Bool) → List Literal
+picked [] bs = []
+picked (l ∷ ls) [] = []
+picked (l ∷ ls) (b ∷ bs) = if b then l ∷ picked ls bs else picked ls bs
+
 -- without those at the front that begin with the literal
 abbrev pub past_longer : Literal → List Literal → List Literal
 past_longer l [] = []

@@ -91,7 +91,7 @@ fn from_the_front(alloc: Global, subs: &[Hir]) -> Result<Seq, Memory>
             return Ok(seq);
         }
         let inner = literals(alloc, Side::Front, sub)?;
-        seq = seq.cross(alloc, Side::Front, &inner)?;
+        seq = seq.crossed_with(alloc, Side::Front, inner)?;
     }
     Ok(seq)
 }
@@ -108,7 +108,7 @@ fn from_the_back(alloc: Global, subs: &[Hir]) -> Result<Seq, Memory>
         }
         i -= 1;
         let inner = literals(alloc, Side::Back, &subs[i])?;
-        seq = seq.cross(alloc, Side::Back, &inner)?;
+        seq = seq.crossed_with(alloc, Side::Back, inner)?;
     }
     Ok(seq)
 }
@@ -118,7 +118,7 @@ fn from_the_back(alloc: Global, subs: &[Hir]) -> Result<Seq, Memory>
 fn of_one(alloc: Global, side: Side, subs: &[Hir]) -> Result<Seq, Memory>
     ensures { IfOk result (λ s. s ≡ of_one side (expressions subs.now)) }
 {
-    let mut seq = Seq::finite(Vec::new(alloc));
+    let mut seq = Seq::with_room(alloc, subs.len())?;
     for sub in subs {
         if !seq.is_finite() {
             return Ok(seq);

@@ -7,7 +7,9 @@
 #![tactic(auto)]
 
 mod extract;
+mod kept;
 mod laws;
+mod lent;
 mod literal;
 mod look_free;
 mod members;
@@ -15,6 +17,7 @@ mod order;
 mod repeated;
 mod seq;
 mod side;
+mod slots;
 mod suffix;
 mod trim;
 
@@ -28,6 +31,3 @@ pub use literal::Literal;
 pub use look_free::is_look_free;
 pub use seq::Seq;
 pub use suffix::longest_common_suffix;
-
-#[cfg(test)]
-mod tests;

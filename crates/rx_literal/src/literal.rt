@@ -1,8 +1,10 @@
 //! Literals.
 ghost use Rattle.std.specs.Prelude.{◌≡◌, ◌≤◌, [], ◌++◌, length, IfOk};
-ghost use Rattle.rx_literal.specs.Literals.{literal_of, exact, bytes_of, is_exact, is_empty, loose, outer_bytes, cut, joined, extended};
+ghost use Rattle.rx_literal.specs.Literals.{literal_of, exact, inexact, bytes_of, is_exact, is_empty, loose, outer_bytes, cut, joined, extended};
 ghost use Rattle.rx_literal.specs.declared.side.Side.TheVariants.{Front as front};
 
+use crate::kept::KeptBytes;
+use crate::lent::Lent;
 use crate::side::Side;
 use rx_search::Memory;
 use std::alloc::{AllocError, Global};
@@ -11,7 +13,7 @@ use std::marker::Model;
 /// What a match begins, or ends, with. An exact one is the whole of what it was taken from.
 #[derive(Drop)]
 pub struct Literal {
-    bytes: Vec<u8>,
+    bytes: KeptBytes,
     exact: bool,
 }
 
@@ -20,7 +22,7 @@ impl Model for Literal {
 
     ghost Value = { model.Literal };
 
-    ghost view = { λ l. model.literal_of l.exact l.bytes.items };
+    ghost view = { λ l. model.literal_of l.exact l.bytes };
 }
 
 impl Clone for Literal {
@@ -29,7 +31,7 @@ impl Clone for Literal {
     ghost is_clone = { λ literal copy. copy ≡ literal };
 
     fn clone(&self) -> Result<Literal, AllocError> {
-        let bytes = Vec::from_slice(*self.bytes.allocator(), &self.bytes)?;
+        let bytes = self.bytes.cloned()?;
         Ok(Literal {
             bytes,
             exact: self.exact,
@@ -38,11 +40,25 @@ impl Clone for Literal {
 }
 
 impl Literal {
+    /// The literal of these bytes, the whole of what it is taken from.
+    pub fn exact(bytes: Vec<u8>) -> Literal
+        ensures { result ≡ exact bytes.items }
+    {
+        Literal::of(KeptBytes::given(bytes), true)
+    }
+
+    /// The literal of these bytes, a part of what it is taken from.
+    pub fn inexact(bytes: Vec<u8>) -> Literal
+        ensures { result ≡ inexact bytes.items }
+    {
+        Literal::of(KeptBytes::given(bytes), false)
+    }
+
     /// The literal's bytes.
     pub fn as_bytes(&self) -> &[u8]
         ensures { result.now ≡ bytes_of self.now }
     {
-        &self.bytes
+        self.bytes.as_slice()
     }
 
     /// Whether it is the whole of what it was taken from.
@@ -56,7 +72,7 @@ impl Literal {
     pub fn is_empty(&self) -> bool
         ensures { result ≡ is_empty self.now }
     {
-        self.bytes.is_empty()
+        self.bytes.as_slice().is_empty()
     }
 
     /// Makes it inexact.
@@ -70,17 +86,14 @@ impl Literal {
     pub(crate) fn empty(alloc: Global) -> Literal
         ensures { result ≡ exact [] }
     {
-        Literal {
-            bytes: Vec::new(alloc),
-            exact: true,
-        }
+        Literal::exact(Vec::new(alloc))
     }
 
-    /// The literal of these bytes, exact.
-    pub(crate) fn exact(bytes: Vec<u8>) -> Literal
-        ensures { result ≡ exact bytes.items }
+    /// The literal of these bytes, exact or not.
+    pub(crate) fn of(bytes: KeptBytes, exact: bool) -> Literal
+        ensures { result ≡ literal_of exact bytes }
     {
-        Literal { bytes, exact: true }
+        Literal { bytes, exact }
     }
 
     /// These bytes, as a literal. Of more than `most` bytes only those at that side are kept, inexact.
@@ -94,21 +107,52 @@ impl Literal {
         ensures { IfOk result (λ l. l ≡ cut side most (literal_of exact bytes.now)) }
     {
         if bytes.len() > most {
-            let bytes = Vec::from_slice(alloc, outer_bytes(side, most, bytes))?;
+            let bytes = KeptBytes::copied(alloc, outer_bytes(side, most, bytes))?;
             return Ok(Literal {
                 bytes,
                 exact: false,
             });
         }
-        let bytes = Vec::from_slice(alloc, bytes)?;
+        let bytes = KeptBytes::copied(alloc, bytes)?;
         Ok(Literal { bytes, exact })
     }
 
-    /// The literal cut to its first bytes, so many at most.
-    pub(crate) fn first_bytes(&self, alloc: Global, most: usize) -> Result<Literal, Memory>
-        ensures { IfOk result (λ l. l ≡ cut front most self.now) }
+    /// The same of bytes that are given away.
+    fn cut_own(
+        alloc: Global,
+        side: Side,
+        most: usize,
+        bytes: KeptBytes,
+        exact: bool,
+    ) -> Result<Literal, Memory>
+        ensures { IfOk result (λ l. l ≡ cut side most (literal_of exact bytes)) }
     {
-        Literal::cut(alloc, Side::Front, most, &self.bytes, self.exact)
+        let len = bytes.as_slice().len();
+        if len > most {
+            return Literal::cut(alloc, side, most, bytes.as_slice(), exact);
+        }
+        Ok(Literal { bytes, exact })
+    }
+
+    /// The literal, lent.
+    pub(crate) fn lent(&self) -> Lent<'_>
+        ensures { result ≡ self.now }
+    {
+        Lent::new(self.bytes.as_slice(), self.exact)
+    }
+
+    /// The literal cut to its first bytes, so many at most, and lent.
+    pub(crate) fn first_bytes(&self, most: usize) -> Lent<'_>
+        ensures { result ≡ cut front most self.now }
+    {
+        first_bytes(self.bytes.as_slice(), most, self.exact)
+    }
+
+    /// The literal cut to 100 bytes at that side.
+    pub(crate) fn shortened(self, alloc: Global, side: Side) -> Result<Literal, Memory>
+        ensures { IfOk result (λ l. l ≡ cut side 100 self) }
+    {
+        Literal::cut_own(alloc, side, 100, self.bytes, self.exact)
     }
 
     /// The literal after these bytes, or before them at the back, cut to 100 bytes.
@@ -120,9 +164,19 @@ impl Literal {
     ) -> Result<Literal, Memory>
         ensures { IfOk result (λ l. l ≡ cut side 100 (extended side bytes.now self.now)) }
     {
-        let whole = joined(alloc, side, bytes, &self.bytes)?;
-        Literal::cut(alloc, side, 100, &whole, self.exact)
+        let whole = joined(alloc, side, bytes, self.bytes.as_slice())?;
+        Literal::cut_own(alloc, side, 100, whole, self.exact)
     }
+}
+
+/// These bytes, as a literal that is lent. Of more than `most` bytes only the first ones are lent, inexact.
+fn first_bytes(bytes: &[u8], most: usize, exact: bool) -> Lent<'_>
+    ensures { result ≡ cut front most (literal_of exact bytes.now) }
+{
+    if bytes.len() > most {
+        return Lent::new(outer_bytes(Side::Front, most, bytes), false);
+    }
+    Lent::new(bytes, exact)
 }
 
 /// The first bytes, or the last ones.
@@ -137,19 +191,11 @@ fn outer_bytes(side: Side, most: usize, bytes: &[u8]) -> &[u8]
 }
 
 /// Both in a row, the second further inside.
-fn joined(alloc: Global, side: Side, outer: &[u8], inner: &[u8]) -> Result<Vec<u8>, Memory>
-    ensures { IfOk result (λ v. v.items ≡ joined side outer.now inner.now) }
+fn joined(alloc: Global, side: Side, outer: &[u8], inner: &[u8]) -> Result<KeptBytes, AllocError>
+    ensures { IfOk result (λ b. b ≡ joined side outer.now inner.now) }
 {
     match side {
-        Side::Front => in_row(alloc, outer, inner),
-        Side::Back => in_row(alloc, inner, outer),
+        Side::Front => KeptBytes::joined(alloc, outer, inner),
+        Side::Back => KeptBytes::joined(alloc, inner, outer),
     }
-}
-
-fn in_row(alloc: Global, first: &[u8], second: &[u8]) -> Result<Vec<u8>, Memory>
-    ensures { IfOk result (λ v. v.items ≡ first.now ++ second.now) }
-{
-    let mut both = Vec::from_slice(alloc, first)?;
-    both.extend_from_slice(second)?;
-    Ok(both)
 }

@@ -1,9 +1,9 @@
 //! Literals in order.
-ghost use Rattle.std.specs.Prelude.{◌≡◌, ◌≤◌, ◌&&◌, nat_lt, true, false, length, take, drop};
+ghost use Rattle.std.specs.Prelude.{◌≡◌, ◌≤◌, ◌&&◌, nat_lt, true, false, IsTrue, length, take, drop};
 ghost use Rattle.std.specs.List.{list_all, list_any};
-ghost use Rattle.rx_literal.specs.Order.{lent, has_prefix_first, before, follows, InOrder};
+ghost use Rattle.rx_literal.specs.Order.{has_prefix_first, before, follows, InOrder};
 
-use crate::literal::Literal;
+use crate::lent::Lent;
 
 /// An order of literals.
 #[derive(Clone, Copy)]
@@ -39,12 +39,15 @@ fn is_prefix_before(order: Order, prefix_len: usize, len: usize) -> bool
 }
 
 /// How many of the literals, which are in order, come before this one.
-pub(crate) fn position(order: Order, literals: &[&Literal], literal: &Literal) -> usize
-    requires { InOrder order (lent literals.now) }
+pub(crate) fn position(order: Order, literals: &[Lent<'_>], literal: &Lent<'_>) -> usize
+    requires { InOrder order literals.now }
     ensures bound { result ≤ length literals.now }
-    ensures before { list_all (follows order literal.now) (take result (lent literals.now)) ≡ true }
-    ensures after { list_any (follows order literal.now) (drop result (lent literals.now)) ≡ false }
+    ensures before { list_all (follows order literal.now) (take result literals.now) ≡ true }
+    ensures after { list_any (follows order literal.now) (drop result literals.now) ≡ false }
 {
+    if comes_last(order, literals, literal) {
+        return literals.len();
+    }
     let mut low = 0;
     let mut high = literals.len();
     while low < high {
@@ -56,4 +59,17 @@ pub(crate) fn position(order: Order, literals: &[&Literal], literal: &Literal) -
         }
     }
     low
+}
+
+/// Whether there is a last one, and it comes before this one.
+fn comes_last(order: Order, literals: &[Lent<'_>], literal: &Lent<'_>) -> bool
+    requires { InOrder order literals.now }
+    ensures { IsTrue result → list_all (follows order literal.now) literals.now ≡ true }
+{
+    let count = literals.len();
+    if count == 0 {
+        return false;
+    }
+    let last = &literals[count - 1];
+    is_before(order, last.as_bytes(), literal.as_bytes())
 }

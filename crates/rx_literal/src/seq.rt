@@ -1,15 +1,16 @@
 //! Sequences of literals.
-ghost use Rattle.std.specs.Prelude.{◌≡◌, ◌∷◌, ◌++◌, [], nat_lt, length, map, option_map, IfOk, OnOk};
+ghost use Rattle.std.specs.Prelude.{◌≡◌, ◌∷◌, ◌++◌, [], nat_lt, length, map, option_map, IsTrue, IfOk, OnOk};
 ghost use Rattle.std.specs.List.{flat_map, list_any, list_all};
 ghost use Rattle.std.specs.Vec.{vec_items};
-ghost use Rattle.rx_literal.specs.Literals.{seq_of, infinite, finite, is_finite, is_exact, is_empty, loose, one_empty, loosened, limited, union, extended_by_each, stopped, cross, some_exact};
+ghost use Rattle.rx_literal.specs.Literals.{seq_of, exact, infinite, finite, is_finite, is_exact, is_empty, loose, cut, one_empty};
+ghost use Rattle.rx_literal.specs.Literals.{loosened, limited, union, extended_by_each, stopped, cross, some_exact};
 ghost use Rattle.rx_literal.specs.First.{all_exact};
 
 use crate::literal::Literal;
 use crate::side::Side;
 use crate::trim::are_exact;
 use rx_search::Memory;
-use std::alloc::Global;
+use std::alloc::{AllocError, Global};
 use std::marker::Model;
 
 /// The most literals of a sequence.
@@ -31,7 +32,31 @@ impl Model for Seq {
     ghost view = { λ s. model.seq_of (option_map vec_items s.literals) };
 }
 
+impl Clone for Seq {
+    ghost use Rattle.std.specs.Prelude.{◌≡◌};
+
+    ghost is_clone = { λ seq copy. copy ≡ seq };
+
+    fn clone(&self) -> Result<Seq, AllocError> {
+        match &self.literals {
+            Some(literals) => Ok(Seq::finite(copied(literals)?)),
+            None => Ok(Seq::infinite()),
+        }
+    }
+}
+
 impl Seq {
+    /// These literals, in order; infinitely many, where they are more than 250.
+    #[tactic(auto, unfolding(crate::specs::Literals::limited))]
+    pub fn new(literals: Vec<Literal>) -> Seq
+        ensures { result ≡ limited literals.items }
+    {
+        if literals.len() > MOST {
+            return Seq::infinite();
+        }
+        Seq::finite(literals)
+    }
+
     /// Infinitely many literals.
     pub fn infinite() -> Seq
         ensures { result ≡ infinite }
@@ -47,6 +72,13 @@ impl Seq {
             Some(literals) => Some(literals.as_slice()),
             None => None,
         }
+    }
+
+    /// The literals, where there are not infinitely many.
+    pub(crate) fn into_literals(self) -> Option<Vec<Literal>>
+        ensures { seq_of (option_map vec_items result) ≡ self }
+    {
+        self.literals
     }
 
     /// There are not infinitely many.
@@ -73,6 +105,13 @@ impl Seq {
         Seq {
             literals: Some(literals),
         }
+    }
+
+    /// The sequence of no literals, with room for so many, but for no more than it may have.
+    pub(crate) fn with_room(alloc: Global, count: usize) -> Result<Seq, Memory>
+        ensures { IfOk result (λ s. s ≡ finite []) }
+    {
+        Ok(Seq::finite(Vec::with_capacity(alloc, count.min(MOST))?))
     }
 
     /// The sequence of one exact literal without bytes.
@@ -124,6 +163,37 @@ impl Seq {
         }
     }
 
+    /// It is one exact literal without bytes.
+    pub(crate) fn is_one_empty(&self) -> bool
+        ensures { IsTrue result → self.now ≡ one_empty }
+    {
+        match &self.literals {
+            Some(literals) => is_one_empty(literals),
+            None => false,
+        }
+    }
+
+    /// The same as the cross with these, which are given away.
+    pub(crate) fn crossed_with(self, alloc: Global, side: Side, others: Seq) -> Result<Seq, Memory>
+        ensures { IfOk result (λ s. s ≡ cross side self others) }
+    {
+        if self.is_one_empty() {
+            return others.after_nothing(alloc, side);
+        }
+        self.cross(alloc, side, &others)
+    }
+
+    /// One exact literal without bytes, extended by each of these.
+    #[tactic(auto, unfolding(crate::specs::Literals::cross, crate::specs::Literals::stopped))]
+    fn after_nothing(self, alloc: Global, side: Side) -> Result<Seq, Memory>
+        ensures { IfOk result (λ s. s ≡ cross side one_empty self) }
+    {
+        match self.literals {
+            Some(literals) => shortened(alloc, side, literals),
+            None => Ok(Seq::infinite()),
+        }
+    }
+
     /// Each exact literal extended by each of the others, where these are no more than 250.
     #[tactic(auto, unfolding(crate::specs::Literals::cross))]
     pub(crate) fn cross(self, alloc: Global, side: Side, others: &Seq) -> Result<Seq, Memory>
@@ -134,6 +204,39 @@ impl Seq {
             None => Ok(Seq::infinite()),
         }
     }
+}
+
+/// The same literals.
+fn copied(literals: &Vec<Literal>) -> Result<Vec<Literal>, AllocError>
+    ensures { IfOk result (λ v. v.items ≡ literals.now.items) }
+{
+    literals.clone()
+}
+
+fn is_one_empty(literals: &[Literal]) -> bool
+    ensures { IsTrue result → literals.now ≡ exact [] ∷ [] }
+{
+    literals.len() == 1 && literals[0].is_exact() && literals[0].is_empty()
+}
+
+/// The literals, cut to 100 bytes at that side; infinitely many, where they are more than 250.
+fn shortened(alloc: Global, side: Side, literals: Vec<Literal>) -> Result<Seq, Memory>
+    ensures { IfOk result (λ s. s ≡ cross side one_empty (finite literals.items)) }
+{
+    if literals.len() > MOST {
+        return Ok(Seq::infinite());
+    }
+    Ok(Seq::finite(all_shortened(alloc, side, literals)?))
+}
+
+fn all_shortened(alloc: Global, side: Side, literals: Vec<Literal>) -> Result<Vec<Literal>, Memory>
+    ensures { IfOk result (λ v. v.items ≡ map (cut side 100) literals.items) }
+{
+    let mut all = Vec::with_capacity(alloc, literals.len())?;
+    for literal in literals {
+        all.push(literal.shortened(alloc, side)?)?;
+    }
+    Ok(all)
 }
 
 /// Each of the literals, inexact.

@@ -3,13 +3,14 @@ use Rattle.std.proofs.Common.{◌≡◌, ℕ, ◌≤◌, List, length, Option, O
 use Rattle.std.proofs.lemmas.List.{take_all}
 use Rattle.std.specs.Prelude.{◌+◌, ◌-◌, ◌*◌, ◌^◌, min, if◌then◌else◌}
 use Rattle.rx_search.specs.Limits.{id_limit}
+use Rattle.rx_search.specs.Needles.{BeginsEachMatch}
 use Rattle.rx_model.specs.Expression.{Expression}
 use Rattle.rx_hir.specs.Cost.{state_size, nfa_states}
 use Rattle.rx_nfa.specs.Compiled.{AreAllowed as AreAllowedStates, AreFew as AreFewStates, IsRefusal as IsRefusalOfNfa}
 use Rattle.rx_nfa.specs.declared.error.BuildError.{BuildError as NfaError}
-use Rattle.rx_nfa.specs.declared.error.BuildError.TheVariants.{TooManyPatterns as ManyPatterns, TooManyGroups as ManyGroups, TooManyStates as ManyStates, ExceededSizeLimit as ExceededLimit, Memory as NoMemory}
+use Rattle.rx_nfa.specs.declared.error.BuildError.TheVariants.{TooManyPatterns as ManyPatterns, TooManyGroups as ManyGroups, TooManyStates as ManyStates}
+use Rattle.rx_nfa.specs.declared.error.BuildError.TheVariants.{ExceededSizeLimit as ExceededLimit, Memory as NoMemory}
 use Rattle.rx_engines.specs.Engine.{accounted_memory}
-use Rattle.rx_engines.specs.Needles.{BeginsEachMatch}
 use Rattle.rx_reader.specs.declared.config.Config.{Config as Grammar}
 use Rattle.rx_strategy.specs.Config.{utf8_of, compiler_of}
 use Rattle.rx_strategy.specs.Prefilter.{prefilter_for, prefilter_memory}
@@ -20,10 +21,12 @@ use Rattle.rx_strategy.specs.declared.strategy.Strategy.{Strategy}
 use Rattle.rx_strategy.specs.declared.strategy.Strategy.TheVariants.{Core}
 use Rattle.rx_syntax.specs.Patterns.{all_read}
 use Rattle.rx_thompson.specs.Error.{error_of as compiler_error_of}
+use Rattle.rx_meta.specs.Cache.{accounted_for}
+use Rattle.rx_meta.specs.Impossible.{IsKnownImpossible}
 use Rattle.rx_meta.specs.Build.{patterns_for, AreFew, AreAllowed, engine_memory, IsBuilt, IsBuiltOf, IsRefusal, IsRefused, IsRefusedFor}
 use Rattle.rx_meta.specs.Error.{error_of}
 use Rattle.rx_meta.specs.Reading.{reading_of}
-use Rattle.rx_meta.specs.Regex.{RegexValue}
+use Rattle.rx_meta.specs.Regex.{RegexValue, Serves, kind_in, groups_in, pattern_count, properties_in, prefilter_in, regex_memory}
 use Rattle.rx_meta.specs.declared.error.BuildError.{BuildError}
 use Rattle.rx_meta.specs.declared.error.BuildError.TheVariants.{Syntax, NFA, Memory}
 
@@ -37,7 +40,9 @@ allowed-of c hs allowed = record { few = few-of hs allowed.few; states = allowed
 min-once : (a b c : ℕ) → min (2 ^ 64 - 1) (a + min (2 ^ 64 - 1) (b + c)) ≡ min (2 ^ 64 - 1) (a + b + c)
 min-once a b c = omega arith
 
-pub built : (c : Config) (hs : List Expression) (s : Strategy) (regex : RegexValue) → IsMadeOf c hs s → AreAllowedStates (compiler_of c) hs → regex ≡ record { config = c; strategy = s } → IsBuilt c hs regex
+pub built : (c : Config) (hs : List Expression) (s : Strategy) (regex : RegexValue) → IsMadeOf c hs s → AreAllowedStates (compiler_of c) hs
+    → regex ≡ record { config = c; strategy = s } → IsBuilt c hs regex
+unfolding kind_in Serves pattern_count groups_in regex_memory accounted_for properties_in prefilter_in IsKnownImpossible
 built c hs (Core core) regex made allowed is =
     let P : RegexValue → Type 0 = IsBuilt c hs in
     let compiled = made.compiled in
@@ -45,20 +50,25 @@ built c hs (Core core) regex made allowed is =
     subst P (sym is) (record {
       config = refl;
       kind = made.kind;
-      serves = λ given. record {
-        nfa = record { runs = compiled.runs refl (utf8_of c); utf8 = sym compiled.utf8 };
-        which_captures = sym made.which_captures;
-        ordered = compiled.ordered;
-        needles = subst (λ (pre : Option (List (List ℕ))). BeginsEachMatch pre (patterns_for c hs)) (sym made.pre) (chosen-begins (patterns_for c hs) c given);
-      };
+      serves = (
+        record {
+          nfa = record { runs = compiled.runs refl (utf8_of c); utf8 = sym compiled.utf8 };
+          which_captures = sym made.which_captures;
+          ordered = compiled.ordered;
+        },
+        λ given. subst (λ (pre : Option (List (List ℕ))). BeginsEachMatch pre (patterns_for c hs)) (sym made.pre) (chosen-begins (patterns_for c hs) c given),
+      );
+      count = (compiled.runs refl (utf8_of c)).patterns;
       groups = compiled.groups;
       ordered = compiled.ordered;
       allowed = allowed-of c hs allowed;
       memory =
-          ap (min (2 ^ 64 - 1)) (λ i. 64 * ((compiled.runs refl (utf8_of c)).patterns i + 1) + min (2 ^ 64 - 1) (prefilter_memory (made.pre i) + state_size * compiled.accounted i))
+          ap (min (2 ^ 64 - 1))
+          (λ i. 64 * ((compiled.runs refl (utf8_of c)).patterns i + 1) + min (2 ^ 64 - 1) (prefilter_memory (made.pre i) + state_size * compiled.accounted i))
           ∙ min-once (64 * (length hs + 1)) (prefilter_memory (prefilter_for c hs)) (state_size * nfa_states hs);
       cache = λ i. min (2 ^ 64 - 1) (one i + (if made.backtracks i then one i else 0));
       properties = made.properties;
+      impossible = λ v is. (hs, made.properties, is);
       pre = made.pre;
     })
 

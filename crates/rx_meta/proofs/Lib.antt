@@ -1,3 +1,4 @@
 pub mod ReadingLemmas
 pub mod BuildLemmas
+pub mod ServeLemmas
 pub mod FinderLemmas

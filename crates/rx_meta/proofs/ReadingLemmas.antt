@@ -8,7 +8,8 @@ use Rattle.rx_strategy.specs.Config.{compiler_of}
 use Rattle.rx_strategy.specs.declared.config.Config.{Config}
 use Rattle.rx_thompson.specs.Build.{IsRefusedAfter}
 use Rattle.rx_thompson.specs.declared.error.BuildError.{BuildError as CompilerError}
-use Rattle.rx_thompson.specs.declared.error.BuildError.TheVariants.{Syntax as Refused, TooManyPatterns, TooManyGroups, TooManyStates, ExceededSizeLimit, Memory as NoMemory}
+use Rattle.rx_thompson.specs.declared.error.BuildError.TheVariants.{Syntax as Refused, TooManyPatterns, TooManyGroups, TooManyStates}
+use Rattle.rx_thompson.specs.declared.error.BuildError.TheVariants.{ExceededSizeLimit, Memory as NoMemory}
 use Rattle.rx_meta.specs.Build.{IsRefusedFor}
 use Rattle.rx_meta.specs.Error.{error_of}
 use Rattle.rx_meta.specs.Reading.{reading_of}

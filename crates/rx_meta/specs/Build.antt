@@ -1,7 +1,8 @@
 -- What a build answers.
-use Rattle.std.specs.Prelude.{◌≡◌, ℕ, ◌+◌, ◌-◌, ◌*◌, ◌^◌, ◌<◌, ◌≤◌, min, List, length, Option, Some, IfSome, slice_get, Ok, Err, if◌then◌else◌}
+use Rattle.std.specs.Prelude.{◌≡◌, ℕ, true, ◌+◌, ◌-◌, ◌*◌, ◌^◌, ◌<◌, ◌≤◌, min, List, length, Option, Some, IfSome, slice_get, Ok, Err, if◌then◌else◌}
 use Rattle.rx_model.specs.Expression.{Expression, alternation, AreOrdered}
 use Rattle.rx_model.specs.Search.{Patterns}
+use Rattle.rx_search.specs.Input.{InputValue}
 use Rattle.rx_search.specs.Limits.{id_limit, slot_limit}
 use Rattle.rx_search.specs.PatternGroups.{pattern_groups}
 use Rattle.rx_hir.specs.Cost.{nfa_states, slots_of, state_size, capped}
@@ -10,12 +11,14 @@ use Rattle.rx_hir.specs.PropertiesViews.{AreOf}
 use Rattle.rx_reader.specs.declared.config.Config.{Config as Grammar}
 use Rattle.rx_syntax.specs.Patterns.{all_read}
 use Rattle.rx_thompson.specs.declared.error.BuildError.{BuildError as CompilerError}
-use Rattle.rx_thompson.specs.declared.error.BuildError.TheVariants.{Syntax as Refused, TooManyPatterns, TooManyGroups, TooManyStates, ExceededSizeLimit, Memory as NoMemory}
+use Rattle.rx_thompson.specs.declared.error.BuildError.TheVariants.{Syntax as Refused, TooManyPatterns, TooManyGroups, TooManyStates}
+use Rattle.rx_thompson.specs.declared.error.BuildError.TheVariants.{ExceededSizeLimit, Memory as NoMemory}
 use Rattle.rx_meta.specs.Cache.{accounted_for}
-use Rattle.rx_meta.specs.Config.{Config, kind_of, utf8_of, prefilter_of, terminator_of, captures_of, size_limit_of, has_backtracker}
-use Rattle.rx_meta.specs.Prefilter.{BeginsEachMatch, prefilter_for, prefilter_memory}
+use Rattle.rx_meta.specs.Config.{Config, kind_of, utf8_of, terminator_of, captures_of, size_limit_of, has_backtracker}
+use Rattle.rx_meta.specs.Impossible.{is_impossible, IsKnownImpossible}
+use Rattle.rx_meta.specs.Prefilter.{prefilter_for, prefilter_memory}
 use Rattle.rx_meta.specs.Reading.{reading_of}
-use Rattle.rx_meta.specs.Regex.{RegexValue, Serves, kind_in, groups_in, properties_in, prefilter_in, regex_memory}
+use Rattle.rx_meta.specs.Regex.{RegexValue, Serves, kind_in, groups_in, pattern_count, properties_in, prefilter_in, regex_memory}
 use Rattle.rx_meta.specs.declared.error.BuildError.{BuildError}
 use Rattle.rx_meta.specs.declared.error.BuildError.TheVariants.{Syntax, NFA, Memory}
 
@@ -47,9 +50,10 @@ cache_memory c hs = min (2 ^ 64 - 1) (engine_memory hs + (if has_backtracker c t
 pub record IsBuilt (c : Config) (hs : List Expression) (regex : RegexValue) : Type 0 where
   pub config : regex.config ≡ c
   pub kind : kind_in regex ≡ kind_of c
-  -- It searches for the patterns of these expressions. Where a prefilter was handed in, each match of them has to begin
-  -- with one of its needles.
-  pub serves : BeginsEachMatch (prefilter_of c) (patterns_for c hs) → Serves regex (patterns_for c hs)
+  -- it searches for the patterns of these expressions
+  pub serves : Serves regex (patterns_for c hs)
+  -- one pattern for each expression, with its groups
+  pub count : pattern_count regex ≡ length hs
   pub groups : groups_in regex ≡ pattern_groups hs
   -- the counts of each expression are in order, as the laws on its meaning ask
   pub ordered : (p : ℕ) (h : Expression) → slice_get hs p ≡ Some h → AreOrdered h
@@ -60,6 +64,7 @@ pub record IsBuilt (c : Config) (hs : List Expression) (regex : RegexValue) : Ty
   pub cache : accounted_for regex ≡ cache_memory c hs
   -- its properties are those of the expressions together, so that it is known where no match is possible
   pub properties : AreOf (alternation (expressions hs)) (properties_in regex)
+  pub impossible : (v : InputValue) → is_impossible hs v ≡ true → IsKnownImpossible regex v
   -- it searches with the prefilter that these expressions have under the configuration
   pub pre : prefilter_in regex ≡ prefilter_for c hs
 

@@ -1,10 +1,7 @@
--- What the searches of a regex write to. What is in it is the strategy's own.
+-- What the searches of a regex write to. What is in it is the strategy's own: a contract sees it by these definitions alone.
 use Rattle.std.specs.Prelude.{◌≡◌, ℕ, refl}
-use Rattle.std.proofs.Props.{props}
 use Rattle.std.specs.Coded.{Coded, code_by}
 use Rattle.rx_strategy.specs.Cache as strategy
-use Rattle.rx_strategy.specs.declared.strategy.Strategy.{Strategy}
-use Rattle.rx_strategy.specs.declared.strategy.Strategy.TheVariants.{Core}
 use Rattle.rx_meta.specs.Regex.{RegexValue}
 
 pub record CacheValue : Type 0 where
@@ -14,25 +11,27 @@ abbrev pub cache_code : Coded CacheValue
 cache_code = code_by strategy.CacheValue strategy.cache_code (λ c. c.rooms) (λ rooms. record { rooms = rooms }) (λ _. refl)
 
 -- the cache serves the regex
-abbrev pub Fits : RegexValue → CacheValue → Type 0
+unfoldable pub Fits : RegexValue → CacheValue → Type 0
 Fits regex cache = strategy.Fits regex.strategy cache.rooms
-
-fits-prop : (s : Strategy) (cache : strategy.CacheValue) → IsProp (strategy.Fits s cache)
-fits-prop (Core core) cache = Prim.hlevel props
 
 -- that it does has one proof at most
 pub Fits-prop : (regex : RegexValue) (cache : CacheValue) → IsProp (Fits regex cache)
-Fits-prop regex cache = fits-prop regex.strategy cache.rooms
+unfolding Fits
+Fits-prop regex cache = strategy.Fits-prop regex.strategy cache.rooms
 
 -- what is accounted for the cache
-abbrev pub memory_of : CacheValue → ℕ
+unfoldable pub memory_of : CacheValue → ℕ
 memory_of cache = strategy.memory_of cache.rooms
 
 -- what is accounted for a cache that is made for the regex
-abbrev pub accounted_for : RegexValue → ℕ
+unfoldable pub accounted_for : RegexValue → ℕ
 accounted_for regex = strategy.accounted_for regex.strategy
 
--- the second cache serves whatever the first one serves, and as much is accounted for it
+-- the second cache serves whatever the first one serves
+abbrev pub StillFits : (old new : CacheValue) → Type 0
+StillFits old new = (regex : RegexValue) → Fits regex old → Fits regex new
+
+-- and as much is accounted for it
 pub record FitsAsBefore (old new : CacheValue) : Type 0 where
-  pub fits : (regex : RegexValue) → Fits regex old → Fits regex new
+  pub fits : StillFits old new
   pub memory : memory_of new ≡ memory_of old

@@ -1,9 +1,12 @@
--- What a regex is to a contract. How it searches is its strategy's own: a contract sees it by these definitions alone.
+-- What a regex is to a contract. How it searches is its strategy's own: a contract sees it by these definitions alone, which do
+-- not unfold by themselves.
 use Rattle.std.specs.Prelude.{ℕ, ◌+◌, ◌-◌, ◌*◌, ◌^◌, min, List, Option}
 use Rattle.rx_model.specs.Search.{Patterns, Match}
 use Rattle.rx_search.specs.Input.{InputValue}
+use Rattle.rx_search.specs.Needles.{BeginsEachMatch}
 use Rattle.rx_search.specs.declared.anchored.MatchKind.{MatchKind}
 use Rattle.rx_hir.specs.declared.hir.properties.Properties.{Properties}
+use Rattle.rx_strategy.specs.Config.{prefilter_of}
 use Rattle.rx_strategy.specs.Strategy as strategy
 use Rattle.rx_strategy.specs.declared.config.Config.{Config}
 use Rattle.rx_strategy.specs.declared.strategy.Strategy.{Strategy}
@@ -12,34 +15,39 @@ pub record RegexValue : Type 0 where
   pub config : Config
   pub strategy : Strategy
 
--- The regex searches for these patterns. Each match of them begins with a needle of its prefilter, if it has one.
-abbrev pub Serves : RegexValue → Patterns → Type 0
-Serves regex r = strategy.IsFor regex.strategy r
-
 -- what a search of the regex finds, where matches are told
-abbrev pub searches : RegexValue → InputValue → Option Match
+unfoldable pub searches : RegexValue → InputValue → Option Match
 searches regex v = strategy.finds regex.strategy v
 
 -- which of the matches that begin at one place is reported
-abbrev pub kind_in : RegexValue → MatchKind
+unfoldable pub kind_in : RegexValue → MatchKind
 kind_in regex = strategy.kind_in regex.strategy
 
 -- the groups of each pattern, by their names
-abbrev pub groups_in : RegexValue → List (List (Option (List ℕ)))
+unfoldable pub groups_in : RegexValue → List (List (Option (List ℕ)))
 groups_in regex = strategy.groups_in regex.strategy
 
-abbrev pub pattern_count : RegexValue → ℕ
+unfoldable pub pattern_count : RegexValue → ℕ
 pattern_count regex = strategy.pattern_count regex.strategy
 
 -- the properties of the patterns together
-abbrev pub properties_in : RegexValue → Properties
+unfoldable pub properties_in : RegexValue → Properties
 properties_in regex = strategy.properties_of regex.strategy
 
 -- the needles of its prefilter, if it has one
-abbrev pub prefilter_in : RegexValue → Option (List (List ℕ))
+unfoldable pub prefilter_in : RegexValue → Option (List (List ℕ))
 prefilter_in regex = strategy.prefilter_in regex.strategy
+
+-- the needles of the prefilter that was handed in, if one was
+abbrev pub given_needles : RegexValue → Option (List (List ℕ))
+given_needles regex = prefilter_of regex.config
+
+-- The regex searches for these patterns. If each match of them begins with a needle of the prefilter that was handed in,
+-- each begins with one of its prefilter.
+unfoldable pub Serves : RegexValue → Patterns → Type 0
+Serves regex r = strategy.IsFor regex.strategy r × (BeginsEachMatch (given_needles regex) r → BeginsEachMatch (strategy.prefilter_in regex.strategy) r)
 
 -- What is accounted for a regex, up to the greatest number of 64 bits: 64 for the properties of each pattern, 64 for those
 -- of all of them, and what is accounted for its strategy.
-abbrev pub regex_memory : RegexValue → ℕ
-regex_memory regex = min (2 ^ 64 - 1) (64 * (pattern_count regex + 1) + strategy.strategy_memory regex.strategy)
+unfoldable pub regex_memory : RegexValue → ℕ
+regex_memory regex = min (2 ^ 64 - 1) (64 * (strategy.pattern_count regex.strategy + 1) + strategy.strategy_memory regex.strategy)

@@ -124,10 +124,15 @@ impl Builder {
     }
 
     /// The same builder once more. It shares the prefilter that its configuration sets.
+    ///
+    /// # Errors
+    ///
+    /// `Memory`, where there was no memory for it.
     pub fn clone(&self) -> Result<Builder, Memory>
         ensures { IfOk result (λ copy. copy ≡ self.now) }
     {
         Ok(Builder {
+            // A shared prefilter is counted (DECISIONS: `Config::clone` and `Builder::clone` may want memory).
             config: self.config.clone()?,
             syntax: self.syntax,
         })

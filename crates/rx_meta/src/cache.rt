@@ -1,6 +1,8 @@
 //! What the searches of a regex write to.
+#![tactic(auto, unfolding(crate::specs::Cache::Fits, crate::specs::Cache::memory_of, crate::specs::Cache::accounted_for))]
+
 ghost use Rattle.std.specs.Prelude.{◌≡◌, IfOk, OnOk, OnErr, IsOk};
-ghost use Rattle.rx_meta.specs.Cache.{Fits, FitsAsBefore, memory_of, accounted_for};
+ghost use Rattle.rx_meta.specs.Cache.{Fits, FitsAsBefore, StillFits, memory_of, accounted_for};
 
 use crate::regex::Regex;
 use rx_search::Memory;
@@ -37,8 +39,8 @@ impl Cache {
     }
 
     /// Makes any cache one that serves this regex. It takes memory where its room does not suffice, and keeps what it has:
-    /// for a part that this regex lacks nothing is accounted. Where there is no memory, it serves what it served before,
-    /// with its number as before.
+    /// for a part that this regex lacks nothing is accounted. A cache that serves the regex already takes no memory, and
+    /// still serves what it served. Where there is no memory, it serves what it served before, with its number as before.
     ///
     /// # Errors
     ///
@@ -48,7 +50,9 @@ impl Cache {
         ensures memory { OnOk result (memory_of self.new ≡ accounted_for regex.now) }
         ensures err { OnErr result (FitsAsBefore self.old self.new) }
         ensures sure { Fits regex.now self.old → IsOk result }
+        ensures kept { Fits regex.now self.old → StillFits self.old self.new }
     {
+        // What it served before counts only if it served this regex too (DECISIONS: after a `reset` a cache is promised to serve).
         self.rooms.reset(alloc, &regex.strategy)
     }
 

@@ -20,7 +20,7 @@ pub enum BuildError {
 }
 
 impl BuildError {
-    /// The pattern that is refused, where one is.
+    /// The number of the pattern that is refused, where one is.
     pub fn pattern(&self) -> Option<PatternID>
         ensures { result ≡ pattern_of self.now }
     {
@@ -32,6 +32,19 @@ impl BuildError {
     }
 
     /// The limit in bytes that the NFA passes, where that is why.
+    ///
+    /// # Examples
+    ///
+    /// ```
+    /// let mut builder = Regex::builder();
+    /// builder.configure(Regex::config().nfa_size_limit(Some(1000)));
+    /// assert!(rt; builder.build(alloc, "[a-z]{3}").is_ok());
+    /// let error = builder
+    ///     .build(alloc, "[a-z]{300}")
+    ///     .err()
+    ///     .ok_or("no refusal")?;
+    /// assert_eq!(rt; error.size_limit(), Some(1000));
+    /// ```
     pub fn size_limit(&self) -> Option<usize>
         ensures { result ≡ size_limit_of self.now }
     {
@@ -43,7 +56,20 @@ impl BuildError {
         }
     }
 
-    /// What is wrong with the pattern that is refused, where one is.
+    /// What is wrong with the pattern that is refused, where one is. Its piece is in bytes of that pattern.
+    ///
+    /// # Examples
+    ///
+    /// ```
+    /// let error = Regex::new_many(alloc, &["a", r"b\q"]).err();
+    /// let error = error.ok_or("no refusal")?;
+    /// // Pattern 1, and the bytes of it that could not be read.
+    /// let pattern = error.pattern().ok_or("no pattern")?;
+    /// assert_eq!(rt; pattern.as_usize(), 1);
+    /// let cause = error.syntax_error().ok_or("no cause")?;
+    /// assert!(rt; cause.kind == SyntaxErrorKind::Escape);
+    /// assert_eq!(rt; (cause.start, cause.end), (1, 2));
+    /// ```
     pub fn syntax_error(&self) -> Option<&SyntaxError>
         ensures { option_map (λ e. e.now) result ≡ syntax_error_of self.now }
     {

@@ -1,11 +1,8 @@
 //! What searches one input after another with a regex.
-ghost use Rattle.std.specs.Prelude.{◌≡◌, length, IfOk, IfSome};
-ghost use Rattle.rx_model.specs.Search.{Patterns};
+ghost use Rattle.std.specs.Prelude.{◌≡◌, length, None, IfOk};
 ghost use Rattle.rx_search.specs.GroupInfo.{slot_count};
-ghost use Rattle.rx_search.specs.Promise.{Promised};
-ghost use Rattle.rx_search.specs.Told.{HasSlots};
 ghost use Rattle.rx_meta.specs.Cache.{Fits, Fits-prop};
-ghost use Rattle.rx_meta.specs.Finder.{PromisesFor};
+ghost use Rattle.rx_meta.specs.Finder.{PromisesFor, MayFail, AreSlotsOf, IsAnswerWith};
 ghost use Rattle.rx_meta.specs.Regex.{searches, groups_in};
 
 use crate::cache::Cache;
@@ -30,7 +27,8 @@ impl<'r> RegexFinder<'r> {
     ///
     /// `Memory`, where there was no memory for the cache and the slots.
     pub fn new(alloc: Global, regex: &'r Regex) -> Result<RegexFinder<'r>, Memory>
-        ensures { IfOk result (λ f. f.regex.now ≡ regex.now) }
+        ensures made { IfOk result (λ f. f.regex.now ≡ regex.now) }
+        ensures empty { IfOk result (λ f. AreSlotsOf f.slots.items None) }
     {
         let cache = regex.create_cache(alloc)?;
         let none = None;
@@ -49,7 +47,8 @@ impl<'r> RegexFinder<'r> {
         self.regex
     }
 
-    /// The slots of the last match, and None in each where there was none.
+    /// The slots of the match that the last search answered. Each is None before the first search, and where the last one
+    /// answered none or had no memory.
     pub fn slots(&self) -> &[Option<NonMaxUsize>]
         ensures value { result.now ≡ self.now.slots.items }
         ensures wide { length result.now ≡ slot_count (groups_in self.now.regex.now) }
@@ -63,9 +62,17 @@ impl Finder for RegexFinder<'_> {
 
     ghost searches = { λ f v. searches f.regex.now v };
 
+    // Any input may be asked for (DECISIONS: a finder says under what its answer is what it searches).
     ghost promises = { λ f v. PromisesFor f.regex.now v };
 
-    ghost tells = { λ f m. IfSome m (HasSlots f.slots.items) };
+    // It fails where a search would (DECISIONS: a finder over a regex may fail).
+    ghost fails = { λ f v _. MayFail f.regex.now v };
+
+    ghost tells = { λ f m. AreSlotsOf f.slots.items m };
+
+    ghost answers = { λ f v found. IsAnswerWith f.regex.now v f.slots.items found };
+
+    ghost holds_none = { λ f. AreSlotsOf f.slots.items None };
 
     ghost keeps = { λ a b. b.regex.now ≡ a.regex.now };
 

@@ -13,6 +13,7 @@ mod found;
 mod laws;
 mod reading;
 mod regex;
+mod threads;
 
 pub use builder::Builder;
 pub use cache::Cache;
@@ -23,6 +24,3 @@ pub use regex::Regex;
 pub use rx_nfa::WhichCaptures;
 pub use rx_prefilter::{Choice, Prefilter};
 pub use rx_strategy::{Config, impossible_inputs_have_no_match};
-
-#[cfg(test)]
-mod tests;

@@ -22,6 +22,7 @@ pub(crate) fn read_patterns(
         × (length patterns.now ≤ id_limit) × (length exprs.items ≡ length patterns.now))
         (IsRefusedFor syntax.now config.now (map (λ p. p.now) patterns.now)) }
 {
+    // What is refused takes the memory of its syntax alone (DECISIONS: patterns are weighed before an expression is made of one).
     match read_within(alloc, patterns, syntax, &config.compiler()) {
         Ok(exprs) => Ok(exprs),
         Err(error) => Err(BuildError::from(error)),

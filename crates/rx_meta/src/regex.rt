@@ -1,7 +1,10 @@
 //! The public face: build once, search from anywhere.
-ghost use Rattle.std.specs.Prelude.{◌≡◌, ◌∷◌, [], length, None, replicate, map, IfOk, IfErr, IfNone, IfSome, OnErr, IsOk};
+#![tactic(auto, unfolding(crate::specs::Cache::Fits, crate::specs::Cache::memory_of, crate::specs::Impossible::IsKnownImpossible, crate::specs::Regex::pattern_count))]
+
+ghost use Rattle.std.specs.Prelude.{◌≡◌, ◌≤◌, ◌<◌, ◌∷◌, [], length, None, replicate, map, IfOk, IfErr, IfNone, IfSome, OnErr, IsOk};
 ghost use Rattle.rx_model.specs.Search.{Patterns};
 ghost use Rattle.rx_search.specs.Input.{IsSpanned};
+ghost use Rattle.rx_search.specs.Limits.{id_limit};
 ghost use Rattle.rx_search.specs.Matches.{match_value, half_match_value};
 ghost use Rattle.rx_search.specs.Told.{AreWithin, LiesIn, HalfLiesIn, matched_pattern};
 ghost use Rattle.rx_reader.specs.Config.{default};
@@ -9,7 +12,7 @@ ghost use Rattle.rx_meta.specs.Build.{IsBuiltOf, IsRefusedFor};
 ghost use Rattle.rx_meta.specs.Cache.{Fits, memory_of, accounted_for};
 ghost use Rattle.rx_meta.specs.Config.{nothing_set};
 ghost use Rattle.rx_meta.specs.Impossible.{IsKnownImpossible};
-ghost use Rattle.rx_meta.specs.Regex.{Serves, groups_in, pattern_count, properties_in, regex_memory};
+ghost use Rattle.rx_meta.specs.Regex.{Serves, groups_in, pattern_count, regex_memory};
 ghost use Rattle.rx_meta.specs.Search.{IsAnswer, AreSlotsOfAnswer, TellsWhether};
 
 use crate::builder::Builder;
@@ -118,8 +121,9 @@ impl Regex {
         input: &Input<'_>,
     ) -> Result<bool, Memory>
         ensures value { IfOk result (TellsWhether self.now input.now) }
-        ensures sure { IsKnownImpossible (properties_in self.now) input.now → IsOk result }
+        ensures sure { IsKnownImpossible self.now input.now → IsOk result }
     {
+        // It is a few comparisons (DECISIONS: searches that can have no match run no engine).
         if self.strategy.is_impossible(input) {
             return Ok(false);
         }
@@ -149,7 +153,8 @@ impl Regex {
     ) -> Result<Option<Match>, Memory>
         ensures answer { IfOk result (IsAnswer self.now input.now match_value) }
         ensures within { IfOk result (λ o. IfSome o (LiesIn input.now)) }
-        ensures sure { IsKnownImpossible (properties_in self.now) input.now → IsOk result }
+        ensures in_range { IfOk result (λ o. IfSome o (λ m. m.pattern < pattern_count self.now)) }
+        ensures sure { IsKnownImpossible self.now input.now → IsOk result }
     {
         self.search(rt, alloc, input)
     }
@@ -168,8 +173,10 @@ impl Regex {
     ) -> Result<Option<Match>, Memory>
         ensures answer { IfOk result (IsAnswer self.now input.now match_value) }
         ensures within { IfOk result (λ o. IfSome o (LiesIn input.now)) }
-        ensures sure { IsKnownImpossible (properties_in self.now) input.now → IsOk result }
+        ensures in_range { IfOk result (λ o. IfSome o (λ m. m.pattern < pattern_count self.now)) }
+        ensures sure { IsKnownImpossible self.now input.now → IsOk result }
     {
+        // The input first, so that the answer needs no memory there (DECISIONS: a call that makes a cache reads the input first).
         if self.strategy.is_impossible(input) {
             return Ok(None);
         }
@@ -190,7 +197,8 @@ impl Regex {
     ) -> Result<Option<HalfMatch>, Memory>
         ensures answer { IfOk result (IsAnswer self.now input.now half_match_value) }
         ensures within { IfOk result (λ o. IfSome o (HalfLiesIn input.now)) }
-        ensures sure { IsKnownImpossible (properties_in self.now) input.now → IsOk result }
+        ensures in_range { IfOk result (λ o. IfSome o (λ half. half.pattern < pattern_count self.now)) }
+        ensures sure { IsKnownImpossible self.now input.now → IsOk result }
     {
         if self.strategy.is_impossible(input) {
             return Ok(None);
@@ -226,11 +234,12 @@ impl Regex {
         slots: &mut [Option<NonMaxUsize>],
     ) -> Result<Option<PatternID>, Memory>
         ensures answer { IfOk result (IsAnswer self.now input.now matched_pattern) }
+        ensures in_range { IfOk result (λ o. IfSome o (λ p. p < pattern_count self.now)) }
         ensures slots { IfOk result (AreSlotsOfAnswer self.now input.now matched_pattern slots.new) }
         ensures none { IfOk result (λ o. IfNone o (slots.new ≡ replicate (length slots.old) None)) }
         ensures slots_within { AreWithin input.now slots.new }
         ensures err { OnErr result (slots.new ≡ replicate (length slots.old) None) }
-        ensures sure { IsKnownImpossible (properties_in self.now) input.now → IsOk result }
+        ensures sure { IsKnownImpossible self.now input.now → IsOk result }
     {
         if self.strategy.is_impossible(input) {
             empty(slots);
@@ -252,10 +261,12 @@ impl Regex {
         requires { Fits self.now cache.old }
         ensures answer { IfOk result (IsAnswer self.now input.now match_value) }
         ensures within { IfOk result (λ o. IfSome o (LiesIn input.now)) }
+        ensures in_range { IfOk result (λ o. IfSome o (λ m. m.pattern < pattern_count self.now)) }
         ensures cache { Fits self.now cache.new }
         ensures memory { memory_of cache.new ≡ memory_of cache.old }
-        ensures sure { IsKnownImpossible (properties_in self.now) input.now → IsOk result }
+        ensures sure { IsKnownImpossible self.now input.now → IsOk result }
     {
+        // An engine to come may take memory (DECISIONS: the calls that end in `_with` take no allocator).
         self.strategy.search(&mut cache.rooms, input)
     }
 
@@ -272,9 +283,10 @@ impl Regex {
         requires { Fits self.now cache.old }
         ensures answer { IfOk result (IsAnswer self.now input.now half_match_value) }
         ensures within { IfOk result (λ o. IfSome o (HalfLiesIn input.now)) }
+        ensures in_range { IfOk result (λ o. IfSome o (λ half. half.pattern < pattern_count self.now)) }
         ensures cache { Fits self.now cache.new }
         ensures memory { memory_of cache.new ≡ memory_of cache.old }
-        ensures sure { IsKnownImpossible (properties_in self.now) input.now → IsOk result }
+        ensures sure { IsKnownImpossible self.now input.now → IsOk result }
     {
         self.strategy.search_half(&mut cache.rooms, input)
     }
@@ -292,13 +304,14 @@ impl Regex {
     ) -> Result<Option<PatternID>, Memory>
         requires { Fits self.now cache.old }
         ensures answer { IfOk result (IsAnswer self.now input.now matched_pattern) }
+        ensures in_range { IfOk result (λ o. IfSome o (λ p. p < pattern_count self.now)) }
         ensures slots { IfOk result (AreSlotsOfAnswer self.now input.now matched_pattern slots.new) }
         ensures none { IfOk result (λ o. IfNone o (slots.new ≡ replicate (length slots.old) None)) }
         ensures slots_within { AreWithin input.now slots.new }
         ensures err { OnErr result (slots.new ≡ replicate (length slots.old) None) }
         ensures cache { Fits self.now cache.new }
         ensures memory { memory_of cache.new ≡ memory_of cache.old }
-        ensures sure { IsKnownImpossible (properties_in self.now) input.now → IsOk result }
+        ensures sure { IsKnownImpossible self.now input.now → IsOk result }
     {
         let found = self.search_match_with(cache, input, slots)?;
         Ok(pattern(found))
@@ -319,13 +332,14 @@ impl Regex {
         ensures answer { IfOk result (IsAnswer self.now input.now match_value) }
         ensures slots { IfOk result (AreSlotsOfAnswer self.now input.now match_value slots.new) }
         ensures within { IfOk result (λ o. IfSome o (LiesIn input.now)) }
+        ensures in_range { IfOk result (λ o. IfSome o (λ m. m.pattern < pattern_count self.now)) }
         ensures none { IfOk result (λ o. IfNone o (slots.new ≡ replicate (length slots.old) None)) }
         ensures slots_within { AreWithin input.now slots.new }
         ensures err { OnErr result (slots.new ≡ replicate (length slots.old) None) }
         ensures cache { Fits self.now cache.new }
         ensures memory { memory_of cache.new ≡ memory_of cache.old }
         ensures spanned { IsSpanned input.now }
-        ensures sure { IsKnownImpossible (properties_in self.now) input.now → IsOk result }
+        ensures sure { IsKnownImpossible self.now input.now → IsOk result }
     {
         self.strategy.search_slots(&mut cache.rooms, input, slots)
     }
@@ -343,6 +357,7 @@ impl Regex {
     /// let first = regex.search_with(&mut cache, &Input::new(b"Error: 1"))?;
     /// let second = regex.search_with(&mut cache, &Input::new(b"an ERROR"))?;
     /// ```
+    #[tactic(auto, unfolding(crate::specs::Cache::Fits, crate::specs::Cache::memory_of, crate::specs::Cache::accounted_for))]
     pub fn create_cache(&self, alloc: Global) -> Result<Cache, Memory>
         ensures fits { IfOk result (Fits self.now) }
         ensures memory { IfOk result (λ c. memory_of c ≡ accounted_for self.now) }
@@ -353,23 +368,28 @@ impl Regex {
     }
 
     /// How many patterns there are.
+    #[tactic(auto, unfolding(crate::specs::Regex::Serves, crate::specs::Regex::pattern_count))]
     pub fn pattern_len(&self) -> usize
         ensures value { result ≡ pattern_count self.now }
         ensures patterns { (r : Patterns) → Serves self.now r → result ≡ length r.expressions }
+        ensures few { result ≤ id_limit }
     {
         self.strategy.pattern_len()
     }
 
     /// The bytes that are accounted for the regex: 64 for the properties of each pattern and for those of all of them
     /// together, and what is accounted for its prefilter and its NFA; or the greatest `usize` where they are more.
+    #[tactic(auto, unfolding(crate::specs::Regex::regex_memory))]
     pub fn memory_usage(&self) -> usize
         ensures { result ≡ regex_memory self.now }
     {
         let properties = PROPERTIES_SIZE * (self.strategy.pattern_len() + 1);
+        // Needles may be of any length (DECISIONS: what is accounted for a regex stops at the greatest number of 64 bits).
         properties.saturating_add(self.strategy.memory_usage())
     }
 
     /// The groups of each pattern. A group that the configuration leaves out has slots too, which stay empty.
+    #[tactic(auto, unfolding(crate::specs::Regex::groups_in))]
     pub fn group_info(&self) -> &GroupInfo
         ensures { result.now ≡ groups_in self.now }
     {

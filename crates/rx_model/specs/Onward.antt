@@ -1,5 +1,6 @@
--- Where the first run of an expression without loops and look-around ends: its parts in their order, each by where
--- the first run of what comes after it ends.
+-- Where the first run of a plain expression ends: its parts in their order, each by where the first run of what comes
+-- after it ends. Plain is an expression without look-around whose repetitions have a fixed number of copies, one at
+-- least, or are of one copy or none.
 use Rattle.std.specs.Prelude.{◌≡◌, ℕ, zero, suc, ◌+◌, Bool, true, false, List, length, Option, Some, None, if◌then◌else◌, nat_le}
 use Rattle.std.specs.Option.{option_or}
 use Rattle.rx_model.specs.Text.{stands_at, member_len}

@@ -27,6 +27,7 @@ abbrev pub byte_of : List ℕ → (place : ℕ) → ℕ
 byte_of text place = slice_index text place
 
 -- What stands at a place: the byte that is read there, and whether a look-around holds there.
+-- No lemma is proved twice for it (DECISIONS: an automaton takes the byte and the look-arounds at a place as parameters).
 pub record Surroundings : Type 0 where
   pub byte : (place : ℕ) → ℕ
   pub looks : (kind : model.Look) (place : ℕ) → Bool

@@ -61,7 +61,8 @@ pub record BuiltParts (parts : (next base : ℕ) → graph.Parts) (next : ℕ) (
   pub images : List ℕ
   pub rises : Rises (length old.states) (length new.states) images
   pub starts_are : (f : ℕ → ℕ) (next' base : ℕ) → f next' ≡ next → Sends f base images → map f (parts next' base).starts ≡ starts
-  pub each : (f : ℕ → ℕ) (next' base : ℕ) → f next' ≡ next → Sends f base images → AllZip (IsImage (Stands (length old.states) new.states) f) (parts next' base).states images
+  pub each : (f : ℕ → ℕ) (next' base : ℕ) → f next' ≡ next → Sends f base images
+      → AllZip (IsImage (Stands (length old.states) new.states) f) (parts next' base).states images
 
 -- the alternatives were built, and their starts were appended
 pub record AddsParts (parts : (next base : ℕ) → graph.Parts) (next : ℕ) (old new : Draft) (before after : List ℕ) : Type 0 where
@@ -72,7 +73,8 @@ pub record AddsParts (parts : (next base : ℕ) → graph.Parts) (next : ℕ) (o
 -- those of each, in turn
 abbrev pub AddsAll : List ((next base : ℕ) → graph.Parts) → (next : ℕ) → (old new : Draft) → (before after : List ℕ) → Type 0
 AddsAll [] next old new before after = (after ≡ before) × (new ≡ old)
-AddsAll (p ∷ ps) next old new before after = (mid : Draft) × (between : List ℕ) × AddsParts p next old mid before between × AddsAll ps next mid new between after
+AddsAll (p ∷ ps) next old new before after = (mid : Draft) × (between : List ℕ) × AddsParts p next old mid before between
+    × AddsAll ps next mid new between after
 
 -- the body and the exit of a choice, the preferred one first
 abbrev pub ways : (greedy : Bool) → (body exit : ℕ) → List ℕ
@@ -124,3 +126,9 @@ HasPatterns states r n starts = HasParts states (part_of r) r.expressions n star
 -- them, which was added.
 abbrev pub StartsAll : (old new : Draft) → (starts : List ℕ) → (q : ℕ) → Type 0
 StartsAll old new starts q = ((starts ≡ q ∷ []) × (new ≡ old)) ⊎ ((q ≡ length old.states) × (new ≡ pushed old (Union starts)))
+
+-- State q goes on to these states: it is the only one of them, or else a choice between them, which was added.
+abbrev pub JoinsAll : (old new : Draft) → (starts : List ℕ) → (q : ℕ) → Type 0
+JoinsAll old new [] q = (q ≡ length old.states) × (new ≡ pushed old (Union []))
+JoinsAll old new (s ∷ []) q = (q ≡ s) × (new ≡ old)
+JoinsAll old new (s ∷ t ∷ ss) q = (q ≡ length old.states) × (new ≡ pushed old (Union (s ∷ t ∷ ss)))

@@ -1,7 +1,6 @@
 -- Bytes that no state and no look-around of an NFA tells apart.
-use Rattle.std.specs.Prelude.{◌≡◌, ℕ, ◌+◌, ◌<◌, Bool, false, ◌||◌, ◌&&◌, ◌==◌, List, ⊤, nat_lt, slice_index, EachIndex}
+use Rattle.std.specs.Prelude.{◌≡◌, ℕ, ◌<◌, Bool, false, ◌||◌, List, slice_index, EachIndex}
 use Rattle.std.specs.List.{list_any}
-use Rattle.unicode.specs.Perl.{is_word_byte}
 use Rattle.rx_model.specs.Look as model
 use Rattle.rx_model.specs.Look.{start_text, end_text, start_lf, end_lf, start_crlf, end_crlf, word_ascii, word_ascii_negate, word_unicode, word_unicode_negate, word_start_ascii, word_end_ascii, word_start_unicode, word_end_unicode, word_start_half_ascii, word_end_half_ascii, word_start_half_unicode, word_end_half_unicode}
 use Rattle.rx_search.specs.Look.{kind_of}
@@ -64,43 +63,6 @@ class_ends terminator states byte = list_any (λ s. state_ends terminator s byte
 -- the bytes of one class are those that no state tells apart
 unfoldable pub AreClassesOf : (terminator : ℕ) → List State → (classes : List ℕ) → Type 0
 AreClassesOf terminator states classes = AreClasses classes × EachIndex classes (λ b. slice_index classes b ≡ class_of (class_ends terminator states) b)
-
--- both are line terminators, or neither is
-abbrev pub EndLinesAlike : (terminator b c : ℕ) → Type 0
-EndLinesAlike terminator b c = (b == terminator) ≡ (c == terminator)
-
--- both are `\r` or neither is, and both are `\n` or neither is
-abbrev pub EndCrlfAlike : (b c : ℕ) → Type 0
-EndCrlfAlike b c = ((b == 13) ≡ (c == 13)) × ((b == 10) ≡ (c == 10))
-
--- both are one of `0-9A-Za-z_`, or neither is
-abbrev pub AreWordBytesAlike : (b c : ℕ) → Type 0
-AreWordBytesAlike b c = is_word_byte b ≡ is_word_byte c
-
--- the same, and both are above 7F, or neither is
-abbrev pub AreCharBytesAlike : (b c : ℕ) → Type 0
-AreCharBytesAlike b c = AreWordBytesAlike b c × (nat_lt 127 b ≡ nat_lt 127 c)
-
--- a look-around of the kind tells nothing of one byte that it does not tell of the other
-abbrev pub AreAlike : (terminator : ℕ) → model.Look → (b c : ℕ) → Type 0
-AreAlike terminator start_text b c = ⊤
-AreAlike terminator end_text b c = ⊤
-AreAlike terminator start_lf b c = EndLinesAlike terminator b c
-AreAlike terminator end_lf b c = EndLinesAlike terminator b c
-AreAlike terminator start_crlf b c = EndCrlfAlike b c
-AreAlike terminator end_crlf b c = EndCrlfAlike b c
-AreAlike terminator word_ascii b c = AreWordBytesAlike b c
-AreAlike terminator word_ascii_negate b c = AreWordBytesAlike b c
-AreAlike terminator word_unicode b c = AreCharBytesAlike b c
-AreAlike terminator word_unicode_negate b c = AreCharBytesAlike b c
-AreAlike terminator word_start_ascii b c = AreWordBytesAlike b c
-AreAlike terminator word_end_ascii b c = AreWordBytesAlike b c
-AreAlike terminator word_start_unicode b c = AreCharBytesAlike b c
-AreAlike terminator word_end_unicode b c = AreCharBytesAlike b c
-AreAlike terminator word_start_half_ascii b c = AreWordBytesAlike b c
-AreAlike terminator word_end_half_ascii b c = AreWordBytesAlike b c
-AreAlike terminator word_start_half_unicode b c = AreCharBytesAlike b c
-AreAlike terminator word_end_half_unicode b c = AreCharBytesAlike b c
 
 -- they are bytes of one class
 pub record AreOfOneClass (classes : List ℕ) (b c : ℕ) : Type 0 where

@@ -1,10 +1,11 @@
 -- The parts of expressions, for an automaton that reads forwards, or backwards: then what comes last is read first.
-use Rattle.std.specs.Prelude.{ℕ, zero, suc, ◌+◌, ◌-◌, ◌*◌, ◌/◌, ◌%◌, Bool, true, false, List, [], ◌∷◌, ◌++◌, length, map, reverse, Option, Some, None, if◌then◌else◌, nat_le, ◌==◌}
+use Rattle.std.specs.Prelude.{ℕ, zero, suc, ◌+◌, ◌-◌, ◌/◌, ◌%◌, Bool, true, false, ◌&&◌, List, [], ◌∷◌, ◌++◌, length, map, filter, flat_map, reverse, Option, Some, None, if◌then◌else◌, nat_le, ◌==◌}
+use Rattle.std.specs.List.{list_any}
 use Rattle.rx_model.specs.Text.{Class, scalar_ranges, byte_ranges}
 use Rattle.rx_model.specs.Expression.{Expression, Expressions, empty, literal, class, look, repetition, capture, concat, alternation, nil, cons}
 use Rattle.rx_model.specs.Length.{minimum_len, is_positive}
-use Rattle.rx_model.specs.Graph.{State, text, set, assertion, Part, Builder, build_nothing, build_state, build_then, build_group, build_repetition, Parts, no_parts, build_beside, build_choice}
-use Rattle.rx_nfa.specs.Ranges.{size_of_block, clip}
+use Rattle.rx_model.specs.Graph.{State, text, set, assertion, choice, Part, Builder, build_nothing, build_state, build_then, build_group, build_repetition, Parts, no_parts, build_beside, build_choice}
+use Rattle.rx_nfa.specs.Ranges.{clip}
 use Rattle.rx_model.specs.Search.{Patterns, slot_of}
 use Rattle.rx_nfa.specs.Built.{slot_from, whole_slot, compiled_pattern}
 use Rattle.rx_nfa.specs.declared.backwards.Piece.{Piece}
@@ -41,25 +42,28 @@ abbrev pub build_all : List PartsBuilder → PartsBuilder
 build_all [] = no_parts
 build_all (p ∷ ps) = build_both p (build_all ps)
 
--- one state
-abbrev pub build_alone : (ℕ → State) → PartsBuilder
-build_alone state next base = record { starts = base ∷ []; states = state next ∷ [] }
+-- the part as the only alternative
+abbrev pub build_one : Builder → PartsBuilder
+build_one b next base = let p = b next base in record { starts = p.start ∷ []; states = p.states }
 
--- alternatives that go on to a state, and by it to the next state
-abbrev pub build_before : (ℕ → State) → PartsBuilder → PartsBuilder
-build_before state parts next base =
-    let p = parts base (suc base) in
-    record { starts = p.starts; states = state next ∷ p.states }
+-- The only one of these alternatives; where there is not just one, a choice between them, which is built last.
+abbrev pub join : (starts : List ℕ) → (states : List State) → (base : ℕ) → Part
+join [] states base = record { start = base + length states; states = states ++ choice [] ∷ [] }
+join (q ∷ []) states base = record { start = q; states = states }
+join (q ∷ r ∷ qs) states base = record { start = base + length states; states = states ++ choice (q ∷ r ∷ qs) ∷ [] }
 
--- Encodings, read from the last byte to the first. A number is told by digits of 64; the numbers of digits that come
--- after the first one is the depth, and the byte that tells the first digit is `lead` more than it.
+abbrev pub build_joined : PartsBuilder → Builder
+build_joined parts next base = let p = parts next base in join p.starts p.states base
 
--- the numbers from low to high, by their first digit and by what comes after it: those of the first digit of low, those of
--- the first digit of high, and between them those of whole digits; or all of one digit
+-- Encodings, read from the last byte to the first. A number is told by digits of 64; the number of digits that come
+-- behind the first one is the depth. The byte of the first digit is `lead` more than it, and that of each other 0x80 more.
+
+-- The numbers from low to high, by what stands before their rest (a number divided by the size), and by the rest: those
+-- that stand behind the same as low, those behind the same as high, and between them those of all rests; or all in one.
 abbrev pub has_one : (size low high : ℕ) → Bool
 has_one size low high = low / size == high / size
 
--- the first digits of which all numbers are there
+-- the first quotient of which all numbers are there, and the one behind the last
 abbrev pub whole_from : (size low : ℕ) → ℕ
 whole_from size low = if low % size == 0 then low / size else low / size + 1
 
@@ -72,7 +76,6 @@ low_piece size low high =
     else if low % size == 0 then None
     else Some (record { first = low / size; last = low / size; low = low % size; high = size - 1 })
 
--- `whole_to` is the digit behind the last
 unfoldable pub middle_piece : (size low high : ℕ) → Option Piece
 middle_piece size low high =
     if has_one size low high then None
@@ -92,35 +95,63 @@ some_list (Some x) = x ∷ []
 abbrev pub pieces_of : (size low high : ℕ) → List Piece
 pieces_of size low high = some_list (low_piece size low high) ++ (some_list (middle_piece size low high) ++ some_list (high_piece size low high))
 
+-- the numbers of a range, if it has any, and of the ranges, by their last digits and by what stands before these
+abbrev pub pieces_of_range : ℕ × ℕ → List Piece
+pieces_of_range r = if nat_le r.0 r.1 then pieces_of 64 r.0 r.1 else []
+
+abbrev pub pieces_in : List (ℕ × ℕ) → List Piece
+pieces_in ranges = flat_map pieces_of_range ranges
+
+-- the last digits of a piece, and what stands before them
+abbrev pub last_of : Piece → ℕ × ℕ
+last_of p = (p.low, p.high)
+
+abbrev pub before_of : Piece → ℕ × ℕ
+before_of p = (p.first, p.last)
+
+abbrev pub is_range : (r s : ℕ × ℕ) → Bool
+is_range r s = r.0 == s.0 && r.1 == s.1
+
+-- the ranges of last digits, each of them once, in the order in which they come first
+unfoldable pub lasts_from : List (ℕ × ℕ) → List Piece → List (ℕ × ℕ)
+lasts_from found [] = found
+lasts_from found (p ∷ ps) = lasts_from (if list_any (is_range (last_of p)) found then found else found ++ last_of p ∷ []) ps
+
+abbrev pub lasts_of : List Piece → List (ℕ × ℕ)
+lasts_of ps = lasts_from [] ps
+
+-- what stands before these last digits
+unfoldable pub before_last : (last : ℕ × ℕ) → List Piece → List (ℕ × ℕ)
+before_last last ps = map before_of (filter (λ (p : Piece). is_range last (last_of p)) ps)
+
 -- a state that reads a byte from one to the other
 abbrev pub byte_between : (first last : ℕ) → (next : ℕ) → State
 byte_between first last = set (byte_ranges ((first, last) ∷ []))
 
--- the bytes that tell the numbers from low to high
-unfoldable pub build_span : (lead depth low high : ℕ) → PartsBuilder
-build_span lead zero low high = build_alone (byte_between (lead + low) (lead + high))
-build_span lead (suc depth) low high =
-    build_all (map (λ (p : Piece). build_before (byte_between (lead + p.first) (lead + p.last)) (build_span 0x80 depth p.low p.high)) (pieces_of (size_of_block (suc depth)) low high))
+-- a last digit, and then one of the alternatives for what stands before it
+abbrev pub build_last : ℕ × ℕ → PartsBuilder → Builder
+build_last last parts = build_then (build_state (byte_between (0x80 + last.0) (0x80 + last.1))) (build_joined parts)
 
--- the same of a range, if it has a member, and of each of these ranges
-abbrev pub build_range : (lead depth : ℕ) → ℕ × ℕ → PartsBuilder
-build_range lead depth r = if nat_le r.0 r.1 then build_span lead depth r.0 r.1 else no_parts
+-- The bytes that tell the numbers of the ranges. Numbers with last digits of the same range share the state that reads
+-- these.
+unfoldable pub build_digits : (lead depth : ℕ) → List (ℕ × ℕ) → PartsBuilder
+build_digits lead zero ranges = build_all (map (λ (r : ℕ × ℕ). build_one (build_state (byte_between (lead + r.0) (lead + r.1)))) ranges)
+build_digits lead (suc depth) ranges =
+    build_all (map (λ (last : ℕ × ℕ). build_one (build_last last (build_digits lead depth (before_last last (pieces_in ranges))))) (lasts_of (pieces_in ranges)))
 
-abbrev pub build_spans : (lead depth : ℕ) → List (ℕ × ℕ) → List PartsBuilder
-build_spans lead depth ranges = map (build_range lead depth) ranges
+-- these last digits, and what stands before them among the pieces
+abbrev pub build_behind : (lead depth : ℕ) → List Piece → (last : ℕ × ℕ) → PartsBuilder
+build_behind lead depth ps last = build_one (build_last last (build_digits lead depth (before_last last ps)))
 
 -- The scalars of the ranges, by the length of their encodings.
-abbrev pub scalar_spans : List (ℕ × ℕ) → List PartsBuilder
-scalar_spans rs =
-    build_spans 0 0 (clip 0 0x7F rs)
-    ++ (build_spans 0xC0 1 (clip 0x80 0x7FF rs)
-    ++ (build_spans 0xE0 2 (clip 0x800 0xD7FF rs)
-    ++ (build_spans 0xE0 2 (clip 0xE000 0xFFFF rs)
-    ++ build_spans 0xF0 3 (clip 0x1_0000 0x10_FFFF rs))))
+abbrev pub scalar_digits : List (ℕ × ℕ) → List PartsBuilder
+scalar_digits rs =
+    build_digits 0 0 (clip 0 0x7F rs) ∷ build_digits 0xC0 1 (clip 0x80 0x7FF rs) ∷ build_digits 0xE0 2 (clip 0x800 0xD7FF rs)
+    ∷ build_digits 0xE0 2 (clip 0xE000 0xFFFF rs) ∷ build_digits 0xF0 3 (clip 0x1_0000 0x10_FFFF rs) ∷ []
 
 abbrev pub build_class : (backwards : Bool) → Class → Builder
 build_class false members = build_state (set members)
-build_class true (scalar_ranges ranges) = build_choice (build_all (scalar_spans ranges))
+build_class true (scalar_ranges ranges) = build_joined (build_all (scalar_digits ranges))
 build_class true (byte_ranges ranges) = build_state (set (byte_ranges ranges))
 
 module _ (backwards : Bool) (slot_of : ℕ → Option ℕ) where

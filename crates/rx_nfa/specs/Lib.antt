@@ -13,7 +13,7 @@ pub mod Trie
 pub mod Reading
 pub mod Built
 pub mod Directed
-pub mod Spans
+pub mod Digits
 pub mod Repeated
 pub mod Room
 pub mod Compiled

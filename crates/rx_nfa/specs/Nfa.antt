@@ -61,23 +61,28 @@ pub record IsInRange (nfa : Nfa) : Type 0 where
 
 -- Wherever acceptance is permitted, by pattern and place, the first runs of the states are those of the patterns' graphs
 -- where it is permitted so, with pattern and end, and with slots where captures are asked for.
+-- It serves engines that come too (DECISIONS: an NFA promises the first runs wherever acceptance is permitted).
 pub record HasRuns (nfa : Nfa) (r : Patterns) : Type 0 where
   pub patterns : length nfa.starts ≡ length r.expressions
   -- from the start of each pattern
   pub each : (ok : Sieve) (text : List ℕ) (end p i : ℕ) (h : Expression) → end ≤ length text → slice_get r.expressions p ≡ Some h
-      → first_trace (sieved ok (automaton nfa.terminator nfa.states text end)) (at (slice_index nfa.starts p) i) ≡ option_map (told r.which_captures) (first_where ok r text end p h i)
+      → first_trace (sieved ok (automaton nfa.terminator nfa.states text end)) (at (slice_index nfa.starts p) i) ≡ option_map (told r.which_captures)
+      (first_where ok r text end p h i)
   -- from the common start, the first over the patterns in order
   pub all : (ok : Sieve) (text : List ℕ) (end i : ℕ) → end ≤ length text
-      → first_trace (sieved ok (automaton nfa.terminator nfa.states text end)) (at nfa.start_anchored i) ≡ option_map (told r.which_captures) (first_of_patterns_where ok r text end 0 r.expressions i)
+      → first_trace (sieved ok (automaton nfa.terminator nfa.states text end)) (at nfa.start_anchored i) ≡ option_map (told r.which_captures)
+      (first_of_patterns_where ok r text end 0 r.expressions i)
 
 -- The first runs of the states are those of the patterns' graphs, with pattern and end, and with slots where captures are
 -- asked for.
 pub record HasFirstRuns (nfa : Nfa) (r : Patterns) : Type 0 where
   pub patterns : length nfa.starts ≡ length r.expressions
   pub each : (text : List ℕ) (end p i : ℕ) (h : Expression) → end ≤ length text → slice_get r.expressions p ≡ Some h
-      → first_trace (automaton nfa.terminator nfa.states text end) (at (slice_index nfa.starts p) i) ≡ option_map (told r.which_captures) (first r text end p h i)
+      → first_trace (automaton nfa.terminator nfa.states text end) (at (slice_index nfa.starts p) i) ≡ option_map (told r.which_captures)
+      (first r text end p h i)
   pub all : (text : List ℕ) (end i : ℕ) → end ≤ length text
-      → first_trace (automaton nfa.terminator nfa.states text end) (at nfa.start_anchored i) ≡ option_map (told r.which_captures) (first_of_patterns r text end 0 r.expressions i)
+      → first_trace (automaton nfa.terminator nfa.states text end) (at nfa.start_anchored i) ≡ option_map (told r.which_captures)
+      (first_of_patterns r text end 0 r.expressions i)
 
 -- A walk of the automaton, which reads the text backwards from place j, leads from the state to acceptance of the pattern at
 -- place i. A place is a distance from the end there.
@@ -94,7 +99,8 @@ pub record HasReverseRuns (nfa : Nfa) (r : Patterns) : Type 0 where
       → LeadsBack nfa text (length text - first) (slice_index nfa.starts p) q i j ↔ ((q ≡ p) × Means r.terminator text h i j)
   -- from the common start
   pub all : (text : List ℕ) (first q i j : ℕ) → first ≤ i → i ≤ length text → j ≤ length text
-      → LeadsBack nfa text (length text - first) nfa.start_anchored q i j ↔ ((h : Expression) × (slice_get r.expressions q ≡ Some h) × Means r.terminator text h i j)
+      → LeadsBack nfa text (length text - first) nfa.start_anchored q i j ↔
+      ((h : Expression) × (slice_get r.expressions q ≡ Some h) × Means r.terminator text h i j)
 
 -- the NFA has the runs of these patterns, and both permit the same starts
 pub record IsNfaOf (nfa : Nfa) (r : Patterns) : Type 0 where

@@ -1,10 +1,12 @@
 //! Classes of bytes: those that no state and no look-around tells apart, and the laws of bytes of one class.
-ghost use Rattle.std.specs.Prelude.{◌≡◌, ℕ, ◌<◌, ◌||◌, false, true, Some, List, map, slice_index_or};
+ghost use Rattle.std.specs.Prelude.{◌≡◌, ℕ, ◌<◌, ◌≤◌, ◌||◌, false, true, Some, List, length, map, slice_index_or};
 ghost use Rattle.rx_model.specs.Look as model;
+ghost use Rattle.rx_model.specs.Look.{holds, byte_before, byte_after};
+ghost use Rattle.rx_model.specs.Beside.{IsTold, AreAlike, BothOrNone};
 ghost use Rattle.rx_search.specs.Look.{kind_of};
 ghost use Rattle.rx_search.specs.LookSet.{has};
 ghost use Rattle.rx_nfa.specs.Automaton.{at, route, Surroundings, onward, state_at, asks_for, automaton_over};
-ghost use Rattle.rx_nfa.specs.ByteClasses.{is_word_edge, is_char_edge, is_crlf_edge, look_ends, transitions_end, state_ends, AreClassesOf, AreAlike, AreOfOneClass};
+ghost use Rattle.rx_nfa.specs.ByteClasses.{is_word_edge, is_char_edge, is_crlf_edge, look_ends, transitions_end, state_ends, AreClassesOf, AreOfOneClass};
 ghost use Rattle.rx_nfa.specs.Nfa.{Nfa, IsInRange};
 ghost use Rattle.rx_nfa.specs.Row.{reading};
 ghost use Rattle.rx_nfa.specs.declared.state.Transition.{Transition};
@@ -16,6 +18,7 @@ use rx_search::{ByteClassSet, ByteClasses, Look};
 pub fn classes_of(states: &[State], terminator: u8) -> ByteClasses
     ensures { AreClassesOf terminator states.now result }
 {
+    // So the classes are an equation (DECISIONS: byte classes are told by where they end).
     let mut set = ByteClassSet::new();
     for state in states {
         add_state(&mut set, terminator, state);
@@ -111,4 +114,16 @@ pub fn a_step_depends_on_the_class_of_the_byte()
         → AreOfOneClass nfa.classes (here.byte i) (there.byte j)
         → ((kind : model.Look) → asks_for kind (state_at nfa.states q) ≡ true → here.looks kind i ≡ there.looks kind j)
         → map (onward i) ((automaton_over here nfa.states end).successors (at q i)) ≡ map (onward j) ((automaton_over there nfa.states last).successors (at q j)) }
+{}
+
+/// Whether a look-around holds at a place depends on the class of the byte before it and on that of the byte after it,
+/// and on nothing else: for each kind that a state asks for, and for the words of Unicode where those bytes are ASCII. No
+/// byte before a place is the start of the text, and none after it the end.
+pub fn a_look_around_depends_on_the_classes_of_the_bytes_beside_it()
+    ensures { (nfa : Nfa) → IsInRange nfa → (here there : List ℕ) (kind : model.Look) (i j : ℕ) → i ≤ length here → j ≤ length there
+        → has nfa.looks kind ≡ true
+        → BothOrNone (AreOfOneClass nfa.classes) (byte_before here i) (byte_before there j)
+        → BothOrNone (AreOfOneClass nfa.classes) (byte_after here i) (byte_after there j)
+        → IsTold kind (byte_before here i) (byte_after here i)
+        → holds nfa.terminator here kind i ≡ holds nfa.terminator there kind j }
 {}

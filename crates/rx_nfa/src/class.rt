@@ -102,6 +102,7 @@ pub fn compile_class(
     ensures closed { OnOk result (next < length states.old.items → AreClosed states.old.items → AreClosed states.new.items) }
     ensures count { OnOk result (length states.new.items ≤ length states.old.items + cost_of_class ranges.now) }
 {
+    // Few states for large classes (DECISIONS: classes are compiled to blocks that share their first bytes).
     let mut whole = Vec::new(alloc);
     whole.push(next)?;
     let mut transitions = Vec::new(alloc);
@@ -229,71 +230,3 @@ pub fn the_states_read_the_class()
         → StaysBelow 255 ranges → IsByteClass (IsReader base states) next ranges q
         → ReadsClass (sieved ok (automaton terminator states text end)) text end next q (byte_ranges ranges) }
 {}
-
-#[cfg(test)]
-mod tests {
-    use super::*;
-    use rx_search::PatternID;
-    use std::process::Abort;
-    use std::test::Fail;
-
-    /// The states of the class, after the state 0, which is a match and the one that they go on to.
-    fn states_of(alloc: Global, ranges: &[(char, char)]) -> Result<Vec<State>, Memory>
-        requires fewest { AreScalarRanges ranges.now }
-        requires room { 1 + cost_of_class ranges.now ≤ id_limit }
-    {
-        let mut states = Vec::new(alloc);
-        states.push(State::Match {
-            pattern: PatternID::ZERO,
-        })?;
-        let _start = compile_class(alloc, &mut states, ranges, StateID::ZERO)?;
-        Ok(states)
-    }
-
-    /// No two transitions of a state share a byte.
-    fn assert_bytes_apart(rt: &impl Abort, states: &[State]) {
-        for state in states {
-            if let State::Sparse { transitions } = state {
-                let mut above = None;
-                for transition in transitions.as_slice() {
-                    assert!(rt; Some(transition.start) > above);
-                    assert!(rt; transition.start <= transition.end);
-                    above = Some(transition.end);
-                }
-            }
-        }
-    }
-
-    // The scalars but one in ASCII: a state for each number of continuation bytes, one for each first byte that
-    // some may not follow (E0, ED, F0, F4), and the start.
-    #[test]
-    fn any_scalar_but_one_has_eight_states(rt: HostRuntime) -> Result<(), Fail> {
-        let dot = states_of(rt.alloc(), &[('\0', '\t'), ('\u{B}', '\u{10FFFF}')])?;
-        assert_eq!(rt; dot.len(), 1 + 8);
-        assert_bytes_apart(&rt, &dot);
-
-        let not_a = states_of(rt.alloc(), &[('\0', '`'), ('b', '\u{10FFFF}')])?;
-        assert_eq!(rt; not_a.len(), 1 + 8);
-        assert_bytes_apart(&rt, &not_a);
-
-        let not_bracket = states_of(rt.alloc(), &[('\0', '\\'), ('^', '\u{10FFFF}')])?;
-        assert_eq!(rt; not_bracket.len(), 1 + 8);
-        assert_bytes_apart(&rt, &not_bracket);
-        Ok(())
-    }
-
-    #[test]
-    fn a_class_of_bytes_has_one_state(rt: HostRuntime) -> Result<(), Fail> {
-        let mut states = Vec::new(rt.alloc());
-        let start = compile_bytes(
-            rt.alloc(),
-            &mut states,
-            &[(0, 9), (0x80, 0xFF)],
-            StateID::ZERO,
-        )?;
-        assert_eq!(rt; start.as_usize(), 0);
-        assert_eq!(rt; states.len(), 1);
-        assert_bytes_apart(&rt, &states);
-        Ok(())
-    }
-}

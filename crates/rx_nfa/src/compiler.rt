@@ -22,8 +22,6 @@ mod expression;
 mod grouping;
 mod groups;
 mod slots;
-#[cfg(test)]
-mod tests;
 
 use crate::builder::{Builder, Facts};
 use crate::error::BuildError;
@@ -45,10 +43,10 @@ use std::slice;
 pub const PATTERN_LIMIT: usize = PatternID::LIMIT;
 
 /// The most slots that a match may have.
-const SLOT_LIMIT: usize = PatternID::LIMIT - 1;
+pub const SLOT_LIMIT: usize = PatternID::LIMIT - 1;
 
 /// The most states that an NFA may have.
-const STATE_LIMIT: usize = StateID::LIMIT;
+pub const STATE_LIMIT: usize = StateID::LIMIT;
 
 /// Makes NFAs of expressions.
 #[derive(Clone, Copy)]
@@ -71,6 +69,13 @@ impl Compiler {
         ensures { self.new.config ≡ overwritten self.old.config config }
     {
         self.config = self.config.overwrite(config);
+    }
+
+    /// How NFAs are built.
+    pub fn get_config(&self) -> &Config
+        ensures { result.now ≡ self.now.config }
+    {
+        &self.config
     }
 
     /// The NFA of this expression, as the only pattern: as `build_many_from_hir` answers.
@@ -101,6 +106,7 @@ impl Compiler {
     /// more than 2147483647 states accounted, more bytes accounted than the configured limit. Want of
     /// memory comes last, and is then the only reason left.
     pub fn build_many_from_hir(&self, alloc: Global, exprs: &[Hir]) -> Result<NFA, BuildError>
+        // First runs, and no state of it (DECISIONS: the compiler's contract says nothing of how an NFA is built).
         ensures compiled { IfOk result (IsCompiled self.now.config exprs.now) }
         ensures allowed { OnOk result (AreAllowed self.now.config exprs.now) }
         ensures refused { IfErr result (IsRefusal self.now.config exprs.now) }
@@ -158,6 +164,7 @@ fn build(
     requires few_states { states ≤ id_limit }
     ensures { IfOk result (IsCompiled config exprs.now) }
 {
+    // Only the parts differ by it (DECISIONS: one compiler builds both directions).
     let reverse = config.get_reverse();
     let which = written_in(reverse, config.get_which_captures());
     let group_info = group_info(alloc, exprs)?;
@@ -263,6 +270,7 @@ fn push_bound(
             slot,
         }),
         None => {
+            // As many states as with a slot (DECISIONS: under `None` the states of the whole match's slots are there).
             let alternates = one_way(alloc, next)?;
             builder.push(State::Union { alternates })
         }

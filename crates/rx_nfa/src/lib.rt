@@ -18,16 +18,20 @@ mod nfa;
 mod runs;
 mod sparse;
 mod state;
+mod threads;
 
-pub use byte_classes::{a_step_depends_on_the_class_of_the_byte, two_bytes_of_one_class_are_alike};
+pub use byte_classes::{
+    a_look_around_depends_on_the_classes_of_the_bytes_beside_it,
+    a_step_depends_on_the_class_of_the_byte, two_bytes_of_one_class_are_alike,
+};
 pub use class::the_states_read_the_class;
-pub use compiler::{Compiler, Config, PATTERN_LIMIT, WhichCaptures};
+pub use compiler::{Compiler, Config, PATTERN_LIMIT, SLOT_LIMIT, STATE_LIMIT, WhichCaptures};
 pub use error::BuildError;
 pub use lists::{
     a_step_keeps_the_first_success, the_closure_keeps_the_first_success,
     the_first_success_on_the_list_and_then_later_starts,
 };
-pub use nfa::NFA;
+pub use nfa::{NFA, STATE_SIZE};
 pub use runs::{
     a_byte_leads_to_its_target, a_step_depends_on_the_byte_and_the_look_arounds,
     a_text_read_backwards_is_met_from_its_end, the_common_start_has_the_runs_of_each_pattern,

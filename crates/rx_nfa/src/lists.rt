@@ -13,6 +13,7 @@ ghost use Rattle.rx_nfa.specs.NextMatch.{start_of, next_match_of};
 ghost use Rattle.rx_nfa.specs.Ordered.{AreBelow, first_on, resting, threads_from, HoldsAt, targets, accepts_at, cut, match_here, HasSteps, first_of_starts, where_there, list_search, list_search_of};
 ghost use Rattle.rx_nfa.specs.declared.state.State.{State};
 
+// Engines share them (DECISIONS: ordered lists stand in rx_nfa).
 /// The threads that begin in a list of states, by the closure at their place, have the first success of the list.
 pub fn the_closure_keeps_the_first_success()
     ensures { (around : Surroundings) (states : List State) → All (NamesBelow (length states)) states

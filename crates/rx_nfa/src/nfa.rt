@@ -18,8 +18,9 @@ use std::marker::Model;
 use std::sync::Arc;
 
 /// The bytes that are accounted for a state.
-pub(crate) const STATE_SIZE: usize = rx_hir::STATE_SIZE as usize;
+pub const STATE_SIZE: usize = rx_hir::STATE_SIZE as usize;
 
+// A clone is a count (DECISIONS: clones of an NFA share one block).
 /// An automaton that reads bytes: its states, where the runs of its patterns start, and how many
 /// slots a match has. Every state, pattern and slot that is named is there. A slot that a state writes is one of a group
 /// of the pattern that the state names, and the transitions of a state ascend and share no byte. No state tells bytes of
@@ -38,6 +39,7 @@ impl Model for NFA {
 
     ghost view = { λ n. nfa_of (arc_value n.inner) };
 
+    // So each accessor gives it (DECISIONS: that transitions are sorted, and that a slot stands with its pattern).
     ghost invariant = { λ n. IsInRange (nfa_of (arc_value n.inner)) };
 }
 

@@ -10,7 +10,8 @@ use Rattle.rx_prefilter.proofs.NeedleLemmas.{first_span-window_found, first_span
 use Rattle.rx_prefilter.proofs.LeadLemmas.{occurs_next}
 
 module _ (needles : List (List ℕ)) (next depths text : List ℕ) (from : ℕ) where
-  pub reading-root : (a : IsAutomatonOf needles next depths) (at : ℕ) → at ≤ length text → first_span needles text from ≡ first_span needles text at → IsReading needles next depths text from at 0
+  pub reading-root : (a : IsAutomatonOf needles next depths) (at : ℕ) → at ≤ length text → first_span needles text from ≡ first_span needles text at
+      → IsReading needles next depths text from at 0
   reading-root a at low same =
       let tall = a.tall in
       let some = a.some in
@@ -24,7 +25,8 @@ module _ (needles : List (List ℕ)) (next depths text : List ℕ) (from : ℕ) 
         keeps = same ∙ ap (first_span needles text) here;
       }
 
-  pub reading-depth : (at state : ℕ) (r : IsReading needles next depths text from at state) → slice_index depths state ≡ length (word_of r.automaton.words state)
+  pub reading-depth : (at state : ℕ) (r : IsReading needles next depths text from at state)
+      → slice_index depths state ≡ length (word_of r.automaton.words state)
   reading-depth at state r = let tall = r.automaton.tall in let within = r.within in r.automaton.depths_are state (omega (arith, tall, within))
 
   pub reading-within : (at state b : ℕ) → IsReading needles next depths text from at state → b < 256 → state * 256 + b < length next
@@ -51,7 +53,8 @@ module _ (needles : List (List ℕ)) (next depths text : List ℕ) (from : ℕ) 
       let below : to < length a.words = subst (λ n. n < length a.words) there found.0 in
       let same_word : word_at a.words (state * 256 + b) ≡ v = rw (row, column) refl in
       let leads : Leads needles v (word_of a.words to) =
-      subst (λ n. Leads needles v (word_of a.words n)) there (subst (λ u. Leads needles u (word_of a.words (slice_index next (state * 256 + b)))) same_word found.1) in
+      subst (λ n. Leads needles v (word_of a.words n)) there
+      (subst (λ u. Leads needles u (word_of a.words (slice_index next (state * 256 + b)))) same_word found.1) in
       let shorter = leads.shorter in
       let start : s + (length v - length (word_of a.words to)) ≡ at + 1 - length (word_of a.words to) = omega (arith, end, long, shorter) in record {
         automaton = a;

@@ -1,16 +1,16 @@
 -- Needles of one byte, and one needle.
-use Rattle.std.proofs.Common.{◌≡◌, ◌≢◌, if◌then◌else◌, slice_index_or, get_or, take, set, ℕ, ◌+◌, ◌<◌, ◌≤◌, Bool, true, false, ◌||◌, ◌==◌, List, [], ◌∷◌, Option, None, Some, length, drop, map, slice_index, refl, sym, ap, ◌∙◌, arith, ⊎_elim, length-drop}
+use Rattle.std.proofs.Common.{◌≡◌, ◌≢◌, if◌then◌else◌, slice_index_or, get_or, take, set, ℕ, ◌+◌, ◌<◌, ◌≤◌, Bool, true, false, ◌||◌, ◌==◌, List, [], ◌∷◌, Option, None, Some, length, drop, map, slice_index, refl, sym, ap, subst, ◌∙◌, arith, ⊎_elim, length-drop}
 use Rattle.std.specs.Option.{option_map, IfSome}
-use Rattle.std.proofs.lemmas.Bool.{cases_Bool, cond-true, cond-false, cases_eq, false≢true, eq-eqb, ne_eqb}
+use Rattle.std.proofs.lemmas.Bool.{cases_Bool, cases_lt, cond-true, cond-false, cases_eq, false≢true, eq-eqb, ne_eqb}
 use Rattle.std.proofs.lemmas.List.{get_or-drop, get_or-set_same, get_or-set_other}
 use Rattle.std.proofs.lemmas.List.Folds.{list_any_more}
 use Rattle.memchr.specs.Find.{occurs_at, OccursAt, IsFirstByte, Passes, FindsNeedle}
 use Rattle.memchr.proofs.lemmas.MatchLemmas.{occurs_at-true, OccursAt-true}
 use Rattle.rx_search.specs.declared.span.Span.{Span}
-use Rattle.rx_prefilter.specs.Needles.{needle_span, span_at, first_span}
-use Rattle.rx_prefilter.specs.Bytes.{single, byte_span, is_one_of}
+use Rattle.rx_prefilter.specs.Needles.{needle_span, span_at, first_span, NoneLies}
+use Rattle.rx_prefilter.specs.Bytes.{single, byte_span, is_one_of, HasTable, marks_at, NoneMarked}
 use Rattle.rx_prefilter.specs.Choices.{greatest_length}
-use Rattle.rx_prefilter.proofs.NeedleLemmas.{span_at-nil, span_at-here, span_at-next, first_span-first}
+use Rattle.rx_prefilter.proofs.NeedleLemmas.{span_at-nil, span_at-here, span_at-next, first_span-first, first_span-skip, first_span-here, first_span-end}
 
 or_true : (b : Bool) → (b || true) ≡ true
 or_true b = elim b as (λ t. (t || true) ≡ true) [ true ↦ refl | false ↦ refl ]
@@ -19,7 +19,8 @@ or_false : (b : Bool) → (b || false) ≡ b
 or_false b = elim b as (λ t. (t || false) ≡ t) [ true ↦ refl | false ↦ refl ]
 
 pub occurs_at-false : (text needle : List ℕ) (at : ℕ) → ¬ OccursAt text needle at → occurs_at text needle at ≡ false
-occurs_at-false text needle at not = ⊎_elim (λ yes_is. absurd (not (OccursAt-true text needle at yes_is))) (λ no_is. no_is) (cases_Bool (occurs_at text needle at))
+occurs_at-false text needle at not = ⊎_elim (λ yes_is. absurd (not (OccursAt-true text needle at yes_is))) (λ no_is. no_is)
+    (cases_Bool (occurs_at text needle at))
 
 one_of-same : (bs : List ℕ) (x b : ℕ) → x ≡ b → is_one_of (b ∷ bs) x ≡ true
 one_of-same bs x b e = ap (λ t. t || is_one_of bs x) (eq-eqb b x (sym e))
@@ -60,7 +61,8 @@ module _ (text : List ℕ) (at : ℕ) where
       (cases_eq (slice_index text at) b))
 
   -- it is one byte's test that tells
-  pub span_at-bytes : (bs : List ℕ) → at < length text → span_at (map single bs) text at ≡ (if is_one_of bs (slice_index text at) then Some (byte_span at) else None)
+  pub span_at-bytes : (bs : List ℕ) → at < length text → span_at (map single bs) text
+      at ≡ (if is_one_of bs (slice_index text at) then Some (byte_span at) else None)
   span_at-bytes bs within =
       let there : Option Span = Some (byte_span at) in
       ⊎_elim
@@ -142,7 +144,8 @@ first_span-needle needle text from le r first =
     r first
 
 -- a place that was found lies before the text's end
-pub found_within : (test : ℕ → Bool) (text : List ℕ) (from bound : ℕ) → from ≤ length text → length text < bound → (r : Option ℕ) → IsFirstByte test (drop from text) r → IfSome r (λ k. from + k + 1 < bound)
+pub found_within : (test : ℕ → Bool) (text : List ℕ) (from bound : ℕ) → from ≤ length text → length text < bound → (r : Option ℕ)
+    → IsFirstByte test (drop from text) r → IfSome r (λ k. from + k + 1 < bound)
 found_within test text from bound le fits None first = tt
 found_within test text from bound le fits (Some k) first = let high = first.0.high in omega (arith, length-drop from text)
 
@@ -150,3 +153,42 @@ pub greatest_length-single : (bs : List ℕ) → length bs ≢ 0 → greatest_le
 greatest_length-single [] some = absurd (some refl)
 greatest_length-single (b ∷ []) some = omega arith
 greatest_length-single (b ∷ c ∷ bs) some = let rest = greatest_length-single (c ∷ bs) (λ e. absurd (omega arith)) in omega (arith, rest)
+
+-- a table of bytes along a text
+module _ (table : List Bool) (text : List ℕ) where
+  pub none_yet : (from : ℕ) → NoneMarked table text from from
+  unfolding NoneMarked
+  none_yet from k a b = absurd (omega arith)
+
+  pub none_more : (from at to : ℕ) → to ≡ at + 1 → NoneMarked table text from at → marks_at table text at ≡ false → NoneMarked table text from to
+  unfolding NoneMarked
+  none_more from at to e none here k a b =
+      ⊎_elim
+      (λ below. none k a below)
+      (λ above. let same : at ≡ k = omega arith in subst (λ j. marks_at table text j ≡ false) same here)
+      (cases_lt k at)
+
+  pub none_both : (from middle to : ℕ) → NoneMarked table text from middle → NoneMarked table text middle to → NoneMarked table text from to
+  unfolding NoneMarked
+  none_both from middle to before after k a b = ⊎_elim (λ below. before k a below) (λ above. after k above b) (cases_lt k middle)
+
+  none_at : (bytes : List ℕ) → HasTable table bytes → ((k : ℕ) → slice_index text k < 256) → (from to : ℕ) → NoneMarked table text from to
+      → (k : ℕ) → from ≤ k → k < to → NoneLies (map single bytes) text k
+  unfolding NoneMarked
+  none_at bytes has fits from to none k a b =
+      span_at-no_byte text k bytes (λ within. sym (has.each (slice_index text k) (fits k)) ∙ none k a b)
+
+  -- the first byte that the table has
+  pub first_span-marked : (bytes : List ℕ) → HasTable table bytes → ((k : ℕ) → slice_index text k < 256) → (from at : ℕ) → from ≤ at → at < length text
+      → NoneMarked table text from at → marks_at table text at ≡ true → first_span (map single bytes) text from ≡ Some (byte_span at)
+  first_span-marked bytes has fits from at order within none there =
+      first_span-skip (map single bytes) text from at order (omega arith) (none_at bytes has fits from at none)
+      ∙ first_span-here (map single bytes) text at (byte_span at) (omega arith)
+      (span_at-byte text at bytes within (sym (has.each (slice_index text at) (fits at)) ∙ there))
+
+  -- none before the end
+  pub first_span-unmarked : (bytes : List ℕ) → HasTable table bytes → ((k : ℕ) → slice_index text k < 256) → (from at : ℕ) → from ≤ at → at ≡ length text
+      → NoneMarked table text from at → first_span (map single bytes) text from ≡ None
+  first_span-unmarked bytes has fits from at order end none =
+      first_span-skip (map single bytes) text from at order (omega arith) (none_at bytes has fits from at none)
+      ∙ first_span-end (map single bytes) text at end ∙ span_at-end text at bytes (omega arith)

@@ -41,18 +41,20 @@ module _ (needles : List (List ℕ)) (text : List ℕ) where
   span_among_first : (n from : ℕ) → IsFirstAmong n from (span_among needles text from n)
   unfolding span_among
   span_among_first zero from = λ at a b. absurd (omega arith)
-  span_among_first (suc n) from = (elim (span_at needles text from) as (λ o. span_at needles text from ≡ o → IsFirstAmong (suc n) from (option_or o (span_among needles text (from + 1) n))) [
-    | None ↦ λ e. later n from e (span_among needles text (from + 1) n) (span_among_first n (from + 1))
-    | Some span ↦ λ e. let start = span_at-starts text from needles span e in (
-      omega (arith, start),
-      (λ at a b. absurd (omega (arith, start))),
-      subst (λ k. span_at needles text k ≡ Some span) (sym start) e,
-    )
-  ]) refl
+  span_among_first (suc n) from = (elim (span_at needles text from) as (λ o. span_at needles text from ≡ o
+      → IsFirstAmong (suc n) from (option_or o (span_among needles text (from + 1) n))) [
+        | None ↦ λ e. later n from e (span_among needles text (from + 1) n) (span_among_first n (from + 1))
+        | Some span ↦ λ e. let start = span_at-starts text from needles span e in (
+          omega (arith, start),
+          (λ at a b. absurd (omega (arith, start))),
+          subst (λ k. span_at needles text k ≡ Some span) (sym start) e,
+        )
+      ]) refl
 
   widen : (from n : ℕ) → ((at : ℕ) → from ≤ at → at ≤ length text → at < from + n) → (r : Option Span) → IsFirstAmong n from r → IsFirstSpan needles text from r
   widen from n fits None none = λ at a b. none at a (fits at a b)
   widen from n fits (Some span) found = found
 
   pub first_span-is_first : (from : ℕ) → IsFirstSpan needles text from (first_span needles text from)
-  first_span-is_first from = widen from (length text + 1 - from) (λ at a b. omega arith) (first_span needles text from) (span_among_first (length text + 1 - from) from)
+  first_span-is_first from = widen from (length text + 1 - from) (λ at a b. omega arith) (first_span needles text from)
+      (span_among_first (length text + 1 - from) from)

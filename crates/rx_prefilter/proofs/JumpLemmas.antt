@@ -27,7 +27,8 @@ pub widens_one : (a b : ℕ) → Widens (a ∷ []) (a ∷ b ∷ [])
 widens_one a b x e = or_more (a == x) false (b == x || false) e (λ f. absurd (false≢true f))
 
 pub widens_two : (a b c : ℕ) → Widens (a ∷ b ∷ []) (a ∷ b ∷ c ∷ [])
-widens_two a b c x e = or_more (a == x) (b == x || false) (b == x || (c == x || false)) e (λ f. or_more (b == x) false (c == x || false) f (λ g. absurd (false≢true g)))
+widens_two a b c x e = or_more (a == x) (b == x || false) (b == x || (c == x || false)) e
+    (λ f. or_more (b == x) false (c == x || false) f (λ g. absurd (false≢true g)))
 
 pub last_of_two : (a b : ℕ) → is_one_of (a ∷ b ∷ []) b ≡ true
 last_of_two a b = or_later (a == b) (b == b || false) (or_here (b == b) false (eq-eqb b b refl))

@@ -59,7 +59,8 @@ last_byte text u b s o =
 pub occurs_before : (text u : List ℕ) (b s : ℕ) → OccursAt text (u ++ b ∷ []) s → OccursAt text u s
 occurs_before text u b s o = let e : s + 0 ≡ s = omega arith in occurs_at_same text u (s + 0) s e (occurs_in text (u ++ b ∷ []) u s 0 o (occurs_left u (b ∷ [])))
 
-pub occurs_next : (text u : List ℕ) (b s : ℕ) → OccursAt text u s → s + length u < length text → slice_index text (s + length u) ≡ b → OccursAt text (u ++ b ∷ []) s
+pub occurs_next : (text u : List ℕ) (b s : ℕ) → OccursAt text u s → s + length u < length text → slice_index text (s + length u) ≡ b
+    → OccursAt text (u ++ b ∷ []) s
 occurs_next text u b s o within is = occurs_more text u b s o within is
 
 -- bytes as long as those in which they stand are these
@@ -69,7 +70,8 @@ occurs_same v u long o = same_lists u v long (λ k d l.
     get_or_default u k d 0 l ∙ sym (o.reads k l) ∙ ap (slice_index v) e ∙ get_or_default v k 0 d (omega (arith, long, l)))
 
 -- bytes that no needle begins with, and the last of which is in no needle that they begin with
-pub dead : (needles : List (List ℕ)) (w : List ℕ) (b : ℕ) (text : List ℕ) (s : ℕ) → NoneWithin needles w → NoneBegins needles (w ++ b ∷ []) → OccursAt text (w ++ b ∷ []) s → NoneLies needles text s
+pub dead : (needles : List (List ℕ)) (w : List ℕ) (b : ℕ) (text : List ℕ) (s : ℕ) → NoneWithin needles w → NoneBegins needles (w ++ b ∷ [])
+    → OccursAt text (w ++ b ∷ []) s → NoneLies needles text s
 dead [] w b text s within begins o = span_at-nil text s
 dead (n ∷ ns) w b text s within begins o =
     let W : List ℕ → Type 0 = λ needle. ¬ OccursAt w needle 0 in
@@ -83,7 +85,8 @@ dead (n ∷ ns) w b text s within begins o =
     (λ (more : length n ≤ length w). All-head W n ns within (record {
       fits = omega (arith, more);
       reads = λ j l. let e : 0 + j ≡ j = omega arith in
-          ap (slice_index w) e ∙ sym (get_or_append_left w (b ∷ []) 0 j (omega (arith, more, l))) ∙ sym (o.reads j (omega (arith, long, more, l))) ∙ lies.reads j l;
+          ap (slice_index w) e ∙ sym (get_or_append_left w (b ∷ []) 0 j (omega (arith, more, l))) ∙ sym (o.reads j (omega (arith, long, more, l)))
+          ∙ lies.reads j l;
     }))
     (cases_lt (length w) (length n))))
     ∙ dead ns w b text s (All-tail W n ns within) (All-tail B n ns begins) o
@@ -103,14 +106,16 @@ module _ (needles : List (List ℕ)) where
   }
 
   -- past bytes at whose start no needle lies
-  pub leads-past : (v to : List ℕ) → 0 < length v → ((text : List ℕ) (s : ℕ) → OccursAt text v s → NoneLies needles text s) → Leads needles (drop 1 v) to → Leads needles v to
+  pub leads-past : (v to : List ℕ) → 0 < length v → ((text : List ℕ) (s : ℕ) → OccursAt text v s → NoneLies needles text s) → Leads needles (drop 1 v) to
+      → Leads needles v to
   leads-past v to some none rest =
       let less = length-drop 1 v in
       let low = rest.shorter in record {
         shorter = omega (arith, less, low);
         reads = λ text at o.
             let here : at + 1 + (length (drop 1 v) - length to) ≡ at + (length v - length to) = omega (arith, less, low, some) in
-            occurs_at_same text to (at + 1 + (length (drop 1 v) - length to)) (at + (length v - length to)) here (rest.reads text (at + 1) (occurs_in text v (drop 1 v) at 1 o (occurs_rest v some)));
+            occurs_at_same text to (at + 1 + (length (drop 1 v) - length to)) (at + (length v - length to)) here
+            (rest.reads text (at + 1) (occurs_in text v (drop 1 v) at 1 o (occurs_rest v some)));
         keeps = λ text at o.
             let fits = o.fits in
             let here : at + 1 + (length (drop 1 v) - length to) ≡ at + (length v - length to) = omega (arith, less, low, some) in
@@ -133,7 +138,8 @@ module _ (needles : List (List ℕ)) where
       let here : (at : ℕ) → at + (length v - length f) + (length (f ++ b ∷ []) - length to) ≡ at + (length (v ++ b ∷ []) - length to) = λ at. omega (arith, long_v, long_f, low, lower) in record {
         shorter = omega (arith, long_v, long_f, low, lower);
         reads = λ text at o. occurs_at_same text to _ _ (here at) (then.reads text (at + (length v - length f)) (between text at o));
-        keeps = λ text at o. first.keeps text at (occurs_before text v b at o) ∙ then.keeps text (at + (length v - length f)) (between text at o) ∙ ap (first_span needles text) (here at);
+        keeps = λ text at o. first.keeps text at (occurs_before text v b at o) ∙ then.keeps text (at + (length v - length f)) (between text at o)
+            ∙ ap (first_span needles text) (here at);
       }
 
 -- a needle that begins with these bytes is these bytes and others
@@ -145,7 +151,8 @@ begins-split n v o =
     same_lists n (v ++ drop (length v) n) (omega (arith, fits, long, rest)) (λ k d l. ⊎_elim
     (λ (below : k < length v).
     let e : 0 + k ≡ k = omega arith in
-    get_or_default n k d 0 l ∙ ap (slice_index n) (sym e) ∙ o.reads k below ∙ get_or_default v k 0 d below ∙ sym (get_or_append_left v (drop (length v) n) d k below))
+    get_or_default n k d 0 l ∙ ap (slice_index n) (sym e) ∙ o.reads k below ∙ get_or_default v k 0 d below
+    ∙ sym (get_or_append_left v (drop (length v) n) d k below))
     (λ (above : length v ≤ k).
     let e : length v + (k - length v) ≡ k = omega (arith, above) in
     sym (get_or-append_right v (drop (length v) n) (length v) k d refl above ∙ get_or-drop (length v) n (k - length v) d ∙ ap (λ i. get_or n i d) e))

@@ -14,7 +14,8 @@ drop_one [] b some = absurd (omega arith)
 drop_one (x ∷ w) b some = refl
 
 -- bytes that begin with no needle, and one more, which are no needle
-within_more : (needles : List (List ℕ)) (w : List ℕ) (b : ℕ) → NoneWithin needles w → All (λ needle. needle ≢ w ++ b ∷ []) needles → NoneWithin needles (w ++ b ∷ [])
+within_more : (needles : List (List ℕ)) (w : List ℕ) (b : ℕ) → NoneWithin needles w → All (λ needle. needle ≢ w ++ b ∷ []) needles
+    → NoneWithin needles (w ++ b ∷ [])
 within_more needles w b within differ = λ k d l o.
     let n = slice_index_or needles k d in
     let long = length-append w (b ∷ []) in
@@ -30,7 +31,8 @@ within_more needles w b within differ = λ k d l o.
 
 -- from a trie
 module _ (needles : List (List ℕ)) (next depths : List ℕ) (ends : List Bool) (t : IsTrieOf next depths ends) where
-  none_begins : (n : List ℕ) (place : ℕ) → place < length next → slice_index next place ≡ stop → HasNeedleOf next ends n → ¬ OccursAt n (word_at t.words place) 0
+  none_begins : (n : List ℕ) (place : ℕ) → place < length next → slice_index next place ≡ stop → HasNeedleOf next ends n
+      → ¬ OccursAt n (word_at t.words place) 0
   none_begins n place within empty has o =
       let w = word_of t.words (place / 256) in
       let b = place % 256 in
@@ -48,7 +50,8 @@ module _ (needles : List (List ℕ)) (next depths : List ℕ) (ends : List Bool)
       let same : has.state ≡ q = walks-one next 0 (word_of t.words q) has.state q (subst (λ u. Walks next 0 u has.state) e has.leads) (t.reached q low) in
       false≢true (sym none ∙ ap (λ s. slice_index_or ends s false) (sym same) ∙ has.is_end)
 
-  pub trie_linked : (fails queue : List ℕ) → All (HasNeedleOf next ends) needles → fails ≡ replicate (length depths) stop → queue ≡ replicate 1 0 → IsLinkedOf needles next depths ends fails queue
+  pub trie_linked : (fails queue : List ℕ) → All (HasNeedleOf next ends) needles → fails ≡ replicate (length depths) stop → queue ≡ replicate 1 0
+      → IsLinkedOf needles next depths ends fails queue
   trie_linked fails queue all e_fails e_queue =
       let H : List ℕ → Type 0 = HasNeedleOf next ends in
       let tall = t.tall in
@@ -115,7 +118,8 @@ module _ (needles : List (List ℕ)) (next depths : List ℕ) (ends : List Bool)
       rw by_fail.1 (
         there.0,
         fail.2,
-        subst (λ w. Leads needles w (word_of words (slice_index next place))) (sym (drop_one (word_of words q) b fail.1)) (leads-step needles (drop 1 (word_of words q)) (word_of words f) (word_of words (slice_index next place)) b fail.3 step),
+        subst (λ w. Leads needles w (word_of words (slice_index next place))) (sym (drop_one (word_of words q) b fail.1))
+            (leads-step needles (drop 1 (word_of words q)) (word_of words f) (word_of words (slice_index next place)) b fail.3 step),
       ))
       rest)
       is
@@ -142,7 +146,8 @@ module _ (needles : List (List ℕ)) (next depths : List ℕ) (ends : List Bool)
 
     place_of : (i : ℕ) → i < length (set next (q * 256 + b) later) → IsPlace needles words i (slice_index (set next (q * 256 + b) later) i)
     place_of i l_i = ⊎_elim
-        (λ (here : i ≡ q * 256 + b). rw here (subst (IsPlace needles words (q * 256 + b)) (sym (get_or-set_same next (q * 256 + b) later 0 within)) ((λ _. begins), filled)))
+        (λ (here : i ≡ q * 256 + b). rw here (subst (IsPlace needles words (q * 256 + b)) (sym (get_or-set_same next (q * 256 + b) later 0 within))
+        ((λ _. begins), filled)))
         (λ (other : i ≡ q * 256 + b → ⊥). subst (IsPlace needles words i) (sym (get_or-set_other next (q * 256 + b) i later 0 other))
         (l.automaton.places i (let long = length-set next (q * 256 + b) later in omega (arith, l_i, long))))
         (cases_eq i (q * 256 + b))
@@ -191,13 +196,15 @@ module _ (needles : List (List ℕ)) (next depths : List ℕ) (ends : List Bool)
       omega (arith, c, tall)
 
   -- a child is linked
-  module _ (q b child later : ℕ) (low : q < length depths) (byte : b < 256) (stands : StandsAt next (q * 256 + b) child) (more : slice_index depths q < slice_index depths child)
+  module _ (q b child later : ℕ) (low : q < length depths) (byte : b < 256) (stands : StandsAt next (q * 256 + b) child)
+      (more : slice_index depths q < slice_index depths child)
       (is : IsLater next ends fails q b later) (none : slice_index_or ends child false ≡ false) where
     child_word : word_of words child ≡ word_of words q ++ b ∷ []
     child_word =
         let tall = l.automaton.tall in
         let leads : Leads needles (word_of words q ++ b ∷ []) (word_of words child) =
-        subst (λ w. Leads needles w (word_of words child)) (word_there q b byte) (subst (λ s. Leads needles (word_at words (q * 256 + b)) (word_of words s)) stands.2 ((l.automaton.places (q * 256 + b) stands.0).1 stands.1).1) in
+        subst (λ w. Leads needles w (word_of words child)) (word_there q b byte)
+        (subst (λ s. Leads needles (word_at words (q * 256 + b)) (word_of words s)) stands.2 ((l.automaton.places (q * 256 + b) stands.0).1 stands.1).1) in
         let long = length-append (word_of words q) (b ∷ []) in
         let shorter = leads.shorter in
         let here = l.automaton.depths_are q (omega (arith, low, tall)) in

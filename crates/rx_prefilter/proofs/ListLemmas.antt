@@ -7,7 +7,8 @@ use Rattle.std.proofs.lemmas.List.Elements.{All-get_or}
 use Rattle.std.proofs.lemmas.List.Folds.{list_all_at}
 
 -- the element at i comes next, under a map
-pub drop-map_more : {X Y : Type 0} (f : X → Y) (xs : List X) (i : ℕ) (x : X) → i < length xs → x ≡ get_or xs i x → drop i (map f xs) ≡ f x ∷ drop (i + 1) (map f xs)
+pub drop-map_more : {X Y : Type 0} (f : X → Y) (xs : List X) (i : ℕ) (x : X) → i < length xs → x ≡ get_or xs i x
+    → drop i (map f xs) ≡ f x ∷ drop (i + 1) (map f xs)
 drop-map_more f xs i x l is =
     let within : i < length (map f xs) = subst (λ n. i < n) (sym (length-map xs f)) l in
     drop_more (map f xs) i (f x) within ∙ ap (λ y. y ∷ drop (i + 1) (map f xs)) (get_or-map f xs i x (f x) l ∙ ap f (sym is))
@@ -35,14 +36,16 @@ pub list_all-next : {Y : Type 0} (p : Y → Bool) (y : Y) (ys : List Y) → p y 
 list_all-next p y ys e = ap (λ b. b && list_all p ys) e
 
 -- what all elements pass, the element at i passes
-pub list_all-at : {X Y : Type 0} (p : Y → Bool) (f : X → Y) (xs : List X) (i : ℕ) (x : X) → i < length xs → x ≡ get_or xs i x → list_all p (map f xs) ≡ true → p (f x) ≡ true
+pub list_all-at : {X Y : Type 0} (p : Y → Bool) (f : X → Y) (xs : List X) (i : ℕ) (x : X) → i < length xs → x ≡ get_or xs i x → list_all p (map f xs) ≡ true
+    → p (f x) ≡ true
 list_all-at p f xs i x l is every =
     let within : i < length (map f xs) = subst (λ n. i < n) (sym (length-map xs f)) l in
     let read : get_or (map f xs) i (f x) ≡ f x = get_or-map f xs i x (f x) l ∙ ap f (sym is) in
     ⊎_elim (λ yes_is. yes_is) (λ no_is. absurd (false≢true (sym (list_all_at p (map f xs) i (f x) within (ap p read ∙ no_is)) ∙ every))) (cases_Bool (p (f x)))
 
 -- a list that a loop makes of another, element by element
-pub map-take_more : {X Y : Type 0} (f : X → Y) (xs : List X) (i : ℕ) (x : X) → i < length xs → x ≡ get_or xs i x → map f (take (i + 1) xs) ≡ map f (take i xs) ++ f x ∷ []
+pub map-take_more : {X Y : Type 0} (f : X → Y) (xs : List X) (i : ℕ) (x : X) → i < length xs → x ≡ get_or xs i x
+    → map f (take (i + 1) xs) ≡ map f (take i xs) ++ f x ∷ []
 map-take_more f xs i x l is = map_more f xs i x l ∙ ap (λ y. map f (take i xs) ++ f y ∷ []) (sym is)
 
 pub map-push : {X Y : Type 0} (f : X → Y) (xs : List X) (x : X) → map f (xs ++ x ∷ []) ≡ map f xs ++ f x ∷ []

@@ -12,11 +12,13 @@ module _ (text : List ℕ) (at : ℕ) where
   unfolding span_at
   span_at-nil = refl
 
-  pub span_at-here : (needle : List ℕ) (needles : List (List ℕ)) → occurs_at text needle at ≡ true → span_at (needle ∷ needles) text at ≡ Some (needle_span needle at)
+  pub span_at-here : (needle : List ℕ) (needles : List (List ℕ)) → occurs_at text needle at ≡ true
+      → span_at (needle ∷ needles) text at ≡ Some (needle_span needle at)
   unfolding span_at
   span_at-here needle needles e = cond-true _ _ _ e
 
-  pub span_at-next : (needle : List ℕ) (needles : List (List ℕ)) → occurs_at text needle at ≡ false → span_at (needle ∷ needles) text at ≡ span_at needles text at
+  pub span_at-next : (needle : List ℕ) (needles : List (List ℕ)) → occurs_at text needle at ≡ false
+      → span_at (needle ∷ needles) text at ≡ span_at needles text at
   unfolding span_at
   span_at-next needle needles e = cond-false _ _ _ e
 
@@ -35,7 +37,8 @@ module _ (needles : List (List ℕ)) (text : List ℕ) where
   span_among-zero from = refl
 
   -- the first n places, and then those after them
-  pub span_among-split : (k from n : ℕ) → span_among needles text from (k + n) ≡ option_or (span_among needles text from k) (span_among needles text (from + k) n)
+  pub span_among-split : (k from n : ℕ) → span_among needles text from (k + n) ≡ option_or (span_among needles text from k)
+      (span_among needles text (from + k) n)
   unfolding span_among
   span_among-split zero from n =
       let e : 0 + n ≡ n = omega arith in let f : from + 0 ≡ from = omega arith in rw (e, f) refl
@@ -43,7 +46,9 @@ module _ (needles : List (List ℕ)) (text : List ℕ) where
       let e : suc k + n ≡ suc (k + n) = omega arith in
       let f : from + suc k ≡ from + 1 + k = omega arith in
       let later = span_among-split k (from + 1) n in
-      rw (e, f) (elim (span_at needles text from) as (λ o. option_or o (span_among needles text (from + 1) (k + n)) ≡ option_or (option_or o (span_among needles text (from + 1) k)) (span_among needles text (from + 1 + k) n)) [
+      rw (e, f)
+      (elim (span_at needles text from) as (λ o. option_or o (span_among needles text (from + 1) (k + n)) ≡ option_or
+      (option_or o (span_among needles text (from + 1) k)) (span_among needles text (from + 1 + k) n)) [
         | None ↦ later
         | Some s ↦ refl
       ])
@@ -76,13 +81,15 @@ module _ (needles : List (List ℕ)) (text : List ℕ) where
   first_span-next at le none = first_span-skip at (at + 1) (omega arith) (omega arith) (λ k a b. let e : at ≡ k = omega arith in subst (NoneLies needles text) e none)
 
   -- a window of places that holds the first needle, or none
-  pub first_span-window_found : (from k : ℕ) (span : Span) → from + k ≤ length text + 1 → span_among needles text from k ≡ Some span → first_span needles text from ≡ Some span
+  pub first_span-window_found : (from k : ℕ) (span : Span) → from + k ≤ length text + 1 → span_among needles text from k ≡ Some span
+      → first_span needles text from ≡ Some span
   first_span-window_found from k span le e =
       let n : length text + 1 - from ≡ k + (length text + 1 - (from + k)) = omega arith in
       ap (span_among needles text from) n ∙ span_among-split k from (length text + 1 - (from + k))
       ∙ ap (λ o. option_or o (span_among needles text (from + k) (length text + 1 - (from + k)))) e
 
-  pub first_span-window_next : (from k : ℕ) → from + k ≤ length text + 1 → span_among needles text from k ≡ None → first_span needles text from ≡ first_span needles text (from + k)
+  pub first_span-window_next : (from k : ℕ) → from + k ≤ length text + 1 → span_among needles text from k ≡ None
+      → first_span needles text from ≡ first_span needles text (from + k)
   first_span-window_next from k le e =
       let n : length text + 1 - from ≡ k + (length text + 1 - (from + k)) = omega arith in
       ap (span_among needles text from) n ∙ span_among-split k from (length text + 1 - (from + k))

@@ -14,7 +14,8 @@ use Rattle.rx_prefilter.proofs.ByteLemmas.{occurs_at-false}
 use Rattle.rx_prefilter.proofs.NeedleLemmas.{span_at-nil, span_at-next, span_among-skip, span_among-split, span_among-zero}
 
 -- a mark more
-pub marked_same : (ps : List ℕ) (pair j : ℕ) → pair < length ps → j < 8 → bit_at (get_or (set ps pair (bit_or (get_or ps pair 0) (1 * 2 ^ j % 2 ^ 8))) pair 0) j ≡ 1
+pub marked_same : (ps : List ℕ) (pair j : ℕ) → pair < length ps → j < 8
+    → bit_at (get_or (set ps pair (bit_or (get_or ps pair 0) (1 * 2 ^ j % 2 ^ 8))) pair 0) j ≡ 1
 marked_same ps pair j within few =
     ap (λ n. bit_at n j) (get_or-set_same ps pair (bit_or (get_or ps pair 0) (1 * 2 ^ j % 2 ^ 8)) 0 within) ∙ bit_at_set_same w8 (get_or ps pair 0) j few
 
@@ -27,7 +28,8 @@ bit_at_left a b k e =
 pub marked_kept : (ps : List ℕ) (pair v : ℕ) → pair < length ps → Keeps ps (set ps pair (bit_or (get_or ps pair 0) v))
 marked_kept ps pair v within i k e =
     ⊎_elim
-    (λ same. rw same (ap (λ n. bit_at n k) (get_or-set_same ps pair (bit_or (get_or ps pair 0) v) 0 within) ∙ bit_at_left (get_or ps pair 0) v k (rw same at e)))
+    (λ same. rw same (ap (λ n. bit_at n k) (get_or-set_same ps pair (bit_or (get_or ps pair 0) v) 0 within)
+    ∙ bit_at_left (get_or ps pair 0) v k (rw same at e)))
     (λ other. ap (λ n. bit_at n k) (get_or-set_other ps pair i (bit_or (get_or ps pair 0) v) 0 other) ∙ e)
     (cases_eq i pair)
 
@@ -46,7 +48,8 @@ pub all_marked_more : (old new : List ℕ) (stride : ℕ) (ns ms : List (List �
     → All (IsMarked old stride) ns → IsMarked new stride needle → All (IsMarked new stride) ms
 all_marked_more old new stride ns ms needle kept is before here =
     All-same (IsMarked new stride) ms (ns ++ needle ∷ []) is
-    (All-push (IsMarked new stride) ns needle (All-weaker (IsMarked old stride) (IsMarked new stride) (λ n m. IsMarked-kept old new stride n kept m) ns before) here)
+    (All-push (IsMarked new stride) ns needle (All-weaker (IsMarked old stride) (IsMarked new stride) (λ n m. IsMarked-kept old new stride n kept m) ns before)
+    here)
 
 pub all_longer_more : (s t : ℕ) (ns ms : List (List ℕ)) (needle : List ℕ) → t ≤ s → t < length needle → ms ≡ ns ++ needle ∷ []
     → All (λ n. s < length n) ns → All (λ n. t < length n) ms
@@ -64,7 +67,8 @@ doubled n i = let half : (2 * n + 1) / 2 ≡ n = omega arith in bit_at-suc (2 * 
 
 -- a pair that isn't marked at place j rules out a needle that begins j places before
 module _ (places : List ℕ) (stride : ℕ) (text : List ℕ) where
-  lies_marked : (needle : List ℕ) (at j : ℕ) → IsMarked places stride needle → j < stride → OccursAt text needle at → bit_at (slice_index places (pair_at text (at + j))) j ≡ 1
+  lies_marked : (needle : List ℕ) (at j : ℕ) → IsMarked places stride needle → j < stride → OccursAt text needle at
+      → bit_at (slice_index places (pair_at text (at + j))) j ≡ 1
   lies_marked needle at j m l o =
       let long = m.long in
       let first : slice_index text (at + j) ≡ slice_index needle j = o.reads j (omega arith) in
@@ -77,7 +81,8 @@ module _ (places : List ℕ) (stride : ℕ) (text : List ℕ) where
       → bit_at (slice_index places (pair_at text (at + j))) j ≢ 1 → NoneLies needles text at
   unmarked_none [] at j marked l not = span_at-nil text at
   unmarked_none (needle ∷ needles) at j marked l not =
-      span_at-next text at needle needles (occurs_at-false text needle at (λ o. not (lies_marked needle at j (All-head (IsMarked places stride) needle needles marked) l o)))
+      span_at-next text at needle needles (occurs_at-false text needle at
+      (λ o. not (lies_marked needle at j (All-head (IsMarked places stride) needle needles marked) l o)))
       ∙ unmarked_none needles at j (All-tail (IsMarked places stride) needle needles marked) l not
 
   -- no needle begins where fewer than its bytes are left

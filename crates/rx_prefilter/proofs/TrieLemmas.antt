@@ -33,7 +33,8 @@ pub needle-grows : (next : List ℕ) (ends : List Bool) (later : List ℕ) (late
     → HasNeedleOf next ends needle → HasNeedleOf later later_ends needle
 needle-grows next ends later later_ends needle g has = record { state = has.state; leads = g.walks 0 needle has.state has.leads; is_end = g.keeps_ends has.state has.is_end }
 
-pub grows-on : (n1 : List ℕ) (e1 : List Bool) (n2 : List ℕ) (e2 : List Bool) (n3 : List ℕ) (e3 : List Bool) → GrowsTo n1 e1 n2 e2 → GrowsTo n2 e2 n3 e3 → GrowsTo n1 e1 n3 e3
+pub grows-on : (n1 : List ℕ) (e1 : List Bool) (n2 : List ℕ) (e2 : List Bool) (n3 : List ℕ) (e3 : List Bool) → GrowsTo n1 e1 n2 e2 → GrowsTo n2 e2 n3 e3
+    → GrowsTo n1 e1 n3 e3
 grows-on n1 e1 n2 e2 n3 e3 a b = record { walks = λ p u q way. b.walks p u q (a.walks p u q way); keeps_ends = λ q e. b.keeps_ends q (a.keeps_ends q e) }
 
 pub grows-same : (n : List ℕ) (e : List Bool) → GrowsTo n e n e
@@ -141,7 +142,8 @@ module _ (next depths : List ℕ) (ends : List Bool) (t : IsTrieOf next depths e
           rows = omega (arith, long, many, rows_are);
           tall = let l = length-append depths ((slice_index depths (place / 256) + 1) ∷ []) in omega (arith, l, many, tall);
           depths_are = λ q l. by_word q l (λ k. slice_index new_depths k ≡ length (word_of new_words k))
-              (λ k below. get_or_append_left depths ((slice_index depths (place / 256) + 1) ∷ []) 0 k (omega (arith, tall, below)) ∙ t.depths_are k below ∙ ap (λ (w : List ℕ). length w) (sym (old_word k below)))
+              (λ k below. get_or_append_left depths ((slice_index depths (place / 256) + 1) ∷ []) 0 k (omega (arith, tall, below)) ∙ t.depths_are k below
+              ∙ ap (λ (w : List ℕ). length w) (sym (old_word k below)))
               (get_or_push depths (slice_index depths (place / 256) + 1) 0 child refl ∙ ap (λ n. n + 1) (t.depths_are (place / 256) row_of)
               ∙ sym (length-append (word_of t.words (place / 256)) (place % 256 ∷ [])) ∙ ap (λ (w : List ℕ). length w) (sym new_word));
           wide = let l = length-append ends (false ∷ []) in omega (arith, l, many, wide_is);
@@ -155,18 +157,25 @@ module _ (next depths : List ℕ) (ends : List Bool) (t : IsTrieOf next depths e
         }
 
 -- what a function leaves that adds a state
-pub added : (next depths : List ℕ) (ends : List Bool) (t : IsTrieOf next depths ends) (place state n v : ℕ) (rows later_depths : List ℕ) (later_ends : List Bool)
+pub added : (next depths : List ℕ) (ends : List Bool) (t : IsTrieOf next depths ends) (place state n v : ℕ) (rows later_depths : List ℕ)
+    (later_ends : List Bool)
     → place < length next → slice_index next place ≡ stop → length depths < stop → place / 256 ≡ state → n ≡ length depths → v ≡ slice_index depths state
     → rows ≡ next ++ replicate 256 stop → later_depths ≡ depths ++ (v + 1) ∷ [] → later_ends ≡ ends ++ false ∷ []
-    → IsTrieOf (set rows place n) later_depths later_ends × GrowsTo next ends (set rows place n) later_ends × StandsAt (set rows place n) place n × (n < length later_depths)
+    → IsTrieOf (set rows place n) later_depths later_ends × GrowsTo next ends (set rows place n) later_ends × StandsAt (set rows place n) place n
+    × (n < length later_depths)
 added next depths ends t place state n v rows later_depths later_ends within empty few row is read e_rows e_depths e_ends =
     let depths_are : later_depths ≡ new_depths next depths ends t place = e_depths ∙ ap (λ k. depths ++ (k + 1) ∷ []) (read ∙ ap (slice_index depths) (sym row)) in
     let long = length-append depths ((slice_index depths (place / 256) + 1) ∷ []) in
-    rw (e_rows, is, depths_are, e_ends)
-    (added_trie next depths ends t place within empty few, added_grows next depths ends t place within empty few, added_stands next depths ends t place within empty few, omega (arith, long))
+    rw (e_rows, is, depths_are, e_ends) (
+      added_trie next depths ends t place within empty few,
+      added_grows next depths ends t place within empty few,
+      added_stands next depths ends t place within empty few,
+      omega (arith, long),
+    )
 
 -- the trie of no needle
-pub empty_trie : (next depths : List ℕ) (ends : List Bool) → next ≡ replicate 256 stop → depths ≡ replicate 1 0 → ends ≡ replicate 1 false → IsTrieOf next depths ends
+pub empty_trie : (next depths : List ℕ) (ends : List Bool) → next ≡ replicate 256 stop → depths ≡ replicate 1 0 → ends ≡ replicate 1 false
+    → IsTrieOf next depths ends
 empty_trie next depths ends e_next e_depths e_ends =
     let long : length next ≡ 256 = ap (λ (l : List ℕ). length l) e_next ∙ length-replicate 256 stop in record {
       words = [] ∷ [];

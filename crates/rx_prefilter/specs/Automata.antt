@@ -32,7 +32,8 @@ IsPlace needles words place state =
 -- where the bytes that lead to a state begin no longer, this state has the longest of their ends that may
 abbrev pub IsFail : List (List ℕ) → List (List ℕ) → ℕ → ℕ → Type 0
 IsFail needles words state fail =
-    (fail < length words) × (0 < length (word_of words state)) × NoneWithin needles (word_of words state) × Leads needles (drop 1 (word_of words state)) (word_of words fail)
+    (fail < length words) × (0 < length (word_of words state)) × NoneWithin needles (word_of words state)
+    × Leads needles (drop 1 (word_of words state)) (word_of words fail)
 
 -- a table, and how many bytes lead to each of its states
 pub record IsAutomatonOf (needles : List (List ℕ)) (next depths : List ℕ) : Type 0 where

@@ -36,6 +36,7 @@ fn wanted_at(at: usize, is_wanted: bool) -> Option<Span>
 }
 
 /// The first place from `from` on at which the byte stands.
+#[inline(always)]
 pub(crate) fn find(a: u8, text: &[u8], from: usize) -> Option<Span>
     requires { from ≤ length text.now }
     ensures { result ≡ first_span (single a ∷ []) text.now from }
@@ -44,6 +45,7 @@ pub(crate) fn find(a: u8, text: &[u8], from: usize) -> Option<Span>
 }
 
 /// The first place from `from` on at which one of the two bytes stands.
+#[inline(always)]
 pub(crate) fn find2(a: u8, b: u8, text: &[u8], from: usize) -> Option<Span>
     requires { from ≤ length text.now }
     ensures { result ≡ first_span (single a ∷ single b ∷ []) text.now from }
@@ -52,6 +54,7 @@ pub(crate) fn find2(a: u8, b: u8, text: &[u8], from: usize) -> Option<Span>
 }
 
 /// The first place from `from` on at which one of the three bytes stands.
+#[inline(always)]
 pub(crate) fn find3(a: u8, b: u8, c: u8, text: &[u8], from: usize) -> Option<Span>
     requires { from ≤ length text.now }
     ensures { result ≡ first_span (single a ∷ single b ∷ single c ∷ []) text.now from }

@@ -16,10 +16,8 @@ mod multi;
 mod needles;
 mod prefilter;
 mod prefixes;
+mod threads;
 
 pub use choice::Choice;
 pub use laws::a_search_finds_the_first_span;
 pub use prefilter::Prefilter;
-
-#[cfg(test)]
-mod tests;

@@ -7,6 +7,7 @@ use memchr::memmem::Finder;
 use rx_search::Span;
 
 /// Where the finder's needle lies that begins at the least place from `from` on.
+#[inline(always)]
 pub(crate) fn find(finder: &Finder<'static>, text: &[u8], from: usize) -> Option<Span>
     requires { from ≤ length text.now }
     ensures { result ≡ first_span (finder.now ∷ []) text.now from }

@@ -80,6 +80,7 @@ impl Multi {
         requires within { from ≤ length text.now }
         ensures { result ≡ first_span self.now text.now from }
     {
+        // It counts and reads no clock (DECISIONS: a search of several needles jumps as long as jumps pay).
         let mut at = from;
         let mut failed = 0;
         while failed < TRIES + (at - from) / WORTH {

@@ -36,6 +36,10 @@ impl Prefilter {
 
     /// A search for these needles, the first of which is preferred at each place. None exactly where there is no
     /// needle, or where one is empty.
+    ///
+    /// # Errors
+    ///
+    /// `Memory`, where there was no memory for the search.
     pub fn new(
         alloc: Global,
         _kind: MatchKind,
@@ -97,6 +101,10 @@ impl Prefilter {
     }
 
     /// The same search. It shares the tables.
+    ///
+    /// # Errors
+    ///
+    /// `Memory`, where there was no memory for it.
     pub fn clone(&self) -> Result<Prefilter, Memory>
         ensures { IfOk result (λ copy. copy ≡ self.now) }
     {

@@ -14,6 +14,10 @@ use std::alloc::Global;
 impl Prefilter {
     /// A search for what each match of the expression begins with. None exactly where its prefixes, trimmed for this
     /// kind of matches, are infinitely many, or no needles of any search.
+    ///
+    /// # Errors
+    ///
+    /// `Memory`, where there was no memory for the prefixes or the search.
     pub fn from_hir_prefix(
         alloc: Global,
         kind: MatchKind,
@@ -22,10 +26,14 @@ impl Prefilter {
         ensures { IfOk result (λ made. made ≡ served_by (trimmed kind (prefixes hir.now))) }
     {
         let seq = prefixes(alloc, hir)?;
-        of_seq(alloc, kind, &trimmed(alloc, kind, &seq)?)
+        of_seq(alloc, kind, &trimmed(alloc, kind, seq)?)
     }
 
     /// The same of several expressions, the prefixes of the first one preferred.
+    ///
+    /// # Errors
+    ///
+    /// As by `from_hir_prefix`.
     pub fn from_hirs_prefix(
         alloc: Global,
         kind: MatchKind,
@@ -34,13 +42,13 @@ impl Prefilter {
         ensures { IfOk result (λ made. made ≡ served_by (trimmed kind (prefixes_of hirs.now))) }
     {
         let seq = prefixes_of(alloc, hirs)?;
-        of_seq(alloc, kind, &trimmed(alloc, kind, &seq)?)
+        of_seq(alloc, kind, &trimmed(alloc, kind, seq)?)
     }
 }
 
 /// The sequence as a search of this kind takes it.
-fn trimmed(alloc: Global, kind: MatchKind, seq: &Seq) -> Result<Seq, Memory>
-    ensures { IfOk result (λ s. s ≡ trimmed kind seq.now) }
+fn trimmed(alloc: Global, kind: MatchKind, seq: Seq) -> Result<Seq, Memory>
+    ensures { IfOk result (λ s. s ≡ trimmed kind seq) }
 {
     match kind {
         MatchKind::All => seq.trimmed_for_all(alloc),

@@ -7,7 +7,7 @@ use Rattle.rx_reader.specs.Coded.{syntax_size, greatest_size}
 use Rattle.rx_reader.specs.AstViews.{kind_view, expanded}
 use Rattle.rx_reader.specs.declared.flags.Flags.{Flags}
 use Rattle.rx_reader.specs.declared.ast.AstKind.{AstKind}
-use Rattle.rx_reader.specs.declared.ast.AstKind.TheVariants.{Literal, Atom, Repetition, Group, Concat, Alternation}
+use Rattle.rx_reader.specs.declared.ast.AstKind.TheVariants.{Literal, Atom, Repetition, Group, Concat, Alternation, Branch}
 use Rattle.rx_reader.specs.declared.ast.Item.{Item}
 use Rattle.rx_reader.specs.declared.ast.Item.TheVariants.{Literals, One}
 use Rattle.rx_reader.specs.declared.ast.Ast.TheDeep.{deep-AstKind, deep-Item}
@@ -16,7 +16,8 @@ pub most_le-greatest_size : (ss : List Syntax) → most (λ s. syntax_size s + 1
 most_le-greatest_size [] = omega arith
 most_le-greatest_size (s ∷ ss) = omega (arith, most_le-greatest_size ss)
 
-greatest_size-after : (flags : Flags) (cs : List ℕ) (ss : List Syntax) → greatest_size (syntaxes ss) ≤ greatest_size (syntaxes (map (literal flags) cs ++ ss))
+pub greatest_size-after : (flags : Flags) (cs : List ℕ) (ss : List Syntax)
+    → greatest_size (syntaxes ss) ≤ greatest_size (syntaxes (map (literal flags) cs ++ ss))
 greatest_size-after flags [] ss = omega arith
 greatest_size-after flags (c ∷ cs) ss = omega (arith, greatest_size-after flags cs ss)
 
@@ -32,3 +33,4 @@ kind_falls (Repetition min max greedy sub) = omega arith
 kind_falls (Group kind sub) = omega arith
 kind_falls (Concat items) = omega (arith, most_le-expanded items.items)
 kind_falls (Alternation branches) = omega (arith, most_le-greatest_size branches.items)
+kind_falls (Branch items) = omega (arith, most_le-expanded items.items)

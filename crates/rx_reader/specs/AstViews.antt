@@ -3,7 +3,7 @@ use Rattle.std.specs.Prelude.{ℕ, ◌≤◌, List, [], ◌∷◌, ◌++◌, map
 use Rattle.rx_reader.specs.Syntax.{Syntax, literal, atom, repeated, group, cat, alt, syntaxes}
 use Rattle.rx_reader.specs.declared.flags.Flags.{Flags}
 use Rattle.rx_reader.specs.declared.ast.AstKind.{AstKind}
-use Rattle.rx_reader.specs.declared.ast.AstKind.TheVariants.{Literal, Atom, Repetition, Group, Concat, Alternation}
+use Rattle.rx_reader.specs.declared.ast.AstKind.TheVariants.{Literal, Atom, Repetition, Group, Concat, Alternation, Branch}
 use Rattle.rx_reader.specs.declared.ast.Item.{Item}
 use Rattle.rx_reader.specs.declared.ast.Item.TheVariants.{Literals, One}
 
@@ -17,6 +17,10 @@ expanded (One item ∷ items) = item ∷ expanded items
 abbrev pub with_run : List Item → Flags → List ℕ → List Syntax
 with_run items flags run = expanded items ++ map (literal flags) run
 
+-- one branch, of these items
+abbrev pub only_branch : List Item → Syntax
+only_branch items = alt (syntaxes (cat (syntaxes (expanded items)) ∷ []))
+
 abbrev pub kind_view : AstKind → Syntax
 kind_view (Literal flags c) = literal flags c
 kind_view (Atom flags piece a) = atom flags piece a
@@ -24,6 +28,7 @@ kind_view (Repetition min max greedy sub) = repeated min max greedy sub.value
 kind_view (Group kind sub) = group kind sub.value
 kind_view (Concat items) = cat (syntaxes (expanded items.items))
 kind_view (Alternation branches) = alt (syntaxes branches.items)
+kind_view (Branch items) = only_branch items.items
 
 -- the counts of a repetition are in order
 abbrev pub IsWellFormed : AstKind → Type 0

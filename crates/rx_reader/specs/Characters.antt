@@ -12,7 +12,7 @@ abbrev pub AllInItem : (ℕ → Type 0) → ClassItem → Type 0
 AllInItem S (items.Range low high) = S low.character × S high.character
 AllInItem S (items.Perl kind negated) = Unit {0}
 AllInItem S (items.Posix kind negated) = Unit {0}
-AllInItem S (items.Property piece name negated) = Unit {0}
+AllInItem S (items.Property negated piece name) = Unit {0}
 
 abbrev pub AllInAtom : (ℕ → Type 0) → Atom → Type 0
 AllInAtom S (HexByte c) = S c

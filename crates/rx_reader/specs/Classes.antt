@@ -31,7 +31,7 @@ item_of (Many item) = item
 abbrev pub escaped_member : (p : Place) → Escaped × Place → Read ClassMember
 escaped_member p (Character c, q) = Ok (One c, q)
 escaped_member p (EscapedPerl kind negated, q) = Ok (Many (Perl kind negated), q)
-escaped_member p (EscapedProperty name negated, q) = Ok (Many (Property (piece_of p q) name negated), q)
+escaped_member p (EscapedProperty name negated, q) = Ok (Many (Property negated (piece_of p q) name), q)
 escaped_member p (Assertion kind, q) = refuse Escape p q
 
 -- the set of that name, which ends before the place q; where there is none the bracket at p is refused

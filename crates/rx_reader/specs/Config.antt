@@ -25,7 +25,15 @@ octal_of c = c.octal
 
 -- no flag but `u`
 abbrev pub unicode_alone : Flags
-unicode_alone = record { case_insensitive = false; multi_line = false; dot_matches_new_line = false; swap_greed = false; unicode = true; crlf = false; ignore_whitespace = false }
+unicode_alone = record {
+  case_insensitive = false;
+  multi_line = false;
+  dot_matches_new_line = false;
+  swap_greed = false;
+  unicode = true;
+  crlf = false;
+  ignore_whitespace = false;
+}
 
 abbrev pub default : Config
 default = record { flags = unicode_alone; line_terminator = 10; utf8 = true; nest_limit = 250; octal = false }

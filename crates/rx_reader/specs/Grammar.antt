@@ -145,7 +145,8 @@ module _ (config : Config) where
 
   -- A group that was opened at p, with the flags `inside` in it, and the branches after it, where the flags are again as
   -- before it; or too many open groups.
-  abbrev pub group_then : (more : Flags → ℕ → Place → Read Branches) → Flags → (opened : ℕ) → (p : Place) → GroupKind → (inside : Flags) → Place → (too_many : Bool) → Read Branches
+  abbrev pub group_then : (more : Flags → ℕ → Place → Read Branches) → Flags → (opened : ℕ) → (p : Place) → GroupKind → (inside : Flags) → Place
+      → (too_many : Bool) → Read Branches
   group_then more flags opened p kind inside q true = refuse NestLimit p q
   group_then more flags opened p kind inside q false = do
     (body, r) ← more inside (opened + 1) q

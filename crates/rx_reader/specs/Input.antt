@@ -1,5 +1,5 @@
 -- How the values of the parser stand to those of the grammar.
-use Rattle.std.specs.Prelude.{◌≡◌, ℕ, ◌<◌, List, [], Result, Ok, MatchResult, drop, length}
+use Rattle.std.specs.Prelude.{◌≡◌, ℕ, ◌<◌, List, [], Result, Ok, MatchResult, chars, length}
 use Rattle.rx_reader.specs.declared.cursor.Cursor.{Cursor}
 use Rattle.rx_reader.specs.declared.piece.Piece.{Piece}
 use Rattle.rx_reader.specs.declared.error.SyntaxError.{SyntaxError}
@@ -7,14 +7,11 @@ use Rattle.rx_reader.specs.declared.error.ParseError.{ParseError}
 use Rattle.rx_reader.specs.Reading.{Place, past}
 pub use Rattle.rx_reader.specs.Refusal.{Refuses}
 
-unfoldable pub text_from : ℕ → List ℕ → List ℕ
-text_from = drop
-
 abbrev pub place : Cursor → Place
-place c = record { text = text_from c.pos c.chars.items; at = c.at; groups = c.groups; names = c.names }
+place c = record { text = chars c.rest.now; at = c.at; groups = c.groups; names = c.names }
 
 abbrev pub unread : Cursor → ℕ
-unread c = length (text_from c.pos c.chars.items)
+unread c = length (chars c.rest.now)
 
 abbrev pub start_of : List ℕ → Place
 start_of text = record { text = text; at = 0; groups = 0; names = [] }
@@ -33,4 +30,4 @@ IsPieceAt piece p = (piece.start ≡ p.at) × (piece.end ≡ (past p).at)
 
 -- a group more can be counted
 abbrev pub HasRoom : Cursor → Type 0
-HasRoom c = c.groups < c.pos
+HasRoom c = c.groups < c.at

@@ -21,4 +21,5 @@ pub mod Reading
 pub mod Refusal
 pub mod Stack
 pub mod Syntax
+pub mod Texts
 pub mod Tokens

@@ -24,7 +24,7 @@ abbrev pub bare_item : ClassItem → ClassItem
 bare_item (items.Range low high) = items.Range low high
 bare_item (items.Perl kind negated) = items.Perl kind negated
 bare_item (items.Posix kind negated) = items.Posix kind negated
-bare_item (items.Property piece name negated) = items.Property nowhere name negated
+bare_item (items.Property negated piece name) = items.Property negated nowhere name
 
 abbrev pub bare_atom : Atom → Atom
 bare_atom (HexByte c) = HexByte c
@@ -59,7 +59,7 @@ abbrev pub HasItemText : ClassItem → Type 0
 HasItemText (items.Range low high) = (low.is_hex_byte ≡ false) × (high.is_hex_byte ≡ false) × (low.character ≤ high.character)
 HasItemText (items.Perl kind negated) = Unit {0}
 HasItemText (items.Posix kind negated) = ⊥
-HasItemText (items.Property piece name negated) = ⊥
+HasItemText (items.Property negated piece name) = ⊥
 
 -- No byte by its number stands there. The name of a set has no closing brace, and no `^` in front, which would complement it.
 abbrev pub HasAtomText : Atom → Type 0

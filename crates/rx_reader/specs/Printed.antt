@@ -44,7 +44,7 @@ abbrev pub class_item_text : ClassItem → List ℕ
 class_item_text (items.Range low high) = range_text low.character high.character
 class_item_text (items.Perl kind negated) = perl_text kind negated
 class_item_text (items.Posix kind negated) = []
-class_item_text (items.Property piece name negated) = []
+class_item_text (items.Property negated piece name) = []
 
 abbrev pub class_text : (negated : Bool) → List ClassItem → List ℕ
 class_text negated class = (if negated then codes "[^" else codes "[") ++ (flat_map class_item_text class ++ codes "]")

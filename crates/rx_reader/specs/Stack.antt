@@ -48,7 +48,8 @@ module _ (config : Config) where
   resume [] g (Ok (b, q)) = if at_end q then Ok (merged g b) else refuse UnopenedGroup q (past q)
   resume (f ∷ fs) g (Err e) = Err e
   resume (f ∷ fs) g (Ok (b, q)) =
-      close_at f (merged g b) q >>= λ (s, after). all_repetitions config f.flags s after >>= λ (item, r). resume fs (push_item f.gathered item) (all_branches config f.flags (length fs) r)
+      close_at f (merged g b) q >>= λ (s, after). all_repetitions config f.flags s after >>= λ (item, r). resume fs (push_item f.gathered item)
+      (all_branches config f.flags (length fs) r)
 
 -- the answer, where this is read next
 abbrev pub answer_with : Parser → Read Branches → Result Syntax SyntaxError

@@ -1,7 +1,7 @@
 //! A pattern as it is written: what the reader makes of a text, before it is translated.
 ghost use Rattle.std.specs.Prelude.{◌≡◌, ◌+◌, ◌<◌, ◌≤◌, ◌^◌, [], ◌∷◌, IfOk, IfSome};
 ghost use Rattle.rx_reader.specs.Syntax.{Syntax, literal, atom, repeated, group, cat, alt, syntaxes, depth, deepest};
-ghost use Rattle.rx_reader.specs.AstViews.{expanded, literal_of};
+ghost use Rattle.rx_reader.specs.AstViews.{expanded, literal_of, only_branch};
 
 use crate::atom::Atom;
 use crate::flags::Flags;
@@ -21,6 +21,7 @@ pub struct Ast {
     nesting: u32,
 }
 
+// So translation needs no state (DECISIONS: the syntax tree keeps the flags at each atom).
 /// What a pattern, or a part of one, is made of. Each atom has the flags that stand there.
 #[cycle(ast)]
 #[derive(Drop)]
@@ -52,6 +53,9 @@ pub enum AstKind {
     Concat(Vec<Item>),
     /// Branches, of which the first that matches is preferred.
     Alternation(Vec<Ast>),
+    // It has no list of branches (DECISIONS: a branch that is the only one has a node of its own).
+    /// A branch that is the only one: items one after another.
+    Branch(Vec<Item>),
 }
 
 /// A part of a concatenation. Characters in a row that stand for themselves, under the same flags, are one
@@ -170,6 +174,19 @@ impl Ast {
         let nesting = deepest_item(&items);
         Ast {
             kind: AstKind::Concat(items),
+            nesting,
+        }
+    }
+
+    /// The only branch of a group, or of a pattern.
+    pub(crate) fn branch(items: Vec<Item>) -> Ast
+        ensures { result ≡ only_branch items.items }
+    {
+        let mut items = items;
+        items.shrink_to_fit();
+        let nesting = deepest_item(&items);
+        Ast {
+            kind: AstKind::Branch(items),
             nesting,
         }
     }

@@ -60,9 +60,9 @@ fn escaped_member(
         Escaped::Character(c) => Ok(ClassMember::One(c)),
         Escaped::Perl { kind, negated } => Ok(ClassMember::Many(ClassItem::Perl { kind, negated })),
         Escaped::Property { name, negated } => Ok(ClassMember::Many(ClassItem::Property {
+            negated,
             piece: cursor.piece_from(start),
             name,
-            negated,
         })),
         Escaped::Assertion(_) => Err(cursor.refuse_from(start, SyntaxErrorKind::Escape)),
     }
@@ -223,6 +223,7 @@ fn class_item(
     if cursor.is_at(&[']']) {
         let c = cursor.first();
         cursor.bump();
+        // It is itself, and begins no range (DECISIONS: in a class a `]` directly after `[` or `[^`).
         if comes_first {
             return Ok(Some(item_of(plain(c))));
         }

@@ -35,9 +35,9 @@ pub enum ClassItem {
     },
     /// `\pX` or `\p{name}`; `\P` and a `^` before the name each negate it.
     Property {
+        negated: bool,
         piece: Piece,
         name: Text,
-        negated: bool,
     },
 }
 

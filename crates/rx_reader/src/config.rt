@@ -5,9 +5,6 @@ ghost use Rattle.rx_reader.specs.Config.{default, flags_of, terminator_of, utf8_
 use crate::flags::Flags;
 use std::default::Default;
 
-#[cfg(test)]
-mod tests;
-
 /// How patterns are read and translated: the flags that stand at the start of each pattern, and what is
 /// permitted.
 #[derive(Clone, Copy)]

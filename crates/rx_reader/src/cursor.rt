@@ -1,9 +1,9 @@
 //! A place in a pattern.
-ghost use Rattle.std.specs.Prelude.{◌≡◌, ◌+◌, ◌*◌, ◌<◌, ◌≤◌, not, ◌&&◌, length, drop, [], ◌∷◌, ◌^◌, vec_len, chars, nat_eq, if◌then◌else◌, IfOk, MatchOption, IsTrue, IsFalse};
-ghost use lib.Utf8.{encodes};
-ghost use Rattle.std.specs.List.{prefix_len, starts_with};
+ghost use Rattle.std.specs.Prelude.{◌≡◌, ◌+◌, ◌<◌, ◌≤◌, not, ◌&&◌, length, drop, [], ◌∷◌, ◌^◌, chars, nat_eq, if◌then◌else◌, IfOk, MatchOption, IsTrue, IsFalse};
+ghost use Rattle.std.specs.List.{starts_with};
 ghost use Rattle.rx_reader.specs.Reading.{at_end, first, past, passes, is_among};
 ghost use Rattle.std.specs.Char.{is_whitespace};
+ghost use Rattle.std.specs.Str.{IsUtf8};
 
 use crate::error::{ParseError, SyntaxError, SyntaxErrorKind};
 use crate::names::Names;
@@ -12,44 +12,47 @@ use std::alloc::{AllocError, Global};
 use std::num::NonZeroUsize;
 
 mod ahead;
+mod front;
 
-/// The characters of a pattern, and how far they are read.
+use front::{after_first, after_white, begins_with, split_first};
+
+/// A pattern, and how far it is read. Its characters are decoded one by one where they stand.
 #[derive(Drop)]
-pub(crate) struct Cursor {
-    chars: Vec<char>,
-    pos: usize,
+pub(crate) struct Cursor<'a> {
+    alloc: Global,
+    /// What is still to read.
+    rest: &'a str,
     /// How many bytes stand before the position.
     at: usize,
     /// How many capturing groups were opened before it.
     groups: usize,
     /// The names that they have.
     names: Names,
-    ghost within: { pos ≤ vec_len chars },
-    ghost narrow: { at + length (encodes (drop pos chars.items)) < 2 ^ 64 },
-    ghost few: { groups ≤ pos },
+    ghost narrow: { at + length rest.now < 2 ^ 64 },
+    ghost few: { groups ≤ at },
+    ghost utf8: { ∥ IsUtf8 rest.now ∥₁ },
 }
 
-impl Cursor {
+impl<'a> Cursor<'a> {
     ghost use Rattle.rx_reader.specs.Input.{place, unread, start_of, HasRoom, IsPieceAt};
     ghost use Rattle.rx_reader.specs.Classes.{next_text};
     ghost use Rattle.rx_reader.specs.Groups.{number_after};
     ghost use Rattle.rx_reader.specs.Reading.{count_group, has_name, add_name, past_white, past_all};
 
-    pub(crate) fn new(alloc: Global, pattern: &str) -> Result<Cursor, AllocError>
-        ensures { IfOk result (λ c. place c ≡ start_of (chars pattern.now)) }
+    pub(crate) fn new(alloc: Global, pattern: &'a str) -> Cursor<'a>
+        ensures { place result ≡ start_of (chars pattern.now) }
     {
-        let chars = pattern.chars().collect(alloc)?;
-        Ok(Cursor {
-            chars,
-            pos: 0,
+        Cursor {
+            alloc,
+            rest: pattern,
             at: 0,
             groups: 0,
             names: Names::new(alloc),
-        })
+        }
     }
 
     pub(crate) fn alloc(&self) -> Global {
-        *self.chars.allocator()
+        self.alloc
     }
 
     /// How many bytes stand before the position.
@@ -63,10 +66,9 @@ impl Cursor {
     pub(crate) fn current(&self) -> Option<char>
         ensures { MatchOption result (unread self.now ≡ 0) (λ c. (0 < unread self.now) × (c ≡ first (place self.now))) }
     {
-        if self.pos < self.chars.len() {
-            Some(self.chars[self.pos])
-        } else {
-            None
+        match split_first(self.rest) {
+            Some((c, _)) => Some(c),
+            None => None,
         }
     }
 
@@ -85,7 +87,10 @@ impl Cursor {
         ensures value { result ≡ at_end (place self.now) }
         ensures more { IsFalse result → 0 < unread self.now }
     {
-        self.pos == self.chars.len()
+        match self.current() {
+            Some(_) => false,
+            None => true,
+        }
     }
 
     /// Whether one of these characters stands at the position.
@@ -103,7 +108,7 @@ impl Cursor {
     pub(crate) fn begins(&self, word: &[char]) -> bool
         ensures { result ≡ starts_with nat_eq (place self.now).text word.now }
     {
-        self.chars[self.pos..].starts_with(word)
+        begins_with(self.rest, word)
     }
 
     /// Moves past one of these characters, if one stands at the position.
@@ -128,12 +133,13 @@ impl Cursor {
         ensures room { 0 < unread self.old → HasRoom self.new }
         ensures kept { HasRoom self.old → HasRoom self.new }
     {
-        if let Some(c) = self.current() {
-            self.pos += 1;
+        if let Some((c, rest)) = split_first(self.rest) {
+            self.rest = rest;
             self.at += c.len_utf8();
         }
     }
 
+    // White space alone, and no comments: for classes and counts (DECISIONS: under `x`).
     /// Moves past the white space at the position, where it is to be skipped.
     pub(crate) fn skip_white(&mut self, skips: bool)
         ensures value { place self.new ≡ past_white skips (place self.old) }
@@ -202,8 +208,8 @@ impl Cursor {
     pub(crate) fn here(&self) -> Piece
         ensures { IsPieceAt result (place self.now) }
     {
-        match self.current() {
-            Some(c) => Piece {
+        match split_first(self.rest) {
+            Some((c, _)) => Piece {
                 start: self.at,
                 end: self.at + c.len_utf8(),
             },
@@ -229,26 +235,11 @@ impl Cursor {
         requires { 0 < unread self.now }
         ensures { result ≡ starts_with nat_eq (next_text skips (drop 1 (place self.now).text)) (c ∷ []) }
     {
-        let text = &self.chars[self.pos + 1..];
+        let text = after_first(self.rest);
         if skips {
-            text[white_len(text)..].starts_with(&[c])
+            begins_with(after_white(text), &[c])
         } else {
-            text.starts_with(&[c])
+            begins_with(text, &[c])
         }
     }
-}
-
-/// How many characters of white space the text begins with.
-fn white_len(text: &[char]) -> usize
-    ensures value { result ≡ prefix_len is_whitespace text.now }
-    ensures within { result ≤ length text.now }
-{
-    let mut len = 0;
-    for c in text {
-        if !c.is_whitespace() {
-            return len;
-        }
-        len += 1;
-    }
-    len
 }

@@ -1,5 +1,5 @@
 //! The flags that a group or a directive names.
-ghost use Rattle.std.specs.Prelude.{◌≡◌, ◌≤◌, ◌<◌, length, take, not, ◌&&◌, ◌||◌, OnOk};
+ghost use Rattle.std.specs.Prelude.{◌≡◌, ◌≤◌, ◌<◌, chars, length, not, ◌&&◌, ◌||◌, IfOk, OnOk};
 ghost use Rattle.rx_reader.specs.Reading.{Place};
 ghost use Rattle.rx_reader.specs.Input.{place, unread, Reads, IsPieceAt, HasRoom};
 ghost use Rattle.rx_reader.specs.Flags.{has, is_letter, letters, on_len, switched, changed, may_end_at, read_flags};
@@ -8,6 +8,7 @@ use crate::cursor::Cursor;
 use crate::error::{ParseError, SyntaxErrorKind};
 use crate::flags::Flags;
 use crate::piece::Piece;
+use std::alloc::{AllocError, Global};
 
 /// Whether a character is the letter of a flag, or the hyphen before those that are switched off.
 fn is_letter(c: char) -> bool
@@ -16,24 +17,21 @@ fn is_letter(c: char) -> bool
     c == 'i' || c == 'm' || c == 's' || c == 'U' || c == 'R' || c == 'u' || c == 'x' || c == '-'
 }
 
-/// How many letters stand in front, up to the first character that is none or stood before it.
-fn letters_len(text: &[char]) -> usize
-    ensures value { take result text.now ≡ letters text.now }
-    ensures len { result ≡ length (letters text.now) }
-    ensures bound { result ≤ length text.now }
+/// The letters in front, up to the first character that is none or stood before it.
+fn letters(alloc: Global, text: &str) -> Result<Vec<char>, AllocError>
+    ensures { IfOk result (λ named. named.items ≡ letters (chars text.now)) }
 {
-    let mut n = 0;
-    while n < text.len() {
-        let c = text[n];
+    let mut named = Vec::new(alloc);
+    for c in text.chars() {
         if !is_letter(c) {
-            return n;
+            return Ok(named);
         }
-        if text[..n].contains(&c) {
-            return n;
+        if named.contains(&c) {
+            return Ok(named);
         }
-        n += 1;
+        named.push(c)?;
     }
-    n
+    Ok(named)
 }
 
 /// How many letters stand before the hyphen.
@@ -93,12 +91,13 @@ pub(crate) fn read_flags(
     ensures more { OnOk result (0 < unread cursor.new) }
     ensures kept { HasRoom cursor.old → HasRoom cursor.new }
 {
-    let count = letters_len(cursor.rest());
-    let named = &cursor.rest()[..count];
-    let flags = changed(named, flags);
+    let named = letters(cursor.alloc(), cursor.rest())?;
+    let count = named.len();
+    let flags = changed(&named, flags);
     let ends_with_hyphen = named.ends_with(&['-']);
     cursor.bump_by(count);
     if cursor.is_at_end() {
+        // It could have become a group (DECISIONS: a group that is cut off).
         return Err(opening.refuse(SyntaxErrorKind::UnclosedGroup));
     }
     if !may_end_at(cursor, count, ends_with_hyphen) {

@@ -219,19 +219,15 @@ fn property_in_braces(
 }
 
 /// Reads a name of one character.
-fn property_of_letter(cursor: &mut Cursor, negated: bool) -> Result<Escaped, AllocError>
+fn property_of_letter(cursor: &mut Cursor, negated: bool) -> Escaped
     requires { 0 < unread cursor.old }
-    ensures value { IfOk result (λ e. e ≡ Escaped.Property (first (place cursor.old) ∷ []) negated) }
-    ensures place { IfOk result (λ _. place cursor.new ≡ past (place cursor.old)) }
+    ensures value { result ≡ Escaped.Property (first (place cursor.old) ∷ []) negated }
+    ensures place { place cursor.new ≡ past (place cursor.old) }
     ensures progress { unread cursor.new ≤ unread cursor.old }
 {
-    let mut name = Vec::new(cursor.alloc());
-    name.push(cursor.first())?;
+    let name = Text::one(cursor.first());
     cursor.bump();
-    Ok(Escaped::Property {
-        name: Text::new(cursor.alloc(), name)?,
-        negated,
-    })
+    Escaped::Property { name, negated }
 }
 
 /// Reads what stands after `\p` or `\P`: a name of one character, or one in braces.
@@ -242,10 +238,12 @@ fn property(cursor: &mut Cursor, start: usize, negated: bool) -> Result<Escaped,
     if cursor.is_at_end() {
         return Err(cursor.refuse_from(start, SyntaxErrorKind::Escape));
     }
+    // Whether there is such a set is asked later (DECISIONS: `\pX` takes any character but `{`).
     if !cursor.bump_over(&['{']) {
-        return Ok(property_of_letter(cursor, negated)?);
+        return Ok(property_of_letter(cursor, negated));
     }
     if cursor.bump_over(&['^']) {
+        // The `P` and the `^` each count (DECISIONS: `\P{^x}` is complemented twice).
         return property_in_braces(cursor, start, !negated);
     }
     property_in_braces(cursor, start, negated)
@@ -353,6 +351,7 @@ fn known(cursor: &mut Cursor, start: usize, c: char) -> Result<Escaped, ParseErr
             cursor.bump();
             Ok(escaped)
         }
+        // The letter is not in it (DECISIONS: an escape of one letter that is unknown).
         None => Err(cursor.refuse_from(start, SyntaxErrorKind::Escape)),
     }
 }
@@ -397,6 +396,7 @@ pub(crate) fn escape(cursor: &mut Cursor, octal: bool) -> Result<Escaped, ParseE
         return Err(cursor.refuse_from(start, SyntaxErrorKind::Escape));
     }
     let c = cursor.first();
+    // Else any digit is unsupported (DECISIONS: octal escapes).
     if octal && c.is_digit(8) {
         return octal_digits(cursor, start);
     }

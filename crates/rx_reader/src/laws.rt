@@ -29,6 +29,7 @@ pub fn groups_are_numbered_and_named_apart()
         → (g k : ℕ) (name : List ℕ) → IsGroup g (Some name) s → IsGroup k (Some name) s → g ≡ k }
 {}
 
+// It is said without the productions (DECISIONS: the grammar's definition has laws in words of its subject).
 /// A text in which each character that can mean something else stands after a backslash reads as its characters one
 /// after another, and so does a text without such characters: under each configuration, as long as the flag `x` doesn't
 /// skip white space that stands in the text.
@@ -45,6 +46,7 @@ pub fn each_character_of_a_pattern_is_a_scalar()
     ensures { (config : Config) (text : List ℕ) (s : Syntax) → scalars text ≡ true → read config text ≡ Ok s → AllIn IsScalar s }
 {}
 
+// One law for all forms (DECISIONS: what the forms of the grammar read as is said by printing).
 /// A syntax tree has a text that reads back as it, where no flag `x` skips anything and the depth is within the limit: a
 /// character stands for itself, after a backslash if it means something else; items stand one after another, branches
 /// between bars, groups in parentheses; and an operator comes after its item. So it is told what each of these reads as,

@@ -65,6 +65,7 @@ impl Level {
     fn push_literal(&mut self, flags: Flags, character: char) -> Result<(), AllocError>
         ensures { OnOk result (gathered self.new ≡ push_item (gathered self.old) (literal flags character)) }
     {
+        // A long text takes little more than its characters (DECISIONS: the reader keeps runs of literal characters in one node).
         self.begin_run(flags)?;
         self.run.push(character)?;
         Ok(())
@@ -98,6 +99,10 @@ impl Level {
         ensures { IfOk result (λ a. a ≡ gathered_whole (gathered self)) }
     {
         let mut level = self;
+        if level.branches.is_empty() {
+            level.end_run()?;
+            return Ok(Ast::branch(level.items));
+        }
         level.end_branch()?;
         Ok(Ast::alternation(level.branches))
     }

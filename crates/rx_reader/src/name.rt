@@ -1,5 +1,5 @@
 //! The name of a group.
-ghost use Rattle.std.specs.Prelude.{◌≡◌, ◌≤◌, ◌<◌, length, take, OnOk};
+ghost use Rattle.std.specs.Prelude.{◌≡◌, ◌≤◌, ◌<◌, chars, IfOk, OnOk};
 ghost use Rattle.rx_reader.specs.Input.{place, unread, Reads, HasRoom};
 ghost use Rattle.rx_reader.specs.Names.{name_of, read_name};
 
@@ -7,21 +7,20 @@ use crate::cursor::Cursor;
 use crate::error::{ParseError, SyntaxErrorKind};
 use crate::text::Text;
 use rx_sets::is_capture_char;
+use std::alloc::{AllocError, Global};
 
-/// How many characters the longest name in front has.
-fn name_len(text: &[char]) -> usize
-    ensures value { take result text.now ≡ name_of text.now }
-    ensures len { result ≡ length (name_of text.now) }
-    ensures bound { result ≤ length text.now }
+/// The longest name in front.
+fn name_of(alloc: Global, text: &str) -> Result<Vec<char>, AllocError>
+    ensures { IfOk result (λ name. name.items ≡ name_of (chars text.now)) }
 {
-    let mut n = 0;
-    while n < text.len() {
-        if !is_capture_char(text[n], n == 0) {
-            return n;
+    let mut name = Vec::new(alloc);
+    for c in text.chars() {
+        if !is_capture_char(c, name.is_empty()) {
+            return Ok(name);
         }
-        n += 1;
+        name.push(c)?;
     }
-    n
+    Ok(name)
 }
 
 /// Reads a name, which no group before has, and the `>` after it.
@@ -31,12 +30,13 @@ pub(crate) fn read_name(cursor: &mut Cursor) -> Result<Text, ParseError>
     ensures kept { HasRoom cursor.old → HasRoom cursor.new }
 {
     let start = cursor.at();
-    let count = name_len(cursor.rest());
-    let name = cursor.rest()[..count].to_vec(cursor.alloc())?;
+    let name = name_of(cursor.alloc(), cursor.rest())?;
+    let count = name.len();
     cursor.bump_by(count);
     if count == 0 {
         return Err(cursor.refuse_from(start, SyntaxErrorKind::GroupName));
     }
+    // The piece ends before what fits no name (DECISIONS: the piece of a group's name that is refused).
     if !cursor.is_at(&['>']) {
         return Err(cursor.refuse_from(start, SyntaxErrorKind::GroupName));
     }

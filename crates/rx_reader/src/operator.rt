@@ -1,5 +1,5 @@
 //! The operators of repetition.
-ghost use Rattle.std.specs.Prelude.{◌≡◌, ℕ, ◌+◌, ◌-◌, ◌*◌, ◌≤◌, ◌<◌, List, length, true, OnOk, IfOk};
+ghost use Rattle.std.specs.Prelude.{◌≡◌, ℕ, ◌+◌, ◌-◌, ◌*◌, ◌≤◌, ◌<◌, List, chars, length, true, OnOk, IfOk};
 ghost use Rattle.std.specs.List.{take_while};
 ghost use Rattle.std.specs.Char.{is_ascii_digit};
 ghost use Rattle.rx_reader.specs.Reading.{Place};
@@ -43,15 +43,13 @@ fn with_digit(value: Option<u32>, digit: char) -> Option<u32>
 }
 
 /// The digits in front.
-fn digits_of(text: &[char]) -> Digits
-    ensures len { result.len ≡ length (take_while is_ascii_digit text.now) }
-    ensures bound { result.len ≤ length text.now }
-    ensures value { result.value ≡ within (numeral (take_while is_ascii_digit text.now)) }
+fn digits_of(text: &str) -> Digits
+    ensures len { result.len ≡ length (take_while is_ascii_digit (chars text.now)) }
+    ensures value { result.value ≡ within (numeral (take_while is_ascii_digit (chars text.now))) }
 {
     let mut len = 0;
     let mut value = Some(0);
-    while len < text.len() {
-        let c = text[len];
+    for c in text.chars() {
         if !c.is_ascii_digit() {
             return Digits { len, value };
         }
@@ -142,6 +140,7 @@ fn close_counts(
     if !cursor.bump_over(&['}']) {
         return Err(cursor.refuse_from(start, SyntaxErrorKind::RepeatCount));
     }
+    // The brace was read (DECISIONS: a count that is out of order).
     if is_below(max, min) {
         return Err(cursor.refuse_from(start, SyntaxErrorKind::RepeatCount));
     }

@@ -1,5 +1,5 @@
 //! Items, branches and groups.
-ghost use Rattle.std.specs.Prelude.{◌≡◌, ◌<◌, ◌≤◌, ◌⊎◌, true, false, chars, Ok, Err, OnOk, IfOk, MatchResult, IsTrue};
+ghost use Rattle.std.specs.Prelude.{◌≡◌, ◌<◌, ◌≤◌, ◌⊎◌, true, false, chars, Ok, Err, OnOk, MatchResult, IsTrue};
 ghost use Rattle.rx_reader.specs.Reading.{Place, at_end, past};
 ghost use Rattle.rx_reader.specs.Ahead.{skip};
 ghost use Rattle.rx_reader.specs.Grammar.{all_repetitions, no_items, read};
@@ -15,11 +15,8 @@ use crate::level::Level;
 use crate::operator::read_operator;
 use crate::piece::Piece;
 use crate::token::{Token, read_token};
-use std::alloc::{AllocError, Global};
+use std::alloc::Global;
 use std::mem;
-
-#[cfg(test)]
-mod tests;
 
 /// A group that is open, what was read around it, and the flags that stand there.
 #[derive(Drop)]
@@ -31,8 +28,8 @@ pub(crate) struct Frame {
 }
 
 #[derive(Drop)]
-pub(crate) struct Parser {
-    cursor: Cursor,
+pub(crate) struct Parser<'a> {
+    cursor: Cursor<'a>,
     frames: Vec<Frame>,
     level: Level,
     flags: Flags,
@@ -69,21 +66,20 @@ fn repetitions(
     Ok(item)
 }
 
-impl Parser {
+impl<'a> Parser<'a> {
     ghost use Rattle.rx_reader.specs.Stack.{answer, answer_with, answer_at_token, answer_at_item, answer_at_group, Continues};
 
-    fn new(alloc: Global, pattern: &str, config: Config) -> Result<Parser, AllocError>
-        ensures { IfOk result (λ s. answer s ≡ read config (chars pattern.now)) }
+    fn new(alloc: Global, pattern: &'a str, config: Config) -> Parser<'a>
+        ensures { answer result ≡ read config (chars pattern.now) }
     {
-        let cursor = Cursor::new(alloc, pattern)?;
         let flags = config.flags();
-        Ok(Parser {
-            cursor,
+        Parser {
+            cursor: Cursor::new(alloc, pattern),
             frames: Vec::new(alloc),
             level: Level::new(alloc, flags),
             flags,
             config,
-        })
+        }
     }
 
     /// Takes an item, with the operators that follow it.
@@ -106,6 +102,7 @@ impl Parser {
         ensures value { (p : Place) → IsPieceAt opening p → Continues result self.new (answer_at_group self.old p kind flags (place self.old.cursor)) }
         ensures progress { OnOk result (unread self.new.cursor ≤ unread self.old.cursor) }
     {
+        // The opening was read in whole (DECISIONS: the piece of a nest limit refusal is the whole token).
         if self.frames.len() >= self.config.get_nest_limit() as usize {
             return Err(
                 self.cursor
@@ -187,7 +184,7 @@ impl Parser {
     /// What was read, where the pattern ends.
     fn finish(self) -> Result<Ast, ParseError>
         requires { at_end (place self.cursor) ≡ true }
-        ensures { MatchResult result (λ a. answer self ≡ Ok a) (λ e. Refuses e (answer self)) }
+        ensures { MatchResult result (λ a. answer self.entry ≡ Ok a) (λ e. Refuses e (answer self.entry)) }
     {
         let mut parser = self;
         match parser.frames.pop() {
@@ -203,11 +200,16 @@ impl Parser {
 /// The flags of the configuration stand at the start of the pattern, and `(?flags)` and `(?flags:..)` change them.
 /// Each atom of the tree has the flags that stand there. Groups and repetitions nest at most as deep as the
 /// configuration permits.
+///
+/// # Errors
+///
+/// `Syntax`, the first refusal, with its kind and its piece in bytes; `Memory`, where there was no memory.
 pub fn read(alloc: Global, pattern: &str, config: &Config) -> Result<Ast, ParseError>
     ensures { MatchResult result (λ a. read config.now (chars pattern.now) ≡ Ok a) (λ e. Refuses e (read config.now (chars pattern.now))) }
 {
-    let mut parser = Parser::new(alloc, pattern, *config)?;
+    let mut parser = Parser::new(alloc, pattern, *config);
     while !parser.cursor.is_at_end() {
+        // The first fault ends it (DECISIONS: the reader goes from left to right).
         parser.step()?;
     }
     parser.finish()

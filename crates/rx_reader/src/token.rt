@@ -121,10 +121,12 @@ fn stray_operator(cursor: &mut Cursor) -> ParseError
     ensures { Refuses result (stray_operator (place cursor.old)) }
 {
     let piece = cursor.here();
+    // Also without an item before it (DECISIONS: `{,` is unsupported).
     if cursor.begins(&['{', ',']) {
         cursor.bump_by(2);
         return cursor.refuse_from(piece.start, SyntaxErrorKind::Unsupported);
     }
+    // Also a `{` (DECISIONS: without an item before it).
     piece.refuse(SyntaxErrorKind::RepeatNothing)
 }
 

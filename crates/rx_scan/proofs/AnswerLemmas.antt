@@ -67,7 +67,8 @@ pub answer-usage : (words : List (List ℕ)) (input : List ℕ) → command_of w
 unfolding answer
 answer-usage words input e = ap (λ o. answer_command o input) e
 
-short_by_test : (input : List ℕ) (long text : Bool) → ltb 16777216 (length input) ≡ long → needs_all (by_tests input long text).status ≡ true → length input ≤ 16777216
+short_by_test : (input : List ℕ) (long text : Bool) → ltb 16777216 (length input) ≡ long → needs_all (by_tests input long text).status ≡ true
+    → length input ≤ 16777216
 unfolding by_tests
 short_by_test input true text e all = absurd (false≢true all)
 short_by_test input false text e all = ltb-false _ _ e
@@ -86,11 +87,13 @@ pub answer_patterns-big : (hs : List Expression) (texts : List (List ℕ)) → a
 unfolding answer_patterns
 answer_patterns-big hs texts e = ap (λ b. cond b (all_rows hs texts) too_big) e
 
-pub answer_text-is : (text : List ℕ) (r : Result (List Expression) Refusal) (texts : List (List ℕ)) → all_read default (patterns (lines text)) ≡ r → texts ≡ haystacks (lines text)
+pub answer_text-is : (text : List ℕ) (r : Result (List Expression) Refusal) (texts : List (List ℕ)) → all_read default (patterns (lines text)) ≡ r
+    → texts ≡ haystacks (lines text)
     → answer_text text ≡ answer_patterns r texts
 unfolding answer_text
 answer_text-is text r texts e f = λ i. answer_patterns (e i) (sym f i)
 
-pub answer_patterns-refused : (p : ℕ) (error : SyntaxError) (texts : List (List ℕ)) → answer_patterns (Err (record { pattern = p; error = error })) texts ≡ refused p error.kind
+pub answer_patterns-refused : (p : ℕ) (error : SyntaxError) (texts : List (List ℕ))
+    → answer_patterns (Err (record { pattern = p; error = error })) texts ≡ refused p error.kind
 unfolding answer_patterns
 answer_patterns-refused p error texts = refl

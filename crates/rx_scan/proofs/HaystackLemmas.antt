@@ -7,6 +7,7 @@ use Rattle.rx_model.specs.Search.{Patterns, Match, next_match, matches, free, is
 use Rattle.rx_model.specs.Utf8.{MeansUtf8}
 use Rattle.rx_search.specs.Input.{InputValue, from_place, next_in, whole}
 use Rattle.rx_search.specs.Matches.{MatchValue}
+use Rattle.rx_search.specs.Needles.{BeginsEachMatch}
 use Rattle.rx_search.specs.PatternGroups.{pattern_groups}
 use Rattle.rx_search.specs.Promise.{Premises}
 use Rattle.rx_search.specs.Searcher.{SearcherValue, moved_past, search_from, match_after, upcoming, successive, AtEachPlace}
@@ -14,19 +15,22 @@ use Rattle.rx_search.specs.Told.{tells, told_in}
 use Rattle.rx_search.specs.declared.anchored.MatchKind.TheVariants.{LeftmostFirst}
 use Rattle.rx_search.proofs.SearcherLemmas.{successive-matches}
 use Rattle.rx_meta.specs.Finder.{PromisesFor}
-use Rattle.rx_meta.specs.Regex.{RegexValue, Serves, searches, kind_in, groups_in}
+use Rattle.rx_meta.specs.Regex.{RegexValue, Serves, searches, given_needles, kind_in, groups_in}
 use Rattle.rx_scan.specs.Haystacks.{FindsRows}
 use Rattle.rx_scan.specs.Row.{row_of, scan_rows}
 
 -- what a regex searches is the next match of its patterns, where matches are told
 abbrev pub SearchesForItsPatterns : Type 0
-SearchesForItsPatterns = (regex : RegexValue) (r : Patterns) (v : InputValue) → v.end ≤ length v.haystack → Premises (Serves regex r) r v → searches regex v ≡ told_in r v
+SearchesForItsPatterns = (regex : RegexValue) (r : Patterns) (v : InputValue) → v.end ≤ length v.haystack → Premises (Serves regex r) (given_needles regex) r v
+    → searches regex v ≡ told_in r v
 
 module _ (law : SearchesForItsPatterns) (regex : RegexValue) (r : Patterns) (text : List ℕ) (finds : FindsRows regex r text) where
   -- a search from any place of the text finds the next match
   searches-next : (i : ℕ) → searches regex (from_place i (whole text)) ≡ next_in r (from_place i (whole text))
   searches-next i =
-      let premises : Premises (Serves regex r) r (from_place i (whole text)) = record { is_for = finds.promised.premises.is_for; utf8 = finds.promised.premises.utf8 } in
+      let p : Premises (Serves regex r) (given_needles regex) r (whole text) = finds.promised.premises in
+      let premises : Premises (Serves regex r) (given_needles regex) r (from_place i (whole text)) =
+      record { is_for = p.is_for; begins = p.begins; utf8 = p.utf8 } in
       law regex r (from_place i (whole text)) (omega arith) premises
       ∙ ap (λ (b : Bool). cond b (next_in r (from_place i (whole text))) None) finds.promised.told
 
@@ -40,15 +44,20 @@ module _ (law : SearchesForItsPatterns) (regex : RegexValue) (r : Patterns) (tex
   pub found-next : (now : RegexValue) (s : SearcherValue) (x : Match) → now ≡ regex → ((i : ℕ) → from_place i s.input ≡ from_place i (whole text))
       → upcoming (searches now) s ≡ Some x → (i : ℕ) × (next_match r text free (length text) i ≡ Some x)
   found-next now s x same place next =
-      let found = upcoming-found s.last_end next in
-      (found.0, sym (searches-next found.0) ∙ ap (searches regex) (sym (place found.0)) ∙ ap (λ (g : RegexValue). searches g (from_place found.0 s.input)) (sym same) ∙ found.1)
+      let found = upcoming-found s.last_end next in (
+        found.0,
+        sym (searches-next found.0) ∙ ap (searches regex) (sym (place found.0))
+            ∙ ap (λ (g : RegexValue). searches g (from_place found.0 s.input)) (sym same) ∙ found.1,
+      )
     where
-      after : (last : ℕ) (b : Bool) → is_empty_at last (search_from (searches now) s.input last) ≡ b → next_after (search_from (searches now) s.input) last ≡ Some x
+      after : (last : ℕ) (b : Bool) → is_empty_at last (search_from (searches now) s.input last) ≡ b
+          → next_after (search_from (searches now) s.input) last ≡ Some x
           → (i : ℕ) × (searches now (from_place i s.input) ≡ Some x)
       after last true is h = (last + 1, rw is at h)
       after last false is h = (last, rw is at h)
 
-      upcoming-found : (o : Option ℕ) → match_after (search_from (searches now) s.input) o s.input.start ≡ Some x → (i : ℕ) × (searches now (from_place i s.input) ≡ Some x)
+      upcoming-found : (o : Option ℕ) → match_after (search_from (searches now) s.input) o s.input.start ≡ Some x
+          → (i : ℕ) × (searches now (from_place i s.input) ≡ Some x)
       upcoming-found None h = (s.input.start, h)
       upcoming-found (Some last) h = after last _ refl h
 
@@ -56,21 +65,23 @@ module _ (law : SearchesForItsPatterns) (regex : RegexValue) (r : Patterns) (tex
 pub promised-from : (regex : RegexValue) (r : Patterns) (text : List ℕ) → FindsRows regex r text → AtEachPlace (PromisesFor regex) (whole text)
 promised-from regex r text finds = λ i.
     let p = finds.promised in
-    (r, record { premises = record { is_for = p.premises.is_for; utf8 = p.premises.utf8 }; leftmost = p.leftmost; told = p.told; whole = refl })
+    (r, record { premises = record { is_for = p.premises.is_for; begins = p.premises.begins; utf8 = p.premises.utf8 }; leftmost = p.leftmost; told = p.told; whole = refl })
 
 -- after a match the searcher is still within the same text
 pub moved-place : (found : Option MatchValue) (m : MatchValue) (old new : SearcherValue) (v : InputValue) → found ≡ Some m
-    → MatchOption found (new ≡ old) (λ x. new ≡ moved_past x old) → ((i : ℕ) → from_place i old.input ≡ from_place i v) → (i : ℕ) → from_place i new.input ≡ from_place i v
+    → MatchOption found (new ≡ old) (λ x. new ≡ moved_past x old) → ((i : ℕ) → from_place i old.input ≡ from_place i v) → (i : ℕ)
+    → from_place i new.input ≡ from_place i v
 moved-place found m old new v some moved place i =
     let moves : new ≡ moved_past m old = rw some at moved in
     ap (λ (s : SearcherValue). from_place i s.input) moves ∙ place i
 
 -- what a regex that serves the patterns finds
-pub serves-finds : (regex : RegexValue) (r : Patterns) (text : List ℕ) → Serves regex r → kind_in regex ≡ LeftmostFirst → groups_in regex ≡ pattern_groups r.expressions
+pub serves-finds : (regex : RegexValue) (r : Patterns) (text : List ℕ) → Serves regex r → BeginsEachMatch (given_needles regex) r → kind_in regex ≡ LeftmostFirst
+    → groups_in regex ≡ pattern_groups r.expressions
     → tells r.which_captures ≡ true → (r.utf8_empty ≡ true → MeansUtf8 r text) → FindsRows regex r text
-serves-finds regex r text serves leftmost groups told utf8 = record {
+serves-finds regex r text serves begins leftmost groups told utf8 = record {
   promised = record {
-    premises = record { is_for = serves; utf8 = utf8 };
+    premises = record { is_for = serves; begins = λ _. begins; utf8 = utf8 };
     leftmost = leftmost;
     told = told;
     whole = refl;

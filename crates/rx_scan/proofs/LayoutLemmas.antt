@@ -17,6 +17,7 @@ use Rattle.rx_search.proofs.GroupSlotLemmas.{slot_written}
 use Rattle.rx_search.specs.PatternGroups.{name_in, group_names, pattern_groups}
 use Rattle.rx_scan.specs.Layout.{explicit_slots, all_explicit_slots, slots_in, own_slots, HaveImplicit}
 use Rattle.rx_scan.specs.Row.{group_count, group_slots, slots_from, row_of}
+use Rattle.rx_hir.proofs.GroupLemmas.{length-group_names}
 
 -- The slots that all patterns have together.
 rest-implicit : (groups : List (Option (List ℕ))) (info : List (List (Option (List ℕ)))) (n : ℕ) → HaveImplicit (groups ∷ info) (suc n) → HaveImplicit info n
@@ -40,22 +41,28 @@ last-slot : (info : List (List (Option (List ℕ)))) (p n : ℕ) → 0 < n → s
 last-slot info p zero above = absurd (omega arith)
 last-slot info p (suc n) above = omega arith
 
-pub last-within : (info : List (List (Option (List ℕ)))) (p : ℕ) → HaveImplicit info (length info) → p < length info → slot_of_group info p (length (groups_at info p)) ≤ slot_count info
+pub last-within : (info : List (List (Option (List ℕ)))) (p : ℕ) → HaveImplicit info (length info) → p < length info
+    → slot_of_group info p (length (groups_at info p)) ≤ slot_count info
 last-within info p all below =
     omega (arith, last-slot info p (length (groups_at info p)) (all p below), explicit-few info p all below)
 
 -- the explicit slots of pattern p, if it has some, are among them
-pub explicit-within : (info : List (List (Option (List ℕ)))) (p : ℕ) (span : Span) → HaveImplicit info (length info) → p < length info → Some span ≡ explicit_slots info p
+pub explicit-within : (info : List (List (Option (List ℕ)))) (p : ℕ) (span : Span) → HaveImplicit info (length info) → p < length info
+    → Some span ≡ explicit_slots info p
     → (span.start ≤ span.end) × (span.end ≤ slot_count info)
 explicit-within info p span all below is =
     by_test (nat_lt 1 (length (groups_at info p)))
     (λ some.
-    let same : Some span ≡ Some (record { start = slot_of_group info p 1; end = slot_of_group info p (length (groups_at info p)) }) = is ∙ ap (λ (b : Bool). cond b (Some (record { start = slot_of_group info p 1; end = slot_of_group info p (length (groups_at info p)) })) None) some in
+    let same : Some span ≡ Some (record { start = slot_of_group info p 1; end = slot_of_group info p (length (groups_at info p)) }) =
+    is ∙ ap (λ (b : Bool). cond b (Some (record { start = slot_of_group info p 1; end = slot_of_group info p (length (groups_at info p)) })) None) some in
     let starts : span.start ≡ slot_of_group info p 1 = same-start same in
     let ends : span.end ≡ slot_of_group info p (length (groups_at info p)) = same-end same in
-    let several = ltb-true _ _ some in
-    (omega (arith, starts, ends, last-slot info p 1 (omega arith), last-slot info p (length (groups_at info p)) (omega (arith, several)), several), omega (arith, ends, last-within info p all below)))
-    (λ few. absurd (no-span (is ∙ ap (λ (b : Bool). cond b (Some (record { start = slot_of_group info p 1; end = slot_of_group info p (length (groups_at info p)) })) None) few)))
+    let several = ltb-true _ _ some in (
+      omega (arith, starts, ends, last-slot info p 1 (omega arith), last-slot info p (length (groups_at info p)) (omega (arith, several)), several),
+      omega (arith, ends, last-within info p all below),
+    ))
+    (λ few. absurd (no-span (is ∙ ap (λ (b : Bool). cond b
+    (Some (record { start = slot_of_group info p 1; end = slot_of_group info p (length (groups_at info p)) })) None) few)))
   where
     same-start : {x y : Span} → Some x ≡ Some y → x.start ≡ y.start
     same-start e = cc
@@ -87,9 +94,6 @@ explicit-at info (suc n) p d below =
     ∙ get_or-append_seam (all_explicit_slots info n) (explicit_slots info n) [] d ∙ ap (explicit_slots info) same)
 
 -- Where the groups are those of expressions.
-length-group_names : (h : Expression) → length (group_names h) ≡ suc (greatest_group h)
-length-group_names h = ap suc (length-map-range_with_len (λ g. name_in g h) 1 (greatest_group h))
-
 group-lengths : (hs : List Expression) → map length (pattern_groups hs) ≡ map groups_in_expression hs
 group-lengths [] = refl
 group-lengths (h ∷ hs) = λ i. (length-group_names h ∙ (let e : suc (greatest_group h) ≡ 1 + greatest_group h = omega arith in e)) i ∷ group-lengths hs i
@@ -145,7 +149,8 @@ module _ (r : Patterns) (text : List ℕ) (b a : ℕ) (m : Match) (found : next_
     pair-read : (at n : ℕ) → at + 1 < length xs → take (2 + n) (drop at xs) ≡ group_slots m (Some at) ++ take n (drop (at + 2) xs)
     pair-read at n below =
         let here : get_or xs at None ≡ slot_value m at = has at (omega arith) in
-        let next : get_or xs (suc at) None ≡ slot_value m (at + 1) = has (suc at) (omega arith) ∙ (let e : suc at ≡ at + 1 = omega arith in ap (slot_value m) e) in
+        let next : get_or xs (suc at) None ≡ slot_value m (at + 1) =
+        has (suc at) (omega arith) ∙ (let e : suc at ≡ at + 1 = omega arith in ap (slot_value m) e) in
         let rest : suc (suc at) ≡ at + 2 = omega arith in
         let count : 2 + n ≡ suc (suc n) = omega arith in
         (λ i. take (count i) (drop at xs))
@@ -169,7 +174,8 @@ module _ (r : Patterns) (text : List ℕ) (b a : ℕ) (m : Match) (found : next_
         ∙ ap (λ l. group_slots m (slot_of r p (suc g)) ++ l) (slots-read n (suc (suc g)) (omega arith) (omega (arith, below, next)))
         ∙ ap (λ k. group_slots m (slot_of r p (suc g)) ++ slots_from r m n k) further
 
-    explicit-read : HaveImplicit info (length info) → length xs ≡ slot_count info → slots_in (explicit_slots info p) xs ≡ slots_from r m (group_count r.expressions p) 1
+    explicit-read : HaveImplicit info (length info) → length xs ≡ slot_count info
+        → slots_in (explicit_slots info p) xs ≡ slots_from r m (group_count r.expressions p) 1
     unfolding slots_from
     explicit-read all wide =
         let n = group_count r.expressions p in
@@ -178,14 +184,18 @@ module _ (r : Patterns) (text : List ℕ) (b a : ℕ) (m : Match) (found : next_
         by_test (nat_lt 1 (length (groups_at info p)))
         (λ some.
         let last = last-within info p all (omega (arith, there, patterns)) in
-        let width : slot_of_group info p (length (groups_at info p)) ≡ slot_of_group info p 1 + 2 * n = ap (slot_of_group info p) (len ∙ (let e : n + 1 ≡ suc n = omega arith in e)) ∙ (let e : slot_of_group info p (suc n) ≡ slot_of_group info p 1 + 2 * n = omega arith in e) in
+        let width : slot_of_group info p (length (groups_at info p)) ≡ slot_of_group info p 1 + 2 * n =
+        ap (slot_of_group info p) (len ∙ (let e : n + 1 ≡ suc n = omega arith in e))
+        ∙ (let e : slot_of_group info p (suc n) ≡ slot_of_group info p 1 + 2 * n = omega arith in e) in
         let size : slot_of_group info p (length (groups_at info p)) - slot_of_group info p 1 ≡ 2 * n = omega (arith, width) in
-        ap (λ (t : Bool). slots_in (cond t (Some (record { start = slot_of_group info p 1; end = slot_of_group info p (length (groups_at info p)) })) None) xs) some
+        ap (λ (t : Bool). slots_in (cond t (Some (record { start = slot_of_group info p 1; end = slot_of_group info p (length (groups_at info p)) })) None) xs)
+        some
         ∙ ap (λ k. take k (drop (slot_of_group info p 1) xs)) size
         ∙ slots-read n 1 (omega arith) (omega (arith, wide, last, width)))
         (λ few.
         let none : 0 ≡ n = omega (arith, len, ltb-false _ _ few) in
-        ap (λ (t : Bool). slots_in (cond t (Some (record { start = slot_of_group info p 1; end = slot_of_group info p (length (groups_at info p)) })) None) xs) few
+        ap (λ (t : Bool). slots_in (cond t (Some (record { start = slot_of_group info p 1; end = slot_of_group info p (length (groups_at info p)) })) None) xs)
+        few
         ∙ ap (λ k. slots_from r m k 1) none)
 
     -- a match's own slots are those of its row

@@ -6,4 +6,5 @@ pub mod LineLemmas
 pub mod PatternLemmas
 pub mod ReadingLemmas
 pub mod RunLemmas
+pub mod SizeLemmas
 pub mod TextLemmas

@@ -36,7 +36,8 @@ lines-one [] some h = absurd (omega arith)
 lines-one (b ∷ bytes) some h = lines-last b bytes h
 
 -- one line more was cut off
-pub lines-more : {V : Type 0} (now : V → List ℕ) (vs vs' : List V) (v : V) (line rest others : List ℕ) (whole : List (List ℕ)) → lines rest ≡ line ∷ lines others
+pub lines-more : {V : Type 0} (now : V → List ℕ) (vs vs' : List V) (v : V) (line rest others : List ℕ) (whole : List (List ℕ))
+    → lines rest ≡ line ∷ lines others
     → now v ≡ line → vs' ≡ vs ++ v ∷ [] → map now vs ++ lines rest ≡ whole → map now vs' ++ lines others ≡ whole
 lines-more now vs vs' v line rest others whole cut is more told =
     ap (λ l. map now l ++ lines others) more
@@ -46,7 +47,8 @@ lines-more now vs vs' v line rest others whole cut is more told =
     ∙ ap (λ l. map now vs ++ l) (sym cut) ∙ told
 
 -- no line is left
-pub lines-over : {V : Type 0} (now : V → List ℕ) (vs : List V) (rest : List ℕ) (whole : List (List ℕ)) → length rest ≡ 0 → map now vs ++ lines rest ≡ whole → map now vs ≡ whole
+pub lines-over : {V : Type 0} (now : V → List ℕ) (vs : List V) (rest : List ℕ) (whole : List (List ℕ)) → length rest ≡ 0 → map now vs ++ lines rest ≡ whole
+    → map now vs ≡ whole
 unfolding lines
 lines-over now vs [] whole none told = sym (append-nil (map now vs)) ∙ told
 lines-over now vs (b ∷ rest) whole none told = absurd (omega arith)

@@ -8,7 +8,8 @@ use Rattle.std.proofs.lemmas.List.Elements.{All-push}
 use Rattle.rx_scan.specs.Input.{lines, patterns, haystacks}
 
 -- a text more that is UTF-8
-pub each-utf8 : {V : Type 0} (now : V → List ℕ) (vs vs' : List V) (v : V) (line : List ℕ) → vs' ≡ vs ++ v ∷ [] → now v ≡ line → IsUtf8 line → All (λ x. IsUtf8 (now x)) vs → All (λ x. IsUtf8 (now x)) vs'
+pub each-utf8 : {V : Type 0} (now : V → List ℕ) (vs vs' : List V) (v : V) (line : List ℕ) → vs' ≡ vs ++ v ∷ [] → now v ≡ line → IsUtf8 line
+    → All (λ x. IsUtf8 (now x)) vs → All (λ x. IsUtf8 (now x)) vs'
 each-utf8 now vs vs' v line more is utf8 each =
     subst (All (λ x. IsUtf8 (now x))) (sym more) (All-push (λ x. IsUtf8 (now x)) vs v each (subst IsUtf8 (sym is) utf8))
 
@@ -47,7 +48,8 @@ module _ {V : Type 0} (now : V → List ℕ) where
   Cut-ended text rest others vs (b ∷ line) c cut none = absurd (omega arith)
 
   -- no line is left
-  pub Cut-over : (text rest : List ℕ) (vs : List V) → Cut text vs rest → length rest ≡ 0 → (map now vs ≡ patterns (lines text)) × (lines rest ≡ haystacks (lines text))
+  pub Cut-over : (text rest : List ℕ) (vs : List V) → Cut text vs rest → length rest ≡ 0
+      → (map now vs ≡ patterns (lines text)) × (lines rest ≡ haystacks (lines text))
   unfolding lines patterns haystacks
   Cut-over text [] vs c none = (sym (append-nil (map now vs)) ∙ c.patterns, c.haystacks)
   Cut-over text (b ∷ rest) vs c none = absurd (omega arith)

@@ -17,7 +17,8 @@ pub Gave-none : (left : Option (List ℕ)) → Gave left left [] Usage
 Gave-none left = record { bytes = Consumes-nil left; limit = omega arith; whole = λ e. absurd (false≢true e) }
 
 -- the whole input was given, or more than the limit
-pub Gave-input : (left left' : Option (List ℕ)) (given : List ℕ) (a : AnswerValue) → a ≡ answer_input given → Consumes left left' given → length given ≤ 16777217
+pub Gave-input : (left left' : Option (List ℕ)) (given : List ℕ) (a : AnswerValue) → a ≡ answer_input given → Consumes left left' given
+    → length given ≤ 16777217
     → (length given ≤ 16777216 → IsAtEnd left') → Gave left left' given a.status
 Gave-input left left' given a e bytes limit whole =
     let P : AnswerValue → Type 0 = λ b. Gave left left' given b.status in
@@ -40,7 +41,8 @@ module _ (words : List (List ℕ)) (left left' held held' : Option (List ℕ)) (
       (failed.1, (given, p.0, p.1))
 
 -- the answer to what was given, where the words are those of a command
-pub same-scan : (words : List (List ℕ)) (given : List ℕ) (a : AnswerValue) (command : Command) → Some command ≡ command_of words → a ≡ answer_input given → answer words given ≡ a
+pub same-scan : (words : List (List ℕ)) (given : List ℕ) (a : AnswerValue) (command : Command) → Some command ≡ command_of words → a ≡ answer_input given
+    → answer words given ≡ a
 same-scan words given a command scan e = answer-scan words given command (sym scan) ∙ sym e
 
 pub few-scan : (given : List ℕ) (a : AnswerValue) → a ≡ answer_input given → code a.status ≤ 5

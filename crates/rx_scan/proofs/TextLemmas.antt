@@ -42,7 +42,8 @@ told-more slots at g start end old new all below s e more told =
     ∙ ap (λ l. old ++ l) (sym (groups_text-drop slots at g below)) ∙ told
 
 -- the rows of one haystack more were printed
-pub haystacks-more : {V : Type 0} (items : V → List RowValue) (vs : List V) (i line : ℕ) (v : V) (told : List RowValue) (old new whole : List ℕ) → i < length vs → v ≡ get_or vs i v
+pub haystacks-more : {V : Type 0} (items : V → List RowValue) (vs : List V) (i line : ℕ) (v : V) (told : List RowValue) (old new whole : List ℕ) → i < length vs
+    → v ≡ get_or vs i v
     → line ≡ i → told ≡ items v → new ≡ old ++ flat_map (row_text (line + 1)) told → old ++ rows_text (i + 1) (drop i (map items vs)) ≡ whole
     → new ++ rows_text (i + 1 + 1) (drop (i + 1) (map items vs)) ≡ whole
 unfolding rows_text
@@ -56,15 +57,18 @@ haystacks-more items vs i line v told old new whole below is count same more so_
     ∙ ap (λ l. old ++ rows_text (i + 1) l) (sym parts) ∙ so_far
 
 -- no haystack is left
-pub haystacks-over : {V : Type 0} (items : V → List RowValue) (vs : List V) (line i : ℕ) (text whole : List ℕ) → length vs ≤ i → text ++ rows_text line (drop i (map items vs)) ≡ whole → text ≡ whole
+pub haystacks-over : {V : Type 0} (items : V → List RowValue) (vs : List V) (line i : ℕ) (text whole : List ℕ) → length vs ≤ i
+    → text ++ rows_text line (drop i (map items vs)) ≡ whole → text ≡ whole
 unfolding rows_text
 haystacks-over items vs line i text whole over told =
     let none : drop i (map items vs) ≡ [] = drop_all i (map items vs) (omega (arith, over, length-map vs items)) in
     sym (append-nil text) ∙ ap (λ l. text ++ rows_text line l) (sym none) ∙ told
 
 -- the rows of all haystacks were printed
-pub all-printed : {V W : Type 0} (items : V → List RowValue) (now : W → List ℕ) (r : Patterns) (vs : List V) (ws : List W) (texts : List (List ℕ)) (old new : List ℕ) → old ≡ []
-    → new ≡ old ++ rows_text 1 (map items vs) → map items vs ≡ map (λ w. scan_rows r (now w)) ws → map now ws ≡ texts → new ≡ rows_text 1 (map (scan_rows r) texts)
+pub all-printed : {V W : Type 0} (items : V → List RowValue) (now : W → List ℕ) (r : Patterns) (vs : List V) (ws : List W) (texts : List (List ℕ))
+    (old new : List ℕ) → old ≡ []
+    → new ≡ old ++ rows_text 1 (map items vs) → map items vs ≡ map (λ w. scan_rows r (now w)) ws → map now ws ≡ texts
+    → new ≡ rows_text 1 (map (scan_rows r) texts)
 all-printed items now r vs ws texts old new none more scanned same =
     more ∙ ap (λ l. l ++ rows_text 1 (map items vs)) none
     ∙ ap (rows_text 1) (scanned ∙ sym (map-map (scan_rows r) now ws) ∙ ap (map (scan_rows r)) same)

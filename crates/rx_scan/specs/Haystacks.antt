@@ -4,9 +4,9 @@ use Rattle.rx_model.specs.Search.{Patterns}
 use Rattle.rx_search.specs.Input.{whole}
 use Rattle.rx_search.specs.PatternGroups.{pattern_groups}
 use Rattle.rx_search.specs.Promise.{Promised}
-use Rattle.rx_meta.specs.Regex.{RegexValue, Serves, kind_in, groups_in}
+use Rattle.rx_meta.specs.Regex.{RegexValue, Serves, given_needles, kind_in, groups_in}
 
 -- A search of the text promises the next match of these patterns, and its slots are those of their groups.
 pub record FindsRows (regex : RegexValue) (r : Patterns) (text : List ℕ) : Type 0 where
-  pub promised : Promised (Serves regex r) (kind_in regex) r (whole text)
+  pub promised : Promised (Serves regex r) (given_needles regex) (kind_in regex) r (whole text)
   pub groups : groups_in regex ≡ pattern_groups r.expressions

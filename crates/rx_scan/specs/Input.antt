@@ -2,9 +2,9 @@
 use Rattle.std.specs.Prelude.{◌≡◌, ℕ, Bool, true, false, List, [], ◌∷◌, Ok, ◌==◌}
 use Rattle.std.specs.List.{All}
 use Rattle.std.specs.Str.{IsUtf8}
-use Rattle.rx_model.specs.Expression.{Expression}
 use Rattle.rx_reader.specs.Config.{default}
-use Rattle.rx_syntax.specs.Patterns.{all_read}
+use Rattle.rx_reader.specs.Syntax.{Syntax}
+use Rattle.rx_syntax.specs.Patterns.{all_syntaxes}
 
 -- the lines of what follows, with a byte before it, which is a newline or not
 abbrev pub line_byte : Bool → ℕ → List (List ℕ) → List (List ℕ)
@@ -29,9 +29,9 @@ haystacks [] = []
 haystacks ([] ∷ lines) = lines
 haystacks ((b ∷ bytes) ∷ lines) = haystacks lines
 
--- the expressions of the text's patterns, and the text of its haystacks
-pub record ReadsSections (hs : List Expression) (rest text : List ℕ) : Type 0 where
-  pub expressions : all_read default (patterns (lines text)) ≡ Ok hs
+-- the syntaxes of the text's patterns, and the text of its haystacks
+pub record ReadsSections (ss : List Syntax) (rest text : List ℕ) : Type 0 where
+  pub syntaxes : all_syntaxes default (patterns (lines text)) ≡ Ok ss
   pub patterns : All IsUtf8 (patterns (lines text))
   pub haystacks : lines rest ≡ haystacks (lines text)
   pub utf8 : IsUtf8 rest

@@ -22,7 +22,8 @@ module _ (words : List (List ℕ)) (left left' held held' : Option (List ℕ)) w
   -- the bytes that were given have an answer with this status, and the sink gained its text
   abbrev pub Answers : (status : ℕ) → Type 0
   Answers status =
-      (given : List ℕ) × Gave left left' given (answer words given).status × (status ≡ code (answer words given).status) × Gains held held' (answer words given).text
+      (given : List ℕ) × Gave left left' given (answer words given).status × (status ≡ code (answer words given).status)
+      × Gains held held' (answer words given).text
 
   -- the sink gained a front of the text, shorter than it
   abbrev pub BreaksOff : Type 0

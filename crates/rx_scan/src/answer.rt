@@ -1,21 +1,25 @@
 //! The answer to an input.
-ghost use Rattle.std.specs.Prelude.{◌≡◌, ◌<◌, Ok, IfOk, List};
+ghost use Rattle.std.specs.Prelude.{◌≡◌, ◌<◌, ℕ, length, Result, Ok, IfOk, MatchResult, List};
 ghost use Rattle.rx_model.specs.Expression.{Expression};
 ghost use Rattle.rx_meta.specs.Build.{IsBuilt};
+ghost use Rattle.rx_reader.specs.Config.{default};
+ghost use Rattle.rx_syntax.specs.Patterns.{Refusal, RefusesAll, all_translated};
+ghost use Rattle.rx_syntax.specs.Weight.{AreWeightsOf};
 ghost use Rattle.rx_scan.specs.Arguments.{config_without};
 ghost use Rattle.rx_scan.specs.Answer.{too_long, not_utf8, refused, too_big, all_rows, answer_patterns, answer_text, answer_input};
 ghost use Rattle.rx_scan.specs.Input.{lines};
-ghost use Rattle.rx_scan.specs.Patterns.{MeanUtf8};
+ghost use Rattle.rx_scan.specs.Patterns.{MeanUtf8, StandForUtf8};
 
 use crate::arguments::{Command, Off};
 use crate::haystacks::scan;
-use crate::input::{INPUT_LIMIT, parse_patterns, split_lines};
+use crate::input::{INPUT_LIMIT, read_patterns, split_lines};
 use crate::output::{print_haystacks, push_number};
+use crate::size::are_small;
 use crate::status::Status;
 use rx_hir::Hir;
 use rx_meta::{BuildError, Builder, Regex};
 use rx_search::{Gate, Memory};
-use rx_syntax::{PatternsError, SyntaxErrorKind};
+use rx_syntax::{Ast, Config, PatternsError, SyntaxErrorKind, Weights, translate_all, weigh_all};
 use std::alloc::Global;
 use std::marker::Model;
 use std::str;
@@ -25,7 +29,9 @@ use std::thread::Threads;
 /// A status and the text that goes with it.
 #[derive(Drop)]
 pub struct Answer {
+    /// The status of the call.
     pub status: Status,
+    /// What is written, in bytes.
     pub text: Vec<u8>,
 }
 
@@ -38,6 +44,10 @@ impl Model for Answer {
 }
 
 /// The answer to an input. `gate` is told of each haystack before it is searched.
+///
+/// # Errors
+///
+/// `Memory`, where there was no memory.
 pub fn answer_input<R: Threads + Wait + Sync, G: Gate + Sync>(
     rt: &R,
     alloc: Global,
@@ -48,6 +58,7 @@ pub fn answer_input<R: Threads + Wait + Sync, G: Gate + Sync>(
     requires { 0 < command.now.workers }
     ensures { IfOk result (λ a. a ≡ answer_input input.now) }
 {
+    // The first cause in this order decides (DECISIONS: where causes stand together).
     if input.len() > INPUT_LIMIT {
         return too_long(alloc);
     }
@@ -68,17 +79,73 @@ fn answer_text<R: Threads + Wait + Sync, G: Gate + Sync>(
     requires { 0 < command.now.workers }
     ensures { IfOk result (λ a. a ≡ answer_text text.now) }
 {
-    match parse_patterns(alloc, text) {
-        Ok((expressions, haystacks)) => answer_patterns(
-            rt,
-            alloc,
-            command,
-            &expressions,
-            haystacks,
-            gate,
-        ),
-        Err(PatternsError::Syntax { pattern, error }) => refused(alloc, pattern, error.kind),
-        Err(PatternsError::Memory) => Err(Memory),
+    match read_patterns(alloc, text) {
+        Ok((asts, haystacks)) => answer_read(rt, alloc, command, asts, haystacks, gate),
+        Err(error) => refusal(alloc, error),
+    }
+}
+
+/// The answer to the syntax trees of the patterns and the text of the haystacks. The patterns are weighed before an
+/// expression is made of one.
+fn answer_read<R: Threads + Wait + Sync, G: Gate + Sync>(
+    rt: &R,
+    alloc: Global,
+    command: &Command,
+    asts: Vec<Ast>,
+    haystacks: &str,
+    gate: &G,
+) -> Result<Answer, Memory>
+    requires workers { 0 < command.now.workers }
+    requires utf8 { StandForUtf8 asts.items }
+    ensures { IfOk result (λ a. a ≡ answer_patterns (all_translated default asts.items) (lines haystacks.now)) }
+{
+    // What passes a limit is refused before an expression is made (DECISIONS: `run` weighs before it translates).
+    match weigh_all(alloc, &asts, &Config::new()) {
+        Ok(weights) => answer_weighed(rt, alloc, command, asts, weights, haystacks, gate),
+        Err(error) => refusal(alloc, error),
+    }
+}
+
+/// The same, where they weigh this.
+fn answer_weighed<R: Threads + Wait + Sync, G: Gate + Sync>(
+    rt: &R,
+    alloc: Global,
+    command: &Command,
+    asts: Vec<Ast>,
+    weights: Weights,
+    haystacks: &str,
+    gate: &G,
+) -> Result<Answer, Memory>
+    requires workers { 0 < command.now.workers }
+    requires utf8 { StandForUtf8 asts.items }
+    requires weights { AreWeightsOf (all_translated default asts.items) (length asts.items) weights }
+    ensures { IfOk result (λ a. a ≡ answer_patterns (all_translated default asts.items) (lines haystacks.now)) }
+{
+    if !are_small(asts.len(), weights) {
+        return too_big(alloc);
+    }
+    match translate_last(alloc, asts) {
+        Ok(expressions) => answer_patterns(rt, alloc, command, &expressions, haystacks, gate),
+        Err(error) => refusal(alloc, error),
+    }
+}
+
+/// The expressions of the syntax trees, which are let go.
+fn translate_last(alloc: Global, asts: Vec<Ast>) -> Result<Vec<Hir>, PatternsError>
+    ensures { MatchResult result
+        (λ exprs. all_translated default asts.items ≡ Ok exprs.items)
+        (λ e. RefusesAll e (all_translated default asts.items)) }
+{
+    translate_all(alloc, &asts, &Config::new())
+}
+
+/// What is answered where a pattern is refused, or where there is no memory.
+fn refusal(alloc: Global, error: PatternsError) -> Result<Answer, Memory>
+    ensures { (r : Result (List Expression) Refusal) (texts : List (List ℕ)) → RefusesAll error r → IfOk result (λ a. a ≡ answer_patterns r texts) }
+{
+    match error {
+        PatternsError::Syntax { pattern, error } => refused(alloc, pattern, error.kind),
+        PatternsError::Memory => Err(Memory),
     }
 }
 
@@ -95,6 +162,7 @@ fn answer_patterns<R: Threads + Wait + Sync, G: Gate + Sync>(
     requires utf8 { MeanUtf8 expressions.now }
     ensures { IfOk result (λ a. a ≡ answer_patterns (Ok expressions.now) (lines haystacks.now)) }
 {
+    // No pattern is read twice (DECISIONS: `run` reads the patterns itself and builds the regex from their expressions).
     match builder_without(&command.off).build_many_from_hir(alloc, expressions) {
         Ok(regex) => all_rows(rt, alloc, command, &regex, haystacks, gate),
         Err(BuildError::NFA(_)) => too_big(alloc),
@@ -121,7 +189,8 @@ fn all_rows<R: Threads + Wait + Sync, G: Gate + Sync>(
     gate: &G,
 ) -> Result<Answer, Memory>
     requires { 0 < command.now.workers }
-    ensures { (hs : List Expression) → IsBuilt (config_without command.now.off) hs regex.now → MeanUtf8 hs → IfOk result (λ a. a ≡ all_rows hs (lines haystacks.now)) }
+    ensures { (hs : List Expression) → IsBuilt (config_without command.now.off) hs regex.now → MeanUtf8 hs
+        → IfOk result (λ a. a ≡ all_rows hs (lines haystacks.now)) }
 {
     let haystacks = split_lines(alloc, haystacks)?;
     let rows = scan(rt, alloc, regex, &haystacks, command.workers, gate)?;

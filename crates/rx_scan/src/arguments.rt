@@ -5,6 +5,7 @@ ghost use Rattle.rx_scan.specs.Arguments.{command_of, options_of, digit, is_digi
 
 use rx_meta::Config;
 
+// Each letter is read, also where it changes nothing yet (DECISIONS: the words for workers and for all that can be switched off).
 /// What a scan is to do without. None of it changes a row.
 #[derive(Clone, Copy, Debug, PartialEq, Eq)]
 pub struct Off {
@@ -43,6 +44,7 @@ impl Off {
     pub fn config(&self) -> Config
         ensures { result ≡ config_without self.now }
     {
+        // It changes how a regex searches, and no row (DECISIONS: what a scan is to do without is the configuration of its regex).
         Config::new()
             .auto_prefilter(!self.auto_prefilter)
             .backtrack(!self.backtrack)

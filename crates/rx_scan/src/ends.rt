@@ -20,11 +20,16 @@ pub trait Source {
     /// How often the source has failed.
     ghost faults: { Self → ℕ };
 
+    // None where it counts none (DECISIONS: a source may count its reads).
     /// How often the source was read, where it counts.
     ghost reads: { Self → Option ℕ };
 
     /// Reads the next bytes into the buffer and answers how many there are. It answers 0 only at the end of the input
-    /// or where the buffer is empty. At an error, which comes only with a fault, nothing was taken.
+    /// or where the buffer is empty.
+    ///
+    /// # Errors
+    ///
+    /// `Failed`, only with a fault; nothing was taken.
     fn read(&mut self, buf: &mut [u8]) -> Result<usize, Failed>
         ensures bytes { Reads (left self.old) (left self.new) buf.new result }
         ensures counts { faults self.old ≤ faults self.new }
@@ -41,7 +46,10 @@ pub trait Sink {
     ghost faults: { Self → ℕ };
 
     /// Takes bytes from the front of the piece and answers how many, at least one unless the piece is empty.
-    /// At an error, which comes only with a fault, nothing was taken.
+    ///
+    /// # Errors
+    ///
+    /// `Failed`, only with a fault; nothing was taken.
     fn write(&mut self, piece: &[u8]) -> Result<usize, Failed>
         ensures bytes { Writes (held self.old) (held self.new) piece.now result }
         ensures counts { faults self.old ≤ faults self.new }

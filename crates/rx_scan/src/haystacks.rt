@@ -5,11 +5,11 @@ ghost use Rattle.std.specs.Vec.{vec_items};
 ghost use Rattle.rx_model.specs.Expression.{Expression};
 ghost use Rattle.rx_model.specs.Search.{Patterns};
 ghost use Rattle.rx_model.specs.Utf8.{MeansUtf8};
+ghost use Rattle.rx_search.specs.Needles.{BeginsEachMatch};
 ghost use Rattle.rx_search.specs.Told.{tells};
 ghost use Rattle.rx_search.specs.declared.anchored.MatchKind.TheVariants.{LeftmostFirst};
 ghost use Rattle.rx_meta.specs.Build.{IsBuilt, patterns_for};
 ghost use Rattle.rx_meta.specs.Config.{ConfigValue, kind_of, utf8_of, prefilter_of, captures_of};
-ghost use Rattle.rx_meta.specs.Prefilter.{BeginsEachMatch};
 ghost use Rattle.rx_meta.specs.Regex.{groups_in};
 ghost use Rattle.rx_scan.specs.Haystacks.{FindsRows};
 ghost use Rattle.rx_scan.specs.Row.{scan_rows};
@@ -97,6 +97,7 @@ pub fn scan<R: Threads + Wait + Sync, G: Gate + Sync>(
         return no_rows(alloc, haystacks, gate);
     }
     let layout = Layout::new(alloc, regex.group_info())?;
+    // One finder, on the caller (DECISIONS: `run` hands the number of workers on to `scan`).
     let mut finder = RegexFinder::new(alloc, regex)?;
     let mut all = Vec::with_capacity(alloc, haystacks.len())?;
     for (index, haystack) in haystacks.iter().enumerate() {

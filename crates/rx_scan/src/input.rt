@@ -1,18 +1,17 @@
-//! Reading: the input to its end, its lines, and the expressions of its patterns.
+//! Reading: the input to its end, its lines, and the syntax trees of its patterns.
 ghost use Rattle.std.specs.Prelude.{◌≡◌, ◌+◌, ◌<◌, ◌≤◌, [], ◌∷◌, length, map, take, vec_len, IfOk, OnErr, IsErrOf, MatchResult};
 ghost use Rattle.std.specs.Io.KnownBytes.{Consumes, IsAtEnd};
 ghost use Rattle.std.specs.List.{All};
 ghost use Rattle.std.specs.Str.{IsUtf8};
 ghost use Rattle.rx_reader.specs.Config.{default};
-ghost use Rattle.rx_syntax.specs.Patterns.{all_read, RefusesAll};
+ghost use Rattle.rx_syntax.specs.Patterns.{all_syntaxes, RefusesAll};
 ghost use Rattle.rx_scan.specs.Ends.{HasRisen, CountsCall, CountsAtMost, GivesAtMost};
 ghost use Rattle.rx_scan.specs.Input.{lines, patterns, haystacks, ReadsSections};
 ghost use Rattle.rx_scan.specs.declared.input.ReadError.TheVariants.{Source, Memory};
 
 use crate::ends;
 use crate::ends::Failed;
-use rx_hir::Hir;
-use rx_syntax::{Config, PatternsError, parse_all};
+use rx_syntax::{Ast, Config, PatternsError, read_all};
 use std::alloc::{AllocError, Global};
 
 /// The length of the longest input.
@@ -55,6 +54,10 @@ impl From<Failed> for ReadError {
 }
 
 /// Reads at most this many bytes into the front of the buffer.
+///
+/// # Errors
+///
+/// `Failed`, where the source failed; nothing was taken.
 pub fn read_at_most<S: ends::Source>(
     source: &mut S,
     buf: &mut [u8],
@@ -80,6 +83,10 @@ fn make_piece(alloc: Global) -> Result<Vec<u8>, AllocError>
 }
 
 /// The whole input, or one byte more than the limit of a longer one.
+///
+/// # Errors
+///
+/// `Source`, where the source failed; `Memory`, where there was no memory. What was read before is lost.
 pub fn read_input<S: ends::Source>(alloc: Global, source: &mut S) -> Result<Vec<u8>, ReadError>
     ensures given { IfOk result (λ input. Consumes (S.left source.old) (S.left source.new) input.items) }
     ensures whole { IfOk result (λ input. vec_len input ≤ INPUT_LIMIT → IsAtEnd (S.left source.new)) }
@@ -95,20 +102,27 @@ pub fn read_input<S: ends::Source>(alloc: Global, source: &mut S) -> Result<Vec<
         if n == 0 {
             return Ok(input);
         }
+        // The only copy of these bytes (DECISIONS: the input is copied once).
         input.extend_from_slice(&piece[..n])?;
     }
     Ok(input)
 }
 
-/// The expressions of the patterns, and the text of the haystacks.
-pub fn parse_patterns(alloc: Global, text: &str) -> Result<(Vec<Hir>, &str), PatternsError>
+/// The syntax trees of the patterns, and the text of the haystacks.
+///
+/// # Errors
+///
+/// `Syntax`, the number of the first pattern that reading refuses, counted from 0, with its refusal; `Memory`, where there
+/// was no memory.
+pub fn read_patterns(alloc: Global, text: &str) -> Result<(Vec<Ast>, &str), PatternsError>
     ensures { MatchResult result
         (λ s. ReadsSections s.0.items s.1.now text.now)
-        (λ e. RefusesAll e (all_read default (patterns (lines text.now)))) }
+        (λ e. RefusesAll e (all_syntaxes default (patterns (lines text.now)))) }
 {
     let (patterns, haystacks) = split_patterns(alloc, text)?;
-    let expressions = parse_all(alloc, &patterns, &Config::new())?;
-    Ok((expressions, haystacks))
+    // Reading refuses before translation does (DECISIONS: a regex's builder, and the program, read all patterns).
+    let asts = read_all(alloc, &patterns, &Config::new())?;
+    Ok((asts, haystacks))
 }
 
 /// The lines that are patterns, and the text of the haystacks.
@@ -134,6 +148,10 @@ fn split_patterns<'t>(
 }
 
 /// The lines of a text.
+///
+/// # Errors
+///
+/// `Memory`, where there was no memory for the list.
 pub fn split_lines<'t>(alloc: Global, text: &'t str) -> Result<Vec<&'t [u8]>, rx_search::Memory>
     ensures lines { IfOk result (λ all. map (λ line. line.now) all.items ≡ lines text.now) }
     ensures utf8 { IfOk result (λ all. All (λ line. IsUtf8 line.now) all.items) }

@@ -13,6 +13,7 @@ mod input;
 mod output;
 mod program;
 mod row;
+mod size;
 mod status;
 
 pub use ends::{

@@ -11,6 +11,10 @@ use itoa::Buffer;
 use rx_search::{Memory, NonMaxUsize};
 
 /// Appends a number.
+///
+/// # Errors
+///
+/// `Memory`, where there was no memory for the digits.
 pub fn push_number(text: &mut Vec<u8>, n: usize) -> Result<(), Memory>
     ensures { OnOk result (text.new.items ≡ text.old.items ++ decimal n) }
 {
@@ -68,9 +72,14 @@ fn push_groups(text: &mut Vec<u8>, slots: &[Option<NonMaxUsize>]) -> Result<(), 
 }
 
 /// Appends the rows of all haystacks, the first of which is line 1.
+///
+/// # Errors
+///
+/// `Memory`, where there was no memory for the text; a front of it may have been appended.
 pub fn print_haystacks(text: &mut Vec<u8>, haystacks: &[Vec<Row>]) -> Result<(), Memory>
     ensures { OnOk result (text.new.items ≡ text.old.items ++ rows_text 1 (map vec_items haystacks.now)) }
 {
+    // What is printed is what `scan` answers, as data (DECISIONS: the text of a row is defined from the row as data).
     let mut line = 0;
     for rows in haystacks {
         line += 1;
@@ -119,6 +128,10 @@ fn push_slots(text: &mut Vec<u8>, slots: &[Option<NonMaxUsize>]) -> Result<(), M
 }
 
 /// Writes all of the text, or a front of it that ends where the sink failed.
+///
+/// # Errors
+///
+/// `Failed`, where the sink failed; it holds a front of the text.
 pub fn write_text<K: Sink>(sink: &mut K, text: &[u8]) -> Result<(), Failed>
     ensures ok { OnOk result (Gains (K.held sink.old) (K.held sink.new) text.now) }
     ensures err { OnErr result (GainsPrefix (K.held sink.old) (K.held sink.new) text.now) }

@@ -82,6 +82,7 @@ pub fn run<R: Threads + Wait + Sync, S: Source, K: Sink, G: Gate + Sync>(
     let Some(command) = command_of(words) else {
         return finish(sink, Status::Usage, USAGE.as_bytes());
     };
+    // What is written is known in whole before the first write (DECISIONS: statuses 1 to 6 are decided before anything is searched).
     match answer_source(rt, alloc, &command, source, gate) {
         Ok(answer) => finish_answer(sink, answer),
         Err(ReadError::Source) => code_of(Status::SourceFailed),

@@ -13,6 +13,7 @@ use rx_search::{GroupInfo, Memory, NonMaxUsize, PatternID, Span};
 use std::alloc::Global;
 use std::marker::Model;
 
+// A row without groups takes no memory (DECISIONS: a row's slots are kept in the row).
 /// Where slots are kept.
 #[derive(Drop)]
 enum Places {
@@ -94,7 +95,9 @@ impl Slots {
 /// A match as it is told: its pattern, and the places of that pattern's groups in the haystack, in bytes.
 #[derive(Drop)]
 pub struct Row {
+    /// The number of its pattern.
     pub pattern: PatternID,
+    /// Where each group of that pattern starts and ends.
     pub slots: Slots,
 }
 
@@ -127,6 +130,7 @@ impl<'g> Layout<'g> {
     pub fn new(alloc: Global, groups: &'g GroupInfo) -> Result<Layout<'g>, Memory>
         ensures { IfOk result (λ layout. layout.groups.now ≡ groups.now) }
     {
+        // So no match asks for it (DECISIONS: which slots are those of a pattern's groups is asked once).
         let patterns = groups.pattern_len();
         let _slots = groups.slot_len();
         let mut explicit = Vec::with_capacity(alloc, patterns)?;
@@ -150,9 +154,10 @@ impl<'g> Layout<'g> {
         slots: &[Option<NonMaxUsize>],
     ) -> Result<Row, Memory>
         requires { length slots.now ≡ slot_count self.now.groups.now }
-        ensures { (r : Patterns) (text : List ℕ) (b a : ℕ) (m : Match) → self.now.groups.now ≡ pattern_groups r.expressions
+        ensures value { (r : Patterns) (text : List ℕ) (b a : ℕ) (m : Match) → self.now.groups.now ≡ pattern_groups r.expressions
             → next_match r text free b a ≡ Some m → pattern ≡ m.trace.pattern → HasSlots slots.now m
             → IfOk result (λ row. row ≡ row_of r m) }
+        ensures sure { length (groups_at self.now.groups.now pattern) ≤ 1 → IsOk result }
     {
         let slots = self.slots_of(alloc, pattern, slots)?;
         Ok(Row { pattern, slots })
@@ -166,7 +171,8 @@ impl<'g> Layout<'g> {
         slots: &[Option<NonMaxUsize>],
     ) -> Result<Slots, Memory>
         requires { length slots.now ≡ slot_count self.now.groups.now }
-        ensures { pattern < length self.now.groups.now → IfOk result (λ own. own ≡ own_slots self.now.groups.now pattern slots.now) }
+        ensures value { pattern < length self.now.groups.now → IfOk result (λ own. own ≡ own_slots self.now.groups.now pattern slots.now) }
+        ensures sure { length (groups_at self.now.groups.now pattern) ≤ 1 → IsOk result }
     {
         let index = pattern.as_usize();
         if index >= self.explicit.len() {

@@ -100,7 +100,8 @@ module _ (classes : List ℕ) (are : AreClasses classes) where
   }
 
   -- the first byte of a class
-  Met-new : (byte : ℕ) (bytes : List ℕ) → byte < 256 → get_or classes byte 0 ≡ length bytes → Met classes byte bytes → Met classes (byte + 1) (bytes ++ byte ∷ [])
+  Met-new : (byte : ℕ) (bytes : List ℕ) → byte < 256 → get_or classes byte 0 ≡ length bytes → Met classes byte bytes
+      → Met classes (byte + 1) (bytes ++ byte ∷ [])
   Met-new byte bytes small is m =
       let long = length-append bytes (byte ∷ []) in
       record {
@@ -123,7 +124,8 @@ module _ (classes : List ℕ) (are : AreClasses classes) where
       }
     where
       -- what holds of each byte so far, and of the new one
-      each : (P : ℕ → ℕ → Type 0) → ((k : ℕ) → k < length bytes → P k (get_or bytes k 0)) → P (length bytes) byte → (k : ℕ) → k < length (bytes ++ byte ∷ []) → P k (get_or (bytes ++ byte ∷ []) k 0)
+      each : (P : ℕ → ℕ → Type 0) → ((k : ℕ) → k < length bytes → P k (get_or bytes k 0)) → P (length bytes) byte → (k : ℕ) → k < length (bytes ++ byte ∷ [])
+          → P k (get_or (bytes ++ byte ∷ []) k 0)
       each P before last k lt =
           let long = length-append bytes (byte ∷ []) in
           ⊎_elim
@@ -132,14 +134,18 @@ module _ (classes : List ℕ) (are : AreClasses classes) where
           let e : length bytes ≡ k = omega arith in
           let none : length bytes - length bytes ≡ 0 = omega arith in
           subst (λ n. P n (get_or (bytes ++ byte ∷ []) n 0)) e
-          (subst (P (length bytes)) (sym (get_or-append_right bytes (byte ∷ []) (length bytes) (length bytes) 0 refl (omega arith) ∙ ap (λ n. get_or (byte ∷ []) n 0) none)) last))
+          (subst (P (length bytes))
+          (sym (get_or-append_right bytes (byte ∷ []) (length bytes) (length bytes) 0 refl (omega arith) ∙ ap (λ n. get_or (byte ∷ []) n 0) none)) last))
           (cases_lt k (length bytes))
 
-  pub Met-next : (byte : ℕ) (bytes bytes' : List ℕ) → byte < 256 → bytes' ≡ (if get_or classes byte 0 == length bytes then bytes ++ byte ∷ [] else bytes) → Met classes byte bytes → Met classes (byte + 1) bytes'
+  pub Met-next : (byte : ℕ) (bytes bytes' : List ℕ) → byte < 256 → bytes' ≡ (if get_or classes byte 0 == length bytes then bytes ++ byte ∷ [] else bytes)
+      → Met classes byte bytes → Met classes (byte + 1) bytes'
   Met-next byte bytes bytes' small is m =
       by_test (get_or classes byte 0 == length bytes)
-      (λ e. subst (Met classes (byte + 1)) (sym (is ∙ ap (λ b. if b then bytes ++ byte ∷ [] else bytes) e)) (Met-new byte bytes small (eqb-true (get_or classes byte 0) (length bytes) e) m))
-      (λ e. subst (Met classes (byte + 1)) (sym (is ∙ ap (λ b. if b then bytes ++ byte ∷ [] else bytes) e)) (Met-old byte bytes small (eqb-false (get_or classes byte 0) (length bytes) e) m))
+      (λ e. subst (Met classes (byte + 1)) (sym (is ∙ ap (λ b. if b then bytes ++ byte ∷ [] else bytes) e))
+      (Met-new byte bytes small (eqb-true (get_or classes byte 0) (length bytes) e) m))
+      (λ e. subst (Met classes (byte + 1)) (sym (is ∙ ap (λ b. if b then bytes ++ byte ∷ [] else bytes) e))
+      (Met-old byte bytes small (eqb-false (get_or classes byte 0) (length bytes) e) m))
 
   pub Met-all : (byte : ℕ) (bytes : List ℕ) → byte ≡ 256 → Met classes byte bytes → AreRepresentatives classes bytes
   Met-all byte bytes all m = record {

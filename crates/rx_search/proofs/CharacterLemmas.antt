@@ -14,13 +14,8 @@ use Rattle.bstr.proofs.lemmas.PieceLemmas.{IsLastPiece-whole}
 use Rattle.bstr.proofs.lemmas.SoundLemmas.{SpellsChar-decoded, IsLastPiece-decoded, IsLastPiece-same}
 use Rattle.rx_model.specs.Text.{char_at}
 use Rattle.rx_model.specs.Look.{char_before, char_of_length_before, of_length}
-use Rattle.rx_model.proofs.lemmas.meaning.CharLemmas.{char_at_parts, char_at_from}
+use Rattle.rx_model.proofs.lemmas.meaning.CharLemmas.{char_at_parts, char_at_from, by_option}
 use Rattle.rx_model.proofs.lemmas.runs.RunLemmas.{by_test}
-
--- by the value of an option
-by_option : {P : Type 0} (o : Option ℕ) → (o ≡ None → P) → ((x : ℕ) → o ≡ Some x → P) → P
-by_option None none some = none refl
-by_option (Some x) none some = some x refl
 
 -- a character that stands at a place decodes there
 decoded-char_at : (text : List ℕ) (i c : ℕ) → char_at text i ≡ Some c → decoded (drop i text) ≡ good c (len_utf8 c)
@@ -154,8 +149,10 @@ module _ (text : List ℕ) (i : ℕ) (within : i ≤ length text) where
       let whole : text ≡ take (i - n) text ++ (ys ++ drop (i - n + len_utf8 c) text) = sym (take-append-drop (i - n) text) ∙ ap (λ r. take (i - n) text ++ r) stands.1 in
       let place : i ≡ length (take (i - n) text) + n = omega arith in
       let front : take i text ≡ take (i - n) text ++ ys = (λ k. take (place k) (whole k)) ∙ take-append-add (take (i - n) text) (ys ++ drop (i - n + len_utf8 c) text) n
-      ∙ ap (λ r. take (i - n) text ++ r) (ap (λ m. take m (ys ++ drop (i - n + len_utf8 c) text)) (sym size) ∙ take-append_seam ys (drop (i - n + len_utf8 c) text)) in
-      subst (λ bs. IsLastPiece bs (good c n)) (sym front) (subst (λ m. IsLastPiece (take (i - n) text ++ ys) (good c m)) parts.1 (IsLastPiece-encode (take (i - n) text) c stands.0))
+      ∙ ap (λ r. take (i - n) text ++ r) (ap (λ m. take m (ys ++ drop (i - n + len_utf8 c) text)) (sym size)
+      ∙ take-append_seam ys (drop (i - n + len_utf8 c) text)) in
+      subst (λ bs. IsLastPiece bs (good c n)) (sym front) (subst (λ m. IsLastPiece (take (i - n) text ++ ys) (good c m)) parts.1
+      (IsLastPiece-encode (take (i - n) text) c stands.0))
 
   module _ (p : Decoded) (last : IsLastPiece (take i text) p) where
     -- so it is the character of the last piece

@@ -11,6 +11,7 @@ use Rattle.std.specs.Ordering.{nat_cmp}
 use Rattle.std.specs.List.{list_any}
 use Rattle.std.specs.Option.{option_or}
 use Rattle.rx_model.proofs.lemmas.runs.OptionLemmas.{or-assoc, or-none_right}
+use Rattle.rx_model.proofs.lemmas.runs.RunLemmas.{or-none}
 use Rattle.rx_search.specs.declared.group_error.GroupInfoError.{GroupInfoError}
 use Rattle.rx_search.specs.declared.group_error.GroupInfoError.TheVariants.{TooMany}
 use Rattle.rx_search.specs.Limits.{id_limit, slot_limit}
@@ -21,7 +22,8 @@ pub group_count-push : (gs : List (List (Option (List ℕ)))) (g : List (Option 
 group_count-push [] g = omega arith
 group_count-push (first ∷ gs) g = omega (arith, group_count-push gs g)
 
-pub group_count-more : (gs : List (List (Option (List ℕ)))) (i : ℕ) (d : List (Option (List ℕ))) → i < length gs → group_count (take (i + 1) gs) ≡ group_count (take i gs) + length (get_or gs i d)
+pub group_count-more : (gs : List (List (Option (List ℕ)))) (i : ℕ) (d : List (Option (List ℕ))) → i < length gs
+    → group_count (take (i + 1) gs) ≡ group_count (take i gs) + length (get_or gs i d)
 group_count-more gs i d below = ap group_count (take_more gs i d below) ∙ group_count-push (take i gs) (get_or gs i d)
 
 -- a front has no more groups
@@ -31,7 +33,8 @@ group_count-front (suc i) [] = omega arith
 group_count-front (suc i) (g ∷ gs) = omega (arith, group_count-front i gs)
 
 -- the first fault of a list that goes on
-pub first_fault-append : (p : ℕ) (xs ys : List (List (Option (List ℕ)))) → first_fault p (xs ++ ys) ≡ option_or (first_fault p xs) (first_fault (p + length xs) ys)
+pub first_fault-append : (p : ℕ) (xs ys : List (List (Option (List ℕ)))) → first_fault p (xs ++ ys) ≡ option_or (first_fault p xs)
+    (first_fault (p + length xs) ys)
 first_fault-append p [] ys = ap (λ (n : ℕ). first_fault n ys) (omega arith)
 first_fault-append p (x ∷ xs) ys =
     let place : p + 1 + length xs ≡ p + length (x ∷ xs) = omega arith in
@@ -39,7 +42,8 @@ first_fault-append p (x ∷ xs) ys =
     ∙ sym (or-assoc (fault_of p x) (first_fault (p + 1) xs) (first_fault (p + length (x ∷ xs)) ys))
 
 -- one pattern more
-pub first_fault-more : (gs : List (List (Option (List ℕ)))) (i : ℕ) (d : List (Option (List ℕ))) → i < length gs → first_fault 0 (take (i + 1) gs) ≡ option_or (first_fault 0 (take i gs)) (fault_of i (get_or gs i d))
+pub first_fault-more : (gs : List (List (Option (List ℕ)))) (i : ℕ) (d : List (Option (List ℕ))) → i < length gs
+    → first_fault 0 (take (i + 1) gs) ≡ option_or (first_fault 0 (take i gs)) (fault_of i (get_or gs i d))
 first_fault-more gs i d below =
     let len : length (take i gs) ≡ i = length-take-le i gs (omega arith) in
     let place : 0 + length (take i gs) ≡ i = omega (arith, len) in
@@ -49,35 +53,36 @@ first_fault-more gs i d below =
     ∙ ap (option_or (first_fault 0 (take i gs))) (or-none_right (fault_of i (get_or gs i d)))
 
 -- the fault of a front is the fault of a longer one
-pub first_fault-stays : (gs : List (List (Option (List ℕ)))) (i n : ℕ) (e : GroupInfoError) → i ≤ n → first_fault 0 (take i gs) ≡ Some e → first_fault 0 (take n gs) ≡ Some e
+pub first_fault-stays : (gs : List (List (Option (List ℕ)))) (i n : ℕ) (e : GroupInfoError) → i ≤ n → first_fault 0 (take i gs) ≡ Some e
+    → first_fault 0 (take n gs) ≡ Some e
 first_fault-stays gs i n e order fault =
     let rest = drop i (take n gs) in
     let whole : take i gs ++ rest ≡ take n gs = ap (λ (xs : List (List (Option (List ℕ)))). xs ++ rest) (sym (take-take i n gs order)) ∙ take-append-drop i (take n gs) in
-    ap (first_fault 0) (sym whole) ∙ first_fault-append 0 (take i gs) rest ∙ ap (λ (o : Option GroupInfoError). option_or o (first_fault (0 + length (take i gs)) rest)) fault
+    ap (first_fault 0) (sym whole) ∙ first_fault-append 0 (take i gs) rest
+    ∙ ap (λ (o : Option GroupInfoError). option_or o (first_fault (0 + length (take i gs)) rest)) fault
 
 -- where there is no fault each pattern has a group
 pub some_group : (p : ℕ) (g : List (Option (List ℕ))) → fault_of p g ≡ None → 1 ≤ length g
 some_group p [] fault = absurd (cc)
 some_group p (name ∷ g) fault = omega arith
 
-pub option_or_both : {A : Type 0} (a b : Option A) → option_or a b ≡ None → (a ≡ None) × (b ≡ None)
-option_or_both None b none = (refl, none)
-option_or_both (Some x) b none = absurd (cc)
-
 pub group_count-least : (p : ℕ) (gs : List (List (Option (List ℕ)))) → first_fault p gs ≡ None → length gs ≤ group_count gs
 group_count-least p [] none = omega arith
 group_count-least p (g ∷ gs) none =
-    let both = option_or_both (fault_of p g) (first_fault (p + 1) gs) none in
+    let both = or-none (fault_of p g) (first_fault (p + 1) gs) none in
     omega (arith, some_group p g both.0, group_count-least (p + 1) gs both.1)
 
 pub is_above : {n : ℕ} → slot_limit < n → nat_lt slot_limit n ≡ true
 is_above above = grind (arith, nat_tests)
 
-pub too_many_slots : (gs : List (List (Option (List ℕ)))) → first_fault 0 (take id_limit gs) ≡ None → nat_lt slot_limit (slot_count gs) ≡ true → refusal gs ≡ Some TooMany
-too_many_slots gs none many = ap (λ (o : Option GroupInfoError). option_or o (cond (nat_lt slot_limit (slot_count gs)) (Some TooMany) None)) none ∙ ap (λ (b : Bool). cond b (Some TooMany) None) many
+pub too_many_slots : (gs : List (List (Option (List ℕ)))) → first_fault 0 (take id_limit gs) ≡ None → nat_lt slot_limit (slot_count gs) ≡ true
+    → refusal gs ≡ Some TooMany
+too_many_slots gs none many = ap (λ (o : Option GroupInfoError). option_or o (cond (nat_lt slot_limit (slot_count gs)) (Some TooMany) None)) none
+    ∙ ap (λ (b : Bool). cond b (Some TooMany) None) many
 
 -- More patterns than identifiers, of which those with one are without fault, have too many slots.
-pub too_many_patterns : (gs : List (List (Option (List ℕ)))) (i : ℕ) → i ≡ id_limit → i ≤ length gs → first_fault 0 (take i gs) ≡ None → refusal gs ≡ Some TooMany
+pub too_many_patterns : (gs : List (List (Option (List ℕ)))) (i : ℕ) → i ≡ id_limit → i ≤ length gs → first_fault 0 (take i gs) ≡ None
+    → refusal gs ≡ Some TooMany
 too_many_patterns gs i limit below none =
     let len : length (take i gs) ≡ i = length-take-le i gs below in
     let many : slot_limit < slot_count gs = omega (arith, limit, len, group_count-least 0 (take i gs) none, group_count-front i gs) in
@@ -85,14 +90,16 @@ too_many_patterns gs i limit below none =
 
 -- no refusal
 pub no_refusal : (gs : List (List (Option (List ℕ)))) → first_fault 0 (take id_limit gs) ≡ None → nat_lt slot_limit (slot_count gs) ≡ false → refusal gs ≡ None
-no_refusal gs none few = ap (λ (o : Option GroupInfoError). option_or o (cond (nat_lt slot_limit (slot_count gs)) (Some TooMany) None)) none ∙ ap (λ (b : Bool). cond b (Some TooMany) None) few
+no_refusal gs none few = ap (λ (o : Option GroupInfoError). option_or o (cond (nat_lt slot_limit (slot_count gs)) (Some TooMany) None)) none
+    ∙ ap (λ (b : Bool). cond b (Some TooMany) None) few
 
 -- the first fault is the refusal
 pub fault_refusal : (gs : List (List (Option (List ℕ)))) (e : GroupInfoError) → first_fault 0 (take id_limit gs) ≡ Some e → refusal gs ≡ Some e
 fault_refusal gs e fault = ap (λ (o : Option GroupInfoError). option_or o (cond (nat_lt slot_limit (slot_count gs)) (Some TooMany) None)) fault
 
 -- the groups of a pattern by the bytes of their names
-pub group_at : {A B : Type 0} (patterns : List (Vec (Option (String A)) B)) (i : ℕ) (v : Vec (Option (String A)) B) → i < length patterns → v ≡ get_or patterns i v → get_or (groups_of patterns) i [] ≡ names_of v.items
+pub group_at : {A B : Type 0} (patterns : List (Vec (Option (String A)) B)) (i : ℕ) (v : Vec (Option (String A)) B) → i < length patterns
+    → v ≡ get_or patterns i v → get_or (groups_of patterns) i [] ≡ names_of v.items
 group_at {A} {B} patterns i v below is =
     let f : Vec (Option (String A)) B → List (Option (List ℕ)) = λ names. names_of names.items in
     get_or-map f patterns i v [] below ∙ ap f (sym is)
@@ -106,17 +113,21 @@ pub length-names_of : {A : Type 0} (names : List (Option (String A))) → length
 length-names_of names = length-map names (option_map string_bytes)
 
 -- a fault of the next pattern is the refusal
-pub fault_is_refusal : (gs : List (List (Option (List ℕ)))) (i : ℕ) (g : List (Option (List ℕ))) (e : GroupInfoError) → first_fault 0 (take i gs) ≡ None → get_or gs i [] ≡ g → i < length gs → i < id_limit → IsFault i g e → IsRefusal gs e
+pub fault_is_refusal : (gs : List (List (Option (List ℕ)))) (i : ℕ) (g : List (Option (List ℕ))) (e : GroupInfoError) → first_fault 0 (take i gs) ≡ None
+    → get_or gs i [] ≡ g → i < length gs → i < id_limit → IsFault i g e → IsRefusal gs e
 fault_is_refusal gs i g e none item below limit fault =
     let front : fault_of i g ≡ Some e → first_fault 0 (take (i + 1) gs) ≡ Some e = λ h. first_fault-more gs i [] below ∙ ap (λ (o : Option GroupInfoError). option_or o (fault_of i (get_or gs i []))) none ∙ ap (fault_of i) item ∙ h in
     ⊎_elim (λ h. inl (fault_refusal gs e (first_fault-stays gs (i + 1) id_limit e (omega arith) (front h)))) (λ h. inr h) fault
 
 -- the next pattern has no fault
-pub no_fault-more : (gs : List (List (Option (List ℕ)))) (i : ℕ) (g : List (Option (List ℕ))) → first_fault 0 (take i gs) ≡ None → get_or gs i [] ≡ g → i < length gs → fault_of i g ≡ None → first_fault 0 (take (i + 1) gs) ≡ None
-no_fault-more gs i g none item below fault = first_fault-more gs i [] below ∙ ap (λ (o : Option GroupInfoError). option_or o (fault_of i (get_or gs i []))) none ∙ ap (fault_of i) item ∙ fault
+pub no_fault-more : (gs : List (List (Option (List ℕ)))) (i : ℕ) (g : List (Option (List ℕ))) → first_fault 0 (take i gs) ≡ None → get_or gs i [] ≡ g
+    → i < length gs → fault_of i g ≡ None → first_fault 0 (take (i + 1) gs) ≡ None
+no_fault-more gs i g none item below fault = first_fault-more gs i [] below ∙ ap (λ (o : Option GroupInfoError). option_or o (fault_of i (get_or gs i []))) none
+    ∙ ap (fault_of i) item ∙ fault
 
 -- all patterns have been seen
-pub no_fault-all : (gs : List (List (Option (List ℕ)))) (i : ℕ) → length gs ≤ i → i ≤ id_limit → first_fault 0 (take i gs) ≡ None → first_fault 0 (take id_limit gs) ≡ None
+pub no_fault-all : (gs : List (List (Option (List ℕ)))) (i : ℕ) → length gs ≤ i → i ≤ id_limit → first_fault 0 (take i gs) ≡ None
+    → first_fault 0 (take id_limit gs) ≡ None
 no_fault-all gs i all limit none = ap (first_fault 0) (take_all id_limit gs (omega arith) ∙ sym (take_all i gs all)) ∙ none
 
 -- What is known where nothing is refused.
@@ -134,7 +145,7 @@ short_list gs none few =
 
 pub refused_none : (gs : List (List (Option (List ℕ)))) → refusal gs ≡ None → IsSound gs
 refused_none gs none =
-    let both = option_or_both (first_fault 0 (take id_limit gs)) (cond (nat_lt slot_limit (slot_count gs)) (Some TooMany) None) none in
+    let both = or-none (first_fault 0 (take id_limit gs)) (cond (nat_lt slot_limit (slot_count gs)) (Some TooMany) None) none in
     let few : slot_count gs ≤ slot_limit = not_above (slot_count gs) both.1 in
     let short : length gs ≤ id_limit = short_list gs both.0 few in
     record { faultless = ap (first_fault 0) (sym (take_all id_limit gs short)) ∙ both.0; few = few }
@@ -145,10 +156,11 @@ first_unnamed p [] none = absurd (cc)
 first_unnamed p (None ∷ g) none = refl
 first_unnamed p (Some name ∷ g) none = absurd (cc)
 
-pub faultless_at : (p : ℕ) (gs : List (List (Option (List ℕ)))) (i : ℕ) → first_fault p gs ≡ None → i < length gs → get_or gs i [] ≡ None ∷ drop 1 (get_or gs i [])
+pub faultless_at : (p : ℕ) (gs : List (List (Option (List ℕ)))) (i : ℕ) → first_fault p gs ≡ None → i < length gs
+    → get_or gs i [] ≡ None ∷ drop 1 (get_or gs i [])
 faultless_at p [] i none below = absurd (omega arith)
-faultless_at p (g ∷ gs) zero none below = first_unnamed p g (option_or_both (fault_of p g) (first_fault (p + 1) gs) none).0
-faultless_at p (g ∷ gs) (suc i) none below = faultless_at (p + 1) gs i (option_or_both (fault_of p g) (first_fault (p + 1) gs) none).1 (omega arith)
+faultless_at p (g ∷ gs) zero none below = first_unnamed p g (or-none (fault_of p g) (first_fault (p + 1) gs) none).0
+faultless_at p (g ∷ gs) (suc i) none below = faultless_at (p + 1) gs i (or-none (fault_of p g) (first_fault (p + 1) gs) none).1 (omega arith)
 
 -- this name, if there is one, stands among the groups
 abbrev pub stands_in : Option (List ℕ) → List (Option (List ℕ)) → Bool
@@ -201,20 +213,28 @@ has_duplicate-front zero xs twice = absurd (cc)
 has_duplicate-front (suc i) [] twice = absurd (cc)
 has_duplicate-front (suc i) (None ∷ xs) twice = has_duplicate-front i xs twice
 has_duplicate-front (suc i) (Some name ∷ xs) twice =
-    ⊎_elim (λ h. or_left _ _ (list_any-front (is_named name) i xs h)) (λ h. or_right _ _ (has_duplicate-front i xs h)) (or_cases (list_any (is_named name) (take i xs)) (has_duplicate (take i xs)) twice)
+    ⊎_elim (λ h. or_left _ _ (list_any-front (is_named name) i xs h)) (λ h. or_right _ _ (has_duplicate-front i xs h))
+    (or_cases (list_any (is_named name) (take i xs)) (has_duplicate (take i xs)) twice)
 
-pub has_duplicate-more : (xs : List (Option (List ℕ))) (i : ℕ) (g : Option (List ℕ)) → get_or xs i None ≡ g → i < length xs → has_duplicate (take (i + 1) xs) ≡ (has_duplicate (take i xs) || stands_in g (take i xs))
-has_duplicate-more xs i g item below = ap has_duplicate (take_more xs i None below ∙ ap (λ (y : Option (List ℕ)). take i xs ++ y ∷ []) item) ∙ has_duplicate-push (take i xs) g
+pub has_duplicate-more : (xs : List (Option (List ℕ))) (i : ℕ) (g : Option (List ℕ)) → get_or xs i None ≡ g → i < length xs
+    → has_duplicate (take (i + 1) xs) ≡ (has_duplicate (take i xs) || stands_in g (take i xs))
+has_duplicate-more xs i g item below = ap has_duplicate (take_more xs i None below ∙ ap (λ (y : Option (List ℕ)). take i xs ++ y ∷ []) item)
+    ∙ has_duplicate-push (take i xs) g
 
-pub list_any-more : (p : Option (List ℕ) → Bool) (xs : List (Option (List ℕ))) (i : ℕ) (g : Option (List ℕ)) → get_or xs i None ≡ g → i < length xs → list_any p (take (i + 1) xs) ≡ (list_any p (take i xs) || (p g || false))
-list_any-more p xs i g item below = ap (list_any p) (take_more xs i None below ∙ ap (λ (y : Option (List ℕ)). take i xs ++ y ∷ []) item) ∙ list_any-append p (take i xs) (g ∷ [])
+pub list_any-more : (p : Option (List ℕ) → Bool) (xs : List (Option (List ℕ))) (i : ℕ) (g : Option (List ℕ)) → get_or xs i None ≡ g → i < length xs
+    → list_any p (take (i + 1) xs) ≡ (list_any p (take i xs) || (p g || false))
+list_any-more p xs i g item below = ap (list_any p) (take_more xs i None below ∙ ap (λ (y : Option (List ℕ)). take i xs ++ y ∷ []) item)
+    ∙ list_any-append p (take i xs) (g ∷ [])
 
 -- a group by the bytes of its name
-pub name_of_item : {A : Type 0} (names : List (Option (String A))) (i : ℕ) (name : Option (String A)) → i < length names → name ≡ get_or names i name → get_or (names_of names) i None ≡ option_map string_bytes name
+pub name_of_item : {A : Type 0} (names : List (Option (String A))) (i : ℕ) (name : Option (String A)) → i < length names → name ≡ get_or names i name
+    → get_or (names_of names) i None ≡ option_map string_bytes name
 name_of_item names i name below is = get_or-map (option_map string_bytes) names i name None below ∙ ap (option_map string_bytes) (sym is)
 
 -- a set with one name more
-pub set_with : (name : Bor (List ℕ)) (s n : BTreeSet (Bor (List ℕ))) → UpdatesBy (λ x y. slice_cmp nat_cmp x.now y.now) (λ k. slice_cmp nat_cmp name.now k.now) s n true → (other : List ℕ) → contains_by (λ k. slice_cmp nat_cmp other k.now) n ≡ cond (bytes_eq name.now other) true (contains_by (λ k. slice_cmp nat_cmp other k.now) s)
+pub set_with : (name : Bor (List ℕ)) (s n : BTreeSet (Bor (List ℕ)))
+    → UpdatesBy (λ x y. slice_cmp nat_cmp x.now y.now) (λ k. slice_cmp nat_cmp name.now k.now) s n true → (other : List ℕ)
+    → contains_by (λ k. slice_cmp nat_cmp other k.now) n ≡ cond (bytes_eq name.now other) true (contains_by (λ k. slice_cmp nat_cmp other k.now) s)
 set_with name s n updates other =
     let key : Bor (List ℕ) = record { ref_ptr = (0, 0); now = other } in
     updates.0 key ∙ ap (λ (b : Bool). cond b true (contains_by (λ k. slice_cmp nat_cmp other k.now) s)) (is_eq-slice_cmp name.now other)
@@ -224,10 +244,6 @@ cond_or true true = refl
 cond_or true false = refl
 cond_or false true = refl
 cond_or false false = refl
-
-pub or_false : (b : Bool) → (b || false) ≡ b
-or_false true = refl
-or_false false = refl
 
 pub not_false : (x y : Bool) → y ≡ not x → y ≡ false → x ≡ true
 not_false true y e f = refl

@@ -27,7 +27,8 @@ pub record RowFacts (names : List (Option (List ℕ))) (from : ℕ) (rows : List
   pub within : row.end ≤ to
   pub before : row.start ≡ from + explicit_before p (table_groups names rows)
 
-pub row_facts : (names : List (Option (List ℕ))) (from : ℕ) (rows : List Explicit) (to p : ℕ) (row : Explicit) → AreInRow from rows to → to ≤ length names → slice_get rows p ≡ Some row → RowFacts names from rows to p row
+pub row_facts : (names : List (Option (List ℕ))) (from : ℕ) (rows : List Explicit) (to p : ℕ) (row : Explicit) → AreInRow from rows to → to ≤ length names
+    → slice_get rows p ≡ Some row → RowFacts names from rows to p row
 row_facts names from [] to p row laid few at = absurd (none-some _ at)
 row_facts names from (first ∷ rows) to zero row laid few at =
     let same : first ≡ row = same_Some first row at in
@@ -40,7 +41,8 @@ row_facts names from (first ∷ rows) to (suc p) row laid few at =
     record { ordered = rest.ordered; within = rest.within; before = omega (arith, laid.0, laid.1, rest.before, len) }
 
 -- the groups that rows stand for are counted by the rows and their explicit groups
-pub group_count-rows : (names : List (Option (List ℕ))) (from : ℕ) (rows : List Explicit) (to : ℕ) → AreInRow from rows to → to ≤ length names → group_count (table_groups names rows) + from ≡ length rows + to
+pub group_count-rows : (names : List (Option (List ℕ))) (from : ℕ) (rows : List Explicit) (to : ℕ) → AreInRow from rows to → to ≤ length names
+    → group_count (table_groups names rows) + from ≡ length rows + to
 group_count-rows names from [] to laid few = omega (arith, laid)
 group_count-rows names from (first ∷ rows) to laid few =
     let rest = group_count-rows names first.end rows to laid.2 few in
@@ -49,8 +51,10 @@ group_count-rows names from (first ∷ rows) to laid few =
     omega (arith, laid.0, laid.1, rest, len)
 
 -- the groups of a pattern that is there
-pub groups_at-row : (names : List (Option (List ℕ))) (rows : List Explicit) (p : ℕ) (row : Explicit) → slice_get rows p ≡ Some row → groups_at (table_groups names rows) p ≡ groups_in names row
-groups_at-row names rows p row at = ap (λ (o : Option (List (Option (List ℕ)))). unwrap_or o []) (slice_get-map (groups_in names) rows p ∙ ap (option_map (groups_in names)) at)
+pub groups_at-row : (names : List (Option (List ℕ))) (rows : List Explicit) (p : ℕ) (row : Explicit) → slice_get rows p ≡ Some row
+    → groups_at (table_groups names rows) p ≡ groups_in names row
+groups_at-row names rows p row at = ap (λ (o : Option (List (Option (List ℕ)))). unwrap_or o [])
+    (slice_get-map (groups_in names) rows p ∙ ap (option_map (groups_in names)) at)
 
 -- the bytes of the names of a part
 pub names_of-range : {A : Type 0} (names : List (Option (String A))) (a b : ℕ) → slice_range (names_of names) a b ≡ names_of (slice_range names a b)
@@ -61,14 +65,16 @@ abbrev pub AreTables : {A : Type 0} → List (Option (String A)) → List Explic
 AreTables names rows = AreInRow 0 rows (length names) × (2 * (length rows + length names) ≤ slot_limit)
 
 -- the groups are counted by the rows and the names
-pub group_count-tables : {A : Type 0} (names : List (Option (String A))) (rows : List Explicit) → AreTables names rows → group_count (table_groups (names_of names) rows) ≡ length rows + length names
+pub group_count-tables : {A : Type 0} (names : List (Option (String A))) (rows : List Explicit) → AreTables names rows
+    → group_count (table_groups (names_of names) rows) ≡ length rows + length names
 group_count-tables names rows tables =
     let many : length (names_of names) ≡ length names = length-map names (option_map string_bytes) in
     let all = group_count-rows (names_of names) 0 rows (length names) tables.0 (omega arith) in
     omega (arith, all)
 
 -- a row says what it should of its pattern
-pub is_row_of : {A : Type 0} (names : List (Option (String A))) (rows : List Explicit) (p : ℕ) (row : Explicit) → AreTables names rows → slice_get rows p ≡ Some row → IsRowOf (table_groups (names_of names) rows) p row
+pub is_row_of : {A : Type 0} (names : List (Option (String A))) (rows : List Explicit) (p : ℕ) (row : Explicit) → AreTables names rows
+    → slice_get rows p ≡ Some row → IsRowOf (table_groups (names_of names) rows) p row
 is_row_of names rows p row tables at =
     let many : length (names_of names) ≡ length names = length-map names (option_map string_bytes) in
     let facts = row_facts (names_of names) 0 rows (length names) p row tables.0 (omega arith) at in
@@ -87,7 +93,8 @@ is_row_of names rows p row tables at =
     }
 
 -- a row ends within the names
-pub row_within : {A : Type 0} (names : List (Option (String A))) (rows : List Explicit) (p : ℕ) (row : Explicit) → AreTables names rows → slice_get rows p ≡ Some row → (row.start ≤ row.end) × (row.end ≤ length names)
+pub row_within : {A : Type 0} (names : List (Option (String A))) (rows : List Explicit) (p : ℕ) (row : Explicit) → AreTables names rows
+    → slice_get rows p ≡ Some row → (row.start ≤ row.end) × (row.end ≤ length names)
 row_within names rows p row tables at =
     let many : length (names_of names) ≡ length names = length-map names (option_map string_bytes) in
     let facts = row_facts (names_of names) 0 rows (length names) p row tables.0 (omega arith) at in
@@ -98,8 +105,10 @@ pub length-tables : {A : Type 0} (names : List (Option (String A))) (rows : List
 length-tables names rows = length-map rows (groups_in (names_of names))
 
 -- the groups of a pattern that is there, by the names of its row
-pub groups_at-names : {A : Type 0} (names : List (Option (String A))) (rows : List Explicit) (p : ℕ) (row : Explicit) → slice_get rows p ≡ Some row → groups_at (table_groups (names_of names) rows) p ≡ None ∷ names_of (slice_range names row.start row.end)
-groups_at-names names rows p row there = groups_at-row (names_of names) rows p row there ∙ ap (λ (gs : List (Option (List ℕ))). None ∷ gs) (names_of-range names row.start row.end)
+pub groups_at-names : {A : Type 0} (names : List (Option (String A))) (rows : List Explicit) (p : ℕ) (row : Explicit) → slice_get rows p ≡ Some row
+    → groups_at (table_groups (names_of names) rows) p ≡ None ∷ names_of (slice_range names row.start row.end)
+groups_at-names names rows p row there = groups_at-row (names_of names) rows p row there
+    ∙ ap (λ (gs : List (Option (List ℕ))). None ∷ gs) (names_of-range names row.start row.end)
 
 -- how many elements come before the first of which a test says `true` of the image
 pub prefix_len-map : {X Y : Type 0} (p : Y → Bool) (f : X → Y) (xs : List X) → prefix_len p (map f xs) ≡ prefix_len (λ x. p (f x)) xs
@@ -110,12 +119,14 @@ pub position_shift : (a b : ℕ) → cond (nat_lt (1 + a) (suc b)) (Some (1 + a)
 position_shift a b = grind (arith, nat_tests)
 
 -- the first name among the groups of a pattern, after the implicit one
-pub position-names : {A : Type 0} (name : List ℕ) (names : List (Option (String A))) → position (is_named name) (None ∷ names_of names) ≡ option_map (λ i. i + 1) (position (λ group. is_named name (option_map string_bytes group)) names)
+pub position-names : {A : Type 0} (name : List ℕ) (names : List (Option (String A)))
+    → position (is_named name) (None ∷ names_of names) ≡ option_map (λ i. i + 1) (position (λ group. is_named name (option_map string_bytes group)) names)
 position-names name names =
     let front = prefix_len-map (λ x. not (is_named name x)) (option_map string_bytes) names in
     let many : length (names_of names) ≡ length names = length-map names (option_map string_bytes) in
     ap (λ (n : ℕ). cond (nat_lt (1 + n) (suc (length (names_of names)))) (Some (1 + n)) None) front
-    ∙ ap (λ (m : ℕ). cond (nat_lt (1 + prefix_len (λ x. not (is_named name (option_map string_bytes x))) names) (suc m)) (Some (1 + prefix_len (λ x. not (is_named name (option_map string_bytes x))) names)) None) many
+    ∙ ap (λ (m : ℕ). cond (nat_lt (1 + prefix_len (λ x. not (is_named name (option_map string_bytes x))) names) (suc m))
+    (Some (1 + prefix_len (λ x. not (is_named name (option_map string_bytes x))) names)) None) many
     ∙ position_shift _ _
 
 -- a part of a list that goes on
@@ -125,7 +136,8 @@ slice_range-append xs ys a b order within =
     ap (take (b - a)) (drop-append-le a xs ys (omega arith)) ∙ take-append-le (b - a) (drop a xs) ys room
 
 -- more names change no row
-pub table_groups-append : (names more : List (Option (List ℕ))) (from : ℕ) (rows : List Explicit) (to : ℕ) → AreInRow from rows to → to ≤ length names → table_groups (names ++ more) rows ≡ table_groups names rows
+pub table_groups-append : (names more : List (Option (List ℕ))) (from : ℕ) (rows : List Explicit) (to : ℕ) → AreInRow from rows to → to ≤ length names
+    → table_groups (names ++ more) rows ≡ table_groups names rows
 table_groups-append names more from [] to laid few = refl
 table_groups-append names more from (row ∷ rows) to laid few =
     let rises : row.end ≤ to = AreInRow-rises row.end rows to laid.2 in
@@ -170,7 +182,8 @@ AreOf-push info names longer rows g more start end tables longer_is g_is start_i
     }
 
 -- the tables of groups that are few are those of a `GroupInfo`
-pub AreOf-tables : {A : Type 0} (info : List (List (Option (List ℕ)))) (names : List (Option (String A))) (rows : List Explicit) → AreOf info names rows → slot_count info ≤ slot_limit → AreTables names rows
+pub AreOf-tables : {A : Type 0} (info : List (List (Option (List ℕ)))) (names : List (Option (String A))) (rows : List Explicit) → AreOf info names rows
+    → slot_count info ≤ slot_limit → AreTables names rows
 AreOf-tables info names rows tables few =
     let many : length (names_of names) ≡ length names = length-map names (option_map string_bytes) in
     let all = group_count-rows (names_of names) 0 rows (length names) tables.in_row (omega arith) in

@@ -5,7 +5,8 @@ use Rattle.rx_model.specs.Search.{Patterns, groups_before, greatest_group, has_e
 use Rattle.rx_search.specs.GroupInfo.{explicit_before, groups_in_expression, slot_of_group, SlotsAreWritten}
 
 -- as many explicit groups come before each pattern
-pub before_same : (p : ℕ) (hs : List Expression) (info : List (List (Option (List ℕ)))) → map length info ≡ map groups_in_expression hs → groups_before p hs ≡ explicit_before p info
+pub before_same : (p : ℕ) (hs : List Expression) (info : List (List (Option (List ℕ)))) → map length info ≡ map groups_in_expression hs
+    → groups_before p hs ≡ explicit_before p info
 before_same zero hs info same = refl
 before_same (suc p) [] [] same = refl
 before_same (suc p) [] (g ∷ info) same = absurd (cc)
@@ -24,7 +25,8 @@ length_same (h ∷ hs) (g ∷ info) same =
     let rest : map length info ≡ map groups_in_expression hs = cc in
     omega (arith, length_same hs info rest)
 
-pub slot_written : (r : Patterns) (info : List (List (Option (List ℕ)))) (p g : ℕ) → has_explicit_groups r.which_captures ≡ true → map length info ≡ map groups_in_expression r.expressions → 0 < g → slot_of r p g ≡ Some (slot_of_group info p g)
+pub slot_written : (r : Patterns) (info : List (List (Option (List ℕ)))) (p g : ℕ) → has_explicit_groups r.which_captures ≡ true
+    → map length info ≡ map groups_in_expression r.expressions → 0 < g → slot_of r p g ≡ Some (slot_of_group info p g)
 slot_written r info p zero all same some = absurd (omega arith)
 slot_written r info p (suc g) all same some =
     let before = before_same p r.expressions info same in

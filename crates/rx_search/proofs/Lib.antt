@@ -5,3 +5,4 @@ pub mod GroupLemmas
 pub mod FaultLemmas
 pub mod GroupSlotLemmas
 pub mod ByteClassLemmas
+pub mod CaptureLemmas

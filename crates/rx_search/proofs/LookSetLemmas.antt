@@ -6,6 +6,7 @@ use Rattle.std.proofs.lemmas.Option.{none-some, slice_get_within, get_or_from_sl
 use Rattle.std.proofs.lemmas.Bool.Decides.{nat_tests}
 use Rattle.std.proofs.lemmas.Grind.{and-not_self, and_not_bit}
 use Rattle.std.proofs.lemmas.Nat.{and_le_l, and_mask, and_shr, or_shr, and_mod, or_mod, bit_set_by_shift, pow_apart, shl-shr, shr-shr}
+use Rattle.std.proofs.Math.Bool.{and-false, and-true}
 use Rattle.rx_model.specs.Look.{Look, look_number, look_of, look-back, kinds, start_text, end_text, start_lf, end_lf, start_crlf, end_crlf, word_ascii, word_ascii_negate, word_unicode, word_unicode_negate, word_start_ascii, word_end_ascii, word_start_unicode, word_end_unicode, word_start_half_ascii, word_end_half_ascii, word_start_half_unicode, word_end_half_unicode}
 use Rattle.rx_model.proofs.lemmas.runs.RunLemmas.{by_test}
 use Rattle.rx_search.specs.Look.{is_same_kind}
@@ -138,14 +139,6 @@ has-bit kind other =
 
 pub has-insert : (a r : ℕ) (kind other : Look) → r ≡ 2 ^ look_number other → has (bit_or a r) kind ≡ (has a kind || is_same_kind kind other)
 has-insert a r kind other is = has-or a r kind ∙ ap (λ x. has a kind || x) (ap (λ n. has n kind) is ∙ has-bit kind other)
-
-and-false : (x : Bool) → (x && false) ≡ false
-and-false true = refl
-and-false false = refl
-
-and-true : (x : Bool) → (x && true) ≡ x
-and-true true = refl
-and-true false = refl
 
 pub has-remove : (a r : ℕ) (kind other : Look) → r ≡ 2 ^ look_number other
     → has (bit_and a (4294967295 - r)) kind ≡ (has a kind && not (is_same_kind kind other))

@@ -1,15 +1,16 @@
 -- For a loop over `advance`: what it has listed, with what is still to come, is what was to come at first.
-use Rattle.std.proofs.Common.{◌≡◌, ℕ, zero, suc, ◌+◌, ◌-◌, ◌<◌, ◌≤◌, List, [], ◌∷◌, ◌++◌, refl, sym, ◌∙◌, ap, subst, arith}
+use Rattle.std.proofs.Common.{◌≡◌, ℕ, zero, suc, ◌+◌, ◌-◌, ◌<◌, ◌≤◌, List, [], ◌∷◌, ◌++◌, refl, sym, ◌∙◌, ap, subst, inl, inr, arith}
 use Rattle.std.proofs.lemmas.List.{append_assoc, append-nil}
-use Rattle.std.specs.Prelude.{Option, Some, None, option_map, map, IfSome, MatchOption, OnSome}
-use Rattle.rx_model.specs.Search.{Patterns, Match, next_after, matches_from, matches}
+use Rattle.std.proofs.lemmas.List.Elements.{Contains-append_left, Contains-append_right}
+use Rattle.std.specs.Prelude.{◌⊎◌, true, Contains, Option, Some, None, option_map, map, IfSome, MatchOption, OnSome}
+use Rattle.rx_model.specs.Search.{Patterns, Match, is_empty_at, next_after, matches_from, matches}
 use Rattle.rx_model.proofs.lemmas.runs.RunLemmas.{by_test}
 use Rattle.rx_model.proofs.lemmas.matches.MatchLemmas.{next-within}
 use Rattle.rx_model.proofs.lemmas.matches.SuccessionLemmas.{IsSearch, IsEnough, next_after-follows, matches_from-enough}
 use Rattle.rx_search.specs.Matches.{MatchValue, match_value}
 use Rattle.rx_search.specs.Input.{InputValue, from_place, next_in}
-use Rattle.rx_search.specs.Told.{tells, told_in}
-use Rattle.rx_search.specs.Searcher.{SearcherValue, moved_past, search_from, upcoming, places_left, to_come, successive, AnswersWithin, HasCause}
+use Rattle.rx_search.specs.Told.{tells, told_in, LiesIn}
+use Rattle.rx_search.specs.Searcher.{SearcherValue, moved_past, search_from, upcoming, places_left, to_come, successive, AnswersWithin, IsReached, HasCause, HasCauseOfOne}
 
 -- The rows so far, and those of the matches that the searcher has still to come, are the goal.
 -- `more` bounds how many come: there are never more than places are left.
@@ -54,43 +55,44 @@ module _ {F E : Type 0} {searches : F → InputValue → Option Match} {can_sear
     stays = λ s kept. stays s (alike.stays s kept);
   }
 
--- the second input is what is left of the first one, from some place on
-pub record IsLeft (v w : InputValue) : Type 0 where
-  pub place : ℕ
-  pub later : v.start ≤ place
-  pub is : w ≡ from_place place v
-
-pub IsLeft-begun : (v : InputValue) → IsLeft v v
-IsLeft-begun v = record { place = v.start; later = omega arith; is = refl }
+-- What the searcher reached, and why a call fails there.
 
 -- after a call that answered a match
-pub IsLeft-more : {v : InputValue} (s s' : SearcherValue) {found : Option MatchValue} {m : MatchValue} → IsLeft v s.input → found ≡ Some m
-    → MatchOption found (s' ≡ s) (λ x. s' ≡ moved_past x s) → s.input.start ≤ s'.input.start → IsLeft v s'.input
-IsLeft-more {v} s s' {found} {m} left some moved forward =
-    let moves : s' ≡ moved_past m s = rw some at moved in
-    let from : s.input.start ≡ left.place = ap (λ (w : InputValue). w.start) left.is in
-    let to : s'.input.start ≡ m.end = ap (λ (t : SearcherValue). t.input.start) moves in
-    let low = left.later in
-    record {
-      place = m.end;
-      later = omega arith;
-      is = ap (λ (t : SearcherValue). t.input) moves ∙ ap (from_place m.end) left.is;
-    }
+pub IsReached-more : (searches : InputValue → Option Match) (Promised : Type 0) (s t t' : SearcherValue) {found : Option MatchValue} {m : MatchValue}
+    → IsReached searches Promised s t → found ≡ Some m → MatchOption found (t' ≡ t) (λ x. t' ≡ moved_past x t) → t.input.start ≤ t'.input.start
+    → IfSome found (LiesIn t.input) → (Promised → Contains (map match_value (to_come searches s)) m) → IsReached searches Promised s t'
+IsReached-more searches Promised s t t' {found} {m} reached some moved forward within contains =
+    let moves : t' ≡ moved_past m t = rw some at moved in
+    let lies : LiesIn t.input m = rw some at within in
+    let to : t'.input.start ≡ m.end = ap (λ (u : SearcherValue). u.input.start) moves in
+    let high = lies.1 in
+    elim reached [
+      | inl here ↦
+          let from : t.input.start ≡ s.input.start = ap (λ (u : SearcherValue). u.input.start) here in
+          let end : t.input.end ≡ s.input.end = ap (λ (u : SearcherValue). u.input.end) here in
+          inr (m, moves ∙ ap (moved_past m) here, omega arith, omega arith, contains)
+      | inr past ↦
+          let from : t.input.start ≡ past.0.end = ap (λ (u : SearcherValue). u.input.start) past.1 in
+          let end : t.input.end ≡ s.input.end = ap (λ (u : SearcherValue). u.input.end) past.1 in
+          let low = past.2 in
+          inr (m, moves ∙ ap (moved_past m) past.1, omega arith, omega arith, contains)
+    ]
 
-module _ {E : Type 0} (fails : InputValue → E → Type 0) where
-  -- a search of the input itself fails so
-  pub HasCause-here : (v : InputValue) (e : E) → v.start ≤ v.end + 1 → fails v e → HasCause fails v e
-  HasCause-here v e le cause = (v.start, omega arith, le, cause)
+module _ {E : Type 0} (fails fails' : InputValue → E → Type 0) (searches searches' : InputValue → Option Match) (P P' : Type 0)
+    (same_failures : (v : InputValue) (e : E) → fails' v e → fails v e) (same : (v : InputValue) → searches' v ≡ searches v) (promised : P → P') where
+  -- the cause of a later call, said of the finder at first
+  HasCause-alike : (t : SearcherValue) (e : E) → HasCause fails' searches' P' t e → HasCause fails searches P t e
+  HasCause-alike t e (inl here) = inl (same_failures t.input e here)
+  HasCause-alike t e (inr behind) =
+      inr (
+        behind.0,
+        behind.1,
+        λ p. ap (is_empty_at behind.0) (sym (same t.input)) ∙ behind.2 (promised p),
+        same_failures (from_place (behind.0 + 1) t.input) e behind.3,
+      )
 
-  -- a search of what is left of the input fails so
-  pub HasCause-left : (fails' : InputValue → E → Type 0) → ((v : InputValue) (e : E) → fails' v e → fails v e)
-      → (v w : InputValue) (e : E) → IsLeft v w → HasCause fails' w e → HasCause fails v e
-  HasCause-left fails' same v w e left cause =
-      let C : InputValue → Type 0 = λ x. HasCause fails' x e in
-      let x : C (from_place left.place v) = subst C left.is cause in
-      let low = left.later in
-      let low' = x.1 in
-      (x.0, omega arith, x.2, same (from_place x.0 v) e x.3)
+  pub HasCause-later : (s t : SearcherValue) (e : E) → IsReached searches P s t → HasCause fails' searches' P' t e → HasCauseOfOne fails searches P s e
+  HasCause-later s t e reached cause = (t, reached, HasCause-alike t e cause)
 
 no-value : {A : Type 0} {P : Type 0} {x : A} → None ≡ Some x → P
 no-value e = cc
@@ -158,14 +160,30 @@ module _ {A : Type 0} {row : Match → A} where
               enough = omega arith;
             }
 
+    -- and that row is one of the goal
+    pub Progress-contains : {found : Option MatchValue} {m : MatchValue} (s' : SearcherValue) → found ≡ Some m
+        → found ≡ option_map match_value (upcoming searches s)
+        → MatchOption found (s' ≡ s) (λ x. s' ≡ moved_past x s)
+        → OnSome found (places_left s' < places_left s)
+        → (y : A)
+        → ((x : Match) → upcoming searches s ≡ Some x → match_value x ≡ m → row x ≡ y)
+        → Contains goal y
+    Progress-contains {found} {m} s' some is moved fewer y to_row =
+        let more : Progress searches row goal (so_far ++ y ∷ []) s' = Progress-more some is moved fewer (λ v. refl) to_row refl in
+        let rest : List A = map row (matches_from (search_from searches s'.input) more.more (upcoming searches s')) in
+        subst (λ ys. Contains ys y) more.whole
+        (Contains-append_left (so_far ++ y ∷ []) rest y (Contains-append_right so_far (y ∷ []) y (zero, omega arith, refl)))
+
     -- after a call that answered none
     pub Progress-over : {found : Option MatchValue} → found ≡ None → found ≡ option_map match_value (upcoming searches s) → so_far ≡ goal
     unfolding matches_from
     Progress-over none is = at_end (no-answer none (upcoming searches s) is) p.more refl
       where
         at_end : upcoming searches s ≡ None → (n : ℕ) → p.more ≡ n → so_far ≡ goal
-        at_end next zero count = sym (append-nil so_far) ∙ (λ j. so_far ++ map row (matches_from (search_from searches s.input) (sym count j) (sym next j))) ∙ p.whole
-        at_end next (suc n) count = sym (append-nil so_far) ∙ (λ j. so_far ++ map row (matches_from (search_from searches s.input) (sym count j) (sym next j))) ∙ p.whole
+        at_end next zero count = sym (append-nil so_far) ∙ (λ j. so_far ++ map row (matches_from (search_from searches s.input) (sym count j) (sym next j)))
+            ∙ p.whole
+        at_end next (suc n) count = sym (append-nil so_far) ∙ (λ j. so_far ++ map row (matches_from (search_from searches s.input) (sym count j) (sym next j)))
+            ∙ p.whole
 
 -- where each search answers the patterns' next match, one after another they are the patterns' matches
 pub successive-matches : (searches : InputValue → Option Match) (patterns : Patterns) (v : InputValue)
@@ -192,7 +210,8 @@ told-answers searches patterns v same = record {
 }
 
 -- a match that ends later leaves fewer places
-pub places-fall : (s : SearcherValue) (m : MatchValue) → IfSome s.last_end (λ last. last < m.end) → s.input.start ≤ m.start → m.start ≤ m.end → m.end ≤ s.input.end
+pub places-fall : (s : SearcherValue) (m : MatchValue) → IfSome s.last_end (λ last. last < m.end) → s.input.start ≤ m.start → m.start ≤ m.end
+    → m.end ≤ s.input.end
     → places_left (moved_past m s) < places_left s
 places-fall s m later low order high = by_last s.last_end refl
   where
@@ -232,6 +251,7 @@ module _ (searches : InputValue → Option Match) (s : SearcherValue) where
           let enough : (k : ℕ) → s.input.end + 1 - x.trace.end ≤ k → IsEnough (search_from searches s.input) s.input.end is_search k (next_after (search_from searches s.input) x.trace.end) =
           λ k le y h. let f = next_after-follows (search_from searches s.input) s.input.end is_search x.trace.end y h in let up = f.rises in let top = f.ahead.2 in (top, omega arith) in
           (λ j. matches_from (search_from searches s.input) (count j) (next j))
-          ∙ ap (λ ms. x ∷ ms) (matches_from-enough (search_from searches s.input) s.input.end is_search n (s.input.end + 1 - x.trace.end) (next_after (search_from searches s.input) x.trace.end)
+          ∙ ap (λ ms. x ∷ ms) (matches_from-enough (search_from searches s.input) s.input.end is_search n (s.input.end + 1 - x.trace.end)
+          (next_after (search_from searches s.input) x.trace.end)
           (enough n (omega arith)) (enough (s.input.end + 1 - x.trace.end) (omega arith)))
           ∙ (λ j. x ∷ matches_from (search_from searches s.input) (s.input.end + 1 - ends j) (next_after (search_from searches s.input) (ends j)))

@@ -2,7 +2,6 @@ pub mod Matches
 pub mod Anchored
 pub mod Input
 pub mod Searcher
-pub mod Example
 pub mod Look
 pub mod LookSet
 pub mod Limits
@@ -10,6 +9,10 @@ pub mod GroupInfo
 pub mod GroupTables
 pub mod PatternGroups
 pub mod Told
+pub mod Needles
 pub mod Promise
 pub mod Answer
 pub mod ByteClasses
+pub mod PatternSet
+pub mod Captures
+pub mod CapturesLends

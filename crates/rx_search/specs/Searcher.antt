@@ -1,6 +1,6 @@
 -- Searching a text for one match after another.
-use Rattle.std.specs.Prelude.{ℕ, ◌+◌, ◌-◌, ◌≡◌, ◌≤◌, List, [], ◌∷◌, Option, Some, None}
-use Rattle.rx_model.specs.Search.{Match, next_after, matches_from}
+use Rattle.std.specs.Prelude.{ℕ, ◌+◌, ◌-◌, ◌≡◌, ◌≤◌, ◌⊎◌, true, List, [], ◌∷◌, map, Contains, Option, Some, None}
+use Rattle.rx_model.specs.Search.{Match, is_empty_at, next_after, matches_from}
 use Rattle.rx_search.specs.Matches.{MatchValue, match_value}
 use Rattle.rx_search.specs.Input.{InputValue, from_place}
 
@@ -64,6 +64,25 @@ abbrev pub Gives : (InputValue → Option Match) → SearcherValue → Option Ma
 Gives searches old None new = to_come searches old ≡ []
 Gives searches old (Some m) new = (x : Match) × (match_value x ≡ m) × (to_come searches old ≡ x ∷ to_come searches new)
 
--- a search from some place of the span, or from the one behind its end, fails so
-abbrev pub HasCause : {E : Type 0} → (InputValue → E → Type 0) → InputValue → E → Type 0
-HasCause Fails v e = (i : ℕ) × (v.start ≤ i) × (i ≤ v.end + 1) × Fails (from_place i v) e
+-- It is the answer of a search from the start of the input, or of the one from the place behind the last match.
+abbrev pub IsAnsweredBy : (Answers : InputValue → Option MatchValue → Type 0) → SearcherValue → Option MatchValue → Type 0
+IsAnsweredBy Answers s found = Answers s.input found ⊎ ((last : ℕ) × (s.last_end ≡ Some last) × Answers (from_place (last + 1) s.input) found)
+
+-- the searcher as it was, or after one of the matches that were to come
+abbrev pub IsReached : (searches : InputValue → Option Match) (Promised : Type 0) → (at_first now : SearcherValue) → Type 0
+IsReached searches Promised s t =
+    (t ≡ s)
+    ⊎ ((m : MatchValue) × (t ≡ moved_past m s) × (s.input.start ≤ m.end) × (m.end ≤ s.input.end)
+    × (Promised → Contains (map match_value (to_come searches s)) m))
+
+module _ {E : Type 0} (Fails : InputValue → E → Type 0) (searches : InputValue → Option Match) (Promised : Type 0) where
+  -- Why the next match is not told: the search from the start of the input fails so; or, where that one finds the empty match
+  -- at the end of the last match, the search from the place behind it.
+  abbrev pub HasCause : SearcherValue → E → Type 0
+  HasCause s e =
+      Fails s.input e
+      ⊎ ((last : ℕ) × (s.last_end ≡ Some last) × (Promised → is_empty_at last (searches s.input) ≡ true) × Fails (from_place (last + 1) s.input) e)
+
+  -- why the matches to come are not told: one of them is not, as it is searched for at first or after one of those before it
+  abbrev pub HasCauseOfOne : SearcherValue → E → Type 0
+  HasCauseOfOne s e = (t : SearcherValue) × IsReached searches Promised s t × HasCause t e

@@ -6,9 +6,6 @@ use crate::memory::Memory;
 use std::alloc::Global;
 use std::marker::Model;
 
-#[cfg(test)]
-mod tests;
-
 /// The class of each byte. Classes are numbered from 0 on, in the order of their bytes, and each is a range of bytes.
 /// A contract sees them as a list.
 #[derive(Clone, Copy)]

@@ -11,9 +11,6 @@ use crate::look_set::LookSet;
 use std::marker::Model;
 use unicode::perl::is_word_character;
 
-#[cfg(test)]
-mod tests;
-
 /// Tells where look-arounds hold.
 #[derive(Clone, Copy, Debug, PartialEq, Eq)]
 pub struct LookMatcher {

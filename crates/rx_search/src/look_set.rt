@@ -8,9 +8,6 @@ ghost use Rattle.rx_search.specs.LookSet.{has, kinds_in};
 use crate::look::Look;
 use std::marker::Model;
 
-#[cfg(test)]
-mod tests;
-
 /// A set of kinds of look-around.
 #[derive(Clone, Copy, Debug, PartialEq, Eq)]
 pub struct LookSet {

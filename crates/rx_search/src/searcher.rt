@@ -1,10 +1,10 @@
 //! Finders, and the matches in an input one after another.
-ghost use Rattle.std.specs.Prelude.{◌≡◌, ◌⊎◌, ℕ, ◌≤◌, ◌<◌, false, Option, IfOk, IfErr, OnOk, OnErr, OnSome, IfSome, MatchOption, option_map, map, length};
+ghost use Rattle.std.specs.Prelude.{◌≡◌, ◌⊎◌, ℕ, ◌≤◌, ◌<◌, false, Option, IfOk, IfErr, OnOk, OnErr, OnSome, IfNone, IfSome, MatchOption, option_map, map, length};
 ghost use Rattle.rx_model.specs.Search.{Match as ModelMatch, Patterns, matches};
 ghost use Rattle.rx_search.specs.Matches.{MatchValue, match_value};
 ghost use Rattle.rx_search.specs.Input.{InputValue, from_place, next_in};
 ghost use Rattle.rx_search.specs.Told.{LiesIn, told_in};
-ghost use Rattle.rx_search.specs.Searcher.{fresh, moved_past, upcoming, places_left, to_come, successive, AtEachPlace, AnswersWithin, Gives, HasCause};
+ghost use Rattle.rx_search.specs.Searcher.{fresh, moved_past, upcoming, places_left, to_come, successive, AtEachPlace, AnswersWithin, Gives, IsAnsweredBy, HasCause, HasCauseOfOne};
 
 use crate::input::Input;
 use crate::matches::Match;
@@ -31,6 +31,12 @@ pub trait Finder {
     /// What the finder holds of the match that its last search answered, as that match's slots.
     ghost tells: { Self → Option ModelMatch → Type 0 } = { λ _ _. Unit {0} };
 
+    /// What holds of an answer to a search of an input, and of what the finder holds after it, whether it is promised or not.
+    ghost answers: { Self → InputValue → Option MatchValue → Type 0 } = { λ _ _ _. Unit {0} };
+
+    /// The finder holds nothing of a match.
+    ghost holds_none: { Self → Type 0 } = { λ _. Unit {0} };
+
     /// What no call changes: the second finder is as the first one in this respect.
     ghost keeps: { Self → Self → Type 0 } = { λ _ _. Unit {0} };
 
@@ -40,6 +46,9 @@ pub trait Finder {
         ensures answer { promises self.old input.now → IfOk result (λ found. found ≡ option_map match_value (searches self.old input.now)) }
         ensures within { IfOk result (λ found. IfSome found (LiesIn input.now)) }
         ensures told { promises self.old input.now → OnOk result (tells self.new (searches self.old input.now)) }
+        ensures any { IfOk result (answers self.new input.now) }
+        ensures none { IfOk result (λ found. IfNone found (holds_none self.new)) }
+        ensures silent { OnErr result (holds_none self.new) }
         ensures err { IfErr result (fails self.old input.now) }
         ensures same_answers { (v : InputValue) → searches self.new v ≡ searches self.old v }
         ensures still_can { (v : InputValue) → can_search self.old v → can_search self.new v }
@@ -89,7 +98,8 @@ impl<'h> Searcher<'h> {
     ///
     /// # Errors
     ///
-    /// Only that of the finder, for a search from some place of the span that is left.
+    /// Only that of the finder, for the search from where its input starts, or, where that one finds the empty match at the end of
+    /// the last match, for the one from one byte further on.
     pub fn advance<F: Finder>(&mut self, finder: &mut F) -> Result<Option<Match>, F::Error>
         requires { AtEachPlace (F.can_search finder.old) self.old.input }
         ensures answer { AtEachPlace (F.promises finder.old) self.old.input
@@ -101,7 +111,10 @@ impl<'h> Searcher<'h> {
         ensures moved { IfOk result (λ found. MatchOption found (self.new ≡ self.old) (λ m. self.new ≡ moved_past m self.old)) }
         ensures fewer_left { IfOk result (λ found. OnSome found (places_left self.new < places_left self.old)) }
         ensures err { OnErr result (self.new ≡ self.old) }
-        ensures cause { IfErr result (HasCause (F.fails finder.old) self.old.input) }
+        ensures cause { IfErr result (HasCause (F.fails finder.old) (F.searches finder.old) (AtEachPlace (F.promises finder.old) self.old.input) self.old) }
+        ensures any { IfOk result (IsAnsweredBy (F.answers finder.new) self.old) }
+        ensures none { IfOk result (λ found. IfNone found (F.holds_none finder.new)) }
+        ensures silent { OnErr result (F.holds_none finder.new) }
         ensures told { AtEachPlace (F.promises finder.old) self.old.input → OnOk result (F.tells finder.new (upcoming (F.searches finder.old) self.old)) }
         ensures same_answers { (v : InputValue) → F.searches finder.new v ≡ F.searches finder.old v }
         ensures still_can { (v : InputValue) → F.can_search finder.old v → F.can_search finder.new v }
@@ -123,11 +136,11 @@ impl<'h> Searcher<'h> {
     ///
     /// # Errors
     ///
-    /// Only that of the finder, for a search from some place of the span that is left.
+    /// Only that of the finder, for a search that `advance` makes for one of these matches.
     pub fn count<F: Finder>(mut self, finder: &mut F) -> Result<usize, F::Error>
         requires { AtEachPlace (F.can_search finder.old) self.input }
         ensures value { AtEachPlace (F.promises finder.old) self.entry.input → IfOk result (λ n. n ≡ length (to_come (F.searches finder.old) self.entry)) }
-        ensures cause { IfErr result (HasCause (F.fails finder.old) self.entry.input) }
+        ensures cause { IfErr result (HasCauseOfOne (F.fails finder.old) (F.searches finder.old) (AtEachPlace (F.promises finder.old) self.entry.input) self.entry) }
         ensures same_answers { (v : InputValue) → F.searches finder.new v ≡ F.searches finder.old v }
         ensures still_can { (v : InputValue) → F.can_search finder.old v → F.can_search finder.new v }
         ensures still_promises { (v : InputValue) → F.promises finder.old v → F.promises finder.new v }
@@ -147,7 +160,7 @@ impl<'h> Searcher<'h> {
     ///
     /// # Errors
     ///
-    /// That of the finder, for a search from some place of the span that is left, or want of memory for the list.
+    /// That of the finder, for a search that `advance` makes for one of these matches, or want of memory for the list.
     pub fn collect<F: Finder>(
         mut self,
         alloc: Global,
@@ -158,7 +171,8 @@ impl<'h> Searcher<'h> {
         requires { AtEachPlace (F.can_search finder.old) self.input }
         ensures value { AtEachPlace (F.promises finder.old) self.entry.input
             → IfOk result (λ all. all.items ≡ map match_value (to_come (F.searches finder.old) self.entry)) }
-        ensures cause { IfErr result (λ e. HasCause (F.fails finder.old) self.entry.input e ⊎ ((a : AllocFailed MatchValue) × F.Error.from_gives a e)) }
+        ensures cause { IfErr result (λ e. HasCauseOfOne (F.fails finder.old) (F.searches finder.old) (AtEachPlace (F.promises finder.old) self.entry.input) self.entry e
+            ⊎ ((a : AllocFailed MatchValue) × F.Error.from_gives a e)) }
         ensures same_answers { (v : InputValue) → F.searches finder.new v ≡ F.searches finder.old v }
         ensures still_can { (v : InputValue) → F.can_search finder.old v → F.can_search finder.new v }
         ensures still_promises { (v : InputValue) → F.promises finder.old v → F.promises finder.new v }
@@ -179,7 +193,10 @@ impl<'h> Searcher<'h> {
             → IfOk result (λ found. found ≡ option_map match_value (upcoming (F.searches finder.old) self.now)) }
         ensures within { IfOk result (λ found. IfSome found (LiesIn self.now.input)) }
         ensures later { IfOk result (λ found. IfSome found (λ m. IfSome self.now.last_end (λ last. last < m.end))) }
-        ensures cause { IfErr result (HasCause (F.fails finder.old) self.now.input) }
+        ensures cause { IfErr result (HasCause (F.fails finder.old) (F.searches finder.old) (AtEachPlace (F.promises finder.old) self.now.input) self.now) }
+        ensures any { IfOk result (IsAnsweredBy (F.answers finder.new) self.now) }
+        ensures none { IfOk result (λ found. IfNone found (F.holds_none finder.new)) }
+        ensures silent { OnErr result (F.holds_none finder.new) }
         ensures told { AtEachPlace (F.promises finder.old) self.now.input → OnOk result (F.tells finder.new (upcoming (F.searches finder.old) self.now)) }
         ensures same_answers { (v : InputValue) → F.searches finder.new v ≡ F.searches finder.old v }
         ensures still_can { (v : InputValue) → F.can_search finder.old v → F.can_search finder.new v }

@@ -1,5 +1,5 @@
 -- The scalars that pass a test, as a class: it holds them and no others, and no other fewest ranges do.
-use Rattle.std.proofs.Common.{◌≡◌, ℕ, zero, suc, ◌≤◌, ◌≢◌, Bool, true, false, List, [], ◌∷◌, ◌++◌, Some, None, refl, ap, sym, ◌∙◌, subst, arith, inl, inr}
+use Rattle.std.proofs.Common.{◌≡◌, ℕ, zero, suc, ◌≤◌, ◌≢◌, Bool, true, false, List, [], ◌∷◌, Some, None, refl, ap, sym, ◌∙◌, subst, arith, inl, inr}
 use Rattle.std.specs.Prelude.{nat_le, nat_lt, ◌&&◌, ◌||◌, if◌then◌else◌}
 use Rattle.std.specs.Char.{IsScalar}
 use Rattle.std.proofs.Math.Utf8.{scalar_cases}
@@ -7,6 +7,7 @@ use lib.Utf8.{scalar}
 use Rattle.std.proofs.lemmas.Bool.{cases_lt, false≢true}
 use Rattle.std.proofs.lemmas.Bool.Decides.{nat_tests}
 use Rattle.std.proofs.lemmas.List.Folds.{list_any-append}
+use Rattle.std.proofs.Math.Bool.{or-false}
 use Rattle.rx_model.specs.Text.{is_member}
 use Rattle.rx_class.specs.Ranges.{next_scalar, fewest, AreScalarRanges}
 use Rattle.rx_class.proofs.RangeLemmas.{Ends, fewest-members, fewest-fewest, fewest-ends, fewest-unique}
@@ -14,13 +15,15 @@ use Rattle.rx_class.proofs.SuccessorLemmas.{scalars-succeed, ends-from-scalars, 
 use Rattle.unicode.specs.Rows.{in_ranges, HasExactly}
 use Rattle.rx_sets.specs.Members.{points_below, scalars_where}
 use Rattle.rx_sets.specs.Clipped.{is_surrogate, last_scalar, from_first, clipped, all_clipped}
+use Rattle.rx_class.proofs.FoldLemmas.{ends-append}
 
 abbrev inside : ℕ → ℕ → ℕ → Bool
 inside low high c = nat_le low c && nat_le c high
 
 -- The points that pass a test.
 
-point-ends : (p : ℕ → Bool) (n : ℕ) (b : Bool) (rest : List (ℕ × ℕ)) → (scalar n && p n) ≡ b → Ends IsScalar rest → Ends IsScalar (if b then (n, n) ∷ rest else rest)
+point-ends : (p : ℕ → Bool) (n : ℕ) (b : Bool) (rest : List (ℕ × ℕ)) → (scalar n && p n) ≡ b → Ends IsScalar rest
+    → Ends IsScalar (if b then (n, n) ∷ rest else rest)
 point-ends p n true rest e ends = let is : scalar n ≡ true = first-of (scalar n) (p n) e in (is, is, ends)
   where
     first-of : (a b : Bool) → (a && b) ≡ true → a ≡ true
@@ -76,8 +79,10 @@ points-members p (suc n) c is = point-members p n c (points_below p n) is (point
 pub scalars_where-ranges : (p : ℕ → Bool) → AreScalarRanges (scalars_where p)
 unfolding scalars_where
 scalars_where-ranges p =
-    let points = points_below p 0x110000 in
-    (fewest-fewest next_scalar IsScalar scalars-succeed points, scalars-from-ends (fewest next_scalar points) (fewest-ends next_scalar IsScalar scalars-succeed points (points-ends p 0x110000)))
+    let points = points_below p 0x110000 in (
+      fewest-fewest next_scalar IsScalar scalars-succeed points,
+      scalars-from-ends (fewest next_scalar points) (fewest-ends next_scalar IsScalar scalars-succeed points (points-ends p 0x110000)),
+    )
 
 pub scalars_where-members : (p : ℕ → Bool) (c : ℕ) → IsScalar c → is_member (scalars_where p) c ≡ p c
 unfolding scalars_where
@@ -96,10 +101,6 @@ scalars_where-only p rs h same =
 
 -- Ranges of code points.
 
-or-false : (b : Bool) → (b || false) ≡ b
-or-false true = refl
-or-false false = refl
-
 last-same : (high c : ℕ) (s t : Bool) → is_surrogate high ≡ s → nat_lt 0x10FFFF high ≡ t → IsScalar c
     → nat_le c (if s then 0xD7FF else if t then 0x10FFFF else high) ≡ nat_le c high
 last-same high c true t e f is = elim (scalar_cases c is) [ inl low ↦ grind (arith, nat_tests) | inr up ↦ grind (arith, nat_tests, up.0, up.1) ]
@@ -109,7 +110,8 @@ last-same high c false false e f is = refl
 first-same : (low c last : ℕ) (s t : Bool) → is_surrogate low ≡ s → nat_lt 0x10FFFF low ≡ t → IsScalar c
     → is_member (from_first (if s then Some 0xE000 else if t then None else Some low) last) c ≡ inside low last c
 first-same low c last true t e f is =
-    let begins : nat_le 0xE000 c ≡ nat_le low c = elim (scalar_cases c is) [ inl under ↦ grind (arith, nat_tests) | inr up ↦ grind (arith, nat_tests, up.0, up.1) ] in
+    let begins : nat_le 0xE000 c ≡ nat_le low c =
+    elim (scalar_cases c is) [ inl under ↦ grind (arith, nat_tests) | inr up ↦ grind (arith, nat_tests, up.0, up.1) ] in
     or-false (inside 0xE000 last c) ∙ ap (λ b. b && nat_le c last) begins
 first-same low c last false true e f is =
     let above : nat_le low c ≡ false = elim (scalar_cases c is) [ inl under ↦ grind (arith, nat_tests) | inr up ↦ grind (arith, nat_tests, up.0, up.1) ] in
@@ -137,10 +139,6 @@ clipped-ends low high =
     first-ends low (last_scalar high) (is_surrogate low) (nat_lt 0x10FFFF low) refl refl
     (last-scalar high (is_surrogate high) (nat_lt 0x10FFFF high) refl refl)
 
-ends-append : (xs ys : List (ℕ × ℕ)) → Ends IsScalar xs → Ends IsScalar ys → Ends IsScalar (xs ++ ys)
-ends-append [] ys h k = k
-ends-append (x ∷ xs) ys h k = (h.0, h.1, ends-append xs ys h.2 k)
-
 all_clipped-ends : (rs : List (ℕ × ℕ)) → Ends IsScalar (all_clipped rs)
 all_clipped-ends [] = tt
 all_clipped-ends (r ∷ rs) = ends-append (clipped r.0 r.1) (all_clipped rs) (clipped-ends r.0 r.1) (all_clipped-ends rs)
@@ -158,8 +156,10 @@ pub class-of : (ranges : List (ℕ × ℕ)) (p : ℕ → Bool) → HasExactly ra
 class-of ranges p has =
     let scalars = all_clipped ranges in
     let ends = all_clipped-ends ranges in
-    scalars_where-only p (fewest next_scalar scalars)
-    (fewest-fewest next_scalar IsScalar scalars-succeed scalars, scalars-from-ends (fewest next_scalar scalars) (fewest-ends next_scalar IsScalar scalars-succeed scalars ends))
+    scalars_where-only p (fewest next_scalar scalars) (
+      fewest-fewest next_scalar IsScalar scalars-succeed scalars,
+      scalars-from-ends (fewest next_scalar scalars) (fewest-ends next_scalar IsScalar scalars-succeed scalars ends),
+    )
     (λ c is. fewest-members next_scalar IsScalar scalars-succeed scalars ends c is ∙ all_clipped-members ranges c is ∙ has c (at-most c is))
   where
     at-most : (c : ℕ) → IsScalar c → c ≤ 0x10FFFF

@@ -24,5 +24,6 @@ fn is_capture_start(c: char) -> bool
 fn is_capture_more(c: char) -> bool
     ensures { result ≡ is_capture_more c }
 {
+    // Letters are of Unicode, and digits are not (DECISIONS: digits in the names of groups are ASCII).
     is_capture_start(c) || c.is_ascii_digit() || c == '.' || c == '[' || c == ']'
 }

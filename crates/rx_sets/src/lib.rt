@@ -16,6 +16,3 @@ pub use capture::is_capture_char;
 pub use members::scalars_where_pass_the_test;
 pub use named::{PropertySet, property};
 pub use perl::ClassPerlKind;
-
-#[cfg(test)]
-mod tests;

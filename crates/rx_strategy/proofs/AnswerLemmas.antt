@@ -1,12 +1,12 @@
 -- What the searches of a strategy answer.
 use Rattle.std.proofs.Common.{◌≡◌, ℕ, ◌≤◌, List, length, refl, sym, ap, ◌∙◌, subst, arith}
-use Rattle.std.specs.Prelude.{Bool, true, false, if◌then◌else◌, Option, Some, None, option_map, is_some, IfSome, IfNone}
+use Rattle.std.specs.Prelude.{Bool, true, false, Option, Some, None, option_map, is_some, IfSome, IfNone}
 use Rattle.rx_model.specs.Search.{Patterns, WhichCaptures, all, implicit, none, Match, told_of}
 use Rattle.rx_model.proofs.lemmas.runs.RunLemmas.{by_test}
 use Rattle.rx_model.proofs.lemmas.matches.WithinLemmas.{next-later}
 use Rattle.rx_search.specs.Input.{InputValue, next_in}
 use Rattle.rx_search.specs.Matches.{MatchValue, match_value}
-use Rattle.rx_search.specs.Promise.{Premises, Promised}
+use Rattle.rx_search.specs.Promise.{Premises}
 use Rattle.rx_search.specs.Told.{tells, told_in, IsMatchWith, HasSlots}
 use Rattle.rx_search.specs.declared.anchored.MatchKind.{MatchKind}
 use Rattle.rx_nfa.specs.Nfa.{Nfa, IsNfaOf}
@@ -18,7 +18,8 @@ use Rattle.rx_strategy.specs.Core.{CoreValue, IsCoreFor, IsSearched, core_finds}
 use Rattle.rx_strategy.proofs.NeedleLemmas.{begins-run}
 
 -- the next match of an NFA is that of its patterns
-pub agree : (nfa : Nfa) (v : InputValue) → v.end ≤ length v.haystack → (r : Patterns) → IsNfaOf nfa r → next_match_in nfa v ≡ option_map (told_of r.which_captures) (next_in r v)
+pub agree : (nfa : Nfa) (v : InputValue) → v.end ≤ length v.haystack → (r : Patterns) → IsNfaOf nfa r
+    → next_match_in nfa v ≡ option_map (told_of r.which_captures) (next_in r v)
 agree nfa v within r of = next_match_of-patterns nfa r v.haystack v.end within of.runs nfa.utf8 v.anchor v.start of.utf8
 
 -- where matches are told, each is told whole
@@ -62,13 +63,15 @@ module _ (r : Patterns) (v : InputValue) where
   part-is_match part f None known = tt
   part-is_match part f (Some answer) known = (known.0, known.1, ap f known.2)
 
-  part-slots_match : {A B : Type 0} (slots : List (Option ℕ)) (part : Match → A) (f : A → B) (found : Option A) → IfSome found (λ answer. IsMatchWith r v (λ m. (answer ≡ part m) × HasSlots slots m))
+  part-slots_match : {A B : Type 0} (slots : List (Option ℕ)) (part : Match → A) (f : A → B) (found : Option A)
+      → IfSome found (λ answer. IsMatchWith r v (λ m. (answer ≡ part m) × HasSlots slots m))
       → IfSome (option_map f found) (λ answer. IsMatchWith r v (λ m. (answer ≡ f (part m)) × HasSlots slots m))
   part-slots_match slots part f None known = tt
   part-slots_match slots part f (Some answer) known = (known.0, known.1, (ap f known.2.0, known.2.1))
 
   -- the next match is a match
-  next-told : (slots : List (Option ℕ)) (n : Option Match) → next_in r v ≡ n → (o : Option Match) → o ≡ option_map (told_of r.which_captures) n → IfSome o (HasSlots slots)
+  next-told : (slots : List (Option ℕ)) (n : Option Match) → next_in r v ≡ n → (o : Option Match) → o ≡ option_map (told_of r.which_captures) n
+      → IfSome o (HasSlots slots)
       → IfSome (option_map match_value o) (λ found. IsMatchWith r v (λ m. (found ≡ match_value m) × HasSlots slots m))
   next-told slots None e o is has = rw is tt
   next-told slots (Some n) e o is has =
@@ -80,21 +83,24 @@ module _ (r : Patterns) (v : InputValue) where
   next-is_match slots o is has result value = rw value (next-told slots (next_in r v) refl o is has)
 
   -- the slots aside
-  slots-aside : (slots : List (Option ℕ)) (found : Option MatchValue) → IfSome found (λ answer. IsMatchWith r v (λ m. (answer ≡ match_value m) × HasSlots slots m))
+  slots-aside : (slots : List (Option ℕ)) (found : Option MatchValue)
+      → IfSome found (λ answer. IsMatchWith r v (λ m. (answer ≡ match_value m) × HasSlots slots m))
       → IfSome found (λ answer. IsMatchWith r v (λ m. answer ≡ match_value m))
   slots-aside slots None known = tt
   slots-aside slots (Some answer) known = (known.0, known.1, known.2.0)
 
 -- A part of an answer is the answer of that part.
-module _ {A B : Type 0} (IsFor : Patterns → Type 0) (kind : MatchKind) (v : InputValue) (part : Match → A) (f : A → B) (found : Option A) (answer : Option B) (is : answer ≡ option_map f found) where
-  pub part-answers : IsAnswer IsFor kind v part found → IsAnswer IsFor kind v (λ m. f (part m)) answer
+module _ {A B : Type 0} (IsFor : Patterns → Type 0) (needles : Option (List (List ℕ))) (kind : MatchKind) (v : InputValue) (part : Match → A) (f : A → B)
+    (found : Option A) (answer : Option B) (is : answer ≡ option_map f found) where
+  pub part-answers : IsAnswer IsFor needles kind v part found → IsAnswer IsFor needles kind v (λ m. f (part m)) answer
   part-answers whole = record {
     value = λ r promised. is ∙ ap (option_map f) (whole.value r promised) ∙ map-twice part f (next_in r v);
     exists = λ r premises. ap is_some is ∙ is_some-map f found ∙ whole.exists r premises;
     is_match = λ r premises. rw is (part-is_match r v part f found (whole.is_match r premises));
   }
 
-  pub part-slots : (slots : List (Option ℕ)) → AreSlotsOfAnswer IsFor kind v part slots found → AreSlotsOfAnswer IsFor kind v (λ m. f (part m)) slots answer
+  pub part-slots : (slots : List (Option ℕ)) → AreSlotsOfAnswer IsFor needles kind v part slots found
+      → AreSlotsOfAnswer IsFor needles kind v (λ m. f (part m)) slots answer
   part-slots slots whole = record {
     value = whole.value;
     is_match = λ r premises. rw is (part-slots_match r v slots part f found (whole.is_match r premises));
@@ -104,25 +110,27 @@ module _ {A B : Type 0} (IsFor : Patterns → Type 0) (kind : MatchKind) (v : In
   part-none P gone = rw is (none-map P f found gone)
 
 -- Nothing is found where there is no match.
-module _ {A : Type 0} (IsFor : Patterns → Type 0) (kind : MatchKind) (v : InputValue) (part : Match → A) (gone : (r : Patterns) → IsFor r → next_in r v ≡ None) where
+module _ {A : Type 0} (IsFor : Patterns → Type 0) (needles : Option (List (List ℕ))) (kind : MatchKind) (v : InputValue) (part : Match → A)
+    (gone : (r : Patterns) → IsFor r → next_in r v ≡ None) where
   untold : (r : Patterns) → IsFor r → told_in r v ≡ None
   untold r of = by_test (tells r.which_captures) (λ e. told-yes r v e ∙ gone r of) (λ e. told-no r v e)
 
-  pub none-answers : IsAnswer IsFor kind v part None
+  pub none-answers : IsAnswer IsFor needles kind v part None
   none-answers = record {
     value = λ r promised. ap (option_map part) (sym (gone r promised.premises.is_for));
     exists = λ r premises. ap is_some (sym (untold r premises.is_for));
     is_match = λ r premises. tt;
   }
 
-  pub none-slots : (slots : List (Option ℕ)) → AreSlotsOfAnswer IsFor kind v part slots None
+  pub none-slots : (slots : List (Option ℕ)) → AreSlotsOfAnswer IsFor needles kind v part slots None
   none-slots slots = record {
     value = λ r promised. rw (gone r promised.premises.is_for) tt;
     is_match = λ r premises. tt;
   }
 
-pub none-whether : (IsFor : Patterns → Type 0) (v : InputValue) → ((r : Patterns) → IsFor r → next_in r v ≡ None) → TellsWhether IsFor v false
-none-whether IsFor v gone r premises = ap is_some (sym (gone r premises.is_for))
+pub none-whether : (IsFor : Patterns → Type 0) (needles : Option (List (List ℕ))) (v : InputValue) → ((r : Patterns) → IsFor r → next_in r v ≡ None)
+    → TellsWhether IsFor needles v false
+none-whether IsFor needles v gone r premises = ap is_some (sym (gone r premises.is_for))
 
 module _ (c : CoreValue) (v : InputValue) where
   -- what a core finds is what its patterns tell
@@ -141,46 +149,49 @@ module _ (c : CoreValue) (v : InputValue) where
   core-none within gone r of = from-none r.which_captures (next_in r v) (sym (agree c.nfa v within r of.nfa) ∙ gone)
 
   -- each run begins with a needle, where each match does
-  core-begins : v.end ≤ length v.haystack → (r : Patterns) → IsCoreFor c r → BeginsEachRun c.pre c.nfa v
-  core-begins within r of = begins-run c.pre c.nfa r v of.nfa of.ordered within of.needles
+  core-begins : v.end ≤ length v.haystack → (r : Patterns) → Premises (IsCoreFor c r) c.pre r v → BeginsEachRun c.pre c.nfa v
+  core-begins within r p = begins-run c.pre c.nfa r v p.is_for.nfa p.is_for.ordered within p.begins
 
-  module _ (kind : MatchKind) (slots : List (Option ℕ)) (found : Option MatchValue) (searched : BeginsEachRun c.pre c.nfa v → IsSearched c.nfa v slots found) (within : v.end ≤ length v.haystack) where
-    searched-for : (r : Patterns) → IsCoreFor c r → IsSearched c.nfa v slots found
-    searched-for r of = searched (core-begins within r of)
+  module _ (kind : MatchKind) (slots : List (Option ℕ)) (found : Option MatchValue)
+      (searched : BeginsEachRun c.pre c.nfa v → IsSearched c.nfa v slots found) (within : v.end ≤ length v.haystack) where
+    searched-for : (r : Patterns) → Premises (IsCoreFor c r) c.pre r v → IsSearched c.nfa v slots found
+    searched-for r p = searched (core-begins within r p)
 
-    next-is : (r : Patterns) → IsCoreFor c r → tells r.which_captures ≡ true → next_match_in c.nfa v ≡ next_in r v
-    next-is r of told = (searched-for r of).patterns r of.nfa ∙ told-whole r.which_captures told (next_in r v)
+    next-is : (r : Patterns) → Premises (IsCoreFor c r) c.pre r v → tells r.which_captures ≡ true → next_match_in c.nfa v ≡ next_in r v
+    next-is r p told = (searched-for r p).patterns r p.is_for.nfa ∙ told-whole r.which_captures told (next_in r v)
 
-    pub core-answers : tells c.which_captures ≡ true → IsAnswer (λ r. IsCoreFor c r) kind v match_value found
+    pub core-answers : tells c.which_captures ≡ true → IsAnswer (λ r. IsCoreFor c r) c.pre kind v match_value found
     core-answers told = record {
-      value = λ r p. (searched-for r p.premises.is_for).value p.whole ∙ ap (option_map match_value) (next-is r p.premises.is_for p.told);
+      value = λ r p. (searched-for r p.premises).value p.whole ∙ ap (option_map match_value) (next-is r p.premises p.told);
       exists = λ r p.
           let heard : tells r.which_captures ≡ true = ap tells p.is_for.which_captures ∙ told in
-          (searched-for r p.is_for).exists ∙ ap is_some (next-is r p.is_for heard ∙ sym (told-yes r v heard));
-      is_match = λ r p. slots-aside r v slots found ((searched-for r p.is_for).is_match r p.is_for.nfa);
+          (searched-for r p).exists ∙ ap is_some (next-is r p heard ∙ sym (told-yes r v heard));
+      is_match = λ r p. slots-aside r v slots found ((searched-for r p).is_match r p.is_for.nfa);
     }
 
-    pub core-slots : AreSlotsOfAnswer (λ r. IsCoreFor c r) kind v match_value slots found
+    pub core-slots : AreSlotsOfAnswer (λ r. IsCoreFor c r) c.pre kind v match_value slots found
     core-slots = record {
-      value = λ r p. subst (λ o. IfSome o (HasSlots slots)) (next-is r p.premises.is_for p.told) ((searched-for r p.premises.is_for).slots p.whole);
-      is_match = λ r p. (searched-for r p.is_for).is_match r p.is_for.nfa;
+      value = λ r p. subst (λ o. IfSome o (HasSlots slots)) (next-is r p.premises p.told) ((searched-for r p.premises).slots p.whole);
+      is_match = λ r p. (searched-for r p).is_match r p.is_for.nfa;
     }
 
   -- nothing is told without captures
-  pub silent-answers : (kind : MatchKind) → tells c.which_captures ≡ false → IsAnswer (λ r. IsCoreFor c r) kind v match_value None
+  pub silent-answers : (kind : MatchKind) → tells c.which_captures ≡ false → IsAnswer (λ r. IsCoreFor c r) c.pre kind v match_value None
   silent-answers kind silent = record {
     value = λ r p. let told : tells c.which_captures ≡ true = sym (ap tells p.premises.is_for.which_captures) ∙ p.told in cc;
     exists = λ r p. ap is_some (sym (told-no r v (ap tells p.is_for.which_captures ∙ silent)));
     is_match = λ r p. tt;
   }
 
-  pub silent-slots : (kind : MatchKind) (slots : List (Option ℕ)) → tells c.which_captures ≡ false → AreSlotsOfAnswer (λ r. IsCoreFor c r) kind v match_value slots None
+  pub silent-slots : (kind : MatchKind) (slots : List (Option ℕ)) → tells c.which_captures ≡ false
+      → AreSlotsOfAnswer (λ r. IsCoreFor c r) c.pre kind v match_value slots None
   silent-slots kind slots silent = record {
     value = λ r p. let told : tells c.which_captures ≡ true = sym (ap tells p.premises.is_for.which_captures) ∙ p.told in cc;
     is_match = λ r p. tt;
   }
 
   -- whether there is a match, of the NFA or of its patterns
-  pub core-whether : (there : Bool) → (BeginsEachRun c.pre c.nfa v → there ≡ is_some (next_match_in c.nfa v)) → v.end ≤ length v.haystack → TellsWhether (λ r. IsCoreFor c r) v there
+  pub core-whether : (there : Bool) → (BeginsEachRun c.pre c.nfa v → there ≡ is_some (next_match_in c.nfa v)) → v.end ≤ length v.haystack
+      → TellsWhether (λ r. IsCoreFor c r) c.pre v there
   core-whether there is within r p =
-      is (core-begins within r p.is_for) ∙ ap is_some (agree c.nfa v within r p.is_for.nfa) ∙ is_some-map (told_of r.which_captures) (next_in r v)
+      is (core-begins within r p) ∙ ap is_some (agree c.nfa v within r p.is_for.nfa) ∙ is_some-map (told_of r.which_captures) (next_in r v)

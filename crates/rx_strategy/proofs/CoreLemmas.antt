@@ -15,7 +15,8 @@ leftmost-kind All e = absurd (true≢false (sym e))
 leftmost-kind LeftmostFirst e = refl
 
 -- a backtracker that the configuration has stands beside a leftmost-first PikeVM over the same NFA
-pub engines-agree : (config : Config) (o : Option BacktrackerValue) (vm : PikeVMValue) (nfa : Nfa) (pre : Option (List (List ℕ))) → vm.nfa ≡ nfa → vm.kind ≡ kind_of config
+pub engines-agree : (config : Config) (o : Option BacktrackerValue) (vm : PikeVMValue) (nfa : Nfa) (pre : Option (List (List ℕ))) → vm.nfa ≡ nfa
+    → vm.kind ≡ kind_of config
     → MatchOption o (has_backtracker config ≡ false) (λ b. (has_backtracker config ≡ true) × (b.nfa ≡ nfa) × (b.pre ≡ pre))
     → IfSome o (λ b. (b.nfa ≡ vm.nfa) × (b.pre ≡ pre) × (vm.kind ≡ LeftmostFirst))
 engines-agree config None vm nfa pre same kind made = tt

@@ -1,5 +1,6 @@
 -- Where the patterns are known to have no match, they have none.
-use Rattle.std.proofs.Common.{◌≡◌, ℕ, zero, suc, ◌<◌, ◌≤◌, true, List, [], ◌∷◌, length, Option, Some, None, slice_get, sym, subst, inl, inr, arith, true≢false, refl}
+use Rattle.std.proofs.Common.{◌≡◌, ℕ, zero, suc, ◌<◌, ◌≤◌, true, List, [], ◌∷◌, length, Option, Some}
+use Rattle.std.proofs.Common.{None, slice_get, sym, subst, inl, inr, arith, true≢false, refl}
 use Rattle.std.specs.Prelude.{◌==◌, ◌&&◌, ◌||◌, nat_lt}
 use Rattle.std.proofs.lemmas.Bool.{or_cases, and_parts}
 use Rattle.std.proofs.lemmas.Bool.Decides.{nat_tests}
@@ -17,7 +18,8 @@ use Rattle.rx_hir.specs.Length.{maximum_len, saturated, in_64_bits}
 use Rattle.rx_hir.specs.Normal.{expressions}
 use Rattle.rx_hir.proofs.LookLemmas.{first-holds, last-holds}
 use Rattle.rx_hir.proofs.SpanLemmas.{means-short, saturated-some, in_64_bits-some}
-use Rattle.rx_strategy.specs.Impossible.{is_below, is_above, is_always_anchored_start, is_always_anchored_end, begins_too_late, ends_too_early, is_too_short, is_anchored_start, is_too_long, is_impossible}
+use Rattle.rx_strategy.specs.Impossible.{is_below, is_above, is_always_anchored_start, is_always_anchored_end, begins_too_late}
+use Rattle.rx_strategy.specs.Impossible.{ends_too_early, is_too_short, is_anchored_start, is_too_long, is_impossible}
 
 start-place : (t : ℕ) (text : List ℕ) (i : ℕ) → holds t text start_text i ≡ true → i ≡ 0
 unfolding holds
@@ -98,13 +100,15 @@ anchored-start free b a i s e = absurd (true≢false (sym e))
 anchored-start anchored b a i s e = s.0
 anchored-start (anchored_to p) b a i s e = s.0
 
-module _ (r : Patterns) (v : InputValue) (ordered : (p : ℕ) (h : Expression) → slice_get r.expressions p ≡ Some h → AreOrdered h) (within : v.end ≤ length v.haystack) where
+module _ (r : Patterns) (v : InputValue) (ordered : (p : ℕ) (h : Expression) → slice_get r.expressions p ≡ Some h → AreOrdered h)
+    (within : v.end ≤ length v.haystack) where
   no-match : is_impossible r.expressions v ≡ true → (m : Match) → IsMatch r v.haystack v.anchor v.end v.start m → ⊥
   no-match e m is =
       let h : Expression = alternation (expressions r.expressions) in
       let inside = match-within r v.haystack v.anchor v.end v.start m is in
       let own = match-means r v.haystack v.anchor v.end v.start m is is.expression is.is_there (ordered m.trace.pattern is.expression is.is_there) in
-      let means : Means r.terminator v.haystack h m.start m.trace.end = meant-among r.terminator v.haystack r.expressions m.trace.pattern is.expression is.is_there m.start m.trace.end own in
+      let means : Means r.terminator v.haystack h m.start m.trace.end =
+      meant-among r.terminator v.haystack r.expressions m.trace.pattern is.expression is.is_there m.start m.trace.end own in
       let first = anchored-start v.anchor v.end v.start m.start is.start.0 in
       elim (or_cases (begins_too_late h v || ends_too_early h v || is_too_short h v) (is_too_long h v) e) [
         | inr long ↦ not-long h v r.terminator m.start m.trace.end means inside.0 inside.2 within first long

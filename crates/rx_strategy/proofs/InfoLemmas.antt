@@ -1,5 +1,5 @@
 -- The properties of each pattern, and what is known of a strategy for the patterns.
-use Rattle.std.proofs.Common.{◌≡◌, List, [], ◌∷◌, ◌++◌, refl, sym, ap, ◌∙◌, subst}
+use Rattle.std.proofs.Common.{◌≡◌, List, [], ◌∷◌, ◌++◌, refl, sym, ap, ◌∙◌}
 use Rattle.std.specs.Prelude.{Bool, true, false, ◌||◌, option_map}
 use Rattle.rx_model.specs.Expression.{Expression, alternation}
 use Rattle.rx_model.specs.Search.{Patterns, told_of}
@@ -28,14 +28,16 @@ module _ (a b c d : Bool) where
   pub by-last : a ≡ false → b ≡ false → c ≡ false → d ≡ (a || b || c || d)
   by-last e f g = rw (e, f, g) refl
 
-pub AreOfEach-more : (hs : List Expression) (ps : List Properties) (h : Expression) (p : Properties) → AreOfEach hs ps → AreOf h p → AreOfEach (hs ++ h ∷ []) (ps ++ p ∷ [])
+pub AreOfEach-more : (hs : List Expression) (ps : List Properties) (h : Expression) (p : Properties) → AreOfEach hs ps → AreOf h p
+    → AreOfEach (hs ++ h ∷ []) (ps ++ p ∷ [])
 AreOfEach-more [] [] h p each is = (is, tt)
 AreOfEach-more [] (q ∷ ps) h p each is = absurd each
 AreOfEach-more (g ∷ hs) [] h p each is = absurd each
 AreOfEach-more (g ∷ hs) (q ∷ ps) h p each is = (each.0, AreOfEach-more hs ps h p each.1 is)
 
 -- what is known of the core that was made of these expressions
-pub known-of : (c : Config) (hs : List Expression) (nfa : Nfa) (p : Properties) → IsCompiled (compiler_of c) hs nfa → AreOf (alternation (expressions hs)) p → AreKnownOf p nfa
+pub known-of : (c : Config) (hs : List Expression) (nfa : Nfa) (p : Properties) → IsCompiled (compiler_of c) hs nfa
+    → AreOf (alternation (expressions hs)) p → AreKnownOf p nfa
 known-of c hs nfa p compiled of =
     let r : Patterns = patterns_of hs (utf8_of c) (terminator_of c) (captures_of c) in
     record {

@@ -1,5 +1,6 @@
 -- What the searches of a strategy write to.
 use Rattle.std.specs.Prelude.{◌≡◌, ℕ, ◌+◌, ◌-◌, ◌^◌, min, true, false, Option, Some, None, MatchOption, if◌then◌else◌, refl}
+use Rattle.std.proofs.Props.{props}
 use Rattle.std.specs.Coded.{Coded, code_by, coded×, coded_option, coded_ℕ}
 use Rattle.rx_engines.specs.Room as pike
 use Rattle.rx_engines.specs.Bounded as bounded
@@ -38,6 +39,10 @@ pub record FitsCore (c : CoreValue) (cache : CacheValue) : Type 0 where
 abbrev pub Fits : Strategy → CacheValue → Type 0
 Fits (Core core) cache = FitsCore core cache
 
+-- that it does has one proof at most
+pub Fits-prop : (s : Strategy) (cache : CacheValue) → IsProp (Fits s cache)
+Fits-prop (Core core) cache = Prim.hlevel props
+
 -- what is accounted for the cache
 abbrev pub memory_of : CacheValue → ℕ
 memory_of cache = cache.memory
@@ -54,7 +59,11 @@ accounted_core c = min (2 ^ 64 - 1) (accounted_memory c.nfa + accounted_backtrac
 abbrev pub accounted_for : Strategy → ℕ
 accounted_for (Core core) = accounted_core core
 
--- the second cache fits whatever the first one fits, and as much is accounted for it
+-- the second cache serves whatever the first one serves
+abbrev pub StillFits : (old new : CacheValue) → Type 0
+StillFits old new = (s : Strategy) → Fits s old → Fits s new
+
+-- and as much is accounted for it
 pub record FitsAsBefore (old new : CacheValue) : Type 0 where
-  pub fits : (s : Strategy) → Fits s old → Fits s new
+  pub fits : StillFits old new
   pub memory : memory_of new ≡ memory_of old

@@ -65,7 +65,16 @@ has_backtracker c = backtrack_of c && is_leftmost (kind_of c)
 
 -- nothing is set
 abbrev pub nothing_set : Config
-nothing_set = record { match_kind = None; utf8_empty = None; auto_prefilter = None; prefilter = None; which_captures = None; nfa_size_limit = None; line_terminator = None; backtrack = None }
+nothing_set = record {
+  match_kind = None;
+  utf8_empty = None;
+  auto_prefilter = None;
+  prefilter = None;
+  which_captures = None;
+  nfa_size_limit = None;
+  line_terminator = None;
+  backtrack = None;
+}
 
 -- the new configuration, with what it leaves open as in the old one
 abbrev pub overwritten : (old new : Config) → Config

@@ -1,5 +1,6 @@
 -- What a core is to a contract: the engines over one NFA, and what is known of the patterns.
-use Rattle.std.specs.Prelude.{◌≡◌, ℕ, ◌≤◌, Bool, true, false, ◌&&◌, nat_le, List, length, Option, Some, None, option_map, is_some, IfSome, slice_get, if◌then◌else◌}
+use Rattle.std.specs.Prelude.{◌≡◌, ℕ, ◌≤◌, Bool, true, false, ◌&&◌, nat_le, List, length, Option}
+use Rattle.std.specs.Prelude.{Some, None, option_map, is_some, IfSome, slice_get, if◌then◌else◌}
 use Rattle.rx_model.specs.Expression.{Expression, alternation, AreOrdered}
 use Rattle.rx_model.specs.Search.{Patterns, WhichCaptures, Match, told_of}
 use Rattle.rx_search.specs.Input.{InputValue, next_in, span_len}
@@ -14,7 +15,6 @@ use Rattle.rx_nfa.specs.Nfa.{Nfa, IsNfaOf}
 use Rattle.rx_nfa.specs.NextMatch.{next_match_in}
 use Rattle.rx_engines.specs.Bounded.{BacktrackerValue, max_len}
 use Rattle.rx_engines.specs.Engine.{PikeVMValue}
-use Rattle.rx_engines.specs.Needles.{BeginsEachMatch}
 use Rattle.rx_strategy.specs.Config.{kind_of, captures_of, compiler_of, has_backtracker}
 use Rattle.rx_strategy.specs.Impossible.{is_impossible}
 use Rattle.rx_strategy.specs.Prefilter.{prefilter_for}
@@ -45,13 +45,12 @@ backtracker_of c = record { nfa = c.nfa; pre = c.pre }
 abbrev pub backtracker_serves : CoreValue → InputValue → Bool
 backtracker_serves c v = c.backtracks && nat_le (span_len v) (max_len c.nfa)
 
--- The core searches for these patterns. Each match of them begins with a needle of its prefilter, if it has one.
+-- the core searches for these patterns
 pub record IsCoreFor (c : CoreValue) (r : Patterns) : Type 0 where
   pub nfa : IsNfaOf c.nfa r
   pub which_captures : r.which_captures ≡ c.which_captures
   -- the counts of each expression are in order
   pub ordered : (p : ℕ) (h : Expression) → slice_get r.expressions p ≡ Some h → AreOrdered h
-  pub needles : BeginsEachMatch c.pre r
 
 -- what a search of the core finds: the next match of its NFA, where matches are told
 abbrev pub core_finds : CoreValue → InputValue → Option Match

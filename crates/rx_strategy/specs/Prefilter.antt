@@ -1,5 +1,5 @@
 -- Which prefilter a core has, and what is accounted for it.
-use Rattle.std.specs.Prelude.{ℕ, Bool, List, Option, None, Some, if◌then◌else◌}
+use Rattle.std.specs.Prelude.{ℕ, List, Option, None, Some, if◌then◌else◌}
 use Rattle.std.specs.Option.{option_or}
 use Rattle.rx_model.specs.Expression.{Expression, alternation}
 use Rattle.rx_hir.specs.Normal.{expressions}

@@ -1,6 +1,6 @@
 //! What the engines of a strategy write to.
 ghost use Rattle.std.specs.Prelude.{◌≡◌, IfOk, OnOk, OnErr, IsOk};
-ghost use Rattle.rx_strategy.specs.Cache.{Fits, FitsAsBefore, memory_of, accounted_for};
+ghost use Rattle.rx_strategy.specs.Cache.{Fits, FitsAsBefore, StillFits, memory_of, accounted_for};
 
 use crate::strategy::Strategy;
 use rx_engines::{backtrack, pikevm};
@@ -39,12 +39,14 @@ impl Cache {
     }
 
     /// Makes any cache one that serves this strategy. It takes memory where its room does not suffice, and keeps what it
-    /// has. Where there is no memory, it serves what it served before, with its number as before.
+    /// has. A cache that serves the strategy already takes no memory, and still serves what it served. Where there is no
+    /// memory, it serves what it served before, with its number as before.
     pub fn reset(&mut self, alloc: Global, strategy: &Strategy) -> Result<(), Memory>
         ensures fits { OnOk result (Fits strategy.now self.new) }
         ensures memory { OnOk result (memory_of self.new ≡ accounted_for strategy.now) }
         ensures err { OnErr result (FitsAsBefore self.old self.new) }
         ensures sure { Fits strategy.now self.old → IsOk result }
+        ensures kept { Fits strategy.now self.old → StillFits self.old self.new }
     {
         match strategy {
             Strategy::Core(core) => core.reset_cache(alloc, self),

@@ -1,6 +1,7 @@
 //! The configuration of a regex.
 ghost use Rattle.std.specs.Prelude.{◌≡◌, Some, IfOk, option_copied};
-ghost use Rattle.rx_strategy.specs.Config.{kind_of, utf8_of, auto_prefilter_of, prefilter_of, which_of, size_limit_of, terminator_of, backtrack_of, compiler_of, has_backtracker, nothing_set, overwritten};
+ghost use Rattle.rx_strategy.specs.Config.{kind_of, utf8_of, auto_prefilter_of, prefilter_of, which_of, size_limit_of, terminator_of};
+ghost use Rattle.rx_strategy.specs.Config.{backtrack_of, compiler_of, has_backtracker, nothing_set, overwritten};
 
 use rx_nfa::WhichCaptures;
 use rx_prefilter::Prefilter;
@@ -10,6 +11,7 @@ use std::default::Default;
 /// The bytes that the NFA may have where no other limit is set, by what is accounted for it.
 const NFA_SIZE_LIMIT: usize = 10485760;
 
+// What is left open keeps what was set before (DECISIONS: a configuration's fields are optional).
 /// How a regex is built, and how it searches. What is not set has its default.
 #[derive(Drop)]
 pub struct Config {
@@ -197,6 +199,10 @@ impl Config {
     }
 
     /// The same configuration once more. It shares the prefilter.
+    ///
+    /// # Errors
+    ///
+    /// `Memory`, where there was no memory for it.
     pub fn clone(&self) -> Result<Config, Memory>
         ensures { IfOk result (λ copy. copy ≡ self.now) }
     {

@@ -4,7 +4,8 @@ ghost use Rattle.rx_model.specs.Expression.{Expression, alternation};
 ghost use Rattle.rx_hir.specs.Normal.{expressions};
 ghost use Rattle.rx_hir.specs.PropertiesViews.{AreOf};
 ghost use Rattle.rx_search.specs.Input.{IsSpanned, span_len};
-ghost use Rattle.rx_strategy.specs.Impossible.{is_above, is_always_anchored_start, is_always_anchored_end, begins_too_late, ends_too_early, is_too_short, is_anchored_start, is_too_long, is_impossible};
+ghost use Rattle.rx_strategy.specs.Impossible.{is_above, is_always_anchored_start, is_always_anchored_end, begins_too_late};
+ghost use Rattle.rx_strategy.specs.Impossible.{ends_too_early, is_too_short, is_anchored_start, is_too_long, is_impossible};
 
 use rx_hir::{Hir, Properties};
 use rx_search::{Input, Look, Memory};

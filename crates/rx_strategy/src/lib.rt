@@ -11,11 +11,9 @@ mod info;
 mod laws;
 mod prefilter;
 mod strategy;
+mod threads;
 
 pub use cache::Cache;
 pub use config::Config;
 pub use laws::impossible_inputs_have_no_match;
 pub use strategy::{Core, Strategy};
-
-#[cfg(test)]
-mod tests;

@@ -25,6 +25,7 @@ pub(crate) fn choose(
     requires { AreOf (alternation (expressions exprs.now)) info.now.properties }
     ensures { IfOk result (λ pre. pre ≡ prefilter_for config.now exprs.now) }
 {
+    // No answer shows this choice, so the clause does (DECISIONS: which prefilter a core has is a clause of its maker).
     if info.is_always_anchored_start() {
         return Ok(None);
     }

@@ -1,5 +1,5 @@
 //! How the searches of a regex are answered.
-ghost use Rattle.std.specs.Prelude.{◌≡◌, List, length, None, replicate, false, IfOk, IfErr, OnOk, OnErr, IsOk, IfNone, IfSome, IsTrue};
+ghost use Rattle.std.specs.Prelude.{◌≡◌, ◌<◌, List, length, None, replicate, false, IfOk, IfErr, OnOk, OnErr, IsOk, IfNone, IfSome, IsTrue};
 ghost use Rattle.rx_model.specs.Expression.{Expression, alternation};
 ghost use Rattle.rx_model.specs.Search.{Patterns};
 ghost use Rattle.rx_search.specs.Input.{IsSpanned, next_in};
@@ -13,7 +13,7 @@ ghost use Rattle.rx_search.specs.Answer.{IsAnswer, AreSlotsOfAnswer, TellsWhethe
 ghost use Rattle.rx_strategy.specs.Config.{kind_of, compiler_of};
 ghost use Rattle.rx_strategy.specs.Cache.{Fits, memory_of, accounted_for};
 ghost use Rattle.rx_strategy.specs.Impossible.{is_impossible, IsKnownImpossible};
-ghost use Rattle.rx_strategy.specs.Strategy.{IsFor, kind_in, groups_in, pattern_count, properties_of, strategy_memory, backtracks, IsFew, IsMadeOf};
+ghost use Rattle.rx_strategy.specs.Strategy.{IsFor, kind_in, groups_in, pattern_count, properties_of, prefilter_in, strategy_memory, backtracks, IsFew, IsMadeOf};
 
 mod engines;
 
@@ -29,6 +29,7 @@ use rx_nfa::{BuildError, Compiler};
 use rx_search::{GroupInfo, HalfMatch, Input, Match, Memory, NonMaxUsize};
 use std::alloc::Global;
 
+// Its clauses name patterns and no NFA (DECISIONS: a strategy is an enum).
 /// A way to search for patterns. Which one it is changes no answer that is promised.
 #[derive(Drop)]
 pub enum Strategy {
@@ -61,8 +62,9 @@ impl Strategy {
     /// `Memory`: there was no memory for the search.
     pub fn search(&self, cache: &mut Cache, input: &Input<'_>) -> Result<Option<Match>, Memory>
         requires { Fits self.now cache.old }
-        ensures answer { IfOk result (IsAnswer (IsFor self.now) (kind_in self.now) input.now match_value) }
+        ensures answer { IfOk result (IsAnswer (IsFor self.now) (prefilter_in self.now) (kind_in self.now) input.now match_value) }
         ensures within { IfOk result (λ o. IfSome o (LiesIn input.now)) }
+        ensures in_range { IfOk result (λ o. IfSome o (λ m. m.pattern < pattern_count self.now)) }
         ensures cache { Fits self.now cache.new }
         ensures memory { memory_of cache.new ≡ memory_of cache.old }
         ensures sure { IsKnownImpossible (properties_of self.now) input.now → IsOk result }
@@ -79,8 +81,9 @@ impl Strategy {
         input: &Input<'_>,
     ) -> Result<Option<HalfMatch>, Memory>
         requires { Fits self.now cache.old }
-        ensures answer { IfOk result (IsAnswer (IsFor self.now) (kind_in self.now) input.now half_match_value) }
+        ensures answer { IfOk result (IsAnswer (IsFor self.now) (prefilter_in self.now) (kind_in self.now) input.now half_match_value) }
         ensures within { IfOk result (λ o. IfSome o (HalfLiesIn input.now)) }
+        ensures in_range { IfOk result (λ o. IfSome o (λ half. half.pattern < pattern_count self.now)) }
         ensures cache { Fits self.now cache.new }
         ensures memory { memory_of cache.new ≡ memory_of cache.old }
         ensures sure { IsKnownImpossible (properties_of self.now) input.now → IsOk result }
@@ -100,9 +103,10 @@ impl Strategy {
         slots: &mut [Option<NonMaxUsize>],
     ) -> Result<Option<Match>, Memory>
         requires { Fits self.now cache.old }
-        ensures answer { IfOk result (IsAnswer (IsFor self.now) (kind_in self.now) input.now match_value) }
-        ensures slots { IfOk result (AreSlotsOfAnswer (IsFor self.now) (kind_in self.now) input.now match_value slots.new) }
+        ensures answer { IfOk result (IsAnswer (IsFor self.now) (prefilter_in self.now) (kind_in self.now) input.now match_value) }
+        ensures slots { IfOk result (AreSlotsOfAnswer (IsFor self.now) (prefilter_in self.now) (kind_in self.now) input.now match_value slots.new) }
         ensures within { IfOk result (λ o. IfSome o (LiesIn input.now)) }
+        ensures in_range { IfOk result (λ o. IfSome o (λ m. m.pattern < pattern_count self.now)) }
         ensures none { IfOk result (λ o. IfNone o (slots.new ≡ replicate (length slots.old) None)) }
         ensures err { OnErr result (slots.new ≡ replicate (length slots.old) None) }
         ensures slots_within { AreWithin input.now slots.new }
@@ -125,7 +129,7 @@ impl Strategy {
     /// `Memory`: there was no memory for the search.
     pub fn is_match(&self, cache: &mut Cache, input: &Input<'_>) -> Result<bool, Memory>
         requires { Fits self.now cache.old }
-        ensures value { IfOk result (TellsWhether (IsFor self.now) input.now) }
+        ensures value { IfOk result (TellsWhether (IsFor self.now) (prefilter_in self.now) input.now) }
         ensures cache { Fits self.now cache.new }
         ensures memory { memory_of cache.new ≡ memory_of cache.old }
         ensures sure { IsKnownImpossible (properties_of self.now) input.now → IsOk result }

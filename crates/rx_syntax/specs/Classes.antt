@@ -43,7 +43,7 @@ abbrev pub item_scalars : Flags → ClassItem → Result (List (ℕ × ℕ)) Syn
 item_scalars flags (Range low high) = Ok ((low.character, high.character) ∷ [])
 item_scalars flags (Perl kind negated) = Ok (scalars_under flags negated (scalars_where (is_perl_char kind)))
 item_scalars flags (Posix kind negated) = Ok (scalars_under flags negated (fewest next_scalar (ascii_ranges kind)))
-item_scalars flags (Property piece name negated) = scalars_named flags piece negated (property name)
+item_scalars flags (Property negated piece name) = scalars_named flags piece negated (property name)
 
 -- those of all items
 abbrev pub all_scalars : Flags → List ClassItem → Result (List (ℕ × ℕ)) SyntaxError
@@ -71,7 +71,7 @@ item_bytes flags piece (Range low high) =
     if is_byte low && is_byte high then Ok ((low.character, high.character) ∷ []) else refused kind.UnicodeOff piece
 item_bytes flags piece (Perl kind negated) = Ok (bytes_under flags negated (fewest next_byte (ascii_ranges (ascii_kind kind))))
 item_bytes flags piece (Posix kind negated) = Ok (bytes_under flags negated (fewest next_byte (ascii_ranges kind)))
-item_bytes flags piece (Property own name negated) = refused kind.UnicodeOff piece
+item_bytes flags piece (Property negated own name) = refused kind.UnicodeOff piece
 
 -- those of all items
 abbrev pub all_bytes : Flags → Piece → List ClassItem → Result (List (ℕ × ℕ)) SyntaxError

@@ -39,6 +39,10 @@ row_of config items = all_parts config items >>= λ es. Ok (concat_of es)
 abbrev pub choice_of : Config → List Syntax → Result Expression SyntaxError
 choice_of config branches = gathered (branch_parts config) branches >>= λ es. Ok (alternation_of es)
 
+-- these one after another, as the only branch
+abbrev pub only_branch : List Expression → Expression
+only_branch es = alternation_of (concat_of es ∷ [])
+
 -- one more than that of its syntax; a run of characters has none
 abbrev pub item_size : Item → ℕ
 item_size (Literals flags run) = 0

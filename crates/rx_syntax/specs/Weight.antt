@@ -1,5 +1,5 @@
 -- What an expression weighs: what is accounted for it, and what its weight depends on where it is a part of another one.
-use Rattle.std.specs.Prelude.{◌≡◌, ℕ, zero, suc, ◌+◌, ◌*◌, ◌<◌, min, max, Bool, true, false, ◌&&◌, List, length, Option, Some, None, Result, Ok, MatchResult, if◌then◌else◌}
+use Rattle.std.specs.Prelude.{◌≡◌, ℕ, zero, suc, ◌+◌, ◌<◌, min, max, Bool, true, false, ◌&&◌, List, length, Option, Some, None, Result, Ok, MatchResult, if◌then◌else◌}
 use Rattle.std.specs.Int.NonZero.{non_zero_usize_get}
 use Rattle.rx_model.specs.Expression.{Expression, empty, literal, class, look, repetition, capture, concat, alternation}
 use Rattle.rx_model.specs.Search.{greatest_group}
@@ -11,6 +11,9 @@ use Rattle.rx_reader.specs.declared.error.ParseError.{ParseError}
 use Rattle.rx_reader.specs.declared.error.SyntaxError.{SyntaxError}
 use Rattle.rx_reader.specs.declared.group_kind.GroupKind.{GroupKind}
 use Rattle.rx_reader.specs.declared.group_kind.GroupKind.TheVariants.{NonCapturing, CaptureIndex, CaptureName}
+use Rattle.rx_syntax.specs.Classes.{scalar_class}
+use Rattle.rx_syntax.specs.Named.{scalars_of}
+use Rattle.rx_syntax.specs.declared.named.SetKey.{SetKey}
 use Rattle.rx_syntax.specs.declared.weight.Shape.{Shape}
 use Rattle.rx_syntax.specs.declared.weight.Shape.TheVariants.{Empty, Alternatives, Other}
 use Rattle.rx_syntax.specs.declared.weight.Weight.{Weight}
@@ -32,6 +35,10 @@ shape_of (alternation subs) = Alternatives (capped (accounted_in subs))
 abbrev pub weight_of : Expression → Weight
 weight_of h =
     record { states = capped (accounted_states h); shape = shape_of h; is_null = is_zero (maximum_len h); greatest_group = greatest_group h }
+
+-- that of a named set's class
+abbrev pub set_weight : SetKey → Weight
+set_weight key = weight_of (scalar_class (scalars_of key))
 
 -- what several patterns weigh: their slots, and the states that are accounted for their NFA
 abbrev pub weights_of : List Expression → Weights

@@ -130,6 +130,7 @@ pub(crate) fn byte_class(
 ) -> Result<Hir, ParseError>
     ensures { Answers result (byte_class config.now piece members) }
 {
+    // By the final members, also of a negated class (DECISIONS: without `u`).
     if config.get_utf8() && !members.is_ascii() {
         return Err(piece.refuse(SyntaxErrorKind::Utf8));
     }

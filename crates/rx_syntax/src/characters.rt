@@ -18,6 +18,7 @@ pub(crate) fn character(alloc: Global, flags: Flags, c: char) -> Result<Hir, Mem
     if flags.case_insensitive {
         in_either_case(alloc, flags, c)
     } else {
+        // Whether `u` is on or off (DECISIONS: `(?-u:é)` reads as the UTF-8 bytes of its character).
         literal(alloc, &[c])
     }
 }

@@ -15,6 +15,7 @@ struct KnownSet {
     ghost own: { scalars ≡ scalars_of key },
 }
 
+// Each set proves that it is that of its key, so no invariant is needed (DECISIONS: a named set is looked up once a list of patterns).
 /// The named sets that were looked up so far. Whoever asks for one again shares its scalars.
 #[derive(Drop)]
 pub(crate) struct KnownSets {

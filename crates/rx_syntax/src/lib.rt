@@ -18,8 +18,6 @@ mod pattern;
 mod patterns;
 mod scalars;
 mod set;
-#[cfg(test)]
-mod tests;
 mod translate;
 mod weight;
 

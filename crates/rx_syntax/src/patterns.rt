@@ -102,6 +102,7 @@ pub fn parse_each(
     ensures within { IfErr result (λ e. IsWithin e (length patterns.now)) }
     ensures count { IfOk result (λ exprs. length exprs.items ≡ length patterns.now) }
 {
+    // One is read after the last is translated (DECISIONS: `parse_many_with` and `Compiler::build_many` read and translate).
     let mut parsed = Vec::new(alloc);
     for pattern in patterns {
         match parse_with(alloc, pattern, config) {
@@ -132,11 +133,17 @@ pub fn parse_all(
     ensures within { IfErr result (λ e. IsWithin e (length patterns.now)) }
     ensures count { IfOk result (λ exprs. length exprs.items ≡ length patterns.now) }
 {
+    // All are read first (DECISIONS: a regex's builder, and the program, read all patterns).
     let asts = read_all(alloc, patterns, config)?;
     translate_all(alloc, &asts, config)
 }
 
 /// The syntax trees of the patterns, or the refusal of the first pattern that reading refuses.
+///
+/// # Errors
+///
+/// `Syntax`, the number of the first pattern that is refused, counted from 0, with its refusal; `Memory`, where
+/// there was no memory.
 pub fn read_all(
     alloc: Global,
     patterns: &[&str],
@@ -159,6 +166,11 @@ pub fn read_all(
 }
 
 /// The expressions of the syntax trees, or the refusal of the first pattern that translation refuses.
+///
+/// # Errors
+///
+/// `Syntax`, the number of the first pattern that is refused, counted from 0, with its refusal; `Memory`, where
+/// there was no memory.
 pub fn translate_all(
     alloc: Global,
     asts: &[Ast],

@@ -30,7 +30,7 @@ pub(crate) fn scalars_under(
 }
 
 /// The set `\p{name}`, if Unicode has a set of that name.
-fn property_key(
+pub(crate) fn property_key(
     alloc: Global,
     flags: Flags,
     piece: Piece,

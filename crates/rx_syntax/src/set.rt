@@ -1,23 +1,53 @@
 //! Atoms that stand for a set of characters or bytes.
-ghost use Rattle.std.specs.Prelude.{◌≡◌, IfOk};
+ghost use Rattle.std.specs.Prelude.{◌≡◌, Ok, IfOk, IfSome, MatchResult};
+ghost use Rattle.rx_reader.specs.Refusal.{Refuses};
 ghost use Rattle.rx_syntax.specs.Answers.{Answers};
 ghost use Rattle.rx_syntax.specs.Classes.{scalar_class, perl_class, property_class, bracketed, line_ends, has_odd_terminator, dot};
+ghost use Rattle.rx_syntax.specs.Named.{scalars_of};
+ghost use Rattle.rx_syntax.specs.Translation.{atom_of};
 
 use crate::bytes::{all_bytes, ascii_bytes, byte_class, bytes_under};
 use crate::known::KnownSets;
 use crate::named::{NamedSet, SetKey};
-use crate::scalars::{class_of_bytes, gather, named_scalars, scalars_under};
+use crate::scalars::{class_of_bytes, gather, named_scalars, property_key, scalars_under};
 use rx_class::{Class, ClassBytes, ClassUnicode};
 use rx_hir::Hir;
-use rx_reader::{ClassItem, Config, Flags, ParseError, Piece, SyntaxErrorKind};
+use rx_reader::{Atom, ClassItem, Config, Flags, ParseError, Piece, SyntaxErrorKind};
 use rx_search::Memory;
 use rx_sets::ClassPerlKind;
 use std::alloc::Global;
 
-fn scalar_class(alloc: Global, members: ClassUnicode) -> Result<Hir, Memory>
+/// The class of these scalars.
+pub(crate) fn scalar_class(alloc: Global, members: ClassUnicode) -> Result<Hir, Memory>
     ensures { IfOk result (λ h. h ≡ scalar_class members) }
 {
     Hir::class(alloc, Class::Unicode(members))
+}
+
+/// The named set of scalars that an atom is, if it is one.
+pub(crate) fn named_set(
+    alloc: Global,
+    flags: Flags,
+    piece: Piece,
+    atom: &Atom,
+) -> Result<Option<SetKey>, ParseError>
+    ensures { (config : _) → MatchResult result
+        (λ found. IfSome found (λ key. atom_of config flags piece atom.now ≡ Ok (scalar_class (scalars_of key))))
+        (λ e. Refuses e (atom_of config flags piece atom.now)) }
+{
+    if !flags.unicode {
+        return Ok(None);
+    }
+    match atom {
+        Atom::Perl { kind, negated } => {
+            Ok(Some(SetKey::new(flags, NamedSet::Perl(*kind), *negated)))
+        }
+        Atom::Property { name, negated } => {
+            let key = property_key(alloc, flags, piece, name.as_slice(), *negated)?;
+            Ok(Some(key))
+        }
+        _ => Ok(None),
+    }
 }
 
 /// `\d` and its like.

@@ -5,7 +5,7 @@ ghost use Rattle.rx_model.specs.Expression.{capture};
 ghost use Rattle.rx_hir.specs.Normal.{repetition_of};
 ghost use Rattle.rx_syntax.specs.Answers.{Answers, AnswersAs};
 ghost use Rattle.rx_syntax.specs.Translation.{atom_of, group_of, translated};
-ghost use Rattle.rx_syntax.specs.ItemViews.{all_parts, branch_parts};
+ghost use Rattle.rx_syntax.specs.ItemViews.{all_parts, branch_parts, only_branch};
 ghost use Rattle.rx_syntax.specs.Refused.{gathered};
 
 use crate::assertion::look_of;
@@ -101,6 +101,15 @@ fn group(alloc: Global, kind: &GroupKind, sub: Hir) -> Result<Hir, Memory>
     }
 }
 
+/// These, one after another, as the only branch.
+fn only_branch(alloc: Global, subs: Vec<Hir>) -> Result<Hir, Memory>
+    ensures { IfOk result (λ h. h ≡ only_branch subs.items) }
+{
+    let mut branches = Vec::new(alloc);
+    branches.push(Hir::concat(alloc, subs)?)?;
+    Hir::alternation(alloc, branches)
+}
+
 /// The expression that a syntax stands for, or the first refusal from left to right.
 #[cycle(translate)]
 pub(crate) fn translate(
@@ -141,6 +150,10 @@ pub(crate) fn translate(
         AstKind::Alternation(branches) => {
             let subs = translate_branches(alloc, branches, config, known)?;
             Ok(Hir::alternation(alloc, subs)?)
+        }
+        AstKind::Branch(items) => {
+            let subs = translate_items(alloc, items, config, known)?;
+            Ok(only_branch(alloc, subs)?)
         }
     }
 }

@@ -9,6 +9,7 @@ ghost use Rattle.rx_hir.specs.Length.{maximum_len};
 ghost use Rattle.rx_hir.specs.Normal.{fail, is_zero};
 ghost use Rattle.rx_syntax.specs.Weight.{shape_of, weight_of, is_nothing, in_row, followed, alternatives_in, either, either_of, choice_weight, some_copies, copies, repeated, captured, grouped, IsAtom};
 
+mod known;
 mod list;
 mod syntax;
 
@@ -26,6 +27,7 @@ pub struct Weights {
     pub states: usize,
 }
 
+// A weight need not hold its parts (DECISIONS: a row of parts is none, one or more).
 /// What an expression is to a concatenation or an alternation around it.
 #[derive(Clone, Copy)]
 pub(crate) enum Shape {

@@ -26,7 +26,8 @@ refused-error config hs (ExceededLimit limit size) is = is
 refused-error config hs NoMemory is = is
 
 -- few enough patterns, of which all are these expressions
-pub refused-counted : (config : Config) (count : ℕ) (hs : List Expression) → count ≤ id_limit → length hs ≡ count → (e : BuildError) → IsRefused config hs e → IsRefusedOf config count hs e
+pub refused-counted : (config : Config) (count : ℕ) (hs : List Expression) → count ≤ id_limit → length hs ≡ count → (e : BuildError) → IsRefused config hs e
+    → IsRefusedOf config count hs e
 refused-counted config count hs few same (Syntax pid err) is = (few, is)
 refused-counted config count hs few same (TooManyPatterns given limit) is = (is.0 ∙ same, is.1, is.2)
 refused-counted config count hs few same (TooManyGroups given limit) is = (few, is)
@@ -35,7 +36,8 @@ refused-counted config count hs few same (ExceededSizeLimit limit size) is = (fe
 refused-counted config count hs few same Memory is = (few, is)
 
 -- patterns that were read as these expressions
-pub refused-after : (reading : Result (List Expression) Refusal) (config : Config) (count : ℕ) (hs : List Expression) → reading ≡ Ok hs → (e : BuildError) → IsRefusedOf config count hs e
+pub refused-after : (reading : Result (List Expression) Refusal) (config : Config) (count : ℕ) (hs : List Expression) → reading ≡ Ok hs → (e : BuildError)
+    → IsRefusedOf config count hs e
     → IsRefusedAfter reading config count e
 refused-after reading config count hs same (Syntax pid err) is = absurd is.1
 refused-after reading config count hs same (TooManyPatterns given limit) is = (hs, same, is)
@@ -45,18 +47,22 @@ refused-after reading config count hs same (ExceededSizeLimit limit size) is = (
 refused-after reading config count hs same Memory is = tt
 
 -- so many patterns as there are
-pub refused-for : (syntax : Grammar) (config : Config) (texts : List (List ℕ)) (count : ℕ) (hs : List Expression) → count ≡ length texts → reading_of syntax texts ≡ Ok hs
+pub refused-for : (syntax : Grammar) (config : Config) (texts : List (List ℕ)) (count : ℕ) (hs : List Expression) → count ≡ length texts
+    → reading_of syntax texts ≡ Ok hs
     → (e : BuildError) → IsRefusedOf config count hs e → IsRefusedFor syntax config texts e
 refused-for syntax config texts count hs counted same e is =
     refused-after (reading_of syntax texts) config (length texts) hs same e (subst (λ n. IsRefusedOf config n hs e) counted is)
 
-pub built-of : (syntax : Grammar) (config : Config) (texts : List (List ℕ)) (count : ℕ) (hs : List Expression) → count ≡ length texts → reading_of syntax texts ≡ Ok hs
-    → (r : Result Nfa BuildError) → OnOk r (count ≤ id_limit) → IfOk r (IsCompiled config hs) → OnOk r (AreAllowed config hs) → IfOk r (IsBuiltOf syntax config texts)
+pub built-of : (syntax : Grammar) (config : Config) (texts : List (List ℕ)) (count : ℕ) (hs : List Expression) → count ≡ length texts
+    → reading_of syntax texts ≡ Ok hs
+    → (r : Result Nfa BuildError) → OnOk r (count ≤ id_limit) → IfOk r (IsCompiled config hs) → OnOk r (AreAllowed config hs)
+    → IfOk r (IsBuiltOf syntax config texts)
 built-of syntax config texts count hs counted same (Ok nfa) few compiled allowed =
     record { expressions = hs; read = sym (all-read syntax texts (omega arith)) ∙ same; compiled = compiled; allowed = allowed }
 built-of syntax config texts count hs counted same (Err e) few compiled allowed = tt
 
 -- patterns of which one is refused
-pub refused-reading : (reading : Result (List Expression) Refusal) (config : Config) (count : ℕ) (e : PatternsError) → RefusesAll e reading → IsRefusedAfter reading config count (syntax_error_of e)
+pub refused-reading : (reading : Result (List Expression) Refusal) (config : Config) (count : ℕ) (e : PatternsError) → RefusesAll e reading
+    → IsRefusedAfter reading config count (syntax_error_of e)
 refused-reading reading config count (Refused pattern error) is = is
 refused-reading reading config count NoMemoryToRead is = tt

@@ -15,11 +15,14 @@ refuses-read syntax (Refused pattern error) r is = ap (translated_if syntax) is
 refuses-read syntax NoMemoryToRead r is = tt
 
 -- what the first patterns read as is what their syntaxes stand for
-pub first-syntaxes : (syntax : Grammar) (ps : List (Bor (List ℕ))) (k : ℕ) (ss : List Syntax) → k ≡ min (length ps) id_limit → all_syntaxes syntax (texts_of (take k ps)) ≡ Ok ss
+pub first-syntaxes : (syntax : Grammar) (ps : List (Bor (List ℕ))) (k : ℕ) (ss : List Syntax) → k ≡ min (length ps) id_limit
+    → all_syntaxes syntax (texts_of (take k ps)) ≡ Ok ss
     → all_translated syntax ss ≡ all_read syntax (take id_limit (texts_of ps))
 first-syntaxes syntax ps k ss is read = ap (translated_if syntax) (sym read) ∙ ap (all_read syntax) (first-texts ps id_limit k is)
 
-pub first-refused : (syntax : Grammar) (ps : List (Bor (List ℕ))) (k : ℕ) (e : PatternsError) → k ≡ min (length ps) id_limit → RefusesAll e (all_syntaxes syntax (texts_of (take k ps)))
+pub first-refused : (syntax : Grammar) (ps : List (Bor (List ℕ))) (k : ℕ) (e : PatternsError) → k ≡ min (length ps) id_limit
+    → RefusesAll e (all_syntaxes syntax (texts_of (take k ps)))
     → RefusesAll e (all_read syntax (take id_limit (texts_of ps)))
 first-refused syntax ps k e is refused =
-    subst (λ (texts : List (List ℕ)). RefusesAll e (all_read syntax texts)) (first-texts ps id_limit k is) (refuses-read syntax e (all_syntaxes syntax (texts_of (take k ps))) refused)
+    subst (λ (texts : List (List ℕ)). RefusesAll e (all_read syntax texts)) (first-texts ps id_limit k is)
+    (refuses-read syntax e (all_syntaxes syntax (texts_of (take k ps))) refused)

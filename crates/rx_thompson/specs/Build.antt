@@ -8,12 +8,18 @@ use Rattle.rx_nfa.specs.declared.compiler.config.Config.{Config}
 use Rattle.rx_nfa.specs.declared.error.BuildError.TheVariants.{TooManyPatterns as ManyPatterns, TooManyGroups as ManyGroups, TooManyStates as ManyStates, ExceededSizeLimit as ExceededLimit, Memory as NoMemory}
 use Rattle.rx_reader.specs.declared.config.Config.{Config as Grammar}
 use Rattle.rx_syntax.specs.Patterns.{Refusal, each_read}
+use Rattle.rx_syntax.specs.Weight.{AreWeightsOf}
+use Rattle.rx_syntax.specs.declared.weight.Weights.{Weights}
 use Rattle.rx_thompson.specs.declared.error.BuildError.{BuildError}
 use Rattle.rx_thompson.specs.declared.error.BuildError.TheVariants.{Syntax, TooManyPatterns, TooManyGroups, TooManyStates, ExceededSizeLimit, Memory}
 
 -- what the patterns read as, one after another, of at most as many as identifiers tell apart, or the first refusal
 unfoldable pub reading_of : Grammar → List (List ℕ) → Result (List Expression) Refusal
 reading_of syntax texts = each_read syntax (take id_limit texts)
+
+-- what the first patterns, at most as many as identifiers tell apart, weigh together
+abbrev pub AreWeighed : Grammar → List (List ℕ) → Weights → Type 0
+AreWeighed syntax texts weights = AreWeightsOf (reading_of syntax texts) (length (take id_limit texts)) weights
 
 -- the NFA of these patterns
 pub record IsBuiltOf (syntax : Grammar) (config : Config) (texts : List (List ℕ)) (nfa : Nfa) : Type 0 where

@@ -9,6 +9,7 @@ use rx_search::{Memory, PatternID};
 use rx_syntax::{PatternsError, SyntaxError};
 use std::alloc::{AllocError, AllocFailed};
 
+// The limits stand in the error of rx_nfa too (DECISIONS: the compiler stands in two crates).
 /// Why there is no NFA.
 #[derive(Clone, Copy, Debug, PartialEq, Eq)]
 pub enum BuildError {

@@ -16,6 +16,3 @@ pub use rx_nfa::{
     Alternates, Config, NFA, PATTERN_LIMIT, State, Transition, Transitions, WhichCaptures,
     matches_byte,
 };
-
-#[cfg(test)]
-mod tests;

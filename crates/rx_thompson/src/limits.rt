@@ -8,25 +8,20 @@ ghost use Rattle.rx_thompson.specs.Build.{IsRefusedOf, IsRefusedAfter};
 
 use crate::error::BuildError;
 use rx_hir::Hir;
-use rx_nfa::{Config, PATTERN_LIMIT};
+use rx_nfa::{Config, PATTERN_LIMIT, SLOT_LIMIT, STATE_LIMIT, STATE_SIZE};
 use rx_reader::Ast;
-use rx_search::{PatternID, StateID};
 use rx_syntax::{Weights, read_all, translate_all, weigh_all};
 use std::alloc::Global;
-
-/// The bytes that are accounted for a state.
-const STATE_SIZE: usize = rx_hir::STATE_SIZE as usize;
-
-/// The most slots that a match may have.
-const SLOT_LIMIT: usize = PatternID::LIMIT - 1;
-
-/// The most states that an NFA may have.
-const STATE_LIMIT: usize = StateID::LIMIT;
 
 /// The expressions of the patterns, of at most the first 2147483647, if they pass no limit.
 ///
 /// All patterns are read, and then weighed, before an expression is made. Refused are, in this order: the first pattern
 /// that reading refuses, the first that translation refuses, and what `Compiler::build_counted` refuses.
+///
+/// # Errors
+///
+/// `Syntax`, the first refusal, with the number of its pattern; one of the limits, with what was given and the limit, in
+/// the order above; `Memory`, where there was no memory.
 pub fn read_within(
     alloc: Global,
     patterns: &[&str],
@@ -38,6 +33,7 @@ pub fn read_within(
         × (length patterns.now ≤ id_limit) × (length exprs.items ≡ length patterns.now))
         (IsRefusedAfter (all_read syntax.now (take id_limit (map (λ p. p.now) patterns.now))) config.now (length patterns.now)) }
 {
+    // A refusal of the grammar comes before that of their number (DECISIONS: a build of too many patterns reads the first 2147483647).
     let first = &patterns[..patterns.len().min(PATTERN_LIMIT)];
     match read_all(alloc, first, syntax) {
         Ok(asts) => weighed(alloc, patterns.len(), &asts, syntax, config),
@@ -91,7 +87,7 @@ fn within(
 }
 
 /// The limit that so many patterns of these weights pass, if they pass one: in the order of `Compiler::build_counted`.
-fn exceeded(config: &Config, count: usize, weights: Weights) -> Option<BuildError>
+pub(crate) fn exceeded(config: &Config, count: usize, weights: Weights) -> Option<BuildError>
     ensures none { MatchOption result (count ≤ id_limit) (λ e. Unit {0}) }
     ensures some { (hs : List Expression) → weights ≡ weights_of hs → (count ≤ id_limit → length hs ≡ count)
         → IfSome result (IsRefusedOf config.now count hs) }

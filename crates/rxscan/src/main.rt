@@ -15,9 +15,10 @@ fn main(rt: HostRuntime) -> ExitCode {
     let words = match words(&rt) {
         Ok(words) => words,
         Err(error) if error.kind() == ErrorKind::OutOfMemory => {
+            // `run` is not called (DECISIONS: where there is no memory for the words).
             return ExitCode::from(OUT_OF_MEMORY);
         }
-        // Words that are no text are no words of a command.
+        // Words that are no text are no words of a command (DECISIONS: arguments that are no text are a faulty command line).
         Err(_) => Vec::new(rt.alloc()),
     };
     let mut source = StandardInput::new(rt.stdin());

@@ -39,6 +39,7 @@ pub fn attempt(
     ensures room { length visited.new ≡ length visited.old }
     ensures width { length slots.new ≡ length slots.old }
 {
+    // `visited` stays from start to start (DECISIONS: what was passed is part of the definition of a run).
     stack.clear();
     if let Some(found) = follow(search, search.start, from, visited, stack, slots) {
         return Some(found);
@@ -87,15 +88,18 @@ fn follow(
     ensures room { length visited.new ≡ length visited.old }
     ensures width { length slots.new ≡ length slots.old }
 {
+    let states = search.states.len();
     let mut state = start;
     let mut place = from;
-    while visited.insert(index(search, state, place)) {
+    let mut row = (from - search.first) * states;
+    while visited.insert(row + state.as_usize()) {
         match step(search, state, place, stack, slots) {
             Onward::Stop(pattern) => return Some(HalfMatch::new(pattern, place)),
             Onward::To {
                 state: next,
                 place: at,
             } => {
+                row = row_at(row, states, place, at);
                 state = next;
                 place = at;
             }
@@ -105,14 +109,13 @@ fn follow(
     None
 }
 
-/// The number of the state at the place, among those of the span.
-fn index(search: &Search<'_>, state: StateID, place: usize) -> usize
-    requires state { state < length search.now.states.now }
-    requires place { (search.now.first ≤ place) × (place ≤ search.now.end) }
-    requires search { IsInside search.now }
-    requires small { extent search.now < 2 ^ 63 }
-    ensures value { result ≡ (place - search.now.first) * length search.now.states.now + state }
-    ensures within { result < extent search.now }
+/// Where the bits of `next` begin, which is the place or the one after it, if those of the place begin at `row`. A place has
+/// a bit for each state, in order.
+fn row_at(row: usize, states: usize, place: usize, next: usize) -> usize
+    requires near { (place ≤ next) × (next ≤ place + 1) }
+    requires small { row + states < 2 ^ 64 }
+    ensures { result ≡ row + (next - place) * states }
 {
-    (place - search.first) * search.states.len() + state.as_usize()
+    // A sum in place of a product (DECISIONS: the backtracker keeps where the bits of its place begin).
+    if place < next { row + states } else { row }
 }

@@ -1,5 +1,5 @@
 //! The bounded backtracker.
-ghost use Rattle.std.specs.Prelude.{◌≡◌, ◌-◌, ◌^◌, ◌≤◌, min, length, None, replicate, IfOk, IfNone, IfSome, option_map};
+ghost use Rattle.std.specs.Prelude.{◌≡◌, ◌<◌, ◌-◌, ◌^◌, ◌≤◌, min, length, None, replicate, IfOk, IfNone, IfSome, option_map};
 ghost use Rattle.std.specs.Result.{IfErr};
 ghost use Rattle.rx_model.specs.Search.{Patterns, told_of};
 ghost use Rattle.rx_search.specs.Input.{next_in, span_len};
@@ -39,20 +39,22 @@ pub struct BoundedBacktracker {
     candidates: Candidates,
     /// The frames that a search may leave on the stack at one place.
     frames: usize,
+    /// The bytes of the longest span that is searched.
+    longest: usize,
 }
 
 impl Model for BoundedBacktracker {
     ghost use Rattle.std.specs.Prelude.{◌≡◌, ◌-◌, ◌^◌, min, length};
     ghost use Rattle.rx_engines.specs.Simulation.{frames_of_states};
-    ghost use Rattle.rx_engines.specs.Bounded.{BacktrackerValue};
-    ghost use Rattle.rx_engines.specs.Candidates.{needles_of, AreOf};
+    ghost use Rattle.rx_engines.specs.Bounded.{BacktrackerValue, max_len};
+    ghost use Rattle.rx_engines.specs.Candidates.{AreOf};
 
     ghost Value = { BacktrackerValue };
 
-    ghost view = { λ b. record { nfa = b.nfa; pre = needles_of b.candidates } };
+    ghost view = { λ b. record { nfa = b.nfa; pre = b.candidates.needles } };
 
     ghost invariant = { λ b. (b.frames ≡ min (2 ^ 64 - 1) (frames_of_states b.nfa.states (length b.nfa.states)))
-        × AreOf b.nfa b.candidates };
+        × AreOf b.nfa b.candidates × (b.longest ≡ max_len b.nfa) };
 }
 
 impl BoundedBacktracker {
@@ -61,11 +63,13 @@ impl BoundedBacktracker {
         ensures { result ≡ record { nfa = nfa; pre = pre } }
     {
         let frames = frames_of_all(nfa.states());
+        let longest = longest_span(&nfa);
         let candidates = Candidates::of(&nfa, pre);
         BoundedBacktracker {
             nfa,
             candidates,
             frames,
+            longest,
         }
     }
 
@@ -95,7 +99,7 @@ impl BoundedBacktracker {
     pub fn max_haystack_len(&self) -> usize
         ensures { result ≡ max_len self.now.nfa }
     {
-        (BITS / self.nfa.accounted_states().max(1)).saturating_sub(1)
+        self.longest
     }
 
     /// The pattern of the next match in the input's span. Each slot gets the place that the match leaves in it,
@@ -117,6 +121,7 @@ impl BoundedBacktracker {
         ensures err { IfErr result (IsRefusal self.now.nfa input.now) }
         ensures patterns { (r : Patterns) → IsNfaOf self.now.nfa r
             → next_match_in self.now.nfa input.now ≡ option_map (told_of r.which_captures) (next_in r input.now) }
+        ensures in_range { IfOk result (λ r. IfSome r (λ p. p < length self.now.nfa.starts)) }
         ensures slots { BeginsEachRun self.now.pre self.now.nfa input.now
             → IfOk result (λ _. IfSome (next_match_in self.now.nfa input.now) (HasSlots slots.new)) }
         ensures none { IfOk result (λ r. IfNone r (slots.new ≡ replicate (length slots.old) None)) }
@@ -155,6 +160,7 @@ impl BoundedBacktracker {
         ensures none { IfOk result (λ r. IfNone r (slots.new ≡ replicate (length slots.old) None)) }
         ensures refused { IfErr result (λ _. slots.new ≡ replicate (length slots.old) None) }
         ensures slots_within { AreWithin input.now slots.new }
+        ensures in_range { IfOk result (λ r. IfSome r (λ m. m.pattern < length self.now.nfa.starts)) }
         ensures within { IfOk result (λ r. IfSome r (LiesIn input.now)) }
         ensures cache { Fits self.now.nfa cache.new }
         ensures memory { cache.new.memory ≡ cache.old.memory }
@@ -170,4 +176,11 @@ impl BoundedBacktracker {
         };
         Ok(cache.find(&search, slots))
     }
+}
+
+/// The bytes of the longest span in which the bits suffice for the NFA.
+fn longest_span(nfa: &NFA) -> usize
+    ensures { result ≡ max_len nfa.now }
+{
+    (BITS / nfa.accounted_states().max(1)).saturating_sub(1)
 }

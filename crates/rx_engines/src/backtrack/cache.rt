@@ -3,7 +3,7 @@ ghost use Rattle.std.specs.Prelude.{◌≡◌, ◌^◌, vec_len, ℕ, ◌*◌, �
 ghost use Rattle.rx_model.specs.Search.{slot_value};
 ghost use Rattle.rx_search.specs.Matches.{match_value};
 ghost use Rattle.rx_nfa.specs.Nfa.{Nfa};
-ghost use Rattle.rx_engines.specs.Search.{IsInside, next_of};
+ghost use Rattle.rx_engines.specs.Search.{IsInside, is_offered, next_of};
 ghost use Rattle.rx_engines.specs.Backtrack.{extent, frames_of_span};
 ghost use Rattle.rx_engines.specs.Bounded.{Room, room_code, HasGrown, Fits};
 ghost use Rattle.rx_engines.specs.Engine.{accounted_memory};
@@ -52,6 +52,7 @@ impl Cache {
         let nfa = backtracker.get_nfa();
         let places = backtracker.max_haystack_len() + 1;
         let visited = Visited::new(alloc, places * nfa.states_len())?;
+        // So a search takes no memory (DECISIONS: the backtracker's cache has room for each frame that a search can leave).
         let stack = Stack::new(alloc, backtracker.frames().saturating_mul(places))?;
         let none = Slot::none();
         let slots = vec![in alloc; none; nfa.slot_len()]?;
@@ -148,8 +149,8 @@ impl Cache {
         requires room { extent search.now ≤ self.old.bits }
         requires frames { frames_of_span search.now ≤ self.old.stack }
         requires slots { search.now.slots ≤ self.old.slots }
-        ensures value { result ≡ option_map match_value (next_of search.now) }
-        ensures slots { IfSome (next_of search.now)
+        ensures value { result ≡ option_map match_value (next_of (is_offered search.now) search.now) }
+        ensures slots { IfSome (next_of (is_offered search.now) search.now)
             (λ m. (k : ℕ) → k < length slots.new → slice_index_or slots.new k None
             ≡ (if nat_lt k search.now.slots then slot_value m k else None)) }
         ensures none { IfNone result (slots.new ≡ replicate (length slots.old) None) }
@@ -182,8 +183,8 @@ fn find_slots(
     requires frames { frames_of_span search.now ≤ stack.old.room }
     requires width { width ≡ min (length slots.old) search.now.slots }
     requires scratch { search.now.slots ≤ length scratch.old }
-    ensures value { result ≡ option_map match_value (next_of search.now) }
-    ensures slots { IfSome (next_of search.now)
+    ensures value { result ≡ option_map match_value (next_of (is_offered search.now) search.now) }
+    ensures slots { IfSome (next_of (is_offered search.now) search.now)
         (λ m. (k : ℕ) → k < length slots.new → slice_index_or slots.new k None
         ≡ (if nat_lt k search.now.slots then slot_value m k else None)) }
     ensures none { IfNone result (slots.new ≡ replicate (length slots.old) None) }

@@ -2,7 +2,7 @@
 ghost use Rattle.std.specs.Prelude.{◌≡◌, ◌^◌, ℕ, ◌*◌, ◌<◌, ◌≤◌, length, None, IfSome, IfNone, option_map, replicate, slice_index_or};
 ghost use Rattle.rx_model.specs.Search.{slot_value};
 ghost use Rattle.rx_search.specs.Matches.{match_value};
-ghost use Rattle.rx_engines.specs.Search.{IsInside, next_of};
+ghost use Rattle.rx_engines.specs.Search.{IsInside, is_offered, next_of};
 ghost use Rattle.rx_engines.specs.Backtrack.{extent, frames_of_span};
 
 use crate::backtrack::attempt::attempt;
@@ -24,8 +24,8 @@ pub fn find(
     requires small { extent search.now < 2 ^ 63 }
     requires room { extent search.now ≤ 64 * length visited.old }
     requires frames { frames_of_span search.now ≤ stack.old.room }
-    ensures value { result ≡ option_map match_value (next_of search.now) }
-    ensures slots { IfSome (next_of search.now)
+    ensures value { result ≡ option_map match_value (next_of (is_offered search.now) search.now) }
+    ensures slots { IfSome (next_of (is_offered search.now) search.now)
         (λ m. (k : ℕ) → k < length slots.new → slice_index_or slots.new k None ≡ slot_value m k) }
     ensures room { length visited.new ≡ length visited.old }
     ensures stack { stack.new.room ≡ stack.old.room }

@@ -3,15 +3,14 @@ ghost use Rattle.std.specs.Prelude.{◌≡◌, ◌+◌, ◌<◌, ◌≤◌, ◌�
 ghost use Rattle.rx_nfa.specs.Automaton.{at, state_at};
 ghost use Rattle.rx_engines.specs.Walk.{explore_all};
 ghost use Rattle.rx_engines.specs.Simulation.{frames_of_state};
-ghost use Rattle.rx_engines.specs.Onward.{frames_of};
-ghost use Rattle.rx_engines.specs.Backtrack.{AllInside, Saves, Stepped};
+ghost use Rattle.rx_engines.specs.Onward.{frames_of, IsNear};
+ghost use Rattle.rx_engines.specs.Backtrack.{AllInside, Stepped};
 ghost use Rattle.rx_engines.specs.Search.{IsInside, graph_for};
 
-use crate::frame::Frame;
 use crate::onward::Onward;
 use crate::search::{Search, in_any, in_range};
 use crate::slots::Slot;
-use crate::stack::{Stack, choose};
+use crate::stack::{Stack, choose, save};
 use rx_nfa::State;
 use rx_search::{PatternID, StateID};
 
@@ -31,6 +30,7 @@ pub fn step(
     ensures stepped { Stepped (graph_for search.now) (at state place) result
         stack.old.items stack.new.items slots.old slots.new }
     ensures inside { AllInside search.now (frames_of result stack.new.items) }
+    ensures near { IsNear place result }
     ensures frames { length stack.new.items
         ≤ frames_of_state (state_at search.now.states.now state) + length stack.old.items }
     ensures room { stack.new.room ≡ stack.old.room }
@@ -64,23 +64,4 @@ pub fn step(
         State::Fail => Onward::Back,
         State::Match { pattern } => Onward::Stop(*pattern),
     }
-}
-
-/// Writes the place into the slot, where there is room for it. The old value is on the stack.
-fn save(stack: &mut Stack, slots: &mut [Slot], slot: usize, place: usize)
-    requires place { place < usize.MAX }
-    requires room { length stack.old.items < stack.old.room }
-    ensures saved { Saves slot place stack.old.items stack.new.items slots.old slots.new }
-    ensures frames { length stack.new.items ≤ 1 + length stack.old.items }
-    ensures room { stack.new.room ≡ stack.old.room }
-    ensures width { length slots.new ≡ length slots.old }
-{
-    if slot >= slots.len() {
-        return;
-    }
-    stack.push(Frame::Restore {
-        slot,
-        old: slots[slot],
-    });
-    slots[slot] = Slot::at(place);
 }

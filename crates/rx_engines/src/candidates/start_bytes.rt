@@ -10,6 +10,7 @@ use mark::mark_from;
 use rx_nfa::State;
 use rx_search::StateID;
 
+// A bound on a walk that is made once (DECISIONS: the bytes that can begin a run are a set of starts).
 /// At how many states the search for the set looks.
 const LOOKS: usize = 1000;
 

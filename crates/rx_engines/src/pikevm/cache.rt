@@ -1,18 +1,17 @@
 //! What a search of the PikeVM writes to.
-ghost use Rattle.std.specs.Prelude.{◌≡◌, vec_len, ℕ, ◌^◌, ◌*◌, ◌<◌, ◌≤◌, [], length, is_some, Some, None, IfOk, OnOk, OnErr, IsOk, max, IfSome, IfNone, option_map, replicate, nat_lt, slice_index_or, if◌then◌else◌};
-ghost use Rattle.rx_model.specs.Search.{slot_value};
-ghost use Rattle.rx_search.specs.Matches.{match_value};
-ghost use Rattle.rx_engines.specs.Search.{IsInside, next_of, answer_of};
+ghost use Rattle.std.specs.Prelude.{◌≡◌, ℕ, ◌^◌, ◌*◌, ◌<◌, ◌≤◌, [], length, is_some, Some, None, IfOk, OnOk, OnErr, IsOk, max, IfSome, IfNone, option_map, replicate, nat_lt, slice_index_or, if◌then◌else◌};
+ghost use Rattle.rx_engines.specs.Search.{IsInside, IsAnswered};
 ghost use Rattle.rx_engines.specs.Room.{Room, room_code, HasGrown};
+ghost use Rattle.rx_engines.specs.Buffers.{AreAlike, room_for};
 ghost use Rattle.rx_engines.specs.Engine.{PikeVMValue, HasRoom, Fits, accounted_memory};
 
 use crate::accounting::memory_of;
+use crate::pikevm::buffers::Buffers;
+use crate::pikevm::row::SlotRow;
 use crate::pikevm::simulate::simulate_slots;
 use crate::pikevm::threads::Threads;
 use crate::pikevm::vm::PikeVM;
 use crate::search::Search;
-use crate::slots::Slot;
-use crate::stack::Stack;
 use rx_search::{Match, Memory, NonMaxUsize};
 use std::alloc::Global;
 use std::marker::Model;
@@ -21,13 +20,7 @@ use std::marker::Model;
 /// no memory.
 #[derive(Drop)]
 pub struct Cache {
-    /// The threads at the place, and those at the next one.
-    curr: Threads,
-    next: Threads,
-    stack: Stack,
-    /// The slots of the thread that is followed, and those of the best match so far.
-    scratch: Vec<Slot>,
-    best: Vec<Slot>,
+    buffers: Buffers,
     memory: usize,
 }
 
@@ -37,20 +30,9 @@ impl Model for Cache {
 
     ghost coded = { room_code };
 
-    ghost view = { λ c. record {
-      states = c.curr.set.capacity;
-      cells = c.curr.table.cells;
-      stack = c.stack.room;
-      slots = vec_len c.best;
-      memory = c.memory;
-    } };
+    ghost view = { λ c. room_for c.buffers c.memory };
 
-    ghost invariant = { λ c. (c.curr.table.capacity ≡ c.curr.set.capacity)
-        × (c.next.set.capacity ≡ c.curr.set.capacity)
-        × (c.next.table.capacity ≡ c.curr.set.capacity)
-        × (c.next.table.cells ≡ c.curr.table.cells)
-        × (vec_len c.scratch ≡ vec_len c.best)
-        × (c.stack.items ≡ []) };
+    ghost invariant = { λ c. AreAlike c.buffers };
 }
 
 impl Cache {
@@ -79,6 +61,7 @@ impl Cache {
         let states = nfa.states_len();
         let slots = nfa.slot_len();
         let cells = states.saturating_mul(slots);
+        // Nothing else changes before there is room (DECISIONS: a cache fits where it has room enough).
         self.grow(alloc, states, cells, vm.frames(), slots)?;
         self.memory = memory_of(nfa);
         Ok(())
@@ -96,10 +79,18 @@ impl Cache {
     pub fn clone(&self, alloc: Global) -> Result<Cache, Memory>
         ensures { IfOk result (λ c. c ≡ self.now) }
     {
-        let states = self.curr.set.capacity();
-        let cells = self.curr.table.cells();
-        let frames = self.stack.room();
-        Cache::with_room(alloc, states, cells, frames, self.best.len(), self.memory)
+        let buffers = &self.buffers;
+        let states = buffers.even.set.capacity();
+        let cells = buffers.even.table.cells();
+        let frames = buffers.walk.stack.room();
+        Cache::with_room(
+            alloc,
+            states,
+            cells,
+            frames,
+            buffers.best.room(),
+            self.memory,
+        )
     }
 
     /// Room for so many states with so many slots in all, for so many frames, and for the slots of a match, for which so
@@ -117,20 +108,8 @@ impl Cache {
             ≡ record { states = states; cells = cells; stack = frames; slots = slots; memory = memory }) }
         ensures small { IfOk result (λ _. (cells < 2 ^ 63) × (frames < 2 ^ 63)) }
     {
-        let curr = Threads::new(alloc, states, cells)?;
-        let next = Threads::new(alloc, states, cells)?;
-        let stack = Stack::new(alloc, frames)?;
-        let none = Slot::none();
-        let scratch = vec![in alloc; none; slots]?;
-        let best = vec![in alloc; none; slots]?;
-        Ok(Cache {
-            curr,
-            next,
-            stack,
-            scratch,
-            best,
-            memory,
-        })
+        let buffers = Buffers::new(alloc, states, cells, frames, slots)?;
+        Ok(Cache { buffers, memory })
     }
 
     /// Grows what has less room than this, and keeps the rest.
@@ -151,7 +130,7 @@ impl Cache {
             → frames ≤ self.old.stack → slots ≤ self.old.slots → IsOk result }
     {
         self.grow_threads(alloc, states, cells)?;
-        self.stack.grow(alloc, frames)?;
+        self.buffers.walk.stack.grow(alloc, frames)?;
         self.grow_slots(alloc, slots)
     }
 
@@ -165,15 +144,16 @@ impl Cache {
         ensures err { OnErr result (self.new ≡ self.old) }
         ensures sure { states ≤ self.old.states → cells ≤ self.old.cells → IsOk result }
     {
-        if states <= self.curr.set.capacity() && cells <= self.curr.table.cells() {
+        let even = &self.buffers.even;
+        if states <= even.set.capacity() && cells <= even.table.cells() {
             return Ok(());
         }
-        let states = states.max(self.curr.set.capacity());
-        let cells = cells.max(self.curr.table.cells());
-        let curr = Threads::new(alloc, states, cells)?;
-        let next = Threads::new(alloc, states, cells)?;
-        self.curr = curr;
-        self.next = next;
+        let states = states.max(even.set.capacity());
+        let cells = cells.max(even.table.cells());
+        let even = Threads::new(alloc, states, cells)?;
+        let odd = Threads::new(alloc, states, cells)?;
+        self.buffers.even = even;
+        self.buffers.odd = odd;
         Ok(())
     }
 
@@ -183,14 +163,13 @@ impl Cache {
         ensures err { OnErr result (self.new ≡ self.old) }
         ensures sure { slots ≤ self.old.slots → IsOk result }
     {
-        if slots <= self.best.len() {
+        if slots <= self.buffers.best.room() {
             return Ok(());
         }
-        let none = Slot::none();
-        let scratch = vec![in alloc; none; slots]?;
-        let best = vec![in alloc; none; slots]?;
-        self.scratch = scratch;
-        self.best = best;
+        let row = SlotRow::new(alloc, slots)?;
+        let best = SlotRow::new(alloc, slots)?;
+        self.buffers.walk.slots = row;
+        self.buffers.best = best;
         Ok(())
     }
 
@@ -204,27 +183,12 @@ impl Cache {
     ) -> Option<Match>
         requires search { IsInside search.now }
         requires room { HasRoom search.now.states.now search.now.slots self.old }
-        ensures value { result ≡ option_map match_value (answer_of search.now earliest) }
-        ensures any { is_some result ≡ is_some (next_of search.now) }
-        ensures slots { IfSome (answer_of search.now earliest) (λ m. (k : ℕ) → k < length slots.new
-            → slice_index_or slots.new k None
-            ≡ (if nat_lt k search.now.slots then slot_value m k else None)) }
+        ensures answer { IsAnswered search.now earliest result slots.new }
         ensures cleared { IfNone result (slots.new ≡ replicate (length slots.old) None) }
         ensures room { self.new ≡ self.old }
     {
-        let states = search.states.len();
         let width = slots.len().min(search.slots);
-        self.curr.reset(states, width);
-        self.next.reset(states, width);
-        simulate_slots(
-            search,
-            earliest,
-            &mut self.curr,
-            &mut self.next,
-            &mut self.stack,
-            &mut self.scratch,
-            &mut self.best,
-            slots,
-        )
+        self.buffers.reset(search.states.len(), width);
+        simulate_slots(search, earliest, &mut self.buffers, slots)
     }
 }

@@ -86,7 +86,8 @@ impl SparseSet {
         self.dense[k]
     }
 
-    fn contains(&self, state: StateID) -> bool
+    /// Whether the state is in the set.
+    pub fn contains(&self, state: StateID) -> bool
         requires { state < self.now.room }
         ensures { result ≡ has self.now.items state }
     {

@@ -88,6 +88,7 @@ impl Table {
         &self.cells[from..from + self.width]
     }
 
+    /// The state gets this row. Where rows have no slots, none are copied.
     pub fn set(&mut self, state: StateID, start: usize, slots: &[Slot])
         requires state { state < length self.old.items }
         requires width { length slots.now ≡ self.old.width }
@@ -96,6 +97,9 @@ impl Table {
         } }
     {
         self.starts[state.as_usize()] = start;
+        if self.width == 0 {
+            return;
+        }
         let from = state.as_usize() * self.width;
         self.cells[from..from + self.width].copy_from_slice(slots);
     }

@@ -1,5 +1,5 @@
 //! The PikeVM.
-ghost use Rattle.std.specs.Prelude.{◌≡◌, ◌-◌, ◌^◌, min, length, None, replicate, is_some, IfOk, IfNone, IfSome, option_map};
+ghost use Rattle.std.specs.Prelude.{◌≡◌, ◌<◌, ◌-◌, ◌^◌, min, length, None, replicate, is_some, IfOk, IfNone, IfSome, option_map};
 ghost use Rattle.rx_model.specs.Search.{Patterns, told_of};
 ghost use Rattle.rx_search.specs.Input.{next_in};
 ghost use Rattle.rx_search.specs.Matches.{match_value};
@@ -38,11 +38,11 @@ impl Model for PikeVM {
     ghost use Rattle.std.specs.Prelude.{◌≡◌, ◌-◌, ◌^◌, min, length};
     ghost use Rattle.rx_engines.specs.Simulation.{frames_of_states};
     ghost use Rattle.rx_engines.specs.Engine.{PikeVMValue};
-    ghost use Rattle.rx_engines.specs.Candidates.{needles_of, AreOf};
+    ghost use Rattle.rx_engines.specs.Candidates.{AreOf};
 
     ghost Value = { PikeVMValue };
 
-    ghost view = { λ v. record { nfa = v.nfa; kind = v.kind; pre = needles_of v.candidates } };
+    ghost view = { λ v. record { nfa = v.nfa; kind = v.kind; pre = v.candidates.needles } };
 
     ghost invariant = { λ v. (v.frames ≡ min (2 ^ 64 - 1) (frames_of_states v.nfa.states (length v.nfa.states)))
         × AreOf v.nfa v.candidates };
@@ -115,6 +115,7 @@ impl PikeVM {
             → next_match_in self.now.nfa input.now ≡ option_map (told_of r.which_captures) (next_in r input.now) }
         ensures is_match { (r : Patterns) → IsNfaOf self.now.nfa r → BeginsEachRun self.now.pre self.now.nfa input.now
             → IfSome result (λ found. IsMatchWith r input.now (λ m. found ≡ match_value m)) }
+        ensures in_range { IfSome result (λ m. m.pattern < length self.now.nfa.starts) }
         ensures within { IfSome result (LiesIn input.now) }
         ensures cache { Fits self.now cache.new }
         ensures memory { cache.new.memory ≡ cache.old.memory }
@@ -139,6 +140,7 @@ impl PikeVM {
             → next_match_in self.now.nfa input.now ≡ option_map (told_of r.which_captures) (next_in r input.now) }
         ensures is_match { (r : Patterns) → IsNfaOf self.now.nfa r → BeginsEachRun self.now.pre self.now.nfa input.now
             → IfSome result (λ p. IsMatchWith r input.now (λ m. (p ≡ matched_pattern m) × HasSlots slots.new m)) }
+        ensures in_range { IfSome result (λ p. p < length self.now.nfa.starts) }
         ensures slots { BeginsEachRun self.now.pre self.now.nfa input.now
             → IfSome (answer_in self.now input.now) (HasSlots slots.new) }
         ensures none { IfNone result (slots.new ≡ replicate (length slots.old) None) }
@@ -172,6 +174,7 @@ impl PikeVM {
             → IfSome (answer_in self.now input.now) (HasSlots slots.new) }
         ensures none { IfNone result (slots.new ≡ replicate (length slots.old) None) }
         ensures slots_within { AreWithin input.now slots.new }
+        ensures in_range { IfSome result (λ m. m.pattern < length self.now.nfa.starts) }
         ensures within { IfSome result (LiesIn input.now) }
         ensures cache { Fits self.now cache.new }
         ensures memory { cache.new.memory ≡ cache.old.memory }

@@ -14,6 +14,10 @@ use std::alloc::Global;
 impl Hir {
     /// One of these, the first preferred. An alternation among them stands for its alternatives. Of none
     /// this is `fail`, of one it is that alternative.
+    ///
+    /// # Errors
+    ///
+    /// `Memory`, where there was no memory for the alternatives.
     pub fn alternation(alloc: Global, subs: Vec<Hir>) -> Result<Hir, Memory>
         ensures { IfOk result (λ h. h ≡ alternation_of subs.items) }
     {

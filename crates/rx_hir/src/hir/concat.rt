@@ -16,6 +16,10 @@ use std::alloc::Global;
 impl Hir {
     /// These, one after another. A concatenation among them stands for its parts, the empty expression for
     /// none, and adjacent literals are one. Of no parts this is the empty expression, of one it is that part.
+    ///
+    /// # Errors
+    ///
+    /// `Memory`, where there was no memory for the parts.
     pub fn concat(alloc: Global, subs: Vec<Hir>) -> Result<Hir, Memory>
         ensures { IfOk result (λ h. h ≡ concat_of subs.items) }
     {

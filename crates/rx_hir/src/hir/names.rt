@@ -13,6 +13,10 @@ use std::alloc::Global;
 
 /// The names of the groups of an expression: of group 0, which is the whole match and has none, and of each up to
 /// the greatest number. Where names differ at one number, the first stands there.
+///
+/// # Errors
+///
+/// `Memory`, where there was no memory for the names.
 pub fn group_names(alloc: Global, hir: &Hir) -> Result<Vec<Option<String>>, Memory>
     ensures { IfOk result (λ names. names_of names.items ≡ group_names hir.now) }
 {

@@ -16,6 +16,10 @@ use std::alloc::Global;
 impl Hir {
     /// A member of the class. Where it has one member this is the literal of that member's encoding, and
     /// where it has none `fail`.
+    ///
+    /// # Errors
+    ///
+    /// `Memory`, where there was no memory for a literal.
     pub fn class(alloc: Global, members: Class) -> Result<Hir, Memory>
         ensures { IfOk result (λ h. h ≡ class_of (class_view members)) }
     {

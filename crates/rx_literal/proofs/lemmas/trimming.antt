@@ -4,4 +4,9 @@ pub mod BeforeLemmas
 pub mod OrderedLemmas
 pub mod PartedLemmas
 pub mod InsertLemmas
-pub mod LentLemmas
+pub mod PlaceLemmas
+pub mod PickedLemmas
+pub mod SlotLemmas
+pub mod AloneLemmas
+pub mod AlikeLemmas
+pub mod DistinctLemmas

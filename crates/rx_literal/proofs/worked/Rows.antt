@@ -225,7 +225,8 @@ characters :
     × (prefixes (literal (letters 98 ++ 0xE2 ∷ 0x82 ∷ 0xAC ∷ [])) ≡ finite (inexact (letters 98 ++ 0xE2 ∷ 0x82 ∷ []) ∷ []))
     × (prefixes (literal (letters 97 ++ 0xF0 ∷ 0x9F ∷ 0x98 ∷ 0x80 ∷ [])) ≡ finite (inexact (letters 97 ++ 0xF0 ∷ 0x9F ∷ 0x98 ∷ []) ∷ []))
     × (suffixes (literal (0xC3 ∷ 0xA9 ∷ letters 99)) ≡ finite (inexact (0xA9 ∷ letters 99) ∷ []))
-    × (prefixes (turn (literal (letters 99) ∷ class (scalar_ranges ((233, 234) ∷ [])) ∷ [])) ≡ finite (inexact (letters 99 ++ 0xC3 ∷ []) ∷ inexact (letters 99 ++ 0xC3 ∷ []) ∷ []))
+    × (prefixes (turn (literal (letters 99) ∷ class (scalar_ranges ((233, 234) ∷ [])) ∷ [])) ≡ finite
+    (inexact (letters 99 ++ 0xC3 ∷ []) ∷ inexact (letters 99 ++ 0xC3 ∷ []) ∷ []))
     × (suffixes (turn (class (scalar_ranges ((233, 233) ∷ [])) ∷ literal (letters 99) ∷ [])) ≡ finite (inexact (0xA9 ∷ letters 99) ∷ []))
     × (trimmed_by_preference (finite (some (λ n. exact (97 ∷ 0xC3 ∷ 0xA9 ∷ n ∷ [])) 65)) ≡ finite (inexact (97 ∷ 0xC3 ∷ 0xA9 ∷ []) ∷ []))
     × (trimmed_by_preference (finite (some (λ n. inexact (97 ∷ 98 ∷ 0xC3 ∷ n ∷ [])) 65)) ≡ finite (inexact (97 ∷ 98 ∷ 0xC3 ∷ []) ∷ []))

@@ -1,5 +1,6 @@
 pub mod SieveLemmas
 pub mod PlacedLemmas
+pub mod StateLemmas
 pub mod RefineLemmas
 pub mod GraphLemmas
 pub mod SievedLemmas

@@ -1,3 +1,4 @@
+pub mod PartLemmas
 pub mod SpellLemmas
 pub mod CoverLemmas
 pub mod CutLemmas

@@ -11,5 +11,7 @@ pub mod SetLemmas
 pub mod LookLemmas
 pub mod OrderLemmas
 pub mod AddsLemmas
-pub mod SpanStates
-pub mod SpanBuilt
+pub mod PieceLemmas
+pub mod LastLemmas
+pub mod CountLemmas
+pub mod DigitsBuilt

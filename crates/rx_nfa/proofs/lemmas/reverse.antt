@@ -1,4 +1,3 @@
-pub mod AmongLemmas
 pub mod PartLemmas
 pub mod WalkLemmas
 pub mod BackLemmas

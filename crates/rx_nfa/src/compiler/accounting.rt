@@ -6,6 +6,7 @@ ghost use Rattle.rx_nfa.specs.Compiled.{slots_of, nfa_states};
 
 use rx_hir::{Hir, accounted_states, greatest_group};
 
+// Whichever groups are told (DECISIONS: `TooManyGroups` counts two slots for each group).
 /// How many slots a match has: two for each pattern, and two for each group that one names. At most `usize::MAX`.
 pub fn slot_len(exprs: &[Hir]) -> usize
     ensures { result ≡ capped (slots_of exprs.now) }

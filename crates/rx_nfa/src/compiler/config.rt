@@ -15,6 +15,7 @@ pub enum WhichCaptures {
     None,
 }
 
+// Contracts see what is left open (DECISIONS: a configuration's fields are optional).
 /// How NFAs are built. What is not set is as by default, or as in the configuration that this one is put over.
 #[derive(Clone, Copy)]
 pub struct Config {

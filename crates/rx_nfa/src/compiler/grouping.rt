@@ -6,6 +6,7 @@ use rx_hir::{Hir, group_names};
 use rx_search::{GroupInfo, Memory};
 use std::alloc::Global;
 
+// Also those that are not told (DECISIONS: an NFA's `GroupInfo` has for each pattern the groups from 0).
 /// The whole match and the groups up to the greatest one, of each pattern, with their names.
 pub fn group_info(alloc: Global, exprs: &[Hir]) -> Result<GroupInfo, Memory>
     requires { AreFew exprs.now }

@@ -9,6 +9,7 @@ use crate::needles;
 use rx_search::{Memory, Span};
 use std::alloc::Global;
 
+// One table look a byte, and nothing is kept of starts (DECISIONS: searches of many needles run an automaton in one flat table).
 /// An automaton that reads a text byte by byte, by a table with a row of 256 states for each state. In a state the last
 /// `depths` bytes may begin a needle, and no needle lies that begins before them. Where no state comes next, the needle
 /// that is sought begins in these bytes.

@@ -12,6 +12,7 @@ use marks::{mark, pair_at, stride_of};
 use rx_search::{Memory, Span};
 use std::alloc::Global;
 
+// One look serves up to eight places (DECISIONS: needle searches of several needles look at pairs of bytes).
 /// The numbers of pairs of bytes.
 const PAIRS: usize = 65536;
 
@@ -131,6 +132,7 @@ impl PlaceTable {
         requires within { at + self.now.stride < length text.now }
         ensures { result ≡ 0 → span_among (map vec_items self.now.needles.items) text.now at self.now.stride ≡ None }
     {
+        // One pair alone lets too much pass (DECISIONS: a window is passed over by two pairs).
         let here = self.places[pair_at(text, at + self.stride - 1)] as usize;
         let before = self.places[pair_at(text, at + self.stride.max(2) - 2)] as usize;
         here & (2 * before + 1)

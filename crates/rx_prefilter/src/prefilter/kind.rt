@@ -92,7 +92,9 @@ impl Kind {
         Kind::Memmem(FinderBuilder::new().build_forward_owned(needle))
     }
 
-    /// Where the first needle of the list lies that begins at the least place from `from` on.
+    /// Where the first needle of the list lies that begins at the least place from `from` on. The calls of the kit are
+    /// put in line, so that nothing stands between a caller and them.
+    #[inline(always)]
     #[tactic(auto, unfolding(crate::specs::Kinds::needles_of))]
     pub fn find(&self, text: &[u8], from: usize) -> Option<Span>
         requires { from ≤ length text.now }

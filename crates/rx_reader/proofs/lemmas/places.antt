@@ -1,4 +1,5 @@
 pub mod AheadLemmas
+pub mod CharsLemmas
 pub mod FrontLemmas
 pub mod GivesLemmas
 pub mod PlaceLemmas

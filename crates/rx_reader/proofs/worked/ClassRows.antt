@@ -56,8 +56,8 @@ sets_rows :
     (found (codes "[[:^alpha:]\\d-]") ≡ Ok (Bracketed false (Posix ascii.Alpha true ∷ Perl perl.Digit false ∷ single 45 ∷ []), 15)) ×
     (found (codes "[[:alpha:]-z]") ≡ Ok (Bracketed false (Posix ascii.Alpha false ∷ single 45 ∷ single 122 ∷ []), 13)) ×
     (found (codes "[^[:xdigit:]]") ≡ Ok (Bracketed true (Posix ascii.Xdigit false ∷ []), 13)) ×
-    (found (codes "[a\\p{^Lu}]") ≡ Ok (Bracketed false (single 97 ∷ Property (record { start = 2; end = 9 }) (codes "Lu") true ∷ []), 10)) ×
-    (found (codes "[\\W\\pL]") ≡ Ok (Bracketed false (Perl perl.Word true ∷ Property (record { start = 3; end = 6 }) (codes "L") false ∷ []), 7))
+    (found (codes "[a\\p{^Lu}]") ≡ Ok (Bracketed false (single 97 ∷ Property true (record { start = 2; end = 9 }) (codes "Lu") ∷ []), 10)) ×
+    (found (codes "[\\W\\pL]") ≡ Ok (Bracketed false (Perl perl.Word true ∷ Property false (record { start = 3; end = 6 }) (codes "L") ∷ []), 7))
 unfolding found_where found span single past_n past_while digits hex_digits hex_in_braces hex octal_digits property_in_braces property one_letter boundary lettered escape posix_name posix member class_range item_at class_item class_items class
 sets_rows = (refl, refl, refl, refl, refl)
 

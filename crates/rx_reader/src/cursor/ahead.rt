@@ -1,5 +1,5 @@
 //! What stands ahead of a place.
-ghost use Rattle.std.specs.Prelude.{◌≡◌, ◌≤◌, ◌<◌, length, false, if◌then◌else◌};
+ghost use Rattle.std.specs.Prelude.{◌≡◌, ◌≤◌, ◌<◌, chars, length, slice_get, false, if◌then◌else◌};
 ghost use Rattle.std.specs.Char.{is_whitespace};
 ghost use Rattle.rx_reader.specs.Reading.{begins, past};
 ghost use Rattle.rx_reader.specs.Ahead.{past_n, is_blank, is_commented, blank_len, skipped_len, skip};
@@ -21,44 +21,55 @@ fn is_commented(in_comment: bool, c: char) -> bool
     if in_comment { c != '\n' } else { c == '#' }
 }
 
-/// How many characters of white space and comments stand in front.
-fn blank_len(text: &[char]) -> usize
-    ensures value { result ≡ blank_len false text.now }
-    ensures bound { result ≤ length text.now }
+/// What stands between tokens in front of a text.
+#[derive(Clone, Copy)]
+struct Gap {
+    /// How many characters it has.
+    len: usize,
+    /// The character after it.
+    next: Option<char>,
+}
+
+/// The white space and comments in front.
+fn blank_gap(text: &str) -> Gap
+    ensures len { result.len ≡ blank_len false (chars text.now) }
+    ensures next { result.next ≡ slice_get (chars text.now) result.len }
 {
     let mut in_comment = false;
-    let mut n = 0;
-    while n < text.len() {
-        let c = text[n];
+    let mut len = 0;
+    for c in text.chars() {
         if !is_blank(in_comment, c) {
-            return n;
+            return Gap { len, next: Some(c) };
         }
         in_comment = is_commented(in_comment, c);
-        n += 1;
+        len += 1;
     }
-    n
+    Gap { len, next: None }
 }
 
-/// How many characters are skipped in front.
-fn skipped_len(flags: Flags, text: &[char]) -> usize
-    ensures value { result ≡ skipped_len flags text.now }
-    ensures bound { result ≤ length text.now }
+/// What is skipped in front.
+fn skipped_gap(flags: Flags, text: &str) -> Gap
+    ensures len { result.len ≡ skipped_len flags (chars text.now) }
+    ensures next { result.next ≡ slice_get (chars text.now) result.len }
 {
     if flags.ignore_whitespace {
-        blank_len(text)
+        blank_gap(text)
     } else {
-        0
+        Gap {
+            len: 0,
+            next: text.chars().next(),
+        }
     }
 }
 
-impl Cursor {
+impl<'a> Cursor<'a> {
     ghost use Rattle.rx_reader.specs.Input.{place, unread, HasRoom};
 
-    /// The characters that are still to read.
-    pub(crate) fn rest(&self) -> &[char]
-        ensures { result.now ≡ (place self.now).text }
+    /// What is still to read.
+    pub(crate) fn rest(&self) -> &str
+        ensures { chars result.now ≡ (place self.now).text }
     {
-        &self.chars[self.pos..]
+        self.rest
     }
 
     /// Moves past so many characters.
@@ -83,8 +94,8 @@ impl Cursor {
         if !flags.ignore_whitespace {
             return;
         }
-        let count = blank_len(self.rest());
-        self.bump_by(count);
+        let gap = blank_gap(self.rest);
+        self.bump_by(gap.len);
     }
 
     /// Moves past a `?`, if it stands at the position.
@@ -108,11 +119,10 @@ impl Cursor {
         ensures progress { unread self.new ≤ unread self.old }
         ensures kept { HasRoom self.old → HasRoom self.new }
     {
-        let rest = self.rest();
-        let count = skipped_len(flags, rest);
-        let lazy = rest[count..].starts_with(&['?']);
+        let gap = skipped_gap(flags, self.rest);
+        let lazy = gap.next == Some('?');
         if lazy {
-            self.bump_by(count);
+            self.bump_by(gap.len);
             self.bump();
         }
         lazy

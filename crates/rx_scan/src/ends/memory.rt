@@ -157,6 +157,7 @@ impl KeptSure {
         ensures { Gains self.old self.new piece.now }
     {
         if self.is_whole && self.held.extend_from_slice(piece).is_err() {
+            // The piece is taken all the same (DECISIONS: a sink in memory never fails for want of memory).
             self.is_whole = false;
         }
     }

@@ -31,6 +31,7 @@ impl<R: Read> StandardInput<R> {
 }
 
 impl<R: Read> Source for StandardInput<R> {
+    // So `run` over a reader of known bytes is proved too (DECISIONS: `StandardInput` tells what its reader tells).
     ghost left = { λ s. R.remaining s.reader };
 
     ghost faults = { λ s. s.faults };

@@ -1,5 +1,6 @@
 //! The strategy that runs engines over an NFA.
-ghost use Rattle.std.specs.Prelude.{◌≡◌, ◌≤◌, ◌+◌, ◌-◌, ◌*◌, ◌^◌, min, List, true, false, length, None, replicate, is_some, IfOk, OnOk, OnErr, IsOk, IfNone, IfSome, IsSomeAnd, IsTrue, MatchOption};
+ghost use Rattle.std.specs.Prelude.{◌≡◌, ◌≤◌, ◌<◌, ◌+◌, ◌-◌, ◌*◌, ◌^◌, min, List, true, false, length, None, replicate, is_some};
+ghost use Rattle.std.specs.Prelude.{IfOk, OnOk, OnErr, IsOk, IfNone, IfSome, IsSomeAnd, IsTrue, MatchOption};
 ghost use Rattle.rx_model.specs.Expression.{Expression, alternation};
 ghost use Rattle.rx_model.specs.Search.{Patterns};
 ghost use Rattle.rx_search.specs.Input.{IsSpanned, next_in, span_len};
@@ -11,7 +12,7 @@ ghost use Rattle.rx_hir.specs.PropertiesViews.{AreOf};
 ghost use Rattle.rx_engines.specs.Bounded.{Fits as FitsBounded, max_len};
 ghost use Rattle.rx_engines.specs.Needles.{BeginsEachRun};
 ghost use Rattle.rx_search.specs.Answer.{IsAnswer, AreSlotsOfAnswer, TellsWhether};
-ghost use Rattle.rx_strategy.specs.Cache.{FitsCore, FitsBacktracker, FitsAsBefore, backtrack_memory, memory_of, accounted_backtrack, accounted_core};
+ghost use Rattle.rx_strategy.specs.Cache.{FitsCore, FitsBacktracker, FitsAsBefore, StillFits, backtrack_memory, memory_of, accounted_backtrack, accounted_core};
 ghost use Rattle.rx_strategy.specs.Config.{kind_of, captures_of, has_backtracker};
 ghost use Rattle.rx_strategy.specs.Core.{CoreValue, IsCoreFor, AreKnownOf, IsSearched};
 ghost use Rattle.rx_strategy.specs.Impossible.{is_impossible};
@@ -157,6 +158,7 @@ impl Core {
         ensures memory { OnOk result (memory_of cache.new ≡ accounted_core self.now) }
         ensures err { OnErr result (FitsAsBefore cache.old cache.new) }
         ensures sure { FitsCore self.now cache.old → IsOk result }
+        ensures kept { StillFits cache.old cache.new }
     {
         cache.pikevm.reset(alloc, &self.pikevm)?;
         let backtrack = self.reset_backtrack(alloc, &mut cache.backtrack)?;
@@ -197,10 +199,11 @@ impl Core {
     pub(crate) fn is_match(&self, cache: &mut Cache, input: &Input<'_>) -> bool
         requires fits { FitsCore self.now cache.old }
         requires spanned { IsSpanned input.now }
-        ensures value { TellsWhether (IsCoreFor self.now) input.now result }
+        ensures value { TellsWhether (IsCoreFor self.now) self.now.pre input.now result }
         ensures cache { FitsCore self.now cache.new }
         ensures memory { memory_of cache.new ≡ memory_of cache.old }
     {
+        // It can stop at the first match (DECISIONS: `is_match` always asks the `PikeVM`).
         self.pikevm.is_match(&mut cache.pikevm, input)
     }
 
@@ -213,9 +216,10 @@ impl Core {
     ) -> Option<Match>
         requires fits { FitsCore self.now cache.old }
         requires spanned { IsSpanned input.now }
-        ensures answer { IsAnswer (IsCoreFor self.now) self.now.kind input.now match_value result }
-        ensures slots { AreSlotsOfAnswer (IsCoreFor self.now) self.now.kind input.now match_value slots.new result }
+        ensures answer { IsAnswer (IsCoreFor self.now) self.now.pre self.now.kind input.now match_value result }
+        ensures slots { AreSlotsOfAnswer (IsCoreFor self.now) self.now.pre self.now.kind input.now match_value slots.new result }
         ensures within { IfSome result (LiesIn input.now) }
+        ensures in_range { IfSome result (λ m. m.pattern < length self.now.nfa.starts) }
         ensures none { IfNone result (slots.new ≡ replicate (length slots.old) None) }
         ensures slots_within { AreWithin input.now slots.new }
         ensures cache { FitsCore self.now cache.new }
@@ -249,11 +253,13 @@ impl Core {
         requires { FitsCore self.now cache.old }
         ensures answer { BeginsEachRun self.now.pre self.now.nfa input.now → IsSearched self.now.nfa input.now slots.new result }
         ensures within { IfSome result (LiesIn input.now) }
+        ensures in_range { IfSome result (λ m. m.pattern < length self.now.nfa.starts) }
         ensures slots_within { AreWithin input.now slots.new }
         ensures none { IfNone result (slots.new ≡ replicate (length slots.old) None) }
         ensures cache { FitsCore self.now cache.new }
         ensures memory { memory_of cache.new ≡ memory_of cache.old }
     {
+        // The choice, and then one call (DECISIONS: a core asks first which engine serves).
         match self.nofail_for(input) {
             Nofail::Backtrack(engine) => find_by_backtracking(
                 engine,
@@ -315,6 +321,7 @@ fn find_by_backtracking(
     requires short { span_len input.now ≤ max_len engine.now.nfa }
     ensures answer { BeginsEachRun engine.now.pre engine.now.nfa input.now → IsSearched engine.now.nfa input.now slots.new result }
     ensures within { IfSome result (LiesIn input.now) }
+    ensures in_range { IfSome result (λ m. m.pattern < length engine.now.nfa.starts) }
     ensures slots_within { AreWithin input.now slots.new }
     ensures none { IfNone result (slots.new ≡ replicate (length slots.old) None) }
     ensures cache { IsSomeAnd cache.new (FitsBounded engine.now.nfa) }

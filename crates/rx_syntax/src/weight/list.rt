@@ -5,9 +5,9 @@ ghost use Rattle.rx_syntax.specs.Pattern.{reads};
 ghost use Rattle.rx_syntax.specs.Patterns.{all_translated, each_read, RefusesAll, IsWithin};
 ghost use Rattle.rx_syntax.specs.Weight.{Weighs, AreWeightsOf};
 
+use super::known::KnownWeights;
 use super::syntax::weigh;
 use super::{Weight, Weights};
-use crate::known::KnownSets;
 use crate::patterns::{PatternsError, refused};
 use rx_reader::{Ast, Config, ParseError, read};
 use std::alloc::Global;
@@ -15,15 +15,21 @@ use std::alloc::Global;
 /// What the expressions of the syntax trees weigh together, before one is made.
 ///
 /// The refusal is that of the first pattern that translation refuses.
+///
+/// # Errors
+///
+/// `Syntax`, the number of the first pattern that is refused, counted from 0, with its refusal; `Memory`, where
+/// there was no memory.
 pub fn weigh_all(alloc: Global, asts: &[Ast], config: &Config) -> Result<Weights, PatternsError>
     ensures value { MatchResult result
         (AreWeightsOf (all_translated config.now asts.now) (length asts.now))
         (λ e. RefusesAll e (all_translated config.now asts.now)) }
     ensures within { IfErr result (λ e. IsWithin e (length asts.now)) }
 {
+    // No expression of a pattern is made for it (DECISIONS: patterns are weighed before an expression is made of one).
     let mut count = 0;
     let mut sum = Sum::new();
-    let mut known = KnownSets::new(alloc);
+    let mut known = KnownWeights::new(alloc);
     for ast in asts {
         match weigh(alloc, ast, config, &mut known) {
             Ok(weight) => {
@@ -40,6 +46,11 @@ pub fn weigh_all(alloc: Global, asts: &[Ast], config: &Config) -> Result<Weights
 ///
 /// A pattern is read and weighed before the next one is read, so the refusal is that of the first pattern that reading
 /// or translation refuses.
+///
+/// # Errors
+///
+/// `Syntax`, the number of the first pattern that is refused, counted from 0, with its refusal; `Memory`, where
+/// there was no memory.
 pub fn weigh_each(
     alloc: Global,
     patterns: &[&str],
@@ -52,8 +63,9 @@ pub fn weigh_each(
 {
     let mut count = 0;
     let mut sum = Sum::new();
+    let mut known = KnownWeights::new(alloc);
     for pattern in patterns {
-        match weigh_text(alloc, pattern, config) {
+        match weigh_text(alloc, pattern, config, &mut known) {
             Ok(weight) => {
                 sum = sum.with(weight);
                 count += 1;
@@ -64,11 +76,16 @@ pub fn weigh_each(
     Ok(sum.weights())
 }
 
-fn weigh_text(alloc: Global, pattern: &str, config: &Config) -> Result<Weight, ParseError>
+fn weigh_text(
+    alloc: Global,
+    pattern: &str,
+    config: &Config,
+    known: &mut KnownWeights,
+) -> Result<Weight, ParseError>
     ensures { Weighs result (reads config.now (chars pattern.now)) }
 {
     let ast = read(alloc, pattern, config)?;
-    weigh(alloc, &ast, config, &mut KnownSets::new(alloc))
+    weigh(alloc, &ast, config, known)
 }
 
 /// Sums over patterns: half of their slots, and their states.

@@ -9,9 +9,10 @@ ghost use Rattle.rx_syntax.specs.Literals.{character, in_either_case};
 ghost use Rattle.rx_syntax.specs.Weight.{weight_of, Weighs};
 ghost use Rattle.rx_syntax.specs.Row.{IsRow};
 
+use super::known::KnownWeights;
 use super::{Weight, choice_weight, either_of};
 use crate::characters::{character, in_either_case, literal};
-use crate::known::KnownSets;
+use crate::set::named_set;
 use crate::translate::atom;
 use rx_reader::{Ast, AstKind, Atom, Config, Flags, Item, ParseError, Piece};
 use rx_search::Memory;
@@ -23,7 +24,7 @@ pub(super) fn weigh(
     alloc: Global,
     ast: &Ast,
     config: &Config,
-    known: &mut KnownSets,
+    known: &mut KnownWeights,
 ) -> Result<Weight, ParseError>
     ensures { Weighs result (translated config.now ast.now) }
 {
@@ -47,6 +48,7 @@ pub(super) fn weigh(
         }
         AstKind::Concat(items) => weigh_items(alloc, items, config, known),
         AstKind::Alternation(branches) => weigh_branches(alloc, branches, config, known),
+        AstKind::Branch(items) => weigh_items(alloc, items, config, known),
     }
 }
 
@@ -63,11 +65,15 @@ fn weigh_atom(
     flags: Flags,
     piece: Piece,
     own: &Atom,
-    known: &mut KnownSets,
+    known: &mut KnownWeights,
 ) -> Result<Weight, ParseError>
     ensures { Weighs result (atom_of config.now flags piece own.now) }
 {
-    let hir = atom(alloc, config, flags, piece, own, known)?;
+    if let Some(key) = named_set(alloc, flags, piece, own)? {
+        return Ok(known.weight(key)?);
+    }
+    // There is no second definition of it (DECISIONS: the weight of an atom is that of its expression).
+    let hir = atom(alloc, config, flags, piece, own, known.sets())?;
     Ok(Weight::of(&hir))
 }
 
@@ -77,7 +83,7 @@ fn weigh_branches(
     alloc: Global,
     branches: &[Ast],
     config: &Config,
-    known: &mut KnownSets,
+    known: &mut KnownWeights,
 ) -> Result<Weight, ParseError>
     ensures { Weighs result (choice_of config.now branches.now) }
 {
@@ -94,7 +100,7 @@ fn weigh_items(
     alloc: Global,
     items: &[Item],
     config: &Config,
-    known: &mut KnownSets,
+    known: &mut KnownWeights,
 ) -> Result<Weight, ParseError>
     ensures { Weighs result (row_of config.now items.now) }
 {

@@ -13,10 +13,12 @@ use Rattle.rx_class.proofs.folding.push_joined.Goals as goal
 abbrev begins : ℕ → ℕ × ℕ → Bool
 begins low p = nat_lt p.0 low
 
-point : (c : goal.After-partition_point-start) → IsPartitionPoint (λ y. begins c.args.low y ≡ true) (λ y. begins c.args.low y ≡ false) fold_pairs c.partition_point-start.result
+point : (c : goal.After-partition_point-start) → IsPartitionPoint (λ y. begins c.args.low y ≡ true) (λ y. begins c.args.low y ≡ false) fold_pairs
+    c.partition_point-start.result
 point c =
     let sorted = subst (IsNonDecreasingBy (λ (p : ℕ × ℕ). p.0)) (sym c.fold_pairs-pairs.ensures.table) fold_pairs-sorted in
-    subst (λ xs. IsPartitionPoint (λ y. begins c.args.low y ≡ true) (λ y. begins c.args.low y ≡ false) xs c.partition_point-start.result) c.fold_pairs-pairs.ensures.table
+    subst (λ xs. IsPartitionPoint (λ y. begins c.args.low y ≡ true) (λ y. begins c.args.low y ≡ false) xs c.partition_point-start.result)
+    c.fold_pairs-pairs.ensures.table
     (c.partition_point-start.ensures.partitioned (begins c.args.low) (always_returns_same _ _ _ (λ a r f k. search (rules, of_calls)))
     (IsPartitionedBy-ltb (λ (p : ℕ × ℕ). p.0) c.fold_pairs-pairs.result.now c.args.low sorted))
 
@@ -25,7 +27,8 @@ loop-i-init c = (
   (λ k d from within. ltb-false _ c.args.low ((point c).1 k d from within)),
   omega arith,
   ap (λ ys. c.args.found.now.items ++ ys)
-      (joined-skip c.partition_point-start.result fold_pairs (c.args.low, c.args.high) (λ j d lt within. ltb-true _ c.args.low ((point c).0 j d (omega arith) lt))),
+      (joined-skip c.partition_point-start.result fold_pairs (c.args.low, c.args.high)
+      (λ j d lt within. ltb-true _ c.args.low ((point c).0 j d (omega arith) lt))),
 )
 
 pub returns-then-from-member : goal.returns-then-from-member
@@ -33,7 +36,8 @@ returns-then-from-member c =
     let i = c.loop-i.i in
     let within : i < length fold_pairs = omega (arith, c.loop-i-test.true, ap length c.fold_pairs-pairs.ensures.table) in
     let here = ap (λ (ps : List (ℕ × ℕ)). (get_or ps i (0, 0)).0) c.fold_pairs-pairs.ensures.table in
-    let done = joined-done fold_pairs i (c.args.low, c.args.high) (0, 0) fold_pairs-sorted within (omega (arith, here, c.if-from-member.true, c.from.ensures)) in
+    let done =
+    joined-done fold_pairs i (c.args.low, c.args.high) (0, 0) fold_pairs-sorted within (omega (arith, here, c.if-from-member.true, c.from.ensures)) in
     sym (append-nil c.loop-i.found.items) ∙ ap (λ ys. c.loop-i.found.items ++ ys) (sym done) ∙ c.loop-i.invariant.2
 
 pub push_scalar-requires : goal.push_scalar-requires

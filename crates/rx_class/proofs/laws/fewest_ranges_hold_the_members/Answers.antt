@@ -11,7 +11,8 @@ returns c = record {
     fewest-fewest next_scalar IsScalar scalars-succeed rs,
     scalars-from-ends (fewest next_scalar rs) (fewest-ends next_scalar IsScalar scalars-succeed rs (ends-from-scalars rs ends)),
   );
-  one_list_of_scalars = λ qs rs h k same. fewest-unique next_scalar IsScalar scalars-succeed qs rs h.0 k.0 (ends-from-scalars qs h.1) (ends-from-scalars rs k.1) same;
+  one_list_of_scalars = λ qs rs h k same. fewest-unique next_scalar IsScalar scalars-succeed qs rs h.0 k.0 (ends-from-scalars qs h.1) (ends-from-scalars rs k.1)
+      same;
   bytes = λ rs n. fewest-members next_byte IsAny bytes-succeed rs (ends-any rs) n tt;
   byte_ranges = λ rs. fewest-fewest next_byte IsAny bytes-succeed rs;
   one_list_of_bytes = λ qs rs h k same. fewest-unique next_byte IsAny bytes-succeed qs rs h k (ends-any qs) (ends-any rs) (λ n _. same n);

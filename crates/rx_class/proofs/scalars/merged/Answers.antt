@@ -1,4 +1,4 @@
-use Rattle.std.proofs.Common.{◌≡◌, ℕ, [], ◌∙◌, rules, subst, sym, ap}
+use Rattle.std.proofs.Common.{ℕ, [], ◌∙◌, rules, subst, sym, ap}
 use Rattle.std.specs.List.Sorted.{IsNonDecreasingBy}
 use Rattle.std.proofs.lemmas.List.Sorted.{IsNonDecreasingBy-from_sort, answers_always}
 use Rattle.rx_class.specs.Merged.{add_all}
@@ -9,7 +9,8 @@ use Rattle.rx_class.proofs.scalars.merged.Goals as goal
 pub returns-clause-value : goal.returns-clause-value
 returns-clause-value c =
     let up : IsNonDecreasingBy (λ (r : ℕ × ℕ). r.0) c.sort_unstable_by_key.new.self.items =
-    IsNonDecreasingBy-from_sort (λ (r : ℕ × ℕ). r.0) _ (c.sort_unstable_by_key.ensures.sorted (λ (r : ℕ × ℕ). r.0) (answers_always _ _ _ (λ f a r g h. search rules))) in
+    IsNonDecreasingBy-from_sort (λ (r : ℕ × ℕ). r.0) _ (c.sort_unstable_by_key.ensures.sorted (λ (r : ℕ × ℕ). r.0)
+    (answers_always _ _ _ (λ f a r g h. search rules))) in
     let moved = rw c.in_ok-sorted.ensures.items at c.sort_unstable_by_key.ensures.permutation in
     let held = sorted-scalars c.args.ranges.now c.sort_unstable_by_key.new.self.items moved up
     (subst HaveScalarEnds c.deref.ensures.value c.in_ok-found.ensures.ends) in
@@ -18,7 +19,8 @@ returns-clause-value c =
 pub returns-clause-fewest : goal.returns-clause-fewest
 returns-clause-fewest c =
     let up : IsNonDecreasingBy (λ (r : ℕ × ℕ). r.0) c.sort_unstable_by_key.new.self.items =
-    IsNonDecreasingBy-from_sort (λ (r : ℕ × ℕ). r.0) _ (c.sort_unstable_by_key.ensures.sorted (λ (r : ℕ × ℕ). r.0) (answers_always _ _ _ (λ f a r g h. search rules))) in
+    IsNonDecreasingBy-from_sort (λ (r : ℕ × ℕ). r.0) _ (c.sort_unstable_by_key.ensures.sorted (λ (r : ℕ × ℕ). r.0)
+    (answers_always _ _ _ (λ f a r g h. search rules))) in
     let moved = rw c.in_ok-sorted.ensures.items at c.sort_unstable_by_key.ensures.permutation in
     let held = sorted-scalars c.args.ranges.now c.sort_unstable_by_key.new.self.items moved up
     (subst HaveScalarEnds c.deref.ensures.value c.in_ok-found.ensures.ends) in

@@ -2,7 +2,7 @@ use Rattle.std.proofs.Common.{◌≡◌, length, take, arith, sym, ap, subst, le
 use Rattle.std.specs.Prelude.{is_some}
 use Rattle.rx_prefilter.specs.Needles.{IsFirstSpan}
 use Rattle.rx_prefilter.proofs.FirstLemmas.{first_span-is_first}
-use Rattle.rx_engines.proofs.NeedleLemmas.{span_at-within}
+use Rattle.rx_engines.proofs.lemmas.candidates.NeedleLemmas.{span_at-within}
 use Rattle.rx_engines.proofs.candidates.next_needle.Goals as goal
 
 pub returns-in-Some : goal.returns-in-Some

@@ -1,6 +1,6 @@
 use Rattle.std.proofs.Common.{◌∙◌, ap, arith}
 use Rattle.std.specs.Prelude.{None, replicate}
-use Rattle.rx_engines.proofs.SlotLemmas.{all-empty}
+use Rattle.rx_engines.proofs.lemmas.answers.SlotLemmas.{all-empty}
 use Rattle.rx_engines.proofs.slots.empty.Goals as goal
 
 pub returns : goal.returns

@@ -18,7 +18,8 @@ literals_of_kind-returns-in-Empty t c =
 pub literals_of_kind-returns-in-Literal : goal.literals_of_kind-returns-in-Literal
 unfolding literals
 literals_of_kind-returns-in-Literal t c =
-    let e = ap (λ bytes. finite (cut c.args.side 100 (exact bytes) ∷ [])) c.deref.ensures.value ∙ sym (ap (λ k. literals c.args.side (kind_view k)) c.in-Literal.is) in
+    let e = ap (λ bytes. finite (cut c.args.side 100 (exact bytes) ∷ [])) c.deref.ensures.value
+    ∙ sym (ap (λ k. literals c.args.side (kind_view k)) c.in-Literal.is) in
     subst (λ v. IfOk c.text.result (λ s. s ≡ v)) e c.text.ensures
 
 pub literals_of_kind-returns-in-Class : goal.literals_of_kind-returns-in-Class
@@ -48,13 +49,15 @@ literals_of_kind-returns-in-Capture t c =
 pub literals_of_kind-returns-in-Concat : goal.literals_of_kind-returns-in-Concat
 unfolding literals
 literals_of_kind-returns-in-Concat t c =
-    let e = ap (λ ys. in_turn c.args.side one_empty (expressions ys)) c.deref-in-Concat.ensures.value ∙ sym (ap (λ k. literals c.args.side (kind_view k)) c.in-Concat.is) in
+    let e = ap (λ ys. in_turn c.args.side one_empty (expressions ys)) c.deref-in-Concat.ensures.value
+    ∙ sym (ap (λ k. literals c.args.side (kind_view k)) c.in-Concat.is) in
     subst (λ v. IfOk c.in_turn.result (λ s. s ≡ v)) e c.in_turn.ensures
 
 pub literals_of_kind-returns-in-Alternation : goal.literals_of_kind-returns-in-Alternation
 unfolding literals
 literals_of_kind-returns-in-Alternation t c =
-    let e = ap (λ ys. of_one c.args.side (expressions ys)) c.deref-in-Alternation.ensures.value ∙ sym (ap (λ k. literals c.args.side (kind_view k)) c.in-Alternation.is) in
+    let e = ap (λ ys. of_one c.args.side (expressions ys)) c.deref-in-Alternation.ensures.value
+    ∙ sym (ap (λ k. literals c.args.side (kind_view k)) c.in-Alternation.is) in
     subst (λ v. IfOk c.of_one.result (λ s. s ≡ v)) e c.of_one.ensures
 
 pub from_the_front-returns-then-not-has_exact : goal.from_the_front-returns-then-not-has_exact
@@ -102,24 +105,18 @@ from_the_back-literals-requires t c =
     let below = depth-below c.args.subs.now (c.loop-i.i - 1) c.index-subs-i.result within c.index-subs-i.is in
     (omega arith, tt)
 
-pub from_the_back-loop-i-preserved-in_ok-seq-2 : goal.from_the_back-loop-i-preserved-in_ok-seq-2
-from_the_back-loop-i-preserved-in_ok-seq-2 t c = record {
-  so_far = back-goes one_empty c.args.subs.now c.loop-i.i c.index-subs-i.result c.loop-i.seq c.in_ok-inner.inner c.in_ok-seq-2.seq c.loop-i-test.true c.loop-i.invariant.within
-      c.index-subs-i.is (sym c.has_exact.ensures ∙ c.if-not-has_exact.false) c.loop-i.invariant.so_far c.in_ok-inner.ensures c.in_ok-seq-2.ensures;
-  within = omega (arith, c.loop-i.invariant.within);
-}
-
 pub from_the_back-loop-i-preserved : goal.from_the_back-loop-i-preserved
 from_the_back-loop-i-preserved t c = record {
-  so_far = back-goes one_empty c.args.subs.now c.loop-i.i c.index-subs-i.result c.loop-i.seq c.in_ok-inner.inner c.in_ok-seq-2.seq c.loop-i-test.true c.loop-i.invariant.within
-      c.index-subs-i.is (sym c.has_exact.ensures ∙ c.if-not-has_exact.false) c.loop-i.invariant.so_far c.in_ok-inner.ensures c.in_ok-seq-2.ensures;
+  so_far = back-goes one_empty c.args.subs.now c.loop-i.i c.index-subs-i.result c.loop-i.seq c.in_ok-inner.inner c.in_ok-seq-2.seq
+      c.loop-i-test.true c.loop-i.invariant.within c.index-subs-i.is (sym c.has_exact.ensures ∙ c.if-not-has_exact.false) c.loop-i.invariant.so_far
+      c.in_ok-inner.ensures c.in_ok-seq-2.ensures;
   within = omega (arith, c.loop-i.invariant.within);
 }
 
 pub of_one-loop-sub-init : goal.of_one-loop-sub-init
 of_one-loop-sub-init t c =
     let all = of_one c.args.side (expressions c.args.subs.now) in
-    let none = c.finite-seq.ensures ∙ ap finite c.new.ensures.items in
+    let none = c.in_ok-seq.ensures in
     record {
       so_far = ap (λ s. union s all) none ∙ nothing-union all (of_one-few c.args.side (expressions c.args.subs.now));
       few = subst IsFew (sym none) (omega arith);
@@ -137,9 +134,9 @@ of_one-loop-sub-preserved t c =
     let seq = c.loop-sub.seq in
     let rest = of_one c.args.side (expressions (drop (c.loop-sub.sub-index + 1) c.args.subs.now)) in
     record {
-      so_far = ap (λ x. union x rest) c.in_ok-seq.ensures ∙ union-assoc seq (literals side h) rest
+      so_far = ap (λ x. union x rest) c.in_ok-seq-2.ensures ∙ union-assoc seq (literals side h) rest
           ∙ ap (union seq) (sym (one-step side c.args.subs.now c.loop-sub.sub-index h c.loop-sub-test.true c.sub-item.is)) ∙ c.loop-sub.invariant.so_far;
-      few = subst IsFew (sym c.in_ok-seq.ensures) (union-few seq (literals side h));
+      few = subst IsFew (sym c.in_ok-seq-2.ensures) (union-few seq (literals side h));
     }
 
 pub of_one-returns : goal.of_one-returns

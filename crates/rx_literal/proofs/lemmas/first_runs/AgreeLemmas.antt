@@ -39,7 +39,8 @@ module _ (hay : List ℕ) (end : ℕ) where
   unfolding limited
   agrees-limited f i v ls a = by_test (nat_lt 250 (length ls)) (λ e. rw e tt) (λ e. rw e a)
 
-  pub agrees-union : (f : ℕ → Option ℕ) (i : ℕ) (v w : Option ℕ) (ss ts : Seq) → AgreesIn f i v ss → AgreesIn f i w ts → AgreesIn f i (option_or v w) (union ss ts)
+  pub agrees-union : (f : ℕ → Option ℕ) (i : ℕ) (v w : Option ℕ) (ss ts : Seq) → AgreesIn f i v ss → AgreesIn f i w ts
+      → AgreesIn f i (option_or v w) (union ss ts)
   agrees-union f i v w infinite ts a b = tt
   agrees-union f i v w (finite ss) infinite a b = tt
   agrees-union f i v w (finite ss) (finite ts) a b = agrees-limited f i (option_or v w) (ss ++ ts) (agrees-append f i v w ss ts a b)
@@ -82,7 +83,8 @@ module _ (hay : List ℕ) (end : ℕ) where
   -- f tells of what comes after the first part, and h of what comes after the second one, whose literals are ts
   module _ (f h : ℕ → Option ℕ) (f_past : EndsBy f) (h_past : EndsBy h) (i : ℕ) (v : Option ℕ) where
     -- the first part's literal doesn't lie there
-    skip : (s : List ℕ) (ts rest : List Literal) → stands_at hay i s ≡ false → Agrees h i v rest → Agrees h i v (map (λ t. cut front 100 (extended front s t)) ts ++ rest)
+    skip : (s : List ℕ) (ts rest : List Literal) → stands_at hay i s ≡ false → Agrees h i v rest
+        → Agrees h i v (map (λ t. cut front 100 (extended front s t)) ts ++ rest)
     unfolding cut
     skip s [] rest not a = a
     skip s (exact t ∷ ts) rest not a =
@@ -120,7 +122,8 @@ module _ (hay : List ℕ) (end : ℕ) where
         (λ e. rw e refl)
 
     -- the first part's literal lies there
-    walk : (s : List ℕ) (w : Option ℕ) (ts rest : List Literal) → stands_at hay i s ≡ true → Agrees h (i + length s) w ts → ((x : ℕ) → w ≡ Some x → v ≡ Some x) → (w ≡ None → Agrees h i v rest)
+    walk : (s : List ℕ) (w : Option ℕ) (ts rest : List Literal) → stands_at hay i s ≡ true → Agrees h (i + length s) w ts → ((x : ℕ) → w ≡ Some x → v ≡ Some x)
+        → (w ≡ None → Agrees h i v rest)
         → Agrees h i v (map (λ t. cut front 100 (extended front s t)) ts ++ rest)
     unfolding cut
     walk s w [] rest is a some none = none a
@@ -137,7 +140,8 @@ module _ (hay : List ℕ) (end : ℕ) where
         (λ e. rw e (λ n. walk s w ts rest is (a (lies-after s t is (lies-longer (s ++ t) e n))) some none))
         (λ e. rw e (λ n. walk s w ts rest is (a (lies-after s t is n)) some none))
 
-    crossed-agrees : (ts : List Literal) → ((k : ℕ) → Agrees h k (f k) ts) → (ss : List Literal) → Agrees f i v ss → Agrees h i v (flat_map (extended_by_each front ts) ss)
+    crossed-agrees : (ts : List Literal) → ((k : ℕ) → Agrees h k (f k) ts) → (ss : List Literal) → Agrees f i v ss
+        → Agrees h i v (flat_map (extended_by_each front ts) ss)
     unfolding extended_by_each
     crossed-agrees ts each [] a = a
     crossed-agrees ts each (exact s ∷ ss) a =

@@ -10,7 +10,6 @@ use Rattle.rx_model.specs.Expression.{Expression, AreOrdered}
 use Rattle.rx_model.specs.Graph.{accept, build_group, build, build_pattern, at}
 use Rattle.rx_model.specs.Search.{Patterns, slot_of, first}
 use Rattle.rx_model.proofs.lemmas.runs.RunLemmas.{by_test}
-use Rattle.rx_model.proofs.lemmas.runs.MemberLemmas.{none-member}
 use Rattle.rx_model.proofs.lemmas.runs.FoundLemmas.{found-accepted}
 use Rattle.rx_model.proofs.lemmas.graphs.PlacedLemmas.{Placed-first, Placed-rest}
 use Rattle.rx_model.proofs.lemmas.meaning.CoverLemmas.{Placed-whole}
@@ -21,12 +20,14 @@ use Rattle.rx_literal.specs.Extract.{literals}
 use Rattle.rx_literal.specs.Trim.{trimmed_by_preference}
 use Rattle.rx_literal.specs.First.{lies, first_literal, first_there, all_exact, listed, IsLookFree}
 use Rattle.rx_model.specs.Onward.{within}
-use Rattle.rx_model.proofs.lemmas.runs.OrderLemmas.{g, ends, IsState, Stands, accepted-at, successors-in, ends-past}
+use Rattle.rx_model.proofs.lemmas.runs.OrderLemmas.{g, ends, Stands, ends-past}
 use Rattle.rx_model.proofs.lemmas.graphs.LocalLemmas.{local}
 use Rattle.rx_literal.proofs.lemmas.first_runs.ExactLemmas.{one, no_exact}
 use Rattle.rx_literal.proofs.lemmas.first_runs.AgreeLemmas.{Agrees, AgreesIn, EndsBy, gives-none}
 use Rattle.rx_literal.proofs.lemmas.first_runs.TellLemmas.{from, Tells-group, tells-all}
 use Rattle.rx_literal.proofs.lemmas.trimming.FirstTrimLemmas.{first-trimmed}
+use Rattle.rx_model.proofs.lemmas.runs.MemberLemmas.{none-among}
+use Rattle.rx_model.proofs.lemmas.graphs.StateLemmas.{IsStateOf, accepted-at, successors-in}
 
 first-tells : (r : Patterns) (hay : List ℕ) (end p : ℕ) (h : Expression) → AreOrdered h → IsLookFree h → (i : ℕ)
     → AgreesIn hay end (within end) i (option_map (λ (t : Trace). t.end) (first r hay end p h i)) (literals front h)
@@ -35,10 +36,10 @@ first-tells r hay end p h ordered free i =
     let b = build_group (Some (2 * p)) (build (slot_of r p) h) in
     let body = b 0 1 in
     let whole = accept p ∷ body.states in
-    let is : IsState r.terminator hay end whole 0 (accept p) = Placed-first whole 0 (accept p) body.states (Placed-whole whole) in
+    let is : IsStateOf whole 0 (accept p) = Placed-first whole 0 (accept p) body.states (Placed-whole whole) in
     let A : ℕ → Type 0 = λ s. 0 ≡ s in
     let closed : IsClosed (g r.terminator hay end whole) A = λ c d at_0 m.
-    absurd (none-member d (successors-in r.terminator hay end whole c d (accept p) (subst (λ q. IsState r.terminator hay end whole q (accept p)) at_0 is) m)) in
+    absurd (none-among d (successors-in r.terminator hay end whole c d (accept p) (subst (λ q. IsStateOf whole q (accept p)) at_0 is) m)) in
     let stands : Stands r.terminator hay end whole A 0 1 body.states = record {
       placed = Placed-rest whole 0 (accept p) body.states (Placed-whole whole);
       closed = closed;
@@ -50,7 +51,9 @@ first-tells r hay end p h ordered free i =
     by_test (nat_le j end)
     (λ e.
     let le : j ≤ end = grind (arith, nat_tests) in
-    rw e (ap (option_map (λ (t : Trace). t.end)) (found-accepted (g r.terminator hay end whole) nowhere (runs_of-bounded r.terminator hay end whole) (at 0 j) p refl (accepted-at r.terminator hay end whole 0 j (accept p) is le))))
+    rw e
+    (ap (option_map (λ (t : Trace). t.end)) (found-accepted (g r.terminator hay end whole) nowhere (runs_of-bounded r.terminator hay end whole) (at 0 j) p
+    refl (accepted-at r.terminator hay end whole 0 j (accept p) is le))))
     (λ e. let past : end < j = grind (arith, nat_tests) in rw e (ends-past r.terminator hay end whole (at 0 j) past)) in
     let same : from r.terminator hay end whole 0 ≡ within end = λ k j. final j k in
     subst (λ f. AgreesIn hay end f i (from r.terminator hay end whole body.start i) (literals front h)) same (t.tells A 0 1 stands i)
@@ -68,7 +71,8 @@ module _ (hay : List ℕ) (end i : ℕ) (v : Option ℕ) where
   some-no : {P : Type 0} (l : Literal) → ◌≡◌ {A = Option Literal} (Some l) None → P
   some-no l e = cc
 
-  pub agrees-some : (ls : List Literal) → Agrees hay end (within end) i v ls → (l : Literal) → first_literal hay end i ls ≡ Some l → is_exact l ≡ true → v ≡ Some (i + length (bytes_of l))
+  pub agrees-some : (ls : List Literal) → Agrees hay end (within end) i v ls → (l : Literal) → first_literal hay end i ls ≡ Some l → is_exact l ≡ true
+      → v ≡ Some (i + length (bytes_of l))
   agrees-some [] a l e all = no-literal l e
   agrees-some (exact s ∷ ls) a l e all =
       by_test (lies hay end i (exact s))
@@ -103,7 +107,8 @@ module _ (hay : List ℕ) (end i : ℕ) (v : Option ℕ) where
       (λ n. first-is_exact ls both.1 l (rw n at e))
 
   -- us are exact, and the first of them there is the first of ls
-  exact-there : (ls us : List Literal) → Agrees hay end (within end) i v ls → list_all is_exact us ≡ true → first_literal hay end i us ≡ first_literal hay end i ls → v ≡ first_there hay end i us
+  exact-there : (ls us : List Literal) → Agrees hay end (within end) i v ls → list_all is_exact us ≡ true
+      → first_literal hay end i us ≡ first_literal hay end i ls → v ≡ first_there hay end i us
   exact-there ls us a all same = by_first (first_literal hay end i us) refl
     where
       by_first : (o : Option Literal) → first_literal hay end i us ≡ o → v ≡ option_map (λ (l : Literal). i + length (bytes_of l)) o
@@ -114,10 +119,12 @@ module _ (hay : List ℕ) (end i : ℕ) (v : Option ℕ) where
   exact-seq infinite a all = no_exact all
   exact-seq (finite ls) a all = exact-there ls ls a all refl
 
-  pub exact-trimmed : (ss : Seq) → AgreesIn hay end (within end) i v ss → all_exact (trimmed_by_preference ss) ≡ true → v ≡ first_there hay end i (listed (trimmed_by_preference ss))
+  pub exact-trimmed : (ss : Seq) → AgreesIn hay end (within end) i v ss → all_exact (trimmed_by_preference ss) ≡ true
+      → v ≡ first_there hay end i (listed (trimmed_by_preference ss))
   unfolding trimmed_by_preference
   exact-trimmed infinite a all = no_exact all
-  exact-trimmed (finite ls) a all = exact-there ls (listed (trimmed_by_preference (finite ls))) a (listed-exact (trimmed_by_preference (finite ls)) all) (first-trimmed hay end i (finite ls) all)
+  exact-trimmed (finite ls) a all = exact-there ls (listed (trimmed_by_preference (finite ls))) a (listed-exact (trimmed_by_preference (finite ls)) all)
+      (first-trimmed hay end i (finite ls) all)
     where
       listed-exact : (us : Seq) → all_exact us ≡ true → list_all is_exact (listed us) ≡ true
       listed-exact infinite all = no_exact all
@@ -130,10 +137,13 @@ module _ (r : Patterns) (hay : List ℕ) (end p : ℕ) (h : Expression) (ordered
   pub exact-run : all_exact (literals front h) ≡ true → run_end ≡ first_there hay end i (listed (literals front h))
   exact-run all = exact-seq hay end i run_end (literals front h) (first-tells r hay end p h ordered free i) all
 
-  pub exact-trimmed-run : all_exact (trimmed_by_preference (literals front h)) ≡ true → run_end ≡ first_there hay end i (listed (trimmed_by_preference (literals front h)))
+  pub exact-trimmed-run : all_exact (trimmed_by_preference (literals front h)) ≡ true
+      → run_end ≡ first_there hay end i (listed (trimmed_by_preference (literals front h)))
   exact-trimmed-run all = exact-trimmed hay end i run_end (literals front h) (first-tells r hay end p h ordered free i) all
 
   -- the first that lies there, where it is exact, whatever the others are
-  pub first-exact-run : (ls : List Literal) → literals front h ≡ finite ls → (s : List ℕ) → first_literal hay end i ls ≡ Some (exact s) → run_end ≡ Some (i + length s)
+  pub first-exact-run : (ls : List Literal) → literals front h ≡ finite ls → (s : List ℕ) → first_literal hay end i ls ≡ Some (exact s)
+      → run_end ≡ Some (i + length s)
   first-exact-run ls e s first_is =
-      agrees-some hay end i run_end ls (subst (λ ss. AgreesIn hay end (within end) i run_end ss) e (first-tells r hay end p h ordered free i)) (exact s) first_is refl
+      agrees-some hay end i run_end ls (subst (λ ss. AgreesIn hay end (within end) i run_end ss) e (first-tells r hay end p h ordered free i)) (exact s)
+      first_is refl

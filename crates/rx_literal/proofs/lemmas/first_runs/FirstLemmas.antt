@@ -1,6 +1,6 @@
 -- The literals of a class: the first one that lies at a place is the encoding of the member that stands there.
-use Rattle.std.proofs.Common.{◌≡◌, ℕ, zero, suc, ◌+◌, ◌≤◌, ◌<◌, ◌⊎◌, Bool, true, false, ◌&&◌, List, [], ◌∷◌, ◌++◌, length, map, drop, take, refl, sym, ap, ◌∙◌, subst, inl, inr, arith}
-use Rattle.std.specs.Prelude.{nat_lt, nat_le, Option, Some, None, ◌||◌, encode_utf8, All, slice_index}
+use Rattle.std.proofs.Common.{◌≡◌, ℕ, zero, suc, ◌+◌, ◌≤◌, ◌<◌, ◌⊎◌, true, ◌&&◌, List, [], ◌∷◌, ◌++◌, length, map, drop, take, refl, sym, ap, ◌∙◌, subst, inl, inr, arith}
+use Rattle.std.specs.Prelude.{nat_lt, nat_le, Option, Some, None, encode_utf8, All, slice_index}
 use Rattle.std.specs.List.{flat_map}
 use Rattle.std.specs.Option.{option_or}
 use Rattle.std.specs.Char.{IsScalar}
@@ -18,6 +18,7 @@ use Rattle.rx_literal.specs.First.{all_exact, listed, IsLookFree}
 use Rattle.rx_model.specs.Onward.{after}
 use Rattle.rx_literal.proofs.lemmas.prefixes.ClassLemmas.{IsIn, members-in, scalar_step, byte_step}
 use Rattle.rx_literal.proofs.lemmas.first_runs.ExactLemmas.{one, first_end, no_exact}
+use Rattle.std.proofs.lemmas.Bool.{or_right}
 
 heads : (x y : ℕ) (xs ys : List ℕ) → (x ∷ xs) ≡ (y ∷ ys) → x ≡ y
 heads x y xs ys e = cc
@@ -60,12 +61,8 @@ module _ (next : ℕ → ℕ) (M : ℕ → Type 0) (rises : (low : ℕ) → low 
       (λ d h. let low = h.1 in let high = h.2 in let test : (nat_le r.0 d && nat_le d r.1) ≡ true = grind (arith, nat_tests) in (h.0, rw test refl))
       (numbers next n r.0 r.1) (numbers-each n r.0 r.1 (inl ends.0) ends.1))
       (each-weaker (λ d. M d × (is_member rs d ≡ true)) (λ d. M d × (is_member (r ∷ rs) d ≡ true))
-      (λ d h. (h.0, or-right (nat_le r.0 d && nat_le d r.1) (is_member rs d) h.1))
+      (λ d h. (h.0, or_right (nat_le r.0 d && nat_le d r.1) (is_member rs d) h.1))
       (flat_map (λ (q : ℕ × ℕ). numbers next n q.0 q.1) rs) (members-each n rs (λ k d lt. all (suc k) d (omega arith))))
-    where
-      or-right : (a b : Bool) → b ≡ true → (a || b) ≡ true
-      or-right true b e = refl
-      or-right false b e = e
 
 scalar_next : (low high : ℕ) → IsScalar low → IsScalar high → low ≤ high → IsScalar (next_scalar low) ⊎ (high < next_scalar low)
 scalar_next low high a b le =
@@ -107,7 +104,8 @@ module _ (hay : List ℕ) where
         elim there [
           | inl e ↦
               let now : one hay (encode d) f i ≡ after f len i = ap (λ x. one hay (encode x) f i) e ∙ is in
-              ap (λ x. option_or x (first_end hay f i (map exact (map encode ms)))) now ∙ idem (after f len i) (first_end hay f i (map exact (map encode ms))) (class-either ms h.1)
+              ap (λ x. option_or x (first_end hay f i (map exact (map encode ms)))) now
+              ∙ idem (after f len i) (first_end hay f i (map exact (map encode ms))) (class-either ms h.1)
           | inr later ↦
               let rest = class-some ms c h.1 later is in
               elim (literal-ends d h.0.0 h.0.1) [
@@ -148,8 +146,14 @@ module _ (hay : List ℕ) where
       (λ d m is stands.
       let long = length-encode d in
       let goes = stands_at_parts hay i (encode_utf8 d) stands in
-      ap (λ o. o) (member_len-of hay rs i (length (encode_utf8 d))
-      (d, m, is, long, ap (take (length (encode_utf8 d))) goes ∙ take_at (encode_utf8 d) (drop (i + length (encode_utf8 d)) hay) (length (encode_utf8 d)) refl)))
+      ap (λ o. o) (member_len-of hay rs i (length (encode_utf8 d)) (
+        d,
+        m,
+        is,
+        long,
+        ap (take (length (encode_utf8 d))) goes
+            ∙ take_at (encode_utf8 d) (drop (i + length (encode_utf8 d)) hay) (length (encode_utf8 d)) refl,
+      )))
       ms (members-each next_scalar IsScalar scalar_rises scalar_next 11 rs plain)
       (λ n e few.
       let m = member_len-is hay rs i n e in

@@ -1,9 +1,9 @@
 -- The prefixes of an expression without look-around tell its first run as long as the first that lie there are exact.
 use Rattle.std.proofs.Common.{◌≡◌, ℕ, zero, suc, ◌+◌, ◌-◌, ◌≤◌, ◌<◌, min, ◌⊎◌, Bool, true, false, ◌&&◌, List, [], ◌∷◌, length, map, refl, sym, ap, ◌∙◌, subst, inl, inr, arith, true≢false, length-append}
-use Rattle.std.specs.Prelude.{nat_lt, nat_le, nat_eq, Option, Some, None, option_map, if◌then◌else◌, ◌||◌, Contains}
+use Rattle.std.specs.Prelude.{nat_lt, nat_le, nat_eq, Option, Some, None, option_map, if◌then◌else◌, Contains}
 use Rattle.std.specs.List.{list_any, list_all}
 use Rattle.std.specs.Option.{option_or}
-use Rattle.std.proofs.lemmas.Bool.{and_parts}
+use Rattle.std.proofs.lemmas.Bool.{and_parts, or_right}
 use Rattle.std.proofs.lemmas.Bool.Decides.{nat_tests}
 use Rattle.rx_model.specs.Text.{Class, stands_at, scalar_ranges, byte_ranges}
 use Rattle.rx_model.specs.Length.{minimum_len, is_positive}
@@ -13,7 +13,7 @@ use Rattle.rx_model.specs.Expression.{Expression, Expressions, AreOrdered, AllOr
 use Rattle.rx_model.specs.Graph.{State, text, set, slot, choice, Builder, build_nothing, build_state, build_then, prefer, loop, loop_once, build_optional, copies, options, build_repetition, build_group, Parts, no_parts, build_beside, build_choice, build, build_in_turn, build_each, at, state_step}
 use Rattle.rx_model.proofs.lemmas.runs.RunLemmas.{by_test}
 use Rattle.rx_model.proofs.lemmas.runs.FirstLemmas.{found-is_run, none-is-some}
-use Rattle.rx_model.proofs.lemmas.runs.MemberLemmas.{choice-member, none-member}
+use Rattle.rx_model.proofs.lemmas.runs.MemberLemmas.{choice-member, none-among}
 use Rattle.rx_model.proofs.lemmas.runs.FoundLemmas.{found-step}
 use Rattle.rx_model.proofs.lemmas.runs.ReachLemmas.{found-outside}
 use Rattle.rx_model.proofs.lemmas.meaning.CutLemmas.{run-Leads}
@@ -30,11 +30,13 @@ use Rattle.rx_literal.specs.First.{lies, all_exact, listed, IsLookFree, AreLookF
 use Rattle.rx_model.specs.Onward.{after, either_first}
 use Rattle.rx_literal.proofs.lemmas.prefixes.PieceLemmas.{pieces-rise}
 use Rattle.rx_literal.proofs.lemmas.prefixes.BeginLemmas.{means-begins, stands-none}
-use Rattle.rx_model.proofs.lemmas.runs.OrderLemmas.{g, ends, end_of, end-written, or-none, IsState, Inside, Stands, Closes, ends-past, ends-state, successors-at, successors-past, accepted-at, accepted-past, prefer-cases, prefer-accepts, stands-first, stands-second, beside-first, beside-others, choice-parts, choice-is, starts-past, prefer-ends, prefer-past, Leads-slot, Leads-text, Leads-set, Closes-state, Closes-then, slot-target}
+use Rattle.rx_model.proofs.lemmas.runs.OrderLemmas.{g, ends, end_of, end-written, Inside, Stands, Closes, ends-past, ends-state, stands-first, stands-second, beside-first, beside-others, choice-parts, choice-is, starts-past, prefer-ends, prefer-past, Leads-slot, Leads-text, Leads-set, Closes-state, Closes-then, slot-target}
 use Rattle.rx_model.proofs.lemmas.graphs.LocalLemmas.{Target, Local, LocalOne, Local-Closes, Local-copies, Local-options, local, local_in_turn, local_each}
 use Rattle.rx_literal.proofs.lemmas.first_runs.ExactLemmas.{one, first_end, no_exact}
 use Rattle.rx_literal.proofs.lemmas.first_runs.FirstLemmas.{class-first}
 use Rattle.rx_literal.proofs.lemmas.first_runs.AgreeLemmas.{Agrees, AgreesIn, EndsBy, agrees-union, some_lies, loosened-agrees, gives-none, lies-longer, cross_on-agrees}
+use Rattle.rx_model.proofs.lemmas.graphs.StateLemmas.{IsStateOf, successors-at, accepted-at, successors-past, accepted-past, prefer-cases, prefer-accepts}
+use Rattle.rx_model.proofs.lemmas.runs.OptionLemmas.{or-none_right}
 
 module _ (terminator : ℕ) (hay : List ℕ) (end : ℕ) (whole : List State) where
   -- where first runs from a state end
@@ -69,16 +71,20 @@ module _ (terminator : ℕ) (hay : List ℕ) (end : ℕ) (whole : List State) wh
       split true f i = refl
       split false f i = refl
 
-      whole-agrees : (f : ℕ → Option ℕ) → EndsBy hay end f → (i : ℕ) (v : Option ℕ) → v ≡ one hay bytes f i → Agrees hay end f i v (cut front 100 (exact bytes) ∷ [])
+      whole-agrees : (f : ℕ → Option ℕ) → EndsBy hay end f → (i : ℕ) (v : Option ℕ) → v ≡ one hay bytes f i
+          → Agrees hay end f i v (cut front 100 (exact bytes) ∷ [])
       whole-agrees f past i v e =
           by_test (nat_lt 100 (length bytes))
           (λ more. rw more (λ not. e ∙ gives-none hay end f past i bytes (lies-longer hay end f f past past i v bytes more not)))
           (λ few. rw few ((λ x given. e ∙ given), (λ given. e ∙ given)))
 
-  exact-agrees : (f : ℕ → Option ℕ) (i : ℕ) (v : Option ℕ) (ls : List Literal) → list_all is_exact ls ≡ true → v ≡ first_end hay f i ls → Agrees hay end f i v ls
+  exact-agrees : (f : ℕ → Option ℕ) (i : ℕ) (v : Option ℕ) (ls : List Literal) → list_all is_exact ls ≡ true → v ≡ first_end hay f i ls
+      → Agrees hay end f i v ls
   exact-agrees f i v [] all e = e
-  exact-agrees f i v (exact s ∷ ls) all e =
-      ((λ x given. e ∙ ap (λ o. option_or o (first_end hay f i ls)) given), (λ given. exact-agrees f i v ls all (e ∙ ap (λ o. option_or o (first_end hay f i ls)) given)))
+  exact-agrees f i v (exact s ∷ ls) all e = (
+    (λ x given. e ∙ ap (λ o. option_or o (first_end hay f i ls)) given),
+    (λ given. exact-agrees f i v ls all (e ∙ ap (λ o. option_or o (first_end hay f i ls)) given)),
+  )
   exact-agrees f i v (inexact s ∷ ls) all e = no_exact all
 
   class-exact : (c : Class) → (class_literals c ≡ infinite) ⊎ (all_exact (class_literals c) ≡ true)
@@ -133,7 +139,8 @@ module _ (terminator : ℕ) (hay : List ℕ) (end : ℕ) (whole : List State) wh
         subst (λ v. AgreesIn hay end (from next) i v ss) (sym before) (subst (λ f. AgreesIn hay end f i (from (inner next base).start i) ss) after_body x));
   }
     where
-      inner_closes : Closes terminator hay end whole (build_state (slot (suc number))) → Closes terminator hay end whole (build_then body (build_state (slot (suc number))))
+      inner_closes : Closes terminator hay end whole (build_state (slot (suc number)))
+          → Closes terminator hay end whole (build_then body (build_state (slot (suc number))))
       inner_closes c = Closes-then terminator hay end whole body (build_state (slot (suc number))) (Local-Closes terminator hay end whole body l) c
 
   pub record TellsOne (parts : (next base : ℕ) → Parts) (ss : Seq) : Type 1 where
@@ -143,7 +150,8 @@ module _ (terminator : ℕ) (hay : List ℕ) (end : ℕ) (whole : List State) wh
   TellsOne-none : TellsOne no_parts (finite [])
   TellsOne-none = record { tells = λ A next base s i. refl }
 
-  TellsOne-beside : (first : Builder) (others : (next base : ℕ) → Parts) (ss ts : Seq) → Tells first ss → TellsOne others ts → TellsOne (build_beside first others) (union ss ts)
+  TellsOne-beside : (first : Builder) (others : (next base : ℕ) → Parts) (ss ts : Seq) → Tells first ss → TellsOne others ts
+      → TellsOne (build_beside first others) (union ss ts)
   TellsOne-beside first others ss ts a b = record {
     tells = λ A next base s i.
         (let f = first next base in
@@ -188,7 +196,7 @@ module _ (terminator : ℕ) (hay : List ℕ) (end : ℕ) (whole : List State) wh
       (λ e. grind (arith, nat_tests))
       (λ e.
       let past : end < j = grind (arith, nat_tests) in
-      absurd (none-member h.0 (subst (λ ds. Contains ds h.0) (successors-past terminator hay end whole (at q j) past) h.1)))
+      absurd (none-among h.0 (subst (λ ds. Contains ds h.0) (successors-past terminator hay end whole (at q j) past) h.1)))
 
   -- a part that means nothing within the end leads nowhere, whatever was passed
   module _ (b : Builder) (M : ℕ → ℕ → Type 0) (spells : (pattern final : ℕ) → Spells terminator hay end whole pattern final M b) (next base : ℕ) (placed : Placed whole base (b next base).states) (i : ℕ) (nothing : (j : ℕ) → j ≤ end → M i j → ⊥) (p : Passed) where
@@ -207,11 +215,13 @@ module _ (terminator : ℕ) (hay : List ℕ) (end : ℕ) (whole : List State) wh
         by_run : (o : Option (List Configuration)) → first_past (g terminator hay end whole) p (at (b next base).start i) ≡ o
             → option_map end_of (found (g terminator hay end whole) p (at (b next base).start i)) ≡ None
         by_run None e = ap (λ o. option_map end_of (option_map (trace (g terminator hay end whole) (at (b next base).start i)) o)) e
-        by_run (Some run) e = absurd (no-run run (found-is_run (g terminator hay end whole) (runs_of-bounded terminator hay end whole) run p (at (b next base).start i) e))
+        by_run (Some run) e = absurd
+            (no-run run (found-is_run (g terminator hay end whole) (runs_of-bounded terminator hay end whole) run p (at (b next base).start i) e))
 
   -- what is left of a choice between a body and the next state
-  module _ (A : ℕ → Type 0) (closed : IsClosed (g terminator hay end whole) A) (next : ℕ) (next_in : A next) (greedy : Bool) (q body : ℕ) (out : A q → ⊥) (is : IsState terminator hay end whole q (prefer greedy body next)) (i : ℕ) where
-    from-choice : (from q i ≡ either_first greedy (option_map end_of (found (g terminator hay end whole) (and_at (at q i) nowhere) (at body i))) (from next i)) ⊎ (from q i ≡ either_first greedy None (from next i))
+  module _ (A : ℕ → Type 0) (closed : IsClosed (g terminator hay end whole) A) (next : ℕ) (next_in : A next) (greedy : Bool) (q body : ℕ) (out : A q → ⊥) (is : IsStateOf whole q (prefer greedy body next)) (i : ℕ) where
+    from-choice : (from q i ≡ either_first greedy (option_map end_of (found (g terminator hay end whole) (and_at (at q i) nowhere) (at body i))) (from next i))
+        ⊎ (from q i ≡ either_first greedy None (from next i))
     from-choice =
         let G = g terminator hay end whole in
         let passed = and_at (at q i) nowhere in
@@ -220,7 +230,8 @@ module _ (terminator : ℕ) (hay : List ℕ) (end : ℕ) (whole : List State) wh
         let le : i ≤ end = grind (arith, nat_tests) in
         let exit : option_map end_of (found G passed (at next i)) ≡ from next i = ap (option_map end_of) (found-outside G A closed (at q i) out nowhere (at next i) next_in) in
         inl (
-        ap (option_map end_of) (found-step G nowhere (runs_of-bounded terminator hay end whole) (at q i) refl (accepted-at terminator hay end whole q i (prefer greedy body next) is le ∙ prefer-accepts terminator hay end whole greedy body next))
+        ap (option_map end_of) (found-step G nowhere (runs_of-bounded terminator hay end whole) (at q i) refl
+        (accepted-at terminator hay end whole q i (prefer greedy body next) is le ∙ prefer-accepts greedy body next))
         ∙ end-written (G.written (at q i)) i (first_some (found G passed) (G.successors (at q i)))
         ∙ ap (λ ds. option_map end_of (first_some (found G passed) ds)) (successors-at terminator hay end whole q i (prefer greedy body next) is le)
         ∙ two greedy (found G passed (at body i)) (found G passed (at next i)) (found G passed) refl refl
@@ -231,7 +242,8 @@ module _ (terminator : ℕ) (hay : List ℕ) (end : ℕ) (whole : List State) wh
         inr (ends-past terminator hay end whole (at q i) past ∙ sym (none-left greedy (from next i) (from-past next i past))))
       where
         two : (greedy : Bool) (x y : Option Trace) (go : Configuration → Option Trace) → go (at body i) ≡ x → go (at next i) ≡ y
-            → option_map end_of (first_some go (state_step terminator hay end (prefer greedy body next) i)) ≡ either_first greedy (option_map end_of x) (option_map end_of y)
+            → option_map end_of (first_some go (state_step terminator hay end (prefer greedy body next) i)) ≡ either_first greedy (option_map end_of x)
+            (option_map end_of y)
         two true x y go a b = (λ k. option_map end_of (option_or (a k) (option_or (b k) None))) ∙ both x y
           where
             both : (x y : Option Trace) → option_map end_of (option_or x (option_or y None)) ≡ option_or (option_map end_of x) (option_map end_of y)
@@ -250,16 +262,20 @@ module _ (terminator : ℕ) (hay : List ℕ) (end : ℕ) (whole : List State) wh
         none-left false y e = ap (λ o. option_or o None) e
 
     -- the body's literals, loosened, and the empty one
-    choice-agrees : (ts : Seq) → (some_lies hay end i ts ≡ false → option_map end_of (found (g terminator hay end whole) (and_at (at q i) nowhere) (at body i)) ≡ None)
+    choice-agrees : (ts : Seq)
+        → (some_lies hay end i ts ≡ false → option_map end_of (found (g terminator hay end whole) (and_at (at q i) nowhere) (at body i)) ≡ None)
         → AgreesIn hay end (from next) i (from q i) (with_empty greedy (loosened ts))
     choice-agrees ts dead' = elim from-choice [
       | inl e ↦ subst (λ v. AgreesIn hay end (from next) i v (with_empty greedy (loosened ts))) (sym e) (either_agrees greedy _ dead')
       | inr e ↦ subst (λ v. AgreesIn hay end (from next) i v (with_empty greedy (loosened ts))) (sym e) (either_agrees greedy None (λ n. refl))
     ]
       where
-        either_agrees : (greedy : Bool) (x : Option ℕ) → (some_lies hay end i ts ≡ false → x ≡ None) → AgreesIn hay end (from next) i (either_first greedy x (from next i)) (with_empty greedy (loosened ts))
-        either_agrees true x h = agrees-union hay end (from next) i x (from next i) (loosened ts) one_empty (loosened-agrees hay end (from next) i x ts h) (empty-agrees (from next) i)
-        either_agrees false x h = agrees-union hay end (from next) i (from next i) x one_empty (loosened ts) (empty-agrees (from next) i) (loosened-agrees hay end (from next) i x ts h)
+        either_agrees : (greedy : Bool) (x : Option ℕ) → (some_lies hay end i ts ≡ false → x ≡ None)
+            → AgreesIn hay end (from next) i (either_first greedy x (from next i)) (with_empty greedy (loosened ts))
+        either_agrees true x h = agrees-union hay end (from next) i x (from next i) (loosened ts) one_empty (loosened-agrees hay end (from next) i x ts h)
+            (empty-agrees (from next) i)
+        either_agrees false x h = agrees-union hay end (from next) i (from next i) x one_empty (loosened ts) (empty-agrees (from next) i)
+            (loosened-agrees hay end (from next) i x ts h)
 
 -- by the value of a test, one universe up
 by_test_large : {P : Type 1} (b : Bool) → (b ≡ true → P) → (b ≡ false → P) → P
@@ -271,23 +287,16 @@ one-lies : (hay : List ℕ) (end i j : ℕ) → j ≤ end → (ls : List Literal
 one-lies hay end i j le [] h = absurd h
 one-lies hay end i j le (exact s ∷ ls) h = elim h [
   | inl b ↦ let ends' = b.1 in let fits : nat_le (i + length s) end ≡ true = grind (arith, nat_tests) in rw (b.0, fits) refl
-  | inr later ↦ or-right (lies hay end i (exact s)) (list_any (lies hay end i) ls) (one-lies hay end i j le ls later)
+  | inr later ↦ or_right (lies hay end i (exact s)) (list_any (lies hay end i) ls) (one-lies hay end i j le ls later)
 ]
-  where
-    or-right : (a b : Bool) → b ≡ true → (a || b) ≡ true
-    or-right true b e = refl
-    or-right false b e = e
 one-lies hay end i j le (inexact s ∷ ls) h = elim h [
   | inl b ↦ let ends' = b.1 in let fits : nat_le (i + length s) end ≡ true = grind (arith, nat_tests) in rw (b.0, fits) refl
-  | inr later ↦ or-right (lies hay end i (inexact s)) (list_any (lies hay end i) ls) (one-lies hay end i j le ls later)
+  | inr later ↦ or_right (lies hay end i (inexact s)) (list_any (lies hay end i) ls) (one-lies hay end i j le ls later)
 ]
-  where
-    or-right : (a b : Bool) → b ≡ true → (a || b) ≡ true
-    or-right true b e = refl
-    or-right false b e = e
 
 -- where none of an expression's prefixes lies, it means nothing within the end
-means-nothing : (terminator : ℕ) (hay : List ℕ) (end i : ℕ) (h : Expression) → some_lies hay end i (literals front h) ≡ false → (j : ℕ) → j ≤ end → Means terminator hay h i j → ⊥
+means-nothing : (terminator : ℕ) (hay : List ℕ) (end i : ℕ) (h : Expression) → some_lies hay end i (literals front h) ≡ false → (j : ℕ) → j ≤ end
+    → Means terminator hay h i j → ⊥
 means-nothing terminator hay end i h none j le m = in_seq (literals front h) none (means-begins hay terminator h i j m)
   where
     in_seq : (ss : Seq) → some_lies hay end i ss ≡ false → OneIn (Begins hay i j) ss → ⊥
@@ -304,7 +313,8 @@ loosened-lies hay end i (finite ls) h = each ls h
 
 module _ (terminator : ℕ) (hay : List ℕ) (end : ℕ) (whole : List State) where
   -- what is known of the body of a repetition
-  module _ (body : Builder) (M : ℕ → ℕ → Type 0) (ts : Seq) (greedy : Bool) (l : Local terminator hay end whole body) (t : Tells terminator hay end whole body ts)
+  module _ (body : Builder) (M : ℕ → ℕ → Type 0) (ts : Seq) (greedy : Bool) (l : Local terminator hay end whole body)
+      (t : Tells terminator hay end whole body ts)
       (spells : (pattern final : ℕ) → Spells terminator hay end whole pattern final M body) (rises : (i j : ℕ) → M i j → i ≤ j)
       (nothing : (i : ℕ) → some_lies hay end i ts ≡ false → (j : ℕ) → j ≤ end → M i j → ⊥) where
     tells-loop : Tells terminator hay end whole (loop greedy body) (with_empty greedy (loosened ts))
@@ -313,7 +323,8 @@ module _ (terminator : ℕ) (hay : List ℕ) (end : ℕ) (whole : List State) wh
           (let b = body base (suc base) in
           choice-agrees terminator hay end whole A s.closed next s.next_in greedy base b.start (λ a. s.apart base a (omega arith) (omega arith))
           (Placed-first whole base (prefer greedy b.start next) b.states s.placed) i ts
-          (λ none. dead terminator hay end whole body M spells base (suc base) (Placed-rest whole base (prefer greedy b.start next) b.states s.placed) i (nothing i none) (and_at (at base i) nowhere)));
+          (λ none. dead terminator hay end whole body M spells base (suc base) (Placed-rest whole base (prefer greedy b.start next) b.states s.placed) i
+          (nothing i none) (and_at (at base i) nowhere)));
     }
 
     tells-many : Tells terminator hay end whole (build_optional greedy (loop_once greedy body)) (with_empty greedy (loosened ts))
@@ -322,7 +333,8 @@ module _ (terminator : ℕ) (hay : List ℕ) (end : ℕ) (whole : List State) wh
           (let b = loop_once greedy body next (suc base) in
           choice-agrees terminator hay end whole A s.closed next s.next_in greedy base b.start (λ a. s.apart base a (omega arith) (omega arith))
           (Placed-first whole base (prefer greedy b.start next) b.states s.placed) i ts
-          (λ none. dead terminator hay end whole (loop_once greedy body) (λ x y. (k : ℕ) × Pieces M (suc k) x y) (λ pattern final. Spells-loop_once terminator hay end whole pattern final M greedy body (spells pattern final))
+          (λ none. dead terminator hay end whole (loop_once greedy body) (λ x y. (k : ℕ) × Pieces M (suc k) x y)
+          (λ pattern final. Spells-loop_once terminator hay end whole pattern final M greedy body (spells pattern final))
           next (suc base) (Placed-rest whole base (prefer greedy b.start next) b.states s.placed) i
           (λ j le m. let up = pieces-rise M rises m.0 m.1.0 j m.1.2 in nothing i none m.1.0 (omega arith) m.1.1) (and_at (at base i) nowhere)));
     }
@@ -333,10 +345,12 @@ module _ (terminator : ℕ) (hay : List ℕ) (end : ℕ) (whole : List State) wh
     }
       where
         none_agrees : (greedy : Bool) (f : ℕ → Option ℕ) (i : ℕ) → AgreesIn hay end f i (f i) (with_empty greedy (loosened ts))
-        none_agrees true f i = agrees-union hay end f i None (f i) (loosened ts) one_empty (loosened-agrees hay end f i None ts (λ n. refl)) (empty-agrees terminator hay end whole f i)
+        none_agrees true f i = agrees-union hay end f i None (f i) (loosened ts) one_empty (loosened-agrees hay end f i None ts (λ n. refl))
+            (empty-agrees terminator hay end whole f i)
         none_agrees false f i =
-            subst (λ v. AgreesIn hay end f i v (with_empty false (loosened ts))) (or-none (f i))
-            (agrees-union hay end f i (f i) None one_empty (loosened ts) (empty-agrees terminator hay end whole f i) (loosened-agrees hay end f i None ts (λ n. refl)))
+            subst (λ v. AgreesIn hay end f i v (with_empty false (loosened ts))) (or-none_right (f i))
+            (agrees-union hay end f i (f i) None one_empty (loosened ts) (empty-agrees terminator hay end whole f i)
+            (loosened-agrees hay end f i None ts (λ n. refl)))
     tells-options (suc zero) = record {
       tells = λ A next base s i.
           (let q = base + 0 in
@@ -356,9 +370,9 @@ module _ (terminator : ℕ) (hay : List ℕ) (end : ℕ) (whole : List State) wh
           by_test (nat_le i end)
           (λ e.
           let le : i ≤ end = grind (arith, nat_tests) in
-          ends-state terminator hay end whole (Inside A (suc q) (length b.states)) c.0 q i (prefer greedy b.start next) is (prefer-accepts terminator hay end whole greedy b.start next)
+          ends-state terminator hay end whole (Inside A (suc q) (length b.states)) c.0 q i (prefer greedy b.start next) is (prefer-accepts greedy b.start next)
           (λ h. elim h [ inl c' ↦ s.apart q c' (omega arith) (omega arith) | inr r ↦ (let low = r.0 in omega arith) ])
-          (λ d m. elim (prefer-cases terminator hay end whole greedy b.start next i d m) [
+          (λ d m. elim (prefer-cases terminator hay end greedy b.start next i d m) [
             | inl e' ↦ subst (λ x. Inside A (suc q) (length b.states) x) (ap (λ (z : Configuration). z.state) e') c.1
             | inr e' ↦ inl (subst A (ap (λ (z : Configuration). z.state) e') s.next_in)
           ]) le
@@ -366,11 +380,14 @@ module _ (terminator : ℕ) (hay : List ℕ) (end : ℕ) (whole : List State) wh
           (λ e.
           let past : end < i = grind (arith, nat_tests) in
           ends-past terminator hay end whole (at q i) past
-          ∙ sym (prefer-past terminator hay end whole greedy (F b.start i) (F next i) (ends-past terminator hay end whole (at b.start i) past) (ends-past terminator hay end whole (at next i) past))) in
-          subst (λ v. AgreesIn hay end (F next) i v (with_empty greedy ts)) (sym same) (option_agrees greedy (F next) i (F b.start i) (t.tells A next (suc q) inner i)));
+          ∙ sym (prefer-past terminator hay end whole greedy (F b.start i) (F next i) (ends-past terminator hay end whole (at b.start i) past)
+          (ends-past terminator hay end whole (at next i) past))) in
+          subst (λ v. AgreesIn hay end (F next) i v (with_empty greedy ts)) (sym same)
+          (option_agrees greedy (F next) i (F b.start i) (t.tells A next (suc q) inner i)));
     }
       where
-        option_agrees : (greedy : Bool) (f : ℕ → Option ℕ) (i : ℕ) (v : Option ℕ) → AgreesIn hay end f i v ts → AgreesIn hay end f i (either_first greedy v (f i)) (with_empty greedy ts)
+        option_agrees : (greedy : Bool) (f : ℕ → Option ℕ) (i : ℕ) (v : Option ℕ) → AgreesIn hay end f i v ts
+            → AgreesIn hay end f i (either_first greedy v (f i)) (with_empty greedy ts)
         option_agrees true f i v a = agrees-union hay end f i v (f i) ts one_empty a (empty-agrees terminator hay end whole f i)
         option_agrees false f i v a = agrees-union hay end f i (f i) v one_empty ts (empty-agrees terminator hay end whole f i) a
     tells-options (suc (suc n)) =
@@ -384,34 +401,42 @@ module _ (terminator : ℕ) (hay : List ℕ) (end : ℕ) (whole : List State) wh
               let back = Placed-back whole base inner.states (prefer greedy b.start next ∷ b.states) s.placed in
               choice-agrees terminator hay end whole A s.closed next s.next_in greedy q b.start (λ a. s.apart q a (omega arith) (omega arith))
               (Placed-first whole q (prefer greedy b.start next) b.states back) i ts
-              (λ none. dead terminator hay end whole body M spells inner.start (suc q) (Placed-rest whole q (prefer greedy b.start next) b.states back) i (nothing i none) (and_at (at q i) nowhere)));
+              (λ none. dead terminator hay end whole body M spells inner.start (suc q) (Placed-rest whole q (prefer greedy b.start next) b.states back) i
+              (nothing i none) (and_at (at q i) nowhere)));
         })
 
     -- copies, and a last part that is nothing
-    tells-times : (last : Builder) → Local terminator hay end whole last → ((next base : ℕ) → (last next base).start ≡ next) → (c : ℕ) (A : ℕ → Type 0) (next base : ℕ)
+    tells-times : (last : Builder) → Local terminator hay end whole last → ((next base : ℕ) → (last next base).start ≡ next)
+        → (c : ℕ) (A : ℕ → Type 0) (next base : ℕ)
         → Stands terminator hay end whole A next base (copies c body last next base).states → (i : ℕ) (v : Option ℕ) (ss : Seq)
-        → AgreesIn hay end (from terminator hay end whole (copies c body last next base).start) i v ss → AgreesIn hay end (from terminator hay end whole next) i v (cross_times front c ss ts)
+        → AgreesIn hay end (from terminator hay end whole (copies c body last next base).start) i v ss
+        → AgreesIn hay end (from terminator hay end whole next) i v (cross_times front c ss ts)
     tells-times last k id zero A next base s i v ss a = subst (λ q. AgreesIn hay end (from terminator hay end whole q) i v ss) (id next base) a
     tells-times last k id (suc c) A next base s i v ss a =
         let two = copies c body last next base in
         let one = body two.start (base + length two.states) in
         let closes = Local-Closes terminator hay end whole (copies c body last) (Local-copies terminator hay end whole body last l k c) in
         tells-times last k id c A next base (stands-second terminator hay end whole A body (copies c body last) next base s) i v (cross_on front ss ts)
-        (cross_on-agrees hay end (from terminator hay end whole one.start) (from terminator hay end whole two.start) (from-past terminator hay end whole one.start) (from-past terminator hay end whole two.start) i v ss ts a
-        (λ j. t.tells (Inside A base (length two.states)) two.start (base + length two.states) (stands-first terminator hay end whole A body (copies c body last) closes next base s) j))
+        (cross_on-agrees hay end (from terminator hay end whole one.start) (from terminator hay end whole two.start)
+        (from-past terminator hay end whole one.start) (from-past terminator hay end whole two.start) i v ss ts a
+        (λ j. t.tells (Inside A base (length two.states)) two.start (base + length two.states)
+        (stands-first terminator hay end whole A body (copies c body last) closes next base s) j))
 
-    tells-exactly : (n m : ℕ) → m ≡ suc n → Tells terminator hay end whole (copies (suc n) body (options greedy (m - suc n) body)) (cross_times front (suc n) one_empty ts)
+    tells-exactly : (n m : ℕ) → m ≡ suc n → Tells terminator hay end whole (copies (suc n) body (options greedy (m - suc n) body))
+        (cross_times front (suc n) one_empty ts)
     tells-exactly n m e = record {
       tells = λ A next base s i.
           (let last = options greedy (m - suc n) body in
           let none : 0 ≡ m - suc n = omega arith in
           let id : (x y : ℕ) → (last x y).start ≡ x = λ x y. subst (λ z. (options greedy z body x y).start ≡ x) none refl in
           let start = (copies (suc n) body last next base).start in
-          tells-times last (Local-options terminator hay end whole greedy body l (m - suc n)) id (suc n) A next base s i (from terminator hay end whole start i) one_empty
+          tells-times last (Local-options terminator hay end whole greedy body l (m - suc n)) id (suc n) A next base s i (from terminator hay end whole start i)
+          one_empty
           (empty-agrees terminator hay end whole (from terminator hay end whole start) i));
     }
 
-  tells-unbounded : (consumes greedy : Bool) (body : Builder) (M : ℕ → ℕ → Type 0) (ts : Seq) → Local terminator hay end whole body → Tells terminator hay end whole body ts
+  tells-unbounded : (consumes greedy : Bool) (body : Builder) (M : ℕ → ℕ → Type 0) (ts : Seq) → Local terminator hay end whole body
+      → Tells terminator hay end whole body ts
       → ((pattern final : ℕ) → Spells terminator hay end whole pattern final M body) → ((i j : ℕ) → M i j → i ≤ j)
       → ((i : ℕ) → some_lies hay end i ts ≡ false → (j : ℕ) → j ≤ end → M i j → ⊥)
       → Tells terminator hay end whole (build_repetition consumes zero None greedy body) (with_empty greedy (loosened ts))
@@ -424,7 +449,8 @@ module _ (terminator : ℕ) (hay : List ℕ) (end : ℕ) (whole : List State) wh
     tells-loose h ordered ss e = record {
       tells = λ A next base s i.
           loosened-agrees hay end (from terminator hay end whole next) i (from terminator hay end whole (build slots h next base).start i) ss
-          (λ none. dead terminator hay end whole (build slots h) (Means terminator hay h) (λ pattern final. Spells-build terminator hay end whole pattern final slots h ordered) next base s.placed i
+          (λ none. dead terminator hay end whole (build slots h) (Means terminator hay h)
+          (λ pattern final. Spells-build terminator hay end whole pattern final slots h ordered) next base s.placed i
           (λ j le m. means-nothing terminator hay end i h (ap (some_lies hay end i) e ∙ loosened-lies hay end i ss none) j le m) nowhere);
     }
 
@@ -438,13 +464,16 @@ module _ (terminator : ℕ) (hay : List ℕ) (end : ℕ) (whole : List State) wh
       tells-all (class (byte_ranges rs)) o free = Tells-set terminator hay end whole (byte_ranges rs) free
       tells-all (look kind) o free = absurd free
       tells-all (repetition zero None greedy sub) o free =
-          tells-unbounded (is_positive (minimum_len sub)) greedy (build slots sub) (Means terminator hay sub) (literals front sub) (local terminator hay end whole slots sub) (tells-all sub o.1 free)
+          tells-unbounded (is_positive (minimum_len sub)) greedy (build slots sub) (Means terminator hay sub) (literals front sub)
+          (local terminator hay end whole slots sub) (tells-all sub o.1 free)
           (λ pattern final. Spells-build terminator hay end whole pattern final slots sub o.1) (λ i j m. means-rises terminator hay sub i j m)
           (λ i none j le m. means-nothing terminator hay end i sub none j le m)
       tells-all (repetition zero (Some m) greedy sub) o free =
           let is : m ≡ m - zero = omega arith in
-          subst (λ x. Tells terminator hay end whole (options greedy x (build slots sub)) (with_empty greedy (if at_most_one (Some m) then literals front sub else loosened (literals front sub)))) is
-          (tells-options (build slots sub) (Means terminator hay sub) (literals front sub) greedy (local terminator hay end whole slots sub) (tells-all sub o.1 free)
+          subst (λ x. Tells terminator hay end whole (options greedy x (build slots sub))
+          (with_empty greedy (if at_most_one (Some m) then literals front sub else loosened (literals front sub)))) is
+          (tells-options (build slots sub) (Means terminator hay sub) (literals front sub) greedy (local terminator hay end whole slots sub)
+          (tells-all sub o.1 free)
           (λ pattern final. Spells-build terminator hay end whole pattern final slots sub o.1) (λ i j m'. means-rises terminator hay sub i j m')
           (λ i none j le m'. means-nothing terminator hay end i sub none j le m') m)
       tells-all (repetition (suc n) None greedy sub) o free = tells-loose (repetition (suc n) None greedy sub) o (literals front sub) refl
@@ -454,32 +483,44 @@ module _ (terminator : ℕ) (hay : List ℕ) (end : ℕ) (whole : List State) wh
           let both = and_parts (nat_eq (suc n) m) (nat_le (suc n) 10) e in
           let same : m ≡ suc n = grind (arith, nat_tests) in
           let all : suc n ≡ min (suc n) 10 = grind (arith, nat_tests) in
-          rw e (subst (λ c. Tells terminator hay end whole (copies (suc n) (build slots sub) (options greedy (m - suc n) (build slots sub))) (cross_times front c one_empty (literals front sub))) all
-          (tells-exactly (build slots sub) (Means terminator hay sub) (literals front sub) greedy (local terminator hay end whole slots sub) (tells-all sub o.1 free)
+          rw e
+          (subst (λ c. Tells terminator hay end whole (copies (suc n) (build slots sub) (options greedy (m - suc n) (build slots sub)))
+          (cross_times front c one_empty (literals front sub))) all
+          (tells-exactly (build slots sub) (Means terminator hay sub) (literals front sub) greedy (local terminator hay end whole slots sub)
+          (tells-all sub o.1 free)
           (λ pattern final. Spells-build terminator hay end whole pattern final slots sub o.1) (λ i j m'. means-rises terminator hay sub i j m')
           (λ i none j le m'. means-nothing terminator hay end i sub none j le m') n m same)))
           (λ e. rw e (tells-loose (repetition (suc n) (Some m) greedy sub) o (cross_times front (min (suc n) 10) one_empty (literals front sub)) (rw e refl)))
-      tells-all (capture group name sub) o free = Tells-group terminator hay end whole (slots group) (build slots sub) (literals front sub) (local terminator hay end whole slots sub) (tells-all sub o free)
+      tells-all (capture group name sub) o free = Tells-group terminator hay end whole (slots group) (build slots sub) (literals front sub)
+          (local terminator hay end whole slots sub) (tells-all sub o free)
       tells-all (concat subs) o free = record {
         tells = λ A next base s i.
             (let start = (build_in_turn slots subs next base).start in
-            turn-tells subs o free A next base s i (from terminator hay end whole start i) one_empty (empty-agrees terminator hay end whole (from terminator hay end whole start) i));
+            turn-tells subs o free A next base s i (from terminator hay end whole start i) one_empty
+            (empty-agrees terminator hay end whole (from terminator hay end whole start) i));
       }
-      tells-all (alternation subs) o free = Tells-choice terminator hay end whole (build_each slots subs) (of_one front subs) (local_each terminator hay end whole slots subs) (each-tells subs o free)
+      tells-all (alternation subs) o free = Tells-choice terminator hay end whole (build_each slots subs) (of_one front subs)
+          (local_each terminator hay end whole slots subs) (each-tells subs o free)
 
-      turn-tells : (hs : Expressions) → AllOrdered hs → AreLookFree hs → (A : ℕ → Type 0) (next base : ℕ) → Stands terminator hay end whole A next base (build_in_turn slots hs next base).states
-          → (i : ℕ) (v : Option ℕ) (ss : Seq) → AgreesIn hay end (from terminator hay end whole (build_in_turn slots hs next base).start) i v ss → AgreesIn hay end (from terminator hay end whole next) i v (in_turn front ss hs)
+      turn-tells : (hs : Expressions) → AllOrdered hs → AreLookFree hs → (A : ℕ → Type 0) (next base : ℕ)
+          → Stands terminator hay end whole A next base (build_in_turn slots hs next base).states
+          → (i : ℕ) (v : Option ℕ) (ss : Seq) → AgreesIn hay end (from terminator hay end whole (build_in_turn slots hs next base).start) i v ss
+          → AgreesIn hay end (from terminator hay end whole next) i v (in_turn front ss hs)
       turn-tells nil o free A next base s i v ss a = a
       turn-tells (cons sub subs) o free A next base s i v ss a =
           let two = build_in_turn slots subs next base in
           let one = build slots sub two.start (base + length two.states) in
           let closes = Local-Closes terminator hay end whole (build_in_turn slots subs) (local_in_turn terminator hay end whole slots subs) in
           let t = tells-all sub o.0 free.0 in
-          turn-tells subs o.1 free.1 A next base (stands-second terminator hay end whole A (build slots sub) (build_in_turn slots subs) next base s) i v (cross_on front ss (literals front sub))
-          (cross_on-agrees hay end (from terminator hay end whole one.start) (from terminator hay end whole two.start) (from-past terminator hay end whole one.start) (from-past terminator hay end whole two.start) i v ss (literals front sub) a
-          (λ j. t.tells (Inside A base (length two.states)) two.start (base + length two.states) (stands-first terminator hay end whole A (build slots sub) (build_in_turn slots subs) closes next base s) j))
+          turn-tells subs o.1 free.1 A next base (stands-second terminator hay end whole A (build slots sub) (build_in_turn slots subs) next base s) i v
+          (cross_on front ss (literals front sub))
+          (cross_on-agrees hay end (from terminator hay end whole one.start) (from terminator hay end whole two.start)
+          (from-past terminator hay end whole one.start) (from-past terminator hay end whole two.start) i v ss (literals front sub) a
+          (λ j. t.tells (Inside A base (length two.states)) two.start (base + length two.states)
+          (stands-first terminator hay end whole A (build slots sub) (build_in_turn slots subs) closes next base s) j))
 
       each-tells : (hs : Expressions) → AllOrdered hs → AreLookFree hs → TellsOne terminator hay end whole (build_each slots hs) (of_one front hs)
       each-tells nil o free = TellsOne-none terminator hay end whole
       each-tells (cons sub subs) o free =
-          TellsOne-beside terminator hay end whole (build slots sub) (build_each slots subs) (literals front sub) (of_one front subs) (tells-all sub o.0 free.0) (each-tells subs o.1 free.1)
+          TellsOne-beside terminator hay end whole (build slots sub) (build_each slots subs) (literals front sub) (of_one front subs) (tells-all sub o.0 free.0)
+          (each-tells subs o.1 free.1)

@@ -74,7 +74,8 @@ module _ (text : List ℕ) where
       let long = length-append s t in
       (stands-append i s t b.0 (subst (λ x. stands_at text x t ≡ true) (sym b.1) c.0), omega arith)
 
-  begins-cross_on : (i k j : ℕ) → k ≤ j → (ss ts : Seq) → OneIn (Begins text i k) ss → OneIn (Begins text k j) ts → OneIn (Begins text i j) (cross_on front ss ts)
+  begins-cross_on : (i k j : ℕ) → k ≤ j → (ss ts : Seq) → OneIn (Begins text i k) ss → OneIn (Begins text k j) ts
+      → OneIn (Begins text i j) (cross_on front ss ts)
   begins-cross_on i k j le ss ts r q =
       cross_on-in front (Begins text i k) (Begins text k j) (Begins text i j)
       (λ s t b c. begins-cut 100 i j (extended front s t) (begins-extended i k j s t b c))
@@ -149,7 +150,8 @@ module _ (text : List ℕ) where
       means-begins (concat subs) i j m = in_turn-begins subs i i j one_empty (begins-empty i i refl) m
       means-begins (alternation subs) i j m = one-begins subs i j m
 
-      in_turn-begins : (hs : Expressions) (at i j : ℕ) (ss : Seq) → OneIn (Begins text at i) ss → MeansInTurn terminator text hs i j → OneIn (Begins text at j) (in_turn front ss hs)
+      in_turn-begins : (hs : Expressions) (at i j : ℕ) (ss : Seq) → OneIn (Begins text at i) ss → MeansInTurn terminator text hs i j
+          → OneIn (Begins text at j) (in_turn front ss hs)
       in_turn-begins nil at i j ss b m = subst (λ x. OneIn (Begins text at x) ss) m b
       in_turn-begins (cons sub subs) at i j ss b m =
           in_turn-begins subs at m.0 j (cross_on front ss (literals front sub))

@@ -19,7 +19,8 @@ pub one-map : (P Q : Literal → Type 0) (f : Literal → Literal) → ((l : Lit
 one-map P Q f each [] h = absurd h
 one-map P Q f each (l ∷ ls) h = elim h [ inl now ↦ inl (each l now) | inr later ↦ inr (one-map P Q f each ls later) ]
 
-pub one-flat : (P Q : Literal → Type 0) (f : Literal → List Literal) → ((l : Literal) → P l → OneOf Q (f l)) → (ls : List Literal) → OneOf P ls → OneOf Q (flat_map f ls)
+pub one-flat : (P Q : Literal → Type 0) (f : Literal → List Literal) → ((l : Literal) → P l → OneOf Q (f l)) → (ls : List Literal) → OneOf P ls
+    → OneOf Q (flat_map f ls)
 one-flat P Q f each [] h = absurd h
 one-flat P Q f each (l ∷ ls) h = elim h [
   | inl now ↦ one-append_left Q (f l) (flat_map f ls) (each l now)

@@ -20,7 +20,8 @@ pub cross_times-done : (side : Side) (n : ℕ) (ss ts : Seq) → some_exact ss �
 cross_times-done side zero ss ts e = refl
 cross_times-done side (suc n) ss ts e = ap (λ x. cross_times side n x ts) (cross_on-done side ss ts e) ∙ cross_times-done side n ss ts e
 
-pub times-step : (side : Side) (n k : ℕ) (ss ts : Seq) → k < n → some_exact ss ≡ true → cross_times side (n - k) ss ts ≡ cross_times side (n - (k + 1)) (cross side ss ts) ts
+pub times-step : (side : Side) (n k : ℕ) (ss ts : Seq) → k < n → some_exact ss ≡ true
+    → cross_times side (n - k) ss ts ≡ cross_times side (n - (k + 1)) (cross side ss ts) ts
 times-step side n k ss ts lt e =
     let more : n - k ≡ suc (n - (k + 1)) = omega arith in
     rw more (ap (λ x. cross_times side (n - (k + 1)) x ts) (cross_on-goes side ss ts e))
@@ -47,8 +48,10 @@ unfolding literals
 back-step ss hs i h lt at e =
     ap (in_turn back ss) (expressions-drop hs i h lt at) ∙ cross_on-goes back (in_turn back ss (expressions (drop (i + 1) hs))) (literals back h) e
 
-pub back-goes : (ss : Seq) (hs : List Expression) (i : ℕ) (h : Expression) (seq inner more : Seq) → 0 < i → i ≤ length hs → h ≡ get_or hs (i - 1) h → some_exact seq ≡ true
-    → seq ≡ in_turn back ss (expressions (drop i hs)) → inner ≡ literals back h → more ≡ cross back seq inner → more ≡ in_turn back ss (expressions (drop (i - 1) hs))
+pub back-goes : (ss : Seq) (hs : List Expression) (i : ℕ) (h : Expression) (seq inner more : Seq) → 0 < i → i ≤ length hs → h ≡ get_or hs (i - 1) h
+    → some_exact seq ≡ true
+    → seq ≡ in_turn back ss (expressions (drop i hs)) → inner ≡ literals back h → more ≡ cross back seq inner
+    → more ≡ in_turn back ss (expressions (drop (i - 1) hs))
 back-goes ss hs i h seq inner more some within at exact so_far part is =
     let e : i ≡ i - 1 + 1 = omega arith in
     let before : seq ≡ in_turn back ss (expressions (drop (i - 1 + 1) hs)) = so_far ∙ ap (λ n. in_turn back ss (expressions (drop n hs))) e in

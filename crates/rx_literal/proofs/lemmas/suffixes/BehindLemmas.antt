@@ -94,7 +94,8 @@ module _ (first second : List ℕ) (most i whole : ℕ) (some : most ≤ length 
       let e = common-over (take most (reverse first)) (reverse second) i over' in
       omega (arith, before, e)
 
-pub suffix-some : (ls : List Literal) (d : Literal) → 0 < length ls → longest_common_suffix (finite ls) ≡ Some (reverse (common_from_behind (reverse (bytes_of (get_or ls 0 d))) (drop 1 ls)))
+pub suffix-some : (ls : List Literal) (d : Literal) → 0 < length ls → longest_common_suffix (finite ls) ≡ Some
+    (reverse (common_from_behind (reverse (bytes_of (get_or ls 0 d))) (drop 1 ls)))
 suffix-some [] d lt = absurd (omega arith)
 suffix-some (l ∷ ls) d lt = refl
 

@@ -125,7 +125,8 @@ module _ (text : List ℕ) where
       in_turn-ends : (hs : Expressions) (i j : ℕ) → MeansInTurn terminator text hs i j → OneIn (Ends text i j) (in_turn back one_empty hs)
       in_turn-ends nil i j m = ends-empty i j m
       in_turn-ends (cons sub subs) i j m =
-          ends-cross_on i m.0 j (means-rises terminator text sub i m.0 m.1) (in_turn back one_empty subs) (literals back sub) (in_turn-ends subs m.0 j m.2) (means-ends sub i m.0 m.1)
+          ends-cross_on i m.0 j (means-rises terminator text sub i m.0 m.1) (in_turn back one_empty subs) (literals back sub) (in_turn-ends subs m.0 j m.2)
+          (means-ends sub i m.0 m.1)
 
       one-ends : (hs : Expressions) (i j : ℕ) → MeansOne terminator text hs i j → OneIn (Ends text i j) (of_one back hs)
       one-ends nil i j m = absurd m
@@ -164,7 +165,8 @@ pub behind-part : (bytes : List ℕ) (ls : List Literal) → IsPart (common_from
 behind-part bytes [] = ([], sym (append-nil bytes))
 behind-part bytes (l ∷ ls) =
     let other = reverse (bytes_of l) in
-    part-part (common_from_behind (common_prefix bytes other) ls) (common_prefix bytes other) bytes (behind-part (common_prefix bytes other) ls) (common-left bytes other)
+    part-part (common_from_behind (common_prefix bytes other) ls) (common_prefix bytes other) bytes (behind-part (common_prefix bytes other) ls)
+    (common-left bytes other)
 
 pub none-some_list : (s : List ℕ) → ◌≡◌ {A = Option (List ℕ)} None (Some s) → ⊥
 none-some_list s e = cc
@@ -194,7 +196,8 @@ module _ (text : List ℕ) (i j : ℕ) where
       let other = reverse (bytes_of l) in
       let both = common_prefix bytes other in
       elim h [
-        | inl now ↦ ends-part (common_from_behind both ls) l (part-part (common_from_behind both ls) both other (behind-part both ls) (common-right bytes other)) now
+        | inl now ↦ ends-part (common_from_behind both ls) l (part-part (common_from_behind both ls) both other (behind-part both ls)
+            (common-right bytes other)) now
         | inr later ↦ behind-ends both ls later
       ]
 

@@ -44,10 +44,12 @@ behind-each bytes (l ∷ ls) u p =
       behind-each both ls u p,
     )
 
-behind-greatest : (bytes : List ℕ) (ls : List Literal) (t : List ℕ) → IsPart (reverse t) bytes → EachEndsWith ls t → IsPart (reverse t) (common_from_behind bytes ls)
+behind-greatest : (bytes : List ℕ) (ls : List Literal) (t : List ℕ) → IsPart (reverse t) bytes → EachEndsWith ls t
+    → IsPart (reverse t) (common_from_behind bytes ls)
 behind-greatest bytes [] t p each = p
 behind-greatest bytes (l ∷ ls) t p each =
-    behind-greatest (common_prefix bytes (reverse (bytes_of l))) ls t (greatest (reverse t) bytes (reverse (bytes_of l)) p (to-part (bytes_of l) t each.0)) each.1
+    behind-greatest (common_prefix bytes (reverse (bytes_of l))) ls t (greatest (reverse t) bytes (reverse (bytes_of l)) p (to-part (bytes_of l) t each.0))
+    each.1
 
 pub suffix-ends : (ls : List Literal) (s : List ℕ) → longest_common_suffix (finite ls) ≡ Some s → EachEndsWith ls s
 suffix-ends [] s e = tt

@@ -92,7 +92,7 @@ and-yes : (b : Bool) → (b && true) ≡ b
 and-yes true = refl
 and-yes false = refl
 
-and-no : (b : Bool) → (b && false) ≡ false
+pub and-no : (b : Bool) → (b && false) ≡ false
 and-no true = refl
 and-no false = refl
 
@@ -122,7 +122,7 @@ starts-begins ys [] = refl
 starts-begins [] (x ∷ xs) = refl
 starts-begins (y ∷ ys) (x ∷ xs) = ap (λ b. nat_eq x y && b) (starts-begins ys xs)
 
-begins-cases : (x y : ℕ) (b : Bool) → (nat_eq x y && b) ≡ true → (x ≡ y) × (b ≡ true)
+pub begins-cases : (x y : ℕ) (b : Bool) → (nat_eq x y && b) ≡ true → (x ≡ y) × (b ≡ true)
 begins-cases x y b h = by_test (nat_eq x y) (λ e. (grind (arith, nat_tests), rw e at h)) (λ e. absurd (true≢false (sym (rw e at h))))
 
 begins-same : (x y : ℕ) (b : Bool) → x ≡ y → (nat_eq x y && b) ≡ b
@@ -172,5 +172,6 @@ branch-after (x ∷ a) (y ∷ b) p q r =
     (λ d.
     let is : x ≡ y = grind (arith, nat_tests) in
     test-same y x (before by_branches b a) (sym is)
-    ∙ branch-after a b (sym (test-same x y (before by_branches a b) is) ∙ p) (sym (begins-same x y (begins a b) is) ∙ q) (sym (begins-same y x (begins b a) (sym is)) ∙ r))
+    ∙ branch-after a b (sym (test-same x y (before by_branches a b) is) ∙ p) (sym (begins-same x y (begins a b) is) ∙ q)
+    (sym (begins-same y x (begins b a) (sym is)) ∙ r))
     (λ d. test-less y x (before by_branches b a) (grind (arith, nat_tests))))

@@ -1,8 +1,8 @@
 -- Trimming keeps the first literal that lies at a place.
-use Rattle.std.proofs.Common.{◌≡◌, ℕ, ◌+◌, ◌≤◌, Bool, true, false, List, [], ◌∷◌, ◌++◌, length, map, drop, take, refl, sym, ap, ◌∙◌, arith, true≢false, append_assoc}
-use Rattle.std.specs.Prelude.{nat_lt, nat_le, nat_eq, ◌||◌}
+use Rattle.std.proofs.Common.{◌≡◌, ℕ, ◌+◌, ◌≤◌, true, false, List, [], ◌∷◌, ◌++◌, length, map, drop, take, refl, sym, ap, ◌∙◌, arith, true≢false, append_assoc}
+use Rattle.std.specs.Prelude.{nat_lt, nat_le, nat_eq}
 use Rattle.std.specs.List.{list_any, list_all, starts_with}
-use Rattle.std.proofs.lemmas.Bool.{and_parts}
+use Rattle.std.proofs.lemmas.Bool.{and_parts, or_right}
 use Rattle.std.proofs.lemmas.Bool.Decides.{Decides-eqb, nat_tests}
 use Rattle.std.proofs.lemmas.List.{take-append-drop}
 use Rattle.std.proofs.lemmas.Slice.Eq.{starts_is}
@@ -28,13 +28,10 @@ module _ (text : List ℕ) (end i : ℕ) where
       let le' = x.1 in
       let fits' : nat_le (i + length (bytes_of e)) end ≡ true = grind (arith, nat_tests) in
       rw (x.0, fits') refl)
-      (λ n. or-right (lies text end i e) (list_any (lies text end i) es) (lies-prefix es l (rw n at h) is))
-    where
-      or-right : (a b : Bool) → b ≡ true → (a || b) ≡ true
-      or-right true b e = refl
-      or-right false b e = e
+      (λ n. or_right (lies text end i e) (list_any (lies text end i) es) (lies-prefix es l (rw n at h) is))
 
-  first-preferred : (earlier ls : List Literal) → list_any (lies text end i) earlier ≡ false → first_literal text end i (preferred earlier ls) ≡ first_literal text end i ls
+  first-preferred : (earlier ls : List Literal) → list_any (lies text end i) earlier ≡ false
+      → first_literal text end i (preferred earlier ls) ≡ first_literal text end i ls
   unfolding preferred
   first-preferred earlier [] none = refl
   first-preferred earlier (l ∷ ls) none =
@@ -88,14 +85,11 @@ cut-prefix n [] l h = h
 cut-prefix n (e ∷ es) l h =
     by_test (starts_with nat_eq (take n (bytes_of l)) (bytes_of e))
     (λ p. rw (take-prefix n (bytes_of l) (bytes_of e) p) refl)
-    (λ p. or-right (starts_with nat_eq (bytes_of l) (bytes_of e)) (has_prefix_in es l) (cut-prefix n es l (rw p at h)))
-  where
-    or-right : (a b : Bool) → b ≡ true → (a || b) ≡ true
-    or-right true b e = refl
-    or-right false b e = e
+    (λ p. or_right (starts_with nat_eq (bytes_of l) (bytes_of e)) (has_prefix_in es l) (cut-prefix n es l (rw p at h)))
 
 -- where the cut ones are exact once trimmed, none was cut
-uncut : (n : ℕ) (earlier ls : List Literal) → IsTrimmed earlier ls → list_all is_exact (preferred earlier (map (cut front n) ls)) ≡ true → map (cut front n) ls ≡ ls
+uncut : (n : ℕ) (earlier ls : List Literal) → IsTrimmed earlier ls → list_all is_exact (preferred earlier (map (cut front n) ls)) ≡ true
+    → map (cut front n) ls ≡ ls
 unfolding preferred cut
 uncut n earlier [] t h = refl
 uncut n earlier (l ∷ ls) t h =
@@ -109,7 +103,8 @@ uncut n earlier (l ∷ ls) t h =
     let both = and_parts (is_exact l) (list_all is_exact (preferred (l ∷ earlier) (map (cut front n) ls))) h'' in
     rw e (ap (λ xs. l ∷ xs) (uncut n (l ∷ earlier) ls t.1 both.1)))
 
-few-exact : (text : List ℕ) (end i n : ℕ) (ls : List Literal) → IsTrimmed [] ls → all_exact (few n ls) ≡ true → first_literal text end i (listed (few n ls)) ≡ first_literal text end i ls
+few-exact : (text : List ℕ) (end i n : ℕ) (ls : List Literal) → IsTrimmed [] ls → all_exact (few n ls) ≡ true
+    → first_literal text end i (listed (few n ls)) ≡ first_literal text end i ls
 unfolding few
 few-exact text end i n ls t h =
     let short = preferred [] (map (cut front 3) ls) in

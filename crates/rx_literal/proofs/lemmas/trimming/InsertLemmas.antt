@@ -17,18 +17,18 @@ comes : (l m : Literal) → comes_before (bytes_of l) (bytes_of m) ≡ follows b
 comes l m = sym (bytes-before (bytes_of l) (bytes_of m))
 
 -- the three cases of a literal among sorted ones
-insert-first : (l m : Literal) (ms : List Literal) → follows by_bytes m l ≡ true → insert l (m ∷ ms) ≡ l ∷ m ∷ ms
+pub insert-first : (l m : Literal) (ms : List Literal) → follows by_bytes m l ≡ true → insert l (m ∷ ms) ≡ l ∷ m ∷ ms
 unfolding insert
 insert-first l m ms h = let e = comes l m ∙ h in rw e refl
 
-insert-later : (l m : Literal) (ms : List Literal) → follows by_bytes l m ≡ true → insert l (m ∷ ms) ≡ m ∷ insert l ms
+pub insert-later : (l m : Literal) (ms : List Literal) → follows by_bytes l m ≡ true → insert l (m ∷ ms) ≡ m ∷ insert l ms
 unfolding insert
 insert-later l m ms h =
     let e = comes m l ∙ h in
     let d = comes l m ∙ before-one by_bytes (bytes_of m) (bytes_of l) h in
     rw (d, e) refl
 
-insert-here : (l m : Literal) (ms : List Literal) → follows by_bytes m l ≡ false → follows by_bytes l m ≡ false → insert l (m ∷ ms) ≡ one_of_both l m ∷ ms
+pub insert-here : (l m : Literal) (ms : List Literal) → follows by_bytes m l ≡ false → follows by_bytes l m ≡ false → insert l (m ∷ ms) ≡ one_of_both l m ∷ ms
 unfolding insert
 insert-here l m ms p q =
     let d = comes l m ∙ p in
@@ -44,7 +44,8 @@ or-single true = refl
 or-single false = refl
 
 -- l at its place, where none is the same
-pub insert-new : (l : Literal) (ms : List Literal) (k : ℕ) → list_all (follows by_bytes l) (take k ms) ≡ true → list_any (follows by_bytes l) (drop k ms) ≡ false
+pub insert-new : (l : Literal) (ms : List Literal) (k : ℕ) → list_all (follows by_bytes l) (take k ms) ≡ true
+    → list_any (follows by_bytes l) (drop k ms) ≡ false
     → list_any (λ m. not (follows by_bytes m l)) (take 1 (drop k ms)) ≡ false → insert l ms ≡ take k ms ++ l ∷ drop k ms
 unfolding insert
 insert-new l [] zero a b c = refl
@@ -64,7 +65,8 @@ both-inexact (exact s) m h = absurd (true≢false h)
 both-inexact (inexact s) m h = refl
 
 -- where one is the same, an exact literal changes nothing
-pub insert-exact : (l : Literal) (ms : List Literal) (k : ℕ) → list_all (follows by_bytes l) (take k ms) ≡ true → list_any (follows by_bytes l) (drop k ms) ≡ false
+pub insert-exact : (l : Literal) (ms : List Literal) (k : ℕ) → list_all (follows by_bytes l) (take k ms) ≡ true
+    → list_any (follows by_bytes l) (drop k ms) ≡ false
     → list_any (λ m. not (follows by_bytes m l)) (take 1 (drop k ms)) ≡ true → is_exact l ≡ true → ms ≡ insert l ms
 insert-exact l [] zero a b c h = absurd (true≢false (sym c))
 insert-exact l [] (suc k) a b c h = absurd (true≢false (sym c))
@@ -77,7 +79,8 @@ insert-exact l (m ∷ ms) (suc k) a b c h =
     ap (λ ys. m ∷ ys) (insert-exact l ms k both.1 b c h) ∙ sym (insert-later l m ms both.0)
 
 -- and an inexact one stands in its place
-pub insert-inexact : (l : Literal) (ms : List Literal) (k : ℕ) → list_all (follows by_bytes l) (take k ms) ≡ true → list_any (follows by_bytes l) (drop k ms) ≡ false
+pub insert-inexact : (l : Literal) (ms : List Literal) (k : ℕ) → list_all (follows by_bytes l) (take k ms) ≡ true
+    → list_any (follows by_bytes l) (drop k ms) ≡ false
     → list_any (λ y. not (follows by_bytes y l)) (take 1 (drop k ms)) ≡ true → is_exact l ≡ false → set ms k l ≡ insert l ms
 insert-inexact l [] zero a b c h = absurd (true≢false (sym c))
 insert-inexact l [] (suc k) a b c h = absurd (true≢false (sym c))
@@ -115,7 +118,8 @@ insert-ordered l (m ∷ ms) o =
     by_test (follows by_bytes m l)
     (λ e. rw (insert-first l m ms e) (
       all-both (follows by_bytes m l) (list_all (λ y. follows by_bytes y l) ms) e
-          (all-all (λ y. follows by_bytes y m) (λ y. follows by_bytes y l) (λ y after. before-trans by_bytes (bytes_of l) (bytes_of m) (bytes_of y) e after) ms o.0),
+          (all-all (λ y. follows by_bytes y m) (λ y. follows by_bytes y l) (λ y after. before-trans by_bytes (bytes_of l) (bytes_of m) (bytes_of y) e after) ms
+          o.0),
       o,
     ))
     (λ e. by_test (follows by_bytes l m)
@@ -124,7 +128,8 @@ insert-ordered l (m ∷ ms) o =
     let same = both-bytes l m (bytes-same (bytes_of l) (bytes_of m) e d) in
     rw (insert-here l m ms e d) (subst (λ b. list_all (λ y. before by_bytes b (bytes_of y)) ms ≡ true) (sym same) o.0, o.1)))
 
-pub sorted-step : (ls : List Literal) (i : ℕ) (l : Literal) (found new : List Literal) → 0 < i → i ≤ length ls → l ≡ get_or ls (i - 1) l → found ≡ sorted (drop i ls)
+pub sorted-step : (ls : List Literal) (i : ℕ) (l : Literal) (found new : List Literal) → 0 < i → i ≤ length ls → l ≡ get_or ls (i - 1) l
+    → found ≡ sorted (drop i ls)
     → new ≡ insert l found → new ≡ sorted (drop (i - 1) ls)
 unfolding sorted
 sorted-step ls i l found new some within at so_far put =

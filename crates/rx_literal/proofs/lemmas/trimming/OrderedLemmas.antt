@@ -19,7 +19,7 @@ pub all-none : (p q : Literal → Bool) → ((m : Literal) → p m ≡ true → 
 all-none p q to [] h = refl
 all-none p q to (m ∷ ls) h = let both = and_parts (p m) (list_all p ls) h in rw (to m both.0) (all-none p q to ls both.1)
 
-all-at : (p : Literal → Bool) (ls : List Literal) (i : ℕ) (m : Literal) → list_all p ls ≡ true → i < length ls → m ≡ get_or ls i m → p m ≡ true
+pub all-at : (p : Literal → Bool) (ls : List Literal) (i : ℕ) (m : Literal) → list_all p ls ≡ true → i < length ls → m ≡ get_or ls i m → p m ≡ true
 all-at p [] i m h lt at = absurd (omega arith)
 all-at p (x ∷ ls) zero m h lt at = ap p at ∙ (and_parts (p x) (list_all p ls) h).0
 all-at p (x ∷ ls) (suc i) m h lt at = all-at p ls i m (and_parts (p x) (list_all p ls) h).1 (omega arith) at
@@ -35,7 +35,8 @@ module _ (order : Order) (l : Literal) where
       all-both (follows order l x) (list_all (follows order l) (take (suc i) ls)) here (all-up_to ls i m o.1 (omega arith) at h)
 
   -- and from one on that doesn't none does
-  none-from : (x : Literal) (ls : List Literal) → list_all (λ y. follows order y x) ls ≡ true → follows order l x ≡ false → list_any (follows order l) ls ≡ false
+  none-from : (x : Literal) (ls : List Literal) → list_all (λ y. follows order y x) ls ≡ true → follows order l x ≡ false
+      → list_any (follows order l) ls ≡ false
   none-from x ls all h =
       all-none (λ y. follows order y x) (follows order l)
       (λ y after. by_test (follows order l y) (λ e. untrue (follows order l x) (before-trans order (bytes_of x) (bytes_of y) (bytes_of l) after e) h) (λ e. e))

@@ -2,7 +2,7 @@
 use Rattle.std.proofs.Common.{◌≡◌, ℕ, zero, suc, ◌+◌, ◌<◌, ◌≤◌, Bool, true, false, List, [], ◌∷◌, ◌++◌, length, take, drop, get_or, refl, sym, ap, ◌∙◌, arith, true≢false, append_assoc, append-nil}
 use Rattle.std.specs.Prelude.{not, ◌||◌, nat_eq, if◌then◌else◌}
 use Rattle.std.specs.List.{list_any, list_all, starts_with, remove}
-use Rattle.std.proofs.lemmas.Bool.{and_parts, not-true, not-false}
+use Rattle.std.proofs.lemmas.Bool.{and_parts, not-true, not-false, or_parts}
 use Rattle.std.proofs.lemmas.List.{take_at, drop_at, length-take-le, drop_more}
 use Rattle.rx_model.proofs.lemmas.runs.RunLemmas.{by_test}
 use Rattle.rx_hir.proofs.JoinedLemmas.{drop-past}
@@ -12,37 +12,31 @@ use Rattle.rx_literal.specs.Order.{before, follows, InOrder}
 use Rattle.rx_literal.specs.Trim.{has_prefix_in, preferred, past_longer}
 use Rattle.rx_literal.proofs.lemmas.trimming.BeforeLemmas.{untrue, before-trans, starts-begins, begins-trans, branch-apart, branch-longer, branch-after}
 use Rattle.rx_literal.proofs.lemmas.trimming.OrderedLemmas.{all-both, all-all, all-none}
+use Rattle.rx_class.proofs.RangeLemmas.{or-right}
 
 -- the first literal begins with the second one
-abbrev starts : Literal → Literal → Bool
+abbrev pub starts : Literal → Literal → Bool
 starts l e = starts_with nat_eq (bytes_of l) (bytes_of e)
 
-or-parts : (a b : Bool) → (a || b) ≡ false → (a ≡ false) × (b ≡ false)
-or-parts true b h = absurd (true≢false h)
-or-parts false b h = (refl, h)
-
-or-comm : (a b : Bool) → (a || b) ≡ (b || a)
+pub or-comm : (a b : Bool) → (a || b) ≡ (b || a)
 or-comm true true = refl
 or-comm true false = refl
 or-comm false true = refl
 or-comm false false = refl
 
-or-assoc : (a b c : Bool) → (a || (b || c)) ≡ ((a || b) || c)
+pub or-assoc : (a b c : Bool) → (a || (b || c)) ≡ ((a || b) || c)
 or-assoc true b c = refl
 or-assoc false b c = refl
 
-or-yes : (b : Bool) → (b || true) ≡ true
-or-yes true = refl
-or-yes false = refl
-
 absorb : (a b c : Bool) → (a ≡ true → c ≡ true) → (b || c) ≡ ((a || b) || c)
-absorb true b c to = rw (to refl) (or-yes b)
+absorb true b c to = rw (to refl) (or-right b)
 absorb false b c to = refl
 
 starts-trans : (x m l : Literal) → starts x m ≡ true → starts m l ≡ true → starts x l ≡ true
 starts-trans x m l p q =
     starts-begins (bytes_of x) (bytes_of l)
-    ∙ begins-trans (bytes_of l) (bytes_of m) (bytes_of x) (sym (starts-begins (bytes_of m) (bytes_of l)) ∙ q) (sym (starts-begins (bytes_of x) (bytes_of m)) ∙ p)
+    ∙ begins-trans (bytes_of l) (bytes_of m) (bytes_of x) (sym (starts-begins (bytes_of m) (bytes_of l)) ∙ q)
+    (sym (starts-begins (bytes_of x) (bytes_of m)) ∙ p)
 
 -- only the one at the place of l may be a prefix of it
 pub prefix-found : (l : Literal) (ms : List Literal) (k : ℕ) → InOrder by_branches ms → list_all (follows by_branches l) (take k ms) ≡ true
@@ -50,7 +44,7 @@ pub prefix-found : (l : Literal) (ms : List Literal) (k : ℕ) → InOrder by_br
 prefix-found l [] zero o a b = refl
 prefix-found l [] (suc k) o a b = refl
 prefix-found l (m ∷ ms) zero o a b =
-    let not = (or-parts (follows by_branches l m) (list_any (follows by_branches l) ms) b).0 in
+    let not = (or_parts (follows by_branches l m) (list_any (follows by_branches l) ms) b).0 in
     ap (λ t. starts l m || t)
     (all-none (λ y. follows by_branches y m) (λ y. starts l y)
     (λ y after. by_test (starts l y)
@@ -68,12 +62,12 @@ has-trans [] l x h s = absurd (true≢false (sym h))
 has-trans (m ∷ ms) l x h s =
     by_test (starts l m)
     (λ e. rw (starts-trans x l m s e) refl)
-    (λ e. rw (has-trans ms l x (rw e at h) s) (or-yes (starts x m)))
+    (λ e. rw (has-trans ms l x (rw e at h) s) (or-right (starts x m)))
 
 pub covered-before : (ms : List Literal) (l : Literal) → has_prefix_in ms l ≡ true → (x : Literal) → has_prefix_in ms x ≡ (has_prefix_in ms x || starts x l)
 covered-before ms l h x =
     by_test (starts x l)
-    (λ e. rw e (has-trans ms l x h e ∙ sym (or-yes (has_prefix_in ms x))))
+    (λ e. rw e (has-trans ms l x h e ∙ sym (or-right (has_prefix_in ms x))))
     (λ e. rw e (or-comm false (has_prefix_in ms x)))
 
 longer-covered : (l x : Literal) (ms : List Literal) → has_prefix_in (l ∷ past_longer l ms) x ≡ (has_prefix_in ms x || starts x l)
@@ -96,7 +90,8 @@ past-all p l (m ∷ ms) h =
     (λ e. rw e (past-all p l ms (and_parts (p m) (list_all p ms) h).1))
     (λ e. rw e h)
 
-keep-all : (p : Literal → Bool) (l : Literal) (ks ms : List Literal) → list_all p (ks ++ ms) ≡ true → p l ≡ true → list_all p (ks ++ l ∷ past_longer l ms) ≡ true
+keep-all : (p : Literal → Bool) (l : Literal) (ks ms : List Literal) → list_all p (ks ++ ms) ≡ true → p l ≡ true
+    → list_all p (ks ++ l ∷ past_longer l ms) ≡ true
 keep-all p l [] ms h is = all-both (p l) (list_all p (past_longer l ms)) is (past-all p l ms h)
 keep-all p l (k ∷ ks) ms h is =
     let both = and_parts (p k) (list_all p (ks ++ ms)) h in
@@ -106,8 +101,8 @@ parted-after : (l : Literal) (ms : List Literal) → InOrder by_branches ms → 
     → InOrder by_branches (l ∷ past_longer l ms)
 parted-after l [] o none apart = (refl, tt)
 parted-after l (m ∷ ms) o none apart =
-    let not = or-parts (follows by_branches l m) (list_any (follows by_branches l) ms) none in
-    let out = or-parts (starts l m) (has_prefix_in ms l) apart in
+    let not = or_parts (follows by_branches l m) (list_any (follows by_branches l) ms) none in
+    let out = or_parts (starts l m) (has_prefix_in ms l) apart in
     by_test (starts m l)
     (λ e. rw e (parted-after l ms o.1 not.1 out.1))
     (λ e.
@@ -158,9 +153,10 @@ put-there l x ls ms new k le dropped is put =
 
 pub rest-apart : (l : Literal) (ks ms : List Literal) → has_prefix_in (ks ++ ms) l ≡ false → has_prefix_in ms l ≡ false
 rest-apart l [] ms h = h
-rest-apart l (k ∷ ks) ms h = rest-apart l ks ms (or-parts (starts l k) (has_prefix_in (ks ++ ms) l) h).1
+rest-apart l (k ∷ ks) ms h = rest-apart l ks ms (or_parts (starts l k) (has_prefix_in (ks ++ ms) l) h).1
 
-pub preferred-same : (es fs : List Literal) → ((x : Literal) → has_prefix_in es x ≡ has_prefix_in fs x) → (ls : List Literal) → preferred es ls ≡ preferred fs ls
+pub preferred-same : (es fs : List Literal) → ((x : Literal) → has_prefix_in es x ≡ has_prefix_in fs x) → (ls : List Literal)
+    → preferred es ls ≡ preferred fs ls
 unfolding preferred
 preferred-same es fs same [] = refl
 preferred-same es fs same (l ∷ ls) =
@@ -180,12 +176,14 @@ module _ (es fs ls : List Literal) (l : Literal) (covered : (x : Literal) → ha
   preferred-kept h = rw h (ap (λ ys. l ∷ ys) rest-same)
 
 -- a literal that is kept, and one that isn't
-module _ (es fs ls : List Literal) (i : ℕ) (l : Literal) (covered : (x : Literal) → has_prefix_in fs x ≡ (has_prefix_in es x || starts x l)) (lt : i < length ls) (at : l ≡ get_or ls i l)
+module _ (es fs ls : List Literal) (i : ℕ) (l : Literal) (covered : (x : Literal) → has_prefix_in fs x ≡ (has_prefix_in es x || starts x l))
+    (lt : i < length ls) (at : l ≡ get_or ls i l)
     (kept new all : List Literal) (before : kept ++ preferred es (drop i ls) ≡ all) where
   here : kept ++ preferred es (l ∷ drop (i + 1) ls) ≡ all
   here = ap (λ y. kept ++ preferred es (y ∷ drop (i + 1) ls)) at ∙ ap (λ ys. kept ++ preferred es ys) (sym (drop_more ls i l lt)) ∙ before
 
-  pub keep-step : (b : Bool) → b ≡ true → b ≡ not (has_prefix_in es l) → (x : Literal) → x ≡ l → new ≡ kept ++ x ∷ [] → new ++ preferred fs (drop (i + 1) ls) ≡ all
+  pub keep-step : (b : Bool) → b ≡ true → b ≡ not (has_prefix_in es l) → (x : Literal) → x ≡ l → new ≡ kept ++ x ∷ []
+      → new ++ preferred fs (drop (i + 1) ls) ≡ all
   keep-step b is_yes value x is pushed =
       let none = not-true (has_prefix_in es l) (sym value ∙ is_yes) in
       let rest = preferred fs (drop (i + 1) ls) in

@@ -115,7 +115,8 @@ module _ (text : List ℕ) (i j : ℕ) where
       let after = drop (i + length (bytes_of l)) text in
       let long : length (bytes_of l) ≡ length (bytes_of e) + length rest = ap length goes ∙ length-append (bytes_of e) rest in
       let ends = b.1 in (
-        stands_at_from text i (bytes_of e) (rest ++ after) (stands_at_parts text i (bytes_of l) b.0 ∙ ap (λ x. x ++ after) goes ∙ append_assoc (bytes_of e) rest after),
+        stands_at_from text i (bytes_of e) (rest ++ after) (stands_at_parts text i (bytes_of l) b.0 ∙ ap (λ x. x ++ after) goes
+            ∙ append_assoc (bytes_of e) rest after),
         omega arith,
       )
 

@@ -16,7 +16,8 @@ unfolding IsLookFree
 kind_is_look_free-returns-in-Literal-clause-look_free t c = subst (λ k. IsTrue _ → IsLookFree (kind_view k)) (sym c.in-Literal.is) (λ yes. tt)
 
 pub kind_is_look_free-returns-in-Look-clause-value : goal.kind_is_look_free-returns-in-Look-clause-value
-kind_is_look_free-returns-in-Look-clause-value t c = subst (λ k. IsTrue false ↔ HasNone (kind_view k)) (sym c.in-Look.is) ((λ yes. absurd (true≢false (sym yes))), (λ none. absurd (look-some _ none)))
+kind_is_look_free-returns-in-Look-clause-value t c = subst (λ k. IsTrue false ↔ HasNone (kind_view k)) (sym c.in-Look.is)
+    ((λ yes. absurd (true≢false (sym yes))), (λ none. absurd (look-some _ none)))
 
 pub kind_is_look_free-returns-in-Repetition-clause-value : goal.kind_is_look_free-returns-in-Repetition-clause-value
 kind_is_look_free-returns-in-Repetition-clause-value t c =
@@ -54,13 +55,15 @@ kind_is_look_free-returns-in-Concat-clause-look_free t c =
 pub kind_is_look_free-returns-in-Alternation-clause-value : goal.kind_is_look_free-returns-in-Alternation-clause-value
 kind_is_look_free-returns-in-Alternation-clause-value t c =
     subst (λ k. IsTrue c.are_look_free-in-Alternation.result ↔ HasNone (kind_view k)) (sym c.in-Alternation.is)
-    (subst (λ hs. IsTrue c.are_look_free-in-Alternation.result ↔ HaveNone (expressions hs)) c.deref-in-Alternation.ensures.value c.are_look_free-in-Alternation.ensures.value)
+    (subst (λ hs. IsTrue c.are_look_free-in-Alternation.result ↔ HaveNone (expressions hs)) c.deref-in-Alternation.ensures.value
+    c.are_look_free-in-Alternation.ensures.value)
 
 pub kind_is_look_free-returns-in-Alternation-clause-look_free : goal.kind_is_look_free-returns-in-Alternation-clause-look_free
 unfolding IsLookFree
 kind_is_look_free-returns-in-Alternation-clause-look_free t c =
     subst (λ k. IsTrue c.are_look_free-in-Alternation.result → IsLookFree (kind_view k)) (sym c.in-Alternation.is)
-    (subst (λ hs. IsTrue c.are_look_free-in-Alternation.result → AreLookFree (expressions hs)) c.deref-in-Alternation.ensures.value c.are_look_free-in-Alternation.ensures.look_free)
+    (subst (λ hs. IsTrue c.are_look_free-in-Alternation.result → AreLookFree (expressions hs)) c.deref-in-Alternation.ensures.value
+    c.are_look_free-in-Alternation.ensures.look_free)
 
 pub are_look_free-is_look_free-requires : goal.are_look_free-is_look_free-requires
 are_look_free-is_look_free-requires t c =
@@ -70,12 +73,14 @@ are_look_free-is_look_free-requires t c =
 pub are_look_free-returns-then-not-is_look_free-clause-value : goal.are_look_free-returns-then-not-is_look_free-clause-value
 are_look_free-returns-then-not-is_look_free-clause-value t c = (
   λ yes. absurd (true≢false (sym yes)),
-  λ none. sym c.if-not-is_look_free.true ∙ c.is_look_free.ensures.value.1 (none-at c.args.subs.now c.loop-sub.sub-index c.sub-item.result c.loop-sub-test.true c.sub-item.is none),
+  λ none. sym c.if-not-is_look_free.true ∙ c.is_look_free.ensures.value.1
+      (none-at c.args.subs.now c.loop-sub.sub-index c.sub-item.result c.loop-sub-test.true c.sub-item.is none),
 )
 
 pub are_look_free-loop-sub-preserved : goal.are_look_free-loop-sub-preserved
 are_look_free-loop-sub-preserved t c = λ rest.
-    c.loop-sub.invariant (free-on c.args.subs.now c.loop-sub.sub-index c.sub-item.result c.loop-sub-test.true c.sub-item.is (c.is_look_free.ensures.look_free c.if-not-is_look_free.false) rest)
+    c.loop-sub.invariant (free-on c.args.subs.now c.loop-sub.sub-index c.sub-item.result c.loop-sub-test.true c.sub-item.is
+    (c.is_look_free.ensures.look_free c.if-not-is_look_free.false) rest)
 
 pub are_look_free-returns-clause-value : goal.are_look_free-returns-clause-value
 are_look_free-returns-clause-value t c = (

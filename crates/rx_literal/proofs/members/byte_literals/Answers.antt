@@ -23,7 +23,8 @@ returns-then-len-gt-MOST c =
     let many : 10 < length c.push_bytes.new.found.items = omega (arith, c.push_bytes.new.found.ok.0, c.len.ensures, c.if-len-gt-MOST.true) in
     let whole = range-found next_byte (λ b. b ∷ []) rs c.loop-low.low-index (0, 0) c.loop-low.found.items found all c.loop-low-test.true
     c.in_ok-push_bytes.ensures c.loop-low.invariant.so_far in
-    c.infinite.ensures ∙ each-many (λ b. b ∷ []) (members next_byte rs) (part-many found (encoded (λ b. b ∷ []) (members next_byte (drop (c.loop-low.low-index + 1) rs))) all many whole)
+    c.infinite.ensures ∙ each-many (λ b. b ∷ []) (members next_byte rs)
+    (part-many found (encoded (λ b. b ∷ []) (members next_byte (drop (c.loop-low.low-index + 1) rs))) all many whole)
 
 pub returns : goal.returns
 unfolding class_literals

@@ -13,7 +13,8 @@ loop-count-preserved c =
     let k = c.loop-count._count in
     let found = c.loop-count.found.items in
     let all = c.args.found.now.items ++ encoded (λ b. b ∷ []) (numbers next_byte c.args.most c.args.low c.args.high) in
-    one-found next_byte (λ b. b ∷ []) k c.args.most c.in-Some.b (or_past_byte c.byte_after-next.result) c.args.high found c.push.new.self.items all c.in_ok-byte.field-0
+    one-found next_byte (λ b. b ∷ []) k c.args.most c.in-Some.b (or_past_byte c.byte_after-next.result) c.args.high found c.push.new.self.items all
+    c.in_ok-byte.field-0
     c.loop-count-test.true c.if-b-high.false c.in_ok-byte.ensures c.in_ok-push.ensures.items c.byte_after-next.ensures
     (subst (λ o. found ++ encoded (λ b. b ∷ []) (numbers next_byte (c.args.most - k) (or_past_byte o) c.args.high) ≡ all) c.in-Some.is c.loop-count.invariant)
 
@@ -25,7 +26,8 @@ returns-in_default c =
     let past : c.args.high < 0x100 = omega (arith, c.ranges.high.fits) in
     all-found found (encoded (λ b. b ∷ []) (numbers next_byte (c.args.most - k) (or_past_byte None) c.args.high)) all
     (from-past next_byte (λ b. b ∷ []) (c.args.most - k) (or_past_byte None) c.args.high past)
-    (subst (λ o. found ++ encoded (λ b. b ∷ []) (numbers next_byte (c.args.most - k) (or_past_byte o) c.args.high) ≡ all) c.in_default.is c.loop-count.invariant)
+    (subst (λ o. found ++ encoded (λ b. b ∷ []) (numbers next_byte (c.args.most - k) (or_past_byte o) c.args.high) ≡ all) c.in_default.is
+    c.loop-count.invariant)
 
 pub returns-then-b-high : goal.returns-then-b-high
 returns-then-b-high c =

@@ -14,7 +14,8 @@ loop-count-preserved c =
     let k = c.loop-count._count in
     let found = c.loop-count.found.items in
     let all = c.args.found.now.items ++ encoded encode_utf8 (numbers next_scalar c.args.most c.args.low c.args.high) in
-    one-found next_scalar encode_utf8 k c.args.most c.in-Some.c (or_past c.scalar_after-next.result) c.args.high found c.push.new.self.items all c.in_ok-character.field-0
+    one-found next_scalar encode_utf8 k c.args.most c.in-Some.c (or_past c.scalar_after-next.result) c.args.high found c.push.new.self.items all
+    c.in_ok-character.field-0
     c.loop-count-test.true c.if-c-high.false c.in_ok-character.ensures c.in_ok-push.ensures.items c.scalar_after-next.ensures
     (subst (λ o. found ++ encoded encode_utf8 (numbers next_scalar (c.args.most - k) (or_past o) c.args.high) ≡ all) c.in-Some.is c.loop-count.invariant)
 

@@ -24,7 +24,8 @@ returns-then-len-gt-MOST c =
     let many : 10 < length c.push_scalars.new.found.items = omega (arith, c.push_scalars.new.found.ok.0, c.len.ensures, c.if-len-gt-MOST.true) in
     let whole = range-found next_scalar encode_utf8 rs c.loop-low.low-index (0, 0) c.loop-low.found.items found all c.loop-low-test.true
     c.in_ok-push_scalars.ensures c.loop-low.invariant.so_far in
-    c.infinite.ensures ∙ each-many encode_utf8 (members next_scalar rs) (part-many found (encoded encode_utf8 (members next_scalar (drop (c.loop-low.low-index + 1) rs))) all many whole)
+    c.infinite.ensures ∙ each-many encode_utf8 (members next_scalar rs)
+    (part-many found (encoded encode_utf8 (members next_scalar (drop (c.loop-low.low-index + 1) rs))) all many whole)
 
 pub returns : goal.returns
 unfolding class_literals

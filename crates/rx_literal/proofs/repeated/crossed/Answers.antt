@@ -11,7 +11,8 @@ returns-then-not-has_exact c =
 pub loop-copy-preserved : goal.loop-copy-preserved
 loop-copy-preserved c =
     ap (λ x. cross_times c.args.side (c.args.count - (c.loop-copy._copy + 1)) x c.args.body.now) c.in_ok-seq-2.ensures
-    ∙ sym (times-step c.args.side c.args.count c.loop-copy._copy c.loop-copy.seq c.args.body.now c.loop-copy-test.true (sym c.has_exact.ensures ∙ c.if-not-has_exact.false))
+    ∙ sym (times-step c.args.side c.args.count c.loop-copy._copy c.loop-copy.seq c.args.body.now c.loop-copy-test.true
+    (sym c.has_exact.ensures ∙ c.if-not-has_exact.false))
     ∙ c.loop-copy.invariant
 
 pub returns : goal.returns

@@ -11,4 +11,5 @@ loop-i-preserved c =
     let within : c.loop-i.i < length c.args.literals.items = omega (arith, c.args.literals.ok.0, c.loop-i-test.true, c.len-i-end.ensures) in
     rw e (
     ap (λ ys. set ys i c.loosen.new.self) c.loop-i.invariant
-    ∙ loose-step c.args.literals.items i l c.loosen.new.self within (subst (λ ys. l ≡ get_or ys i l) c.loop-i.invariant c.index_mut.ensures.value) c.loosen.ensures)
+    ∙ loose-step c.args.literals.items i l c.loosen.new.self within (subst (λ ys. l ≡ get_or ys i l) c.loop-i.invariant c.index_mut.ensures.value)
+    c.loosen.ensures)

@@ -12,7 +12,8 @@ loop-other-init c = record {
 
 pub loop-other-preserved : goal.loop-other-preserved
 loop-other-preserved c = record {
-  so_far = sym (behind-step (reverse c.args.first.now) c.args.others.now c.loop-other.other-index c.loop-other.len c.common_len-len.result c.other-item.result c.as_bytes.result.now
+  so_far = sym (behind-step (reverse c.args.first.now) c.args.others.now c.loop-other.other-index c.loop-other.len c.common_len-len.result c.other-item.result
+      c.as_bytes.result.now
       c.loop-other-test.true c.other-item.is c.as_bytes.ensures c.common_len-len.ensures.value c.common_len-len.ensures.bound)
       ∙ c.loop-other.invariant.so_far;
   bound = omega (arith, c.common_len-len.ensures.bound, c.loop-other.invariant.bound);

@@ -1,10 +1,8 @@
-use Rattle.std.proofs.Common.{◌≡◌, ◌<◌, ◌≤◌, ◌++◌, true, false, length, take, drop, ap, sym, subst, ◌∙◌, arith}
+use Rattle.std.proofs.Common.{◌≡◌, ◌<◌, ◌≤◌, ◌++◌, true, false, length, take, drop, ap, sym, ◌∙◌, arith}
 use Rattle.std.specs.Prelude.{nat_eq}
 use Rattle.std.specs.List.{starts_with}
 use Rattle.rx_literal.specs.Literals.{bytes_of}
-use Rattle.rx_literal.specs.Order.{lent}
 use Rattle.rx_literal.specs.Trim.{past_longer}
-use Rattle.rx_literal.proofs.lemmas.trimming.LentLemmas.{length-lent, within-lent, lent-at, lent-removed}
 use Rattle.rx_literal.proofs.lemmas.trimming.PartedLemmas.{longer-removed, longer-done, longer-over}
 use Rattle.rx_literal.proofs.trim.drop_longer.Goals as goal
 
@@ -13,14 +11,14 @@ loop-literals-preserved c =
     let l = c.args.literal.now in
     let rs = c.loop-literals.literals.items in
     let at = c.args.at in
-    let r = c.index.result.now in
-    let m = r.now in
+    let m = c.index.result.now in
     let lt : c.args.at < length c.loop-literals.literals.items = omega (arith, c.loop-literals-test.true, c.len.ensures, c.loop-literals.literals.ok.0) in
     let longer : starts_with nat_eq (bytes_of m) (bytes_of l) ≡ true
-    = (λ k. starts_with nat_eq (sym c.as_bytes.ensures k) (sym c.as_bytes-in-loop-literals.ensures k)) ∙ sym c.starts_with.ensures.value ∙ c.if-not-starts_with.false in
+    = (λ k. starts_with nat_eq (sym c.as_bytes.ensures k) (sym c.as_bytes-in-loop-literals.ensures k))
+    ∙ sym c.starts_with.ensures.value ∙ c.if-not-starts_with.false in
     record {
-      so_far = ap (λ ys. take at ys ++ past_longer l (drop at ys)) (ap lent c.remove.ensures.items ∙ lent-removed rs at)
-          ∙ longer-removed l (lent rs) at m (within-lent rs at lt) (lent-at rs at r lt c.index.ensures) longer ∙ c.loop-literals.invariant.so_far;
+      so_far = ap (λ ys. take at ys ++ past_longer l (drop at ys)) c.remove.ensures.items
+          ∙ longer-removed l rs at m lt c.index.ensures longer ∙ c.loop-literals.invariant.so_far;
       within = omega (arith, lt, c.remove.ensures.len, c.remove.new.self.ok.0, c.loop-literals.literals.ok.0);
     }
 
@@ -28,15 +26,15 @@ pub returns-then-not-starts_with : goal.returns-then-not-starts_with
 returns-then-not-starts_with c =
     let l = c.args.literal.now in
     let rs = c.loop-literals.literals.items in
-    let r = c.index.result.now in
-    let m = r.now in
+    let m = c.index.result.now in
     let lt : c.args.at < length c.loop-literals.literals.items = omega (arith, c.loop-literals-test.true, c.len.ensures, c.loop-literals.literals.ok.0) in
     let not : starts_with nat_eq (bytes_of m) (bytes_of l) ≡ false
-    = (λ k. starts_with nat_eq (sym c.as_bytes.ensures k) (sym c.as_bytes-in-loop-literals.ensures k)) ∙ sym c.starts_with.ensures.value ∙ c.if-not-starts_with.true in
-    longer-done l (lent rs) c.args.at m (within-lent rs c.args.at lt) (lent-at rs c.args.at r lt c.index.ensures) not ∙ c.loop-literals.invariant.so_far
+    = (λ k. starts_with nat_eq (sym c.as_bytes.ensures k) (sym c.as_bytes-in-loop-literals.ensures k))
+    ∙ sym c.starts_with.ensures.value ∙ c.if-not-starts_with.true in
+    longer-done l rs c.args.at m lt c.index.ensures not ∙ c.loop-literals.invariant.so_far
 
 pub returns : goal.returns
 returns c =
     let rs = c.loop-literals.literals.items in
     let over : length c.loop-literals.literals.items ≤ c.args.at = omega (arith, c.loop-literals-test.false, c.len.ensures, c.loop-literals.literals.ok.0) in
-    longer-over c.args.literal.now (lent rs) c.args.at (subst (λ n. n ≤ c.args.at) (sym (length-lent rs)) over) ∙ c.loop-literals.invariant.so_far
+    longer-over c.args.literal.now rs c.args.at over ∙ c.loop-literals.invariant.so_far

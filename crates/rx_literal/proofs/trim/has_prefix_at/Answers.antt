@@ -2,7 +2,7 @@ use Rattle.std.proofs.Common.{◌<◌, length, ◌∙◌, arith}
 use Rattle.std.specs.Prelude.{nat_eq}
 use Rattle.std.specs.List.{starts_with}
 use Rattle.rx_literal.specs.Literals.{bytes_of}
-use Rattle.rx_literal.proofs.lemmas.trimming.LentLemmas.{any-at}
+use Rattle.rx_literal.proofs.lemmas.trimming.PlaceLemmas.{any-at}
 use Rattle.rx_literal.proofs.trim.has_prefix_at.Goals as goal
 
 pub returns : goal.returns

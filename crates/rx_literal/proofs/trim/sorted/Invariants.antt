@@ -1,15 +1,12 @@
-use Rattle.std.proofs.Common.{◌≡◌, ◌≤◌, length, drop}
+use Rattle.std.proofs.Common.{ℕ, map, take}
+use Rattle.rx_literal.specs.Literals.{Literal}
 use Rattle.rx_literal.specs.declared.order.Order.TheVariants.{Bytes as by_bytes}
-use Rattle.rx_literal.specs.Order.{lent, InOrder}
-use Rattle.rx_literal.specs.Trim.{sorted}
+use Rattle.rx_literal.specs.Order.{InOrder}
+use Rattle.rx_literal.proofs.lemmas.trimming.AlikeLemmas.{Alike}
 use Rattle.rx_literal.proofs.trim.sorted.Given as goal
 
-abbrev pub invariant-loop-i : goal.invariant-loop-i
-invariant-loop-i l = record {
-  so_far : lent l.found.items ≡ sorted (drop l.i l.literals);
-  order : InOrder by_bytes (lent l.found.items);
-  within : l.i ≤ length l.literals;
+abbrev pub invariant-loop-pair : goal.invariant-loop-pair
+invariant-loop-pair l = record {
+  order : InOrder by_bytes l.found.items;
+  alike : Alike l.found.items (take l.pair-index (map (λ (p : ℕ × Literal). p.1) l.pair-items));
 }
-
-abbrev pub decreases-loop-i : goal.decreases-loop-i
-decreases-loop-i l = l.i

@@ -2,7 +2,7 @@ use Rattle.std.proofs.Common.{◌<◌, length, ◌∙◌, arith}
 use Rattle.std.specs.Prelude.{not}
 use Rattle.rx_literal.specs.declared.order.Order.TheVariants.{Bytes as by_bytes}
 use Rattle.rx_literal.specs.Order.{before, follows}
-use Rattle.rx_literal.proofs.lemmas.trimming.LentLemmas.{any-at}
+use Rattle.rx_literal.proofs.lemmas.trimming.PlaceLemmas.{any-at}
 use Rattle.rx_literal.proofs.trim.stands_at.Goals as goal
 
 pub returns-clause-value : goal.returns-clause-value

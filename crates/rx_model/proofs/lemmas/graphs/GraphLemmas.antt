@@ -14,9 +14,10 @@ use Rattle.rx_model.specs.Search.{Patterns, slot_of, first}
 use Rattle.rx_model.proofs.lemmas.runs.RunLemmas.{by_test, map-none}
 use Rattle.rx_model.proofs.lemmas.runs.FirstLemmas.{none-is-some, some-is, found-is_run, none-is_none}
 use Rattle.rx_model.proofs.lemmas.runs.MachineLemmas.{graph_of-bounded}
-use Rattle.rx_model.proofs.lemmas.runs.MemberLemmas.{choice-member, only-member, none-member}
+use Rattle.rx_model.proofs.lemmas.runs.MemberLemmas.{choice-member, only-among, none-among}
 use Rattle.rx_model.proofs.lemmas.meaning.CoverLemmas.{run-pattern, run-means, means-run}
 use Rattle.rx_model.proofs.lemmas.runs.RiseLemmas.{found-end, mapped-some, trace-end}
+use Rattle.rx_model.proofs.lemmas.graphs.StateLemmas.{prefer-accepts}
 
 -- no state of the list accepts
 abbrev pub IsSilent : List State → Type 0
@@ -34,10 +35,6 @@ silent-append [] ys a b k = b k
 silent-append (x ∷ xs) ys a b zero = a zero
 silent-append (x ∷ xs) ys a b (suc k) = silent-append xs ys (λ j. a (suc j)) b k
 
-prefer-silent : (greedy : Bool) (body exit : ℕ) → state_accepts (prefer greedy body exit) ≡ None
-prefer-silent true body exit = refl
-prefer-silent false body exit = refl
-
 -- no state that the builder makes accepts
 abbrev pub BuildsSilent : Builder → Type 0
 BuildsSilent b = (next base : ℕ) → IsSilent (b next base).states
@@ -52,13 +49,16 @@ state-silent state e next base = silent-cons (state next) [] (e next) silent-non
 
 module _ (greedy : Bool) (body : Builder) (a : BuildsSilent body) where
   loop-silent : BuildsSilent (loop greedy body)
-  loop-silent next base = silent-cons (prefer greedy (body base (suc base)).start next) (body base (suc base)).states (prefer-silent greedy (body base (suc base)).start next) (a base (suc base))
+  loop-silent next base = silent-cons (prefer greedy (body base (suc base)).start next) (body base (suc base)).states
+      (prefer-accepts greedy (body base (suc base)).start next) (a base (suc base))
 
   loop_once-silent : BuildsSilent (loop_once greedy body)
-  loop_once-silent next base = silent-cons (prefer greedy (body base (suc base)).start next) (body base (suc base)).states (prefer-silent greedy (body base (suc base)).start next) (a base (suc base))
+  loop_once-silent next base = silent-cons (prefer greedy (body base (suc base)).start next) (body base (suc base)).states
+      (prefer-accepts greedy (body base (suc base)).start next) (a base (suc base))
 
   optional-silent : BuildsSilent (build_optional greedy body)
-  optional-silent next base = silent-cons (prefer greedy (body next (suc base)).start next) (body next (suc base)).states (prefer-silent greedy (body next (suc base)).start next) (a next (suc base))
+  optional-silent next base = silent-cons (prefer greedy (body next (suc base)).start next) (body next (suc base)).states
+      (prefer-accepts greedy (body next (suc base)).start next) (a next (suc base))
 
   copies-silent : (n : ℕ) (last : Builder) → BuildsSilent last → BuildsSilent (copies n body last)
   copies-silent zero last l = l
@@ -71,14 +71,17 @@ module _ (greedy : Bool) (body : Builder) (a : BuildsSilent body) where
       let c = base + length inner.states in
       let b = body inner.start (suc c) in
       silent-append inner.states (prefer greedy b.start next ∷ b.states) (options-silent n next base)
-      (silent-cons (prefer greedy b.start next) b.states (prefer-silent greedy b.start next) (a inner.start (suc c)))
+      (silent-cons (prefer greedy b.start next) b.states (prefer-accepts greedy b.start next) (a inner.start (suc c)))
 
-repetition-silent : (consumes greedy : Bool) (body : Builder) → BuildsSilent body → (min : ℕ) (max : Option ℕ) → BuildsSilent (build_repetition consumes min max greedy body)
+repetition-silent : (consumes greedy : Bool) (body : Builder) → BuildsSilent body → (min : ℕ) (max : Option ℕ)
+    → BuildsSilent (build_repetition consumes min max greedy body)
 repetition-silent true greedy body a zero None = loop-silent greedy body a
 repetition-silent false greedy body a zero None = optional-silent greedy (loop_once greedy body) (loop_once-silent greedy body a)
 repetition-silent consumes greedy body a (suc n) None = copies-silent greedy body a n (loop_once greedy body) (loop_once-silent greedy body a)
-repetition-silent consumes greedy body a zero (Some m) = copies-silent greedy body a zero (options greedy (m - zero) body) (options-silent greedy body a (m - zero))
-repetition-silent consumes greedy body a (suc n) (Some m) = copies-silent greedy body a (suc n) (options greedy (m - suc n) body) (options-silent greedy body a (m - suc n))
+repetition-silent consumes greedy body a zero (Some m) = copies-silent greedy body a zero (options greedy (m - zero) body)
+    (options-silent greedy body a (m - zero))
+repetition-silent consumes greedy body a (suc n) (Some m) = copies-silent greedy body a (suc n) (options greedy (m - suc n) body)
+    (options-silent greedy body a (m - suc n))
 
 pub group-silent : (number : Option ℕ) (body : Builder) → BuildsSilent body → BuildsSilent (build_group number body)
 group-silent None body a = a
@@ -111,10 +114,12 @@ module _ (slots : ℕ → Option ℕ) where
     each-silent nil next base = silent-none
     each-silent (cons sub subs) next base =
         let f = build slots sub next base in
-        silent-append f.states (build_each slots subs next (base + length f.states)).states (build-silent sub next base) (each-silent subs next (base + length f.states))
+        silent-append f.states (build_each slots subs next (base + length f.states)).states (build-silent sub next base)
+        (each-silent subs next (base + length f.states))
 
 -- the states of a pattern accept that pattern alone
-pub pattern-accepts : (slots : ℕ → Option ℕ) (p : ℕ) (h : Expression) (k q : ℕ) → state_accepts (get_or (build_pattern slots p h).states k (choice [])) ≡ Some q → q ≡ p
+pub pattern-accepts : (slots : ℕ → Option ℕ) (p : ℕ) (h : Expression) (k q : ℕ) → state_accepts (get_or (build_pattern slots p h).states k (choice [])) ≡ Some q
+    → q ≡ p
 unfolding build_pattern
 pattern-accepts slots p h zero q e = sym (some-is e)
 pattern-accepts slots p h (suc k) q e =
@@ -122,23 +127,23 @@ pattern-accepts slots p h (suc k) q e =
 
 module _ (terminator : ℕ) (hay : List ℕ) (end : ℕ) where
   go_by-rises : (o : Option ℕ) (next i : ℕ) (d : Configuration) → Contains (go_by terminator hay end o next i) d → i ≤ d.place
-  go_by-rises None next i d m = absurd (none-member d m)
+  go_by-rises None next i d m = absurd (none-among d m)
   go_by-rises (Some n) next i d m =
       by_test (nat_le (i + n) end)
-      (λ le. let e : i + n ≡ d.place = ap (λ (c : Configuration). c.place) (only-member (at next (i + n)) d (rw le at m)) in omega arith)
-      (λ gt. absurd (none-member d (rw gt at m)))
+      (λ le. let e : i + n ≡ d.place = ap (λ (c : Configuration). c.place) (only-among (at next (i + n)) d (rw le at m)) in omega arith)
+      (λ gt. absurd (none-among d (rw gt at m)))
 
   stay-rises : (q i : ℕ) (d : Configuration) → Contains (at q i ∷ []) d → i ≤ d.place
-  stay-rises q i d m = let e : i ≡ d.place = ap (λ (c : Configuration). c.place) (only-member (at q i) d m) in omega arith
+  stay-rises q i d m = let e : i ≡ d.place = ap (λ (c : Configuration). c.place) (only-among (at q i) d m) in omega arith
 
   pub step-rises : (s : State) (i : ℕ) (d : Configuration) → Contains (state_step terminator hay end s i) d → i ≤ d.place
   step-rises (text bytes next) i d m = go_by-rises (if stands_at hay i bytes then Some (length bytes) else None) next i d m
   step-rises (set members next) i d m = go_by-rises (member_len hay members i) next i d m
   step-rises (assertion kind next) i d m =
-      by_test (holds terminator hay kind i) (λ e. stay-rises next i d (rw e at m)) (λ e. absurd (none-member d (rw e at m)))
+      by_test (holds terminator hay kind i) (λ e. stay-rises next i d (rw e at m)) (λ e. absurd (none-among d (rw e at m)))
   step-rises (slot number next) i d m = stay-rises next i d m
   step-rises (choice states) i d m = let x = choice-member states i d m in let e : i ≡ d.place = ap (λ (c : Configuration). c.place) x.2 in omega arith
-  step-rises (accept pattern) i d m = absurd (none-member d m)
+  step-rises (accept pattern) i d m = absurd (none-among d m)
 
   module _ (states : List State) where
     -- the graph of any states is bounded
@@ -152,7 +157,7 @@ module _ (terminator : ℕ) (hay : List ℕ) (end : ℕ) where
     runs_of-rises c d m =
         by_test (is_inside (machine_of terminator hay end states) end c)
         (λ e. step-rises (state_at states c.state) c.place d (rw e at m))
-        (λ e. absurd (none-member d (rw e at m)))
+        (λ e. absurd (none-among d (rw e at m)))
 
     -- it accepts within the span
     pub runs_of-within : (c : Configuration) → is_some ((runs_of terminator hay end states).accepted c) ≡ true → c.place ≤ end
@@ -163,7 +168,8 @@ module _ (terminator : ℕ) (hay : List ℕ) (end : ℕ) where
         (λ e. absurd (true≢false (sym (rw e at h))))
 
     -- what it accepts is what a state accepts
-    pub runs_of-accepts : (c : Configuration) (q : ℕ) → (runs_of terminator hay end states).accepted c ≡ Some q → state_accepts (get_or states c.state (choice [])) ≡ Some q
+    pub runs_of-accepts : (c : Configuration) (q : ℕ) → (runs_of terminator hay end states).accepted c ≡ Some q
+        → state_accepts (get_or states c.state (choice [])) ≡ Some q
     unfolding runs_of graph_of
     runs_of-accepts c q h =
         by_test (is_inside (machine_of terminator hay end states) end c)
@@ -204,7 +210,8 @@ module _ (r : Patterns) (hay : List ℕ) (end p : ℕ) (h : Expression) (i : ℕ
       (runs_of-within r.terminator hay end part.states) nowhere (at part.start i) t is
 
 -- a pattern's first run tells an end that the expression means
-pub first-means : (r : Patterns) (hay : List ℕ) (end p : ℕ) (h : Expression) → AreOrdered h → (i : ℕ) (t : Trace) → first r hay end p h i ≡ Some t → Means r.terminator hay h i t.end
+pub first-means : (r : Patterns) (hay : List ℕ) (end p : ℕ) (h : Expression) → AreOrdered h → (i : ℕ) (t : Trace) → first r hay end p h i ≡ Some t
+    → Means r.terminator hay h i t.end
 unfolding first
 first-means r hay end p h ordered i t is =
     let part = build_pattern (slot_of r p) p h in
@@ -216,7 +223,8 @@ first-means r hay end p h ordered i t is =
     subst (λ j. Means r.terminator hay h i j) ends (run-means r.terminator hay end (slot_of r p) p h ordered i x.0 run)
 
 -- where it has none, the expression means nothing from there within the span
-pub first-none : (r : Patterns) (hay : List ℕ) (end p : ℕ) (h : Expression) → AreOrdered h → (i : ℕ) → first r hay end p h i ≡ None → (j : ℕ) → j ≤ end → Means r.terminator hay h i j → ⊥
+pub first-none : (r : Patterns) (hay : List ℕ) (end p : ℕ) (h : Expression) → AreOrdered h → (i : ℕ) → first r hay end p h i ≡ None → (j : ℕ) → j ≤ end
+    → Means r.terminator hay h i j → ⊥
 unfolding first
 first-none r hay end p h ordered i none j le m =
     let part = build_pattern (slot_of r p) p h in

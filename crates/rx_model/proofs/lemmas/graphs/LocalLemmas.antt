@@ -9,9 +9,10 @@ use Rattle.rx_model.specs.Runs.{Configuration}
 use Rattle.rx_model.specs.Expression.{Expression, Expressions, empty, literal, class, look, repetition, capture, concat, alternation, nil, cons}
 use Rattle.rx_model.specs.Graph.{State, text, set, assertion, slot, choice, Builder, build_nothing, build_state, build_then, prefer, loop, loop_once, build_optional, copies, options, build_repetition, build_group, Parts, no_parts, build_beside, build_choice, build, build_in_turn, build_each, at, state_step}
 use Rattle.rx_model.proofs.lemmas.runs.RunLemmas.{by_test}
-use Rattle.rx_model.proofs.lemmas.runs.MemberLemmas.{number-cases, choice-member, only-member, none-member}
+use Rattle.rx_model.proofs.lemmas.runs.MemberLemmas.{choice-member, split-among, only-among, none-among}
 use Rattle.rx_model.proofs.lemmas.graphs.PlacedLemmas.{Placed, Placed-front, Placed-back, Placed-first, Placed-rest}
-use Rattle.rx_model.proofs.lemmas.runs.OrderLemmas.{g, IsState, Inside, Closes, successors-in, prefer-cases, slot-target, go_by-target}
+use Rattle.rx_model.proofs.lemmas.runs.OrderLemmas.{g, Inside, Closes, slot-target}
+use Rattle.rx_model.proofs.lemmas.graphs.StateLemmas.{IsStateOf, successors-in, go_by-target, prefer-cases}
 
 -- the next state, or one of the n states from base on
 abbrev pub Target : (next base n : ℕ) → ℕ → Type 0
@@ -39,13 +40,14 @@ module _ (terminator : ℕ) (hay : List ℕ) (end : ℕ) (whole : List State) wh
     goes = λ next base placed c d low high m. absurd (omega arith);
   }
 
-  pub Local-state : (state : ℕ → State) → ((next i : ℕ) (d : Configuration) → Contains (state_step terminator hay end (state next) i) d → next ≡ d.state) → Local (build_state state)
+  pub Local-state : (state : ℕ → State) → ((next i : ℕ) (d : Configuration) → Contains (state_step terminator hay end (state next) i) d → next ≡ d.state)
+      → Local (build_state state)
   Local-state state target = record {
     starts = λ next base. inr (omega arith, omega arith);
     goes = λ next base placed c d low high m.
         (let is = Placed-first whole base (state next) [] placed in
         let same : base ≡ c.state = omega arith in
-        inl (target next c.place d (successors-in terminator hay end whole c d (state next) (subst (λ q. IsState terminator hay end whole q (state next)) same is) m)));
+        inl (target next c.place d (successors-in terminator hay end whole c d (state next) (subst (λ q. IsStateOf whole q (state next)) same is) m)));
   }
 
   Local-then : (first second : Builder) → Local first → Local second → Local (build_then first second)
@@ -61,7 +63,8 @@ module _ (terminator : ℕ) (hay : List ℕ) (end : ℕ) (whole : List State) wh
         let long = length-append two.states one.states in
         by_test (nat_lt c.state (base + length two.states))
         (λ e. wide next base d.state (b.goes next base (Placed-front whole base two.states one.states placed) c d low (grind (arith, nat_tests)) m))
-        (λ e. up next base (a.goes two.start (base + length two.states) (Placed-back whole base two.states one.states placed) c d (grind (arith, nat_tests)) (omega arith) m) (b.starts next base)));
+        (λ e. up next base (a.goes two.start (base + length two.states) (Placed-back whole base two.states one.states placed) c d (grind (arith, nat_tests))
+        (omega arith) m) (b.starts next base)));
   }
     where
       wide : (next base q : ℕ) → Target next base (length (second next base).states) q → Target next base (length (build_then first second next base).states) q
@@ -71,8 +74,10 @@ module _ (terminator : ℕ) (hay : List ℕ) (end : ℕ) (whole : List State) wh
           let long = length-append two.states one.states in
           elim t [ inl e ↦ inl e | inr r ↦ inr (r.0, (let high = r.1 in omega arith)) ]
 
-      up : (next base : ℕ) {q : ℕ} → Target (second next base).start (base + length (second next base).states) (length (first (second next base).start (base + length (second next base).states)).states) q
-          → Target next base (length (second next base).states) (second next base).start → Target next base (length (build_then first second next base).states) q
+      up : (next base : ℕ) {q : ℕ} → Target (second next base).start (base + length (second next base).states)
+          (length (first (second next base).start (base + length (second next base).states)).states) q
+          → Target next base (length (second next base).states) (second next base).start
+          → Target next base (length (build_then first second next base).states) q
       up next base {q} t s =
           let two = second next base in
           let one = first two.start (base + length two.states) in
@@ -85,7 +90,8 @@ module _ (terminator : ℕ) (hay : List ℕ) (end : ℕ) (whole : List State) wh
   -- a choice at a state, before a part that lies after it; the part's own next state is known
   module _ (greedy : Bool) (body : Builder) (a : Local body) where
     prefer-goes : (next back base : ℕ) → Placed whole base (prefer greedy (body back (suc base)).start next ∷ (body back (suc base)).states)
-        → (c d : Configuration) → base ≤ c.state → c.state < base + suc (length (body back (suc base)).states) → Contains ((g terminator hay end whole).successors c) d
+        → (c d : Configuration) → base ≤ c.state → c.state < base + suc (length (body back (suc base)).states)
+        → Contains ((g terminator hay end whole).successors c) d
         → (next ≡ d.state) ⊎ Target back (suc base) (length (body back (suc base)).states) d.state
     prefer-goes next back base placed c d low high m =
         let b = body back (suc base) in
@@ -93,8 +99,8 @@ module _ (terminator : ℕ) (hay : List ℕ) (end : ℕ) (whole : List State) wh
         by_test (nat_eq c.state base)
         (λ e.
         let same : base ≡ c.state = grind (arith, nat_tests) in
-        let m' = successors-in terminator hay end whole c d (prefer greedy b.start next) (subst (λ q. IsState terminator hay end whole q (prefer greedy b.start next)) same is) m in
-        elim (prefer-cases terminator hay end whole greedy b.start next c.place d m') [
+        let m' = successors-in terminator hay end whole c d (prefer greedy b.start next) (subst (λ q. IsStateOf whole q (prefer greedy b.start next)) same is) m in
+        elim (prefer-cases terminator hay end greedy b.start next c.place d m') [
           | inl e' ↦ inr (subst (λ q. Target back (suc base) (length b.states) q) (ap (λ (z : Configuration). z.state) e') (a.starts back (suc base)))
           | inr e' ↦ inl (ap (λ (z : Configuration). z.state) e')
         ])
@@ -103,7 +109,8 @@ module _ (terminator : ℕ) (hay : List ℕ) (end : ℕ) (whole : List State) wh
         inr (a.goes back (suc base) (Placed-rest whole base (prefer greedy b.start next) b.states placed) c d above (omega arith) m))
 
     -- where the part comes back to the choice
-    around : (next base q : ℕ) → (next ≡ q) ⊎ Target base (suc base) (length (body base (suc base)).states) q → Target next base (suc (length (body base (suc base)).states)) q
+    around : (next base q : ℕ) → (next ≡ q) ⊎ Target base (suc base) (length (body base (suc base)).states) q
+        → Target next base (suc (length (body base (suc base)).states)) q
     around next base q t = elim t [
       | inl e ↦ inl e
       | inr t' ↦ elim t' [ inl e ↦ inr (omega arith, omega arith) | inr r ↦ inr ((let low = r.0 in omega arith), (let high = r.1 in omega arith)) ]
@@ -151,10 +158,12 @@ module _ (terminator : ℕ) (hay : List ℕ) (end : ℕ) (whole : List State) wh
           let wide : (q : ℕ) → Target next base (length inner.states) q → Target next base (length (inner.states ++ (prefer greedy b.start next ∷ b.states))) q
           = λ q t. elim t [ inl e ↦ inl e | inr r ↦ inr (r.0, (let high' = r.1 in omega arith)) ] in
           by_test (nat_lt c.state at_c)
-          (λ e. wide d.state (later.goes next base (Placed-front whole base inner.states (prefer greedy b.start next ∷ b.states) placed) c d low (grind (arith, nat_tests)) m))
+          (λ e. wide d.state (later.goes next base (Placed-front whole base inner.states (prefer greedy b.start next ∷ b.states) placed) c d low
+          (grind (arith, nat_tests)) m))
           (λ e.
           let above : at_c ≤ c.state = grind (arith, nat_tests) in
-          elim (prefer-goes next inner.start at_c (Placed-back whole base inner.states (prefer greedy b.start next ∷ b.states) placed) c d above (omega arith) m) [
+          elim (prefer-goes next inner.start at_c (Placed-back whole base inner.states (prefer greedy b.start next ∷ b.states) placed) c d above (omega arith)
+          m) [
             | inl e' ↦ inl e'
             | inr t' ↦ elim t' [
               | inl e' ↦ wide d.state (subst (λ x. Target next base (length inner.states) x) e' (later.starts next base))
@@ -167,28 +176,32 @@ module _ (terminator : ℕ) (hay : List ℕ) (end : ℕ) (whole : List State) wh
   Local-copies body last a l zero = l
   Local-copies body last a l (suc n) = Local-then body (copies n body last) a (Local-copies body last a l n)
 
-  pub Local-repetition : (consumes greedy : Bool) (body : Builder) → Local body → (least : ℕ) (most : Option ℕ) → Local (build_repetition consumes least most greedy body)
+  pub Local-repetition : (consumes greedy : Bool) (body : Builder) → Local body → (least : ℕ) (most : Option ℕ)
+      → Local (build_repetition consumes least most greedy body)
   Local-repetition true greedy body a zero None = Local-loop greedy body a
   Local-repetition false greedy body a zero None = Local-optional greedy (loop_once greedy body) (Local-loop_once greedy body a)
   Local-repetition consumes greedy body a (suc n) None = Local-copies body (loop_once greedy body) a (Local-loop_once greedy body a) n
   Local-repetition consumes greedy body a zero (Some m) = Local-options greedy body a (m - zero)
-  Local-repetition consumes greedy body a (suc n) (Some m) = Local-copies body (options greedy (m - suc n) body) a (Local-options greedy body a (m - suc n)) (suc n)
+  Local-repetition consumes greedy body a (suc n) (Some m) = Local-copies body (options greedy (m - suc n) body) a (Local-options greedy body a (m - suc n))
+      (suc n)
 
   Local-group : (number : Option ℕ) (body : Builder) → Local body → Local (build_group number body)
   Local-group None body a = a
   Local-group (Some number) body a =
-      Local-then (build_state (slot number)) (build_then body (build_state (slot (suc number)))) (Local-state (slot number) (slot-target terminator hay end whole number))
+      Local-then (build_state (slot number)) (build_then body (build_state (slot (suc number))))
+      (Local-state (slot number) (slot-target terminator hay end whole number))
       (Local-then body (build_state (slot (suc number))) a (Local-state (slot (suc number)) (slot-target terminator hay end whole (suc number))))
 
   look-target : (kind : Look) (next i : ℕ) (d : Configuration) → Contains (state_step terminator hay end (assertion kind next) i) d → next ≡ d.state
   look-target kind next i d m =
       by_test (holds terminator hay kind i)
-      (λ e. ap (λ (c : Configuration). c.state) (only-member (at next i) d (rw e at m)))
-      (λ e. absurd (none-member d (rw e at m)))
+      (λ e. ap (λ (c : Configuration). c.state) (only-among (at next i) d (rw e at m)))
+      (λ e. absurd (none-among d (rw e at m)))
 
   pub record LocalOne (parts : (next base : ℕ) → Parts) : Type 0 where
     pub starts : (next base q : ℕ) → Contains (parts next base).starts q → Target next base (length (parts next base).states) q
-    pub goes : (next base : ℕ) → Placed whole base (parts next base).states → (c d : Configuration) → base ≤ c.state → c.state < base + length (parts next base).states
+    pub goes : (next base : ℕ) → Placed whole base (parts next base).states → (c d : Configuration) → base ≤ c.state
+        → c.state < base + length (parts next base).states
         → Contains ((g terminator hay end whole).successors c) d → Target next base (length (parts next base).states) d.state
 
   LocalOne-none : LocalOne no_parts
@@ -202,7 +215,7 @@ module _ (terminator : ℕ) (hay : List ℕ) (end : ℕ) (whole : List State) wh
     starts = λ next base q m.
         (let f = first next base in
         let o = others next (base + length f.states) in
-        elim (number-cases f.start q o.starts m) [
+        elim (split-among f.start q o.starts m) [
           | inl e ↦ left next base q (subst (λ x. Target next base (length f.states) x) e (a.starts next base))
           | inr more ↦ right next base q (b.starts next (base + length f.states) q more)
         ]);
@@ -212,7 +225,8 @@ module _ (terminator : ℕ) (hay : List ℕ) (end : ℕ) (whole : List State) wh
         let long = length-append f.states o.states in
         by_test (nat_lt c.state (base + length f.states))
         (λ e. left next base d.state (a.goes next base (Placed-front whole base f.states o.states placed) c d low (grind (arith, nat_tests)) m))
-        (λ e. right next base d.state (b.goes next (base + length f.states) (Placed-back whole base f.states o.states placed) c d (grind (arith, nat_tests)) (omega arith) m)));
+        (λ e. right next base d.state (b.goes next (base + length f.states) (Placed-back whole base f.states o.states placed) c d (grind (arith, nat_tests))
+        (omega arith) m)));
   }
     where
       left : (next base q : ℕ) → Target next base (length (first next base).states) q → Target next base (length (build_beside first others next base).states) q
@@ -239,7 +253,7 @@ module _ (terminator : ℕ) (hay : List ℕ) (end : ℕ) (whole : List State) wh
         (λ e. wide d.state (a.goes next base (Placed-front whole base p.states (choice p.starts ∷ []) placed) c d low (grind (arith, nat_tests)) m))
         (λ e.
         let same : base + length p.states ≡ c.state = grind (arith, nat_tests) in
-        let m' = successors-in terminator hay end whole c d (choice p.starts) (subst (λ q. IsState terminator hay end whole q (choice p.starts)) same is) m in
+        let m' = successors-in terminator hay end whole c d (choice p.starts) (subst (λ q. IsStateOf whole q (choice p.starts)) same is) m in
         let y = choice-member p.starts c.place d m' in
         wide d.state (subst (λ q. Target next base (length p.states) q) (ap (λ (z : Configuration). z.state) y.2) (a.starts next base y.0 y.1))));
   }
@@ -250,8 +264,9 @@ module _ (terminator : ℕ) (hay : List ℕ) (end : ℕ) (whole : List State) wh
 
       pub local : (h : Expression) → Local (build slots h)
       local empty = Local-nothing
-      local (literal bytes) = Local-state (text bytes) (λ next i d m. go_by-target terminator hay end whole (if stands_at hay i bytes then Some (length bytes) else None) next i d m)
-      local (class members) = Local-state (set members) (λ next i d m. go_by-target terminator hay end whole (member_len hay members i) next i d m)
+      local (literal bytes) = Local-state (text bytes) (λ next i d m. go_by-target terminator hay end
+          (if stands_at hay i bytes then Some (length bytes) else None) next i d m)
+      local (class members) = Local-state (set members) (λ next i d m. go_by-target terminator hay end (member_len hay members i) next i d m)
       local (look kind) = Local-state (assertion kind) (look-target kind)
       local (repetition least most greedy sub) = Local-repetition (is_positive (minimum_len sub)) greedy (build slots sub) (local sub) least most
       local (capture group name sub) = Local-group (slots group) (build slots sub) (local sub)

@@ -23,7 +23,8 @@ Placed-back whole base xs ys p = record {
       ap (λ n. get_or whole n (choice [])) moved ∙ p.each (length xs + k) (omega arith) ∙ get_or-append-add xs ys k (choice []));
 }
 
-pub Placed-first : (whole : List State) (base : ℕ) (s : State) (rest : List State) → Placed whole base (s ∷ rest) → (base < length whole) × (get_or whole base (choice []) ≡ s)
+pub Placed-first : (whole : List State) (base : ℕ) (s : State) (rest : List State) → Placed whole base (s ∷ rest)
+    → (base < length whole) × (get_or whole base (choice []) ≡ s)
 Placed-first whole base s rest p =
     let zero_more : base ≡ base + 0 = omega arith in
     ((let h = p.within in omega arith), ap (λ n. get_or whole n (choice [])) zero_more ∙ p.each 0 (omega arith))

@@ -6,11 +6,9 @@ use Rattle.rx_model.specs.Runs.{Configuration, PriorityGraph, Passed, Sieve, sif
 pub use Rattle.rx_model.specs.Refinement.{moved, IsFresh, Stays, Reads, Fails, Refines}
 use Rattle.rx_model.proofs.lemmas.runs.RunLemmas.{by_test, same-self, same-true, same-differ, left, left-less}
 use Rattle.rx_model.proofs.lemmas.runs.FoundLemmas.{found-passed, found-accepted, found-step}
-use Rattle.rx_model.proofs.lemmas.runs.FirstLemmas.{here, there}
 use Rattle.rx_model.proofs.lemmas.graphs.SieveLemmas.{both, sieved-bounded, sieved-none, sieved-twice}
-
-nothing_in : (d : Configuration) → Contains [] d → ⊥
-nothing_in d member = let lt = member.1 in omega arith
+use Rattle.rx_model.proofs.lemmas.runs.MemberLemmas.{first-among, later-among, none-among}
+use Rattle.rx_model.proofs.lemmas.runs.WriteLemmas.{write-nothing-alone}
 
 module _ (g m : PriorityGraph) (f : ℕ → ℕ) where
   -- what was passed, seen from place i on
@@ -56,16 +54,18 @@ module _ (g m : PriorityGraph) (f : ℕ → ℕ) where
       ahead_m = λ e lt'. a.ahead_m e (omega arith);
     }
 
-    first_some-moved : (p q : Passed) (ds : List Configuration) → ((d : Configuration) → Contains ds d → found m' q (moved f d) ≡ found g' p d) → first_some (found m' q) (map (moved f) ds) ≡ first_some (found g' p) ds
+    first_some-moved : (p q : Passed) (ds : List Configuration) → ((d : Configuration) → Contains ds d → found m' q (moved f d) ≡ found g' p d)
+        → first_some (found m' q) (map (moved f) ds) ≡ first_some (found g' p) ds
     first_some-moved p q [] each = refl
     first_some-moved p q (d ∷ ds) each =
-        let first : found m' q (moved f d) ≡ found g' p d = each d (here d ds) in
-        let later = first_some-moved p q ds (λ e member. each e (there d e ds member)) in
+        let first : found m' q (moved f d) ≡ found g' p d = each d (first-among d ds) in
+        let later = first_some-moved p q ds (λ e member. each e (later-among d e ds member)) in
         rw (first, later) refl
 
     -- one step, where what was passed is alike
     alike-step : (p q : Passed) (c : Configuration) → IsLive c.state → Alike IsLive p q c.place
-        → ((p' q' : Passed) (d : Configuration) → p c ≡ false → p' ≡ and_at c p → Contains (g.successors c) d → Alike IsLive p' q' d.place → found m' q' (moved f d) ≡ found g' p' d)
+        → ((p' q' : Passed) (d : Configuration) → p c ≡ false → p' ≡ and_at c p → Contains (g.successors c) d → Alike IsLive p' q' d.place
+        → found m' q' (moved f d) ≡ found g' p' d)
         → found m' q (moved f c) ≡ found g' p c
     alike-step p q c live a next =
         let images : q (moved f c) ≡ p c = a.images c.state live in
@@ -78,7 +78,8 @@ module _ (g m : PriorityGraph) (f : ℕ → ℕ) where
 
         -- a step of each graph, where the sieved one does not accept
         m-step : p c ≡ false → m'.accepted (moved f c) ≡ None
-            → found m' q (moved f c) ≡ option_map (with_write (m.written (moved f c)) c.place) (first_some (found m' (and_at (moved f c) q)) (m.successors (moved f c)))
+            → found m' q (moved f c) ≡ option_map (with_write (m.written (moved f c)) c.place)
+            (first_some (found m' (and_at (moved f c) q)) (m.successors (moved f c)))
         m-step new none = found-step m' q (sieved-bounded ok m bounded_m) (moved f c) (a.images c.state live ∙ new) none
 
         g-step : p c ≡ false → g'.accepted c ≡ None
@@ -90,28 +91,28 @@ module _ (g m : PriorityGraph) (f : ℕ → ℕ) where
             m-step new (sieved-none ok m (moved f c) (r.accepted c live ∙ none))
             ∙ (λ i. option_map (with_write (s.written i) c.place) (first_some (found m' (and_at (moved f c) q)) (s.successors i)))
             ∙ ap (option_map (with_write (g.written c) c.place)) (first_some-moved (and_at c p) (and_at (moved f c) q) (g.successors c)
-            (λ d member. next (and_at c p) (and_at (moved f c) q) d new refl member (subst (λ i. Alike IsLive (and_at c p) (and_at (moved f c) q) i) (sym (s.places d member)) (Alike-on p q c live a))))
+            (λ d member. next (and_at c p) (and_at (moved f c) q) d new refl member
+            (subst (λ i. Alike IsLive (and_at c p) (and_at (moved f c) q) i) (sym (s.places d member)) (Alike-on p q c live a))))
             ∙ sym (g-step new (sieved-none ok g c none))
         goes_on new none (inr (inl s)) =
             s.reads ok q (fresh new)
-            ∙ next (and_at c p) q s.target new refl (subst (λ ds. Contains ds s.target) (sym s.successors) (here s.target [])) (Alike-later p q c s.target a s.later)
+            ∙ next (and_at c p) q s.target new refl (subst (λ ds. Contains ds s.target) (sym s.successors) (first-among s.target []))
+            (Alike-later p q c s.target a s.later)
             ∙ sym (g-step new (sieved-none ok g c none)
             ∙ (λ i. option_map (with_write (s.written i) c.place) (first_some (found g' (and_at c p)) (s.successors i)))
-            ∙ single (found g' (and_at c p) s.target))
-          where
-            single : (o : Option Trace) → option_map (with_write None c.place) (option_or o None) ≡ o
-            single None = refl
-            single (Some t) = refl
+            ∙ write-nothing-alone c.place (found g' (and_at c p) s.target))
         goes_on new none (inr (inr s)) =
             s.fails ok q (fresh new)
-            ∙ sym (g-step new (sieved-none ok g c none) ∙ ap (λ ds. option_map (with_write (g.written c) c.place) (first_some (found g' (and_at c p)) ds)) s.successors)
+            ∙ sym (g-step new (sieved-none ok g c none) ∙ ap (λ ds. option_map (with_write (g.written c) c.place) (first_some (found g' (and_at c p)) ds))
+            s.successors)
 
         -- where c accepts, and may or may not
         accepts : p c ≡ false → (pattern : ℕ) → g.accepted c ≡ Some pattern → (b : Bool) → ok pattern c.place ≡ b → found m' q (moved f c) ≡ found g' p c
         accepts new pattern e true permitted =
             let in_g : g'.accepted c ≡ Some pattern = ap (sifted ok c.place) e ∙ ap (λ b. if b then Some pattern else None) permitted in
             let in_m : m'.accepted (moved f c) ≡ Some pattern = ap (sifted ok c.place) (r.accepted c live) ∙ in_g in
-            found-accepted m' q (sieved-bounded ok m bounded_m) (moved f c) pattern (a.images c.state live ∙ new) in_m ∙ sym (found-accepted g' p (sieved-bounded ok g bounded_g) c pattern new in_g)
+            found-accepted m' q (sieved-bounded ok m bounded_m) (moved f c) pattern (a.images c.state live ∙ new) in_m
+            ∙ sym (found-accepted g' p (sieved-bounded ok g bounded_g) c pattern new in_g)
         accepts new pattern e false refused =
             let in_g : g'.accepted c ≡ None = ap (sifted ok c.place) e ∙ ap (λ b. if b then Some pattern else None) refused in
             let in_m : m'.accepted (moved f c) ≡ None = ap (sifted ok c.place) (r.accepted c live) ∙ in_g in
@@ -124,18 +125,19 @@ module _ (g m : PriorityGraph) (f : ℕ → ℕ) where
         accepts_or_not new (Some pattern) e = accepts new pattern e (ok pattern c.place) refl
         accepts_or_not new None e = goes_on new e (r.goes_on c live e)
 
-    found-alike : (n : ℕ) (p q : Passed) (c : Configuration) → left g.all p ≤ n → IsLive c.state → Alike IsLive p q c.place → found m' q (moved f c) ≡ found g' p c
+    found-alike : (n : ℕ) (p q : Passed) (c : Configuration) → left g.all p ≤ n → IsLive c.state → Alike IsLive p q c.place
+        → found m' q (moved f c) ≡ found g' p c
     found-alike zero p q c le live a =
         alike-step p q c live a (λ p' q' d new is member a'.
         by_test (is_among g.all c)
         (λ there. let less = left-less g.all c p there new in absurd (omega arith))
-        (λ gone. absurd (nothing_in d (subst (λ ds. Contains ds d) (bounded_g.goes_nowhere c gone) member))))
+        (λ gone. absurd (none-among d (subst (λ ds. Contains ds d) (bounded_g.goes_nowhere c gone) member))))
     found-alike (suc n) p q c le live a =
         alike-step p q c live a (λ p' q' d new is member a'.
         by_test (is_among g.all c)
         (λ there. let less = left-less g.all c p there new in
         found-alike n p' q' d (rw is (omega arith)) (r.stays_live c d live member) a')
-        (λ gone. absurd (nothing_in d (subst (λ ds. Contains ds d) (bounded_g.goes_nowhere c gone) member))))
+        (λ gone. absurd (none-among d (subst (λ ds. Contains ds d) (bounded_g.goes_nowhere c gone) member))))
 
     -- the two graphs have the same first runs
     pub Refines-found : (c : Configuration) → IsLive c.state → found m' nowhere (moved f c) ≡ found g' nowhere c
@@ -166,7 +168,8 @@ module _ (g m : PriorityGraph) (f : ℕ → ℕ) where
       goes_on = λ c live none. goes_on c live none (g.accepted c) refl;
     }
       where
-        ends : (c : Configuration) → IsLive c.state → (o : Option ℕ) → g.accepted c ≡ o → is_some (g'.accepted c) ≡ true → (g.successors c ≡ []) × (m.successors (moved f c) ≡ [])
+        ends : (c : Configuration) → IsLive c.state → (o : Option ℕ) → g.accepted c ≡ o → is_some (g'.accepted c) ≡ true
+            → (g.successors c ≡ []) × (m.successors (moved f c) ≡ [])
         ends c live (Some pattern) e accepts = r.ends c live (ap is_some e)
         ends c live None e accepts = absurd (true≢false (sym accepts ∙ ap is_some (sieved-none ok g c e)))
 
@@ -177,7 +180,8 @@ module _ (g m : PriorityGraph) (f : ℕ → ℕ) where
           written = s.written;
           successors = s.successors;
           later = s.later;
-          reads = λ ok' p fresh. (ap (λ x. found x p (moved f c)) (sieved-twice ok ok' m) ∙ s.reads (both ok ok') p fresh ∙ sym (ap (λ x. found x p (moved f s.target)) (sieved-twice ok ok' m)));
+          reads = λ ok' p fresh. (ap (λ x. found x p (moved f c)) (sieved-twice ok ok' m) ∙ s.reads (both ok ok') p fresh
+              ∙ sym (ap (λ x. found x p (moved f s.target)) (sieved-twice ok ok' m)));
         }))
         kinds c (inr (inr s)) = inr (inr (record {
           successors = s.successors;
@@ -185,13 +189,15 @@ module _ (g m : PriorityGraph) (f : ℕ → ℕ) where
         }))
 
         -- what accepts and may not goes nowhere
-        goes_on : (c : Configuration) → IsLive c.state → g'.accepted c ≡ None → (o : Option ℕ) → g.accepted c ≡ o → Stays g' m' f c ⊎ Reads g' m' f c ⊎ Fails g' m' f c
+        goes_on : (c : Configuration) → IsLive c.state → g'.accepted c ≡ None → (o : Option ℕ) → g.accepted c ≡ o
+            → Stays g' m' f c ⊎ Reads g' m' f c ⊎ Fails g' m' f c
         goes_on c live none None e = kinds c (r.goes_on c live e)
         goes_on c live none (Some pattern) e =
             let ends = r.ends c live (ap is_some e) in
             inr (inr (record {
               successors = ends.0;
               fails = λ ok' p fresh.
-                  (found-step (sieved ok' m') p (sieved-bounded ok' m' (sieved-bounded ok m bounded_m)) (moved f c) fresh.new (sieved-none ok' m' (moved f c) (ap (sifted ok c.place) (r.accepted c live) ∙ none))
+                  (found-step (sieved ok' m') p (sieved-bounded ok' m' (sieved-bounded ok m bounded_m)) (moved f c) fresh.new
+                  (sieved-none ok' m' (moved f c) (ap (sifted ok c.place) (r.accepted c live) ∙ none))
                   ∙ ap (λ ds. option_map (with_write (m.written (moved f c)) c.place) (first_some (found (sieved ok' m') (and_at (moved f c) p)) ds)) ends.1);
             }))

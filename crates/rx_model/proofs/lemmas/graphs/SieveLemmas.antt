@@ -72,10 +72,12 @@ AgreesButForWrites-sieved ok g m agrees = record {
 pub first-everywhere : (r : Patterns) (text : List ℕ) (end p : ℕ) (h : Expression) (i : ℕ) → first_where everywhere r text end p h i ≡ first r text end p h i
 unfolding first first_where
 first-everywhere r text end p h i =
-    ap (λ g. first_trace g (at (build_pattern (slot_of r p) p h).start i)) (sieved-everywhere (runs_of r.terminator text end (build_pattern (slot_of r p) p h).states))
+    ap (λ g. first_trace g (at (build_pattern (slot_of r p) p h).start i))
+    (sieved-everywhere (runs_of r.terminator text end (build_pattern (slot_of r p) p h).states))
 
 pub first_of_patterns-everywhere : (r : Patterns) (text : List ℕ) (end p : ℕ) (hs : List Expression) (i : ℕ)
     → first_of_patterns_where everywhere r text end p hs i ≡ first_of_patterns r text end p hs i
 unfolding first_of_patterns first_of_patterns_where
 first_of_patterns-everywhere r text end p [] i = refl
-first_of_patterns-everywhere r text end p (h ∷ hs) i = λ j. option_or (first-everywhere r text end p h i j) (first_of_patterns-everywhere r text end (suc p) hs i j)
+first_of_patterns-everywhere r text end p (h ∷ hs) i = λ j. option_or (first-everywhere r text end p h i j)
+    (first_of_patterns-everywhere r text end (suc p) hs i j)

@@ -35,12 +35,14 @@ module _ (ok : Sieve) (g : PriorityGraph) where
   run-unsieved p c (d ∷ run) r = (r.0, r.1, run-unsieved (and_at c p) d run r.2)
 
   -- and ends where its pattern may be accepted
-  pub run-permitted : (p : Passed) (c : Configuration) (run : List Configuration) (pattern : ℕ) → IsRun (sieved ok g) p c run → g.accepted (last_of c run) ≡ Some pattern → ok pattern (last_of c run).place ≡ true
+  pub run-permitted : (p : Passed) (c : Configuration) (run : List Configuration) (pattern : ℕ) → IsRun (sieved ok g) p c run
+      → g.accepted (last_of c run) ≡ Some pattern → ok pattern (last_of c run).place ≡ true
   run-permitted p c [] pattern r e = sifted-permits ok c.place pattern (g.accepted c) e r.1
   run-permitted p c (d ∷ run) pattern r e = run-permitted (and_at c p) d run pattern r.2 e
 
   -- a run of the graph that ends so is one of the sieved graph
-  pub run-sieved : (p : Passed) (c : Configuration) (run : List Configuration) (pattern : ℕ) → IsRun g p c run → g.accepted (last_of c run) ≡ Some pattern → ok pattern (last_of c run).place ≡ true → IsRun (sieved ok g) p c run
+  pub run-sieved : (p : Passed) (c : Configuration) (run : List Configuration) (pattern : ℕ) → IsRun g p c run → g.accepted (last_of c run) ≡ Some pattern
+      → ok pattern (last_of c run).place ≡ true → IsRun (sieved ok g) p c run
   run-sieved p c [] pattern r e permitted = (r.0, ap is_some (sifted-is ok c.place pattern (g.accepted c) e permitted))
   run-sieved p c (d ∷ run) pattern r e permitted = (r.0, r.1, run-sieved (and_at c p) d run pattern r.2 e permitted)
 
@@ -61,7 +63,8 @@ module _ (ok : Sieve) (r : Patterns) (hay : List ℕ) (end p : ℕ) (h : Express
   accepts : (run : List Configuration) → IsRun graph nowhere from run → graph.accepted (last_of from run) ≡ Some p
   accepts run is =
       let q = run-pattern graph nowhere from run is in
-      q.1 ∙ ap Some (pattern-accepts (slot_of r p) p h (last_of from run).state q.0 (runs_of-accepts r.terminator hay end part.states (last_of from run) q.0 q.1))
+      q.1 ∙ ap Some (pattern-accepts (slot_of r p) p h (last_of from run).state q.0
+      (runs_of-accepts r.terminator hay end part.states (last_of from run) q.0 q.1))
 
   module _ (t : Trace) (is : first_where ok r hay end p h i ≡ Some t) where
     taken : (run : List Configuration) × (first_past (sieved ok graph) nowhere from ≡ Some run) × (trace (sieved ok graph) from run ≡ t)
@@ -128,7 +131,8 @@ module _ (ok : Sieve) (r : Patterns) (hay : List ℕ) (end p i : ℕ) (alone : (
   or-nothing None = refl
   or-nothing (Some t) = refl
 
-  pub first-alone : (k n : ℕ) (hs : List Expression) (h : Expression) → p ≡ k + n → slice_get hs n ≡ Some h → first_of_patterns_where ok r hay end k hs i ≡ first_where ok r hay end p h i
+  pub first-alone : (k n : ℕ) (hs : List Expression) (h : Expression) → p ≡ k + n → slice_get hs n ≡ Some h
+      → first_of_patterns_where ok r hay end k hs i ≡ first_where ok r hay end p h i
   unfolding first_of_patterns_where
   first-alone k n [] h is there = none-is-some there
   first-alone k zero (x ∷ hs) h is there =

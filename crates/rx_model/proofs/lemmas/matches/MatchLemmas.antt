@@ -1,7 +1,6 @@
 -- The next match is at the least start, of the least pattern there.
-use Rattle.std.proofs.Common.{◌≡◌, ℕ, zero, suc, ◌+◌, ◌-◌, ◌≤◌, ◌<◌, ◌⊎◌, Bool, true, false, List, [], ◌∷◌, Option, Some, None, slice_get, refl, sym, ◌∙◌, ap, subst, inl, inr, arith}
+use Rattle.std.proofs.Common.{◌≡◌, ℕ, zero, suc, ◌+◌, ◌-◌, ◌≤◌, ◌<◌, Bool, true, false, List, [], ◌∷◌, Option, Some, None, slice_get, refl, sym, ◌∙◌, ap, subst, inl, inr, arith}
 use Rattle.std.specs.Prelude.{option_map, if◌then◌else◌, nat_lt, nat_le, IsTrue}
-use Rattle.std.specs.Option.{option_or}
 use Rattle.std.proofs.lemmas.Bool.Decides.{nat_tests}
 use Rattle.rx_model.specs.Expression.{Expression}
 use Rattle.rx_model.specs.Runs.{Trace}
@@ -10,10 +9,12 @@ use Rattle.rx_model.specs.Matches.{IsStart, IsSought, MayStart, HasFirstRun, IsN
 use Rattle.rx_model.proofs.lemmas.runs.RunLemmas.{by_test, or-none, map-none}
 use Rattle.rx_model.proofs.lemmas.runs.FirstLemmas.{none-is-some, some-is, tells}
 use Rattle.rx_model.proofs.lemmas.graphs.GraphLemmas.{first-pattern, first-end}
+use Rattle.rx_model.proofs.lemmas.runs.OptionLemmas.{or-cases}
 
 -- What a search answers depends only on what a match from each start tells.
 
-pub first_start-alike : (permitted : ℕ → Bool) (from from' : ℕ → Option Trace) → ((i : ℕ) → from i ≡ from' i) → (n i : ℕ) → first_start permitted from n i ≡ first_start permitted from' n i
+pub first_start-alike : (permitted : ℕ → Bool) (from from' : ℕ → Option Trace) → ((i : ℕ) → from i ≡ from' i) → (n i : ℕ)
+    → first_start permitted from n i ≡ first_start permitted from' n i
 unfolding first_start
 first_start-alike permitted from from' alike zero i = refl
 first_start-alike permitted from from' alike (suc n) i =
@@ -22,7 +23,8 @@ first_start-alike permitted from from' alike (suc n) i =
 pub next_after-alike : (search search' : ℕ → Option Match) → ((i : ℕ) → search i ≡ search' i) → (i : ℕ) → next_after search i ≡ next_after search' i
 next_after-alike search search' alike i = λ k. if is_empty_at i (alike i k) then alike (i + 1) k else alike i k
 
-pub matches_from-alike : (search search' : ℕ → Option Match) → ((i : ℕ) → search i ≡ search' i) → (n : ℕ) (m : Option Match) → matches_from search n m ≡ matches_from search' n m
+pub matches_from-alike : (search search' : ℕ → Option Match) → ((i : ℕ) → search i ≡ search' i) → (n : ℕ) (m : Option Match)
+    → matches_from search n m ≡ matches_from search' n m
 unfolding matches_from
 matches_from-alike search search' alike zero m = refl
 matches_from-alike search search' alike (suc n) None = refl
@@ -39,11 +41,8 @@ started i t = record { start = i; trace = t }
 abbrev at_start : (ℕ → Bool) → (ℕ → Option Trace) → ℕ → Option Match
 at_start permitted from i = if permitted i then option_map (started i) (from i) else None
 
-or-cases : {A : Type 0} (a b : Option A) (x : A) → option_or a b ≡ Some x → (a ≡ Some x) ⊎ ((a ≡ None) × (b ≡ Some x))
-or-cases None b x h = inr (refl, h)
-or-cases (Some y) b x h = inl h
-
-at_start-some : (permitted : ℕ → Bool) (from : ℕ → Option Trace) (i : ℕ) (m : Match) → at_start permitted from i ≡ Some m → (m.start ≡ i) × IsTrue (permitted i) × (from i ≡ Some m.trace)
+at_start-some : (permitted : ℕ → Bool) (from : ℕ → Option Trace) (i : ℕ) (m : Match) → at_start permitted from i ≡ Some m
+    → (m.start ≡ i) × IsTrue (permitted i) × (from i ≡ Some m.trace)
 at_start-some permitted from i m h = cases (permitted i) (from i) refl refl h
   where
     cases : (p : Bool) (o : Option Trace) → permitted i ≡ p → from i ≡ o → (if p then option_map (started i) o else None) ≡ Some m
@@ -62,7 +61,8 @@ pub record IsFirstStart (permitted : ℕ → Bool) (from : ℕ → Option Trace)
   pub told : from m.start ≡ Some m.trace
   pub none_before : (j : ℕ) → i ≤ j → j < m.start → IsTrue (permitted j) → from j ≡ None
 
-pub first_start-some : (permitted : ℕ → Bool) (from : ℕ → Option Trace) (n i : ℕ) (m : Match) → first_start permitted from n i ≡ Some m → IsFirstStart permitted from n i m
+pub first_start-some : (permitted : ℕ → Bool) (from : ℕ → Option Trace) (n i : ℕ) (m : Match) → first_start permitted from n i ≡ Some m
+    → IsFirstStart permitted from n i m
 unfolding first_start
 first_start-some permitted from zero i m h = none-is-some h
 first_start-some permitted from (suc n) i m h =
@@ -92,7 +92,8 @@ first_start-some permitted from (suc n) i m h =
           }
     ]
 
-pub first_start-none : (permitted : ℕ → Bool) (from : ℕ → Option Trace) (n i : ℕ) → first_start permitted from n i ≡ None → (j : ℕ) → i ≤ j → j < i + n → IsTrue (permitted j) → from j ≡ None
+pub first_start-none : (permitted : ℕ → Bool) (from : ℕ → Option Trace) (n i : ℕ) → first_start permitted from n i ≡ None → (j : ℕ) → i ≤ j → j < i + n
+    → IsTrue (permitted j) → from j ≡ None
 unfolding first_start
 first_start-none permitted from zero i h j low high p = absurd (omega arith)
 first_start-none permitted from (suc n) i h j low high p =
@@ -103,7 +104,8 @@ first_start-none permitted from (suc n) i h j low high p =
     ap from e ∙ at_start-none permitted from i both.0 (subst (λ k. IsTrue (permitted k)) e p))
 
 -- a start from which something is told is the first of the places from it on
-pub first_start-here : (permitted : ℕ → Bool) (from : ℕ → Option Trace) (n : ℕ) (m : Match) → 0 < n → IsTrue (permitted m.start) → from m.start ≡ Some m.trace → first_start permitted from n m.start ≡ Some m
+pub first_start-here : (permitted : ℕ → Bool) (from : ℕ → Option Trace) (n : ℕ) (m : Match) → 0 < n → IsTrue (permitted m.start) → from m.start ≡ Some m.trace
+    → first_start permitted from n m.start ≡ Some m
 unfolding first_start
 first_start-here permitted from zero m lt p told = absurd (omega arith)
 first_start-here permitted from (suc n) m lt p told = rw (p, told) refl
@@ -140,7 +142,8 @@ module _ (r : Patterns) (text : List ℕ) (end i : ℕ) where
       earlier k others zero h' lt is none = ap (λ q. first r text end q h' i) zero_more ∙ subst (λ x. first r text end p x i ≡ None) (some-is is) none
       earlier k others (suc j) h' lt is none = ap (λ q. first r text end q h' i) (moved j) ∙ others j h' (omega arith) is
 
-  pub first_of_patterns-none : (p : ℕ) (hs : List Expression) → first_of_patterns r text end p hs i ≡ None → (k : ℕ) (h : Expression) → slice_get hs k ≡ Some h → first r text end (p + k) h i ≡ None
+  pub first_of_patterns-none : (p : ℕ) (hs : List Expression) → first_of_patterns r text end p hs i ≡ None → (k : ℕ) (h : Expression) → slice_get hs k ≡ Some h
+      → first r text end (p + k) h i ≡ None
   unfolding first_of_patterns
   first_of_patterns-none p [] e k h is = none-is-some is
   first_of_patterns-none p (x ∷ hs) e zero h is =
@@ -157,7 +160,8 @@ module _ (r : Patterns) (text : List ℕ) (b : ℕ) where
     pub run : HasFirstRun r text anchor b i t.pattern t
     pub least : (p : ℕ) (u : Trace) → HasFirstRun r text anchor b i p u → t.pattern ≤ p
 
-  all-some : (anchor : Anchor) → ((p : ℕ) → IsSought anchor p) → (i : ℕ) (t : Trace) → first_of_patterns r text b 0 r.expressions i ≡ Some t → IsLeastRun anchor i t
+  all-some : (anchor : Anchor) → ((p : ℕ) → IsSought anchor p) → (i : ℕ) (t : Trace) → first_of_patterns r text b 0 r.expressions i ≡ Some t
+      → IsLeastRun anchor i t
   all-some anchor sought i t e =
       let x = first_of_patterns-some r text b i 0 r.expressions t e in
       let none_more : 0 + x.0 ≡ x.0 = omega arith in
@@ -179,7 +183,8 @@ module _ (r : Patterns) (text : List ℕ) (b : ℕ) where
       let none_more : 0 + p ≡ p = omega arith in
       none-is-some (sym (first_of_patterns-none r text b i 0 r.expressions e p has.1.0 has.1.1) ∙ ap (λ q. first r text b q has.1.0 i) none_more ∙ has.1.2)
 
-  one-some : (p i : ℕ) (t : Trace) (o : Option Expression) → slice_get r.expressions p ≡ o → first_of_pattern r text b p o i ≡ Some t → IsLeastRun (anchored_to p) i t
+  one-some : (p i : ℕ) (t : Trace) (o : Option Expression) → slice_get r.expressions p ≡ o → first_of_pattern r text b p o i ≡ Some t
+      → IsLeastRun (anchored_to p) i t
   one-some p i t None is e = none-is-some e
   one-some p i t (Some h) is e =
       let same : t.pattern ≡ p = first-pattern r text b p h i t e in
@@ -188,7 +193,8 @@ module _ (r : Patterns) (text : List ℕ) (b : ℕ) where
         least = λ q u has. (let only = has.0 in omega arith);
       }
 
-  one-none : (p i : ℕ) (o : Option Expression) → slice_get r.expressions p ≡ o → first_of_pattern r text b p o i ≡ None → (q : ℕ) (t : Trace) → HasFirstRun r text (anchored_to p) b i q t → ⊥
+  one-none : (p i : ℕ) (o : Option Expression) → slice_get r.expressions p ≡ o → first_of_pattern r text b p o i ≡ None → (q : ℕ) (t : Trace)
+      → HasFirstRun r text (anchored_to p) b i q t → ⊥
   one-none p i None is e q t has = none-is-some (sym (ap (λ x. slice_get r.expressions x) has.0 ∙ is) ∙ has.1.1)
   one-none p i (Some h) is e q t has =
       let there : slice_get r.expressions p ≡ Some has.1.0 = ap (λ x. slice_get r.expressions x) (sym has.0) ∙ has.1.1 in
@@ -251,7 +257,8 @@ module _ (r : Patterns) (text : List ℕ) (anchor : Anchor) (b a : ℕ) where
   unfolding next_match
   next-none e i p t may has =
       let within = IsStart-within anchor b a i may.0 in
-      starting_at-none r text b anchor i (first_start-none (is_permitted r.utf8_empty text) (starting_at r text b anchor) (starts anchor a b) a e i within.0 within.1 may.1) p t has
+      starting_at-none r text b anchor i (first_start-none (is_permitted r.utf8_empty text) (starting_at r text b anchor) (starts anchor a b) a e i within.0
+      within.1 may.1) p t has
 
   -- there is one next match
   IsNextMatch-one : (m n : Match) → IsNextMatch r text anchor b a m → IsNextMatch r text anchor b a n → m ≡ n

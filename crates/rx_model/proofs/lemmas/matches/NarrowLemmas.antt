@@ -11,13 +11,13 @@ use Rattle.rx_model.specs.Graph.{State, text, set, assertion, slot, choice, acce
 use Rattle.rx_model.specs.Search.{Patterns, slot_of, first, first_where, first_of_patterns_where, Anchor, anchored_to, Match, next_match}
 use Rattle.rx_model.proofs.lemmas.runs.RunLemmas.{by_test, map-none}
 use Rattle.rx_model.proofs.lemmas.runs.FirstLemmas.{none-is-some, some-is, found-is_run, first-is_first, is_first-found, none-is_none}
-use Rattle.rx_model.proofs.lemmas.runs.MemberLemmas.{none-member, only-member}
 use Rattle.rx_model.proofs.lemmas.runs.RiseLemmas.{trace-end, run-rises, mapped-some}
 use Rattle.rx_model.proofs.lemmas.graphs.GraphLemmas.{runs_of-bounded, runs_of-rises, runs_of-within}
 use Rattle.rx_model.proofs.lemmas.graphs.SieveLemmas.{sieved-bounded, sieved-rises, first-everywhere}
 use Rattle.rx_model.proofs.lemmas.matches.MatchLemmas.{next-is, is-next, next-within}
 use Rattle.rx_model.proofs.lemmas.graphs.SievedLemmas.{by_trace, sifted-some}
 use Rattle.rx_model.proofs.lemmas.matches.WithinLemmas.{successor-later, written-later}
+use Rattle.rx_model.proofs.lemmas.runs.MemberLemmas.{only-among, none-among}
 
 module _ (terminator : ℕ) (hay : List ℕ) (states : List State) (end later : ℕ) (le : end ≤ later) where
   abbrev near : PriorityGraph
@@ -27,17 +27,19 @@ module _ (terminator : ℕ) (hay : List ℕ) (states : List State) (end later : 
   far = runs_of terminator hay later states
 
   -- a step that comes to a place by the end is one of the same steps within it
-  go_by-nearer : (o : Option ℕ) (next i : ℕ) (d : Configuration) → Contains (go_by terminator hay later o next i) d → d.place ≤ end → go_by terminator hay end o next i ≡ go_by terminator hay later o next i
+  go_by-nearer : (o : Option ℕ) (next i : ℕ) (d : Configuration) → Contains (go_by terminator hay later o next i) d → d.place ≤ end
+      → go_by terminator hay end o next i ≡ go_by terminator hay later o next i
   go_by-nearer None next i d m low = refl
   go_by-nearer (Some n) next i d m low =
       by_test (nat_le (i + n) later)
       (λ fits.
-      let place : i + n ≡ d.place = ap (λ (c : Configuration). c.place) (only-member (at next (i + n)) d (rw fits at m)) in
+      let place : i + n ≡ d.place = ap (λ (c : Configuration). c.place) (only-among (at next (i + n)) d (rw fits at m)) in
       let fits' : nat_le (i + n) end ≡ true = grind (arith, nat_tests) in
       rw (fits, fits') refl)
-      (λ none. absurd (none-member d (rw none at m)))
+      (λ none. absurd (none-among d (rw none at m)))
 
-  step-nearer : (s : State) (i : ℕ) (d : Configuration) → Contains (state_step terminator hay later s i) d → d.place ≤ end → state_step terminator hay end s i ≡ state_step terminator hay later s i
+  step-nearer : (s : State) (i : ℕ) (d : Configuration) → Contains (state_step terminator hay later s i) d → d.place ≤ end
+      → state_step terminator hay end s i ≡ state_step terminator hay later s i
   step-nearer (text bytes next) i d m low = go_by-nearer (if stands_at hay i bytes then Some (length bytes) else None) next i d m low
   step-nearer (set members next) i d m low = go_by-nearer (member_len hay members i) next i d m low
   step-nearer (assertion kind next) i d m low = refl
@@ -53,7 +55,7 @@ module _ (terminator : ℕ) (hay : List ℕ) (states : List State) (end later : 
       (λ e.
       let e' : is_inside (machine_of terminator hay end states) end c ≡ true = grind (arith, nat_tests) in
       rw (e, e') (step-nearer (state_at states c.state) c.place d (rw e at m) low))
-      (λ e. absurd (none-member d (rw e at m)))
+      (λ e. absurd (none-among d (rw e at m)))
 
   accepted-nearer : (c : Configuration) → c.place ≤ end → near.accepted c ≡ far.accepted c
   unfolding runs_of graph_of
@@ -69,7 +71,8 @@ module _ (terminator : ℕ) (hay : List ℕ) (states : List State) (end later : 
     far-bounded : IsBounded (sieved ok far)
     far-bounded = sieved-bounded ok far (runs_of-bounded terminator hay later states)
 
-    run-nearer : (p : Passed) (c : Configuration) (run : List Configuration) → IsRun (sieved ok far) p c run → (last_of c run).place ≤ end → IsRun (sieved ok near) p c run
+    run-nearer : (p : Passed) (c : Configuration) (run : List Configuration) → IsRun (sieved ok far) p c run → (last_of c run).place ≤ end
+        → IsRun (sieved ok near) p c run
     run-nearer p c [] r low = (r.0, ap (λ o. is_some (sifted ok c.place o)) (accepted-nearer c low) ∙ r.1)
     run-nearer p c (d ∷ run) r low =
         let up = run-rises (sieved ok far) (sieved-rises ok far (runs_of-rises terminator hay later states)) (and_at c p) d run r.2 in
@@ -81,7 +84,8 @@ module _ (terminator : ℕ) (hay : List ℕ) (states : List State) (end later : 
         (r.0, sym (ap (λ o. is_some (sifted ok c.place o)) (accepted-nearer c low)) ∙ r.1)
     run-further p c (d ∷ run) r = (r.0, successor-later terminator hay states end later le c d r.1, run-further (and_at c p) d run r.2)
 
-    less-nearer : (p : Passed) (c : Configuration) (r s : List Configuration) → IsRun (sieved ok far) p c r → (last_of c r).place ≤ end → IsLess (sieved ok far) c r s → IsLess (sieved ok near) c r s
+    less-nearer : (p : Passed) (c : Configuration) (r s : List Configuration) → IsRun (sieved ok far) p c r → (last_of c r).place ≤ end
+        → IsLess (sieved ok far) c r s → IsLess (sieved ok near) c r s
     less-nearer p c [] [] is low less = less
     less-nearer p c [] (e ∷ s) is low less = tt
     less-nearer p c (d ∷ r) [] is low less = less
@@ -90,7 +94,8 @@ module _ (terminator : ℕ) (hay : List ℕ) (states : List State) (end later : 
         inl (subst (λ ds. IsBefore ds d e) (sym (successors-nearer c d is.1 (omega arith))) before)
     less-nearer p c (d ∷ r) (e ∷ s) is low (inr same) = inr (same.0, less-nearer (and_at c p) d r s is.2 low same.1)
 
-    first-nearer : (p : Passed) (c : Configuration) (run : List Configuration) → first_past (sieved ok far) p c ≡ Some run → (last_of c run).place ≤ end → first_past (sieved ok near) p c ≡ Some run
+    first-nearer : (p : Passed) (c : Configuration) (run : List Configuration) → first_past (sieved ok far) p c ≡ Some run → (last_of c run).place ≤ end
+        → first_past (sieved ok near) p c ≡ Some run
     first-nearer p c run h low =
         let first = first-is_first (sieved ok far) far-bounded p c run h in
         is_first-found (sieved ok near) near-bounded p c run (record {
@@ -136,7 +141,8 @@ module _ (ok : Sieve) (r : Patterns) (hay : List ℕ) (end later : ℕ) (le : en
       absurd (none-is_none far (far-bounded r.terminator hay part.states end later le ok) nowhere c (map-none (trace far c) (first_past far nowhere c) none) x.0
       (run-further r.terminator hay part.states end later le ok nowhere c x.0 run)))
 
-  pub patterns-nearer : (k : ℕ) (hs : List Expression) (i : ℕ) (t : Trace) → first_of_patterns_where ok r hay later k hs i ≡ Some t → t.end ≤ end → first_of_patterns_where ok r hay end k hs i ≡ Some t
+  pub patterns-nearer : (k : ℕ) (hs : List Expression) (i : ℕ) (t : Trace) → first_of_patterns_where ok r hay later k hs i ≡ Some t → t.end ≤ end
+      → first_of_patterns_where ok r hay end k hs i ≡ Some t
   unfolding first_of_patterns_where
   patterns-nearer k [] i t is low = none-is-some is
   patterns-nearer k (h ∷ hs) i t is low =

@@ -1,7 +1,6 @@
 -- What a pattern's accepting runs write: the span of the whole match into the pattern's own slots, and places between into those of its groups.
 use Rattle.std.proofs.Common.{◌≡◌, ℕ, zero, suc, ◌+◌, ◌*◌, ◌-◌, ◌≤◌, ◌<◌, ◌⊎◌, Bool, true, false, List, [], ◌∷◌, ◌++◌, length, get_or, length-append, Option, Some, None, refl, sym, ◌∙◌, ap, subst, inl, inr, arith}
-use Rattle.std.specs.Prelude.{Contains, if◌then◌else◌, nat_le, ◌==◌}
-use Rattle.std.specs.Option.{option_or}
+use Rattle.std.specs.Prelude.{Contains, if◌then◌else◌, ◌==◌}
 use Rattle.std.proofs.lemmas.Bool.Decides.{nat_tests}
 use Rattle.std.proofs.lemmas.List.{get_or_append_left}
 use Rattle.rx_model.specs.Text.{stands_at, member_len}
@@ -10,15 +9,17 @@ use Rattle.rx_model.specs.Length.{minimum_len, is_positive}
 use Rattle.rx_model.specs.Runs.{Configuration, PriorityGraph, Passed, nowhere, and_at, IsRun, Trace, trace, with_write, last_write}
 use Rattle.rx_model.specs.Machine.{is_inside, graph_of}
 use Rattle.rx_model.specs.Expression.{Expression, Expressions, empty, literal, class, look, repetition, capture, concat, alternation, nil, cons}
-use Rattle.rx_model.specs.Graph.{State, text, set, assertion, slot, choice, accept, Builder, build_nothing, build_state, build_then, prefer, loop, loop_once, build_optional, copies, options, build_repetition, build_group, Parts, build_choice, build, build_in_turn, build_each, build_pattern, at, go_by, state_step, state_accepts, state_writes, machine_of, runs_of}
+use Rattle.rx_model.specs.Graph.{State, text, set, assertion, slot, choice, accept, Builder, build_nothing, build_state, build_then, prefer, loop, loop_once, build_optional, copies, options, build_repetition, build_group, Parts, build_choice, build, build_in_turn, build_each, build_pattern, at, state_step, state_accepts, state_writes, machine_of, runs_of}
 use Rattle.rx_model.specs.Search.{Patterns, groups_before, slot_of, has_explicit_groups}
 use Rattle.rx_model.specs.Matches.{StandsIn, StandsAmong, IsExplicit}
 use Rattle.rx_model.proofs.lemmas.runs.RunLemmas.{by_test}
 use Rattle.rx_model.proofs.lemmas.runs.FirstLemmas.{none-is-some, some-is, tells}
-use Rattle.rx_model.proofs.lemmas.runs.MemberLemmas.{number-cases, choice-member, only-member, none-member}
+use Rattle.rx_model.proofs.lemmas.runs.MemberLemmas.{choice-member, split-among, only-among, none-among}
 use Rattle.rx_model.proofs.lemmas.meaning.CoverLemmas.{run-pattern, Placed-whole}
 use Rattle.rx_model.proofs.lemmas.graphs.GraphLemmas.{step-rises, runs_of-accepts}
 use Rattle.rx_model.proofs.lemmas.graphs.PlacedLemmas.{Placed-back, Placed-first, Placed-rest}
+use Rattle.rx_model.proofs.lemmas.graphs.StateLemmas.{go_by-target}
+use Rattle.rx_model.proofs.lemmas.runs.OptionLemmas.{or-cases}
 
 -- The states of a pattern's body: they go on to the numbers from `low` on and below `high`, write slots of the
 -- set W, and accept nothing.
@@ -58,9 +59,9 @@ module _ (low high : ℕ) (W : ℕ → Type 0) where
     where
       two : (x y q : ℕ) → IsBetween x → IsBetween y → Contains (x ∷ y ∷ []) q → IsBetween q
       two x y q a b m =
-          elim (number-cases x q (y ∷ []) m) [
+          elim (split-among x q (y ∷ []) m) [
             | inl e ↦ subst IsBetween e a
-            | inr more ↦ elim (number-cases y q [] more) [ inl e ↦ subst IsBetween e b | inr none ↦ absurd (no-members q none) ]
+            | inr more ↦ elim (split-among y q [] more) [ inl e ↦ subst IsBetween e b | inr none ↦ absurd (no-members q none) ]
           ]
 
       cases : (greedy : Bool) → IsBody (prefer greedy body exit)
@@ -140,12 +141,14 @@ module _ (low high : ℕ) (W : ℕ → Type 0) where
               (body-cons (prefer greedy b.start next) b.states (prefer-body greedy b.start next x.0 room.0) x.1),
         )
 
-  repetition-body : (consumes greedy : Bool) (body : Builder) → BuildsBody body → (min : ℕ) (max : Option ℕ) → BuildsBody (build_repetition consumes min max greedy body)
+  repetition-body : (consumes greedy : Bool) (body : Builder) → BuildsBody body → (min : ℕ) (max : Option ℕ)
+      → BuildsBody (build_repetition consumes min max greedy body)
   repetition-body true greedy body a zero None = loop-body greedy body a
   repetition-body false greedy body a zero None = optional-body greedy (loop_once greedy body) (loop_once-body greedy body a)
   repetition-body consumes greedy body a (suc n) None = copies-body greedy body a n (loop_once greedy body) (loop_once-body greedy body a)
   repetition-body consumes greedy body a zero (Some m) = copies-body greedy body a zero (options greedy (m - zero) body) (options-body greedy body a (m - zero))
-  repetition-body consumes greedy body a (suc n) (Some m) = copies-body greedy body a (suc n) (options greedy (m - suc n) body) (options-body greedy body a (m - suc n))
+  repetition-body consumes greedy body a (suc n) (Some m) = copies-body greedy body a (suc n) (options greedy (m - suc n) body)
+      (options-body greedy body a (m - suc n))
 
   group-body : (number : Option ℕ) → ((n : ℕ) → number ≡ Some n → W n × W (suc n)) → (body : Builder) → BuildsBody body → BuildsBody (build_group number body)
   group-body None own body a = a
@@ -198,13 +201,9 @@ module _ (low high : ℕ) (W : ℕ → Type 0) where
           let both = length-append f.states o.states in
           let x = build-body sub (λ g s. are g (inl s)) next base (room.0, from, omega arith) in
           let y = each-body subs (λ g s. are g (inr s)) next (base + length f.states) (room.0, omega arith, omega arith) in (
-            λ q m. elim (number-cases f.start q o.starts m) [ inl e ↦ subst IsBetween e x.0 | inr more ↦ y.0 q more ],
+            λ q m. elim (split-among f.start q o.starts m) [ inl e ↦ subst IsBetween e x.0 | inr more ↦ y.0 q more ],
             body-append f.states o.states x.1 y.1,
           )
-
-or-cases : {A : Type 0} (a b : Option A) (x : A) → option_or a b ≡ Some x → (a ≡ Some x) ⊎ ((a ≡ None) × (b ≡ Some x))
-or-cases None b x h = inr (refl, h)
-or-cases (Some y) b x h = inl h
 
 -- What a run from place i tells that goes through a body: its end is in the last slot, and each other slot with a
 -- place is of the set W; the places lie from i to the end.
@@ -224,7 +223,8 @@ write-cases n i t k place h =
           (λ e. none-is-some (rw e at now.1))
     ]
 
-write-body : (last : ℕ) (W : ℕ → Type 0) (o : Option ℕ) (i j : ℕ) (t : Trace) → ((n : ℕ) → o ≡ Some n → W n) → i ≤ j → TellsBody last W j t → TellsBody last W i (with_write o i t)
+write-body : (last : ℕ) (W : ℕ → Type 0) (o : Option ℕ) (i j : ℕ) (t : Trace) → ((n : ℕ) → o ≡ Some n → W n) → i ≤ j → TellsBody last W j t
+    → TellsBody last W i (with_write o i t)
 write-body last W None i j t own le x = record {
   rises = let up = x.rises in omega arith;
   closes = x.closes;
@@ -265,25 +265,19 @@ write-span first W i t apart x = record {
 }
 
 module _ (terminator : ℕ) (hay : List ℕ) (end : ℕ) where
-  go_by-next : (o : Option ℕ) (next i : ℕ) (d : Configuration) → Contains (go_by terminator hay end o next i) d → next ≡ d.state
-  go_by-next None next i d m = absurd (none-member d m)
-  go_by-next (Some n) next i d m =
-      by_test (nat_le (i + n) end)
-      (λ le. ap (λ (c : Configuration). c.state) (only-member (at next (i + n)) d (rw le at m)))
-      (λ gt. absurd (none-member d (rw gt at m)))
-
   stay-next : (q i : ℕ) (d : Configuration) → Contains (at q i ∷ []) d → q ≡ d.state
-  stay-next q i d m = ap (λ (c : Configuration). c.state) (only-member (at q i) d m)
+  stay-next q i d m = ap (λ (c : Configuration). c.state) (only-among (at q i) d m)
 
   module _ (low high : ℕ) (W : ℕ → Type 0) where
     -- a state of a body goes on to states of the body
     body-step : (s : State) (i : ℕ) (d : Configuration) → IsBody low high W s → Contains (state_step terminator hay end s i) d → IsBetween low high W d.state
-    body-step (text bytes next) i d is m = subst (IsBetween low high W) (go_by-next (if stands_at hay i bytes then Some (length bytes) else None) next i d m) is
-    body-step (set members next) i d is m = subst (IsBetween low high W) (go_by-next (member_len hay members i) next i d m) is
+    body-step (text bytes next) i d is m = subst (IsBetween low high W) (go_by-target terminator hay end
+        (if stands_at hay i bytes then Some (length bytes) else None) next i d m) is
+    body-step (set members next) i d is m = subst (IsBetween low high W) (go_by-target terminator hay end (member_len hay members i) next i d m) is
     body-step (assertion kind next) i d is m =
         by_test (holds terminator hay kind i)
         (λ e. subst (IsBetween low high W) (stay-next next i d (rw e at m)) is)
-        (λ e. absurd (none-member d (rw e at m)))
+        (λ e. absurd (none-among d (rw e at m)))
     body-step (slot number next) i d is m = subst (IsBetween low high W) (stay-next next i d m) is.1
     body-step (choice states) i d is m =
         let x = choice-member states i d m in
@@ -318,7 +312,7 @@ module _ (terminator : ℕ) (hay : List ℕ) (end : ℕ) where
     step-of c d m =
         by_test (is_inside (machine_of terminator hay end whole) end c)
         (λ e. rw e at m)
-        (λ e. absurd (none-member d (rw e at m)))
+        (λ e. absurd (none-among d (rw e at m)))
 
     written-of : (c : Configuration) → graph.written c ≡ state_writes (state c)
     unfolding runs_of graph_of
@@ -326,7 +320,8 @@ module _ (terminator : ℕ) (hay : List ℕ) (end : ℕ) where
 
     -- a run from a state that does not accept takes a step
     silent-step : (passed : Passed) (c : Configuration) (run : List Configuration) → state_accepts (state c) ≡ None → IsRun graph passed c run
-        → (d : Configuration) × (rest : List Configuration) × (run ≡ d ∷ rest) × Contains (state_step terminator hay end (state c) c.place) d × IsRun graph (and_at c passed) d rest
+        → (d : Configuration) × (rest : List Configuration) × (run ≡ d ∷ rest) × Contains (state_step terminator hay end (state c) c.place) d
+        × IsRun graph (and_at c passed) d rest
     silent-step passed c [] none r =
         let q = run-pattern graph passed c [] r in
         none-is-some (sym none ∙ runs_of-accepts terminator hay end whole c q.0 q.1)
@@ -344,20 +339,22 @@ module _ (terminator : ℕ) (hay : List ℕ) (end : ℕ) where
       last-run passed d [] is_zero r = refl
       last-run passed d (e ∷ run) is_zero r =
           let is : state d ≡ accept p = ap (λ q. get_or whole q (choice [])) is_zero ∙ accepts in
-          absurd (none-member e (subst (λ s. Contains (state_step terminator hay end s d.place) e) is (step-of d e r.1)))
+          absurd (none-among e (subst (λ s. Contains (state_step terminator hay end s d.place) e) is (step-of d e r.1)))
 
-      closing-run : (passed : Passed) (c : Configuration) (run : List Configuration) → c.state ≡ 1 → IsRun graph passed c run → TellsBody (suc first) W c.place (trace graph c run)
+      closing-run : (passed : Passed) (c : Configuration) (run : List Configuration) → c.state ≡ 1 → IsRun graph passed c run
+          → TellsBody (suc first) W c.place (trace graph c run)
       closing-run passed c run one r =
           let is : state c ≡ slot (suc first) 0 = ap (λ q. get_or whole q (choice [])) one ∙ closing in
           let x = silent-step passed c run (ap state_accepts is) r in
           let d = x.0 in
-          let on : at 0 c.place ≡ d = only-member (at 0 c.place) d (subst (λ s. Contains (state_step terminator hay end s c.place) d) is x.3) in
+          let on : at 0 c.place ≡ d = only-among (at 0 c.place) d (subst (λ s. Contains (state_step terminator hay end s c.place) d) is x.3) in
           let same_place : d.place ≡ c.place = ap (λ (y : Configuration). y.place) (sym on) in
           let ends : x.1 ≡ [] = last-run (and_at c passed) d x.1 (ap (λ (y : Configuration). y.state) (sym on)) x.4 in
           let whole_run : run ≡ d ∷ [] = x.2 ∙ ap (λ ys. d ∷ ys) ends in
           let writes : graph.written c ≡ Some (suc first) = written-of c ∙ ap state_writes is in
           subst (λ ys. TellsBody (suc first) W c.place (trace graph c ys)) (sym whole_run)
-          (subst (λ o. TellsBody (suc first) W c.place (with_write o c.place (trace graph d []))) (sym writes) (closed (trace graph d []) c.place refl same_place))
+          (subst (λ o. TellsBody (suc first) W c.place (with_write o c.place (trace graph d []))) (sym writes)
+          (closed (trace graph d []) c.place refl same_place))
         where
           closed : (t : Trace) (i : ℕ) → t.writes ≡ [] → t.end ≡ i → TellsBody (suc first) W i (with_write (Some (suc first)) i t)
           closed t i none e =
@@ -372,7 +369,8 @@ module _ (terminator : ℕ) (hay : List ℕ) (end : ℕ) where
                     ];
               }
 
-      body-run : (passed : Passed) (c : Configuration) (run : List Configuration) → IsBetween 1 high W c.state → IsRun graph passed c run → TellsBody (suc first) W c.place (trace graph c run)
+      body-run : (passed : Passed) (c : Configuration) (run : List Configuration) → IsBetween 1 high W c.state → IsRun graph passed c run
+          → TellsBody (suc first) W c.place (trace graph c run)
       body-run passed c [] within r =
           by_test (c.state == 1)
           (λ e. closing-run passed c [] (grind (arith, nat_tests)) r)
@@ -392,17 +390,19 @@ module _ (terminator : ℕ) (hay : List ℕ) (end : ℕ) where
           (step-rises terminator hay end (state c) c.place d m)
           (body-run (and_at c passed) d run (body-step 1 high W (state c) c.place d is m) r.2))
 
-      pub opening-run : (passed : Passed) (c : Configuration) (run : List Configuration) (start : ℕ) → state c ≡ slot first start → IsBetween 1 high W start → (W first → ⊥) → IsRun graph passed c run
+      pub opening-run : (passed : Passed) (c : Configuration) (run : List Configuration) (start : ℕ) → state c ≡ slot first start → IsBetween 1 high W start
+          → (W first → ⊥) → IsRun graph passed c run
           → TellsSpan first W c.place (trace graph c run)
       opening-run passed c run start is within apart r =
           let x = silent-step passed c run (ap state_accepts is) r in
           let d = x.0 in
-          let on : at start c.place ≡ d = only-member (at start c.place) d (subst (λ s. Contains (state_step terminator hay end s c.place) d) is x.3) in
+          let on : at start c.place ≡ d = only-among (at start c.place) d (subst (λ s. Contains (state_step terminator hay end s c.place) d) is x.3) in
           let writes : graph.written c ≡ Some first = written-of c ∙ ap state_writes is in
           let told = body-run (and_at c passed) d x.1 (subst (λ (y : Configuration). IsBetween 1 high W y.state) on within) x.4 in
           let told_here : TellsBody (suc first) W c.place (trace graph d x.1) = subst (λ (y : Configuration). TellsBody (suc first) W y.place (trace graph d x.1)) (sym on) told in
           subst (λ ys. TellsSpan first W c.place (trace graph c ys)) (sym x.2)
-          (subst (λ o. TellsSpan first W c.place (with_write o c.place (trace graph d x.1))) (sym writes) (write-span first W c.place (trace graph d x.1) apart told_here))
+          (subst (λ o. TellsSpan first W c.place (with_write o c.place (trace graph d x.1))) (sym writes)
+          (write-span first W c.place (trace graph d x.1) apart told_here))
 
 -- what an accepting run of a pattern tells
 module _ (terminator : ℕ) (hay : List ℕ) (end : ℕ) (slots : ℕ → Option ℕ) (p : ℕ) (h : Expression) (W : ℕ → Type 0)

@@ -105,7 +105,8 @@ module _ (search : ℕ → Option Match) (b : ℕ) (s : IsSearch search b) where
 
     -- each match lies between its start and b
     each-ahead : (i : ℕ) (o : Option Match) (ms : List Match) → AreSuccessive search o ms → ((m : Match) → o ≡ Some m → Comes i m)
-        → (j : ℕ) (d : Match) → j < length ms → (i ≤ (get_or ms j d).start) × ((get_or ms j d).start ≤ (get_or ms j d).trace.end) × ((get_or ms j d).trace.end ≤ b)
+        → (j : ℕ) (d : Match) → j < length ms → (i ≤ (get_or ms j d).start) × ((get_or ms j d).start ≤ (get_or ms j d).trace.end)
+        × ((get_or ms j d).trace.end ≤ b)
     each-ahead i o [] are comes j d lt = absurd (omega arith)
     each-ahead i None (n ∷ ms) are comes j d lt = absurd are
     each-ahead i (Some m) (n ∷ ms) are comes zero d lt =
@@ -163,15 +164,18 @@ module _ (r : Patterns) (text : List ℕ) (anchor : Anchor) (b : ℕ) where
 
     pub matches-successive : AreSuccessive (next_match r text anchor b) (next_match r text anchor b a) (matches r text anchor b a)
     unfolding matches
-    matches-successive = matches_from-successive (next_match r text anchor b) b next-search (b + 1 - a + 1) (next_match r text anchor b a) (enough-first (b + 1 - a + 1) (omega arith))
+    matches-successive = matches_from-successive (next_match r text anchor b) b next-search (b + 1 - a + 1) (next_match r text anchor b a)
+        (enough-first (b + 1 - a + 1) (omega arith))
 
     pub matches-enough : (n : ℕ) → b + 1 - a + 1 ≤ n → matches_from (next_match r text anchor b) n (next_match r text anchor b a) ≡ matches r text anchor b a
     unfolding matches
     matches-enough n le =
-        matches_from-enough (next_match r text anchor b) b next-search n (b + 1 - a + 1) (next_match r text anchor b a) (enough-first n le) (enough-first (b + 1 - a + 1) (omega arith))
+        matches_from-enough (next_match r text anchor b) b next-search n (b + 1 - a + 1) (next_match r text anchor b a) (enough-first n le)
+        (enough-first (b + 1 - a + 1) (omega arith))
 
     pub matches-within : All (λ (m : Match). (a ≤ m.start) × (m.start ≤ m.trace.end) × (m.trace.end ≤ b)) (matches r text anchor b a)
-    matches-within = successive-within (next_match r text anchor b) b next-search next-again a (next_match r text anchor b a) (matches r text anchor b a) matches-successive comes-first
+    matches-within = successive-within (next_match r text anchor b) b next-search next-again a (next_match r text anchor b a) (matches r text anchor b a)
+        matches-successive comes-first
 
     pub matches-rise : AllPairs (λ (m n : Match). (m.start < n.start) × (m.trace.end ≤ n.start)) (matches r text anchor b a)
     matches-rise =

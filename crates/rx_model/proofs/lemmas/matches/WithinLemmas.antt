@@ -13,12 +13,12 @@ use Rattle.rx_model.specs.Search.{Patterns, slot_of, first, Anchor, free, anchor
 use Rattle.rx_model.specs.Matches.{IsStart, HasFirstRun, IsMatch, IsSlotOf, IsExplicit, part_of, runs_of_pattern}
 use Rattle.rx_model.proofs.lemmas.runs.RunLemmas.{by_test}
 use Rattle.rx_model.proofs.lemmas.runs.FirstLemmas.{some-is, tells, found-is_run, run-is_found}
-use Rattle.rx_model.proofs.lemmas.runs.MemberLemmas.{none-member}
 use Rattle.rx_model.proofs.lemmas.runs.RiseLemmas.{trace-end, run-rises, run-accepts, mapped-some}
 use Rattle.rx_model.proofs.lemmas.meaning.CoverLemmas.{run-means}
 use Rattle.rx_model.proofs.lemmas.graphs.GraphLemmas.{runs_of-bounded, runs_of-rises, runs_of-within}
 use Rattle.rx_model.proofs.lemmas.matches.MatchLemmas.{IsStart-within, next-is, next-none}
 use Rattle.rx_model.proofs.lemmas.matches.SlotLemmas.{TellsSpan, pattern-span, explicit-own, explicit-apart}
+use Rattle.rx_model.proofs.lemmas.runs.MemberLemmas.{none-among}
 
 -- accepting runs within `end`, in the graph of the same states up to a later end
 module _ (terminator : ℕ) (hay : List ℕ) (states : List State) (end later : ℕ) (le : end ≤ later) where
@@ -28,15 +28,17 @@ module _ (terminator : ℕ) (hay : List ℕ) (states : List State) (end later : 
   abbrev far : PriorityGraph
   far = runs_of terminator hay later states
 
-  inside-later : (c : Configuration) → is_inside (machine_of terminator hay end states) end c ≡ true → is_inside (machine_of terminator hay later states) later c ≡ true
+  inside-later : (c : Configuration) → is_inside (machine_of terminator hay end states) end c ≡ true
+      → is_inside (machine_of terminator hay later states) later c ≡ true
   inside-later c e = grind (arith, nat_tests)
 
-  go_by-later : (o : Option ℕ) (next i : ℕ) (d : Configuration) → Contains (go_by terminator hay end o next i) d → Contains (go_by terminator hay later o next i) d
+  go_by-later : (o : Option ℕ) (next i : ℕ) (d : Configuration) → Contains (go_by terminator hay end o next i) d
+      → Contains (go_by terminator hay later o next i) d
   go_by-later None next i d m = m
   go_by-later (Some n) next i d m =
       by_test (nat_le (i + n) end)
       (λ fits. let fits' : nat_le (i + n) later ≡ true = grind (arith, nat_tests) in rw fits' (rw fits at m))
-      (λ none. absurd (none-member d (rw none at m)))
+      (λ none. absurd (none-among d (rw none at m)))
 
   step-later : (s : State) (i : ℕ) (d : Configuration) → Contains (state_step terminator hay end s i) d → Contains (state_step terminator hay later s i) d
   step-later (text bytes next) i d m = go_by-later (if stands_at hay i bytes then Some (length bytes) else None) next i d m
@@ -51,7 +53,7 @@ module _ (terminator : ℕ) (hay : List ℕ) (states : List State) (end later : 
   successor-later c d m =
       by_test (is_inside (machine_of terminator hay end states) end c)
       (λ e. rw (inside-later c e) (step-later (state_at states c.state) c.place d (rw e at m)))
-      (λ e. absurd (none-member d (rw e at m)))
+      (λ e. absurd (none-among d (rw e at m)))
 
   accepted-later : (c : Configuration) → is_some (near.accepted c) ≡ true → far.accepted c ≡ near.accepted c
   unfolding runs_of graph_of

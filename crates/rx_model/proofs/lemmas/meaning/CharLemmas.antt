@@ -25,7 +25,7 @@ pub stands_at_from : (text : List ℕ) (i : ℕ) (bytes rest : List ℕ) → dro
 unfolding stands_at
 stands_at_from text i bytes rest e = (starts_is Decides-eqb (drop i text) bytes _ refl).1 rest e
 
-IsScalar-of_is_scalar : (c : ℕ) → is_scalar c ≡ true → IsScalar c
+pub IsScalar-of_is_scalar : (c : ℕ) → is_scalar c ≡ true → IsScalar c
 IsScalar-of_is_scalar c h = grind (arith, nat_tests)
 
 is_scalar-of_IsScalar : (c : ℕ) → IsScalar c → is_scalar c ≡ true
@@ -68,11 +68,12 @@ char_at_fits text i c h =
     )
 
 -- by the value of an option
-by_option : {P : Type 0} (o : Option ℕ) → (o ≡ None → P) → ((x : ℕ) → o ≡ Some x → P) → P
+pub by_option : {P : Type 0} (o : Option ℕ) → (o ≡ None → P) → ((x : ℕ) → o ≡ Some x → P) → P
 by_option None none some = none refl
 by_option (Some x) none some = some x refl
 
-pub member_len-some : (text : List ℕ) (rs : List (ℕ × ℕ)) (i c : ℕ) → char_at text i ≡ Some c → member_len text (scalar_ranges rs) i ≡ (if is_member rs c then Some (len_utf8 c) else None)
+pub member_len-some : (text : List ℕ) (rs : List (ℕ × ℕ)) (i c : ℕ) → char_at text i ≡ Some c
+    → member_len text (scalar_ranges rs) i ≡ (if is_member rs c then Some (len_utf8 c) else None)
 unfolding member_len
 member_len-some text rs i c h = rw h refl
 
@@ -106,7 +107,8 @@ member_len-of text rs i n h =
     let goes : drop i text ≡ encode_utf8 c ++ rest = sym (take-append-drop n (drop i text)) ∙ ap (λ bs. bs ++ rest) h.4 in
     member_len-some text rs i c (char_at_from text i c rest h.1 goes) ∙ cond-true _ (Some (len_utf8 c)) None h.2 ∙ ap Some (sym h.3)
 
-pub byte_len-within : (text : List ℕ) (rs : List (ℕ × ℕ)) (i : ℕ) → i < length text → member_len text (byte_ranges rs) i ≡ (if is_member rs (slice_index text i) then Some 1 else None)
+pub byte_len-within : (text : List ℕ) (rs : List (ℕ × ℕ)) (i : ℕ) → i < length text
+    → member_len text (byte_ranges rs) i ≡ (if is_member rs (slice_index text i) then Some 1 else None)
 unfolding member_len
 byte_len-within text rs i lt = rw (slice_get-get_or text i 0 lt) refl
 

@@ -22,7 +22,8 @@ record Tail (g : PriorityGraph) (p : Passed) (c x : Configuration) (run : List C
   pub same_end : last_of c tail ≡ last_of x run
 
 -- c stands nowhere in the walk, or the walk after its last visit
-tail_or_fresh : (g : PriorityGraph) (p : Passed) (c x : Configuration) (run : List Configuration) → IsWalk g x run → Avoids p run → Avoids (and_at c p) run ⊎ Tail g p c x run
+tail_or_fresh : (g : PriorityGraph) (p : Passed) (c x : Configuration) (run : List Configuration) → IsWalk g x run → Avoids p run
+    → Avoids (and_at c p) run ⊎ Tail g p c x run
 tail_or_fresh g p c x [] w a = inl tt
 tail_or_fresh g p c x (d ∷ run) w a =
     elim (tail_or_fresh g p c d run w.1 a.1) [
@@ -40,7 +41,8 @@ tail_or_fresh g p c x (d ∷ run) w a =
     ]
 
 -- a walk that never comes back to c
-cut_fresh : (bound : ℕ) (g : PriorityGraph) (p : Passed) (c : Configuration) (run : List Configuration) → length run ≤ bound → p c ≡ false → IsWalk g c run → Avoids (and_at c p) run
+cut_fresh : (bound : ℕ) (g : PriorityGraph) (p : Passed) (c : Configuration) (run : List Configuration) → length run ≤ bound → p c ≡ false → IsWalk g c run
+    → Avoids (and_at c p) run
     → (r : List Configuration) × IsRun g p c r × (last_of c r ≡ last_of c run)
 cut_fresh bound g p c [] le new w a = ([], (new, w), refl)
 cut_fresh zero g p c (d ∷ run) le new w a = absurd (omega arith)
@@ -55,7 +57,8 @@ cut_fresh (suc bound) g p c (d ∷ run) le new w a =
           (d ∷ x.0, (new, w.0, x.1), x.2 ∙ t.same_end)
     ]
 
-cut : (g : PriorityGraph) (c : Configuration) (run : List Configuration) → IsWalk g c run → (r : List Configuration) × IsRun g nowhere c r × (last_of c r ≡ last_of c run)
+cut : (g : PriorityGraph) (c : Configuration) (run : List Configuration) → IsWalk g c run
+    → (r : List Configuration) × IsRun g nowhere c r × (last_of c r ≡ last_of c run)
 cut g c run w =
     elim (tail_or_fresh g nowhere c c run w (avoids_nowhere run)) [
       | inl fresh ↦ cut_fresh (length run) g nowhere c run (omega arith) refl w fresh
@@ -66,7 +69,8 @@ cut g c run w =
     avoids_nowhere [] = tt
     avoids_nowhere (d ∷ r) = (refl, avoids_nowhere r)
 
-walk-of : (g : PriorityGraph) (pattern place n : ℕ) (c : Configuration) → Leads g pattern place n c → (run : List Configuration) × IsWalk g c run × (g.accepted (last_of c run) ≡ Some pattern) × ((last_of c run).place ≡ place)
+walk-of : (g : PriorityGraph) (pattern place n : ℕ) (c : Configuration) → Leads g pattern place n c
+    → (run : List Configuration) × IsWalk g c run × (g.accepted (last_of c run) ≡ Some pattern) × ((last_of c run).place ≡ place)
 walk-of g pattern place zero c h = ([], ap is_some h.0, h.0, h.1)
 walk-of g pattern place (suc n) c h = let x = walk-of g pattern place n h.0 h.2 in (h.0 ∷ x.0, (h.1, x.1), x.2, x.3)
 

@@ -35,7 +35,8 @@ first-empty R each count i h =
     subst (R i) same h.1
 
 -- there are none, or one of them shows that the body can be empty
-pieces-empty : (R : ℕ → ℕ → Type 0) → ((i j : ℕ) → R i j → i ≤ j) → (can : Bool) → ((k : ℕ) → R k k → can ≡ true) → (least n i : ℕ) → least ≤ n → Pieces R n i i → ((least == 0) || can) ≡ true
+pieces-empty : (R : ℕ → ℕ → Type 0) → ((i j : ℕ) → R i j → i ≤ j) → (can : Bool) → ((k : ℕ) → R k k → can ≡ true) → (least n i : ℕ) → least ≤ n → Pieces R n i i
+    → ((least == 0) || can) ≡ true
 pieces-empty R each can shows least zero i le h = or_left (least == 0) can (grind (arith, nat_tests))
 pieces-empty R each can shows least (suc n) i le h = or_right (least == 0) can (shows i (first-empty R each n i h))
 
@@ -75,7 +76,8 @@ module _ (terminator : ℕ) (text : List ℕ) where
     means-empty (class members) i m = let long = member-takes text members i m.0 m.1 in let e = m.2 in absurd (omega arith)
     means-empty (look kind) i m = refl
     means-empty (repetition least greatest greedy sub) i m =
-        pieces-empty (Means terminator text sub) (λ a b piece. means-rises sub a b piece) (can_be_empty sub) (λ k piece. means-empty sub k piece) least m.0 i m.1.0 m.2
+        pieces-empty (Means terminator text sub) (λ a b piece. means-rises sub a b piece) (can_be_empty sub) (λ k piece. means-empty sub k piece) least m.0 i
+        m.1.0 m.2
     means-empty (capture group name sub) i m = means-empty sub i m
     means-empty (concat subs) i m = in_turn-empty subs i m
     means-empty (alternation subs) i m = one-empty subs i m

@@ -1,8 +1,8 @@
 -- The least length that is known is a lower bound, and that of a class is met.
-use Rattle.std.proofs.Common.{◌≡◌, ℕ, zero, suc, ◌+◌, ◌*◌, min, ◌≤◌, ◌⊎◌, Bool, true, false, ◌&&◌, List, [], ◌∷◌, length, Option, Some, None, refl, sym, ap, ◌∙◌, inl, inr, arith, true≢false}
-use Rattle.std.specs.Prelude.{nat_le, ◌||◌, option_map, IsTrue, All}
+use Rattle.std.proofs.Common.{◌≡◌, ℕ, zero, suc, ◌+◌, ◌*◌, min, ◌≤◌, ◌⊎◌, true, false, ◌&&◌, List, [], ◌∷◌, length, Option, Some, None, refl, sym, ap, ◌∙◌, inl, inr, arith, true≢false}
+use Rattle.std.specs.Prelude.{nat_le, option_map, IsTrue, All}
 use Rattle.std.proofs.lemmas.Bool.Decides.{nat_tests}
-use Rattle.std.proofs.lemmas.Bool.{and_parts}
+use Rattle.std.proofs.lemmas.Bool.{and_parts, or_right}
 use Rattle.std.proofs.lemmas.Option.{none-some, same_Some, cond_some}
 use Rattle.std.proofs.Math.Nat.{mul-suc, mul-le-mul_left}
 use Rattle.std.specs.Char.{IsScalar, len_utf8}
@@ -13,7 +13,7 @@ use Rattle.rx_model.specs.Length.{plus, lesser, shorter, scalar_from, shortest_s
 use Rattle.rx_model.proofs.lemmas.runs.RunLemmas.{by_test}
 use Rattle.rx_model.proofs.lemmas.meaning.CharLemmas.{member_len-is, byte_len-is}
 
-len_utf8-rises : (c d : ℕ) → c ≤ d → len_utf8 c ≤ len_utf8 d
+pub len_utf8-rises : (c d : ℕ) → c ≤ d → len_utf8 c ≤ len_utf8 d
 len_utf8-rises c d le = grind (arith, nat_tests)
 
 -- a length that is known, and at most n
@@ -31,7 +31,8 @@ shorter-right (Some x) None n h = absurd (none-some h.0 h.1)
 shorter-right (Some x) (Some y) n h = let e : y ≡ h.0 = same_Some y h.0 h.1 in let le = h.2 in (min x y, refl, omega arith)
 
 -- what each range gives for its members is a bound for those of the list
-shortest-known : (shortest : ℕ × ℕ → Option ℕ) (rs : List (ℕ × ℕ)) (c n : ℕ) → ((r : ℕ × ℕ) → r.0 ≤ c → c ≤ r.1 → IsKnown (shortest r) n) → is_member rs c ≡ true → IsKnown (shortest_of shortest rs) n
+shortest-known : (shortest : ℕ × ℕ → Option ℕ) (rs : List (ℕ × ℕ)) (c n : ℕ) → ((r : ℕ × ℕ) → r.0 ≤ c → c ≤ r.1 → IsKnown (shortest r) n)
+    → is_member rs c ≡ true → IsKnown (shortest_of shortest rs) n
 shortest-known shortest [] c n each h = absurd (true≢false (sym h))
 shortest-known shortest (r ∷ rs) c n each h =
     by_test (nat_le r.0 c && nat_le c r.1)
@@ -68,7 +69,8 @@ shorter-cases (Some x) (Some y) n h =
     (λ gt. let is : y ≡ n = grind (arith, nat_tests) in inr (ap Some is))
 
 -- what each range gives is met by one of its members, and so is what the list gives
-shortest-met : (shortest : ℕ × ℕ → Option ℕ) (IsMet : (c n : ℕ) → Type 0) → ((r : ℕ × ℕ) (n : ℕ) → shortest r ≡ Some n → (c : ℕ) × (r.0 ≤ c) × (c ≤ r.1) × IsMet c n)
+shortest-met : (shortest : ℕ × ℕ → Option ℕ) (IsMet : (c n : ℕ) → Type 0)
+    → ((r : ℕ × ℕ) (n : ℕ) → shortest r ≡ Some n → (c : ℕ) × (r.0 ≤ c) × (c ≤ r.1) × IsMet c n)
     → (rs : List (ℕ × ℕ)) (n : ℕ) → shortest_of shortest rs ≡ Some n → (c : ℕ) × IsTrue (is_member rs c) × IsMet c n
 shortest-met shortest IsMet each [] n h = absurd (none-some n h)
 shortest-met shortest IsMet each (r ∷ rs) n h =
@@ -79,12 +81,8 @@ shortest-met shortest IsMet each (r ∷ rs) n h =
           let high = x.2 in
           let is : (nat_le r.0 x.0 && nat_le x.0 r.1) ≡ true = grind (arith, nat_tests) in
           (x.0, rw is refl, x.3)
-      | inr later ↦ let x = shortest-met shortest IsMet each rs n later in (x.0, or-right _ _ x.1, x.2)
+      | inr later ↦ let x = shortest-met shortest IsMet each rs n later in (x.0, or_right _ _ x.1, x.2)
     ]
-  where
-    or-right : (a b : Bool) → b ≡ true → (a || b) ≡ true
-    or-right true b e = refl
-    or-right false b e = e
 
 -- the shortest encoding of a member is one
 pub scalars-met : (rs : List (ℕ × ℕ)) (n : ℕ) → shortest_of shortest_scalar rs ≡ Some n → (c : ℕ) × IsTrue (is_member rs c) × (IsScalar c × (len_utf8 c ≡ n))
@@ -114,7 +112,8 @@ bytes-none rs none b =
     (λ e. e)
 
 -- the first number of the first range, where the ranges ascend, is the one with the shortest encoding
-pub shortest-first : (r : ℕ × ℕ) (rs : List (ℕ × ℕ)) → IsScalar r.0 → r.0 ≤ r.1 → All (λ (q : ℕ × ℕ). r.0 ≤ q.0) rs → shortest_of shortest_scalar (r ∷ rs) ≡ Some (len_utf8 r.0)
+pub shortest-first : (r : ℕ × ℕ) (rs : List (ℕ × ℕ)) → IsScalar r.0 → r.0 ≤ r.1 → All (λ (q : ℕ × ℕ). r.0 ≤ q.0) rs
+    → shortest_of shortest_scalar (r ∷ rs) ≡ Some (len_utf8 r.0)
 shortest-first r rs s le above =
     let first : scalar_from r.0 ≡ r.0 = grind (arith, nat_tests) in
     let fits : (nat_le r.0 r.1 && nat_le r.0 0x10FFFF) ≡ true = grind (arith, nat_tests) in
@@ -136,7 +135,7 @@ shortest-first r rs s le above =
         let least : min (len_utf8 r.0) n ≡ len_utf8 r.0 = omega arith in
         ap Some least
 
-plus-some : (a b : Option ℕ) (n : ℕ) → plus a b ≡ Some n → (x y : ℕ) × (a ≡ Some x) × (b ≡ Some y) × (x + y ≡ n)
+pub plus-some : (a b : Option ℕ) (n : ℕ) → plus a b ≡ Some n → (x y : ℕ) × (a ≡ Some x) × (b ≡ Some y) × (x + y ≡ n)
 plus-some None b n h = absurd (none-some n h)
 plus-some (Some x) None n h = absurd (none-some n h)
 plus-some (Some x) (Some y) n h = (x, y, refl, refl, same_Some (x + y) n h)

@@ -1,8 +1,9 @@
 -- The search in order of preference finds the least accepting run.
-use Rattle.std.proofs.Common.{◌≡◌, ◌≢◌, ℕ, zero, suc, ◌<◌, ◌⊎◌, List, [], ◌∷◌, refl, sym, ◌∙◌, ap, subst, inl, inr, arith, get_or}
-use Rattle.std.specs.Prelude.{Option, Some, None, option_map, is_some, Contains, length}
+use Rattle.std.proofs.Common.{◌≡◌, ◌≢◌, ◌⊎◌, List, [], ◌∷◌, refl, sym, ◌∙◌, ap, subst, inl, inr, arith}
+use Rattle.std.specs.Prelude.{Option, Some, None, option_map, is_some, Contains}
 use Rattle.rx_model.specs.Runs.{Configuration, PriorityGraph, Passed, and_at, IsRun, IsBefore, IsLess, IsFirst, first_some, first_past, IsBounded}
 use Rattle.rx_model.proofs.lemmas.runs.RunLemmas.{by_test, equal_or_not, same-differ, past-passed, past-accepted, past-step}
+use Rattle.rx_model.proofs.lemmas.runs.MemberLemmas.{first-among, later-among, split-among}
 
 pub some-is : {A : Type 0} {x y : A} → ◌≡◌ {A = Option A} (Some x) (Some y) → x ≡ y
 some-is e = cc
@@ -18,32 +19,21 @@ pub tells : {A : Type 0} (o : Option A) → Tells o
 tells None = inl refl
 tells (Some x) = inr (x, refl)
 
-pub here : (x : Configuration) (xs : List Configuration) → Contains (x ∷ xs) x
-here x xs = (0, omega arith, refl)
-
-pub there : (x e : Configuration) (xs : List Configuration) → Contains xs e → Contains (x ∷ xs) e
-there x e xs m = (suc m.0, (let lt = m.1 in omega arith), m.2)
-
-pub member-cases : (x e : Configuration) (xs : List Configuration) → Contains (x ∷ xs) e → (x ≡ e) ⊎ Contains xs e
-member-cases x e xs m = at m.0 m.1 m.2
-  where
-    at : (k : ℕ) → k < suc (length xs) → get_or (x ∷ xs) k e ≡ e → (x ≡ e) ⊎ Contains xs e
-    at zero lt eq = inl eq
-    at (suc k) lt eq = inr (k, omega arith, eq)
-
 -- the search takes a successor that leads to a run
 pub taken : (go : Configuration → Option (List Configuration)) (ds run : List Configuration) → first_some (λ d. option_map (λ r. d ∷ r) (go d)) ds ≡ Some run
     → (d : Configuration) × (r : List Configuration) × (run ≡ d ∷ r) × Contains ds d × (go d ≡ Some r)
 taken go [] run h = none-is-some h
 taken go (x ∷ xs) run h =
     elim (tells (go x)) [
-      | inl none ↦ let rest = taken go xs run (rw none at h) in (rest.0, rest.1, rest.2, there x rest.0 xs rest.3, rest.4)
-      | inr some ↦ (x, some.0, sym (some-is (rw some.1 at h)), here x xs, some.1)
+      | inl none ↦ let rest = taken go xs run (rw none at h) in (rest.0, rest.1, rest.2, later-among x rest.0 xs rest.3, rest.4)
+      | inr some ↦ (x, some.0, sym (some-is (rw some.1 at h)), first-among x xs, some.1)
     ]
 
 -- it takes one at or before each that leads to a run
-pub taken_early : (go : Configuration → Option (List Configuration)) (ds : List Configuration) (e : Configuration) (s : List Configuration) → Contains ds e → go e ≡ Some s
-    → (d : Configuration) × (r : List Configuration) × (first_some (λ x. option_map (λ t. x ∷ t) (go x)) ds ≡ Some (d ∷ r)) × (go d ≡ Some r) × (IsBefore ds d e ⊎ (d ≡ e))
+pub taken_early : (go : Configuration → Option (List Configuration)) (ds : List Configuration) (e : Configuration) (s : List Configuration) → Contains ds e
+    → go e ≡ Some s
+    → (d : Configuration) × (r : List Configuration) × (first_some (λ x. option_map (λ t. x ∷ t) (go x)) ds ≡ Some (d ∷ r)) × (go d ≡ Some r)
+    × (IsBefore ds d e ⊎ (d ≡ e))
 taken_early go [] e s member found = absurd (let lt = member.1 in omega arith)
 taken_early go (x ∷ xs) e s member found =
     elim (equal_or_not x e) [
@@ -52,7 +42,7 @@ taken_early go (x ∷ xs) e s member found =
           let differ : x ≢ e = same-differ x e apart in
           elim (tells (go x)) [
             | inl none ↦
-                let member' : Contains xs e = elim (member-cases x e xs member) [ inl equal ↦ absurd (differ equal) | inr m ↦ m ] in
+                let member' : Contains xs e = elim (split-among x e xs member) [ inl equal ↦ absurd (differ equal) | inr m ↦ m ] in
                 let rest = taken_early go xs e s member' found in
                 (rest.0, rest.1, rw none rest.2, rest.3, elim rest.4 [ inl before ↦ inl (differ, inr before) | inr equal ↦ inr equal ])
             | inr some ↦ (x, some.0, rw some.1 refl, some.1, inl (differ, inl refl))
@@ -117,7 +107,7 @@ module _ (g : PriorityGraph) (bounded : IsBounded g) where
         found-is_run run (and_at c p) d (ap (first_past g (and_at c p)) heads ∙ t.4 ∙ ap Some (sym tails)),
       )))
 
-  -- where there is a run, one is found that is at most that
+  -- where later-among is a run, one is found that is at most that
   pub run-is_found : (run : List Configuration) (p : Passed) (c : Configuration) → IsRun g p c run
       → (r : List Configuration) × (first_past g p c ≡ Some r) × ((r ≡ run) ⊎ IsLess g c r run)
   run-is_found [] p c run = ([], past-accepted g p bounded c run.0 run.1, inl refl)
@@ -150,7 +140,7 @@ module _ (g : PriorityGraph) (bounded : IsBounded g) where
         subst (λ r. (r ≡ other) ⊎ IsLess g c r other) e found.2;
   }
 
-  -- where it finds none, there is none
+  -- where it finds none, later-among is none
   pub none-is_none : (p : Passed) (c : Configuration) → first_past g p c ≡ None → (run : List Configuration) → IsRun g p c run → ⊥
   none-is_none p c h run is = let found = run-is_found run p c is in none-is-some (sym h ∙ found.1)
 

@@ -10,14 +10,16 @@ option_map-or f None b = refl
 option_map-or f (Some x) b = refl
 
 -- the trace of the run taken
-trace-taken : (g : PriorityGraph) (p : Passed) (c : Configuration) (ds : List Configuration) → option_map (trace g c) (first_some (go_past g p) ds) ≡ option_map (with_write (g.written c) c.place) (first_some (found g p) ds)
+trace-taken : (g : PriorityGraph) (p : Passed) (c : Configuration) (ds : List Configuration)
+    → option_map (trace g c) (first_some (go_past g p) ds) ≡ option_map (with_write (g.written c) c.place) (first_some (found g p) ds)
 trace-taken g p c [] = refl
 trace-taken g p c (d ∷ ds) =
     option_map-or (trace g c) (go_past g p d) (first_some (go_past g p) ds)
     ∙ (λ i. option_or (head (first_past g p d) i) (trace-taken g p c ds i))
     ∙ sym (option_map-or (with_write (g.written c) c.place) (found g p d) (first_some (found g p) ds))
   where
-    head : (o : Option (List Configuration)) → option_map (trace g c) (option_map (λ run. d ∷ run) o) ≡ option_map (with_write (g.written c) c.place) (option_map (trace g d) o)
+    head : (o : Option (List Configuration)) → option_map (trace g c) (option_map (λ run. d ∷ run) o) ≡ option_map (with_write (g.written c) c.place)
+        (option_map (trace g d) o)
     head None = refl
     head (Some run) = refl
 
@@ -33,9 +35,11 @@ module _ (g : PriorityGraph) (p : Passed) where
     pub found-accepted : (c : Configuration) (pattern : ℕ) → p c ≡ false → g.accepted c ≡ Some pattern → found g p c ≡ Some (record { pattern = pattern; end = c.place; writes = [] })
     found-accepted c pattern new h = ap (option_map (trace g c)) (past-accepted g p bounded c new (ap is_some h)) ∙ rw h refl
 
-    pub found-step : (c : Configuration) → p c ≡ false → g.accepted c ≡ None → found g p c ≡ option_map (with_write (g.written c) c.place) (first_some (found g (and_at c p)) (g.successors c))
+    pub found-step : (c : Configuration) → p c ≡ false → g.accepted c ≡ None
+        → found g p c ≡ option_map (with_write (g.written c) c.place) (first_some (found g (and_at c p)) (g.successors c))
     found-step c new h = ap (option_map (trace g c)) (past-step g p bounded c new (ap is_some h)) ∙ trace-taken g (and_at c p) c (g.successors c)
 
 -- only what was passed from the place of c on matters
-pub found-forget : (g : PriorityGraph) → NeverFalls g → (p q : Passed) (c : Configuration) → ((d : Configuration) → c.place ≤ d.place → p d ≡ q d) → found g p c ≡ found g q c
+pub found-forget : (g : PriorityGraph) → NeverFalls g → (p q : Passed) (c : Configuration) → ((d : Configuration) → c.place ≤ d.place → p d ≡ q d)
+    → found g p c ≡ found g q c
 found-forget g rises p q c alike = ap (option_map (trace g c)) (past-forget g rises p q c alike)

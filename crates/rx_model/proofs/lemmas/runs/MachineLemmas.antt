@@ -5,6 +5,7 @@ use Rattle.std.proofs.lemmas.Bool.Decides.{nat_tests}
 use Rattle.rx_model.specs.Runs.{Configuration, same, is_among, IsBounded}
 use Rattle.rx_model.specs.Machine.{column, grid, Machine, is_inside, graph_of}
 use Rattle.rx_model.proofs.lemmas.runs.RunLemmas.{by_test}
+use Rattle.std.proofs.lemmas.Bool.{or_left, or_right}
 
 pub is_among-append : (xs ys : List Configuration) (c : Configuration) → is_among (xs ++ ys) c ≡ (is_among xs c || is_among ys c)
 is_among-append [] ys c = refl
@@ -14,14 +15,6 @@ is_among-append (x ∷ xs) ys c = rw (is_among-append xs ys c) (or_assoc (same x
     or_assoc true b d = refl
     or_assoc false b d = refl
 
-or-right : (a b : Bool) → b ≡ true → (a || b) ≡ true
-or-right true b h = refl
-or-right false b h = h
-
-or-left : (a b : Bool) → a ≡ true → (a || b) ≡ true
-or-left true b h = refl
-or-left false b h = absurd (true≢false (sym h))
-
 abbrev at : ℕ → ℕ → Configuration
 at q i = record { state = q; place = i }
 
@@ -30,15 +23,15 @@ column-has zero q i lt = absurd (omega arith)
 column-has (suc n) q i lt =
     by_test (n == i)
     (λ e. let here : same (at q n) (at q i) ≡ true = grind (arith, nat_tests) in rw here refl)
-    (λ e. let below : i < n = grind (arith, nat_tests) in or-right _ _ (column-has n q i below))
+    (λ e. let below : i < n = grind (arith, nat_tests) in or_right _ _ (column-has n q i below))
 
 pub grid-has : (k n q i : ℕ) → q < k → i < n → is_among (grid k n) (record { state = q; place = i }) ≡ true
 grid-has zero n q i lt below = absurd (omega arith)
 grid-has (suc k) n q i lt below =
     is_among-append (column k n) (grid k n) _ ∙
     by_test (k == q)
-    (λ e. or-left _ _ (let e' : k ≡ q = grind (arith, nat_tests) in subst (λ x. is_among (column x n) (record { state = q; place = i }) ≡ true) (sym e') (column-has n q i below)))
-    (λ e. let less : q < k = grind (arith, nat_tests) in or-right _ _ (grid-has k n q i less below))
+    (λ e. or_left _ _ (let e' : k ≡ q = grind (arith, nat_tests) in subst (λ x. is_among (column x n) (record { state = q; place = i }) ≡ true) (sym e') (column-has n q i below)))
+    (λ e. let less : q < k = grind (arith, nat_tests) in or_right _ _ (grid-has k n q i less below))
 
 outside : (m : Machine) (end : ℕ) (c : Configuration) → is_among (grid m.states (suc end)) c ≡ false → is_inside m end c ≡ false
 outside m end c h =

@@ -1,31 +1,23 @@
 -- Where first runs end, through a state, a choice and parts in turn.
-use Rattle.std.proofs.Common.{◌≡◌, ℕ, zero, suc, ◌+◌, ◌≤◌, ◌<◌, ◌⊎◌, Bool, true, false, List, [], ◌∷◌, ◌++◌, length, map, refl, sym, ap, ◌∙◌, subst, inl, inr, arith, get_or, length-append}
+use Rattle.std.proofs.Common.{◌≡◌, ℕ, zero, suc, ◌+◌, ◌≤◌, ◌<◌, ◌⊎◌, Bool, true, false, List, [], ◌∷◌, ◌++◌, length, map, refl, sym, ap, ◌∙◌, subst, inl, inr, arith, length-append}
 use Rattle.std.specs.Prelude.{nat_lt, nat_le, nat_eq, Option, Some, None, option_map, if◌then◌else◌, Contains}
 use Rattle.std.specs.Option.{option_or}
 use Rattle.std.proofs.lemmas.Bool.Decides.{nat_tests}
 use Rattle.rx_model.specs.Text.{Class, stands_at, member_len}
 use Rattle.rx_model.specs.Runs.{Configuration, PriorityGraph, nowhere, and_at, first_some, IsClosed, Trace, with_write, found}
-use Rattle.rx_model.specs.Machine.{is_inside, graph_of}
-use Rattle.rx_model.specs.Graph.{State, text, set, slot, choice, Builder, build_nothing, build_state, build_then, prefer, copies, options, build_group, Parts, no_parts, build_beside, build_choice, at, state_accepts, go_by, state_step, machine_of, runs_of}
+use Rattle.rx_model.specs.Graph.{State, text, set, slot, choice, Builder, build_nothing, build_state, build_then, prefer, copies, options, build_group, Parts, no_parts, build_beside, build_choice, at, state_accepts, go_by, state_step, runs_of}
 use Rattle.rx_model.proofs.lemmas.runs.RunLemmas.{by_test}
 use Rattle.rx_model.specs.Onward.{after, either_first, times_go}
-use Rattle.rx_model.proofs.lemmas.runs.FirstLemmas.{member-cases, here, there}
-use Rattle.rx_model.proofs.lemmas.runs.MemberLemmas.{number-cases, choice-member, only-member, none-member}
+use Rattle.rx_model.proofs.lemmas.runs.MemberLemmas.{choice-member, first-among, later-among, split-among, only-among, none-among}
 use Rattle.rx_model.proofs.lemmas.runs.FoundLemmas.{option_map-or, found-step}
 use Rattle.rx_model.proofs.lemmas.runs.ReachLemmas.{found-outside}
 use Rattle.rx_model.proofs.lemmas.graphs.PlacedLemmas.{Placed, Placed-front, Placed-back, Placed-first, Placed-rest}
 use Rattle.rx_model.proofs.lemmas.graphs.GraphLemmas.{runs_of-bounded}
+use Rattle.rx_model.proofs.lemmas.runs.OptionLemmas.{or-none_right}
+use Rattle.rx_model.proofs.lemmas.graphs.StateLemmas.{IsStateOf, prefer-accepts, go_by-target, prefer-cases, successors-at, accepted-at, successors-past, accepted-past, successors-in}
 
 abbrev pub end_of : Trace → ℕ
 end_of t = t.end
-
-pub or-none : (o : Option ℕ) → option_or o None ≡ o
-or-none None = refl
-or-none (Some x) = refl
-
-pub or-assoc : (a b c : Option ℕ) → option_or (option_or a b) c ≡ option_or a (option_or b c)
-or-assoc None b c = refl
-or-assoc (Some x) b c = refl
 
 pub end-written : (o : Option ℕ) (place : ℕ) (x : Option Trace) → option_map end_of (option_map (with_write o place) x) ≡ option_map end_of x
 end-written None place None = refl
@@ -38,7 +30,7 @@ first-same : (e f : Configuration → Option Trace) (ds : List Configuration) �
 first-same e f [] h = refl
 first-same e f (d ∷ ds) h =
     option_map-or end_of (e d) (first_some e ds)
-    ∙ (λ k. option_or (option_map end_of (h d (here d ds) k)) (first-same e f ds (λ x m. h x (there d x ds m)) k))
+    ∙ (λ k. option_or (option_map end_of (h d (first-among d ds) k)) (first-same e f ds (λ x m. h x (later-among d x ds m)) k))
 
 -- in A, or one of the n states from base on
 abbrev pub Inside : (ℕ → Type 0) → (base n : ℕ) → ℕ → Type 0
@@ -56,74 +48,35 @@ module _ (terminator : ℕ) (hay : List ℕ) (end : ℕ) (whole : List State) wh
   abbrev pub ends : Configuration → Option ℕ
   ends c = option_map end_of (found g nowhere c)
 
-  abbrev pub IsState : ℕ → State → Type 0
-  IsState q s = (q < length whole) × (get_or whole q (choice []) ≡ s)
-
-  pub ends-step : (Set : ℕ → Type 0) → IsClosed g Set → (c : Configuration) → g.accepted c ≡ None → (Set c.state → ⊥) → ((d : Configuration) → Contains (g.successors c) d → Set d.state)
+  pub ends-step : (Set : ℕ → Type 0) → IsClosed g Set → (c : Configuration) → g.accepted c ≡ None → (Set c.state → ⊥)
+      → ((d : Configuration) → Contains (g.successors c) d → Set d.state)
       → ends c ≡ first_some ends (g.successors c)
   ends-step Set closed c none out in_set =
       ap (option_map end_of) (found-step g nowhere (runs_of-bounded terminator hay end whole) c refl none)
       ∙ end-written (g.written c) c.place (first_some (found g (and_at c nowhere)) (g.successors c))
       ∙ first-same (found g (and_at c nowhere)) (found g nowhere) (g.successors c) (λ d m. found-outside g Set closed c out nowhere d (in_set d m))
 
-  pub successors-at : (q i : ℕ) (s : State) → IsState q s → i ≤ end → g.successors (at q i) ≡ state_step terminator hay end s i
-  unfolding runs_of graph_of
-  successors-at q i s is place =
-      let state = is.0 in
-      let inside : is_inside (machine_of terminator hay end whole) end (at q i) ≡ true = grind (arith, nat_tests) in
-      rw inside (ap (λ x. state_step terminator hay end x i) is.1)
-
-  pub accepted-at : (q i : ℕ) (s : State) → IsState q s → i ≤ end → g.accepted (at q i) ≡ state_accepts s
-  unfolding runs_of graph_of
-  accepted-at q i s is place =
-      let state = is.0 in
-      let inside : is_inside (machine_of terminator hay end whole) end (at q i) ≡ true = grind (arith, nat_tests) in
-      rw inside (ap state_accepts is.1)
-
-  pub successors-past : (c : Configuration) → end < c.place → g.successors c ≡ []
-  unfolding runs_of graph_of
-  successors-past c past =
-      let out : is_inside (machine_of terminator hay end whole) end c ≡ false = grind (arith, nat_tests) in
-      rw out refl
-
-  pub accepted-past : (c : Configuration) → end < c.place → g.accepted c ≡ None
-  unfolding runs_of graph_of
-  accepted-past c past =
-      let out : is_inside (machine_of terminator hay end whole) end c ≡ false = grind (arith, nat_tests) in
-      rw out refl
-
-  -- a state's successors are those of its step
-  pub successors-in : (c d : Configuration) (s : State) → IsState c.state s → Contains (g.successors c) d → Contains (state_step terminator hay end s c.place) d
-  successors-in c d s is m =
-      by_test (nat_le c.place end)
-      (λ e. let le : c.place ≤ end = grind (arith, nat_tests) in subst (λ ds. Contains ds d) (successors-at c.state c.place s is le) m)
-      (λ e. let past : end < c.place = grind (arith, nat_tests) in absurd (none-member d (subst (λ ds. Contains ds d) (successors-past c past) m)))
-
   -- nothing is found past the end
   pub ends-past : (c : Configuration) → end < c.place → ends c ≡ None
   ends-past c past =
-      ends-step (λ s. ⊥) (λ a b h m. absurd h) c (accepted-past c past) (λ h. h) (λ d m. absurd (none-member d (subst (λ ds. Contains ds d) (successors-past c past) m)))
-      ∙ ap (first_some ends) (successors-past c past)
+      ends-step (λ s. ⊥) (λ a b h m. absurd h) c (accepted-past terminator hay end whole c past) (λ h. h)
+      (λ d m. absurd (none-among d (subst (λ ds. Contains ds d) (successors-past terminator hay end whole c past) m)))
+      ∙ ap (first_some ends) (successors-past terminator hay end whole c past)
 
-  pub ends-state : (Set : ℕ → Type 0) → IsClosed g Set → (q i : ℕ) (s : State) → IsState q s → state_accepts s ≡ None → (Set q → ⊥)
-      → ((d : Configuration) → Contains (state_step terminator hay end s i) d → Set d.state) → i ≤ end → ends (at q i) ≡ first_some ends (state_step terminator hay end s i)
+  pub ends-state : (Set : ℕ → Type 0) → IsClosed g Set → (q i : ℕ) (s : State) → IsStateOf whole q s → state_accepts s ≡ None → (Set q → ⊥)
+      → ((d : Configuration) → Contains (state_step terminator hay end s i) d → Set d.state) → i ≤ end
+      → ends (at q i) ≡ first_some ends (state_step terminator hay end s i)
   ends-state Set closed q i s is none out in_set le =
-      ends-step Set closed (at q i) (accepted-at q i s is le ∙ none) out (λ d m. in_set d (subst (λ ds. Contains ds d) (successors-at q i s is le) m))
-      ∙ ap (first_some ends) (successors-at q i s is le)
+      ends-step Set closed (at q i) (accepted-at terminator hay end whole q i s is le ∙ none) out
+      (λ d m. in_set d (subst (λ ds. Contains ds d) (successors-at terminator hay end whole q i s is le) m))
+      ∙ ap (first_some ends) (successors-at terminator hay end whole q i s is le)
 
   go_by-ends : (o : Option ℕ) (next i : ℕ) → first_some ends (go_by terminator hay end o next i) ≡ after (λ j. ends (at next j)) o i
   go_by-ends None next i = refl
   go_by-ends (Some n) next i =
       by_test (nat_le (i + n) end)
-      (λ e. rw e (or-none (ends (at next (i + n)))))
+      (λ e. rw e (or-none_right (ends (at next (i + n)))))
       (λ e. let past : end < i + n = grind (arith, nat_tests) in rw e (sym (ends-past (at next (i + n)) past)))
-
-  pub go_by-target : (o : Option ℕ) (next i : ℕ) (d : Configuration) → Contains (go_by terminator hay end o next i) d → next ≡ d.state
-  go_by-target None next i d m = absurd (none-member d m)
-  go_by-target (Some n) next i d m =
-      by_test (nat_le (i + n) end)
-      (λ e. ap (λ (c : Configuration). c.state) (only-member (at next (i + n)) d (rw e at m)))
-      (λ e. absurd (none-member d (rw e at m)))
 
   after-past : (o : Option ℕ) (next i : ℕ) → end < i → after (λ j. ends (at next j)) o i ≡ None
   after-past None next i past = refl
@@ -155,7 +108,8 @@ module _ (terminator : ℕ) (hay : List ℕ) (end : ℕ) (whole : List State) wh
         (closed-same A (Inside A base 0) (λ x h. inl h) (λ x h. elim h [ inl a ↦ a | inr r ↦ absurd (let low = r.0 in let high = r.1 in omega arith) ]) s.closed, inl s.next_in);
   }
 
-  pub Closes-state : (state : ℕ → State) → ((next i : ℕ) (d : Configuration) → Contains (state_step terminator hay end (state next) i) d → next ≡ d.state) → Closes (build_state state)
+  pub Closes-state : (state : ℕ → State) → ((next i : ℕ) (d : Configuration) → Contains (state_step terminator hay end (state next) i) d → next ≡ d.state)
+      → Closes (build_state state)
   Closes-state state target = record {
     closes = λ A next base s.
         (let is = Placed-first whole base (state next) [] s.placed in (
@@ -165,14 +119,18 @@ module _ (terminator : ℕ) (hay : List ℕ) (end : ℕ) (whole : List State) wh
                 let low = r.0 in
                 let high = r.1 in
                 let here' : base ≡ c.state = omega arith in
-                inl (subst A (target next c.place d (successors-in c d (state next) (subst (λ q. IsState q (state next)) here' is) m)) s.next_in)
+                inl
+                (subst A
+                (target next c.place d (successors-in terminator hay end whole c d (state next) (subst (λ q. IsStateOf whole q (state next)) here' is) m))
+                s.next_in)
           ],
           inr (omega arith, omega arith),
         ));
   }
 
   -- how the second of two parts stands, and the first
-  pub stands-second : (A : ℕ → Type 0) (first second : Builder) (next base : ℕ) → Stands A next base (build_then first second next base).states → Stands A next base (second next base).states
+  pub stands-second : (A : ℕ → Type 0) (first second : Builder) (next base : ℕ) → Stands A next base (build_then first second next base).states
+      → Stands A next base (second next base).states
   stands-second A first second next base s =
       let two = second next base in
       let one = first two.start (base + length two.states) in
@@ -220,15 +178,19 @@ module _ (terminator : ℕ) (hay : List ℕ) (end : ℕ) (whole : List State) wh
               by_test (nat_lt y (base + length two.states))
               (λ e. inl (inr (low, grind (arith, nat_tests))))
               (λ e. inr (grind (arith, nat_tests), omega arith))
-        ] in
-        (closed-same (Inside (Inside A base (length two.states)) (base + length two.states) (length one.states)) (Inside A base (length (two.states ++ one.states))) to from x.0, to one.start x.1));
+        ] in (
+          closed-same (Inside (Inside A base (length two.states)) (base + length two.states) (length one.states))
+              (Inside A base (length (two.states ++ one.states))) to from x.0,
+          to one.start x.1,
+        ));
   }
 
   pub Leads-nothing : Leads build_nothing (λ f i. f i)
   Leads-nothing = record { leads = λ A next base s i. refl }
 
   Leads-state : (state : ℕ → State) (len : ℕ → Option ℕ) → ((next : ℕ) → state_accepts (state next) ≡ None)
-      → ((next i : ℕ) → state_step terminator hay end (state next) i ≡ go_by terminator hay end (len i) next i) → Leads (build_state state) (λ f i. after f (len i) i)
+      → ((next i : ℕ) → state_step terminator hay end (state next) i ≡ go_by terminator hay end (len i) next i)
+      → Leads (build_state state) (λ f i. after f (len i) i)
   Leads-state state len none step = record {
     leads = λ A next base s i.
         (let is = Placed-first whole base (state next) [] s.placed in
@@ -236,7 +198,7 @@ module _ (terminator : ℕ) (hay : List ℕ) (end : ℕ) (whole : List State) wh
         (λ e.
         let le : i ≤ end = grind (arith, nat_tests) in
         ends-state A s.closed base i (state next) is (none next) (λ a. s.apart base a (omega arith) (omega arith))
-        (λ d m. subst A (go_by-target (len i) next i d (subst (λ ds. Contains ds d) (step next i) m)) s.next_in) le
+        (λ d m. subst A (go_by-target terminator hay end (len i) next i d (subst (λ ds. Contains ds d) (step next i) m)) s.next_in) le
         ∙ ap (first_some ends) (step next i) ∙ go_by-ends (len i) next i)
         (λ e.
         let past : end < i = grind (arith, nat_tests) in
@@ -250,12 +212,13 @@ module _ (terminator : ℕ) (hay : List ℕ) (end : ℕ) (whole : List State) wh
         (let f : ℕ → Option ℕ = λ j. ends (at (second next base).start j) in
         let h : ℕ → Option ℕ = λ j. b (λ k. ends (at next k)) j in
         let same : f ≡ h = λ k j. two.leads A next base (stands-second A first second next base s) j k in
-        one.leads (Inside A base (length (second next base).states)) (second next base).start (base + length (second next base).states) (stands-first A first second closes next base s) i
+        one.leads (Inside A base (length (second next base).states)) (second next base).start (base + length (second next base).states)
+        (stands-first A first second closes next base s) i
         ∙ ap (λ x. a x i) same);
   }
 
   pub slot-target : (number next i : ℕ) (d : Configuration) → Contains (state_step terminator hay end (slot number next) i) d → next ≡ d.state
-  slot-target number next i d m = ap (λ (c : Configuration). c.state) (only-member (at next i) d m)
+  slot-target number next i d m = ap (λ (c : Configuration). c.state) (only-among (at next i) d m)
 
   pub Leads-slot : (number : ℕ) → Leads (build_state (slot number)) (λ f i. f i)
   Leads-slot number = record {
@@ -266,7 +229,7 @@ module _ (terminator : ℕ) (hay : List ℕ) (end : ℕ) (whole : List State) wh
         let le : i ≤ end = grind (arith, nat_tests) in
         ends-state A s.closed base i (slot number next) is refl (λ a. s.apart base a (omega arith) (omega arith))
         (λ d m. subst A (slot-target number next i d m) s.next_in) le
-        ∙ or-none (ends (at next i)))
+        ∙ or-none_right (ends (at next i)))
         (λ e.
         let past : end < i = grind (arith, nat_tests) in
         ends-past (at base i) past ∙ sym (ends-past (at next i) past)));
@@ -284,13 +247,15 @@ module _ (terminator : ℕ) (hay : List ℕ) (end : ℕ) (whole : List State) wh
       Leads-then (build_state (slot number)) (build_then body (build_state (slot (suc number)))) (λ f i. f i) go
       (Closes-then body (build_state (slot (suc number))) c (Closes-state (slot (suc number)) (slot-target (suc number))))
       (Leads-slot number)
-      (Leads-then body (build_state (slot (suc number))) go (λ f i. f i) (Closes-state (slot (suc number)) (slot-target (suc number))) a (Leads-slot (suc number)))
+      (Leads-then body (build_state (slot (suc number))) go (λ f i. f i) (Closes-state (slot (suc number)) (slot-target (suc number))) a
+      (Leads-slot (suc number)))
 
   pub Closes-text : (bytes : List ℕ) → Closes (build_state (text bytes))
-  Closes-text bytes = Closes-state (text bytes) (λ next i d m. go_by-target (if stands_at hay i bytes then Some (length bytes) else None) next i d m)
+  Closes-text bytes = Closes-state (text bytes) (λ next i d m. go_by-target terminator hay end (if stands_at hay i bytes then Some (length bytes) else None)
+      next i d m)
 
   pub Closes-set : (members : Class) → Closes (build_state (set members))
-  Closes-set members = Closes-state (set members) (λ next i d m. go_by-target (member_len hay members i) next i d m)
+  Closes-set members = Closes-state (set members) (λ next i d m. go_by-target terminator hay end (member_len hay members i) next i d m)
 
   pub Leads-text : (bytes : List ℕ) → Leads (build_state (text bytes)) (λ f i. after f (if stands_at hay i bytes then Some (length bytes) else None) i)
   Leads-text bytes = Leads-state (text bytes) (λ i. if stands_at hay i bytes then Some (length bytes) else None) (λ next. refl) (λ next i. refl)
@@ -298,26 +263,18 @@ module _ (terminator : ℕ) (hay : List ℕ) (end : ℕ) (whole : List State) wh
   pub Leads-set : (members : Class) → Leads (build_state (set members)) (λ f i. after f (member_len hay members i) i)
   Leads-set members = Leads-state (set members) (λ i. member_len hay members i) (λ next. refl) (λ next i. refl)
 
-  pub prefer-cases : (greedy : Bool) (body exit i : ℕ) (d : Configuration) → Contains (state_step terminator hay end (prefer greedy body exit) i) d → (at body i ≡ d) ⊎ (at exit i ≡ d)
-  prefer-cases true body exit i d m =
-      elim (member-cases (at body i) d (at exit i ∷ []) m) [ inl e ↦ inl e | inr more ↦ inr (only-member (at exit i) d more) ]
-  prefer-cases false body exit i d m =
-      elim (member-cases (at exit i) d (at body i ∷ []) m) [ inl e ↦ inr e | inr more ↦ inl (only-member (at body i) d more) ]
-
-  pub prefer-accepts : (greedy : Bool) (body exit : ℕ) → state_accepts (prefer greedy body exit) ≡ None
-  prefer-accepts true body exit = refl
-  prefer-accepts false body exit = refl
-
-  pub prefer-ends : (greedy : Bool) (body exit i : ℕ) → first_some ends (state_step terminator hay end (prefer greedy body exit) i) ≡ either_first greedy (ends (at body i)) (ends (at exit i))
-  prefer-ends true body exit i = ap (option_or (ends (at body i))) (or-none (ends (at exit i)))
-  prefer-ends false body exit i = ap (option_or (ends (at exit i))) (or-none (ends (at body i)))
+  pub prefer-ends : (greedy : Bool) (body exit i : ℕ) → first_some ends (state_step terminator hay end (prefer greedy body exit) i) ≡ either_first greedy
+      (ends (at body i)) (ends (at exit i))
+  prefer-ends true body exit i = ap (option_or (ends (at body i))) (or-none_right (ends (at exit i)))
+  prefer-ends false body exit i = ap (option_or (ends (at exit i))) (or-none_right (ends (at body i)))
 
   pub prefer-past : (greedy : Bool) (x y : Option ℕ) → x ≡ None → y ≡ None → either_first greedy x y ≡ None
   prefer-past true x y e f = (λ k. option_or (e k) (f k))
   prefer-past false x y e f = (λ k. option_or (f k) (e k))
 
   module _ (greedy : Bool) (body : Builder) where
-    option-body : (A : ℕ → Type 0) (next base : ℕ) → Stands A next base (options greedy 1 body next base).states → Stands A next (suc (base + 0)) (body next (suc (base + 0))).states
+    option-body : (A : ℕ → Type 0) (next base : ℕ) → Stands A next base (options greedy 1 body next base).states
+        → Stands A next (suc (base + 0)) (body next (suc (base + 0))).states
     option-body A next base s =
         let b = body next (suc (base + 0)) in
         let back = Placed-back whole base [] (prefer greedy b.start next ∷ b.states) s.placed in
@@ -328,7 +285,8 @@ module _ (terminator : ℕ) (hay : List ℕ) (end : ℕ) (whole : List State) wh
           apart = λ x a low high. s.apart x a (omega arith) (omega arith);
         }
 
-    option-is : (A : ℕ → Type 0) (next base : ℕ) → Stands A next base (options greedy 1 body next base).states → IsState (base + 0) (prefer greedy (body next (suc (base + 0))).start next)
+    option-is : (A : ℕ → Type 0) (next base : ℕ) → Stands A next base (options greedy 1 body next base).states
+        → IsStateOf whole (base + 0) (prefer greedy (body next (suc (base + 0))).start next)
     option-is A next base s =
         let b = body next (suc (base + 0)) in
         Placed-first whole (base + 0) (prefer greedy b.start next) b.states (Placed-back whole base [] (prefer greedy b.start next ∷ b.states) s.placed)
@@ -349,8 +307,8 @@ module _ (terminator : ℕ) (hay : List ℕ) (end : ℕ) (whole : List State) wh
                   by_test (nat_eq c.state (base + 0))
                   (λ e.
                   let same : base + 0 ≡ c.state = grind (arith, nat_tests) in
-                  let m' = successors-in c d (prefer greedy b.start next) (subst (λ q. IsState q (prefer greedy b.start next)) same is) m in
-                  elim (prefer-cases greedy b.start next c.place d m') [
+                  let m' = successors-in terminator hay end whole c d (prefer greedy b.start next) (subst (λ q. IsStateOf whole q (prefer greedy b.start next)) same is) m in
+                  elim (prefer-cases terminator hay end greedy b.start next c.place d m') [
                     | inl e' ↦ subst (λ q. Inside A base (suc (length b.states)) q) (ap (λ (z : Configuration). z.state) e') (to b.start x.1)
                     | inr e' ↦ inl (subst A (ap (λ (z : Configuration). z.state) e') s.next_in)
                   ])
@@ -362,7 +320,8 @@ module _ (terminator : ℕ) (hay : List ℕ) (end : ℕ) (whole : List State) wh
           ));
     }
 
-    pub Leads-option : (go : (ℕ → Option ℕ) → ℕ → Option ℕ) → Closes body → Leads body go → Leads (options greedy 1 body) (λ f i. either_first greedy (go f i) (f i))
+    pub Leads-option : (go : (ℕ → Option ℕ) → ℕ → Option ℕ) → Closes body → Leads body go
+        → Leads (options greedy 1 body) (λ f i. either_first greedy (go f i) (f i))
     Leads-option go c a = record {
       leads = λ A next base s i.
           (let b = body next (suc (base + 0)) in
@@ -375,7 +334,7 @@ module _ (terminator : ℕ) (hay : List ℕ) (end : ℕ) (whole : List State) wh
           let le : i ≤ end = grind (arith, nat_tests) in
           ends-state (Inside A (suc (base + 0)) (length b.states)) x.0 (base + 0) i (prefer greedy b.start next) is (prefer-accepts greedy b.start next)
           (λ h. elim h [ inl c' ↦ s.apart (base + 0) c' (omega arith) (omega arith) | inr r ↦ (let low = r.0 in omega arith) ])
-          (λ d m. elim (prefer-cases greedy b.start next i d m) [
+          (λ d m. elim (prefer-cases terminator hay end greedy b.start next i d m) [
             | inl e' ↦ subst (λ q. Inside A (suc (base + 0)) (length b.states) q) (ap (λ (z : Configuration). z.state) e') x.1
             | inr e' ↦ inl (subst A (ap (λ (z : Configuration). z.state) e') s.next_in)
           ]) le
@@ -384,21 +343,24 @@ module _ (terminator : ℕ) (hay : List ℕ) (end : ℕ) (whole : List State) wh
           (λ e.
           let past : end < i = grind (arith, nat_tests) in
           ends-past (at (base + 0) i) past
-          ∙ sym (prefer-past greedy (go (λ j. ends (at next j)) i) (ends (at next i)) (sym onward ∙ ends-past (at b.start i) past) (ends-past (at next i) past))));
+          ∙ sym (prefer-past greedy (go (λ j. ends (at next j)) i) (ends (at next i)) (sym onward ∙ ends-past (at b.start i) past)
+          (ends-past (at next i) past))));
     }
 
   pub Closes-copies : (body last : Builder) → Closes body → Closes last → (n : ℕ) → Closes (copies n body last)
   Closes-copies body last a b zero = b
   Closes-copies body last a b (suc n) = Closes-then body (copies n body last) a (Closes-copies body last a b n)
 
-  pub Leads-copies : (body last : Builder) (go : (ℕ → Option ℕ) → ℕ → Option ℕ) → Closes body → Closes last → Leads body go → Leads last (λ f i. f i) → (n : ℕ) → Leads (copies n body last) (λ f i. times_go go n f i)
+  pub Leads-copies : (body last : Builder) (go : (ℕ → Option ℕ) → ℕ → Option ℕ) → Closes body → Closes last → Leads body go → Leads last (λ f i. f i) → (n : ℕ)
+      → Leads (copies n body last) (λ f i. times_go go n f i)
   Leads-copies body last go a b c d zero = d
   Leads-copies body last go a b c d (suc n) =
       Leads-then body (copies n body last) go (λ f i. times_go go n f i) (Closes-copies body last a b n) c (Leads-copies body last go a b c d n)
 
   pub record ClosesOne (parts : (next base : ℕ) → Parts) : Type 1 where
     pub closes : (A : ℕ → Type 0) (next base : ℕ) → Stands A next base (parts next base).states
-        → IsClosed g (Inside A base (length (parts next base).states)) × ((q : ℕ) → Contains (parts next base).starts q → Inside A base (length (parts next base).states) q)
+        → IsClosed g (Inside A base (length (parts next base).states))
+        × ((q : ℕ) → Contains (parts next base).starts q → Inside A base (length (parts next base).states) q)
 
   pub record LeadsOne (parts : (next base : ℕ) → Parts) (go : (ℕ → Option ℕ) → ℕ → Option ℕ) : Type 1 where
     pub leads : (A : ℕ → Type 0) (next base : ℕ) → Stands A next base (parts next base).states
@@ -413,14 +375,16 @@ module _ (terminator : ℕ) (hay : List ℕ) (end : ℕ) (whole : List State) wh
   pub LeadsOne-none : LeadsOne no_parts (λ f i. None)
   LeadsOne-none = record { leads = λ A next base s i. refl }
 
-  pub beside-first : (A : ℕ → Type 0) (first : Builder) (others : (next base : ℕ) → Parts) (next base : ℕ) → Stands A next base (build_beside first others next base).states → Stands A next base (first next base).states
+  pub beside-first : (A : ℕ → Type 0) (first : Builder) (others : (next base : ℕ) → Parts) (next base : ℕ)
+      → Stands A next base (build_beside first others next base).states → Stands A next base (first next base).states
   beside-first A first others next base s =
       let f = first next base in
       let o = others next (base + length f.states) in
       let long = length-append f.states o.states in
       record { placed = Placed-front whole base f.states o.states s.placed; closed = s.closed; next_in = s.next_in; apart = λ x a low high. s.apart x a low (omega arith) }
 
-  pub beside-others : (A : ℕ → Type 0) (first : Builder) (others : (next base : ℕ) → Parts) (next base : ℕ) → Stands A next base (build_beside first others next base).states
+  pub beside-others : (A : ℕ → Type 0) (first : Builder) (others : (next base : ℕ) → Parts) (next base : ℕ)
+      → Stands A next base (build_beside first others next base).states
       → Stands A next (base + length (first next base).states) (others next (base + length (first next base).states)).states
   beside-others A first others next base s =
       let f = first next base in
@@ -449,7 +413,7 @@ module _ (terminator : ℕ) (hay : List ℕ) (end : ℕ) (whole : List State) wh
                 (λ e. left d.state (x.0 c d (inr (low, grind (arith, nat_tests))) m))
                 (λ e. right d.state (y.0 c d (inr (grind (arith, nat_tests), omega arith)) m))
           ],
-          λ q m. elim (number-cases f.start q o.starts m) [
+          λ q m. elim (split-among f.start q o.starts m) [
             | inl e ↦ left q (subst (λ z. Inside A base (length f.states) z) e x.1)
             | inr more ↦ right q (y.1 q more)
           ],
@@ -465,13 +429,15 @@ module _ (terminator : ℕ) (hay : List ℕ) (end : ℕ) (whole : List State) wh
         λ k. option_or (x k) (y k));
   }
 
-  pub choice-parts : (A : ℕ → Type 0) (parts : (next base : ℕ) → Parts) (next base : ℕ) → Stands A next base (build_choice parts next base).states → Stands A next base (parts next base).states
+  pub choice-parts : (A : ℕ → Type 0) (parts : (next base : ℕ) → Parts) (next base : ℕ) → Stands A next base (build_choice parts next base).states
+      → Stands A next base (parts next base).states
   choice-parts A parts next base s =
       let p = parts next base in
       let long = length-append p.states (choice p.starts ∷ []) in
       record { placed = Placed-front whole base p.states (choice p.starts ∷ []) s.placed; closed = s.closed; next_in = s.next_in; apart = λ x a low high. s.apart x a low (omega arith) }
 
-  pub choice-is : (A : ℕ → Type 0) (parts : (next base : ℕ) → Parts) (next base : ℕ) → Stands A next base (build_choice parts next base).states → IsState (base + length (parts next base).states) (choice (parts next base).starts)
+  pub choice-is : (A : ℕ → Type 0) (parts : (next base : ℕ) → Parts) (next base : ℕ) → Stands A next base (build_choice parts next base).states
+      → IsStateOf whole (base + length (parts next base).states) (choice (parts next base).starts)
   choice-is A parts next base s =
       let p = parts next base in Placed-first whole (base + length p.states) (choice p.starts) [] (Placed-back whole base p.states (choice p.starts ∷ []) s.placed)
 
@@ -493,7 +459,7 @@ module _ (terminator : ℕ) (hay : List ℕ) (end : ℕ) (whole : List State) wh
                 (λ e. to d.state (x.0 c d (inr (low, grind (arith, nat_tests))) m))
                 (λ e.
                 let same : base + length p.states ≡ c.state = grind (arith, nat_tests) in
-                let m' = successors-in c d (choice p.starts) (subst (λ q. IsState q (choice p.starts)) same is) m in
+                let m' = successors-in terminator hay end whole c d (choice p.starts) (subst (λ q. IsStateOf whole q (choice p.starts)) same is) m in
                 let y = choice-member p.starts c.place d m' in
                 to d.state (subst (λ q. Inside A base (length p.states) q) (ap (λ (z : Configuration). z.state) y.2) (x.1 y.0 y.1)))
           ],
@@ -505,7 +471,8 @@ module _ (terminator : ℕ) (hay : List ℕ) (end : ℕ) (whole : List State) wh
   starts-past [] i past = refl
   starts-past (q ∷ qs) i past = λ k. option_or (ends-past (at q i) past k) (starts-past qs i past k)
 
-  pub Leads-choice : (parts : (next base : ℕ) → Parts) (go : (ℕ → Option ℕ) → ℕ → Option ℕ) → ClosesOne parts → LeadsOne parts go → Leads (build_choice parts) go
+  pub Leads-choice : (parts : (next base : ℕ) → Parts) (go : (ℕ → Option ℕ) → ℕ → Option ℕ) → ClosesOne parts → LeadsOne parts go
+      → Leads (build_choice parts) go
   Leads-choice parts go c a = record {
     leads = λ A next base s i.
         (let p = parts next base in

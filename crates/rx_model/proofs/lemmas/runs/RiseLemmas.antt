@@ -12,7 +12,8 @@ trace-end g c (d ∷ run) = kept (g.written c) ∙ trace-end g d run
     kept None = refl
     kept (Some slot) = refl
 
-pub run-rises : (g : PriorityGraph) → NeverFalls g → (p : Passed) (c : Configuration) (run : List Configuration) → IsRun g p c run → c.place ≤ (last_of c run).place
+pub run-rises : (g : PriorityGraph) → NeverFalls g → (p : Passed) (c : Configuration) (run : List Configuration) → IsRun g p c run
+    → c.place ≤ (last_of c run).place
 run-rises g rises p c [] r = omega arith
 run-rises g rises p c (d ∷ run) r = let up = rises c d r.1 in let later = run-rises g rises (and_at c p) d run r.2 in omega arith
 
@@ -22,7 +23,8 @@ Leads-rises g rises pattern end zero c h = let same = h.1 in omega arith
 Leads-rises g rises pattern end (suc n) c h = let up = rises c h.0 h.1 in let later = Leads-rises g rises pattern end n h.0 h.2 in omega arith
 
 -- a run ends where it accepts
-pub run-accepts : (g : PriorityGraph) (p : Passed) (c : Configuration) (run : List Configuration) → IsRun g p c run → is_some (g.accepted (last_of c run)) ≡ true
+pub run-accepts : (g : PriorityGraph) (p : Passed) (c : Configuration) (run : List Configuration) → IsRun g p c run
+    → is_some (g.accepted (last_of c run)) ≡ true
 run-accepts g p c [] r = r.1
 run-accepts g p c (d ∷ run) r = run-accepts g (and_at c p) d run r.2
 

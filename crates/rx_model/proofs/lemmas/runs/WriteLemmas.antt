@@ -7,7 +7,8 @@ use Rattle.rx_model.specs.Refinement.{AgreesButForWrites}
 use Rattle.rx_model.specs.Search.{WhichCaptures, all, implicit, none, told}
 
 -- of one trace or another
-pub told-or : (which : WhichCaptures) (a b : Option Trace) → option_map (told which) (option_or a b) ≡ option_or (option_map (told which) a) (option_map (told which) b)
+pub told-or : (which : WhichCaptures) (a b : Option Trace) → option_map (told which) (option_or a b) ≡ option_or (option_map (told which) a)
+    (option_map (told which) b)
 told-or which None b = refl
 told-or which (Some t) b = refl
 
@@ -19,6 +20,15 @@ told-all (Some t) = refl
 pub told-implicit : (o : Option Trace) → option_map (told implicit) o ≡ o
 told-implicit None = refl
 told-implicit (Some t) = refl
+
+-- where nothing is written
+pub write-nothing : (place : ℕ) (o : Option Trace) → option_map (with_write None place) o ≡ o
+write-nothing place None = refl
+write-nothing place (Some t) = refl
+
+pub write-nothing-alone : (place : ℕ) (o : Option Trace) → option_map (with_write None place) (option_or o None) ≡ o
+write-nothing-alone place None = refl
+write-nothing-alone place (Some t) = refl
 
 told-write : (o : Option ℕ) (place : ℕ) (t : Trace) → told none (with_write o place t) ≡ told none t
 told-write None place t = refl
@@ -51,7 +61,8 @@ module _ (g m : PriorityGraph) (agrees : AgreesButForWrites g m) where
       of_run None = refl
       of_run (Some run) = ap Some (trace-alike c run)
 
-      of_runs : (a b : Option (List Configuration)) → a ≡ b → option_map (told none) (option_map (trace m c) a) ≡ option_map (told none) (option_map (trace g c) b)
+      of_runs : (a b : Option (List Configuration)) → a ≡ b → option_map (told none) (option_map (trace m c) a) ≡ option_map (told none)
+          (option_map (trace g c) b)
       of_runs a b e = of_run a ∙ ap (λ o. option_map (told none) (option_map (trace g c) o)) e
 
 -- a graph that writes nothing tells no writes

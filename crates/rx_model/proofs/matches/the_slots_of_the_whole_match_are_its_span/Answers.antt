@@ -5,7 +5,8 @@ pub returns-clause-next : goal.returns-clause-next
 returns-clause-next c = λ r text anchor b a m e. match-slots r text anchor b a m (next-run r text anchor b a m e)
 
 pub returns-clause-next_groups : goal.returns-clause-next_groups
-returns-clause-next_groups c = λ r text anchor b a m e h there slot place is. match-own r text anchor b a m (next-run r text anchor b a m e) h there slot place is
+returns-clause-next_groups c = λ r text anchor b a m e h there slot place is. match-own r text anchor b a m (next-run r text anchor b a m e) h there slot place
+    is
 
 pub returns-clause-next_others : goal.returns-clause-next_others
 returns-clause-next_others c = λ r text anchor b a m e h there slot other. match-others r text anchor b a m (next-run r text anchor b a m e) h there slot other

@@ -1,4 +1,4 @@
-use Rattle.std.proofs.Common.{◌≡◌, ℕ, ◌+◌, ◌<◌, ◌∙◌, refl, sym, ap, get_or, take, arith}
+use Rattle.std.proofs.Common.{◌≡◌, ◌∙◌, refl, sym, ap, get_or, take, arith}
 use Rattle.std.specs.Prelude.{Bool, true, false, ◌||◌}
 use Rattle.std.proofs.lemmas.List.{take_all}
 use Rattle.std.proofs.lemmas.List.Folds.{list_any_more}
@@ -20,10 +20,15 @@ pub loop-transition-preserved : goal.loop-transition-preserved
 loop-transition-preserved c = λ b lt.
     c.set_range.ensures b lt
     ∙ ap (λ x. is_edge c.transition-item.result.start c.transition-item.result.end b || x) (c.loop-transition.invariant b lt)
-    ∙ or-moved (is_edge c.transition-item.result.start c.transition-item.result.end b) (transitions_end (take c.loop-transition.transition-index c.args.transitions.now) b) (get_or c.args.set.now b false)
-    ∙ ap (λ (t : Transition). (transitions_end (take c.loop-transition.transition-index c.args.transitions.now) b || is_edge t.start t.end b) || get_or c.args.set.now b false) c.transition-item.is
-    ∙ ap (λ x. x || get_or c.args.set.now b false) (sym (list_any_more (λ (t : Transition). is_edge t.start t.end b) c.args.transitions.now c.loop-transition.transition-index c.transition-item.result (omega arith)))
+    ∙ or-moved (is_edge c.transition-item.result.start c.transition-item.result.end b)
+    (transitions_end (take c.loop-transition.transition-index c.args.transitions.now) b) (get_or c.args.set.now b false)
+    ∙ ap (λ (t : Transition). (transitions_end (take c.loop-transition.transition-index c.args.transitions.now) b || is_edge t.start t.end b) || get_or
+    c.args.set.now b false) c.transition-item.is
+    ∙ ap (λ x. x || get_or c.args.set.now b false)
+    (sym (list_any_more (λ (t : Transition). is_edge t.start t.end b) c.args.transitions.now c.loop-transition.transition-index c.transition-item.result
+    (omega arith)))
 
 pub returns : goal.returns
 returns c = λ b lt.
-    c.loop-transition.invariant b lt ∙ ap (λ ts. transitions_end ts b || get_or c.args.set.now b false) (take_all c.loop-transition.transition-index c.args.transitions.now (omega arith))
+    c.loop-transition.invariant b lt ∙ ap (λ ts. transitions_end ts b || get_or c.args.set.now b false)
+    (take_all c.loop-transition.transition-index c.args.transitions.now (omega arith))

@@ -1,6 +1,5 @@
-use Rattle.std.proofs.Common.{◌≡◌, ℕ, zero, suc, ◌+◌, ◌<◌, ◌∙◌, refl, sym, ap, get_or, take, length, arith}
+use Rattle.std.proofs.Common.{◌≡◌, ℕ, zero, suc, ◌+◌, ◌<◌, ◌∙◌, refl, sym, ap, get_or, take, arith}
 use Rattle.std.specs.Prelude.{Bool, true, false, ◌||◌, if◌then◌else◌}
-use Rattle.std.specs.List.{list_any}
 use Rattle.std.proofs.lemmas.List.{take_all}
 use Rattle.std.proofs.lemmas.List.Folds.{list_any_more}
 use Rattle.rx_search.specs.ByteClasses.{class_of}
@@ -21,7 +20,8 @@ loop-state-preserved c = λ b lt.
     c.add_state.ensures b lt
     ∙ ap (λ x. state_ends c.args.terminator c.state-item.result b || x) (c.loop-state.invariant b lt)
     ∙ ap (λ s. state_ends c.args.terminator s b || class_ends c.args.terminator (take c.loop-state.state-index c.args.states.now) b) c.state-item.is
-    ∙ or-turned (state_ends c.args.terminator (get_or c.args.states.now c.loop-state.state-index c.state-item.result) b) (class_ends c.args.terminator (take c.loop-state.state-index c.args.states.now) b)
+    ∙ or-turned (state_ends c.args.terminator (get_or c.args.states.now c.loop-state.state-index c.state-item.result) b)
+    (class_ends c.args.terminator (take c.loop-state.state-index c.args.states.now) b)
     ∙ sym (list_any_more (λ s. state_ends c.args.terminator s b) c.args.states.now c.loop-state.state-index c.state-item.result (omega arith))
 
 -- two tests that agree on the bytes give the same classes
@@ -39,5 +39,6 @@ returns c = (
       let small : b < 256 = (let len = are.len in omega arith) in
       c.byte_classes.ensures.value b lt
       ∙ class_of-alike (λ e. get_or c.loop-state.set e false) (λ e. class_ends c.args.terminator c.args.states.now e) b small
-      (λ e below. c.loop-state.invariant e below ∙ ap (λ ss. class_ends c.args.terminator ss e) (take_all c.loop-state.state-index c.args.states.now (omega arith)))),
+      (λ e below. c.loop-state.invariant e below ∙ ap (λ ss. class_ends c.args.terminator ss e)
+      (take_all c.loop-state.state-index c.args.states.now (omega arith)))),
 )

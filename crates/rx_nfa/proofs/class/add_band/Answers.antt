@@ -17,7 +17,8 @@ deepen-requires-clause-rises c =
 pub deepen-requires-clause-small : goal.deepen-requires-clause-small
 deepen-requires-clause-small c =
     let is = c.deref.ensures.value ∙ c.in_ok-parts.ensures in
-    subst (StaysBelow 0x10_FFFF) (sym is) (StaysBelow-more c.args.band.high 0x10_FFFF _ c.requires.ordered.1 (StaysBelow-clip c.args.band.low c.args.band.high c.requires.ordered.0 c.args.ranges.now))
+    subst (StaysBelow 0x10_FFFF) (sym is) (StaysBelow-more c.args.band.high 0x10_FFFF _ c.requires.ordered.1
+    (StaysBelow-clip c.args.band.low c.args.band.high c.requires.ordered.0 c.args.ranges.now))
 
 pub deepen-requires-clause-room : goal.deepen-requires-clause-room
 deepen-requires-clause-room c =
@@ -45,14 +46,16 @@ row-requires-clause-room c =
 
 pub returns-clause-ready : goal.returns-clause-ready
 returns-clause-ready c =
-    λ base next ready. IsReady-grows c.deepen.new.states.items c.row.new.states.items base next c.deepen.new.whole.items c.in_ok-row.ensures.grows (c.in_ok-deepen.ensures.ready base next ready)
+    λ base next ready. IsReady-grows c.deepen.new.states.items c.row.new.states.items base next c.deepen.new.whole.items c.in_ok-row.ensures.grows
+    (c.in_ok-deepen.ensures.ready base next ready)
 
 pub returns-clause-closed : goal.returns-clause-closed
 returns-clause-closed c =
     λ base next ready lt closed.
     (let longer = c.in_ok-deepen.ensures.grows.longer in
     let whole = c.deref-3.ensures.value in
-    c.in_ok-row.ensures.closed base next (subst (IsReady base c.deepen.new.states.items next) (sym whole) (c.in_ok-deepen.ensures.ready base next ready)) (omega arith)
+    c.in_ok-row.ensures.closed base next (subst (IsReady base c.deepen.new.states.items next) (sym whole) (c.in_ok-deepen.ensures.ready base next ready))
+    (omega arith)
     (c.in_ok-deepen.ensures.closed base next ready lt closed))
 
 pub returns-clause-built : goal.returns-clause-built
@@ -61,7 +64,8 @@ returns-clause-built c =
     λ base next ready.
     (let whole = c.deref-3.ensures.value in
     let children = c.args.band.children in
-    subst (λ ps. IsRow (IsReader base c.row.new.states.items) next (is_member ps) children.depth children.start children.first children.len c.args.transitions.now.items c.row.new.transitions.items) parts
+    subst (λ ps. IsRow (IsReader base c.row.new.states.items) next (is_member ps) children.depth children.start children.first children.len
+    c.args.transitions.now.items c.row.new.transitions.items) parts
     (c.in_ok-row.ensures.built base next (subst (IsReady base c.deepen.new.states.items next) (sym whole) (c.in_ok-deepen.ensures.ready base next ready))))
 
 pub returns-clause-count : goal.returns-clause-count

@@ -130,7 +130,8 @@ returns-clause-built c =
     let ready4 = three.ready base next ready3 in
     let ready5 = upper.ready base next ready4 in
     IsClass-from (IsReader base c.push_reader.new.states.items) next c.args.ranges.now c.in_ok-id.id
-    c.new-transitions.result.items c.add_band.new.transitions.items c.add_band-2.new.transitions.items c.add_band-3.new.transitions.items c.add_band-4.new.transitions.items c.add_band-5.new.transitions.items
+    c.new-transitions.result.items c.add_band.new.transitions.items c.add_band-2.new.transitions.items c.add_band-3.new.transitions.items
+    c.add_band-4.new.transitions.items c.add_band-5.new.transitions.items
     c.new-transitions.ensures.items (IsReader-lower base _ _ _ _ long id.reads)
     (IsRow-map _ _ _ (IsReader-grows base _ _ from_one) _ _ _ _ _ _ _ (one.built base next ready1))
     (IsRow-map _ _ _ (IsReader-grows base _ _ from_two) _ _ _ _ _ _ _ (two.built base next ready2))

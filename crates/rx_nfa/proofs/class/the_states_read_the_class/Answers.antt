@@ -5,4 +5,5 @@ pub returns-clause-scalars : goal.returns-clause-scalars
 returns-clause-scalars c = λ ok terminator states text end base next q ranges inside k. IsClass-reads ok terminator states text end base next q ranges inside k
 
 pub returns-clause-bytes : goal.returns-clause-bytes
-returns-clause-bytes c = λ ok terminator states text end base next q ranges inside below k. IsByteClass-reads ok terminator states text end base next q ranges inside below k
+returns-clause-bytes c = λ ok terminator states text end base next q ranges inside below k. IsByteClass-reads ok terminator states text end base next q ranges
+    inside below k

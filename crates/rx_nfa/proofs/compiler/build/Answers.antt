@@ -43,7 +43,8 @@ finish-requires-clause-patterns c =
     let new = c.start_of_all.new.builder in
     let all : StartsAll old new starts c.in_ok-start.start = subst (λ qs. StartsAll c.compile_patterns.new.builder c.start_of_all.new.builder qs c.in_ok-start.start) c.deref.ensures.value c.in_ok-start.ensures.starts in
     let groups : new.groups ≡ groups_of exprs =
-    (StartsAll-kept old new starts c.in_ok-start.start all).0 ∙ c.in_ok-starts.ensures.extends.groups ∙ ap (λ (d : Draft). d.groups) c.new-builder.ensures ∙ c.in_ok-group_info.ensures in
+    (StartsAll-kept old new starts c.in_ok-start.start all).0 ∙ c.in_ok-starts.ensures.extends.groups ∙ ap (λ (d : Draft). d.groups) c.new-builder.ensures
+    ∙ c.in_ok-group_info.ensures in
     c.in_ok-starts.ensures.len ∙ sym (ap length groups ∙ length-map exprs group_names)
 
 pub finish-requires-clause-few : goal.finish-requires-clause-few
@@ -54,7 +55,8 @@ finish-requires-clause-few c =
     let new = c.start_of_all.new.builder in
     let all : StartsAll old new starts c.in_ok-start.start = subst (λ qs. StartsAll c.compile_patterns.new.builder c.start_of_all.new.builder qs c.in_ok-start.start) c.deref.ensures.value c.in_ok-start.ensures.starts in
     let groups : new.groups ≡ groups_of exprs =
-    (StartsAll-kept old new starts c.in_ok-start.start all).0 ∙ c.in_ok-starts.ensures.extends.groups ∙ ap (λ (d : Draft). d.groups) c.new-builder.ensures ∙ c.in_ok-group_info.ensures in
+    (StartsAll-kept old new starts c.in_ok-start.start all).0 ∙ c.in_ok-starts.ensures.extends.groups ∙ ap (λ (d : Draft). d.groups) c.new-builder.ensures
+    ∙ c.in_ok-group_info.ensures in
     let long = ap length groups ∙ length-map exprs group_names in
     let few = c.requires.few.patterns in
     omega arith
@@ -81,8 +83,10 @@ returns c =
     let states : nfa.states ≡ new.states = ap (λ (n : Nfa). n.states) is in
     let terminator : nfa.terminator ≡ terminator_of c.args.config = ap (λ (n : Nfa). n.terminator) is ∙ c.get_look_matcher.ensures in
     let has : HasParts old.states (directed_part reverse (patterns_of exprs true 0 which)) exprs (length exprs) starts =
-    subst (λ b. HasParts c.compile_patterns.new.builder.states (directed_part b (patterns_of c.args.exprs.now true 0 which)) c.args.exprs.now (length c.args.exprs.now) c.in_ok-starts.starts.items) c.get_reverse-reverse.ensures
-    (subst (λ w. HasParts c.compile_patterns.new.builder.states (directed_part c.get_reverse-reverse.result (patterns_of c.args.exprs.now true 0 w)) c.args.exprs.now (length c.args.exprs.now) c.in_ok-starts.starts.items) which_is c.in_ok-starts.ensures.has) in
+    subst (λ b. HasParts c.compile_patterns.new.builder.states (directed_part b (patterns_of c.args.exprs.now true 0 which)) c.args.exprs.now
+    (length c.args.exprs.now) c.in_ok-starts.starts.items) c.get_reverse-reverse.ensures
+    (subst (λ w. HasParts c.compile_patterns.new.builder.states (directed_part c.get_reverse-reverse.result (patterns_of c.args.exprs.now true 0 w))
+    c.args.exprs.now (length c.args.exprs.now) c.in_ok-starts.starts.items) which_is c.in_ok-starts.ensures.has) in
     let made : Nfa = record {
       states = new.states;
       start_anchored = c.in_ok-start.start;
@@ -120,16 +124,20 @@ returns c =
           subst (λ n. HasRuns n (patterns_of exprs utf8_empty (terminator_of c.args.config) (captures_of c.args.config))) (sym is)
           (HasRuns-from (patterns_of exprs utf8_empty (terminator_of c.args.config) (captures_of c.args.config)) made old new
           (HasPatterns-forwards (patterns_of exprs utf8_empty (terminator_of c.args.config) (captures_of c.args.config)) old.states (length exprs) starts
-          (subst (λ w. HasParts old.states (directed_part false (patterns_of exprs true 0 w)) exprs (length exprs) starts) same (subst (λ b. HasParts old.states (directed_part b (patterns_of exprs true 0 which)) exprs (length exprs) starts) ahead has)))
+          (subst (λ w. HasParts old.states (directed_part false (patterns_of exprs true 0 w)) exprs (length exprs) starts) same
+          (subst (λ b. HasParts old.states (directed_part b (patterns_of exprs true 0 which)) exprs (length exprs) starts) ahead has)))
           long c.get_look_matcher.ensures refl all
-          (λ none text end x. written-none (length new.groups) new.slots new.states (written ∙ ap (λ w. slots_written w exprs) (same ∙ none)) c.in_ok-nfa.ensures.within (terminator_of c.args.config) text end x)));
+          (λ none text end x. written-none (length new.groups) new.slots new.states (written ∙ ap (λ w. slots_written w exprs) (same ∙ none))
+          c.in_ok-nfa.ensures.within (terminator_of c.args.config) text end x)));
       silent = λ behind.
           (let none : new.slots ≡ 0 = written ∙ ap (λ b. slots_written (written_in b (captures_of c.args.config)) exprs) behind in
           subst (λ ss. All (λ (s : State). state_writes s ≡ Absent) ss) (sym states)
-          (All-weaker (IsWithin (length new.groups) new.slots) (λ s. state_writes s ≡ Absent) (λ s w. writes-none (length new.groups) new.slots s none w) new.states c.in_ok-nfa.ensures.within));
+          (All-weaker (IsWithin (length new.groups) new.slots) (λ s. state_writes s ≡ Absent) (λ s w. writes-none (length new.groups) new.slots s none w)
+          new.states c.in_ok-nfa.ensures.within));
       reverse_runs = λ behind utf8_empty.
           (let runs = HasReverseRuns-from (patterns_of exprs utf8_empty (terminator_of c.args.config) which) made old new
-          (subst (λ b. HasParts old.states (directed_part b (patterns_of exprs true 0 which)) exprs (length exprs) starts) behind has) long c.get_look_matcher.ensures refl all
+          (subst (λ b. HasParts old.states (directed_part b (patterns_of exprs true 0 which)) exprs (length exprs) starts) behind has) long
+          c.get_look_matcher.ensures refl all
           (λ p h at. IsSound-ordered h (c.in_ok-starts.ensures.sound p h at)) in
           subst (λ n. HasReverseRuns n (patterns_of exprs utf8_empty (terminator_of c.args.config) (captures_of c.args.config))) (sym is) (record { patterns = runs.patterns; each = runs.each; all = runs.all }));
     }

@@ -19,7 +19,8 @@ returns-clause-has c =
     let last = subst (λ o. Built (build_state (bound o)) c.in_ok-accept.accept c.push.new.self c.push_bound.new.builder c.in_ok-close.close) c.second_slot-last_slot.ensures c.in_ok-close.ensures.built in
     let part = Built-bounds body whole c.in_ok-accept.accept c.in_ok-close.close c.in_ok-body.body c.in_ok-open.open
     c.push.new.self c.push_bound.new.builder c.compile.new.builder c.push_bound-2.new.builder last c.in_ok-body.ensures.built c.in_ok-open.ensures.built in
-    HasPart-pattern whole body c.args.groups.now.pattern c.args.builder.now c.push.new.self c.push_bound-2.new.builder c.in_ok-open.open c.in_ok-accept.ensures.states
+    HasPart-pattern whole body c.args.groups.now.pattern c.args.builder.now c.push.new.self c.push_bound-2.new.builder c.in_ok-open.open
+    c.in_ok-accept.ensures.states
     (subst (λ q. Built (build_bounds whole body) q c.push.new.self c.push_bound-2.new.builder c.in_ok-open.open) c.in_ok-accept.ensures.id part)
 
 pub push_bound-requires-clause-own : goal.push_bound-requires-clause-own
@@ -30,7 +31,8 @@ push_bound-requires-clause-own c =
     let some : 0 < length (groups_at old.groups p) = omega arith in
     let same = ap (λ (d : Draft). d.groups) c.in_ok-accept.ensures.states in
     subst (λ gs. IfSome c.second_slot-last_slot.result (λ number. IsSlotOf gs p number)) (sym same)
-    (subst (λ o. IfSome o (λ number. IsSlotOf old.groups p number)) (sym c.second_slot-last_slot.ensures) (whole-own-last old.groups p c.args.groups.now.whole_slot some c.requires.own))
+    (subst (λ o. IfSome o (λ number. IsSlotOf old.groups p number)) (sym c.second_slot-last_slot.ensures)
+    (whole-own-last old.groups p c.args.groups.now.whole_slot some c.requires.own))
 
 pub push_bound-requires-2-clause-own : goal.push_bound-requires-2-clause-own
 push_bound-requires-2-clause-own c =
@@ -39,4 +41,5 @@ push_bound-requires-2-clause-own c =
     let more = c.requires.room.enough in
     let some : 0 < length (groups_at old.groups p) = omega arith in
     let same = c.in_ok-body.ensures.built.extends.groups ∙ c.in_ok-close.ensures.built.extends.groups ∙ ap (λ (d : Draft). d.groups) c.in_ok-accept.ensures.states in
-    subst (λ gs. IfSome c.args.groups.now.whole_slot (λ number. IsSlotOf gs p number)) (sym same) (whole-own old.groups p c.args.groups.now.whole_slot some c.requires.own)
+    subst (λ gs. IfSome c.args.groups.now.whole_slot (λ number. IsSlotOf gs p number)) (sym same)
+    (whole-own old.groups p c.args.groups.now.whole_slot some c.requires.own)

@@ -41,13 +41,15 @@ compile_pattern-requires-clause-room c =
       first = subst (λ gs. IfSome c.loop-hir.first_slot (λ first. first ≡ slot_of_group gs c.unwrap-pattern.result 1)) (sym groups)
           (subst (λ n. IfSome c.loop-hir.first_slot (λ first. first ≡ slot_of_group (groups_of c.args.exprs.now) n 1)) (sym index) first);
       slots = subst (λ n. IfSome c.loop-hir.first_slot (λ first. first + 2 * greatest_group c.hir-item.result ≤ n)) (sym slots)
-          (subst (λ o. IfSome o (λ first. first + 2 * greatest_group c.hir-item.result ≤ slots_written (captures_kind c.args.which) c.args.exprs.now)) (sym c.loop-hir.invariant.first_slot) inside);
+          (subst (λ o. IfSome o (λ first. first + 2 * greatest_group c.hir-item.result ≤ slots_written (captures_kind c.args.which) c.args.exprs.now))
+          (sym c.loop-hir.invariant.first_slot) inside);
       few = omega arith;
     }
 
 pub compile_pattern-requires-clause-own : goal.compile_pattern-requires-clause-own
 compile_pattern-requires-clause-own c =
-    subst (λ o. IfSome o (λ slot. slot ≡ 2 * c.unwrap-pattern.result)) (sym c.whole_slot.ensures) (whole-is (captures_kind c.args.which) c.unwrap-pattern.result)
+    subst (λ o. IfSome o (λ slot. slot ≡ 2 * c.unwrap-pattern.result)) (sym c.whole_slot.ensures)
+    (whole-is (captures_kind c.args.which) c.unwrap-pattern.result)
 
 pub compile_pattern-requires-clause-whole : goal.compile_pattern-requires-clause-whole
 compile_pattern-requires-clause-whole c =
@@ -95,8 +97,10 @@ loop-hir-preserved c =
       items = omega arith;
       first_slot = c.slot_after-first_slot.ensures ∙ ap (option_map (λ first. first + 2 * greatest_group c.hir-item.result)) before.first_slot
           ∙ first_slot-more which exprs k item (omega arith) c.hir-item.is;
-      has = HasParts-more (directed_part c.args.reverse r) exprs k old new c.loop-hir.starts.items c.push.new.self.items start item e before.items grown (omega arith) c.hir-item.is before.has has;
-      inside = below-more (length old.states) (length new.states) c.loop-hir.starts.items c.push.new.self.items start e.longer c.in_ok-start.ensures.inside grown before.inside;
+      has = HasParts-more (directed_part c.args.reverse r) exprs k old new c.loop-hir.starts.items c.push.new.self.items start item e before.items grown
+          (omega arith) c.hir-item.is before.has has;
+      inside = below-more (length old.states) (length new.states) c.loop-hir.starts.items c.push.new.self.items start e.longer c.in_ok-start.ensures.inside
+          grown before.inside;
       sound = sound-more exprs k item (omega arith) c.hir-item.is c.in_ok-start.ensures.sound before.sound;
     }
 

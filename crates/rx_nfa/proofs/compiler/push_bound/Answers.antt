@@ -13,7 +13,8 @@ returns-in-Some-clause-built c =
     let old = c.args.builder.now in
     let new = c.push.new.self in
     subst (λ o. IfOk c.push.result (λ start. Built (build_state (bound o)) c.args.next c.args.builder.now c.push.new.self start)) (sym c.in-Some.is)
-    (IfOk-both (λ id. id ≡ length c.args.builder.now.states) (λ id. c.push.new.self ≡ pushed c.args.builder.now (Slot c.args.next c.args.pattern c.in-Some.slot)) _
+    (IfOk-both (λ id. id ≡ length c.args.builder.now.states)
+    (λ id. c.push.new.self ≡ pushed c.args.builder.now (Slot c.args.next c.args.pattern c.in-Some.slot)) _
     c.push.result c.push.ensures.id c.push.ensures.states
     (λ q id is. Built-slot c.in-Some.slot c.args.pattern c.args.next old new q id is))
 
@@ -21,7 +22,9 @@ pub returns-in_ok-alternates-in-None-clause-built : goal.returns-in_ok-alternate
 returns-in_ok-alternates-in-None-clause-built c =
     let old = c.args.builder.now in
     let new = c.push-in-None.new.self in
-    subst (λ o. IfOk c.push-in-None.result (λ start. Built (build_state (bound o)) c.args.next c.args.builder.now c.push-in-None.new.self start)) (sym c.in-None.is)
-    (IfOk-both (λ id. id ≡ length c.args.builder.now.states) (λ id. c.push-in-None.new.self ≡ pushed c.args.builder.now (Union c.in_ok-alternates-in-None.alternates)) _
+    subst (λ o. IfOk c.push-in-None.result (λ start. Built (build_state (bound o)) c.args.next c.args.builder.now c.push-in-None.new.self start))
+    (sym c.in-None.is)
+    (IfOk-both (λ id. id ≡ length c.args.builder.now.states)
+    (λ id. c.push-in-None.new.self ≡ pushed c.args.builder.now (Union c.in_ok-alternates-in-None.alternates)) _
     c.push-in-None.result c.push-in-None.ensures.id c.push-in-None.ensures.states
     (λ q id is. Built-way c.args.next old new q id (is ∙ ap (λ qs. pushed old (Union qs)) c.in_ok-alternates-in-None.ensures)))

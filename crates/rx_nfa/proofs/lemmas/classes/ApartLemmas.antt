@@ -1,37 +1,29 @@
 -- Bytes of one class are told apart by nothing.
-use Rattle.std.proofs.Common.{◌≡◌, ℕ, zero, suc, ◌+◌, ◌-◌, ◌<◌, ◌≤◌, List, [], ◌∷◌, length, get_or, Option, Some, None, refl, sym, ◌∙◌, ap, ⊎_elim, arith, true≢false}
+use Rattle.std.proofs.Common.{◌≡◌, ℕ, zero, suc, ◌+◌, ◌-◌, ◌<◌, ◌≤◌, List, [], ◌∷◌, length, Some, None, refl, sym, ◌∙◌, ap, ⊎_elim, arith, true≢false}
 use Rattle.std.specs.Prelude.{Bool, true, false, ◌||◌, ◌&&◌, ◌==◌, if◌then◌else◌, map, nat_le, nat_lt, slice_index}
 use Rattle.std.specs.List.{list_any}
-use Rattle.std.proofs.lemmas.Bool.{cases_lt}
+use Rattle.std.proofs.lemmas.Bool.{cases_lt, or_parts}
 use Rattle.std.proofs.lemmas.Bool.Decides.{nat_tests}
 use Rattle.std.proofs.lemmas.Option.{none-some, same_Some}
 use Rattle.unicode.specs.Perl.{is_word_byte}
 use Rattle.rx_model.specs.Look as model
-use Rattle.rx_model.specs.Look.{look_number, look_of, look-back, start_text, end_text, start_lf, end_lf, start_crlf, end_crlf, word_ascii, word_ascii_negate, word_unicode, word_unicode_negate, word_start_ascii, word_end_ascii, word_start_unicode, word_end_unicode, word_start_half_ascii, word_end_half_ascii, word_start_half_unicode, word_end_half_unicode}
+use Rattle.rx_model.specs.Look.{look_number, look_of, look-back, start_text, end_text, start_lf, end_lf, start_crlf, end_crlf, word_ascii, word_ascii_negate, word_unicode, word_unicode_negate, word_start_ascii, word_end_ascii, word_start_unicode, word_end_unicode, word_start_half_ascii, word_end_half_ascii, word_start_half_unicode, word_end_half_unicode, holds, byte_before, byte_after}
 use Rattle.rx_model.proofs.lemmas.runs.RunLemmas.{by_test}
 use Rattle.rx_search.specs.ByteClasses.{class_of, is_edge}
 use Rattle.rx_search.specs.Look.{kind_of, is_same_kind}
 use Rattle.rx_search.specs.LookSet.{has}
-use Rattle.rx_nfa.specs.Automaton.{at, route, go_on, target_of, Surroundings, onward, state_step, state_at, asks_for, automaton_over, byte_within}
-use Rattle.rx_nfa.specs.ByteClasses.{is_word_edge, is_char_edge, is_crlf_edge, look_ends, transitions_end, state_ends, class_ends, AreClassesOf, AreAlike, AreOfOneClass}
+use Rattle.rx_nfa.specs.Automaton.{at, route, target_of, Surroundings, onward, state_at, asks_for, automaton_over}
+use Rattle.rx_nfa.specs.ByteClasses.{is_word_edge, is_char_edge, is_crlf_edge, look_ends, transitions_end, state_ends, class_ends, AreClassesOf, AreOfOneClass}
 use Rattle.rx_nfa.specs.Nfa.{Nfa, IsInRange}
 use Rattle.rx_nfa.specs.Row.{reading, transition_to}
 use Rattle.rx_nfa.proofs.lemmas.runs.StepLemmas.{targets-alike}
 use Rattle.rx_nfa.specs.declared.state.Transition.{Transition}
 use Rattle.rx_nfa.specs.declared.state.State.{State}
 use Rattle.rx_nfa.specs.declared.state.State.TheVariants.{ByteRange, Sparse, Look, Union, Capture, Fail, Match}
+use Rattle.rx_model.specs.Beside.{IsTold, AreAlike, BothOrNone}
+use Rattle.rx_model.proofs.lemmas.meaning.BesideLemmas.{both-weaker, holds-alike}
 
--- Bools.
-
-or-left : (a b : Bool) → (a || b) ≡ false → a ≡ false
-or-left true b e = e
-or-left false b e = refl
-
-or-right : (a b : Bool) → (a || b) ≡ false → b ≡ false
-or-right true b e = absurd (true≢false e)
-or-right false b e = e
-
-below-true : (a b : ℕ) → a < b → nat_lt a b ≡ true
+pub below-true : (a b : ℕ) → a < b → nat_lt a b ≡ true
 below-true a b lt = grind (arith, nat_tests)
 
 -- The class of a byte is the number of ends before it.
@@ -90,8 +82,8 @@ module _ (b c : ℕ) (le : b ≤ c) where
   route-same : (ts : List Transition) → Quiet (transitions_end ts) → route ts b ≡ route ts c
   route-same [] quiet = refl
   route-same (t ∷ ts) quiet =
-      let first = range-same t.start t.end (λ k low high. or-left (is_edge t.start t.end k) (transitions_end ts k) (quiet k low high)) in
-      let later = route-same ts (λ k low high. or-right (is_edge t.start t.end k) (transitions_end ts k) (quiet k low high)) in
+      let first = range-same t.start t.end (λ k low high. (or_parts (is_edge t.start t.end k) (transitions_end ts k) (quiet k low high)).0) in
+      let later = route-same ts (λ k low high. (or_parts (is_edge t.start t.end k) (transitions_end ts k) (quiet k low high)).1) in
       (λ i. if first i then Some t.next else later i)
 
   -- a state that reads a byte
@@ -129,12 +121,12 @@ module _ (b c : ℕ) (le : b ≤ c) where
 
   word-same : Quiet is_word_edge → is_word_byte b ≡ is_word_byte c
   word-same quiet =
-      let lower = range-same 97 122 (λ k low high. or-left (is_edge 97 122 k) _ (quiet k low high)) in
-      let rest : Quiet (λ k. is_edge 95 95 k || (is_edge 65 90 k || is_edge 48 57 k)) = λ k low high. or-right (is_edge 97 122 k) _ (quiet k low high) in
-      let line = byte-same 95 (λ k low high. or-left (is_edge 95 95 k) _ (rest k low high)) in
-      let more : Quiet (λ k. is_edge 65 90 k || is_edge 48 57 k) = λ k low high. or-right (is_edge 95 95 k) _ (rest k low high) in
-      let upper = range-same 65 90 (λ k low high. or-left (is_edge 65 90 k) _ (more k low high)) in
-      let digit = range-same 48 57 (λ k low high. or-right (is_edge 65 90 k) _ (more k low high)) in
+      let lower = range-same 97 122 (λ k low high. (or_parts (is_edge 97 122 k) _ (quiet k low high)).0) in
+      let rest : Quiet (λ k. is_edge 95 95 k || (is_edge 65 90 k || is_edge 48 57 k)) = λ k low high. (or_parts (is_edge 97 122 k) _ (quiet k low high)).1 in
+      let line = byte-same 95 (λ k low high. (or_parts (is_edge 95 95 k) _ (rest k low high)).0) in
+      let more : Quiet (λ k. is_edge 65 90 k || is_edge 48 57 k) = λ k low high. (or_parts (is_edge 95 95 k) _ (rest k low high)).1 in
+      let upper = range-same 65 90 (λ k low high. (or_parts (is_edge 65 90 k) _ (more k low high)).0) in
+      let digit = range-same 48 57 (λ k low high. (or_parts (is_edge 65 90 k) _ (more k low high)).1) in
       word-from lower upper digit line
     where
       word-from : (nat_le 97 b && nat_le b 122) ≡ (nat_le 97 c && nat_le c 122) → (nat_le 65 b && nat_le b 90) ≡ (nat_le 65 c && nat_le c 90)
@@ -142,12 +134,16 @@ module _ (b c : ℕ) (le : b ≤ c) where
       word-from lower upper digit line = λ i. ((digit i || upper i) || lower i) || line i
 
   crlf-same : Quiet is_crlf_edge → ((b == 13) ≡ (c == 13)) × ((b == 10) ≡ (c == 10))
-  crlf-same quiet =
-      (byte-same 13 (λ k low high. or-left (is_edge 13 13 k) (is_edge 10 10 k) (quiet k low high)), byte-same 10 (λ k low high. or-right (is_edge 13 13 k) (is_edge 10 10 k) (quiet k low high)))
+  crlf-same quiet = (
+    byte-same 13 (λ k low high. (or_parts (is_edge 13 13 k) (is_edge 10 10 k) (quiet k low high)).0),
+    byte-same 10 (λ k low high. (or_parts (is_edge 13 13 k) (is_edge 10 10 k) (quiet k low high)).1),
+  )
 
   char-same : Quiet is_char_edge → (is_word_byte b ≡ is_word_byte c) × (nat_lt 127 b ≡ nat_lt 127 c)
-  char-same quiet =
-      (word-same (λ k low high. or-right (is_edge 128 255 k) (is_word_edge k) (quiet k low high)), above-same (λ k low high. or-left (is_edge 128 255 k) (is_word_edge k) (quiet k low high)))
+  char-same quiet = (
+    word-same (λ k low high. (or_parts (is_edge 128 255 k) (is_word_edge k) (quiet k low high)).1),
+    above-same (λ k low high. (or_parts (is_edge 128 255 k) (is_word_edge k) (quiet k low high)).0),
+  )
 
   alike : (terminator : ℕ) (kind : model.Look) → Quiet (look_ends terminator kind) → AreAlike terminator kind b c
   alike terminator start_text quiet = tt
@@ -174,8 +170,8 @@ module _ (b c : ℕ) (le : b ≤ c) where
 -- no state passes the test
 state-none : (p : State → Bool) (states : List State) (q : ℕ) → list_any p states ≡ false → p Fail ≡ false → p (state_at states q) ≡ false
 state-none p [] q none last = last
-state-none p (s ∷ states) zero none last = or-left (p s) (list_any p states) none
-state-none p (s ∷ states) (suc q) none last = state-none p states q (or-right (p s) (list_any p states) none) last
+state-none p (s ∷ states) zero none last = (or_parts (p s) (list_any p states) none).0
+state-none p (s ∷ states) (suc q) none last = state-none p states q ((or_parts (p s) (list_any p states) none).1) last
 
 kind-same : (kind other : model.Look) → is_same_kind kind other ≡ true → kind ≡ other
 kind-same kind other e =
@@ -183,7 +179,8 @@ kind-same kind other e =
     same_Some _ _ (sym (look-back kind) ∙ ap look_of n ∙ look-back other)
 
 -- a state that asks for a kind ends what the kind tells apart
-asks-ends : (terminator : ℕ) (kind : model.Look) (s : State) (k : ℕ) → asks_for kind s ≡ true → state_ends terminator s k ≡ false → look_ends terminator kind k ≡ false
+asks-ends : (terminator : ℕ) (kind : model.Look) (s : State) (k : ℕ) → asks_for kind s ≡ true → state_ends terminator s k ≡ false
+    → look_ends terminator kind k ≡ false
 asks-ends terminator kind (ByteRange low high next) k asks none = absurd (true≢false (sym asks))
 asks-ends terminator kind (Sparse transitions) k asks none = absurd (true≢false (sym asks))
 asks-ends terminator kind (Look look next) k asks none = ap (λ x. look_ends terminator x k) (kind-same kind (kind_of look) asks) ∙ none
@@ -192,12 +189,13 @@ asks-ends terminator kind (Capture next pattern slot) k asks none = absurd (true
 asks-ends terminator kind Fail k asks none = absurd (true≢false (sym asks))
 asks-ends terminator kind (Match pattern) k asks none = absurd (true≢false (sym asks))
 
-asked-ends : (terminator : ℕ) (kind : model.Look) (states : List State) (k : ℕ) → list_any (asks_for kind) states ≡ true → class_ends terminator states k ≡ false → look_ends terminator kind k ≡ false
+asked-ends : (terminator : ℕ) (kind : model.Look) (states : List State) (k : ℕ) → list_any (asks_for kind) states ≡ true
+    → class_ends terminator states k ≡ false → look_ends terminator kind k ≡ false
 asked-ends terminator kind [] k asks none = absurd (true≢false (sym asks))
 asked-ends terminator kind (s ∷ states) k asks none =
     by_test (asks_for kind s)
-    (λ yes'. asks-ends terminator kind s k yes' (or-left (state_ends terminator s k) (class_ends terminator states k) none))
-    (λ no'. asked-ends terminator kind states k (rw no' at asks) (or-right (state_ends terminator s k) (class_ends terminator states k) none))
+    (λ yes'. asks-ends terminator kind s k yes' ((or_parts (state_ends terminator s k) (class_ends terminator states k) none).0))
+    (λ no'. asked-ends terminator kind states k (rw no' at asks) ((or_parts (state_ends terminator s k) (class_ends terminator states k) none).1))
 
 module _ (nfa : Nfa) (range : IsInRange nfa) where
   classed : (b : ℕ) → b < 256 → slice_index nfa.classes b ≡ class_of (class_ends nfa.terminator nfa.states) b
@@ -211,12 +209,14 @@ module _ (nfa : Nfa) (range : IsInRange nfa) where
   turned : (b c : ℕ) → AreOfOneClass nfa.classes b c → AreOfOneClass nfa.classes c b
   turned b c of = record { first = of.second; second = of.first; same = sym of.same }
 
-  routes-ordered : (b c : ℕ) → b ≤ c → AreOfOneClass nfa.classes b c → (q : ℕ) (ts : List Transition) → reading (state_at nfa.states q) ≡ Some ts → route ts b ≡ route ts c
+  routes-ordered : (b c : ℕ) → b ≤ c → AreOfOneClass nfa.classes b c → (q : ℕ) (ts : List Transition) → reading (state_at nfa.states q) ≡ Some ts
+      → route ts b ≡ route ts c
   routes-ordered b c le of q ts is =
       reading-same b c le nfa.terminator (state_at nfa.states q) ts
       (λ k low high. state-none (λ s. state_ends nfa.terminator s k) nfa.states q (apart b c of k low high) refl) is
 
-  pub one-class-routes : (b c q : ℕ) (ts : List Transition) → AreOfOneClass nfa.classes b c → reading (state_at nfa.states q) ≡ Some ts → route ts b ≡ route ts c
+  pub one-class-routes : (b c q : ℕ) (ts : List Transition) → AreOfOneClass nfa.classes b c → reading (state_at nfa.states q) ≡ Some ts
+      → route ts b ≡ route ts c
   one-class-routes b c q ts of is =
       ⊎_elim
       (λ lt. routes-ordered b c (omega arith) of q ts is)
@@ -265,3 +265,13 @@ module _ (nfa : Nfa) (range : IsInRange nfa) where
       ∙ one-class-routes (here.byte i) (there.byte j) q ts of is
       ∙ ap (λ x. target_of ts (if x then Some (there.byte j) else None)) (sym (below-true j last lt')))
       looks
+
+  -- a look-around that the states ask for holds alike beside bytes of one class
+  pub beside-classes : (here there : List ℕ) (kind : model.Look) (i j : ℕ) → i ≤ length here → j ≤ length there → has nfa.looks kind ≡ true
+      → BothOrNone (AreOfOneClass nfa.classes) (byte_before here i) (byte_before there j)
+      → BothOrNone (AreOfOneClass nfa.classes) (byte_after here i) (byte_after there j)
+      → IsTold kind (byte_before here i) (byte_after here i) → holds nfa.terminator here kind i ≡ holds nfa.terminator there kind j
+  beside-classes here there kind i j within within' asked before after told =
+      let weaker = both-weaker (AreOfOneClass nfa.classes) (AreAlike nfa.terminator kind) (λ b c of. one-class-looks b c kind of asked) in
+      holds-alike here there i j within within' nfa.terminator kind (weaker (byte_before here i) (byte_before there j) before)
+      (weaker (byte_after here i) (byte_after there j) after) told

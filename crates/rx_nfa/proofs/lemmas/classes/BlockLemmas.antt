@@ -50,8 +50,13 @@ module _ (A : ℕ → List Transition → Type 0) (next : ℕ) where
   unfolding IsBlock
   IsBlock-row member zero start q ts some at r = absurd (omega arith)
   IsBlock-row member (suc depth) start q ts some at r =
-      let back : suc depth - 1 ≡ depth = omega arith in
-      (ts, at, λ b out. r.elsewhere b (either out), λ k lt. subst (λ d. IsBlock A next member d (start + k * size_of_block d) (route ts (0x80 + k))) back (r.each k lt))
+      let back : suc depth - 1 ≡ depth = omega arith in (
+        ts,
+        at,
+        λ b out. r.elsewhere b (either out),
+        λ k lt. subst (λ d. IsBlock A next member d (start + k * size_of_block d) (route ts (0x80 + k))) back
+            (r.each k lt),
+      )
     where
       either : {b : ℕ} → (b < 0x80) ⊎ (0xC0 ≤ b) → (b < 0x80) ⊎ (0x80 + 64 ≤ b)
       either (inl x) = inl x
@@ -88,7 +93,8 @@ IsRow-next A B next keep member depth start first k old ts ts' target r block ro
     either b (inr x) = inr (omega arith)
 
 pub IsRow-map : (A B : ℕ → List Transition → Type 0) (next : ℕ) → ((q : ℕ) (ts : List Transition) → A q ts → B q ts)
-    → (member : ℕ → Bool) (depth start first len : ℕ) (old ts : List Transition) → IsRow A next member depth start first len old ts → IsRow B next member depth start first len old ts
+    → (member : ℕ → Bool) (depth start first len : ℕ) (old ts : List Transition) → IsRow A next member depth start first len old ts
+    → IsRow B next member depth start first len old ts
 IsRow-map A B next keep member depth start first len old ts r = record {
   elsewhere = r.elsewhere;
   each = λ k lt. IsBlock-map A B next keep member depth (start + k * size_of_block depth) (route ts (first + k)) (r.each k lt);
@@ -103,7 +109,8 @@ AreWhole-push old new base next q ids ts some g reads is h depth lt start =
     (λ e. let less : depth < length ids = grind (arith, nat_tests) in
     let same : slice_index (ids ++ q ∷ []) depth ≡ slice_index ids depth = get_or_append_left ids (q ∷ []) 0 depth less in
     subst (λ x. IsBlock (IsReader base new) next (λ c. true) depth start (Some x)) (sym same)
-    (IsBlock-map (IsReader base old) (IsReader base new) next (IsReader-grows base old new g) (λ c. true) depth start (Some (slice_index ids depth)) (h depth less start)))
+    (IsBlock-map (IsReader base old) (IsReader base new) next (IsReader-grows base old new g) (λ c. true) depth start (Some (slice_index ids depth))
+    (h depth less start)))
     (λ e. let l = length-append ids (q ∷ []) in
     let last : depth ≡ length ids = grind (arith, nat_tests) in
     let zero_more : length ids - length ids ≡ 0 = omega arith in
@@ -116,7 +123,8 @@ AreWhole-push old new base next q ids ts some g reads is h depth lt start =
           let place : length ids - 1 ≡ depth - 1 = omega arith in
           let leads : route ts (0x80 + k) ≡ Some (slice_index ids (depth - 1)) = (ap (λ xs. route xs (0x80 + k)) is ∙ within k small ∙ ap (λ n. Some (slice_index ids n)) place) in
           subst (λ o. IsBlock (IsReader base new) next (λ c. true) (depth - 1) (start + k * size_of_block (depth - 1)) o) (sym leads)
-          (IsBlock-map (IsReader base old) (IsReader base new) next (IsReader-grows base old new g) (λ c. true) (depth - 1) (start + k * size_of_block (depth - 1)) (Some (slice_index ids (depth - 1))) (h (depth - 1) less (start + k * size_of_block (depth - 1)))));
+          (IsBlock-map (IsReader base old) (IsReader base new) next (IsReader-grows base old new g) (λ c. true) (depth - 1)
+          (start + k * size_of_block (depth - 1)) (Some (slice_index ids (depth - 1))) (h (depth - 1) less (start + k * size_of_block (depth - 1)))));
     })))
   where
     outside : (b : ℕ) → (b < 0x80) ⊎ (0x80 + 64 ≤ b) → route (record { start = 0x80; end = 0xBF; next = slice_index ids (length ids - 1) } ∷ []) b ≡ None
@@ -128,9 +136,11 @@ AreWhole-push old new base next q ids ts some g reads is h depth lt start =
         let y : nat_le (0x80 + k) 0xBF ≡ true = grind (arith, nat_tests) in
         rw (x, y) refl
 
-pub AreWhole-grows : (old new : List State) (base next : ℕ) (ids : List ℕ) → AddsReaders old new → AreWhole (IsReader base old) next ids → AreWhole (IsReader base new) next ids
+pub AreWhole-grows : (old new : List State) (base next : ℕ) (ids : List ℕ) → AddsReaders old new → AreWhole (IsReader base old) next ids
+    → AreWhole (IsReader base new) next ids
 AreWhole-grows old new base next ids g h depth lt start =
-    IsBlock-map (IsReader base old) (IsReader base new) next (IsReader-grows base old new g) (λ c. true) depth start (Some (slice_index ids depth)) (h depth lt start)
+    IsBlock-map (IsReader base old) (IsReader base new) next (IsReader-grows base old new g) (λ c. true) depth start (Some (slice_index ids depth))
+    (h depth lt start)
 
 pub IsReady-grows : (old new : List State) (base next : ℕ) (ids : List ℕ) → AddsReaders old new → IsReady base old next ids → IsReady base new next ids
 IsReady-grows old new base next ids g h = record {
@@ -224,7 +234,8 @@ count-next d rs rest start k s r =
     ap (λ n. d * ends_in rs start (start + k * s) + d * n) e ∙ sum ∙ ap (λ n. d * ends_in rs start n) far
 
 -- the first k + 1 blocks count no more than all
-pub count-within : (d : ℕ) (rs : List (ℕ × ℕ)) (start k len s : ℕ) → k < len → d * ends_in rs start (start + (k + 1) * s) ≤ d * ends_in rs start (start + len * s)
+pub count-within : (d : ℕ) (rs : List (ℕ × ℕ)) (start k len s : ℕ) → k < len
+    → d * ends_in rs start (start + (k + 1) * s) ≤ d * ends_in rs start (start + len * s)
 count-within d rs start k len s lt =
     let most = mul-le-mul_right s (let more : k + 1 ≤ len = omega arith in more) in
     let split = ends_in-split rs start (start + (k + 1) * s) (start + len * s) (omega arith) (omega arith) in
@@ -259,11 +270,13 @@ row-below states base next member depth start first len old new lt r below b q e
     (λ y. let above : first ≤ b = grind (arith, nat_tests) in
     let under : b < first + len = grind (arith, nat_tests) in
     let is : first + (b - first) ≡ b = omega arith in
-    target-inside states base next member depth (start + (b - first) * size_of_block depth) (route new (first + (b - first))) q lt (r.each (b - first) (omega arith)) (ap (route new) is ∙ e))
+    target-inside states base next member depth (start + (b - first) * size_of_block depth) (route new (first + (b - first))) q lt
+    (r.each (b - first) (omega arith)) (ap (route new) is ∙ e))
     (λ y. below b q (sym (r.elsewhere b (inr (grind (arith, nat_tests)))) ∙ e)))
     (λ x. below b q (sym (r.elsewhere b (inl (grind (arith, nat_tests)))) ∙ e))
 
-pub whole-inside : (states : List State) (base next depth : ℕ) (ids : List ℕ) → next < length states → AreWhole (IsReader base states) next ids → depth < length ids
+pub whole-inside : (states : List State) (base next depth : ℕ) (ids : List ℕ) → next < length states → AreWhole (IsReader base states) next ids
+    → depth < length ids
     → slice_index ids depth < length states
 whole-inside states base next depth ids lt whole deep =
     target-inside states base next (λ c. true) depth 0 (Some (slice_index ids depth)) (slice_index ids depth) lt (whole depth deep 0) refl

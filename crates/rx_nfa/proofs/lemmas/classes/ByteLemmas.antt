@@ -43,7 +43,8 @@ module _ (next : ℕ) where
       let split = map-append (transition_to next) (take k rs) (get_or rs k (0, 0) ∷ []) in
       rw (pushed, before, last) (sym (more ∙ split))
 
-  pub IsByteClass-from : (A : ℕ → List Transition → Type 0) (rs : List (ℕ × ℕ)) (q : ℕ) → RisesFrom 0 rs → StaysBelow 255 rs → A q (map (transition_to next) rs) → IsByteClass A next rs q
+  pub IsByteClass-from : (A : ℕ → List Transition → Type 0) (rs : List (ℕ × ℕ)) (q : ℕ) → RisesFrom 0 rs → StaysBelow 255 rs → A q (map (transition_to next) rs)
+      → IsByteClass A next rs q
   IsByteClass-from A rs q rises below reads = record {
     row = map (transition_to next) rs;
     reads = reads;
@@ -51,7 +52,8 @@ module _ (next : ℕ) where
     of_none = λ b past. route-outside 0 256 (map (transition_to next) rs) b (transitions-ascend 0 rs (omega arith) rises below) (inr past);
   }
 
-pub StaysBelow-next : (high k : ℕ) (rs : List (ℕ × ℕ)) → k < length rs → StaysBelow high (take k rs) → (get_or rs k (0, 0)).1 ≤ high → StaysBelow high (take (k + 1) rs)
+pub StaysBelow-next : (high k : ℕ) (rs : List (ℕ × ℕ)) → k < length rs → StaysBelow high (take k rs) → (get_or rs k (0, 0)).1 ≤ high
+    → StaysBelow high (take (k + 1) rs)
 StaysBelow-next high k rs lt below last = subst (StaysBelow high) (sym (take-next k rs lt)) (pushed (take k rs) (get_or rs k (0, 0)) below last)
   where
     pushed : (xs : List (ℕ × ℕ)) (r : ℕ × ℕ) → StaysBelow high xs → r.1 ≤ high → StaysBelow high (xs ++ r ∷ [])

@@ -93,7 +93,8 @@ wide_cost (suc (suc (suc zero))) a b w deep ha hb hw = omega arith
 wide_cost (suc (suc (suc (suc n)))) a b w deep ha hb hw = absurd (omega arith)
 
 part_cost : (depth : ℕ) (r : ℕ × ℕ) (from to : ℕ) → depth ≤ 3 → r.0 ≤ r.1
-    → depth * (one_if (nat_le from r.0 && nat_lt r.0 to) + (if is_narrow r then 0 else one_if (nat_le from r.1 && nat_lt r.1 to))) + whole_depth depth r ≤ cost_of_part (depth + 1) r
+    → depth * (one_if (nat_le from r.0 && nat_lt r.0 to) + (if is_narrow r then 0 else one_if (nat_le from r.1 && nat_lt r.1 to))) + whole_depth depth
+    r ≤ cost_of_part (depth + 1) r
 part_cost depth r from to deep rises =
     let first = one_at_most (nat_le from r.0 && nat_lt r.0 to) in
     let last = one_at_most (nat_le from r.1 && nat_lt r.1 to) in
@@ -126,7 +127,8 @@ IsClass-from A next rs q none one two three high four nothing reads r1 r2 r3 r3'
   reads = reads;
   of_one = λ k lt.
       (let same : route four (0 + k) ≡ route one (0 + k) =
-      r4.elsewhere (0 + k) (inl (omega arith)) ∙ r3'.elsewhere (0 + k) (inl (omega arith)) ∙ r3.elsewhere (0 + k) (inl (omega arith)) ∙ r2.elsewhere (0 + k) (inl (omega arith)) in
+      r4.elsewhere (0 + k) (inl (omega arith)) ∙ r3'.elsewhere (0 + k) (inl (omega arith)) ∙ r3.elsewhere (0 + k) (inl (omega arith))
+      ∙ r2.elsewhere (0 + k) (inl (omega arith)) in
       subst (λ o. IsBlock A next (is_member (clip 0 0x7F rs)) 0 (0 + k * size_of_block 0) o) (sym same) (r1.each k lt));
   of_two = λ k lt.
       (let same : route four (0xC2 + k) ≡ route two (0xC2 + k) =
@@ -141,7 +143,8 @@ IsClass-from A next rs q none one two three high four nothing reads r1 r2 r3 r3'
       subst (λ o. IsBlock A next (is_member (clip 0xE000 0xFFFF rs)) 2 (0xE000 + k * size_of_block 2) o) (sym same) (r3'.each k lt));
   of_four = r4.each;
   of_none = λ b out.
-      (r4.elsewhere b (low b out) ∙ r3'.elsewhere b (low3' b out) ∙ r3.elsewhere b (low3 b out) ∙ r2.elsewhere b (low2 b out) ∙ r1.elsewhere b (low1 b out) ∙ ap (λ ts. route ts b) nothing);
+      (r4.elsewhere b (low b out) ∙ r3'.elsewhere b (low3' b out) ∙ r3.elsewhere b (low3 b out) ∙ r2.elsewhere b (low2 b out) ∙ r1.elsewhere b (low1 b out)
+      ∙ ap (λ ts. route ts b) nothing);
 }
   where
     low : (b : ℕ) → ((0x80 ≤ b) × (b < 0xC2)) ⊎ (0xF5 ≤ b) → (b < 0xF0) ⊎ (0xF0 + 5 ≤ b)

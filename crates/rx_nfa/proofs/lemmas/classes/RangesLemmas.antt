@@ -156,33 +156,25 @@ small_size s (inr (inl e)) = omega arith
 small_size s (inr (inr (inl e))) = omega arith
 small_size s (inr (inr (inr e))) = omega arith
 
-has_block-true : (r : ℕ × ℕ) (depth start : ℕ) → depth ≤ 3 → start % size_of_block depth ≡ 0 → r.0 ≤ start → start + size_of_block depth ≤ r.1 + 1 → has_block r depth ≡ true
+holds : {a b : ℕ} → a ≤ b → nat_le a b ≡ true
+holds le = grind (arith, nat_tests)
+
+has_block-true : (r : ℕ × ℕ) (depth start : ℕ) → depth ≤ 3 → start % size_of_block depth ≡ 0 → r.0 ≤ start → start + size_of_block depth ≤ r.1 + 1
+    → has_block r depth ≡ true
 has_block-true r depth start deep aligned low high = by_size (size_of_block depth) (sizes depth deep) aligned low high
   where
     by_size : (s : ℕ) → (s ≡ 1) ⊎ ((s ≡ 64) ⊎ ((s ≡ 4096) ⊎ (s ≡ 262144))) → start % s ≡ 0 → r.0 ≤ start → start + s ≤ r.1 + 1
         → nat_le ((r.0 + (s - 1)) / s * s + s) (r.1 + 1) ≡ true
     by_size s (inl e) aligned low high = let le : (r.0 + (1 - 1)) / 1 * 1 + 1 ≤ r.1 + 1 = omega arith in rw e (holds le)
-      where
-        holds : {a b : ℕ} → a ≤ b → nat_le a b ≡ true
-        holds le = grind (arith, nat_tests)
     by_size s (inr (inl e)) aligned low high =
         let at = rw e at aligned in let fits = rw e at high in
         let le : (r.0 + (64 - 1)) / 64 * 64 + 64 ≤ r.1 + 1 = omega arith in rw e (holds le)
-      where
-        holds : {a b : ℕ} → a ≤ b → nat_le a b ≡ true
-        holds le = grind (arith, nat_tests)
     by_size s (inr (inr (inl e))) aligned low high =
         let at = rw e at aligned in let fits = rw e at high in
         let le : (r.0 + (4096 - 1)) / 4096 * 4096 + 4096 ≤ r.1 + 1 = omega arith in rw e (holds le)
-      where
-        holds : {a b : ℕ} → a ≤ b → nat_le a b ≡ true
-        holds le = grind (arith, nat_tests)
     by_size s (inr (inr (inr e))) aligned low high =
         let at = rw e at aligned in let fits = rw e at high in
         let le : (r.0 + (262144 - 1)) / 262144 * 262144 + 262144 ≤ r.1 + 1 = omega arith in rw e (holds le)
-      where
-        holds : {a b : ℕ} → a ≤ b → nat_le a b ≡ true
-        holds le = grind (arith, nat_tests)
 
 pub whole_depth-next : (r : ℕ × ℕ) (depth : ℕ) → 0 < depth → has_block r depth ≡ false → whole_depth depth r ≡ whole_depth (depth - 1) r
 unfolding whole_depth
@@ -213,7 +205,10 @@ whole_depth-enough (suc deepest) depth start r deep le aligned low high =
     (λ e. rw e (omega arith))
     (λ e. rw e (by_test (depth == suc deepest)
     (λ same. let is : depth ≡ suc deepest = grind (arith, nat_tests) in
-    absurd (true≢false (sym (has_block-true r (suc deepest) start deep (subst (λ d. start % size_of_block d ≡ 0) is aligned) low (subst (λ d. start + size_of_block d ≤ r.1 + 1) is high)) ∙ e)))
+    absurd
+    (true≢false
+    (sym (has_block-true r (suc deepest) start deep (subst (λ d. start % size_of_block d ≡ 0) is aligned) low
+    (subst (λ d. start + size_of_block d ≤ r.1 + 1) is high)) ∙ e)))
     (λ other. whole_depth-enough deepest depth start r (omega arith) (grind (arith, nat_tests)) aligned low high)))
 
 pub CoversUpTo-more : (deepest n more : ℕ) (rs : List (ℕ × ℕ)) → n ≤ more → CoversUpTo deepest n rs → CoversUpTo deepest more rs
@@ -222,7 +217,8 @@ CoversUpTo-more deepest n more [] le h = tt
 CoversUpTo-more deepest n more (r ∷ rs) le h =
     (λ depth start below aligned low high. (let lt = h.0 depth start below aligned low high in omega arith), CoversUpTo-more deepest n more rs le h.1)
 
-pub CoversUpTo-push : (deepest n : ℕ) (rs : List (ℕ × ℕ)) (r : ℕ × ℕ) → deepest ≤ 3 → CoversUpTo deepest n rs → whole_depth deepest r < n → CoversUpTo deepest n (rs ++ r ∷ [])
+pub CoversUpTo-push : (deepest n : ℕ) (rs : List (ℕ × ℕ)) (r : ℕ × ℕ) → deepest ≤ 3 → CoversUpTo deepest n rs → whole_depth deepest r < n
+    → CoversUpTo deepest n (rs ++ r ∷ [])
 unfolding CoversUpTo
 CoversUpTo-push deepest n [] r deep h lt = (λ depth start below aligned low high. (let le = whole_depth-enough deepest depth start r deep below aligned low high in omega arith), tt)
 CoversUpTo-push deepest n (x ∷ xs) r deep h lt = (h.0, CoversUpTo-push deepest n xs r deep h.1 lt)

@@ -7,10 +7,11 @@ use Rattle.std.proofs.lemmas.Bool.Decides.{nat_tests}
 use Rattle.std.proofs.lemmas.Option.{none-some, same_Some}
 use Rattle.std.proofs.lemmas.Str.{len_utf8_bounds}
 use Rattle.rx_model.specs.Text.{is_member, char_at, scalar_ranges, byte_ranges, member_len}
-use Rattle.rx_model.specs.Runs.{Configuration, PriorityGraph, Passed, and_at, same, IsBounded, NeverFalls, Trace, with_write, found, first_some}
-use Rattle.rx_model.proofs.lemmas.runs.RunLemmas.{by_test, same-true}
+use Rattle.rx_model.specs.Runs.{PriorityGraph, Passed, and_at, IsBounded, NeverFalls, Trace, with_write, found, first_some}
+use Rattle.rx_model.proofs.lemmas.runs.RunLemmas.{by_test}
 use Rattle.rx_model.proofs.lemmas.runs.FoundLemmas.{found-step, found-forget}
-use Rattle.rx_model.proofs.lemmas.meaning.CharLemmas.{member_len-some, member_len-none, byte_len-within, byte_len-past}
+use Rattle.rx_model.proofs.lemmas.meaning.CharLemmas.{member_len-some, member_len-none, byte_len-within, byte_len-past, by_option}
+use Rattle.rx_model.proofs.lemmas.runs.WriteLemmas.{write-nothing-alone}
 use Rattle.std.specs.Char.{InScalarRange, len_utf8}
 use Rattle.rx_nfa.specs.Ranges.{size_of_block, clip, StaysBelow}
 use Rattle.rx_nfa.specs.Automaton.{at, route, go_on, byte_of}
@@ -18,12 +19,8 @@ use Rattle.rx_nfa.specs.Trie.{IsBlock, IsClass, IsByteClass}
 use Rattle.rx_nfa.specs.Reading.{ReadsByte, IsClean, found_after, ReadsClass}
 use Rattle.rx_nfa.specs.declared.state.Transition.{Transition}
 use Rattle.rx_nfa.proofs.lemmas.classes.ClassLemmas.{member-clip}
-use Rattle.rx_nfa.proofs.lemmas.classes.Utf8Lemmas.{IsOneByteAt, IsTwoBytesAt, IsThreeBytesAt, IsFourBytesAt, char_at_cases, char_at_one, char_at_two, char_at_three, char_at_four, len_is}
-
--- by whether there is a value
-pub some_or_none : {P : Type 0} (o : Option ℕ) → (o ≡ None → P) → ((x : ℕ) → o ≡ Some x → P) → P
-some_or_none None none some = none refl
-some_or_none (Some x) none some = some x refl
+use Rattle.rx_nfa.proofs.lemmas.classes.Utf8Lemmas.{IsOneByteAt, IsTwoBytesAt, IsThreeBytesAt, IsFourBytesAt, char_at_cases, char_at_one, char_at_two, char_at_three, char_at_four, len_is, most-scalar}
+use Rattle.rx_nfa.proofs.lemmas.runs.StateLemmas.{and_at-later}
 
 module _ (byte : ℕ → ℕ) (end : ℕ) where
   -- the six bits of a continuation byte at i
@@ -112,12 +109,6 @@ module _ (byte : ℕ → ℕ) (end : ℕ) where
     outcome p member place None = None
     outcome p member place (Some c) = if member c then found m p (at next place) else None
 
-    not_here : (q i : ℕ) (p : Passed) (d : Configuration) → i + 1 ≤ d.place → and_at (at q i) p d ≡ p d
-    not_here q i p d later =
-        by_test (same (at q i) d)
-        (λ e. let equal : i ≡ d.place = ap (λ (x : Configuration). x.place) (same-true (at q i) d e) in absurd (omega arith))
-        (λ e. rw e refl)
-
     -- a state that reads a byte
     reader-found : (p : Passed) (q i : ℕ) (ts : List Transition) → ReadsByte m byte end q ts → p (at q i) ≡ false
         → found m p (at q i) ≡ (if nat_lt i end then found_target p (route ts (byte i)) (i + 1) else None)
@@ -131,22 +122,20 @@ module _ (byte : ℕ → ℕ) (end : ℕ) where
       where
         targets : (o : Option ℕ) → option_map (with_write None i) (first_some (found m (and_at (at q i) p)) (go_on o (i + 1))) ≡ found_target p o (i + 1)
         targets None = refl
-        targets (Some t) = single (found m (and_at (at q i) p) (at t (i + 1))) ∙ found-forget m rises (and_at (at q i) p) p (at t (i + 1)) (λ d later. not_here q i p d later)
-          where
-            single : (o : Option Trace) → option_map (with_write None i) (option_or o None) ≡ o
-            single None = refl
-            single (Some x) = refl
+        targets (Some t) = write-nothing-alone i (found m (and_at (at q i) p) (at t (i + 1)))
+            ∙ found-forget m rises (and_at (at q i) p) p (at t (i + 1)) (λ d later. and_at-later q i p d later)
 
     no_member : (p : Passed) (member : ℕ → Bool) (place depth start i : ℕ) → ((c : ℕ) → start ≤ c → c < start + size_of_block depth → member c ≡ false)
         → outcome p member place (picked depth start i) ≡ None
     unfolding outcome
     no_member p member place depth start i none =
-        some_or_none (picked depth start i)
+        by_option (picked depth start i)
         (λ e. rw e refl)
         (λ c e. let within = picked-within depth start i c e in let fails = none c within.0 within.1 in rw (e, fails) refl)
 
     -- a block finds what is found from `next` after the number that the bytes pick, if that is a member
-    block-found : (p : Passed) (member : ℕ → Bool) (depth start i : ℕ) (target : Option ℕ) → IsBlock (ReadsByte m byte end) next member depth start target → IsClean p i
+    block-found : (p : Passed) (member : ℕ → Bool) (depth start i : ℕ) (target : Option ℕ) → IsBlock (ReadsByte m byte end) next member depth start target
+        → IsClean p i
         → found_target p target i ≡ outcome p member (i + depth) (picked depth start i)
     unfolding IsBlock found_target outcome size_of_block
     block-found p member zero start i target block clean = ap (λ o. found_target p o i) block ∙ rw (picked-zero start i) (chosen (member start))
@@ -164,7 +153,8 @@ module _ (byte : ℕ → ℕ) (end : ℕ) where
         let is : 0x80 + k ≡ byte i = omega arith in
         let place : i + 1 + depth ≡ i + suc depth = omega arith in
         rw inside (ap (λ b. found_target p (route block.0 b) (i + 1)) (sym is)
-        ∙ block-found p member depth (start + k * size_of_block depth) (i + 1) (route block.0 (0x80 + k)) (block.3 k (omega arith)) (λ d le. clean d (omega arith))
+        ∙ block-found p member depth (start + k * size_of_block depth) (i + 1) (route block.0 (0x80 + k)) (block.3 k (omega arith))
+        (λ d le. clean d (omega arith))
         ∙ ap (λ n. outcome p member n (picked depth (start + k * size_of_block depth) (i + 1))) place
         ∙ ap (outcome p member (i + suc depth)) (sym (picked-step depth start i lt low high))))
         (λ out. dead block.0 block.2 out ∙ ap (outcome p member (i + suc depth)) (sym (picked-none depth start i out)))
@@ -215,7 +205,7 @@ module _ (text : List ℕ) (end : ℕ) (inside : end ≤ length text) (m : Prior
       → outcome (byte_of text) end m bounded rises next p member place pick ≡ found_after m p end next i (member_len text (scalar_ranges rs) i)
   unfolding outcome
   same_outcome p i place member pick complete sound =
-      some_or_none (char_at text i)
+      by_option (char_at text i)
       (λ none. dead (λ c e passes. none-some c (sym none ∙ (sound c e passes).0)) ∙ sym (ap (found_after m p end next i) (member_len-none text rs i none)))
       (λ c some. ap (λ o. o) (by_test (nat_le (i + len_utf8 c) end)
       (λ fits.
@@ -235,11 +225,12 @@ module _ (text : List ℕ) (end : ℕ) (inside : end ≤ length text) (m : Prior
     where
       dead : ((c : ℕ) → pick ≡ Some c → member c ≡ true → ⊥) → outcome (byte_of text) end m bounded rises next p member place pick ≡ None
       dead none =
-          some_or_none pick
+          by_option pick
           (λ e. rw e refl)
           (λ c e. by_test (member c) (λ passes. absurd (none c e passes)) (λ fails. rw (e, fails) refl))
 
-      lands : (c : ℕ) → nat_le (i + len_utf8 c) end ≡ true → (b : Bool) → found_after m p end next i (if b then Some (len_utf8 c) else None) ≡ (if b then found m p (at next (i + len_utf8 c)) else None)
+      lands : (c : ℕ) → nat_le (i + len_utf8 c) end ≡ true → (b : Bool)
+          → found_after m p end next i (if b then Some (len_utf8 c) else None) ≡ (if b then found m p (at next (i + len_utf8 c)) else None)
       lands c fits true = rw fits refl
       lands c fits false = refl
 
@@ -266,10 +257,12 @@ module _ (text : List ℕ) (end : ℕ) (inside : end ≤ length text) (m : Prior
         (char_at_cases text i c found_c).1
 
   Outcome : Passed → ℕ → ℕ → (ℕ → Bool) → Option ℕ → Type 0
-  Outcome p i place member pick = outcome (byte_of text) end m bounded rises next p member place pick ≡ found_after m p end next i (member_len text (scalar_ranges rs) i)
+  Outcome p i place member pick = outcome (byte_of text) end m bounded rises next p member place pick ≡ found_after m p end next i
+      (member_len text (scalar_ranges rs) i)
 
   module _ (p : Passed) (i k : ℕ) (lt : i < end) where
-    after_one : k < 0x80 → slice_index text i ≡ 0 + k → Outcome p i (i + 1 + 0) (is_member (clip 0 0x7F rs)) (picked (byte_of text) end 0 (0 + k * size_of_block 0) (i + 1))
+    after_one : k < 0x80 → slice_index text i ≡ 0 + k → Outcome p i (i + 1 + 0) (is_member (clip 0 0x7F rs))
+        (picked (byte_of text) end 0 (0 + k * size_of_block 0) (i + 1))
     unfolding Outcome size_of_block
     after_one small lead =
         same_outcome p i (i + 1 + 0) (is_member (clip 0 0x7F rs)) _
@@ -284,14 +277,16 @@ module _ (text : List ℕ) (end : ℕ) (inside : end ≤ length text) (m : Prior
         let n = len_is c 1 (inl (omega arith, refl)) in
         (char_at_one text i c (omega arith, omega arith, omega arith), omega arith))
 
-    after_two : k < 30 → slice_index text i ≡ 0xC2 + k → Outcome p i (i + 1 + 1) (is_member (clip 0x80 0x7FF rs)) (picked (byte_of text) end 1 (0x80 + k * size_of_block 1) (i + 1))
+    after_two : k < 30 → slice_index text i ≡ 0xC2 + k → Outcome p i (i + 1 + 1) (is_member (clip 0x80 0x7FF rs))
+        (picked (byte_of text) end 1 (0x80 + k * size_of_block 1) (i + 1))
     unfolding Outcome size_of_block
     after_two small lead =
         same_outcome p i (i + 1 + 1) (is_member (clip 0x80 0x7FF rs)) _
         (λ c found_c fits. let h = two_bytes i c found_c (omega arith) (omega arith) in
         let low = h.0 in let high = h.1 in let first = h.3 in let second = h.4 in
         let n = len_is c 2 (inr (inl (h.0, h.1, refl))) in (
-          step-to (byte_of text) end 0 _ (i + 1) (i + 2) c c (omega arith) (omega arith) (omega arith) (omega arith) (omega arith) (zero-to (byte_of text) end c (i + 2) c refl),
+          step-to (byte_of text) end 0 _ (i + 1) (i + 2) c c (omega arith) (omega arith) (omega arith) (omega arith) (omega arith)
+              (zero-to (byte_of text) end c (i + 2) c refl),
           clip-same 0x80 0x7FF rs c (omega arith) (omega arith) (omega arith),
           omega arith,
         ))
@@ -305,7 +300,8 @@ module _ (text : List ℕ) (end : ℕ) (inside : end ≤ length text) (m : Prior
         let n = len_is c 2 (inr (inl (omega arith, omega arith, refl))) in
         (char_at_two text i c (omega arith, omega arith, omega arith, omega arith, omega arith), omega arith))
 
-    three : (first start low high : ℕ) → low ≤ high → 0x800 ≤ low → high < 0x1_0000 → 0xE0 ≤ first → (high < 0xD800) ⊎ (0xE000 ≤ low) → start ≡ (first - 0xE0) * 4096 → slice_index text i ≡ first + k → slice_index text i < 0xF0
+    three : (first start low high : ℕ) → low ≤ high → 0x800 ≤ low → high < 0x1_0000 → 0xE0 ≤ first → (high < 0xD800) ⊎ (0xE000 ≤ low)
+        → start ≡ (first - 0xE0) * 4096 → slice_index text i ≡ first + k → slice_index text i < 0xF0
         → ((c : ℕ) → InScalarRange c → 0x800 ≤ c → c < 0x1_0000 → slice_index text i ≡ 224 + c / 4096 → (low ≤ c) × (c ≤ high))
         → Outcome p i (i + 1 + 2) (is_member (clip low high rs)) (picked (byte_of text) end 2 (start + k * size_of_block 2) (i + 1))
     unfolding Outcome size_of_block
@@ -316,7 +312,8 @@ module _ (text : List ℕ) (end : ℕ) (inside : end ≤ length text) (m : Prior
         let n = len_is c 3 (inr (inr (inl (h.0, h.1, refl)))) in
         let band = in_band c (char_at_cases text i c found_c).0 h.0 h.1 h.3 in (
           step-to (byte_of text) end 1 _ (i + 1) (i + 2) (c / 64 * 64) c (omega arith) (omega arith) (omega arith) (omega arith) (omega arith)
-              (step-to (byte_of text) end 0 _ (i + 2) (i + 3) c c (omega arith) (omega arith) (omega arith) (omega arith) (omega arith) (zero-to (byte_of text) end c (i + 3) c refl)),
+              (step-to (byte_of text) end 0 _ (i + 2) (i + 3) c c (omega arith) (omega arith) (omega arith) (omega arith) (omega arith)
+              (zero-to (byte_of text) end c (i + 3) c refl)),
           clip-same low high rs c ordered band.0 band.1,
           omega arith,
         ))
@@ -337,17 +334,19 @@ module _ (text : List ℕ) (end : ℕ) (inside : end ≤ length text) (m : Prior
         scalar_is c bottom top (inl x) = inl (omega arith)
         scalar_is c bottom top (inr x) = inr (omega arith, omega arith)
 
-    after_four : k < 5 → slice_index text i ≡ 0xF0 + k → Outcome p i (i + 1 + 3) (is_member (clip 0x1_0000 0x10_FFFF rs)) (picked (byte_of text) end 3 (0 + k * size_of_block 3) (i + 1))
+    after_four : k < 5 → slice_index text i ≡ 0xF0 + k → Outcome p i (i + 1 + 3) (is_member (clip 0x1_0000 0x10_FFFF rs))
+        (picked (byte_of text) end 3 (0 + k * size_of_block 3) (i + 1))
     unfolding Outcome size_of_block
     after_four small lead =
         same_outcome p i (i + 1 + 3) (is_member (clip 0x1_0000 0x10_FFFF rs)) _
         (λ c found_c fits. let h = four_bytes i c found_c (omega arith) in
         let a = h.0 in let b0 = h.2 in let b1 = h.3 in let b2 = h.4 in let b3 = h.5 in
         let n = len_is c 4 (inr (inr (inr (h.0, refl)))) in
-        let top : c ≤ 0x10_FFFF = top_of c (char_at_cases text i c found_c).0 in (
+        let top : c ≤ 0x10_FFFF = most-scalar c (char_at_cases text i c found_c).0 in (
           step-to (byte_of text) end 2 _ (i + 1) (i + 2) (c / 4096 * 4096) c (omega arith) (omega arith) (omega arith) (omega arith) (omega arith)
               (step-to (byte_of text) end 1 _ (i + 2) (i + 3) (c / 64 * 64) c (omega arith) (omega arith) (omega arith) (omega arith) (omega arith)
-              (step-to (byte_of text) end 0 _ (i + 3) (i + 4) c c (omega arith) (omega arith) (omega arith) (omega arith) (omega arith) (zero-to (byte_of text) end c (i + 4) c refl))),
+              (step-to (byte_of text) end 0 _ (i + 3) (i + 4) c c (omega arith) (omega arith) (omega arith) (omega arith) (omega arith)
+              (zero-to (byte_of text) end c (i + 4) c refl))),
           clip-same 0x1_0000 0x10_FFFF rs c (omega arith) (omega arith) (omega arith),
           omega arith,
         ))
@@ -364,12 +363,9 @@ module _ (text : List ℕ) (end : ℕ) (inside : end ≤ length text) (m : Prior
         let value = zero-from (byte_of text) end _ (i + 4) c z.3 in
         let n = len_is c 4 (inr (inr (inr (omega arith, refl)))) in
         (char_at_four text i c range.1 (omega arith, omega arith, omega arith, omega arith, omega arith, omega arith), omega arith))
-      where
-        top_of : (c : ℕ) → InScalarRange c → c ≤ 0x10_FFFF
-        top_of c (inl x) = omega arith
-        top_of c (inr x) = omega (arith, x.1)
 
-    after_three : k < 14 → slice_index text i ≡ 0xE0 + k → Outcome p i (i + 1 + 2) (is_member (clip 0x800 0xD7FF rs)) (picked (byte_of text) end 2 (0 + k * size_of_block 2) (i + 1))
+    after_three : k < 14 → slice_index text i ≡ 0xE0 + k → Outcome p i (i + 1 + 2) (is_member (clip 0x800 0xD7FF rs))
+        (picked (byte_of text) end 2 (0 + k * size_of_block 2) (i + 1))
     after_three small lead =
         three 0xE0 0 0x800 0xD7FF (omega arith) (omega arith) (omega arith) (omega arith) (inl (omega arith)) refl lead (omega arith)
         (λ c scalar low high first. (low, below_surrogates c scalar (omega arith)))
@@ -378,26 +374,24 @@ module _ (text : List ℕ) (end : ℕ) (inside : end ≤ length text) (m : Prior
         below_surrogates c (inl x) lt' = omega arith
         below_surrogates c (inr x) lt' = absurd (omega (arith, x.0))
 
-    after_three_high : k < 2 → slice_index text i ≡ 0xEE + k → Outcome p i (i + 1 + 2) (is_member (clip 0xE000 0xFFFF rs)) (picked (byte_of text) end 2 (0xE000 + k * size_of_block 2) (i + 1))
+    after_three_high : k < 2 → slice_index text i ≡ 0xEE + k → Outcome p i (i + 1 + 2) (is_member (clip 0xE000 0xFFFF rs))
+        (picked (byte_of text) end 2 (0xE000 + k * size_of_block 2) (i + 1))
     after_three_high small lead =
         three 0xEE 0xE000 0xE000 0xFFFF (omega arith) (omega arith) (omega arith) (omega arith) (inr (omega arith)) refl lead (omega arith)
         (λ c scalar low high first. (omega arith, omega arith))
 
     -- no other byte begins a character
-    after_none : ((0x80 ≤ slice_index text i) × (slice_index text i < 0xC2)) ⊎ (0xF5 ≤ slice_index text i) → None ≡ found_after m p end next i (member_len text (scalar_ranges rs) i)
+    after_none : ((0x80 ≤ slice_index text i) × (slice_index text i < 0xC2)) ⊎ (0xF5 ≤ slice_index text i)
+        → None ≡ found_after m p end next i (member_len text (scalar_ranges rs) i)
     unfolding outcome
     after_none out =
         same_outcome p i i (λ c. false) None
         (λ c found_c fits. absurd (impossible c found_c out))
         (λ c e passes. absurd (none-some c e))
       where
-        high_of : (c : ℕ) → InScalarRange c → c ≤ 0x10_FFFF
-        high_of c (inl x) = omega arith
-        high_of c (inr x) = omega (arith, x.1)
-
         impossible : (c : ℕ) → char_at text i ≡ Some c → ((0x80 ≤ slice_index text i) × (slice_index text i < 0xC2)) ⊎ (0xF5 ≤ slice_index text i) → ⊥
         impossible c found_c (inl x) = let low = x.0 in let high = x.1 in let h = two_bytes i c found_c (omega arith) (omega arith) in let a = h.0 in let b = h.3 in omega arith
-        impossible c found_c (inr x) = let h = four_bytes i c found_c (omega arith) in let b = h.2 in let top = high_of c (char_at_cases text i c found_c).0 in omega arith
+        impossible c found_c (inr x) = let h = four_bytes i c found_c (omega arith) in let b = h.2 in let top = most-scalar c (char_at_cases text i c found_c).0 in omega arith
 
   after_end : (p : Passed) (i : ℕ) → end ≤ i → None ≡ found_after m p end next i (member_len text (scalar_ranges rs) i)
   unfolding outcome
@@ -433,7 +427,8 @@ module _ (text : List ℕ) (end : ℕ) (inside : end ≤ length text) (m : Prior
       (λ e. let lt : i < end = grind (arith, nat_tests) in rw e (by_lead lt))
       (λ e. let past : end ≤ i = grind (arith, nat_tests) in rw e (after_end p i past))
     where
-      by_lead : i < end → found_target (byte_of text) end m bounded rises next p (route k.row (slice_index text i)) (i + 1) ≡ found_after m p end next i (member_len text (scalar_ranges rs) i)
+      by_lead : i < end → found_target (byte_of text) end m bounded rises next p (route k.row (slice_index text i)) (i + 1) ≡ found_after m p end next i
+          (member_len text (scalar_ranges rs) i)
       by_lead lt =
           lead_cases (slice_index text i)
           (λ small. let is : slice_index text i ≡ 0 + slice_index text i = omega arith in
@@ -456,7 +451,8 @@ module _ (text : List ℕ) (end : ℕ) (inside : end ≤ length text) (m : Prior
           ap (λ b. found_target (byte_of text) end m bounded rises next p (route k.row b) (i + 1)) is
           ∙ block-found (byte_of text) end m bounded rises next p (is_member (clip 0x1_0000 0x10_FFFF rs)) 3 _ (i + 1) _ (k.of_four n small) clean
           ∙ after_four p i n lt small is)
-          (λ out. ap (λ o. found_target (byte_of text) end m bounded rises next p o (i + 1)) (k.of_none (slice_index text i) out) ∙ after_none p i (slice_index text i) lt out)
+          (λ out. ap (λ o. found_target (byte_of text) end m bounded rises next p o (i + 1)) (k.of_none (slice_index text i) out)
+          ∙ after_none p i (slice_index text i) lt out)
 
 member-above : (rs : List (ℕ × ℕ)) (n c : ℕ) → StaysBelow n rs → n < c → is_member rs c ≡ false
 member-above [] n c h lt = refl
@@ -466,7 +462,8 @@ member-above (r ∷ rs) n c h lt =
     rw x (member-above rs n c h.1 lt)
 
 -- the state of a class of bytes reads the class
-pub byte_class-found : (text : List ℕ) (end : ℕ) → end ≤ length text → (m : PriorityGraph) → IsBounded m → NeverFalls m → (next : ℕ) (rs : List (ℕ × ℕ)) → StaysBelow 255 rs
+pub byte_class-found : (text : List ℕ) (end : ℕ) → end ≤ length text → (m : PriorityGraph) → IsBounded m → NeverFalls m → (next : ℕ) (rs : List (ℕ × ℕ))
+    → StaysBelow 255 rs
     → (q : ℕ) → IsByteClass (ReadsByte m (byte_of text) end) next rs q → ReadsClass m text end next q (byte_ranges rs)
 unfolding found_target
 byte_class-found text end inside m bounded rises next rs below q k p i new clean =
@@ -484,9 +481,11 @@ byte_class-found text end inside m bounded rises next rs below q k p i new clean
     (cases_lt i (length text))))
   where
     routes : (b : ℕ) → route k.row b ≡ (if is_member rs b then Some next else None)
-    routes b = ⊎_elim (k.each b) (λ past. k.of_none b past ∙ sym (ap (λ x. if x then Some next else None) (member-above rs 255 b below (omega arith)))) (cases_lt b 256)
+    routes b = ⊎_elim (k.each b) (λ past. k.of_none b past ∙ sym (ap (λ x. if x then Some next else None) (member-above rs 255 b below (omega arith))))
+        (cases_lt b 256)
 
-    lands : nat_le (i + 1) end ≡ true → (b : Bool) → found_target (byte_of text) end m bounded rises next p (if b then Some next else None) (i + 1) ≡ found_after m p end next i (if b then Some 1 else None)
+    lands : nat_le (i + 1) end ≡ true → (b : Bool) → found_target (byte_of text) end m bounded rises next p (if b then Some next else None)
+        (i + 1) ≡ found_after m p end next i (if b then Some 1 else None)
     lands fits true = rw fits refl
     lands fits false = refl
 

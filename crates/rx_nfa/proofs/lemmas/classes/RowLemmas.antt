@@ -160,7 +160,8 @@ AddsReaders-push xs s ts is ascends = record {
       (ts, ap (λ n. reading (state_at (xs ++ s ∷ []) n)) last ∙ ap reading (last-is xs s) ∙ is, ascends));
 }
 
-pub IsReader-push : (xs : List State) (s : State) (ts : List Transition) → reading s ≡ Some ts → Ascends 0 256 ts → IsReader (length xs) (xs ++ s ∷ []) (length xs) ts
+pub IsReader-push : (xs : List State) (s : State) (ts : List Transition) → reading s ≡ Some ts → Ascends 0 256 ts
+    → IsReader (length xs) (xs ++ s ∷ []) (length xs) ts
 IsReader-push xs s ts is a = record {
   state = s;
   stands = record { above = omega arith; inside = (let l = length-append xs (s ∷ []) in omega arith); is = last-is xs s };
@@ -176,7 +177,8 @@ IsReader-grows base old new g q ts r = record {
   ascends = r.ascends;
 }
 
-pub IsReader-lower : (lower base : ℕ) (states : List State) (q : ℕ) (ts : List Transition) → lower ≤ base → IsReader base states q ts → IsReader lower states q ts
+pub IsReader-lower : (lower base : ℕ) (states : List State) (q : ℕ) (ts : List Transition) → lower ≤ base → IsReader base states q ts
+    → IsReader lower states q ts
 IsReader-lower lower base states q ts le r = record {
   state = r.state;
   stands = record { above = omega (arith, r.stands.above); inside = r.stands.inside; is = r.stands.is };
@@ -185,7 +187,8 @@ IsReader-lower lower base states q ts le r = record {
 }
 
 -- where what stands is kept, as by a patch before the base
-pub HasReader-map : (A B : ℕ → State → Type 0) → ((q : ℕ) (state : State) → A q state → B q state) → (q : ℕ) (ts : List Transition) → HasReader A q ts → HasReader B q ts
+pub HasReader-map : (A B : ℕ → State → Type 0) → ((q : ℕ) (state : State) → A q state → B q state) → (q : ℕ) (ts : List Transition) → HasReader A q ts
+    → HasReader B q ts
 HasReader-map A B keep q ts r = record { state = r.state; stands = keep q r.state r.stands; reads = r.reads; ascends = r.ascends }
 
 -- closed lists of states
@@ -295,7 +298,8 @@ reader-sorted Fail ts is a = tt
 reader-sorted (Match pattern) ts is a = tt
 
 -- what holds of each state that only reads bytes
-pub AddsReaders-all : (P : State → Type 0) → ((s : State) (ts : List Transition) → reading s ≡ Some ts → Ascends 0 256 ts → P s) → (old new : List State) → AddsReaders old new → All P old → All P new
+pub AddsReaders-all : (P : State → Type 0) → ((s : State) (ts : List Transition) → reading s ≡ Some ts → Ascends 0 256 ts → P s) → (old new : List State)
+    → AddsReaders old new → All P old → All P new
 AddsReaders-all P each old new g h = All-from_get_or P new Fail (λ q lt.
     by_test (nat_lt q (length old))
     (λ e. let inside : q < length old = grind (arith, nat_tests) in

@@ -113,3 +113,7 @@ char_at_one text i c h =
 pub len_is : (c n : ℕ) → ((c < 0x80) × (n ≡ 1)) ⊎ (((0x80 ≤ c) × (c < 0x800) × (n ≡ 2))
     ⊎ (((0x800 ≤ c) × (c < 0x1_0000) × (n ≡ 3)) ⊎ ((0x1_0000 ≤ c) × (n ≡ 4)))) → n ≡ len_utf8 c
 len_is c n h = grind (arith, nat_tests)
+
+pub most-scalar : (c : ℕ) → InScalarRange c → c ≤ 0x10_FFFF
+most-scalar c (inl x) = omega arith
+most-scalar c (inr x) = omega (arith, x.1)

@@ -20,7 +20,8 @@ use Rattle.rx_nfa.specs.declared.state.State.{State}
 use Rattle.rx_nfa.specs.declared.state.State.TheVariants.{ByteRange, Sparse, Look, Union, Capture, Fail, Match}
 use Rattle.rx_nfa.proofs.lemmas.lists.ListLemmas.{first_told-append, first_told-alike, first_told-resting, first_then-seen, first_then-moves, first_then-rests}
 use Rattle.rx_nfa.proofs.lemmas.lists.PlaceLemmas.{passed_at-has, passed_at-elsewhere, left_at, left-most, left-less}
-use Rattle.rx_nfa.proofs.lemmas.runs.StateLemmas.{none-in, read_byte-place}
+use Rattle.rx_nfa.proofs.lemmas.runs.StateLemmas.{read_byte-place}
+use Rattle.rx_model.proofs.lemmas.runs.MemberLemmas.{none-among}
 
 -- a write changes neither pattern nor end
 pub half-written : (w : Option ℕ) (place : ℕ) (o : Option Trace) → option_map half (option_map (with_write w place) o) ≡ option_map half o
@@ -81,7 +82,8 @@ step-epsilon around end holding (Capture next pattern slot) i sees h = refl
 step-epsilon around end holding Fail i sees h = refl
 step-epsilon around end holding (Match pattern) i sees h = absurd (true≢false h)
 
-rests-later : (around : Surroundings) (end : ℕ) (s : State) (i : ℕ) → is_resting s ≡ true → (d : Configuration) → Contains (state_step around end s i) d → i < d.place
+rests-later : (around : Surroundings) (end : ℕ) (s : State) (i : ℕ) → is_resting s ≡ true → (d : Configuration) → Contains (state_step around end s i) d
+    → i < d.place
 rests-later around end (ByteRange low high next) i h d m =
     let up = read_byte-place around.byte end (record { start = low; end = high; next = next } ∷ []) i d m in omega arith
 rests-later around end (Sparse transitions) i h d m = let up = read_byte-place around.byte end transitions i d m in omega arith
@@ -89,7 +91,7 @@ rests-later around end (Look look next) i h d m = absurd (true≢false (sym h))
 rests-later around end (Union alternates) i h d m = absurd (true≢false (sym h))
 rests-later around end (Capture next pattern slot) i h d m = absurd (true≢false (sym h))
 rests-later around end Fail i h d m = absurd (true≢false (sym h))
-rests-later around end (Match pattern) i h d m = absurd (none-in d m)
+rests-later around end (Match pattern) i h d m = absurd (none-among d m)
 
 -- a state at rest is there
 pub rests-inside : (states : List State) (q : ℕ) → is_resting (state_at states q) ≡ true → q < length states
@@ -102,10 +104,12 @@ rests-inside states q h =
 
 module _ (states : List State) (names : All (NamesBelow (length states)) states) (holding : model.Look → Bool) where
   -- what a state and the stack go on to
-  stack-below : (q : ℕ) (stack : List ℕ) → AreBelow (length states) (q ∷ stack) → AreBelow (length states) (epsilon_successors holding (state_at states q) ++ stack)
+  stack-below : (q : ℕ) (stack : List ℕ) → AreBelow (length states) (q ∷ stack)
+      → AreBelow (length states) (epsilon_successors holding (state_at states q) ++ stack)
   stack-below q stack h =
       All-append (λ q. q < length states) (epsilon_successors holding (state_at states q)) stack
-      (epsilon_successors-below (length states) holding (state_at states q) (All-get_or (NamesBelow (length states)) states q _ (All-head (λ q. q < length states) q stack h) names))
+      (epsilon_successors-below (length states) holding (state_at states q)
+      (All-get_or (NamesBelow (length states)) states q _ (All-head (λ q. q < length states) q stack h) names))
       (All-tail (λ q. q < length states) q stack h)
 
   pub close-below : (room : ℕ) (stack seen : List ℕ)
@@ -140,17 +144,21 @@ module _ (g : PriorityGraph) where
 
 module _ (around : Surroundings) (states : List State) (end : ℕ) (g : PriorityGraph) (has_steps : HasSteps around states end g) where
   -- what a run from a state at rest has doesn't depend on what was passed at its place
-  pub found-rests : (p : Passed) (q i : ℕ) → q < length states → i ≤ end → is_resting (state_at states q) ≡ true → p (at q i) ≡ false → ((d : Configuration) → i < d.place → p d ≡ false)
+  pub found-rests : (p : Passed) (q i : ℕ) → q < length states → i ≤ end → is_resting (state_at states q) ≡ true → p (at q i) ≡ false
+      → ((d : Configuration) → i < d.place → p d ≡ false)
       → found g p (at q i) ≡ found g nowhere (at q i)
   found-rests p q i lt le rests new level =
       elim (tells (g.accepted (at q i))) [
         | inl none ↦
             found-step g p has_steps.bounded (at q i) new none
-            ∙ ap (option_map (with_write (g.written (at q i)) i)) (first_some-alike_at (found g (and_at (at q i) p)) (found g (and_at (at q i) nowhere)) (g.successors (at q i))
+            ∙ ap (option_map (with_write (g.written (at q i)) i))
+            (first_some-alike_at (found g (and_at (at q i) p)) (found g (and_at (at q i) nowhere)) (g.successors (at q i))
             (λ d m. (let up = rests-later around end (state_at states q) i rests d (subst (λ ds. Contains ds d) (has_steps.steps q i lt le) m) in
-            found-forget g has_steps.rises (and_at (at q i) p) (and_at (at q i) nowhere) d (λ e above. ap (λ b. same (at q i) e || b) (level e (omega arith))))))
+            found-forget g has_steps.rises (and_at (at q i) p) (and_at (at q i) nowhere) d
+            (λ e above. ap (λ b. same (at q i) e || b) (level e (omega arith))))))
             ∙ sym (found-step g nowhere has_steps.bounded (at q i) refl none)
-        | inr some ↦ found-accepted g p has_steps.bounded (at q i) some.0 new some.1 ∙ sym (found-accepted g nowhere has_steps.bounded (at q i) some.0 refl some.1)
+        | inr some ↦ found-accepted g p has_steps.bounded (at q i) some.0 new some.1
+            ∙ sym (found-accepted g nowhere has_steps.bounded (at q i) some.0 refl some.1)
       ]
 
   module _ (names : All (NamesBelow (length states)) states) (holding : model.Look → Bool) (i : ℕ) (place : i ≤ end) (holds : HoldsAt around states holding i) where
@@ -177,7 +185,8 @@ module _ (around : Surroundings) (states : List State) (end : ℕ) (g : Priority
       closing stack seen = first_then (at_rest states (tell g nowhere i)) seen i (below stack)
 
       -- on top of the stack
-      top : (q : ℕ) (stack seen : List ℕ) → closing (q ∷ stack) seen ≡ first_then (at_rest states (tell g nowhere i)) seen i (λ p. option_or (tell g p i q) (below stack p))
+      top : (q : ℕ) (stack seen : List ℕ) → closing (q ∷ stack) seen ≡ first_then (at_rest states (tell g nowhere i)) seen i
+          (λ p. option_or (tell g p i q) (below stack p))
       top q stack seen =
           ap (option_or (first_told (at_rest states (tell g nowhere i)) seen))
           (or-assoc (tell g (passed_at seen i) i q) (first_on g (passed_at seen i) i stack) (later (passed_at seen i)))
@@ -194,7 +203,9 @@ module _ (around : Surroundings) (states : List State) (end : ℕ) (g : Priority
       closing-rests q stack seen new lt rests =
           ap (λ qs. closing (qs ++ stack) (seen ++ q ∷ [])) (resting-epsilon holding (state_at states q) rests)
           ∙ first_then-rests states g (tell g nowhere i) seen i q half (below stack) (below-stable stack) rests (tell g nowhere i) (λ x h. refl)
-          (ap (option_map half) (sym (found-rests (passed_at seen i) q i lt place rests (passed_at-has seen i q ∙ new) (λ d up. passed_at-elsewhere seen i d (λ same. omega arith)))))
+          (ap (option_map half)
+          (sym (found-rests (passed_at seen i) q i lt place rests (passed_at-has seen i q ∙ new)
+          (λ d up. passed_at-elsewhere seen i d (λ same. omega arith)))))
 
       closing-moves : (q : ℕ) (stack seen : List ℕ) → has seen q ≡ false → q < length states → is_resting (state_at states q) ≡ false
           → closing (onto q ++ stack) (seen ++ q ∷ []) ≡ first_then (at_rest states (tell g nowhere i)) seen i (λ p. option_or (tell g p i q) (below stack p))
@@ -205,9 +216,11 @@ module _ (around : Surroundings) (states : List State) (end : ℕ) (g : Priority
           ∙ or-assoc (first_on g after i (onto q)) (first_on g after i stack) (later after)
           ∙ ap (λ o. option_or o (below stack after)) (sym (tell-moves (passed_at seen i) q lt (passed_at-has seen i q ∙ new) moves)))
 
-      closing-new : (q : ℕ) (stack seen : List ℕ) → has seen q ≡ false → q < length states → closing (q ∷ stack) seen ≡ closing (onto q ++ stack) (seen ++ q ∷ [])
+      closing-new : (q : ℕ) (stack seen : List ℕ) → has seen q ≡ false → q < length states
+          → closing (q ∷ stack) seen ≡ closing (onto q ++ stack) (seen ++ q ∷ [])
       closing-new q stack seen new lt =
-          top q stack seen ∙ sym (by_test (is_resting (state_at states q)) (λ e. closing-rests q stack seen new lt e) (λ e. closing-moves q stack seen new lt e))
+          top q stack seen ∙ sym (by_test (is_resting (state_at states q)) (λ e. closing-rests q stack seen new lt e)
+          (λ e. closing-moves q stack seen new lt e))
 
       pub close-first : (room : ℕ) (stack seen : List ℕ) → AreBelow (length states) stack → left_at (length states) i (passed_at seen i) ≤ room
           → closing stack seen ≡ closing [] (close states holding room stack seen)
@@ -225,7 +238,8 @@ module _ (around : Surroundings) (states : List State) (end : ℕ) (g : Priority
           let lt = All-head (λ q. q < length states) q stack inside in
           let less = left-less (length states) i q seen lt e in
           closing-new q stack seen e lt
-          ∙ close-first room (epsilon_successors holding (state_at states q) ++ stack) (seen ++ q ∷ []) (stack-below states names holding q stack inside) (omega arith)
+          ∙ close-first room (epsilon_successors holding (state_at states q) ++ stack) (seen ++ q ∷ []) (stack-below states names holding q stack inside)
+          (omega arith)
           ∙ rw e refl)
 
     -- the threads that begin in these states have their first success

@@ -36,7 +36,8 @@ module _ (g : PriorityGraph) (may : ℕ → Bool) (start : ℕ) where
       first_start-alike may (λ j. found g p (at start j)) (λ j. found g (and_at x p) (at start j)) n i (λ j le. found-prune g p x (at start j) none)
 
   -- what was passed before a start doesn't matter
-  pub first_of_starts-forget : NeverFalls g → (items : List ℕ) (n i : ℕ) → first_of_starts g may start n (i + 1) (passed_at items i) ≡ first_of_starts g may start n (i + 1) nowhere
+  pub first_of_starts-forget : NeverFalls g → (items : List ℕ) (n i : ℕ) → first_of_starts g may start n (i + 1) (passed_at items i) ≡ first_of_starts g may
+      start n (i + 1) nowhere
   first_of_starts-forget rises items n i =
       first_start-alike may (λ j. found g (passed_at items i) (at start j)) (λ j. found g nowhere (at start j)) n (i + 1)
       (λ j le. found-forget g rises (passed_at items i) nowhere (at start j) (λ d above. passed_at-elsewhere items i d (λ e. omega arith)))
@@ -104,7 +105,8 @@ place-parts false None None later best = refl
 
 -- The search by lists.
 
-module _ (around : Surroundings) (states : List State) (names : All (NamesBelow (length states)) states) (end : ℕ) (g : PriorityGraph) (has_steps : HasSteps around states end g)
+module _ (around : Surroundings) (states : List State) (names : All (NamesBelow (length states)) states) (end : ℕ) (g : PriorityGraph)
+    (has_steps : HasSteps around states end g)
     (may : ℕ → Bool) (start : ℕ) (inside : start < length states) where
   abbrev looks_at : ℕ → model.Look → Bool
   looks_at i kind = around.looks kind i
@@ -114,12 +116,14 @@ module _ (around : Surroundings) (states : List State) (names : All (NamesBelow 
   threads_at i loops qs = threads_from states (looks_at i) (qs ++ begun start (loops && may i))
 
   seeded-below : (i : ℕ) (loops : Bool) (qs : List ℕ) → AreBelow (length states) qs → AreBelow (length states) (qs ++ begun start (loops && may i))
-  seeded-below i loops qs below = All-append (λ q. q < length states) qs (begun start (loops && may i)) below (begun-below (length states) start (loops && may i) inside)
+  seeded-below i loops qs below = All-append (λ q. q < length states) qs (begun start (loops && may i)) below
+      (begun-below (length states) start (loops && may i) inside)
 
   threads-below : (i : ℕ) (loops : Bool) (qs : List ℕ) → AreBelow (length states) qs → AreBelow (length states) (threads_at i loops qs)
   threads-below i loops qs below =
       resting-below (length states) states (close states (looks_at i) (length states) (qs ++ begun start (loops && may i)) [])
-      (close-below states names (looks_at i) (length states) (qs ++ begun start (loops && may i)) [] (seeded-below i loops qs below) (All-nil (λ q. q < length states)))
+      (close-below states names (looks_at i) (length states) (qs ++ begun start (loops && may i)) [] (seeded-below i loops qs below)
+      (All-nil (λ q. q < length states)))
 
   -- the threads at a place, and then the starts behind it
   threads-tell : (n i : ℕ) → i ≤ end → (loops : Bool) (qs : List ℕ) → AreBelow (length states) qs
@@ -127,7 +131,8 @@ module _ (around : Surroundings) (states : List State) (names : All (NamesBelow 
       ≡ option_or (first_on g nowhere i qs) (where_there loops (told_later g may start (suc n) i))
   threads-tell n i le loops qs below =
       ap (λ o. option_or o (where_there loops (told_later g may start n (i + 1))))
-      (threads-first around states end g has_steps names (looks_at i) i le (λ q next look is. refl) (qs ++ begun start (loops && may i)) (seeded-below i loops qs below))
+      (threads-first around states end g has_steps names (looks_at i) i le (λ q next look is. refl) (qs ++ begun start (loops && may i))
+      (seeded-below i loops qs below))
       ∙ seeded-first g may start n i loops qs
 
   pub list_search-first : (n i : ℕ) → i + n ≡ end → (loops : Bool) (qs : List ℕ) → AreBelow (length states) qs → (best : Option HalfMatchValue)
@@ -151,14 +156,17 @@ module _ (around : Surroundings) (states : List State) (names : All (NamesBelow 
       let here = match_here (accepts_at g i) i threads in
       let onto = targets states (around.byte i) (cut (accepts_at g i) threads) in
       list_search-first n (i + 1) (omega arith) (loops && not (is_some here)) onto
-      (targets-below states names (around.byte i) (cut (accepts_at g i) threads) (cut-below (length states) (accepts_at g i) threads (threads-below i loops qs below)))
+      (targets-below states names (around.byte i) (cut (accepts_at g i) threads)
+      (cut-below (length states) (accepts_at g i) threads (threads-below i loops qs below)))
       (option_or here best)
       ∙ place-parts loops (first_on g nowhere (i + 1) onto) here (told_later g may start (suc n) (i + 1)) best
       ∙ ap (λ o. option_or o best)
-      (ap (λ o. option_or o (where_there loops (told_later g may start (suc n) (i + 1)))) (sym (step-first around states end g has_steps i lt (close states (looks_at i) (length states) (qs ++ begun start (loops && may i)) [])))
+      (ap (λ o. option_or o (where_there loops (told_later g may start (suc n) (i + 1))))
+      (sym (step-first around states end g has_steps i lt (close states (looks_at i) (length states) (qs ++ begun start (loops && may i)) [])))
       ∙ threads-tell (suc n) i le loops qs below)
 
-  pub list_search-alike : (accepts accepts' : ℕ → ℕ → Option ℕ) (n i : ℕ) → ((j : ℕ) → j ≤ i + n → accepts j ≡ accepts' j) → (loops : Bool) (qs : List ℕ) (best : Option HalfMatchValue)
+  pub list_search-alike : (accepts accepts' : ℕ → ℕ → Option ℕ) (n i : ℕ) → ((j : ℕ) → j ≤ i + n → accepts j ≡ accepts' j)
+      → (loops : Bool) (qs : List ℕ) (best : Option HalfMatchValue)
       → list_search around states accepts may start n i loops qs best ≡ list_search around states accepts' may start n i loops qs best
   unfolding list_search
   list_search-alike accepts accepts' zero i alike loops qs best =
@@ -167,7 +175,8 @@ module _ (around : Surroundings) (states : List State) (names : All (NamesBelow 
       let threads = threads_at i loops qs in
       list_search-alike accepts accepts' n (i + 1) (λ j le. alike j (omega arith)) (loops && not (is_some (match_here (accepts i) i threads)))
       (targets states (around.byte i) (cut (accepts i) threads)) (option_or (match_here (accepts i) i threads) best)
-      ∙ ap (λ a. list_search around states accepts' may start n (i + 1) (loops && not (is_some (match_here a i threads))) (targets states (around.byte i) (cut a threads)) (option_or (match_here a i threads) best))
+      ∙ ap (λ a. list_search around states accepts' may start n (i + 1) (loops && not (is_some (match_here a i threads)))
+      (targets states (around.byte i) (cut a threads)) (option_or (match_here a i threads) best))
       (alike i (omega arith))
 
 -- The automaton has its steps.
@@ -180,7 +189,8 @@ automaton-steps around states end = record {
 }
 
 -- and so has a graph that accepts less
-pub sieved-steps : (ok : Sieve) (around : Surroundings) (states : List State) (end : ℕ) (g : PriorityGraph) → HasSteps around states end g → HasSteps around states end (sieved ok g)
+pub sieved-steps : (ok : Sieve) (around : Surroundings) (states : List State) (end : ℕ) (g : PriorityGraph) → HasSteps around states end g
+    → HasSteps around states end (sieved ok g)
 sieved-steps ok around states end g has_steps = record {
   bounded = sieved-bounded ok g has_steps.bounded;
   rises = sieved-rises ok g has_steps.rises;
@@ -225,7 +235,8 @@ module _ (nfa : Nfa) (range : IsInRange nfa) (utf8_empty : Bool) (text : List �
   abbrev later : ℕ → Option HalfMatchValue
   later n = told_later graph may start n a
 
-  from_start : (t : Bool) → option_or (option_or (first_on graph nowhere a (begun start (t && may a))) (where_there (not t) (later (suc (b - a))))) None ≡ later (if t then 1 else b + 1 - a)
+  from_start : (t : Bool) → option_or (option_or (first_on graph nowhere a (begun start (t && may a))) (where_there (not t) (later (suc (b - a))))) None ≡ later
+      (if t then 1 else b + 1 - a)
   from_start true =
       or-none_right (option_or (first_on graph nowhere a (begun start (may a))) None)
       ∙ ap (option_or (first_on graph nowhere a (begun start (may a)))) (sym (told_later-none graph may start (a + 1)))
@@ -241,7 +252,8 @@ module _ (nfa : Nfa) (range : IsInRange nfa) (utf8_empty : Bool) (text : List �
       let qs = begun start (is_anchored anchor && may a) in
       list_search-alike around nfa.states range.names b graph (automaton-steps (forwards nfa.terminator text) nfa.states b) may start inside
       (λ i q. state_accepts (state_at nfa.states q)) (accepts_at graph) (b - a) a (λ j le. accepts j (omega arith)) (not (is_anchored anchor)) qs None
-      ∙ list_search-first around nfa.states range.names b graph (automaton-steps (forwards nfa.terminator text) nfa.states b) may start inside (b - a) a (omega arith) (not (is_anchored anchor)) qs
+      ∙ list_search-first around nfa.states range.names b graph (automaton-steps (forwards nfa.terminator text) nfa.states b) may start inside (b - a) a
+      (omega arith) (not (is_anchored anchor)) qs
       (begun-below (length nfa.states) start (is_anchored anchor && may a) inside) None
       ∙ from_start (is_anchored anchor)
       ∙ ap later (rw known refl)

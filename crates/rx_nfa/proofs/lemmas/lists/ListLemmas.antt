@@ -22,7 +22,8 @@ pub first_told-push : {A : Type 0} (tell : ℕ → Option A) (xs : List ℕ) (q 
 first_told-push tell xs q = first_told-append tell xs (q ∷ []) ∙ ap (option_or (first_told tell xs)) (or-none_right (tell q))
 
 -- where the states on the list tell the same
-pub first_told-alike : {A : Type 0} (tell tell' : ℕ → Option A) (qs : List ℕ) → ((q : ℕ) → has qs q ≡ true → tell q ≡ tell' q) → first_told tell qs ≡ first_told tell' qs
+pub first_told-alike : {A : Type 0} (tell tell' : ℕ → Option A) (qs : List ℕ) → ((q : ℕ) → has qs q ≡ true → tell q ≡ tell' q)
+    → first_told tell qs ≡ first_told tell' qs
 first_told-alike tell tell' [] alike = refl
 first_told-alike tell tell' (q ∷ qs) alike =
     let here : has (q ∷ qs) q ≡ true = rw ((Decides-eqb q q).1 refl) refl in
@@ -33,7 +34,8 @@ first_told-none tell [] none = refl
 first_told-none tell (q ∷ qs) none = rw (none q, first_told-none tell qs none) refl
 
 -- those that rest tell what is told at rest
-pub first_told-resting : {A : Type 0} (states : List State) (tell : ℕ → Option A) (qs : List ℕ) → first_told tell (resting states qs) ≡ first_told (at_rest states tell) qs
+pub first_told-resting : {A : Type 0} (states : List State) (tell : ℕ → Option A) (qs : List ℕ)
+    → first_told tell (resting states qs) ≡ first_told (at_rest states tell) qs
 first_told-resting states tell [] = refl
 first_told-resting states tell (q ∷ qs) =
     by_test (is_resting (state_at states q))
@@ -90,5 +92,6 @@ module _ {A : Type 0} (states : List State) (g : PriorityGraph) (at_place : ℕ 
       pushed =
           let last : at_rest states at_place' q ≡ looked passed = rw rests here in
           let before : first_told (at_rest states at_place') items ≡ front =
-          first_told-alike (at_rest states at_place') (at_rest states at_place) items (λ x h. ap (λ o. if is_resting (state_at states x) then o else None) (alike x h)) in
+          first_told-alike (at_rest states at_place') (at_rest states at_place) items
+          (λ x h. ap (λ o. if is_resting (state_at states x) then o else None) (alike x h)) in
           first_told-push (at_rest states at_place') items q ∙ (λ k. option_or (before k) (last k))

@@ -1,22 +1,18 @@
 -- The states at one place: which were passed, and how many are left.
 use Rattle.std.proofs.Common.{◌≡◌, ◌≢◌, ℕ, zero, suc, ◌+◌, ◌≤◌, ◌<◌, List, [], ◌∷◌, ◌++◌, refl, ◌∙◌, ap, arith}
-use Rattle.std.specs.Prelude.{Bool, true, false, ◌||◌, ◌==◌}
+use Rattle.std.specs.Prelude.{true, false, ◌||◌, ◌==◌}
 use Rattle.std.proofs.lemmas.Bool.Decides.{nat_tests}
 use Rattle.rx_model.specs.Runs.{Configuration, Passed, and_at, same, is_among}
 use Rattle.rx_model.proofs.lemmas.runs.RunLemmas.{by_test, same-true, weight, weight-less}
 use Rattle.rx_nfa.specs.Automaton.{at}
 use Rattle.rx_nfa.specs.Ordered.{has, line, passed_at}
+use Rattle.rx_class.proofs.RangeLemmas.{or-swap}
 
 pub passed_at-has : (items : List ℕ) (i q : ℕ) → passed_at items i (at q i) ≡ has items q
 passed_at-has [] i q = refl
 passed_at-has (x ∷ xs) i q =
     let here : same (at x i) (at q i) ≡ (x == q) = by_test (x == q) (λ e. grind (arith, nat_tests)) (λ e. grind (arith, nat_tests)) in
     rw (here, passed_at-has xs i q) refl
-
-or-swap : (a b c : Bool) → (a || (b || c)) ≡ (b || (a || c))
-or-swap true true c = refl
-or-swap true false c = refl
-or-swap false b c = refl
 
 pub passed_at-push : (items : List ℕ) (i q : ℕ) → passed_at (items ++ q ∷ []) i ≡ and_at (at q i) (passed_at items i)
 passed_at-push items i q k d = each items k

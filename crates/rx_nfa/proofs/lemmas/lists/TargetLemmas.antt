@@ -42,11 +42,13 @@ with_target-below : (n : ℕ) (o : Option ℕ) (qs : List ℕ) → ((q : ℕ) �
 with_target-below n None qs lt h = h
 with_target-below n (Some q) qs lt h = All-cons (λ q. q < n) q qs (lt q refl) h
 
-pub targets-below : (states : List State) → All (NamesBelow (length states)) states → (byte : ℕ) (qs : List ℕ) → AreBelow (length states) qs → AreBelow (length states) (targets states byte qs)
+pub targets-below : (states : List State) → All (NamesBelow (length states)) states → (byte : ℕ) (qs : List ℕ) → AreBelow (length states) qs
+    → AreBelow (length states) (targets states byte qs)
 targets-below states names byte [] h = All-nil (λ q. q < length states)
 targets-below states names byte (q ∷ qs) h =
     with_target-below (length states) (target (state_at states q) byte) (targets states byte qs)
-    (λ t goes. target-below (length states) (state_at states q) byte t (All-get_or (NamesBelow (length states)) states q _ (All-head (λ q. q < length states) q qs h) names) goes)
+    (λ t goes. target-below (length states) (state_at states q) byte t
+    (All-get_or (NamesBelow (length states)) states q _ (All-head (λ q. q < length states) q qs h) names) goes)
     (targets-below states names byte qs (All-tail (λ q. q < length states) q qs h))
 
 pub cut-below : (n : ℕ) (accepts : ℕ → Option ℕ) (qs : List ℕ) → AreBelow n qs → AreBelow n (cut accepts qs)
@@ -69,7 +71,8 @@ accepts-reads (Match pattern) p byte h = refl
 
 -- What states do at a byte, and at the end.
 
-step-target : (around : Surroundings) (end : ℕ) (s : State) (i : ℕ) → i < end → is_resting s ≡ true → state_step around end s i ≡ go_on (target s (around.byte i)) (i + 1)
+step-target : (around : Surroundings) (end : ℕ) (s : State) (i : ℕ) → i < end → is_resting s ≡ true
+    → state_step around end s i ≡ go_on (target s (around.byte i)) (i + 1)
 step-target around end (ByteRange low high next) i lt h = let e : nat_lt i end ≡ true = grind (arith, nat_tests) in rw e refl
 step-target around end (Sparse transitions) i lt h = let e : nat_lt i end ≡ true = grind (arith, nat_tests) in rw e refl
 step-target around end (Look look next) i lt h = absurd (true≢false (sym h))
@@ -88,12 +91,14 @@ step-end around end Fail h = absurd (true≢false (sym h))
 step-end around end (Match pattern) h = refl
 
 -- What a configuration has that accepts nothing: no run where it goes nowhere,
-pub found-dead : (g : PriorityGraph) → IsBounded g → (p : Passed) (c : Configuration) → p c ≡ false → g.accepted c ≡ None → g.successors c ≡ [] → found g p c ≡ None
+pub found-dead : (g : PriorityGraph) → IsBounded g → (p : Passed) (c : Configuration) → p c ≡ false → g.accepted c ≡ None → g.successors c ≡ []
+    → found g p c ≡ None
 found-dead g bounded p c new none dead =
     found-step g p bounded c new none ∙ ap (λ ds. option_map (with_write (g.written c) c.place) (first_some (found g (and_at c p)) ds)) dead
 
 -- and the run of the only one that it goes on to, if that lies later in the text
-pub found-reads : (g : PriorityGraph) → IsBounded g → NeverFalls g → (p : Passed) (c d : Configuration) → p c ≡ false → g.accepted c ≡ None → g.successors c ≡ d ∷ [] → c.place < d.place
+pub found-reads : (g : PriorityGraph) → IsBounded g → NeverFalls g → (p : Passed) (c d : Configuration) → p c ≡ false → g.accepted c ≡ None
+    → g.successors c ≡ d ∷ [] → c.place < d.place
     → found g p c ≡ option_map (with_write (g.written c) c.place) (found g p d)
 found-reads g bounded rises p c d new none goes later =
     found-step g p bounded c new none
@@ -108,7 +113,8 @@ found-reads g bounded rises p c d new none goes later =
 
 -- The first success among states.
 
-first_on-with : (g : PriorityGraph) (i : ℕ) (o : Option ℕ) (qs : List ℕ) → first_on g nowhere i (with_target o qs) ≡ option_or (first_on g nowhere i (with_target o [])) (first_on g nowhere i qs)
+first_on-with : (g : PriorityGraph) (i : ℕ) (o : Option ℕ) (qs : List ℕ)
+    → first_on g nowhere i (with_target o qs) ≡ option_or (first_on g nowhere i (with_target o [])) (first_on g nowhere i qs)
 first_on-with g i None qs = refl
 first_on-with g i (Some q) qs = ap (λ x. option_or x (first_on g nowhere i qs)) (sym (or-none_right (tell g nowhere i q)))
 
@@ -144,11 +150,13 @@ module _ (around : Surroundings) (states : List State) (end : ℕ) (g : Priority
   ends-tell : (q : ℕ) → q < length states → g.accepted (at q end) ≡ None → is_resting (state_at states q) ≡ true → tell g nowhere end q ≡ None
   ends-tell q lt none rests =
       let le : end ≤ end = omega arith in
-      ap (option_map half) (found-dead g has_steps.bounded nowhere (at q end) refl none (has_steps.steps q end lt le ∙ step-end around end (state_at states q) rests))
+      ap (option_map half) (found-dead g has_steps.bounded nowhere (at q end) refl none
+      (has_steps.steps q end lt le ∙ step-end around end (state_at states q) rests))
 
   -- The threads over a byte: what they lead to at the next place, and then the match of the first that accepts here.
   pub step-first : (i : ℕ) → i < end → (qs : List ℕ) → first_on g nowhere i (resting states qs)
-      ≡ option_or (first_on g nowhere (i + 1) (targets states (around.byte i) (cut (accepts_at g i) (resting states qs)))) (match_here (accepts_at g i) i (resting states qs))
+      ≡ option_or (first_on g nowhere (i + 1) (targets states (around.byte i) (cut (accepts_at g i) (resting states qs))))
+      (match_here (accepts_at g i) i (resting states qs))
   step-first i less [] = refl
   step-first i less (q ∷ qs) =
       by_test (is_resting (state_at states q))
@@ -162,7 +170,8 @@ module _ (around : Surroundings) (states : List State) (end : ℕ) (g : Priority
         | inl none ↦
             rw (rests, none)
             ((λ k. option_or (reads-tell q i lt less none rests k) (later k))
-            ∙ sym (or-assoc (first_on g nowhere (i + 1) (with_target goes [])) (first_on g nowhere (i + 1) onto) (match_here (accepts_at g i) i (resting states qs)))
+            ∙ sym (or-assoc (first_on g nowhere (i + 1) (with_target goes [])) (first_on g nowhere (i + 1) onto)
+            (match_here (accepts_at g i) i (resting states qs)))
             ∙ ap (λ o. option_or o (match_here (accepts_at g i) i (resting states qs))) (sym (first_on-with g (i + 1) goes onto)))
         | inr some ↦
             rw (rests, some.1, accepted-target q i some.0 (around.byte i) lt le some.1)
@@ -193,7 +202,8 @@ module _ (around : Surroundings) (states : List State) (end : ℕ) (g : Priority
       elim (tells (g.accepted (at q i))) [
         | inl none ↦
             rw none
-            (or-assoc (tell g nowhere i q) (first_on g nowhere i (cut (accepts_at g i) qs)) (where_there (loops && not (is_some (match_here (accepts_at g i) i qs))) later)
+            (or-assoc (tell g nowhere i q) (first_on g nowhere i (cut (accepts_at g i) qs))
+            (where_there (loops && not (is_some (match_here (accepts_at g i) i qs))) later)
             ∙ ap (option_or (tell g nowhere i q)) (cut-first i loops later qs)
             ∙ sym (or-assoc (tell g nowhere i q) (first_on g nowhere i qs) (where_there loops later)))
         | inr some ↦

@@ -58,7 +58,8 @@ options-accounted k m n le =
     each-accounted k d n = omega arith
 
 -- a repetition is its leading copies and its tail
-pub copies-accounted : (min : ℕ) (max : Option ℕ) (n : ℕ) → IfSome max (λ m. min ≤ m) → leading min max * n + states_of_tail min max n ≤ states_of_copies min max n
+pub copies-accounted : (min : ℕ) (max : Option ℕ) (n : ℕ) → IfSome max (λ m. min ≤ m)
+    → leading min max * n + states_of_tail min max n ≤ states_of_copies min max n
 copies-accounted zero None n ordered = omega arith
 copies-accounted (suc k) None n ordered = omega arith
 copies-accounted zero (Some m) n ordered = options-accounted zero m n ordered

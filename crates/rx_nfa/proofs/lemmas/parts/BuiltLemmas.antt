@@ -68,7 +68,11 @@ module _ (IsAt IsAt' : ℕ → State → Type 0) (kept : (q : ℕ) (state : Stat
   IsImage-map f (graph.text [] next) q h = kept q (Union (f next ∷ [])) h
   IsImage-map f (graph.text (b ∷ bytes) next) q h = IsChain-map q (b ∷ bytes) (f next) h
   IsImage-map f (graph.set (scalar_ranges ranges) next) q h = IsClass-map (HasReader IsAt) (HasReader IsAt') (f next) (HasReader-map IsAt IsAt' kept) ranges q h
-  IsImage-map f (graph.set (byte_ranges ranges) next) q h = (h.0, IsByteClass-map (HasReader IsAt) (HasReader IsAt') (f next) (HasReader-map IsAt IsAt' kept) ranges q h.1)
+  IsImage-map f (graph.set (byte_ranges ranges) next) q h = (
+    h.0,
+    IsByteClass-map (HasReader IsAt) (HasReader IsAt') (f next) (HasReader-map IsAt IsAt' kept)
+        ranges q h.1,
+  )
   IsImage-map f (graph.assertion kind next) q h = (h.0, h.1, kept q (Look h.0 (f next)) h.2)
   IsImage-map f (graph.slot number next) q h = (h.0, kept q (Capture (f next) h.0 number) h.1)
   IsImage-map f (graph.choice states) q h = kept q (Union (map f states)) h
@@ -79,7 +83,8 @@ pub record Keeps (base : ℕ) (old new : List State) : Type 0 where
   pub longer : length old ≤ length new
   pub kept : (q : ℕ) → base ≤ q → q < length old → state_at new q ≡ state_at old q
 
-pub Stands-kept : (low base : ℕ) (old new : List State) → low ≤ base → Keeps base old new → (q : ℕ) (state : State) → Stands base old q state → Stands low new q state
+pub Stands-kept : (low base : ℕ) (old new : List State) → low ≤ base → Keeps base old new → (q : ℕ) (state : State) → Stands base old q state
+    → Stands low new q state
 Stands-kept low base old new le k q state s = record {
   above = (let a = s.above in omega arith);
   inside = (let a = s.inside in let l = k.longer in omega arith);
@@ -93,7 +98,8 @@ pub Mirrors-kept : (f : ℕ → ℕ) (low base : ℕ) (old new : List State) (pa
     → Mirrors f base old part images start → Mirrors f low new part images start
 Mirrors-kept f low base old new part images start le k m = record {
   start_is = m.start_is;
-  each = AllZip-map (IsImage (Stands base old) f) (IsImage (Stands low new) f) (IsImage-map (Stands base old) (Stands low new) (Stands-kept low base old new le k) f) part.states images m.each;
+  each = AllZip-map (IsImage (Stands base old) f) (IsImage (Stands low new) f)
+      (IsImage-map (Stands base old) (Stands low new) (Stands-kept low base old new le k) f) part.states images m.each;
 }
 
 pub Keeps-same : (base : ℕ) (states : List State) → Keeps base states states
@@ -156,7 +162,8 @@ Built-state state next old new q extends above inside image = record {
 }
 
 -- one part after the other, which is built first
-pub Built-then : (first second : graph.Builder) (next middle start : ℕ) (old mid new : Draft) → Built second next old mid middle → Built first middle mid new start
+pub Built-then : (first second : graph.Builder) (next middle start : ℕ) (old mid new : Draft) → Built second next old mid middle
+    → Built first middle mid new start
     → Built (graph.build_then first second) next old new start
 Built-then first second next middle start old mid new s t = record {
   extends = Extends-trans old mid new s.extends t.extends;
@@ -176,5 +183,6 @@ Built-then first second next middle start old mid new s t = record {
         let b' = Mirrors-kept f (length old.states) (length mid.states) new.states new.states (first p.start (base + length p.states)) t.images start s.extends.longer (Keeps-same (length mid.states) new.states) b in
         record {
           start_is = b'.start_is;
-          each = AllZip-append (IsImage (Stands (length old.states) new.states) f) p.states (first p.start (base + length p.states)).states s.images t.images a'.each b'.each;
+          each = AllZip-append (IsImage (Stands (length old.states) new.states) f) p.states (first p.start (base + length p.states)).states s.images t.images
+              a'.each b'.each;
         }

@@ -26,11 +26,13 @@ use Rattle.rx_nfa.proofs.lemmas.parts.LoopLemmas.{Built-loop, Built-loop_once, B
 use Rattle.rx_nfa.proofs.lemmas.parts.ChoiceLemmas.{BuiltEach, BuiltEach-more}
 
 -- the part goes by another name
-pub Built-same : (a b : graph.Builder) (next : ℕ) (old new : Draft) (r : Result ℕ Memory) → a ≡ b → IfOk r (λ start. Built a next old new start) → IfOk r (λ start. Built b next old new start)
+pub Built-same : (a b : graph.Builder) (next : ℕ) (old new : Draft) (r : Result ℕ Memory) → a ≡ b → IfOk r (λ start. Built a next old new start)
+    → IfOk r (λ start. Built b next old new start)
 Built-same a b next old new r e h = subst (λ part. IfOk r (λ start. Built part next old new start)) e h
 
 -- there is room for fewer groups, and in a draft of the same groups and slots
-pub HasRoom-kept : (old new : Draft) (groups : Groups) (m n : ℕ) → new.groups ≡ old.groups → new.slots ≡ old.slots → n ≤ m → HasRoom old groups m → HasRoom new groups n
+pub HasRoom-kept : (old new : Draft) (groups : Groups) (m n : ℕ) → new.groups ≡ old.groups → new.slots ≡ old.slots → n ≤ m → HasRoom old groups m
+    → HasRoom new groups n
 HasRoom-kept old new groups m n same slots le h =
     let d = h.few in
     let more = h.enough in
@@ -57,7 +59,8 @@ greatest-at (x ∷ hs) zero h d lt e = let same : greatest_group h ≡ greatest_
 greatest-at (x ∷ hs) (suc k) h d lt e = let later = greatest-at hs k h d (omega arith) e in omega arith
 
 -- one alternative more
-pub BuiltEach-next : (f : Expression → graph.Builder) (subs : List Expression) (k : ℕ) (h : Expression) (next : ℕ) (old mid new : Draft) (starts starts' : List ℕ) (q : ℕ) → k < length subs
+pub BuiltEach-next : (f : Expression → graph.Builder) (subs : List Expression) (k : ℕ) (h : Expression) (next : ℕ) (old mid new : Draft)
+    (starts starts' : List ℕ) (q : ℕ) → k < length subs
     → h ≡ get_or subs k h → starts' ≡ starts ++ q ∷ [] → BuiltEach (map f (take k subs)) next old mid starts → Built (f h) next mid new q
     → BuiltEach (map f (take (k + 1) subs)) next old new starts'
 BuiltEach-next f subs k h next old mid new starts starts' q lt is grown b last =
@@ -105,26 +108,34 @@ pub patched-length : (d : Draft) (q : ℕ) (state : State) → length (patched d
 patched-length d q state = length-set d.states q state
 
 -- A loop, as the compiler makes it: the choice is reserved in `mid`, and `after` has the body.
-module _ (greedy : Bool) (body : graph.Builder) (next choice start : ℕ) (old mid after new : Draft) (blank state : State) (choice_is : choice ≡ length old.states) (mid_is : mid ≡ pushed old blank)
+module _ (greedy : Bool) (body : graph.Builder) (next choice start : ℕ) (old mid after new : Draft) (blank state : State)
+    (choice_is : choice ≡ length old.states) (mid_is : mid ≡ pushed old blank)
     (state_is : state ≡ Union (ways greedy start next)) (new_is : new ≡ patched after choice state) where
   new-written : new ≡ patched after (length old.states) (Union (ways greedy start next))
   new-written = new_is ∙ (λ i. patched after (choice_is i) (state_is i))
 
-  pub loop-closed : Built body choice mid after start → Built (graph.loop greedy body) next old new choice × Built (graph.loop_once greedy body) next old new start
+  pub loop-closed : Built body choice mid after start → Built (graph.loop greedy body) next old new choice
+      × Built (graph.loop_once greedy body) next old new start
   loop-closed b =
       let b' : Built body (length old.states) (pushed old blank) after start = subst (λ n. Built body n (pushed old blank) after start) choice_is (subst (λ d. Built body choice d after start) mid_is b) in (
-        subst (Built (graph.loop greedy body) next old new) (sym choice_is) (subst (λ d. Built (graph.loop greedy body) next old d (length old.states)) (sym new-written) (Built-loop greedy body next start old after blank b')),
+        subst (Built (graph.loop greedy body) next old new) (sym choice_is)
+            (subst (λ d. Built (graph.loop greedy body) next old d (length old.states)) (sym new-written)
+            (Built-loop greedy body next start old after blank b')),
         subst (λ d. Built (graph.loop_once greedy body) next old d start) (sym new-written) (Built-loop_once greedy body next start old after blank b'),
       )
 
   pub optional-closed : Built body next mid after start → Built (graph.build_optional greedy body) next old new choice
   optional-closed b =
       let b' : Built body next (pushed old blank) after start = subst (λ d. Built body next d after start) mid_is b in
-      subst (Built (graph.build_optional greedy body) next old new) (sym choice_is) (subst (λ d. Built (graph.build_optional greedy body) next old d (length old.states)) (sym new-written) (Built-optional greedy body next start old after blank b'))
+      subst (Built (graph.build_optional greedy body) next old new) (sym choice_is)
+      (subst (λ d. Built (graph.build_optional greedy body) next old d (length old.states)) (sym new-written)
+      (Built-optional greedy body next start old after blank b'))
 
 -- one option more
-pub option-closed : (greedy : Bool) (n : ℕ) (body : graph.Builder) (next inner choice start : ℕ) (old mid grown after new : Draft) (blank state : State) → choice ≡ length mid.states → grown ≡ pushed mid blank
-    → state ≡ Union (ways greedy start next) → new ≡ patched after choice state → Built (graph.options greedy n body) next old mid inner → Built body inner grown after start
+pub option-closed : (greedy : Bool) (n : ℕ) (body : graph.Builder) (next inner choice start : ℕ) (old mid grown after new : Draft) (blank state : State)
+    → choice ≡ length mid.states → grown ≡ pushed mid blank
+    → state ≡ Union (ways greedy start next) → new ≡ patched after choice state → Built (graph.options greedy n body) next old mid inner
+    → Built body inner grown after start
     → Built (graph.options greedy (n + 1) body) next old new choice
 option-closed greedy n body next inner choice start old mid grown after new blank state choice_is grown_is state_is new_is o b =
     let b' : Built body inner (pushed mid blank) after start = subst (λ d. Built body inner d after start) grown_is b in
@@ -132,15 +143,18 @@ option-closed greedy n body next inner choice start old mid grown after new blan
     let more : suc n ≡ n + 1 = omega arith in
     subst (λ k. Built (graph.options greedy k body) next old new choice) more
     (subst (Built (graph.options greedy (suc n) body) next old new) (sym choice_is)
-    (subst (λ d. Built (graph.options greedy (suc n) body) next old d (length mid.states)) (sym new-is) (Built-option greedy n body next inner start old mid after blank o b')))
+    (subst (λ d. Built (graph.options greedy (suc n) body) next old d (length mid.states)) (sym new-is)
+    (Built-option greedy n body next inner start old mid after blank o b')))
 
 -- one copy more
-pub copy-more : (n : ℕ) (body last : graph.Builder) (next middle start : ℕ) (old mid new : Draft) → Built (graph.copies n body last) next old mid middle → Built body middle mid new start
+pub copy-more : (n : ℕ) (body last : graph.Builder) (next middle start : ℕ) (old mid new : Draft) → Built (graph.copies n body last) next old mid middle
+    → Built body middle mid new start
     → Built (graph.copies (n + 1) body last) next old new start
 copy-more n body last next middle start old mid new s f =
     let more : suc n ≡ n + 1 = omega arith in
     subst (λ k. Built (graph.copies k body last) next old new start) more (Built-then body (graph.copies n body last) next middle start old mid new s f)
 
 -- any number of copies, of what may take no byte
-pub tail-star : (consumes : Bool) (min : ℕ) (greedy : Bool) (body : graph.Builder) → min ≡ 0 → consumes ≡ false → graph.build_optional greedy (graph.loop_once greedy body) ≡ tail consumes min None greedy body
+pub tail-star : (consumes : Bool) (min : ℕ) (greedy : Bool) (body : graph.Builder) → min ≡ 0 → consumes ≡ false
+    → graph.build_optional greedy (graph.loop_once greedy body) ≡ tail consumes min None greedy body
 tail-star consumes min greedy body none empty = λ i. tail (sym empty i) (sym none i) None greedy body

@@ -8,7 +8,8 @@ use Rattle.rx_hir.specs.Normal.{expressions}
 use Rattle.rx_hir.specs.Depth.{depth, greatest_depth}
 
 -- one expression more
-pub expressions-more : (hs : List Expression) (k : ℕ) (h d : Expression) → 0 < k → k ≤ length hs → h ≡ get_or hs (k - 1) d → expressions (drop (k - 1) hs) ≡ cons h (expressions (drop k hs))
+pub expressions-more : (hs : List Expression) (k : ℕ) (h d : Expression) → 0 < k → k ≤ length hs → h ≡ get_or hs (k - 1) d
+    → expressions (drop (k - 1) hs) ≡ cons h (expressions (drop k hs))
 expressions-more hs k h d some le is =
     let back : suc (k - 1) ≡ k = omega arith in
     ap expressions (drop-cons hs (k - 1) d (omega arith)) ∙ (λ i. cons (sym is i) (expressions (drop (back i) hs)))
@@ -24,7 +25,8 @@ expressions-none [] = refl
 expressions-none (h ∷ hs) = expressions-none hs
 
 -- the groups of one pattern more
-pub groups_before-more : (hs : List Expression) (k : ℕ) (h d : Expression) → k < length hs → h ≡ get_or hs k d → groups_before (k + 1) hs ≡ groups_before k hs + greatest_group h
+pub groups_before-more : (hs : List Expression) (k : ℕ) (h d : Expression) → k < length hs → h ≡ get_or hs k d
+    → groups_before (k + 1) hs ≡ groups_before k hs + greatest_group h
 groups_before-more [] k h d lt e = absurd (omega arith)
 groups_before-more (x ∷ hs) zero h d lt e = let same : greatest_group h ≡ greatest_group x = ap greatest_group e in omega arith
 groups_before-more (x ∷ hs) (suc k) h d lt e = let later = groups_before-more hs k h d (omega arith) e in let more : suc k + 1 ≡ suc (k + 1) = omega arith in ap (λ n. groups_before n (x ∷ hs)) more ∙ omega arith
@@ -38,11 +40,13 @@ groups_before-within (h ∷ hs) (suc j) zero le = absurd (omega arith)
 groups_before-within (h ∷ hs) (suc j) (suc k) le = let later = groups_before-within hs j k (omega arith) in omega arith
 
 -- the groups of a pattern and of those before it are among all
-pub groups_before-all : (hs : List Expression) (k : ℕ) (h d : Expression) → k < length hs → h ≡ get_or hs k d → groups_before k hs + greatest_group h ≤ groups_before (length hs) hs
+pub groups_before-all : (hs : List Expression) (k : ℕ) (h d : Expression) → k < length hs → h ≡ get_or hs k d
+    → groups_before k hs + greatest_group h ≤ groups_before (length hs) hs
 groups_before-all hs k h d lt e = let more = groups_before-more hs k h d lt e in let within = groups_before-within hs (k + 1) (length hs) (omega arith) in omega arith
 
 -- the states of one pattern more
-pub nfa_states-drop : (hs : List Expression) (k : ℕ) (h d : Expression) → k < length hs → h ≡ get_or hs k d → nfa_states (drop k hs) ≡ accounted_states h + 3 + nfa_states (drop (k + 1) hs)
+pub nfa_states-drop : (hs : List Expression) (k : ℕ) (h d : Expression) → k < length hs → h ≡ get_or hs k d
+    → nfa_states (drop k hs) ≡ accounted_states h + 3 + nfa_states (drop (k + 1) hs)
 nfa_states-drop hs k h d lt e =
     let more : suc k ≡ k + 1 = omega arith in
     ap nfa_states (drop-cons hs k d lt) ∙ (λ i. accounted_states (sym e i) + 3 + nfa_states (drop (more i) hs))

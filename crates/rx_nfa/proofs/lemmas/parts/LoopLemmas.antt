@@ -12,7 +12,8 @@ use Rattle.rx_nfa.proofs.lemmas.parts.BuiltLemmas.{Rises-from, Rises-to, Rises-a
 use Rattle.rx_nfa.specs.declared.state.State.{State}
 use Rattle.rx_nfa.specs.declared.state.State.TheVariants.{Union, Fail}
 
-ways-map : (f : ℕ → ℕ) (greedy : Bool) (body body' exit exit' : ℕ) → f body ≡ body' → f exit ≡ exit' → Union (ways greedy body' exit') ≡ Union (map f (ways greedy body exit))
+ways-map : (f : ℕ → ℕ) (greedy : Bool) (body body' exit exit' : ℕ) → f body ≡ body' → f exit ≡ exit'
+    → Union (ways greedy body' exit') ≡ Union (map f (ways greedy body exit))
 ways-map f true body body' exit exit' b e = λ i. Union (sym b i ∷ sym e i ∷ [])
 ways-map f false body body' exit exit' b e = λ i. Union (sym e i ∷ sym b i ∷ [])
 
@@ -99,7 +100,8 @@ module _ (greedy : Bool) (body : graph.Builder) (next start : ℕ) (old after : 
   }
 
 -- One option more: its body goes on to the options inside it, and its exit is theirs.
-module _ (greedy : Bool) (n : ℕ) (body : graph.Builder) (next inner start : ℕ) (old mid after : Draft) (blank : State) (o : Built (graph.options greedy n body) next old mid inner)
+module _ (greedy : Bool) (n : ℕ) (body : graph.Builder) (next inner start : ℕ) (old mid after : Draft) (blank : State)
+    (o : Built (graph.options greedy n body) next old mid inner)
     (b : Built body inner (pushed mid blank) after start) where
   abbrev later : Draft
   later = written greedy body next inner start mid after blank b
@@ -108,12 +110,14 @@ module _ (greedy : Bool) (n : ℕ) (body : graph.Builder) (next inner start : �
   Built-option = record {
     extends = Extends-trans old mid later o.extends (written-extends greedy body next inner start mid after blank b);
     images = o.images ++ (length mid.states ∷ b.images);
-    rises = Rises-append (length old.states) (length mid.states) (length later.states) o.images (length mid.states ∷ b.images) o.rises (rises greedy body next inner start mid after blank b);
+    rises = Rises-append (length old.states) (length mid.states) (length later.states) o.images (length mid.states ∷ b.images) o.rises
+        (rises greedy body next inner start mid after blank b);
     mirrors = λ f next' base is sends. mirrors f next' base is (Sends-append f base o.images (length mid.states ∷ b.images) sends);
   }
     where
       mirrors : (f : ℕ → ℕ) (next' base : ℕ) → f next' ≡ next → Sends f base o.images × Sends f (base + length o.images) (length mid.states ∷ b.images)
-          → Mirrors f (length old.states) later.states (graph.options greedy (suc n) body next' base) (o.images ++ (length mid.states ∷ b.images)) (length mid.states)
+          → Mirrors f (length old.states) later.states (graph.options greedy (suc n) body next' base) (o.images ++ (length mid.states ∷ b.images))
+          (length mid.states)
       mirrors f next' base is sent =
           let i = graph.options greedy n body next' base in
           let m = o.mirrors f next' base is sent.0 in
@@ -126,9 +130,12 @@ module _ (greedy : Bool) (n : ℕ) (body : graph.Builder) (next inner start : �
           record {
             start_is = sent'.0;
             each =
-                AllZip-append (IsImage (Stands (length old.states) later.states) f) i.states (graph.prefer greedy part.start next' ∷ part.states) o.images (length mid.states ∷ b.images) kept.each
+                AllZip-append (IsImage (Stands (length old.states) later.states) f) i.states (graph.prefer greedy part.start next' ∷ part.states) o.images
+                (length mid.states ∷ b.images) kept.each
                 (AllZip-map (IsImage (Stands (length mid.states) later.states) f) (IsImage (Stands (length old.states) later.states) f)
-                (IsImage-map (Stands (length mid.states) later.states) (Stands (length old.states) later.states) (Stands-kept (length old.states) (length mid.states) later.states later.states o.extends.longer (Keeps-same (length mid.states) later.states)) f)
+                (IsImage-map (Stands (length mid.states) later.states) (Stands (length old.states) later.states)
+                (Stands-kept (length old.states) (length mid.states) later.states later.states o.extends.longer
+                (Keeps-same (length mid.states) later.states)) f)
                 (graph.prefer greedy part.start next' ∷ part.states) (length mid.states ∷ b.images)
                 (each greedy body next inner start mid after blank b f part next' is r));
           }

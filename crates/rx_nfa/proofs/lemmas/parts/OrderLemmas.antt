@@ -6,7 +6,7 @@ use Rattle.rx_model.specs.Expression.{Expression, Expressions, empty, literal, c
 use Rattle.rx_model.specs.Graph as graph
 use Rattle.rx_model.specs.Text.{byte_ranges}
 use Rattle.rx_model.specs.Length.{minimum_len, is_positive}
-use Rattle.rx_hir.specs.Cost.{accounted_states, accounted_in}
+use Rattle.rx_hir.specs.Cost.{accounted_in}
 use Rattle.rx_hir.specs.Normal.{expressions}
 use Rattle.rx_nfa.specs.Directed.{in_order, build_row, build_sides, build_directed, each_directed, build_class}
 
@@ -14,12 +14,14 @@ pub in_order-length : {A : Type 0} (backwards : Bool) (xs : List A) → length (
 in_order-length false xs = refl
 in_order-length true xs = length-reverse xs
 
-in_order-at : {A : Type 0} (backwards : Bool) (xs : List A) (k : ℕ) (d : A) → k < length xs → get_or (in_order backwards xs) k d ≡ get_or xs (if backwards then length xs - 1 - k else k) d
+in_order-at : {A : Type 0} (backwards : Bool) (xs : List A) (k : ℕ) (d : A) → k < length xs
+    → get_or (in_order backwards xs) k d ≡ get_or xs (if backwards then length xs - 1 - k else k) d
 in_order-at false xs k d lt = refl
 in_order-at true xs k d lt = get_or-reverse xs k d lt
 
 -- what stands at the place is read as this one
-pub in_order-is : {A : Type 0} (backwards : Bool) (xs : List A) (len k place : ℕ) (x d : A) → len ≡ length xs → k < length xs → place ≡ (if backwards then len - 1 - k else k)
+pub in_order-is : {A : Type 0} (backwards : Bool) (xs : List A) (len k place : ℕ) (x d : A) → len ≡ length xs → k < length xs
+    → place ≡ (if backwards then len - 1 - k else k)
     → x ≡ get_or xs place d → x ≡ get_or (in_order backwards xs) k d
 in_order-is backwards xs len k place x d long lt at is =
     is ∙ ap (λ n. get_or xs n d) (at ∙ ap (λ n. if backwards then n - 1 - k else k) long) ∙ sym (in_order-at backwards xs k d lt)
@@ -43,7 +45,8 @@ accounted-in_order false hs = refl
 accounted-in_order true hs = accounted_in-reverse hs
 
 -- one part more, from the back
-pub row-more : (f : Expression → graph.Builder) (hs : List Expression) (k : ℕ) (h d : Expression) → 0 < k → k ≤ length hs → h ≡ get_or hs (k - 1) d → map f (drop (k - 1) hs) ≡ f h ∷ map f (drop k hs)
+pub row-more : (f : Expression → graph.Builder) (hs : List Expression) (k : ℕ) (h d : Expression) → 0 < k → k ≤ length hs → h ≡ get_or hs (k - 1) d
+    → map f (drop (k - 1) hs) ≡ f h ∷ map f (drop k hs)
 row-more f hs k h d some le is =
     let back : suc (k - 1) ≡ k = omega arith in
     ap (map f) (drop-cons hs (k - 1) d (omega arith)) ∙ (λ i. f (sym is i) ∷ map f (drop (back i) hs))
@@ -55,7 +58,8 @@ row-none f (h ∷ hs) zero le = absurd (omega arith)
 row-none f (h ∷ hs) (suc n) le = row-none f hs n (omega arith)
 
 -- the parts of a list
-pub each_directed-map : (backwards : Bool) (slot : ℕ → Option ℕ) (hs : List Expression) → each_directed backwards slot (expressions hs) ≡ map (build_directed backwards slot) hs
+pub each_directed-map : (backwards : Bool) (slot : ℕ → Option ℕ) (hs : List Expression)
+    → each_directed backwards slot (expressions hs) ≡ map (build_directed backwards slot) hs
 unfolding build_directed
 each_directed-map backwards slot [] = refl
 each_directed-map backwards slot (h ∷ hs) = ap (λ bs. build_directed backwards slot h ∷ bs) (each_directed-map backwards slot hs)

@@ -19,15 +19,18 @@ Extends-readers : (old new : Draft) → new.groups ≡ old.groups → new.slots 
 Extends-readers old new groups slots adds = record { groups = groups; slots = slots; longer = adds.longer; kept = adds.kept }
 
 -- the states of a class of scalars
-pub Built-scalars : (ranges : List (ℕ × ℕ)) (next : ℕ) (old new : Draft) (q : ℕ) → new.groups ≡ old.groups → new.slots ≡ old.slots → AddsReaders old.states new.states
+pub Built-scalars : (ranges : List (ℕ × ℕ)) (next : ℕ) (old new : Draft) (q : ℕ) → new.groups ≡ old.groups → new.slots ≡ old.slots
+    → AddsReaders old.states new.states
     → IsClass (IsReader (length old.states) new.states) next ranges q → Built (graph.build_state (graph.set (scalar_ranges ranges))) next old new q
 Built-scalars ranges next old new q groups slots adds c =
     Built-state (graph.set (scalar_ranges ranges)) next old new q (Extends-readers old new groups slots adds) c.reads.stands.above c.reads.stands.inside
     (λ f next' is. subst (λ n. IsClass (IsReader (length old.states) new.states) n ranges q) (sym is) c)
 
 -- the state of a class of bytes
-pub Built-bytes : (ranges : List (ℕ × ℕ)) (next : ℕ) (old new : Draft) (q : ℕ) → new.groups ≡ old.groups → new.slots ≡ old.slots → AddsReaders old.states new.states
-    → StaysBelow 255 ranges → IsByteClass (IsReader (length old.states) new.states) next ranges q → Built (graph.build_state (graph.set (byte_ranges ranges))) next old new q
+pub Built-bytes : (ranges : List (ℕ × ℕ)) (next : ℕ) (old new : Draft) (q : ℕ) → new.groups ≡ old.groups → new.slots ≡ old.slots
+    → AddsReaders old.states new.states
+    → StaysBelow 255 ranges → IsByteClass (IsReader (length old.states) new.states) next ranges q
+    → Built (graph.build_state (graph.set (byte_ranges ranges))) next old new q
 Built-bytes ranges next old new q groups slots adds below c =
     Built-state (graph.set (byte_ranges ranges)) next old new q (Extends-readers old new groups slots adds) c.reads.stands.above c.reads.stands.inside
     (λ f next' is. (below, subst (λ n. IsByteClass (IsReader (length old.states) new.states) n ranges q) (sym is) c))

@@ -13,16 +13,23 @@ use Rattle.rx_nfa.proofs.lemmas.parts.ExpressionLemmas.{groups_before-more, grou
 use Rattle.rx_nfa.proofs.lemmas.parts.BuiltLemmas.{Stands-pushed, Extends-pushed, Built-state, Built-then, pushed-length}
 use Rattle.rx_nfa.specs.declared.state.State.TheVariants.{Capture, Union}
 
-pub Built-slot : (number pattern next : ℕ) (old new : Draft) (q : ℕ) → q ≡ length old.states → new ≡ pushed old (Capture next pattern number) → Built (graph.build_state (graph.slot number)) next old new q
+pub Built-slot : (number pattern next : ℕ) (old new : Draft) (q : ℕ) → q ≡ length old.states → new ≡ pushed old (Capture next pattern number)
+    → Built (graph.build_state (graph.slot number)) next old new q
 Built-slot number pattern next old new q id is =
     subst (Built (graph.build_state (graph.slot number)) next old new) (sym id)
     (subst (λ d. Built (graph.build_state (graph.slot number)) next old d (length old.states)) (sym is)
     (Built-state (graph.slot number) next old (pushed old (Capture next pattern number)) (length old.states) (Extends-pushed old (Capture next pattern number)) (omega arith) (let l = pushed-length old (Capture next pattern number) in omega arith)
-    (λ f next' same. (pattern, subst (λ n. Stands (length old.states) (pushed old (Capture next pattern number)).states (length old.states) (Capture n pattern number)) (sym same) (Stands-pushed old (Capture next pattern number))))))
+    (λ f next' same. (
+      pattern,
+      subst (λ n. Stands (length old.states) (pushed old (Capture next pattern number)).states (length old.states)
+          (Capture n pattern number)) (sym same) (Stands-pushed old (Capture next pattern number)),
+    ))))
 
 -- a slot before the body, and one after it
-pub Built-group : (body : graph.Builder) (number pattern next close inner start : ℕ) (old mid after new : Draft) → close ≡ length old.states → mid ≡ pushed old (Capture next pattern (number + 1))
-    → Built body close mid after inner → start ≡ length after.states → new ≡ pushed after (Capture inner pattern number) → Built (graph.build_group (Some number) body) next old new start
+pub Built-group : (body : graph.Builder) (number pattern next close inner start : ℕ) (old mid after new : Draft) → close ≡ length old.states
+    → mid ≡ pushed old (Capture next pattern (number + 1))
+    → Built body close mid after inner → start ≡ length after.states → new ≡ pushed after (Capture inner pattern number)
+    → Built (graph.build_group (Some number) body) next old new start
 Built-group body number pattern next close inner start old mid after new close_is mid_is b start_is new_is =
     let more : number + 1 ≡ suc number = omega arith in
     let last = Built-slot (suc number) pattern next old mid close close_is (mid_is ∙ ap (λ n. pushed old (Capture next pattern n)) more) in
@@ -31,15 +38,18 @@ Built-group body number pattern next close inner start old mid after new close_i
     (Built-slot number pattern inner after new start start_is new_is)
 
 -- a state that just goes on
-pub Built-way : (next : ℕ) (old new : Draft) (q : ℕ) → q ≡ length old.states → new ≡ pushed old (Union (next ∷ [])) → Built (graph.build_state (bound None)) next old new q
+pub Built-way : (next : ℕ) (old new : Draft) (q : ℕ) → q ≡ length old.states → new ≡ pushed old (Union (next ∷ []))
+    → Built (graph.build_state (bound None)) next old new q
 Built-way next old new q id is =
     subst (Built (graph.build_state (bound None)) next old new) (sym id)
     (subst (λ d. Built (graph.build_state (bound None)) next old d (length old.states)) (sym is)
     (Built-state (bound None) next old (pushed old (Union (next ∷ []))) (length old.states) (Extends-pushed old (Union (next ∷ []))) (omega arith) (let l = pushed-length old (Union (next ∷ [])) in omega arith)
-    (λ f next' same. subst (λ n. Stands (length old.states) (pushed old (Union (next ∷ []))).states (length old.states) (Union (n ∷ []))) (sym same) (Stands-pushed old (Union (next ∷ []))))))
+    (λ f next' same. subst (λ n. Stands (length old.states) (pushed old (Union (next ∷ []))).states (length old.states) (Union (n ∷ []))) (sym same)
+    (Stands-pushed old (Union (next ∷ []))))))
 
 -- the body between its bounds
-pub Built-bounds : (body : graph.Builder) (slot : Option ℕ) (next close inner start : ℕ) (old mid after new : Draft) → Built (graph.build_state (bound (option_map suc slot))) next old mid close
+pub Built-bounds : (body : graph.Builder) (slot : Option ℕ) (next close inner start : ℕ) (old mid after new : Draft)
+    → Built (graph.build_state (bound (option_map suc slot))) next old mid close
     → Built body close mid after inner → Built (graph.build_state (bound slot)) inner after new start → Built (build_bounds slot body) next old new start
 Built-bounds body slot next close inner start old mid after new last b first =
     Built-then (graph.build_state (bound slot)) (graph.build_then body (graph.build_state (bound (option_map suc slot)))) next inner start old after new
@@ -57,13 +67,15 @@ slot_from-first r p group = of r.which_captures
     of none = refl
 
 -- there are slots for the groups of the pattern at k
-pub groups-inside : (which : WhichCaptures) (hs : List Expression) (k : ℕ) (h : Expression) → k < length hs → h ≡ get_or hs k h → IfSome (first_slot_of which hs k) (λ first. first + 2 * greatest_group h ≤ slots_written which hs)
+pub groups-inside : (which : WhichCaptures) (hs : List Expression) (k : ℕ) (h : Expression) → k < length hs → h ≡ get_or hs k h
+    → IfSome (first_slot_of which hs k) (λ first. first + 2 * greatest_group h ≤ slots_written which hs)
 groups-inside all hs k h lt is = let e = groups_before-all hs k h h lt is in omega arith
 groups-inside implicit hs k h lt is = tt
 groups-inside none hs k h lt is = tt
 
 -- and for its whole match
-pub whole-inside : (which : WhichCaptures) (hs : List Expression) (k : ℕ) → k < length hs → IfSome (whole_slot which k) (λ slot. slot + 1 < slots_written which hs)
+pub whole-inside : (which : WhichCaptures) (hs : List Expression) (k : ℕ) → k < length hs
+    → IfSome (whole_slot which k) (λ slot. slot + 1 < slots_written which hs)
 whole-inside all hs k lt = omega arith
 whole-inside implicit hs k lt = omega arith
 whole-inside none hs k lt = tt
@@ -91,15 +103,19 @@ first_slot-more implicit hs k h lt is = refl
 first_slot-more none hs k h lt is = refl
 
 -- what was compiled is the part of the pattern at k
-pub part-is : (r : Patterns) (p k : ℕ) (h : Expression) (whole first : Option ℕ) → whole ≡ whole_slot r.which_captures p → first ≡ first_slot_of r.which_captures r.expressions k → p ≡ k
+pub part-is : (r : Patterns) (p k : ℕ) (h : Expression) (whole first : Option ℕ) → whole ≡ whole_slot r.which_captures p
+    → first ≡ first_slot_of r.which_captures r.expressions k → p ≡ k
     → (backwards : Bool) → compiled_pattern whole (build_directed backwards (slot_from first) h) p ≡ directed_part backwards r k h
 part-is r p k h whole first is at same backwards =
-    λ i. compiled_pattern ((is ∙ ap (whole_slot r.which_captures) same) i) (build_directed backwards (λ group. (ap (λ o. slot_from o group) at ∙ slot_from-first r k group) i) h) (same i)
+    λ i. compiled_pattern ((is ∙ ap (whole_slot r.which_captures) same) i)
+    (build_directed backwards (λ group. (ap (λ o. slot_from o group) at ∙ slot_from-first r k group) i) h) (same i)
 
 pub room-more : (o : Option ℕ) (a m n : ℕ) → m ≤ n → IfSome o (λ first. first + a ≤ m) → IfSome o (λ first. first + a ≤ n)
 room-more None a m n le fits = tt
 room-more (Some first) a m n le fits = omega arith
 
 -- the slots of the groups of the pattern at k are there
-pub groups-there : (which : WhichCaptures) (hs : List Expression) (k : ℕ) (h : Expression) → k < length hs → h ≡ get_or hs k h → IfSome (first_slot_of which hs k) (λ first. first + 2 * greatest_group h ≤ slots_of hs)
-groups-there which hs k h lt is = room-more (first_slot_of which hs k) (2 * greatest_group h) (slots_written which hs) (slots_of hs) (written-within which hs) (groups-inside which hs k h lt is)
+pub groups-there : (which : WhichCaptures) (hs : List Expression) (k : ℕ) (h : Expression) → k < length hs → h ≡ get_or hs k h
+    → IfSome (first_slot_of which hs k) (λ first. first + 2 * greatest_group h ≤ slots_of hs)
+groups-there which hs k h lt is = room-more (first_slot_of which hs k) (2 * greatest_group h) (slots_written which hs) (slots_of hs) (written-within which hs)
+    (groups-inside which hs k h lt is)

@@ -25,14 +25,18 @@ IsChain-more old d new bytes k b start next extends some le is grown c =
     let after : Draft = pushed d (ByteRange b b start) in
     let chain : IsChain (Stands (length old.states) after.states) (length d.states) (b ∷ drop k bytes) next = (
       start,
-      Stands-from (length old.states) (length d.states) after.states (length d.states) (ByteRange b b start) extends.longer (Stands-pushed d (ByteRange b b start)),
-      IsChain-map (Stands (length old.states) d.states) (Stands (length old.states) after.states) (Stands-kept (length old.states) (length old.states) d.states after.states (omega arith) (Keeps-extends (length old.states) d after (Extends-pushed d (ByteRange b b start)))) start (drop k bytes) next c,
+      Stands-from (length old.states) (length d.states) after.states (length d.states) (ByteRange b b start) extends.longer
+          (Stands-pushed d (ByteRange b b start)),
+      IsChain-map (Stands (length old.states) d.states) (Stands (length old.states) after.states)
+          (Stands-kept (length old.states) (length old.states) d.states after.states (omega arith)
+          (Keeps-extends (length old.states) d after (Extends-pushed d (ByteRange b b start)))) start (drop k bytes) next c,
     ) in
     subst (λ (e : Draft). IsChain (Stands (length old.states) e.states) (length d.states) (drop (k - 1) bytes) next) (sym grown)
     (subst (λ bs. IsChain (Stands (length old.states) after.states) (length d.states) bs next) (sym here) chain)
 
 -- a chain is the part of a text
-pub Built-text : (old new : Draft) (bytes : List ℕ) (start next : ℕ) → 0 < length bytes → Extends old new → IsChain (Stands (length old.states) new.states) start bytes next
+pub Built-text : (old new : Draft) (bytes : List ℕ) (start next : ℕ) → 0 < length bytes → Extends old new
+    → IsChain (Stands (length old.states) new.states) start bytes next
     → Built (graph.build_state (graph.text bytes)) next old new start
 Built-text old new [] start next some extends c = absurd (omega arith)
 Built-text old new (b ∷ bytes) start next some extends c =

@@ -1,12 +1,11 @@
 -- What an expression means, read backwards from the end of the text.
-use Rattle.std.proofs.Common.{◌≡◌, ℕ, zero, suc, ◌+◌, ◌-◌, ◌≤◌, ◌<◌, ◌⊎◌, List, [], ◌∷◌, ◌++◌, refl, sym, ◌∙◌, ap, subst, inl, inr, ⊎_elim, arith, length, append_assoc}
-use Rattle.std.specs.Prelude.{Bool, true, false, ◌&&◌, Option, Some, None, IfSome, map, reverse, slice_index, nat_eq}
-use Rattle.std.proofs.lemmas.Bool.{cases_lt, and_parts}
+use Rattle.std.proofs.Common.{◌≡◌, ℕ, zero, suc, ◌+◌, ◌-◌, ◌≤◌, List, [], ◌∷◌, ◌++◌, refl, sym, ◌∙◌, ap, subst, arith, length}
+use Rattle.std.specs.Prelude.{true, ◌&&◌, reverse, slice_index, nat_eq}
+use Rattle.std.proofs.lemmas.Bool.{and_parts}
 use Rattle.std.proofs.lemmas.Bool.Decides.{nat_tests}
-use Rattle.std.proofs.lemmas.List.{append-nil, length-append, length-reverse, reverse-append}
+use Rattle.std.proofs.lemmas.List.{reverse-append}
 use Rattle.rx_model.specs.Text.{stands_at}
-use Rattle.rx_model.specs.Meaning.{Pieces, IsCount, Means, MeansInTurn, MeansOne}
-use Rattle.rx_model.proofs.lemmas.runs.RunLemmas.{by_test}
+use Rattle.rx_model.specs.Meaning.{Pieces}
 use Rattle.rx_nfa.proofs.lemmas.runs.ChainLemmas.{stands-none, stands-cons}
 use Rattle.rx_nfa.specs.Automaton.{byte_of}
 use Rattle.rx_nfa.proofs.lemmas.reverse.WalkLemmas.{ReadsBytes}
@@ -48,8 +47,11 @@ module _ (R : ℕ → ℕ → Type 0) where
         let x = Pieces-first n (len - e) (len - d) h in
         let first = Pieces-rise rises n (len - e) x.0 x.1 in
         let last = rises x.0 (len - d) x.2 in
-        let at : x.0 ≡ len - (len - x.0) = omega arith in
-        (len - x.0, (omega arith, subst (λ y. R y (len - d)) at x.2), back-Pieces n (len - x.0) e (omega arith) fits (subst (λ y. Pieces R n (len - e) y) at x.1))
+        let at : x.0 ≡ len - (len - x.0) = omega arith in (
+          len - x.0,
+          (omega arith, subst (λ y. R y (len - d)) at x.2),
+          back-Pieces n (len - x.0) e (omega arith) fits (subst (λ y. Pieces R n (len - e) y) at x.1),
+        )
 
 -- The bytes of a literal.
 module _ (text : List ℕ) (end : ℕ) (fits : end ≤ length text) where
@@ -72,7 +74,8 @@ module _ (text : List ℕ) (end : ℕ) (fits : end ≤ length text) where
   turned b bytes = reverse-append (b ∷ []) bytes
 
   -- a literal that is read from its last byte to its first stands there
-  pub literal-stands : (bytes : List ℕ) (d e : ℕ) → e ≤ end → ReadsBack (reverse bytes) d e → (stands_at text (length text - e) bytes ≡ true) × (length text - e + length bytes ≡ length text - d)
+  pub literal-stands : (bytes : List ℕ) (d e : ℕ) → e ≤ end → ReadsBack (reverse bytes) d e
+      → (stands_at text (length text - e) bytes ≡ true) × (length text - e + length bytes ≡ length text - d)
   literal-stands [] d e le h = (stands-none text (length text - e), let same : d ≡ e = h in omega arith)
   literal-stands (b ∷ bytes) d e le h =
       let x = ReadsBack-split (reverse bytes) (b ∷ []) d e (subst (λ bs. ReadsBack bs d e) (turned b bytes) h) in
@@ -91,7 +94,8 @@ module _ (text : List ℕ) (end : ℕ) (fits : end ≤ length text) where
       nat_same : (x y : ℕ) → x ≡ y → nat_eq x y ≡ true
       nat_same x y same = grind (arith, nat_tests)
 
-  pub stands-literal : (bytes : List ℕ) (d e : ℕ) → d ≤ e → e ≤ end → stands_at text (length text - e) bytes ≡ true → length text - e + length bytes ≡ length text - d → ReadsBack (reverse bytes) d e
+  pub stands-literal : (bytes : List ℕ) (d e : ℕ) → d ≤ e → e ≤ end → stands_at text (length text - e) bytes ≡ true
+      → length text - e + length bytes ≡ length text - d → ReadsBack (reverse bytes) d e
   stands-literal [] d e le fits' stands sum = omega arith
   stands-literal (b ∷ bytes) d e le fits' stands sum =
       let k : ℕ = e - 1 in

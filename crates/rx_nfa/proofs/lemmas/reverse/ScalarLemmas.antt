@@ -1,11 +1,10 @@
 -- A scalar whose encoding is read backwards.
-use Rattle.std.proofs.Common.{◌≡◌, ℕ, zero, suc, ◌+◌, ◌-◌, ◌/◌, ◌%◌, ◌≤◌, ◌<◌, ◌⊎◌, List, refl, sym, ◌∙◌, ap, subst, inl, inr, ⊎_elim, arith, length}
-use Rattle.std.specs.Prelude.{Option, Some, slice_index}
+use Rattle.std.proofs.Common.{◌≡◌, ℕ, suc, ◌+◌, ◌-◌, ◌/◌, ◌%◌, ◌≤◌, ◌<◌, List, refl, sym, ◌∙◌, ap, inl, inr, ⊎_elim, arith, length}
+use Rattle.std.specs.Prelude.{Some, slice_index}
 use Rattle.std.specs.Char.{InScalarRange, len_utf8}
 use Rattle.rx_model.specs.Text.{char_at}
 use Rattle.rx_nfa.specs.Automaton.{byte_of}
-use Rattle.rx_nfa.specs.Ranges.{size_of_block}
-use Rattle.rx_nfa.proofs.lemmas.classes.Utf8Lemmas.{IsOneByteAt, IsTwoBytesAt, IsThreeBytesAt, IsFourBytesAt, char_at_cases, char_at_one, char_at_two, char_at_three, char_at_four, len_is}
+use Rattle.rx_nfa.proofs.lemmas.classes.Utf8Lemmas.{char_at_cases, char_at_one, char_at_two, char_at_three, char_at_four, len_is, most-scalar}
 
 module _ (text : List ℕ) (end : ℕ) (fits : end ≤ length text) where
   abbrev byte : ℕ → ℕ
@@ -26,10 +25,10 @@ module _ (text : List ℕ) (end : ℕ) (fits : end ≤ length text) where
   ReadsTwo lead c i j = (k : ℕ) × ReadsByte (0x80 + c % 64) i k × ReadsByte (lead + c / 64) k j
 
   abbrev pub ReadsThree : (lead c : ℕ) → ℕ → ℕ → Type 0
-  ReadsThree lead c i j = (k : ℕ) × ReadsTwo 0x80 (c % 4096) i k × ReadsByte (lead + c / 4096) k j
+  ReadsThree lead c i j = (k : ℕ) × ReadsByte (0x80 + c % 64) i k × ReadsTwo lead (c / 64) k j
 
   abbrev pub ReadsFour : (lead c : ℕ) → ℕ → ℕ → Type 0
-  ReadsFour lead c i j = (k : ℕ) × ReadsThree 0x80 (c % 262144) i k × ReadsByte (lead + c / 262144) k j
+  ReadsFour lead c i j = (k : ℕ) × ReadsByte (0x80 + c % 64) i k × ReadsThree lead (c / 64) k j
 
   -- the character that ends at the distance i from the end, and begins at the distance j
   pub record Stands (c i j : ℕ) : Type 0 where
@@ -53,50 +52,54 @@ module _ (text : List ℕ) (end : ℕ) (fits : end ≤ length text) where
       let e' = h.2.2 in
       let len = len_is c 2 (inr (inl (omega arith, omega arith, refl))) in
       record {
-        is = char_at_two text (length text - j) c (omega arith, omega arith, omega arith, stands h.0 (length text - j) (192 + c / 64) (omega arith) h.2.1, stands i (length text - j + 1) (128 + c % 64) (omega arith) h.1.1);
+        is = char_at_two text (length text - j) c (
+          omega arith,
+          omega arith,
+          omega arith,
+          stands h.0 (length text - j) (192 + c / 64) (omega arith) h.2.1,
+          stands i (length text - j + 1) (128 + c % 64) (omega arith) h.1.1,
+        );
         long = omega arith;
       }
 
   pub three-stands : (c i j : ℕ) → 0x800 ≤ c → c ≤ 0xFFFF → InScalarRange c → ReadsThree 0xE0 c i j → Stands c i j
   three-stands c i j low high scalar h =
-      let lt = h.2.0 in
-      let e = h.1.1.2 in
-      let e' = h.1.2.2 in
-      let e'' = h.2.2 in
-      let middle : 0x80 + c % 4096 / 64 ≡ 128 + (c / 64) % 64 = omega arith in
-      let last : 0x80 + c % 4096 % 64 ≡ 128 + c % 64 = omega arith in
+      let lt = h.2.2.0 in
+      let e = h.1.2 in
+      let e' = h.2.1.2 in
+      let e'' = h.2.2.2 in
+      let first : 0xE0 + c / 64 / 64 ≡ 224 + c / 4096 = omega arith in
       let len = len_is c 3 (inr (inr (inl (omega arith, omega arith, refl)))) in
       record {
         is = char_at_three text (length text - j) c scalar (
           omega arith,
           omega arith,
           omega arith,
-          stands h.0 (length text - j) (224 + c / 4096) (omega arith) h.2.1,
-          stands h.1.0 (length text - j + 1) (128 + (c / 64) % 64) (omega arith) (h.1.2.1 ∙ middle),
-          stands i (length text - j + 2) (128 + c % 64) (omega arith) (h.1.1.1 ∙ last),
+          stands h.2.0 (length text - j) (224 + c / 4096) (omega arith) (h.2.2.1 ∙ first),
+          stands h.0 (length text - j + 1) (128 + (c / 64) % 64) (omega arith) h.2.1.1,
+          stands i (length text - j + 2) (128 + c % 64) (omega arith) h.1.1,
         );
         long = omega arith;
       }
 
   pub four-stands : (c i j : ℕ) → 0x1_0000 ≤ c → c ≤ 0x10_FFFF → ReadsFour 0xF0 c i j → Stands c i j
   four-stands c i j low high h =
-      let lt = h.2.0 in
-      let e = h.1.1.1.2 in
-      let e' = h.1.1.2.2 in
-      let e'' = h.1.2.2 in
-      let e''' = h.2.2 in
-      let second : 0x80 + c % 262144 / 4096 ≡ 128 + (c / 4096) % 64 = omega arith in
-      let third : 0x80 + c % 262144 % 4096 / 64 ≡ 128 + (c / 64) % 64 = omega arith in
-      let last : 0x80 + c % 262144 % 4096 % 64 ≡ 128 + c % 64 = omega arith in
+      let lt = h.2.2.2.0 in
+      let e = h.1.2 in
+      let e' = h.2.1.2 in
+      let e'' = h.2.2.1.2 in
+      let last = h.2.2.2.2 in
+      let first : 0xF0 + c / 64 / 64 / 64 ≡ 240 + c / 262144 = omega arith in
+      let second : 0x80 + c / 64 / 64 % 64 ≡ 128 + (c / 4096) % 64 = omega arith in
       let len = len_is c 4 (inr (inr (inr (omega arith, refl)))) in
       record {
         is = char_at_four text (length text - j) c high (
           omega arith,
           omega arith,
-          stands h.0 (length text - j) (240 + c / 262144) (omega arith) h.2.1,
-          stands h.1.0 (length text - j + 1) (128 + (c / 4096) % 64) (omega arith) (h.1.2.1 ∙ second),
-          stands h.1.1.0 (length text - j + 2) (128 + (c / 64) % 64) (omega arith) (h.1.1.2.1 ∙ third),
-          stands i (length text - j + 3) (128 + c % 64) (omega arith) (h.1.1.1.1 ∙ last),
+          stands h.2.2.0 (length text - j) (240 + c / 262144) (omega arith) (h.2.2.2.1 ∙ first),
+          stands h.2.0 (length text - j + 1) (128 + (c / 4096) % 64) (omega arith) (h.2.2.1.1 ∙ second),
+          stands h.0 (length text - j + 2) (128 + (c / 64) % 64) (omega arith) h.2.1.1,
+          stands i (length text - j + 3) (128 + c % 64) (omega arith) h.1.1,
         );
         long = omega arith;
       }
@@ -125,40 +128,47 @@ module _ (text : List ℕ) (end : ℕ) (fits : end ≤ length text) where
       let high = h.1 in
       let lt = h.2 in
       let len = len_is c 2 (inr (inl (h.0, h.1, refl))) in
-      two h.0 (omega arith) (i + 1, (omega arith, lies i (length text - j + 1) (128 + c % 64) (omega arith) h.4, refl), (omega arith, lies (i + 1) (length text - j) (192 + c / 64) (omega arith) h.3, omega arith)))
+      two h.0 (omega arith) (
+        i + 1,
+        (omega arith, lies i (length text - j + 1) (128 + c % 64) (omega arith) h.4, refl),
+        (omega arith, lies (i + 1) (length text - j) (192 + c / 64) (omega arith) h.3, omega arith),
+      ))
       (λ more'.
       ⊎_elim
       (λ h.
       let low = h.0 in
       let high = h.1 in
       let lt = h.2 in
-      let middle : 128 + (c / 64) % 64 ≡ 0x80 + c % 4096 / 64 = omega arith in
-      let last : 128 + c % 64 ≡ 0x80 + c % 4096 % 64 = omega arith in
+      let first : 224 + c / 4096 ≡ 0xE0 + c / 64 / 64 = omega arith in
       let len = len_is c 3 (inr (inr (inl (h.0, h.1, refl)))) in
       three h.0 (omega arith) found.0 (
-        i + 1 + 1,
-        (i + 1, (omega arith, lies i (length text - j + 2) (0x80 + c % 4096 % 64) (omega arith) (h.5 ∙ last), refl), (omega arith, lies (i + 1) (length text - j + 1) (0x80 + c % 4096 / 64) (omega arith) (h.4 ∙ middle), refl)),
-        (omega arith, lies (i + 1 + 1) (length text - j) (224 + c / 4096) (omega arith) h.3, omega arith),
+        i + 1,
+        (omega arith, lies i (length text - j + 2) (128 + c % 64) (omega arith) h.5, refl),
+        (
+          i + 1 + 1,
+          (omega arith, lies (i + 1) (length text - j + 1) (128 + (c / 64) % 64) (omega arith) h.4, refl),
+          (omega arith, lies (i + 1 + 1) (length text - j) (0xE0 + c / 64 / 64) (omega arith) (h.3 ∙ first), omega arith),
+        ),
       ))
       (λ h.
       let low = h.0 in
       let lt = h.1 in
-      let second : 128 + (c / 4096) % 64 ≡ 0x80 + c % 262144 / 4096 = omega arith in
-      let third : 128 + (c / 64) % 64 ≡ 0x80 + c % 262144 % 4096 / 64 = omega arith in
-      let last : 128 + c % 64 ≡ 0x80 + c % 262144 % 4096 % 64 = omega arith in
+      let first : 240 + c / 262144 ≡ 0xF0 + c / 64 / 64 / 64 = omega arith in
+      let second : 128 + (c / 4096) % 64 ≡ 0x80 + c / 64 / 64 % 64 = omega arith in
       let len = len_is c 4 (inr (inr (inr (h.0, refl)))) in
-      four h.0 (top c found.0) (
-        i + 1 + 1 + 1,
+      four h.0 (most-scalar c found.0) (
+        i + 1,
+        (omega arith, lies i (length text - j + 3) (128 + c % 64) (omega arith) h.5, refl),
         (
           i + 1 + 1,
-          (i + 1, (omega arith, lies i (length text - j + 3) (0x80 + c % 262144 % 4096 % 64) (omega arith) (h.5 ∙ last), refl), (omega arith, lies (i + 1) (length text - j + 2) (0x80 + c % 262144 % 4096 / 64) (omega arith) (h.4 ∙ third), refl)),
-          (omega arith, lies (i + 1 + 1) (length text - j + 1) (0x80 + c % 262144 / 4096) (omega arith) (h.3 ∙ second), refl),
+          (omega arith, lies (i + 1) (length text - j + 2) (128 + (c / 64) % 64) (omega arith) h.4, refl),
+          (
+            i + 1 + 1 + 1,
+            (omega arith, lies (i + 1 + 1) (length text - j + 1) (0x80 + c / 64 / 64 % 64) (omega arith) (h.3 ∙ second), refl),
+            (omega arith, lies (i + 1 + 1 + 1) (length text - j) (0xF0 + c / 64 / 64 / 64) (omega arith) (h.2 ∙ first), omega arith),
+          ),
         ),
-        (omega arith, lies (i + 1 + 1 + 1) (length text - j) (240 + c / 262144) (omega arith) h.2, omega arith),
       ))
       more')
       more)
       found.1
-    where
-      top : (c : ℕ) → InScalarRange c → c ≤ 0x10_FFFF
-      top c scalar = ⊎_elim (λ low. omega arith) (λ high. omega arith) scalar

@@ -1,6 +1,6 @@
 -- Walks of an automaton through the images of a graph's states, whichever way a text is read.
-use Rattle.std.proofs.Common.{◌≡◌, ℕ, zero, suc, ◌+◌, ◌≤◌, ◌<◌, ◌⊎◌, List, [], ◌∷◌, refl, sym, ◌∙◌, ap, subst, inl, inr, ⊎_elim, arith, length, true≢false}
-use Rattle.std.specs.Prelude.{Bool, true, false, ◌&&◌, ◌||◌, Option, Some, None, Contains, if◌then◌else◌, map, nat_le, nat_lt}
+use Rattle.std.proofs.Common.{◌≡◌, ℕ, zero, suc, ◌+◌, ◌≤◌, ◌<◌, List, [], ◌∷◌, refl, sym, ◌∙◌, ap, subst, ⊎_elim, arith, length}
+use Rattle.std.specs.Prelude.{true, false, ◌&&◌, Option, Some, None, Contains, if◌then◌else◌, map, nat_le, nat_lt}
 use Rattle.std.specs.List.{AllZip}
 use Rattle.std.proofs.lemmas.Bool.{cases_lt}
 use Rattle.std.proofs.lemmas.Bool.Decides.{nat_tests}
@@ -10,24 +10,24 @@ use Rattle.rx_model.specs.Look as model
 use Rattle.rx_model.specs.Graph as graph
 use Rattle.rx_model.specs.Runs.{Configuration, PriorityGraph, Leads}
 use Rattle.rx_model.proofs.lemmas.runs.RunLemmas.{by_test}
-use Rattle.rx_model.proofs.lemmas.runs.FirstLemmas.{here}
-use Rattle.rx_model.proofs.lemmas.runs.MemberLemmas.{choice-member, member-choice, only-member, none-member}
-use Rattle.rx_model.proofs.lemmas.graphs.PlacedLemmas.{Placed, Placed-first}
+use Rattle.rx_model.proofs.lemmas.runs.MemberLemmas.{choice-member, member-choice, first-among, only-among, none-among, map-among, among-map}
+use Rattle.rx_model.proofs.lemmas.graphs.PlacedLemmas.{Placed-first}
 use Rattle.rx_search.specs.Look.{kind_of}
-use Rattle.rx_nfa.specs.Automaton.{at, route, go_on, read_byte, Surroundings, state_at, state_step, state_accepts, automaton_over}
+use Rattle.rx_nfa.specs.Automaton.{at, route, go_on, read_byte, Surroundings, state_step, state_accepts, automaton_over}
 use Rattle.rx_nfa.specs.Built.{IsChain, IsImage}
 use Rattle.rx_nfa.specs.Ranges.{StaysBelow}
-use Rattle.rx_nfa.specs.Row.{HasReader, reading}
+use Rattle.rx_nfa.specs.Row.{HasReader}
 use Rattle.rx_nfa.specs.States.{Stands}
 use Rattle.rx_nfa.specs.Trie.{IsByteClass}
 use Rattle.rx_nfa.specs.declared.state.Transition.{Transition}
 use Rattle.rx_nfa.specs.declared.state.State.{State}
-use Rattle.rx_nfa.specs.declared.state.State.TheVariants.{ByteRange, Look, Union, Capture, Match}
+use Rattle.rx_nfa.specs.declared.state.State.TheVariants.{ByteRange, Look, Union, Capture}
 use Rattle.rx_nfa.proofs.lemmas.runs.AutomatonLemmas.{automaton-successors, automaton-accepted, automaton-successors-past, automaton-accepted-past}
 use Rattle.rx_nfa.proofs.lemmas.runs.ImageLemmas.{image, zip-at}
 use Rattle.rx_nfa.proofs.lemmas.runs.RefinedLemmas.{reads-step, reads-accepts}
-use Rattle.rx_nfa.proofs.lemmas.reverse.AmongLemmas.{map-among, among-map}
-use Rattle.rx_nfa.proofs.lemmas.reverse.PartLemmas.{IsStateOf, Chooses, Spells}
+use Rattle.rx_model.proofs.lemmas.meaning.PartLemmas.{Chooses, Spells}
+use Rattle.rx_model.proofs.lemmas.graphs.StateLemmas.{IsStateOf}
+use Rattle.rx_nfa.proofs.lemmas.classes.ApartLemmas.{below-true}
 
 -- no number of more than a byte is a member of byte ranges
 member-small : (rs : List (ℕ × ℕ)) (b : ℕ) → StaysBelow 255 rs → 256 ≤ b → is_member rs b ≡ false
@@ -63,19 +63,33 @@ module _ (around : Surroundings) (states : List State) (end : ℕ) where
       (cases_lt end i)
   walk-step pattern final (suc n) q i s stands none h =
       ⊎_elim
-      (λ past. absurd (none-member h.0 (subst (λ ds. Contains ds h.0) (automaton-successors-past around states end q i past) h.1)))
-      (λ le. (n, h.0, refl, subst (λ ds. Contains ds h.0) (automaton-successors around states end q i stands.inside le ∙ ap (λ t. state_step around end t i) stands.is) h.1, h.2, le))
+      (λ past. absurd (none-among h.0 (subst (λ ds. Contains ds h.0) (automaton-successors-past around states end q i past) h.1)))
+      (λ le. (
+        n,
+        h.0,
+        refl,
+        subst (λ ds. Contains ds h.0) (automaton-successors around states end q i stands.inside le
+            ∙ ap (λ t. state_step around end t i) stands.is) h.1,
+        h.2,
+        le,
+      ))
       (cases_lt end i)
 
-  pub step-walk : (pattern final m q i : ℕ) (s : State) (d : Configuration) → Stands 0 states q s → i ≤ end → Contains (state_step around end s i) d → Leads g pattern final m d → Leads g pattern final (suc m) (at q i)
-  step-walk pattern final m q i s d stands le member h =
-      (d, subst (λ ds. Contains ds d) (sym (automaton-successors around states end q i stands.inside le ∙ ap (λ t. state_step around end t i) stands.is)) member, h)
+  pub step-walk : (pattern final m q i : ℕ) (s : State) (d : Configuration) → Stands 0 states q s → i ≤ end → Contains (state_step around end s i) d
+      → Leads g pattern final m d → Leads g pattern final (suc m) (at q i)
+  step-walk pattern final m q i s d stands le member h = (
+    d,
+    subst (λ ds. Contains ds d) (sym (automaton-successors around states end q i stands.inside le ∙ ap (λ t. state_step around end t i) stands.is))
+        member,
+    h,
+  )
 
   pub walk-within : (pattern final n q i : ℕ) → Leads g pattern final n (at q i) → i ≤ end
   walk-within pattern final zero q i h =
       ⊎_elim (λ past. absurd (none-some pattern (sym (automaton-accepted-past around states end q i past) ∙ h.0))) (λ le. le) (cases_lt end i)
   walk-within pattern final (suc n) q i h =
-      ⊎_elim (λ past. absurd (none-member h.0 (subst (λ ds. Contains ds h.0) (automaton-successors-past around states end q i past) h.1))) (λ le. le) (cases_lt end i)
+      ⊎_elim (λ past. absurd (none-among h.0 (subst (λ ds. Contains ds h.0) (automaton-successors-past around states end q i past) h.1))) (λ le. le)
+      (cases_lt end i)
 
   byte-in : (low high b : ℕ) → low ≤ b → b ≤ high → (nat_le low b && nat_le b high) ≡ true
   byte-in low high b le le' = grind (arith, nat_tests)
@@ -83,27 +97,25 @@ module _ (around : Surroundings) (states : List State) (end : ℕ) where
   byte-equal : (x b : ℕ) → (nat_le b x && nat_le x b) ≡ true → x ≡ b
   byte-equal x b e = grind (arith, nat_tests)
 
-  is-below : (a b : ℕ) → a < b → nat_lt a b ≡ true
-  is-below a b lt = grind (arith, nat_tests)
-
   below-is : (a b : ℕ) → nat_lt a b ≡ true → a < b
   below-is a b e = grind (arith, nat_tests)
 
   -- what a byte leads to, if it is read
   go_on-member : (o : Option ℕ) (place : ℕ) (d : Configuration) → Contains (go_on o place) d → (q : ℕ) × (o ≡ Some q) × (at q place ≡ d)
-  go_on-member None place d m = absurd (none-member d m)
-  go_on-member (Some q) place d m = (q, refl, only-member (at q place) d m)
+  go_on-member None place d m = absurd (none-among d m)
+  go_on-member (Some q) place d m = (q, refl, only-among (at q place) d m)
 
-  read-member : (ts : List Transition) (i : ℕ) (d : Configuration) → Contains (read_byte around.byte end ts i) d → (i < end) × (q : ℕ) × (route ts (around.byte i) ≡ Some q) × (at q (i + 1) ≡ d)
+  read-member : (ts : List Transition) (i : ℕ) (d : Configuration) → Contains (read_byte around.byte end ts i) d
+      → (i < end) × (q : ℕ) × (route ts (around.byte i) ≡ Some q) × (at q (i + 1) ≡ d)
   read-member ts i d m =
       by_test (nat_lt i end)
       (λ e. let y = go_on-member (route ts (around.byte i)) (i + 1) d (subst (λ b. Contains (if b then go_on (route ts (around.byte i)) (i + 1) else []) d) e m) in (below-is i end e, y.0, y.1, y.2))
-      (λ e. absurd (none-member d (subst (λ b. Contains (if b then go_on (route ts (around.byte i)) (i + 1) else []) d) e m)))
+      (λ e. absurd (none-among d (subst (λ b. Contains (if b then go_on (route ts (around.byte i)) (i + 1) else []) d) e m)))
 
   member-read : (ts : List Transition) (i q : ℕ) → i < end → route ts (around.byte i) ≡ Some q → Contains (read_byte around.byte end ts i) (at q (i + 1))
   member-read ts i q lt is =
-      subst (λ b. Contains (if b then go_on (route ts (around.byte i)) (i + 1) else []) (at q (i + 1))) (sym (is-below i end lt))
-      (subst (λ o. Contains (go_on o (i + 1)) (at q (i + 1))) (sym is) (here (at q (i + 1)) []))
+      subst (λ b. Contains (if b then go_on (route ts (around.byte i)) (i + 1) else []) (at q (i + 1))) (sym (below-true i end lt))
+      (subst (λ o. Contains (go_on o (i + 1)) (at q (i + 1))) (sym is) (first-among (at q (i + 1)) []))
 
   chain-walked : (pattern final : ℕ) (bytes : List ℕ) (q r n i : ℕ) → IsChain (Stands 0 states) q bytes r → Leads g pattern final n (at q i)
       → (j m : ℕ) × ReadsBytes around.byte end bytes i j × (m ≤ n) × Leads g pattern final m (at r j)
@@ -118,9 +130,14 @@ module _ (around : Surroundings) (states : List State) (end : ℕ) where
       (z.0, z.1, (y.0, byte-equal (around.byte i) b e, z.2), (let e' = x.2 in let le = z.3 in omega arith), z.4))
       (λ e. absurd (none-some y.1 (sym (ap (λ t. if t then Some c.0 else None) e) ∙ y.2)))
 
-  chain-walk : (pattern final : ℕ) (bytes : List ℕ) (q r m i j : ℕ) → IsChain (Stands 0 states) q bytes r → ReadsBytes around.byte end bytes i j → Leads g pattern final m (at r j)
+  chain-walk : (pattern final : ℕ) (bytes : List ℕ) (q r m i j : ℕ) → IsChain (Stands 0 states) q bytes r → ReadsBytes around.byte end bytes i j
+      → Leads g pattern final m (at r j)
       → (n : ℕ) × Leads g pattern final n (at q i)
-  chain-walk pattern final [] q r m i j c e h = (m, subst (λ k. Leads g pattern final m (at q k)) (sym e) (subst (λ x. Leads g pattern final m (at x j)) (sym c) h))
+  chain-walk pattern final [] q r m i j c e h = (
+    m,
+    subst (λ k. Leads g pattern final m (at q k)) (sym e)
+        (subst (λ x. Leads g pattern final m (at x j)) (sym c) h),
+  )
   chain-walk pattern final (b ∷ bytes) q r m i j c read h =
       let later = chain-walk pattern final bytes c.0 r m (i + 1) j c.2 read.2 h in
       let lt = read.0 in
@@ -150,29 +167,37 @@ module _ (around : Surroundings) (states : List State) (end pattern final : ℕ)
     walked = λ n c i qs is h.
         (let x = walk-step around states end pattern final n (f c) i (Union (map f qs)) (image-of c (graph.choice qs) is) refl h in
         let y = choice-member (map f qs) i x.1 x.3 in
-        let z = map-among f qs y.0 y.1 in
-        (x.0, x.2, z.0, z.1, subst (λ q. Leads (automaton_over around states end) pattern final x.0 (at q i)) (sym z.2) (subst (λ d. Leads (automaton_over around states end) pattern final x.0 d) (sym y.2) x.4)));
+        let z = map-among f qs y.0 y.1 in (
+          x.0,
+          x.2,
+          z.0,
+          z.1,
+          subst (λ q. Leads (automaton_over around states end) pattern final x.0 (at q i)) (sym z.2)
+              (subst (λ d. Leads (automaton_over around states end) pattern final x.0 d) (sym y.2) x.4),
+        ));
     walks = λ m c i qs q is member h.
-        step-walk around states end pattern final m (f c) i (Union (map f qs)) (at (f q) i) (image-of c (graph.choice qs) is) (walk-within around states end pattern final m (f q) i h)
+        step-walk around states end pattern final m (f c) i (Union (map f qs)) (at (f q) i) (image-of c (graph.choice qs) is)
+        (walk-within around states end pattern final m (f q) i h)
         (member-choice (map f qs) i (f q) (among-map f qs q member)) h;
   }
 
   -- a state that keeps the place
-  Spells-stay : (state : ℕ → graph.State) → ((next c : ℕ) → IsStateOf whole c (state next) → (s : State) × Stands 0 states (f c) s × (state_accepts s ≡ None) × ((i : ℕ) → state_step around end s i ≡ at (f next) i ∷ []))
+  Spells-stay : (state : ℕ → graph.State) → ((next c : ℕ) → IsStateOf whole c (state next)
+      → (s : State) × Stands 0 states (f c) s × (state_accepts s ≡ None) × ((i : ℕ) → state_step around end s i ≡ at (f next) i ∷ []))
       → Spells whole Goes end chooses (λ i j. i ≡ j) (graph.build_state state)
   Spells-stay state stays = record {
     rises = λ i j e. omega arith;
     walked = λ next base n i placed h.
         (let s = stays next base (Placed-first whole base (state next) [] placed) in
         let x = walk-step around states end pattern final n (f base) i s.0 s.1 s.2 h in
-        let is = only-member (at (f next) i) x.1 (subst (λ ds. Contains ds x.1) (s.3 i) x.3) in
+        let is = only-among (at (f next) i) x.1 (subst (λ ds. Contains ds x.1) (s.3 i) x.3) in
         (i, x.0, refl, (let e = x.2 in omega arith), subst (λ c. Leads (automaton_over around states end) pattern final x.0 c) (sym is) x.4));
     walks = λ next base m i j placed e goes.
         (let s = stays next base (Placed-first whole base (state next) [] placed) in
         let goes' : Goes m next i = subst (λ k. Goes m next k) (sym e) goes in (
           suc m,
           step-walk around states end pattern final m (f base) i s.0 (at (f next) i) s.1 (walk-within around states end pattern final m (f next) i goes')
-              (subst (λ ds. Contains ds (at (f next) i)) (sym (s.3 i)) (here (at (f next) i) [])) goes',
+              (subst (λ ds. Contains ds (at (f next) i)) (sym (s.3 i)) (first-among (at (f next) i) [])) goes',
         ));
   }
 
@@ -182,7 +207,8 @@ module _ (around : Surroundings) (states : List State) (end pattern final : ℕ)
   pub Spells-way : Spells whole Goes end chooses (λ i j. i ≡ j) (graph.build_state (λ next. graph.choice (next ∷ [])))
   Spells-way = Spells-stay (λ next. graph.choice (next ∷ [])) (λ next c is. (Union (f next ∷ []), image-of c (graph.choice (next ∷ [])) is, refl, λ i. refl))
 
-  pub Spells-look : (kind : model.Look) → Spells whole Goes end chooses (λ i j. (around.looks kind i ≡ true) × (i ≡ j)) (graph.build_state (graph.assertion kind))
+  pub Spells-look : (kind : model.Look) → Spells whole Goes end chooses (λ i j. (around.looks kind i ≡ true) × (i ≡ j))
+      (graph.build_state (graph.assertion kind))
   Spells-look kind = record {
     rises = λ i j h. (let e = h.1 in omega arith);
     walked = λ next base n i placed h.
@@ -190,15 +216,17 @@ module _ (around : Surroundings) (states : List State) (end pattern final : ℕ)
         let x = walk-step around states end pattern final n (f base) i (Look m.0 (f next)) m.2 refl h in
         by_test (around.looks (kind_of m.0) i)
         (λ e.
-        let is = only-member (at (f next) i) x.1 (subst (λ b. Contains (if b then at (f next) i ∷ [] else []) x.1) e x.3) in
+        let is = only-among (at (f next) i) x.1 (subst (λ b. Contains (if b then at (f next) i ∷ [] else []) x.1) e x.3) in
         (i, x.0, (ap (λ k. around.looks k i) (sym m.1) ∙ e, refl), (let e' = x.2 in omega arith), subst (λ c. Leads (automaton_over around states end) pattern final x.0 c) (sym is) x.4))
-        (λ e. absurd (none-member x.1 (subst (λ b. Contains (if b then at (f next) i ∷ [] else []) x.1) e x.3))));
+        (λ e. absurd (none-among x.1 (subst (λ b. Contains (if b then at (f next) i ∷ [] else []) x.1) e x.3))));
     walks = λ next base m i j placed h goes.
         (let im = image-of base (graph.assertion kind next) (Placed-first whole base (graph.assertion kind next) [] placed) in
         let goes' : Goes m next i = subst (λ k. Goes m next k) (sym h.1) goes in (
           suc m,
-          step-walk around states end pattern final m (f base) i (Look im.0 (f next)) (at (f next) i) im.2 (walk-within around states end pattern final m (f next) i goes')
-              (subst (λ b. Contains (if b then at (f next) i ∷ [] else []) (at (f next) i)) (sym (ap (λ k. around.looks k i) im.1 ∙ h.0)) (here (at (f next) i) [])) goes',
+          step-walk around states end pattern final m (f base) i (Look im.0 (f next)) (at (f next) i) im.2
+              (walk-within around states end pattern final m (f next) i goes')
+              (subst (λ b. Contains (if b then at (f next) i ∷ [] else []) (at (f next) i)) (sym (ap (λ k. around.looks k i) im.1 ∙ h.0))
+              (first-among (at (f next) i) [])) goes',
         ));
   }
 
@@ -207,7 +235,8 @@ module _ (around : Surroundings) (states : List State) (end pattern final : ℕ)
   ReadsMember rs i j = (i < end) × (is_member rs (around.byte i) ≡ true) × (i + 1 ≡ j)
 
   -- where a class of bytes leads
-  class-route : (rs : List (ℕ × ℕ)) (next q b : ℕ) → StaysBelow 255 rs → (c : IsByteClass (HasReader (Stands 0 states)) next rs q) → route c.row b ≡ (if is_member rs b then Some next else None)
+  class-route : (rs : List (ℕ × ℕ)) (next q b : ℕ) → StaysBelow 255 rs → (c : IsByteClass (HasReader (Stands 0 states)) next rs q)
+      → route c.row b ≡ (if is_member rs b then Some next else None)
   class-route rs next q b small c =
       ⊎_elim
       (λ lt. c.each b lt)
@@ -234,7 +263,8 @@ module _ (around : Surroundings) (states : List State) (end pattern final : ℕ)
         let leads : route im.1.row (around.byte i) ≡ Some (f next) = class-route rs (f next) (f base) (around.byte i) im.0 im.1 ∙ ap (λ b. if b then Some (f next) else None) h.1 in (
           suc m,
           step-walk around states end pattern final m (f base) i r.state (at (f next) (i + 1)) r.stands (omega arith)
-              (subst (λ ds. Contains ds (at (f next) (i + 1))) (sym (reads-step around end r.state im.1.row r.reads i)) (member-read around states end im.1.row i (f next) lt leads))
+              (subst (λ ds. Contains ds (at (f next) (i + 1))) (sym (reads-step around end r.state im.1.row r.reads i))
+              (member-read around states end im.1.row i (f next) lt leads))
               (subst (λ k. Goes m next k) (sym h.2) goes),
         ));
   }
@@ -244,7 +274,9 @@ module _ (around : Surroundings) (states : List State) (end pattern final : ℕ)
   Spells-bytes (b ∷ bytes) = record {
     rises = λ i j h. (let e = ReadsBytes-rises around.byte end (b ∷ bytes) i j h in omega arith);
     walked = λ next base n i placed h.
-        chain-walked around states end pattern final (b ∷ bytes) (f base) (f next) n i (image-of base (graph.text (b ∷ bytes) next) (Placed-first whole base (graph.text (b ∷ bytes) next) [] placed)) h;
+        chain-walked around states end pattern final (b ∷ bytes) (f base) (f next) n i
+        (image-of base (graph.text (b ∷ bytes) next) (Placed-first whole base (graph.text (b ∷ bytes) next) [] placed)) h;
     walks = λ next base m i j placed h goes.
-        chain-walk around states end pattern final (b ∷ bytes) (f base) (f next) m i j (image-of base (graph.text (b ∷ bytes) next) (Placed-first whole base (graph.text (b ∷ bytes) next) [] placed)) h goes;
+        chain-walk around states end pattern final (b ∷ bytes) (f base) (f next) m i j
+        (image-of base (graph.text (b ∷ bytes) next) (Placed-first whole base (graph.text (b ∷ bytes) next) [] placed)) h goes;
   }

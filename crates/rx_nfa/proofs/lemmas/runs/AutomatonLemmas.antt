@@ -11,20 +11,11 @@ use Rattle.rx_nfa.specs.Automaton.{at, route, go_on, read_byte, state_step, stat
 use Rattle.rx_nfa.specs.declared.state.Transition.{Transition}
 use Rattle.rx_nfa.specs.declared.state.State.{State}
 use Rattle.rx_nfa.specs.declared.state.State.TheVariants.{ByteRange, Sparse, Look, Union, Capture, Fail, Match}
+pub use Rattle.rx_model.proofs.lemmas.runs.MemberLemmas.{none-among as nothing_in, only-among as only-in}
 
 pub automaton-bounded : (around : Surroundings) (states : List State) (end : ℕ) → IsBounded (automaton_over around states end)
 unfolding automaton_over
 automaton-bounded around states end = graph_of-bounded (machine around states end) end
-
-pub nothing_in : (d : Configuration) → Contains [] d → ⊥
-nothing_in d member = let lt = member.1 in omega arith
-
-pub only-in : (x d : Configuration) → Contains (x ∷ []) d → x ≡ d
-only-in x d h = first h.0 h.1 h.2
-  where
-    first : (k : ℕ) → k < 1 → slice_index_or (x ∷ []) k d ≡ d → x ≡ d
-    first zero lt e = e
-    first (suc k) lt e = absurd (omega arith)
 
 -- each of these stays at the place
 pub stays-in : (i : ℕ) (qs : List ℕ) (d : Configuration) → Contains (map (λ q. at q i) qs) d → i ≡ d.place
@@ -64,7 +55,8 @@ automaton-rises around states end c d member =
     steps (Match pattern) h = absurd (nothing_in d h)
 
 -- only a place up to the end is accepted at
-pub automaton-accepts-within : (around : Surroundings) (states : List State) (end : ℕ) (c : Configuration) → is_some ((automaton_over around states end).accepted c) ≡ true → c.place ≤ end
+pub automaton-accepts-within : (around : Surroundings) (states : List State) (end : ℕ) (c : Configuration)
+    → is_some ((automaton_over around states end).accepted c) ≡ true → c.place ≤ end
 unfolding automaton_over graph_of
 automaton-accepts-within around states end c accepts =
     by_test (is_inside (machine around states end) end c)
@@ -87,28 +79,33 @@ unfolding automaton_over graph_of
 automaton-accepted around states end q i lt le =
     let inside : is_inside (machine around states end) end (at q i) ≡ true = grind (arith, nat_tests) in rw inside refl
 
-pub automaton-written : (around : Surroundings) (states : List State) (end q i : ℕ) → (automaton_over around states end).written (at q i) ≡ state_writes (state_at states q)
+pub automaton-written : (around : Surroundings) (states : List State) (end q i : ℕ)
+    → (automaton_over around states end).written (at q i) ≡ state_writes (state_at states q)
 unfolding automaton_over graph_of
 automaton-written around states end q i = refl
 
 -- past the end nothing goes on, nor is accepted
-pub automaton-successors-past : (around : Surroundings) (states : List State) (end q i : ℕ) → end < i → (automaton_over around states end).successors (at q i) ≡ []
+pub automaton-successors-past : (around : Surroundings) (states : List State) (end q i : ℕ) → end < i
+    → (automaton_over around states end).successors (at q i) ≡ []
 unfolding automaton_over graph_of
 automaton-successors-past around states end q i past =
     let outside : is_inside (machine around states end) end (at q i) ≡ false = grind (arith, nat_tests) in rw outside refl
 
-pub automaton-accepted-past : (around : Surroundings) (states : List State) (end q i : ℕ) → end < i → (automaton_over around states end).accepted (at q i) ≡ None
+pub automaton-accepted-past : (around : Surroundings) (states : List State) (end q i : ℕ) → end < i
+    → (automaton_over around states end).accepted (at q i) ≡ None
 unfolding automaton_over graph_of
 automaton-accepted-past around states end q i past =
     let outside : is_inside (machine around states end) end (at q i) ≡ false = grind (arith, nat_tests) in rw outside refl
 
 -- nor at a state that is not there
-pub automaton-successors-beyond : (around : Surroundings) (states : List State) (end q i : ℕ) → length states ≤ q → (automaton_over around states end).successors (at q i) ≡ []
+pub automaton-successors-beyond : (around : Surroundings) (states : List State) (end q i : ℕ) → length states ≤ q
+    → (automaton_over around states end).successors (at q i) ≡ []
 unfolding automaton_over graph_of
 automaton-successors-beyond around states end q i past =
     let outside : is_inside (machine around states end) end (at q i) ≡ false = grind (arith, nat_tests) in rw outside refl
 
-pub automaton-accepted-beyond : (around : Surroundings) (states : List State) (end q i : ℕ) → length states ≤ q → (automaton_over around states end).accepted (at q i) ≡ None
+pub automaton-accepted-beyond : (around : Surroundings) (states : List State) (end q i : ℕ) → length states ≤ q
+    → (automaton_over around states end).accepted (at q i) ≡ None
 unfolding automaton_over graph_of
 automaton-accepted-beyond around states end q i past =
     let outside : is_inside (machine around states end) end (at q i) ≡ false = grind (arith, nat_tests) in rw outside refl

@@ -84,7 +84,8 @@ image-sends qs n = from (image qs n) 0 qs n (λ k. let e : 0 + k ≡ k = omega a
     )
 
 -- side by side, by the number
-pub zip-at : (R : graph.State → ℕ → Type 0) (xs : List graph.State) (qs : List ℕ) (n k : ℕ) → AllZip R xs qs → k < length xs → R (graph.state_at xs k) (image qs n k)
+pub zip-at : (R : graph.State → ℕ → Type 0) (xs : List graph.State) (qs : List ℕ) (n k : ℕ) → AllZip R xs qs → k < length xs
+    → R (graph.state_at xs k) (image qs n k)
 unfolding image
 zip-at R [] qs n k z lt = absurd (omega arith)
 zip-at R (x ∷ xs) [] n k z lt = absurd z
@@ -112,7 +113,8 @@ module _ (t : ℕ) (text : List ℕ) (end : ℕ) (inside : end ≤ length text) 
   beyond k le = let l = long in image-past images (length whole) k (omega arith)
 
   -- what the graph does
-  g-successors : (c : Configuration) → c.state < length states → c.place ≤ end → g.successors c ≡ graph.state_step t text end (graph.state_at states c.state) c.place
+  g-successors : (c : Configuration) → c.state < length states → c.place ≤ end
+      → g.successors c ≡ graph.state_step t text end (graph.state_at states c.state) c.place
   unfolding graph.runs_of graph_of
   g-successors c lt le = let e : is_inside (graph.machine_of t text end states) end c ≡ true = grind (arith, nat_tests) in rw e refl
 
@@ -135,10 +137,15 @@ module _ (t : ℕ) (text : List ℕ) (end : ℕ) (inside : end ≤ length text) 
 
   -- and what the automaton does
   m-outside : (c : Configuration) → (end < c.place) ⊎ (length states ≤ c.state) → (m.successors (moved f c) ≡ []) × (m.accepted (moved f c) ≡ None)
-  m-outside c (inl past) = (automaton-successors-past (forwards t text) whole end (f c.state) c.place past, automaton-accepted-past (forwards t text) whole end (f c.state) c.place past)
+  m-outside c (inl past) = (
+    automaton-successors-past (forwards t text) whole end (f c.state) c.place past,
+    automaton-accepted-past (forwards t text) whole end (f c.state) c.place past,
+  )
   m-outside c (inr past) =
-      let le = beyond c.state past in
-      (automaton-successors-beyond (forwards t text) whole end (f c.state) c.place le, automaton-accepted-beyond (forwards t text) whole end (f c.state) c.place le)
+      let le = beyond c.state past in (
+        automaton-successors-beyond (forwards t text) whole end (f c.state) c.place le,
+        automaton-accepted-beyond (forwards t text) whole end (f c.state) c.place le,
+      )
 
   -- its image is there
   image-inside : (s : graph.State) (q : ℕ) → IsImage (Stands low whole) f s q → q < length whole
@@ -194,12 +201,14 @@ module _ (t : ℕ) (text : List ℕ) (end : ℕ) (inside : end ≤ length text) 
       automaton-written (forwards t text) whole end (f c.state) c.place
       ∙ ⊎_elim
       (λ lt. image-writes (graph.state_at states c.state) (f c.state) (is_image c.state lt))
-      (λ past. (λ i. state_writes (get_or_past whole (f c.state) Fail (beyond c.state past) i)) ∙ sym (λ i. graph.state_writes (get_or_past states c.state (graph.choice []) past i)))
+      (λ past. (λ i. state_writes (get_or_past whole (f c.state) Fail (beyond c.state past) i))
+      ∙ sym (λ i. graph.state_writes (get_or_past states c.state (graph.choice []) past i)))
       (cases_lt c.state (length states))
       ∙ sym (g-written c)
 
   -- c keeps its place, where what it goes on to is known in both
-  stays : (c : Configuration) (qs : List ℕ) → g.successors c ≡ map (λ q. at q c.place) qs → m.successors (moved f c) ≡ map (λ q. at q c.place) (map f qs) → Stays g m f c
+  stays : (c : Configuration) (qs : List ℕ) → g.successors c ≡ map (λ q. at q c.place) qs → m.successors (moved f c) ≡ map (λ q. at q c.place) (map f qs)
+      → Stays g m f c
   stays c qs in_g in_m = record {
     written = written c;
     successors = in_m ∙ each_moved qs ∙ sym (ap (map (moved f)) in_g);
@@ -210,12 +219,15 @@ module _ (t : ℕ) (text : List ℕ) (end : ℕ) (inside : end ≤ length text) 
       each_moved [] = refl
       each_moved (q ∷ qs) = ap (λ ds. at (f q) c.place ∷ ds) (each_moved qs)
 
-  goes_on : (c : Configuration) → c.state < length states → c.place ≤ end → (s : graph.State) → graph.state_at states c.state ≡ s → IsImage (Stands low whole) f s (f c.state)
+  goes_on : (c : Configuration) → c.state < length states → c.place ≤ end → (s : graph.State) → graph.state_at states c.state ≡ s
+      → IsImage (Stands low whole) f s (f c.state)
       → Stays g m f c ⊎ Reads g m f c ⊎ Fails g m f c
   goes_on c lt le s is h = kinds s h (g-written c ∙ ap graph.state_writes is) (g-successors c lt le ∙ ap (λ x. graph.state_step t text end x c.place) is)
-      (λ state at_image. automaton-successors (forwards t text) whole end (f c.state) c.place (image-inside s (f c.state) h) le ∙ ap (λ x. state_step (forwards t text) end x c.place) at_image)
+      (λ state at_image. automaton-successors (forwards t text) whole end (f c.state) c.place (image-inside s (f c.state) h) le
+      ∙ ap (λ x. state_step (forwards t text) end x c.place) at_image)
     where
-      kinds : (s : graph.State) → IsImage (Stands low whole) f s (f c.state) → g.written c ≡ graph.state_writes s → g.successors c ≡ graph.state_step t text end s c.place
+      kinds : (s : graph.State) → IsImage (Stands low whole) f s (f c.state) → g.written c ≡ graph.state_writes s
+          → g.successors c ≡ graph.state_step t text end s c.place
           → ((state : State) → state_at whole (f c.state) ≡ state → m.successors (moved f c) ≡ state_step (forwards t text) end state c.place)
           → Stays g m f c ⊎ Reads g m f c ⊎ Fails g m f c
       kinds (graph.text [] next) h w in_g in_m =
@@ -238,9 +250,11 @@ module _ (t : ℕ) (text : List ℕ) (end : ℕ) (inside : end ≤ length text) 
           (λ short. inr (inr (record { successors = in_g ∙ rw (stands, short) refl; fails = λ ok p fresh. reads ok p fresh ∙ rw (stands, short) refl }))))
           (λ gone. inr (inr (record { successors = in_g ∙ rw gone refl; fails = λ ok p fresh. reads ok p fresh ∙ rw gone refl })))
       kinds (graph.set (scalar_ranges ranges) next) h w in_g in_m =
-          inr (set-refined g m f t text end c.state next c.place (scalar_ranges ranges) (λ n e. member_len-scalar text ranges c.place n e) w in_g (λ ok. IsClass-reads ok t whole text end low (f next) (f c.state) ranges inside h))
+          inr (set-refined g m f t text end c.state next c.place (scalar_ranges ranges) (λ n e. member_len-scalar text ranges c.place n e) w in_g
+          (λ ok. IsClass-reads ok t whole text end low (f next) (f c.state) ranges inside h))
       kinds (graph.set (byte_ranges ranges) next) h w in_g in_m =
-          inr (set-refined g m f t text end c.state next c.place (byte_ranges ranges) (λ n e. member_len-byte text ranges c.place n e) w in_g (λ ok. IsByteClass-reads ok t whole text end low (f next) (f c.state) ranges inside h.0 h.1))
+          inr (set-refined g m f t text end c.state next c.place (byte_ranges ranges) (λ n e. member_len-byte text ranges c.place n e) w in_g
+          (λ ok. IsByteClass-reads ok t whole text end low (f next) (f c.state) ranges inside h.0 h.1))
       kinds (graph.assertion kind next) h w in_g in_m =
           let goes = in_m (Look h.0 (f next)) h.2.is ∙ ap (λ k. if holds t text k c.place then at (f next) c.place ∷ [] else []) h.1 in
           by_test (holds t text kind c.place)

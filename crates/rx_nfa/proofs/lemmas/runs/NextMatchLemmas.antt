@@ -21,7 +21,8 @@ use Rattle.rx_nfa.proofs.lemmas.runs.PatternLemmas.{HasRuns-first}
 use Rattle.rx_nfa.proofs.lemmas.runs.AutomatonLemmas.{automaton-bounded, automaton-rises, automaton-accepts-within, automaton-written}
 
 -- where each start tells the same
-pub first_start-alike : (permitted : ℕ → Bool) (f h : ℕ → Option Trace) (n i : ℕ) → ((j : ℕ) → i ≤ j → f j ≡ h j) → first_start permitted f n i ≡ first_start permitted h n i
+pub first_start-alike : (permitted : ℕ → Bool) (f h : ℕ → Option Trace) (n i : ℕ) → ((j : ℕ) → i ≤ j → f j ≡ h j)
+    → first_start permitted f n i ≡ first_start permitted h n i
 unfolding first_start
 first_start-alike permitted f h zero i alike = refl
 first_start-alike permitted f h (suc n) i alike =
@@ -68,13 +69,15 @@ module _ (nfa : Nfa) (r : Patterns) (text : List ℕ) (end : ℕ) (within : end 
   runs = HasRuns-first nfa r has
 
   -- what a start tells is what is told of the patterns there
-  starting-alike : (anchor : Anchor) (i : ℕ) → first_from nfa.terminator nfa.states text end (start_of nfa anchor) i ≡ option_map (told r.which_captures) (starting_at r text end anchor i)
+  starting-alike : (anchor : Anchor) (i : ℕ) → first_from nfa.terminator nfa.states text end (start_of nfa anchor) i ≡ option_map (told r.which_captures)
+      (starting_at r text end anchor i)
   unfolding starting_at
   starting-alike free i = runs.all text end i within
   starting-alike anchored i = runs.all text end i within
   starting-alike (anchored_to p) i = named (slice_get r.expressions p) refl
     where
-      named : (o : Option Expression) → slice_get r.expressions p ≡ o → first_from nfa.terminator nfa.states text end (slice_get nfa.starts p) i ≡ option_map (told r.which_captures) (first_of_pattern r text end p o i)
+      named : (o : Option Expression) → slice_get r.expressions p ≡ o
+          → first_from nfa.terminator nfa.states text end (slice_get nfa.starts p) i ≡ option_map (told r.which_captures) (first_of_pattern r text end p o i)
       named None e =
           elim (slice_get_cases r.expressions p).1 [
             | inl there ↦ none-is-some (sym e ∙ there.2)
@@ -92,9 +95,11 @@ module _ (nfa : Nfa) (r : Patterns) (text : List ℕ) (end : ℕ) (within : end 
       → next_match_of nfa utf8_empty text anchor end start ≡ option_map (told_of r.which_captures) (next_match r text anchor end start)
   unfolding next_match_of next_match
   next_match_of-patterns utf8_empty anchor start same =
-      first_start-alike (is_permitted utf8_empty text) (first_from nfa.terminator nfa.states text end (start_of nfa anchor)) (λ j. option_map (told r.which_captures) (starting_at r text end anchor j)) (starts anchor start end) start (λ j le. starting-alike anchor j)
+      first_start-alike (is_permitted utf8_empty text) (first_from nfa.terminator nfa.states text end (start_of nfa anchor))
+      (λ j. option_map (told r.which_captures) (starting_at r text end anchor j)) (starts anchor start end) start (λ j le. starting-alike anchor j)
       ∙ first_start-told r.which_captures (is_permitted utf8_empty text) (starting_at r text end anchor) (starts anchor start end) start
-      ∙ ap (λ u. option_map (told_of r.which_captures) (first_start (is_permitted u text) (starting_at r text end anchor) (starts anchor start end) start)) (sym same)
+      ∙ ap (λ u. option_map (told_of r.which_captures) (first_start (is_permitted u text) (starting_at r text end anchor) (starts anchor start end) start))
+      (sym same)
 
 -- all is told of a match, but under `none`
 pub told_of-all : (o : Option Match) → option_map (told_of every_group) o ≡ o
@@ -148,7 +153,8 @@ module _ (nfa : Nfa) (range : IsInRange nfa) (text : List ℕ) (end slot : ℕ) 
       let fails : state_at nfa.states c.state ≡ Fail = get_or_past nfa.states c.state Fail (grind (arith, nat_tests)) in
       none-is-some (sym (ap state_writes fails) ∙ writes))
 
-  write-kept : (o : Option ℕ) (place : ℕ) (t : Trace) → ((k : ℕ) → o ≡ Some k → k ≢ slot) → last_write t.writes slot ≡ None → last_write (with_write o place t).writes slot ≡ None
+  write-kept : (o : Option ℕ) (place : ℕ) (t : Trace) → ((k : ℕ) → o ≡ Some k → k ≢ slot) → last_write t.writes slot ≡ None
+      → last_write (with_write o place t).writes slot ≡ None
   write-kept None place t other none = none
   write-kept (Some k) place t other none =
       let differ : (k == slot) ≡ false = by_test (k == slot) (λ e. absurd (other k refl ((Decides-eqb k slot).0 e))) (λ e. e) in
@@ -170,7 +176,8 @@ module _ (nfa : Nfa) (range : IsInRange nfa) (text : List ℕ) (end slot : ℕ) 
   first_from-writes (Some q) i t h = found-writes (at q i) t h
 
   -- a slot that is not there stays empty
-  pub next_match_of-slot : (utf8_empty : Bool) (anchor : Anchor) (start : ℕ) (m : Match) → next_match_of nfa utf8_empty text anchor end start ≡ Some m → slot_value m slot ≡ None
+  pub next_match_of-slot : (utf8_empty : Bool) (anchor : Anchor) (start : ℕ) (m : Match) → next_match_of nfa utf8_empty text anchor end start ≡ Some m
+      → slot_value m slot ≡ None
   unfolding next_match_of
   next_match_of-slot utf8_empty anchor start m h =
       let x = first_start-from (is_permitted utf8_empty text) (first_from nfa.terminator nfa.states text end (start_of nfa anchor)) (starts anchor start end) start m h in
@@ -178,13 +185,15 @@ module _ (nfa : Nfa) (range : IsInRange nfa) (text : List ℕ) (end slot : ℕ) 
 
 -- Where a match lies.
 
-first_from-within : (terminator : ℕ) (states : List State) (text : List ℕ) (end : ℕ) (start : Option ℕ) (i : ℕ) (t : Trace) → first_from terminator states text end start i ≡ Some t → (i ≤ t.end) × (t.end ≤ end)
+first_from-within : (terminator : ℕ) (states : List State) (text : List ℕ) (end : ℕ) (start : Option ℕ) (i : ℕ) (t : Trace)
+    → first_from terminator states text end start i ≡ Some t → (i ≤ t.end) × (t.end ≤ end)
 first_from-within terminator states text end None i t h = none-is-some h
 first_from-within terminator states text end (Some q) i t h =
     let ends = found-end (automaton terminator states text end) (automaton-bounded (forwards terminator text) states end) (automaton-rises (forwards terminator text) states end) end (automaton-accepts-within (forwards terminator text) states end) nowhere (at q i) t h in
     (ends.0, ends.1)
 
-pub next_match_of-within : (nfa : Nfa) (utf8_empty : Bool) (text : List ℕ) (anchor : Anchor) (end start : ℕ) (m : Match) → next_match_of nfa utf8_empty text anchor end start ≡ Some m
+pub next_match_of-within : (nfa : Nfa) (utf8_empty : Bool) (text : List ℕ) (anchor : Anchor) (end start : ℕ) (m : Match)
+    → next_match_of nfa utf8_empty text anchor end start ≡ Some m
     → (start ≤ m.start) × (m.start ≤ m.trace.end) × (m.trace.end ≤ end)
 unfolding next_match_of
 next_match_of-within nfa utf8_empty text anchor end start m h =

@@ -9,7 +9,7 @@ use Rattle.rx_model.specs.Expression.{Expression}
 use Rattle.rx_model.specs.Graph as graph
 use Rattle.rx_model.specs.Runs.{Configuration, PriorityGraph, Passed, Sieve, everywhere, sifted, sieved, Trace, with_write, nowhere, and_at, same, found, first_some, first_trace}
 use Rattle.rx_model.specs.Search.{Patterns, WhichCaptures, all as every_group, implicit as whole_alone, none as no_group, told, slot_of, first_where, first_of_patterns_where}
-use Rattle.rx_model.proofs.lemmas.runs.WriteLemmas.{told-or, told-all, told-implicit, found-silent}
+use Rattle.rx_model.proofs.lemmas.runs.WriteLemmas.{told-or, told-all, told-implicit, found-silent, write-nothing}
 use Rattle.rx_model.proofs.lemmas.runs.RunLemmas.{by_test, same-true}
 use Rattle.rx_model.proofs.lemmas.runs.FoundLemmas.{found-step, found-passed}
 use Rattle.rx_model.proofs.lemmas.graphs.SieveLemmas.{sieved-bounded, sieved-everywhere, first-everywhere, first_of_patterns-everywhere}
@@ -49,22 +49,32 @@ HasPart-pattern whole body p old mid new start is b' = record {
     b : Built (build_bounds whole body) (length old.states) (pushed old (Match p)) new start
     b = subst (λ d. Built (build_bounds whole body) (length old.states) d new start) is b'
 
-    mirrors : (f : ℕ → ℕ) → Sends f 0 (length old.states ∷ b.images) → Mirrors f 0 new.states (compiled_pattern whole body p) (length old.states ∷ b.images) start
+    mirrors : (f : ℕ → ℕ) → Sends f 0 (length old.states ∷ b.images)
+        → Mirrors f 0 new.states (compiled_pattern whole body p) (length old.states ∷ b.images) start
     mirrors f sends =
         let part = build_bounds whole body 0 1 in
         let m = Mirrors-kept f 0 (length (pushed old (Match p)).states) new.states new.states part b.images start (omega arith) (Keeps-same (length (pushed old (Match p)).states) new.states) (b.mirrors f 0 1 sends.0 sends.1) in
         record {
           start_is = m.start_is;
-          each = (Stands-kept 0 (length old.states) (pushed old (Match p)).states new.states (omega arith) (Keeps-extends (length old.states) (pushed old (Match p)) new b.extends) (length old.states) (Match p) (Stands-pushed old (Match p)), m.each);
+          each = (
+            Stands-kept 0 (length old.states) (pushed old (Match p)).states new.states (omega arith)
+                (Keeps-extends (length old.states) (pushed old (Match p)) new b.extends) (length old.states) (Match p) (Stands-pushed old (Match p)),
+            m.each,
+          );
         }
 
 -- what is found past the end is nothing
-found-far : (ok : Sieve) (terminator : ℕ) (states : List State) (text : List ℕ) (end : ℕ) (q : Passed) (s i : ℕ) → end < i → found (sieved ok (automaton terminator states text end)) q (at s i) ≡ None
+found-far : (ok : Sieve) (terminator : ℕ) (states : List State) (text : List ℕ) (end : ℕ) (q : Passed) (s i : ℕ) → end < i
+    → found (sieved ok (automaton terminator states text end)) q (at s i) ≡ None
 found-far ok terminator states text end q s i far =
     by_test (q (at s i))
     (λ seen. found-passed (sieved ok (automaton terminator states text end)) q (at s i) seen)
-    (λ new. found-step (sieved ok (automaton terminator states text end)) q (sieved-bounded ok (automaton terminator states text end) (automaton-bounded (forwards terminator text) states end)) (at s i) new (ap (sifted ok i) (automaton-accepted-past (forwards terminator text) states end s i far))
-    ∙ ap (λ ds. option_map (with_write ((automaton terminator states text end).written (at s i)) i) (first_some (found (sieved ok (automaton terminator states text end)) (and_at (at s i) q)) ds)) (automaton-successors-past (forwards terminator text) states end s i far))
+    (λ new. found-step (sieved ok (automaton terminator states text end)) q
+    (sieved-bounded ok (automaton terminator states text end) (automaton-bounded (forwards terminator text) states end)) (at s i) new
+    (ap (sifted ok i) (automaton-accepted-past (forwards terminator text) states end s i far))
+    ∙ ap (λ ds. option_map (with_write ((automaton terminator states text end).written (at s i)) i)
+    (first_some (found (sieved ok (automaton terminator states text end)) (and_at (at s i) q)) ds))
+    (automaton-successors-past (forwards terminator text) states end s i far))
 
 -- In a later draft, whatever was passed of states that were added since.
 module _ (ok : Sieve) (r : Patterns) (text : List ℕ) (end : ℕ) (inside : end ≤ length text) (old new : Draft) (e : Extends old new)
@@ -80,7 +90,8 @@ module _ (ok : Sieve) (r : Patterns) (text : List ℕ) (end : ℕ) (inside : end
   IsAhead q i = (d : Configuration) → i < d.place → q d ≡ false
 
   -- the automaton tells what it is to tell
-  told-found : (which : WhichCaptures) → (which ≡ no_group → (c : Configuration) → m.written c ≡ None) → (q : Passed) (c : Configuration) → option_map (told which) (found m q c) ≡ found m q c
+  told-found : (which : WhichCaptures) → (which ≡ no_group → (c : Configuration) → m.written c ≡ None) → (q : Passed) (c : Configuration)
+      → option_map (told which) (found m q c) ≡ found m q c
   told-found every_group unwritten q c = told-all (found m q c)
   told-found whole_alone unwritten q c = told-implicit (found m q c)
   told-found no_group unwritten q c = found-silent m (unwritten refl) q c
@@ -97,14 +108,16 @@ module _ (ok : Sieve) (r : Patterns) (text : List ℕ) (end : ℕ) (inside : end
       sym (told-found r.which_captures silent q (at start i))
       ∙ ap (option_map (told r.which_captures))
       (ap (λ s. found m q (at s i)) (sym kept.start_is)
-      ∙ image-found r.terminator text end inside (part_of r p h).states new.states 0 (length old.states) has.images e.longer has.rises kept.each ok q (part_of r p h).start i
+      ∙ image-found r.terminator text end inside (part_of r p h).states new.states 0 (length old.states) has.images e.longer has.rises kept.each ok q
+      (part_of r p h).start i
       (λ j k. clear (image has.images (length new.states) j) k (image-either has.images 0 (length old.states) (length new.states) j has.rises)) ahead)
       ∙ told-part r.terminator text end ok r.which_captures (slot_of r p) p h i
 
   -- what is found from each start in turn
   starts-found : (p : ℕ) (hs : List Expression) (starts : List ℕ) → length starts ≡ length hs
       → ((k : ℕ) (h : Expression) → slice_get hs k ≡ Some h → HasPart old.states (part_of r (p + k) h) (slice_index starts k))
-      → (q : Passed) (i : ℕ) → IsClear q → IsAhead q i → first_some (found m q) (map (λ s. at s i) starts) ≡ option_map (told r.which_captures) (first_of_patterns_where ok r text end p hs i)
+      → (q : Passed) (i : ℕ) → IsClear q → IsAhead q i → first_some (found m q) (map (λ s. at s i) starts) ≡ option_map (told r.which_captures)
+      (first_of_patterns_where ok r text end p hs i)
   unfolding first_of_patterns_where
   starts-found p [] [] long has q i clear ahead = refl
   starts-found p [] (s ∷ starts) long has q i clear ahead = absurd (omega arith)
@@ -129,35 +142,45 @@ module _ (ok : Sieve) (r : Patterns) (text : List ℕ) (end : ℕ) (inside : end
         slice_get-below (x ∷ hs) zero h is = omega arith
         slice_get-below (x ∷ hs) (suc k) h is = let later = slice_get-below hs k h is in omega arith
 
-    all-found : (q : Passed) (i : ℕ) → IsClear q → IsAhead q i → first_some (found m q) (map (λ s. at s i) starts) ≡ option_map (told r.which_captures) (first_of_patterns_where ok r text end 0 r.expressions i)
+    all-found : (q : Passed) (i : ℕ) → IsClear q → IsAhead q i → first_some (found m q) (map (λ s. at s i) starts) ≡ option_map (told r.which_captures)
+        (first_of_patterns_where ok r text end 0 r.expressions i)
     all-found q i clear ahead = starts-found 0 r.expressions starts long has-all q i clear ahead
 
-    pub each-found : (p i : ℕ) (h : Expression) → slice_get r.expressions p ≡ Some h → first_trace m (at (slice_index starts p) i) ≡ option_map (told r.which_captures) (first_where ok r text end p h i)
+    pub each-found : (p i : ℕ) (h : Expression) → slice_get r.expressions p ≡ Some h
+        → first_trace m (at (slice_index starts p) i) ≡ option_map (told r.which_captures) (first_where ok r text end p h i)
     unfolding IsAhead
     each-found p i h is =
         let none : 0 + p ≡ p = omega arith in
-        HasPart-found p h (slice_index starts p) (subst (λ n. HasPart old.states (part_of r n h) (slice_index starts p)) none (has-all p h is)) nowhere i (λ u j out. refl) (λ d lt. refl)
+        HasPart-found p h (slice_index starts p) (subst (λ n. HasPart old.states (part_of r n h) (slice_index starts p)) none (has-all p h is)) nowhere i
+        (λ u j out. refl) (λ d lt. refl)
 
     -- from the only start
-    pub only-found : (s i : ℕ) → starts ≡ s ∷ [] → first_trace m (at s i) ≡ option_map (told r.which_captures) (first_of_patterns_where ok r text end 0 r.expressions i)
+    pub only-found : (s i : ℕ) → starts ≡ s ∷ [] → first_trace m (at s i) ≡ option_map (told r.which_captures)
+        (first_of_patterns_where ok r text end 0 r.expressions i)
     unfolding IsAhead
     only-found s i only =
-        single (first_trace m (at s i)) ∙ ap (λ qs. first_some (found m nowhere) (map (λ x. at x i) qs)) (sym only) ∙ all-found nowhere i (λ u j out. refl) (λ d lt. refl)
+        single (first_trace m (at s i)) ∙ ap (λ qs. first_some (found m nowhere) (map (λ x. at x i) qs)) (sym only)
+        ∙ all-found nowhere i (λ u j out. refl) (λ d lt. refl)
       where
         single : (o : Option Trace) → o ≡ option_or o None
         single None = refl
         single (Some t) = refl
 
     -- from the choice between them
-    pub choice-found : (i : ℕ) → new ≡ pushed old (Union starts) → first_trace m (at (length old.states) i) ≡ option_map (told r.which_captures) (first_of_patterns_where ok r text end 0 r.expressions i)
+    pub choice-found : (i : ℕ) → new ≡ pushed old (Union starts) → first_trace m (at (length old.states) i) ≡ option_map (told r.which_captures)
+        (first_of_patterns_where ok r text end 0 r.expressions i)
     unfolding IsAhead
     choice-found i is =
         ⊎_elim
-        (λ far. found-far ok r.terminator new.states text end nowhere (length old.states) i far ∙ sym (all-far far starts) ∙ all-found nowhere i (λ u j out. refl) (λ d lt. refl))
+        (λ far. found-far ok r.terminator new.states text end nowhere (length old.states) i far ∙ sym (all-far far starts)
+        ∙ all-found nowhere i (λ u j out. refl) (λ d lt. refl))
         (λ le.
-        found-step m nowhere (sieved-bounded ok (automaton r.terminator new.states text end) (automaton-bounded (forwards r.terminator text) new.states end)) (at (length old.states) i) refl (ap (sifted ok i) (automaton-accepted (forwards r.terminator text) new.states end (length old.states) i stands.inside le ∙ ap state_accepts stands.is))
+        found-step m nowhere (sieved-bounded ok (automaton r.terminator new.states text end) (automaton-bounded (forwards r.terminator text) new.states end))
+        (at (length old.states) i) refl
+        (ap (sifted ok i) (automaton-accepted (forwards r.terminator text) new.states end (length old.states) i stands.inside le
+        ∙ ap state_accepts stands.is))
         ∙ (λ j. option_map (with_write (written j) i) (first_some (found m (and_at (at (length old.states) i) nowhere)) (successors le j)))
-        ∙ unwritten (first_some (found m (and_at (at (length old.states) i) nowhere)) (map (λ s. at s i) starts))
+        ∙ write-nothing i (first_some (found m (and_at (at (length old.states) i) nowhere)) (map (λ s. at s i) starts))
         ∙ all-found (and_at (at (length old.states) i) nowhere) i
         (λ u j out. apart (at u j) (λ same. absurd (elsewhere u out (ap (λ (c : Configuration). c.state) same))))
         (λ d lt. apart d (λ same. let equal : i ≡ d.place = ap (λ (c : Configuration). c.place) same in absurd (omega arith))))
@@ -177,11 +200,8 @@ module _ (ok : Sieve) (r : Patterns) (text : List ℕ) (end : ℕ) (inside : end
         written = automaton-written (forwards r.terminator text) new.states end (length old.states) i ∙ ap state_writes stands.is
 
         successors : i ≤ end → m.successors (at (length old.states) i) ≡ map (λ s. at s i) starts
-        successors le = automaton-successors (forwards r.terminator text) new.states end (length old.states) i stands.inside le ∙ ap (λ x. state_step (forwards r.terminator text) end x i) stands.is
-
-        unwritten : (o : Option Trace) → option_map (with_write None i) o ≡ o
-        unwritten None = refl
-        unwritten (Some t) = refl
+        successors le = automaton-successors (forwards r.terminator text) new.states end (length old.states) i stands.inside le
+            ∙ ap (λ x. state_step (forwards r.terminator text) end x i) stands.is
 
         apart : (d : Configuration) → (at (length old.states) i ≡ d → ⊥) → and_at (at (length old.states) i) nowhere d ≡ false
         apart d differs = by_test (same (at (length old.states) i) d) (λ e. absurd (differs (same-true (at (length old.states) i) d e))) (λ e. rw e refl)
@@ -191,7 +211,8 @@ module _ (ok : Sieve) (r : Patterns) (text : List ℕ) (end : ℕ) (inside : end
         all-far far (s ∷ qs) = rw (found-far ok r.terminator new.states text end nowhere s i far) (all-far far qs)
 
 -- one pattern more
-pub HasParts-more : (part : ℕ → Expression → graph.Part) (hs : List Expression) (n : ℕ) (old new : Draft) (starts starts' : List ℕ) (q : ℕ) (h : Expression) → Extends old new → length starts ≡ n → starts' ≡ starts ++ q ∷ []
+pub HasParts-more : (part : ℕ → Expression → graph.Part) (hs : List Expression) (n : ℕ) (old new : Draft) (starts starts' : List ℕ) (q : ℕ) (h : Expression)
+    → Extends old new → length starts ≡ n → starts' ≡ starts ++ q ∷ []
     → n < length hs → h ≡ get_or hs n h → HasParts old.states part hs n starts → HasPart new.states (part n h) q → HasParts new.states part hs (n + 1) starts'
 HasParts-more part hs n old new starts starts' q h e long grown inside is has last p x lt here =
     ⊎_elim
@@ -210,9 +231,11 @@ HasParts-more part hs n old new starts starts' q h e long grown inside is has la
     moved-part {p} {x} same this has = subst (λ k. HasPart new.states (part k x) q) (sym same) (subst (λ y. HasPart new.states (part n y) q) (sym this) has)
 
 -- the parts of patterns that are read forwards
-pub HasPatterns-forwards : (r : Patterns) (states : List State) (n : ℕ) (starts : List ℕ) → HasParts states (directed_part false r) r.expressions n starts → HasPatterns states r n starts
+pub HasPatterns-forwards : (r : Patterns) (states : List State) (n : ℕ) (starts : List ℕ) → HasParts states (directed_part false r) r.expressions n starts
+    → HasPatterns states r n starts
 HasPatterns-forwards r states n starts has p h lt is =
-    subst (λ body. HasPart states (compiled_pattern (whole_slot r.which_captures p) body p) (slice_index starts p)) (directed-forwards (slot_of r p) h) (has p h lt is)
+    subst (λ body. HasPart states (compiled_pattern (whole_slot r.which_captures p) body p) (slice_index starts p)) (directed-forwards (slot_of r p) h)
+    (has p h lt is)
 
 -- one sound expression more
 pub sound-more : (hs : List Expression) (n : ℕ) (h : Expression) → n < length hs → h ≡ get_or hs n h → IsSound h
@@ -228,17 +251,22 @@ sound-more hs n h inside is sound before p x lt here =
     (cases_lt p n)
 
 -- the runs of an NFA that has the patterns
-pub HasRuns-from : (r : Patterns) (nfa : Nfa) (old new : Draft) → HasPatterns old.states r (length r.expressions) nfa.starts → length nfa.starts ≡ length r.expressions → nfa.terminator ≡ r.terminator
+pub HasRuns-from : (r : Patterns) (nfa : Nfa) (old new : Draft) → HasPatterns old.states r (length r.expressions) nfa.starts
+    → length nfa.starts ≡ length r.expressions → nfa.terminator ≡ r.terminator
     → nfa.states ≡ new.states
     → StartsAll old new nfa.starts nfa.start_anchored
-    → (r.which_captures ≡ no_group → (text : List ℕ) (end : ℕ) (c : Configuration) → (automaton r.terminator new.states text end).written c ≡ None) → HasRuns nfa r
+    → (r.which_captures ≡ no_group → (text : List ℕ) (end : ℕ) (c : Configuration) → (automaton r.terminator new.states text end).written c ≡ None)
+    → HasRuns nfa r
 HasRuns-from r nfa old new has long ends kept starting silent = ⊎_elim only choice starting
   where
-    made : (e : Extends old new) → ((ok : Sieve) (text : List ℕ) (end i : ℕ) → end ≤ length text → first_trace (sieved ok (automaton r.terminator new.states text end)) (at nfa.start_anchored i) ≡ option_map (told r.which_captures) (first_of_patterns_where ok r text end 0 r.expressions i)) → HasRuns nfa r
+    made : (e : Extends old new) → ((ok : Sieve) (text : List ℕ) (end i : ℕ) → end ≤ length text
+        → first_trace (sieved ok (automaton r.terminator new.states text end)) (at nfa.start_anchored i) ≡ option_map (told r.which_captures)
+        (first_of_patterns_where ok r text end 0 r.expressions i)) → HasRuns nfa r
     made e from_all = record {
       patterns = long;
       each = λ ok text end p i h le is.
-          (λ k. first_trace (sieved ok (automaton (ends k) (kept k) text end)) (at (slice_index nfa.starts p) i)) ∙ each-found ok r text end le old new e (λ w c. silent w text end c) nfa.starts long has p i h is;
+          (λ k. first_trace (sieved ok (automaton (ends k) (kept k) text end)) (at (slice_index nfa.starts p) i))
+          ∙ each-found ok r text end le old new e (λ w c. silent w text end c) nfa.starts long has p i h is;
       all = λ ok text end i le. (λ k. first_trace (sieved ok (automaton (ends k) (kept k) text end)) (at nfa.start_anchored i)) ∙ from_all ok text end i le;
     }
 
@@ -250,7 +278,8 @@ HasRuns-from r nfa old new has long ends kept starting silent = ⊎_elim only ch
     choice : (nfa.start_anchored ≡ length old.states) × (new ≡ pushed old (Union nfa.starts)) → HasRuns nfa r
     choice h =
         let e : Extends old new = subst (Extends old) (sym h.1) (Extends-pushed old (Union nfa.starts)) in
-        made e (λ ok text end i le. ap (λ q. first_trace (sieved ok (automaton r.terminator new.states text end)) (at q i)) h.0 ∙ choice-found ok r text end le old new e (λ w c. silent w text end c) nfa.starts long has i h.1)
+        made e (λ ok text end i le. ap (λ q. first_trace (sieved ok (automaton r.terminator new.states text end)) (at q i)) h.0
+        ∙ choice-found ok r text end le old new e (λ w c. silent w text end c) nfa.starts long has i h.1)
 
 -- with the sieve that lets all through, they are the first runs
 pub HasRuns-first : (nfa : Nfa) (r : Patterns) → HasRuns nfa r → HasFirstRuns nfa r

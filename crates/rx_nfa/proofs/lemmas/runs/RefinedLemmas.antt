@@ -13,7 +13,7 @@ use Rattle.rx_model.specs.Refinement.{IsFresh, Reads, Fails}
 use Rattle.rx_model.specs.Graph as graph
 use Rattle.rx_model.proofs.lemmas.runs.RunLemmas.{by_test}
 use Rattle.rx_model.proofs.lemmas.graphs.SieveLemmas.{sieved-bounded, sieved-rises}
-use Rattle.rx_model.proofs.lemmas.meaning.CharLemmas.{member_len-some, member_len-none, byte_len-within, byte_len-past}
+use Rattle.rx_model.proofs.lemmas.meaning.CharLemmas.{member_len-some, member_len-none, byte_len-within, byte_len-past, by_option}
 use Rattle.rx_nfa.specs.Ranges.{StaysBelow}
 use Rattle.rx_nfa.specs.Row.{reading, IsReader}
 use Rattle.rx_nfa.specs.Trie.{IsClass, IsByteClass}
@@ -25,9 +25,10 @@ use Rattle.rx_nfa.specs.declared.state.State.TheVariants.{ByteRange, Sparse, Loo
 use Rattle.rx_nfa.proofs.lemmas.runs.AutomatonLemmas.{automaton-bounded, automaton-rises}
 use Rattle.rx_nfa.proofs.lemmas.classes.RowLemmas.{same_transitions, no_transitions}
 use Rattle.rx_nfa.proofs.lemmas.classes.ClassLemmas.{IsClass-map, IsByteClass-map}
-use Rattle.rx_nfa.proofs.lemmas.classes.ReadLemmas.{class-found, byte_class-found, some_or_none}
+use Rattle.rx_nfa.proofs.lemmas.classes.ReadLemmas.{class-found, byte_class-found}
 
-pub reads-step : (around : Surroundings) (end : ℕ) (s : State) (ts : List Transition) → reading s ≡ Some ts → (i : ℕ) → state_step around end s i ≡ read_byte around.byte end ts i
+pub reads-step : (around : Surroundings) (end : ℕ) (s : State) (ts : List Transition) → reading s ≡ Some ts → (i : ℕ)
+    → state_step around end s i ≡ read_byte around.byte end ts i
 reads-step around end (ByteRange low high next) ts e i = ap (λ xs. read_byte around.byte end xs i) (same_transitions (record { start = low; end = high; next = next } ∷ []) ts e)
 reads-step around end (Sparse transitions) ts e i = ap (λ xs. read_byte around.byte end xs i) (same_transitions transitions ts e)
 reads-step around end (Look look next) ts e i = absurd (no_transitions ts e)
@@ -63,7 +64,8 @@ pub IsReader-reading : (base : ℕ) (states : List State) (q : ℕ) (ts : List T
 IsReader-reading base states q ts r = ap reading r.stands.is ∙ r.reads
 
 -- a state that reads a byte does so in the automaton, and accepts nothing
-pub IsReader-reads : (ok : Sieve) (around : Surroundings) (states : List State) (end base q : ℕ) (ts : List Transition) → IsReader base states q ts → ReadsByte (sieved ok (automaton_over around states end)) around.byte end q ts
+pub IsReader-reads : (ok : Sieve) (around : Surroundings) (states : List State) (end base q : ℕ) (ts : List Transition) → IsReader base states q ts
+    → ReadsByte (sieved ok (automaton_over around states end)) around.byte end q ts
 unfolding automaton_over graph_of
 IsReader-reads ok around states end base q ts r =
     let reads = IsReader-reading base states q ts r in
@@ -82,14 +84,16 @@ IsReader-reads ok around states end base q ts r =
 pub IsClass-reads : (ok : Sieve) (terminator : ℕ) (states : List State) (text : List ℕ) (end base next q : ℕ) (rs : List (ℕ × ℕ)) → end ≤ length text
     → IsClass (IsReader base states) next rs q → ReadsClass (sieved ok (automaton terminator states text end)) text end next q (scalar_ranges rs)
 IsClass-reads ok terminator states text end base next q rs inside k =
-    class-found text end inside (sieved ok (automaton terminator states text end)) (sieved-bounded ok (automaton terminator states text end) (automaton-bounded (forwards terminator text) states end))
+    class-found text end inside (sieved ok (automaton terminator states text end))
+    (sieved-bounded ok (automaton terminator states text end) (automaton-bounded (forwards terminator text) states end))
     (sieved-rises ok (automaton terminator states text end) (automaton-rises (forwards terminator text) states end)) next rs q
-    (IsClass-map (IsReader base states) (ReadsByte (sieved ok (automaton terminator states text end)) (byte_of text) end) next (IsReader-reads ok (forwards terminator text) states end base) rs q k)
+    (IsClass-map (IsReader base states) (ReadsByte (sieved ok (automaton terminator states text end)) (byte_of text) end) next
+    (IsReader-reads ok (forwards terminator text) states end base) rs q k)
 
 -- a member takes a byte at least
 pub member_len-scalar : (text : List ℕ) (rs : List (ℕ × ℕ)) (i n : ℕ) → member_len text (scalar_ranges rs) i ≡ Some n → 0 < n
 member_len-scalar text rs i n e =
-    some_or_none (char_at text i)
+    by_option (char_at text i)
     (λ none. absurd (none-some n (sym (member_len-none text rs i none) ∙ e)))
     (λ c some. takes c (is_member rs c) (sym (member_len-some text rs i c some) ∙ e))
   where
@@ -104,7 +108,7 @@ pub set-refined : (g m : PriorityGraph) (f : ℕ → ℕ) (t : ℕ) (text : List
     → g.written (at s i) ≡ None → g.successors (at s i) ≡ graph.state_step t text end (graph.set members next) i
     → ((ok : Sieve) → ReadsClass (sieved ok m) text end (f next) (f s) members) → Reads g m f (at s i) ⊎ Fails g m f (at s i)
 set-refined g m f t text end s next i members positive unwritten goes reads =
-    some_or_none (member_len text members i)
+    by_option (member_len text members i)
     (λ none. inr (record {
       successors = goes ∙ rw none refl;
       fails = λ ok p fresh. reads ok p i fresh.new (ahead p fresh) ∙ ap (found_after (sieved ok m) p end (f next) i) none;
@@ -137,9 +141,12 @@ member_len-byte text rs i n e =
     takes true h = let is = same_Some _ _ h in omega arith
     takes false h = absurd (none-some n h)
 
-pub IsByteClass-reads : (ok : Sieve) (terminator : ℕ) (states : List State) (text : List ℕ) (end base next q : ℕ) (rs : List (ℕ × ℕ)) → end ≤ length text → StaysBelow 255 rs
+pub IsByteClass-reads : (ok : Sieve) (terminator : ℕ) (states : List State) (text : List ℕ) (end base next q : ℕ) (rs : List (ℕ × ℕ)) → end ≤ length text
+    → StaysBelow 255 rs
     → IsByteClass (IsReader base states) next rs q → ReadsClass (sieved ok (automaton terminator states text end)) text end next q (byte_ranges rs)
 IsByteClass-reads ok terminator states text end base next q rs inside below k =
-    byte_class-found text end inside (sieved ok (automaton terminator states text end)) (sieved-bounded ok (automaton terminator states text end) (automaton-bounded (forwards terminator text) states end))
+    byte_class-found text end inside (sieved ok (automaton terminator states text end))
+    (sieved-bounded ok (automaton terminator states text end) (automaton-bounded (forwards terminator text) states end))
     (sieved-rises ok (automaton terminator states text end) (automaton-rises (forwards terminator text) states end)) next rs below q
-    (IsByteClass-map (IsReader base states) (ReadsByte (sieved ok (automaton terminator states text end)) (byte_of text) end) next (IsReader-reads ok (forwards terminator text) states end base) rs q k)
+    (IsByteClass-map (IsReader base states) (ReadsByte (sieved ok (automaton terminator states text end)) (byte_of text) end) next
+    (IsReader-reads ok (forwards terminator text) states end base) rs q k)

@@ -63,11 +63,14 @@ module _ (t : ℕ) (text : List ℕ) (end : ℕ) where
 
   -- parts that differ in slots alone
   told-erased : (ok : Sieve) (xs ys : List graph.State) → map erased xs ≡ map erased ys → (c : Configuration)
-      → option_map (told none) (first_trace (sieved ok (graph.runs_of t text end xs)) c) ≡ option_map (told none) (first_trace (sieved ok (graph.runs_of t text end ys)) c)
+      → option_map (told none) (first_trace (sieved ok (graph.runs_of t text end xs)) c) ≡ option_map (told none)
+      (first_trace (sieved ok (graph.runs_of t text end ys)) c)
   told-erased ok xs ys same c =
-      found-alike (sieved ok (graph.runs_of t text end (map erased xs))) (sieved ok (graph.runs_of t text end xs)) (AgreesButForWrites-sieved ok _ _ (agrees-erased xs)) nowhere c
+      found-alike (sieved ok (graph.runs_of t text end (map erased xs))) (sieved ok (graph.runs_of t text end xs))
+      (AgreesButForWrites-sieved ok _ _ (agrees-erased xs)) nowhere c
       ∙ ap (λ zs. option_map (told none) (first_trace (sieved ok (graph.runs_of t text end zs)) c)) same
-      ∙ sym (found-alike (sieved ok (graph.runs_of t text end (map erased ys))) (sieved ok (graph.runs_of t text end ys)) (AgreesButForWrites-sieved ok _ _ (agrees-erased ys)) nowhere c)
+      ∙ sym (found-alike (sieved ok (graph.runs_of t text end (map erased ys))) (sieved ok (graph.runs_of t text end ys))
+      (AgreesButForWrites-sieved ok _ _ (agrees-erased ys)) nowhere c)
 
   last-erased : (xs : List graph.State) (n next : ℕ) → map erased (xs ++ graph.choice (next ∷ []) ∷ []) ≡ map erased (xs ++ graph.slot n next ∷ [])
   last-erased [] n next = refl
@@ -75,8 +78,10 @@ module _ (t : ℕ) (text : List ℕ) (end : ℕ) where
 
   -- what is told of the part of a pattern is told of its graph
   pub told-part : (ok : Sieve) (which : WhichCaptures) (slot : ℕ → Option ℕ) (p : ℕ) (h : Expression) (i : ℕ)
-      → option_map (told which) (first_trace (sieved ok (graph.runs_of t text end (compiled_pattern (whole_slot which p) (graph.build slot h) p).states)) (graph.at (compiled_pattern (whole_slot which p) (graph.build slot h) p).start i))
-      ≡ option_map (told which) (first_trace (sieved ok (graph.runs_of t text end (graph.build_pattern slot p h).states)) (graph.at (graph.build_pattern slot p h).start i))
+      → option_map (told which) (first_trace (sieved ok (graph.runs_of t text end (compiled_pattern (whole_slot which p) (graph.build slot h) p).states))
+      (graph.at (compiled_pattern (whole_slot which p) (graph.build slot h) p).start i))
+      ≡ option_map (told which) (first_trace (sieved ok (graph.runs_of t text end (graph.build_pattern slot p h).states))
+      (graph.at (graph.build_pattern slot p h).start i))
   unfolding compiled_pattern graph.build_pattern
   told-part ok all slot p h i = refl
   told-part ok implicit slot p h i = refl

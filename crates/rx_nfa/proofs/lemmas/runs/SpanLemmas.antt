@@ -38,7 +38,8 @@ module _ (nfa : Nfa) (r : Patterns) (runs : HasRuns nfa r) (text : List ℕ) (en
       (λ t e. same ∙ ap is_some e)
 
 -- from the common start each pattern has the runs that it has from its own
-pub common-start : (nfa : Nfa) (r : Patterns) → HasRuns nfa r → (text : List ℕ) (end p i : ℕ) (h : Expression) → end ≤ length text → slice_get r.expressions p ≡ Some h → (may : ℕ → Bool)
+pub common-start : (nfa : Nfa) (r : Patterns) → HasRuns nfa r → (text : List ℕ) (end p i : ℕ) (h : Expression) → end ≤ length text
+    → slice_get r.expressions p ≡ Some h → (may : ℕ → Bool)
     → first_trace (sieved (for_pattern p may) (automaton nfa.terminator nfa.states text end)) (at nfa.start_anchored i)
     ≡ first_trace (sieved (for_pattern p may) (automaton nfa.terminator nfa.states text end)) (at (slice_index nfa.starts p) i)
 common-start nfa r runs text end p i h within is may =

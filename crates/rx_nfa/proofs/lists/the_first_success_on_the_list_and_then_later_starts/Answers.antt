@@ -11,7 +11,9 @@ pub returns-clause-list : goal.returns-clause-list
 returns-clause-list c = λ around states names end g has_steps may start inside n i ends loops qs below best.
     let more : suc n ≡ n + 1 = omega arith in
     list_search-first around states names end g has_steps may start inside n i ends loops qs below best
-    ∙ ap (λ m. option_or (option_or (first_on g nowhere i qs) (where_there loops (option_map half_match_value (first_of_starts g may start m i nowhere)))) best) more
+    ∙ ap (λ m. option_or (option_or (first_on g nowhere i qs) (where_there loops (option_map half_match_value (first_of_starts g may start m i nowhere)))) best)
+    more
 
 pub returns-clause-next : goal.returns-clause-next
-returns-clause-next c = λ nfa range utf8_empty text anchor b a start in_order begins. list_search_of-next nfa range utf8_empty text b a in_order anchor start begins
+returns-clause-next c = λ nfa range utf8_empty text anchor b a start in_order begins. list_search_of-next nfa range utf8_empty text b a in_order anchor start
+    begins

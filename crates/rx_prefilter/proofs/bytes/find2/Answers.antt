@@ -9,7 +9,8 @@ returns c =
     let text = c.args.text.now in
     let from = c.args.from in
     let first = rw (take_rest text from) at c.memchr2.ensures in
-    c.found_from.ensures ∙ sym (first_span-bytes (c.args.a ∷ c.args.b ∷ []) (is_byte2 c.args.a c.args.b) (is_one_of-two c.args.a c.args.b) text from c.requires c.memchr2.result first)
+    c.found_from.ensures ∙ sym (first_span-bytes (c.args.a ∷ c.args.b ∷ []) (is_byte2 c.args.a c.args.b) (is_one_of-two c.args.a c.args.b) text from c.requires
+    c.memchr2.result first)
 
 pub found_from-requires : goal.found_from-requires
 found_from-requires c =

@@ -9,7 +9,8 @@ returns c =
     let text = c.args.text.now in
     let from = c.args.from in
     let first = rw (take_rest text from) at c.memchr3.ensures in
-    c.found_from.ensures ∙ sym (first_span-bytes (c.args.a ∷ c.args.b ∷ c.args.c ∷ []) (is_byte3 c.args.a c.args.b c.args.c) (is_one_of-three c.args.a c.args.b c.args.c) text from c.requires c.memchr3.result first)
+    c.found_from.ensures ∙ sym (first_span-bytes (c.args.a ∷ c.args.b ∷ c.args.c ∷ []) (is_byte3 c.args.a c.args.b c.args.c)
+    (is_one_of-three c.args.a c.args.b c.args.c) text from c.requires c.memchr3.result first)
 
 pub found_from-requires : goal.found_from-requires
 found_from-requires c =

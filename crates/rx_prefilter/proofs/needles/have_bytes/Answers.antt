@@ -11,7 +11,8 @@ returns-then-len-least c =
     let x = c.needle-item.result in
     let long = x.ok.0 in
     let test : (has_bytes c.args.least) x.items ≡ false = grind (arith, nat_tests, long, c.len.ensures, c.if-len-least.true) in
-    sym (at_next vec_items (list_all (has_bytes c.args.least)) c.args.needles.now c.loop-needle.needle-index x (omega arith) c.needle-item.is c.loop-needle.invariant
+    sym (at_next vec_items (list_all (has_bytes c.args.least)) c.args.needles.now c.loop-needle.needle-index x (omega arith) c.needle-item.is
+    c.loop-needle.invariant
     ∙ list_all-here (has_bytes c.args.least) x.items (drop (c.loop-needle.needle-index + 1) (map vec_items c.args.needles.now)) test)
 
 pub loop-needle-preserved : goal.loop-needle-preserved

@@ -13,7 +13,9 @@ returns-then-occurs_at c =
     let x = c.needle-item.result in
     let occurs : occurs_at text x.items at ≡ true = rw c.deref.ensures.value at (sym c.occurs_at.ensures ∙ c.if-occurs_at.true) in
     let len : c.len.result ≡ length x.items = omega (arith, x.ok.0, c.len.ensures) in
-    rw len (sym (at_next vec_items (λ (ns : List (List ℕ)). span_at ns text at) c.args.needles.now c.loop-needle.needle-index x (omega arith) c.needle-item.is c.loop-needle.invariant
+    rw len
+    (sym (at_next vec_items (λ (ns : List (List ℕ)). span_at ns text at) c.args.needles.now c.loop-needle.needle-index x (omega arith) c.needle-item.is
+    c.loop-needle.invariant
     ∙ span_at-here text at x.items _ occurs))
 
 pub loop-needle-preserved : goal.loop-needle-preserved
@@ -22,7 +24,8 @@ loop-needle-preserved c =
     let at = c.args.at in
     let x = c.needle-item.result in
     let occurs : occurs_at text x.items at ≡ false = rw c.deref.ensures.value at (sym c.occurs_at.ensures ∙ c.if-occurs_at.false) in
-    at_next vec_items (λ (ns : List (List ℕ)). span_at ns text at) c.args.needles.now c.loop-needle.needle-index x (omega arith) c.needle-item.is c.loop-needle.invariant
+    at_next vec_items (λ (ns : List (List ℕ)). span_at ns text at) c.args.needles.now c.loop-needle.needle-index x (omega arith) c.needle-item.is
+    c.loop-needle.invariant
     ∙ span_at-next text at x.items _ occurs
 
 pub returns : goal.returns

@@ -7,4 +7,5 @@ pub loop-item-preserved : goal.loop-item-preserved
 loop-item-preserved c =
     let l = c.loop-item in
     let greater : c.max-most.result ≡ max l.most c.depth.result = grind (arith, common_steps) in
-    rw greater (deepest-step c.args.items.now l.item-index c.item-item.result l.most c.depth.result _ c.loop-item-test.true c.item-item.is c.depth.ensures l.invariant)
+    rw greater (deepest-step c.args.items.now l.item-index c.item-item.result l.most c.depth.result _ c.loop-item-test.true c.item-item.is c.depth.ensures
+    l.invariant)

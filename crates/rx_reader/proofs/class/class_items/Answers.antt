@@ -23,13 +23,16 @@ returns-in_err-item-clause-value c from piece =
 pub returns-in-None-clause-value : goal.returns-in-None-clause-value
 returns-in-None-clause-value c from piece =
     let s = c.loop-items in
-    s.invariant.read from piece ∙ after_close c.args.syntax.octal c.args.syntax.skips from s.comes_first (place s.cursor) (place c.class_item.new.cursor) s.items.items (c.in_ok-item.ensures.value from piece ∙ ap (λ (o : Option ClassItem). found o (place c.class_item.new.cursor)) c.in-None.is)
+    s.invariant.read from piece ∙ after_close c.args.syntax.octal c.args.syntax.skips from s.comes_first (place s.cursor) (place c.class_item.new.cursor)
+    s.items.items (c.in_ok-item.ensures.value from piece ∙ ap (λ (o : Option ClassItem). found o (place c.class_item.new.cursor)) c.in-None.is)
 
 pub loop-items-preserved : goal.loop-items-preserved
 loop-items-preserved c =
     let s = c.loop-items in
     record {
       read = λ from piece. rw c.in_ok-push-in-Some.ensures.items (
-          s.invariant.read from piece ∙ after_item c.args.syntax.octal c.args.syntax.skips from s.comes_first (place s.cursor) (place c.class_item.new.cursor) s.items.items c.in-Some.item (c.in_ok-item.ensures.value from piece ∙ ap (λ (o : Option ClassItem). found o (place c.class_item.new.cursor)) c.in-Some.is));
+          s.invariant.read from piece ∙ after_item c.args.syntax.octal c.args.syntax.skips from s.comes_first (place s.cursor) (place c.class_item.new.cursor)
+          s.items.items c.in-Some.item (c.in_ok-item.ensures.value from piece
+          ∙ ap (λ (o : Option ClassItem). found o (place c.class_item.new.cursor)) c.in-Some.is));
       moves = omega (arith, s.invariant.moves, c.in_ok-item.ensures.progress);
     }

@@ -7,7 +7,8 @@ use Rattle.rx_reader.proofs.class.class_items.Given as goal
 
 abbrev pub invariant-loop-items : goal.invariant-loop-items
 invariant-loop-items l = record {
-  read : (from : Place) → IsPieceAt l.opening from → all_class_items l.syntax.octal l.syntax.skips from true (place l.fn.cursor) ≡ after l.items.items (all_class_items l.syntax.octal l.syntax.skips from l.comes_first (place l.cursor));
+  read : (from : Place) → IsPieceAt l.opening from → all_class_items l.syntax.octal l.syntax.skips from true (place l.fn.cursor) ≡ after l.items.items
+      (all_class_items l.syntax.octal l.syntax.skips from l.comes_first (place l.cursor));
   moves : unread l.cursor ≤ unread l.fn.cursor;
 }
 

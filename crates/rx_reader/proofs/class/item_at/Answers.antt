@@ -32,4 +32,5 @@ returns-clause-value c from piece =
     let octal = c.args.syntax.octal in
     let skips = c.args.syntax.skips in
     let same : item_at octal skips from p ≡ class_range octal skips from p c.in_ok-low.low (place c.skip_white.new.self) = grind (arith, common_steps) in
-    subst (λ reading. Reads c.class_range.result reading (place c.class_range.new.cursor)) (sym same) (c.class_range.ensures.value from p piece c.at-start.ensures)
+    subst (λ reading. Reads c.class_range.result reading (place c.class_range.new.cursor)) (sym same)
+    (c.class_range.ensures.value from p piece c.at-start.ensures)

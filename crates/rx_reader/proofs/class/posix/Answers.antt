@@ -17,7 +17,8 @@ unfolding posix past_n
 returns-then-begins-2-clause-value c =
     let p = place c.args.cursor.now in
     let same : posix p ≡ posix_name p false (place c.bump_by-then-begins-2.new.self) = grind (arith, common_steps) in
-    subst (λ reading. Reads c.posix_name-then-begins-2.result reading (place c.posix_name-then-begins-2.new.cursor)) (sym same) (c.posix_name-then-begins-2.ensures.value p c.here-bracket.ensures)
+    subst (λ reading. Reads c.posix_name-then-begins-2.result reading (place c.posix_name-then-begins-2.new.cursor)) (sym same)
+    (c.posix_name-then-begins-2.ensures.value p c.here-bracket.ensures)
 
 pub returns-clause-value : goal.returns-clause-value
 unfolding posix

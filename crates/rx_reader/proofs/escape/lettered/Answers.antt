@@ -15,13 +15,15 @@ pub returns-then-bump_over-2-clause-value : goal.returns-then-bump_over-2-clause
 unfolding lettered
 returns-then-bump_over-2-clause-value c from start =
     let same : lettered from (place c.args.cursor.now) ≡ hex from 4 (place c.bump_over-2.new.self) = grind (arith, common_steps, nat_tests) in
-    subst (λ reading. Reads c.hex-then-bump_over-2.result reading (place c.hex-then-bump_over-2.new.cursor)) (sym same) (c.hex-then-bump_over-2.ensures.value from start)
+    subst (λ reading. Reads c.hex-then-bump_over-2.result reading (place c.hex-then-bump_over-2.new.cursor)) (sym same)
+    (c.hex-then-bump_over-2.ensures.value from start)
 
 pub returns-then-bump_over-3-clause-value : goal.returns-then-bump_over-3-clause-value
 unfolding lettered
 returns-then-bump_over-3-clause-value c from start =
     let same : lettered from (place c.args.cursor.now) ≡ hex from 8 (place c.bump_over-3.new.self) = grind (arith, common_steps, nat_tests) in
-    subst (λ reading. Reads c.hex-then-bump_over-3.result reading (place c.hex-then-bump_over-3.new.cursor)) (sym same) (c.hex-then-bump_over-3.ensures.value from start)
+    subst (λ reading. Reads c.hex-then-bump_over-3.result reading (place c.hex-then-bump_over-3.new.cursor)) (sym same)
+    (c.hex-then-bump_over-3.ensures.value from start)
 
 pub returns-then-bump_over-4-clause-value : goal.returns-then-bump_over-4-clause-value
 unfolding lettered
@@ -33,7 +35,8 @@ pub returns-then-bump_over-5-clause-value : goal.returns-then-bump_over-5-clause
 unfolding lettered
 returns-then-bump_over-5-clause-value c from start =
     let same : lettered from (place c.args.cursor.now) ≡ property from true (place c.bump_over-5.new.self) = grind (arith, common_steps, nat_tests) in
-    subst (λ reading. Reads c.property-then-bump_over-5.result reading (place c.property-then-bump_over-5.new.cursor)) (sym same) (c.property-then-bump_over-5.ensures.value from start)
+    subst (λ reading. Reads c.property-then-bump_over-5.result reading (place c.property-then-bump_over-5.new.cursor)) (sym same)
+    (c.property-then-bump_over-5.ensures.value from start)
 
 pub returns-then-bump_over-6-clause-value : goal.returns-then-bump_over-6-clause-value
 unfolding lettered

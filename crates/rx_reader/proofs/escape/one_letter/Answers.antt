@@ -27,10 +27,14 @@ pub returns-in-Some : goal.returns-in-Some
 returns-in-Some c = by_set c.args.c c.in-Some.found (sym c.perl_class.ensures ∙ c.in-Some.is)
 
 pub returns-in-Some-assertion : goal.returns-in-Some-assertion
-returns-in-Some-assertion c = by_assertion c.args.c c.in-Some-assertion.kind (sym c.perl_class.ensures ∙ c.in-None.is) (sym c.assertion.ensures ∙ c.in-Some-assertion.is)
+returns-in-Some-assertion c = by_assertion c.args.c c.in-Some-assertion.kind (sym c.perl_class.ensures ∙ c.in-None.is)
+    (sym c.assertion.ensures ∙ c.in-Some-assertion.is)
 
 pub returns-in-Some-escaped_character : goal.returns-in-Some-escaped_character
-returns-in-Some-escaped_character c = ap Some c.character.ensures ∙ by_character c.args.c (Some c.in-Some-escaped_character.c) (sym c.perl_class.ensures ∙ c.in-None.is) (sym c.assertion.ensures ∙ c.in-None-assertion.is) (sym c.escaped_character.ensures ∙ c.in-Some-escaped_character.is)
+returns-in-Some-escaped_character c = ap Some c.character.ensures ∙ by_character c.args.c (Some c.in-Some-escaped_character.c)
+    (sym c.perl_class.ensures ∙ c.in-None.is) (sym c.assertion.ensures ∙ c.in-None-assertion.is)
+    (sym c.escaped_character.ensures ∙ c.in-Some-escaped_character.is)
 
 pub returns-in-None-escaped_character : goal.returns-in-None-escaped_character
-returns-in-None-escaped_character c = by_character c.args.c None (sym c.perl_class.ensures ∙ c.in-None.is) (sym c.assertion.ensures ∙ c.in-None-assertion.is) (sym c.escaped_character.ensures ∙ c.in-None-escaped_character.is)
+returns-in-None-escaped_character c = by_character c.args.c None (sym c.perl_class.ensures ∙ c.in-None.is) (sym c.assertion.ensures ∙ c.in-None-assertion.is)
+    (sym c.escaped_character.ensures ∙ c.in-None-escaped_character.is)

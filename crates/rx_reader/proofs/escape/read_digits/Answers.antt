@@ -31,7 +31,8 @@ loop-count-preserved c =
     let e : c.args.most - s.count ≡ suc left = omega (arith, c.loop-count-test.true) in
     let many = digit-many radix (c.args.most - s.count) left p q e c.in-Some.ensures.1 c.bump.ensures.value in
     record {
-      number = s.invariant.number ∙ digit-number radix (c.args.most - s.count) left s.value c.in-Some.digit p q e c.in-Some.ensures.1 c.in-Some.ensures.2 c.bump.ensures.value;
+      number = s.invariant.number ∙ digit-number radix (c.args.most - s.count) left s.value c.in-Some.digit p q e c.in-Some.ensures.1 c.in-Some.ensures.2
+          c.bump.ensures.value;
       many = omega (arith, s.invariant.many, many);
       here = c.bump.ensures.value ∙ ap past s.invariant.here ∙ sym (past_n-more s.count (place c.args.cursor.now));
       moves = omega (arith, s.invariant.moves, past_shorter p q c.bump.ensures.value);
@@ -54,7 +55,8 @@ overflow_mul-value c =
 pub returns-in-None-clause-number : goal.returns-in-None-clause-number
 returns-in-None-clause-number c =
     let s = c.loop-count in
-    sym (s.invariant.number ∙ ap (λ ds. digits_value_after c.args.radix s.value ds) (digits-stop c.args.radix (c.args.most - s.count) (place s.cursor) c.in-None.ensures))
+    sym (s.invariant.number ∙ ap (λ ds. digits_value_after c.args.radix s.value ds)
+    (digits-stop c.args.radix (c.args.most - s.count) (place s.cursor) c.in-None.ensures))
 
 pub returns-in-None-clause-count : goal.returns-in-None-clause-count
 returns-in-None-clause-count c =

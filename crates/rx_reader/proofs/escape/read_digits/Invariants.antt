@@ -8,7 +8,8 @@ use Rattle.rx_reader.proofs.escape.read_digits.Given as goal
 
 abbrev pub invariant-loop-count : goal.invariant-loop-count
 invariant-loop-count l = record {
-  number : digits_value l.radix (digits l.radix l.most (place l.fn.cursor)) ≡ digits_value_after l.radix l.value (digits l.radix (l.most - l.count) (place l.cursor));
+  number : digits_value l.radix (digits l.radix l.most (place l.fn.cursor)) ≡ digits_value_after l.radix l.value
+      (digits l.radix (l.most - l.count) (place l.cursor));
   many : length (digits l.radix l.most (place l.fn.cursor)) ≡ l.count + length (digits l.radix (l.most - l.count) (place l.cursor));
   here : place l.cursor ≡ past_n l.count (place l.fn.cursor);
   moves : unread l.cursor ≤ unread l.fn.cursor;

@@ -14,7 +14,8 @@ loop-inside-preserved c =
     let goes : passes test (place s) ≡ true = sym c.is_in_name.ensures.value ∙ c.loop-inside-test.true in
     let lt : unread c.bump.new.self < unread s = c.bump.ensures.progress (c.is_in_name.ensures.more c.loop-inside-test.true) in
     record {
-      read = c.loop-inside.invariant.read ∙ push_leading test (place s) (place c.bump.new.self) c.loop-inside.name.items c.push.new.self.items c.first.result goes c.bump.ensures.value c.in_ok-push.ensures.items c.first.ensures;
+      read = c.loop-inside.invariant.read ∙ push_leading test (place s) (place c.bump.new.self) c.loop-inside.name.items c.push.new.self.items c.first.result
+          goes c.bump.ensures.value c.in_ok-push.ensures.items c.first.ensures;
       same = c.loop-inside.invariant.same ∙ past_all_goes (place s) test goes ∙ ap (past_all test) (sym c.bump.ensures.value);
       moves = omega (arith, c.loop-inside.invariant.moves, lt);
     }
@@ -29,4 +30,5 @@ pub returns-clause-name : goal.returns-clause-name
 returns-clause-name c =
     let s = c.loop-inside.cursor in
     let stops : passes (in_name c.args.inside) (place s) ≡ false = sym c.is_in_name.ensures.value ∙ c.loop-inside-test.false in
-    sym (c.loop-inside.invariant.read ∙ ap (λ rest. c.loop-inside.name.items ++ rest) (leading-stops (in_name c.args.inside) (place s) stops) ∙ append-nil c.loop-inside.name.items)
+    sym (c.loop-inside.invariant.read ∙ ap (λ rest. c.loop-inside.name.items ++ rest) (leading-stops (in_name c.args.inside) (place s) stops)
+    ∙ append-nil c.loop-inside.name.items)

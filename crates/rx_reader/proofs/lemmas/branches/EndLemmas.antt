@@ -16,7 +16,8 @@ refused n e = record { below = λ a q is. cc }
 pub reads : {A : Type 0} {n : ℕ} {a : A} {q : Place} → length q.text < n → EndsBelow {A = A} n (Ok (a, q))
 reads {A} {n} {a} {q} h = record { below = λ b r is. let pairs : ◌≡◌ {A = A × Place} (a, q) (b, r) = cc in subst (λ (t : A × Place). length t.1.text < n) pairs h }
 
-pub bind : {A B : Type 0} {n m : ℕ} {r : Read A} (f : A × Place → Read B) → EndsBelow m r → ((a : A) (q : Place) → length q.text < m → EndsBelow n (f (a, q))) → EndsBelow n (r >>= f)
+pub bind : {A B : Type 0} {n m : ℕ} {r : Read A} (f : A × Place → Read B) → EndsBelow m r → ((a : A) (q : Place) → length q.text < m → EndsBelow n (f (a, q)))
+    → EndsBelow n (r >>= f)
 bind {A} {B} {n} {m} {r} f h next = bind_at r h
   where
     bind_at : (r : Read A) → EndsBelow m r → EndsBelow n (r >>= f)
@@ -27,7 +28,8 @@ pub test : {A : Type 0} {n : ℕ} (b : Bool) {x y : Read A} → (b ≡ true → 
 test {A} {n} true {x} {y} then_x else_y = then_x refl
 test {A} {n} false {x} {y} then_x else_y = else_y refl
 
-pub same_bind : {A B : Type 0} {m : ℕ} (r : Read A) (f g : A × Place → Read B) → EndsBelow m r → ((a : A) (q : Place) → length q.text < m → f (a, q) ≡ g (a, q)) → r >>= f ≡ r >>= g
+pub same_bind : {A B : Type 0} {m : ℕ} (r : Read A) (f g : A × Place → Read B) → EndsBelow m r → ((a : A) (q : Place) → length q.text < m → f (a, q) ≡ g (a, q))
+    → r >>= f ≡ r >>= g
 same_bind (Ok (a, q)) f g h next = next a q (h.below a q refl)
 same_bind (Err e) f g h next = refl
 

@@ -26,7 +26,8 @@ module _ (config : Config) (flags : Flags) where
   then_on : Syntax → Place → Read Operator → Read Syntax
   then_on item p reading = reading >>= λ (o, q). within_limit config (repeated_by o item) p q >>= λ (s, r). all_repetitions config flags s r
 
-  under : (item : Syntax) (p : Place) (reading : Read Operator) → is_operator p ≡ true → operator flags p ≡ reading → repeated_from item p ≡ then_on item p reading
+  under : (item : Syntax) (p : Place) (reading : Read Operator) → is_operator p ≡ true → operator flags p ≡ reading
+      → repeated_from item p ≡ then_on item p reading
   unfolding then_on
   under item p reading h is = ap (repeat_if config (all_repetitions config flags) flags item p) h ∙ ap (then_on item p) is
 
@@ -34,14 +35,16 @@ module _ (config : Config) (flags : Flags) where
   unfolding then_on
   repeat_refused item p e h is = under item p (Err e) h is
 
-  pub repeat_goes : (item : Syntax) (p : Place) (o : Operator) (q : Place) → is_operator p ≡ true → operator flags p ≡ Ok (o, q) → nat_lt (limit_of config) (depth (repeated_by o item)) ≡ false → repeated_from item p ≡ repeated_from (repeated_by o item) (skip flags q)
+  pub repeat_goes : (item : Syntax) (p : Place) (o : Operator) (q : Place) → is_operator p ≡ true → operator flags p ≡ Ok (o, q)
+      → nat_lt (limit_of config) (depth (repeated_by o item)) ≡ false → repeated_from item p ≡ repeated_from (repeated_by o item) (skip flags q)
   unfolding then_on
   repeat_goes item p o q h is within =
       under item p (Ok (o, q)) h is
       ∙ ap (λ (b : Bool). (if b then refuse NestLimit p q else Ok (repeated_by o item, q)) >>= λ (s, r). all_repetitions config flags s r) within
       ∙ all_repetitions-step config flags (repeated_by o item) q
 
-  pub repeat_too_deep : (item : Syntax) (p : Place) (o : Operator) (q : Place) → is_operator p ≡ true → operator flags p ≡ Ok (o, q) → nat_lt (limit_of config) (depth (repeated_by o item)) ≡ true → repeated_from item p ≡ refuse NestLimit p q
+  pub repeat_too_deep : (item : Syntax) (p : Place) (o : Operator) (q : Place) → is_operator p ≡ true → operator flags p ≡ Ok (o, q)
+      → nat_lt (limit_of config) (depth (repeated_by o item)) ≡ true → repeated_from item p ≡ refuse NestLimit p q
   unfolding then_on
   repeat_too_deep item p o q h is within =
       under item p (Ok (o, q)) h is

@@ -52,10 +52,12 @@ module _ (config : Config) where
 
   -- what is read after a closed group
   then_on : (fs : List Around) (f : Around) → Read Syntax → Result Syntax SyntaxError
-  then_on fs f reading = reading >>= λ (s, after). all_repetitions config f.flags s after >>= λ (x, t). resume config fs (push_item f.gathered x) (all_branches config f.flags (length fs) t)
+  then_on fs f reading = reading >>= λ (s, after). all_repetitions config f.flags s after >>= λ (x, t). resume config fs (push_item f.gathered x)
+      (all_branches config f.flags (length fs) t)
 
   -- what changes what is read changes what was gathered
-  resume-change : (fs : List Around) (g h : Gathered) (f : Branches → Branches) → ((b : Branches) → merged g (f b) ≡ merged h b) → (reading : Read Branches) → resume config fs g (reading >>= λ (b, r). Ok (f b, r)) ≡ resume config fs h reading
+  resume-change : (fs : List Around) (g h : Gathered) (f : Branches → Branches) → ((b : Branches) → merged g (f b) ≡ merged h b) → (reading : Read Branches)
+      → resume config fs g (reading >>= λ (b, r). Ok (f b, r)) ≡ resume config fs h reading
   unfolding resume then_on
   resume-change fs g h f same (Err e) = resume-err fs g e ∙ sym (resume-err fs h e)
   resume-change [] g h f same (Ok (b, q)) = ap (λ (s : Syntax). if at_end q then Ok s else refuse UnopenedGroup q (past q)) (same b)
@@ -73,31 +75,42 @@ module _ (config : Config) where
   merged-none g = ap (λ (xs : List Syntax). alt (syntaxes (g.branches ++ cat (syntaxes xs) ∷ []))) (append-nil g.items)
 
   -- an item, under the operators after it
-  pub resume-item : (fs : List Around) (g : Gathered) (more : Place → Read Branches) (flags : Flags) (s : Syntax) (p : Place) (item : Syntax) (r : Place) → all_repetitions config flags s p ≡ Ok (item, r) → resume config fs g (item_then config more flags s p) ≡ resume config fs (push_item g item) (more r)
+  pub resume-item : (fs : List Around) (g : Gathered) (more : Place → Read Branches) (flags : Flags) (s : Syntax) (p : Place) (item : Syntax) (r : Place)
+      → all_repetitions config flags s p ≡ Ok (item, r) → resume config fs g (item_then config more flags s p) ≡ resume config fs (push_item g item) (more r)
   resume-item fs g more flags s p item r h =
       ap (λ (reading : Read Syntax). resume config fs g (reading >>= λ (x, q). more q >>= λ (b, t). Ok (add_item x b, t))) h
       ∙ resume-change fs g (push_item g item) (add_item item) (merged-item g item) (more r)
 
-  pub resume-item_err : (fs : List Around) (g : Gathered) (more : Place → Read Branches) (flags : Flags) (s : Syntax) (p : Place) (e : SyntaxError) → all_repetitions config flags s p ≡ Err e → resume config fs g (item_then config more flags s p) ≡ Err e
+  pub resume-item_err : (fs : List Around) (g : Gathered) (more : Place → Read Branches) (flags : Flags) (s : Syntax) (p : Place) (e : SyntaxError)
+      → all_repetitions config flags s p ≡ Err e → resume config fs g (item_then config more flags s p) ≡ Err e
   resume-item_err fs g more flags s p e h =
       ap (λ (reading : Read Syntax). resume config fs g (reading >>= λ (x, q). more q >>= λ (b, t). Ok (add_item x b, t))) h ∙ resume-err fs g e
 
   -- what is read next, by its token
-  pub resume-token : (fs : List Around) (g : Gathered) (flags : Flags) (opened : ℕ) (p : Place) (t : Token) (q : Place) → token config flags p ≡ Ok (t, q) → resume config fs g (token_then config (all_branches config) flags opened p) ≡ resume config fs g (branches_at config (all_branches config) flags opened p (t, q))
+  pub resume-token : (fs : List Around) (g : Gathered) (flags : Flags) (opened : ℕ) (p : Place) (t : Token) (q : Place) → token config flags p ≡ Ok (t, q)
+      → resume config fs g (token_then config (all_branches config) flags opened p) ≡ resume config fs g
+      (branches_at config (all_branches config) flags opened p (t, q))
   resume-token fs g flags opened p t q h = ap (λ (r : Read Token). resume config fs g (r >>= branches_at config (all_branches config) flags opened p)) h
 
-  pub resume-token_err : (fs : List Around) (g : Gathered) (flags : Flags) (opened : ℕ) (p : Place) (e : SyntaxError) → token config flags p ≡ Err e → resume config fs g (token_then config (all_branches config) flags opened p) ≡ Err e
+  pub resume-token_err : (fs : List Around) (g : Gathered) (flags : Flags) (opened : ℕ) (p : Place) (e : SyntaxError) → token config flags p ≡ Err e
+      → resume config fs g (token_then config (all_branches config) flags opened p) ≡ Err e
   resume-token_err fs g flags opened p e h =
       ap (λ (r : Read Token). resume config fs g (r >>= branches_at config (all_branches config) flags opened p)) h ∙ resume-err fs g e
 
-  pub resume-bar : (fs : List Around) (g : Gathered) (flags : Flags) (opened : ℕ) (q : Place) → resume config fs g (all_branches config flags opened q >>= λ (b, r). Ok (add_branch b, r)) ≡ resume config fs (push_branch g) (all_branches config flags opened q)
+  pub resume-bar : (fs : List Around) (g : Gathered) (flags : Flags) (opened : ℕ) (q : Place)
+      → resume config fs g (all_branches config flags opened q >>= λ (b, r). Ok (add_branch b, r)) ≡ resume config fs (push_branch g)
+      (all_branches config flags opened q)
   resume-bar fs g flags opened q = resume-change fs g (push_branch g) add_branch (merged-branch g) (all_branches config flags opened q)
 
-  by_item : (fs : List Around) (g : Gathered) (flags : Flags) (item : Read Syntax) → resume config fs g (item >>= λ (x, r). all_branches config flags (length fs) r >>= λ (b, t). Ok (add_item x b, t)) ≡ (item >>= λ (x, r). resume config fs (push_item g x) (all_branches config flags (length fs) r))
+  by_item : (fs : List Around) (g : Gathered) (flags : Flags) (item : Read Syntax)
+      → resume config fs g (item >>= λ (x, r). all_branches config flags (length fs) r >>= λ (b, t). Ok (add_item x b, t))
+      ≡ (item >>= λ (x, r). resume config fs (push_item g x) (all_branches config flags (length fs) r))
   by_item fs g flags (Ok (x, r)) = resume-change fs g (push_item g x) (add_item x) (merged-item g x) (all_branches config flags (length fs) r)
   by_item fs g flags (Err e) = resume-err fs g e
 
-  by_group : (fs : List Around) (g : Gathered) (flags : Flags) (closed : Read Syntax) → resume config fs g (closed >>= λ (item, after). item_then config (all_branches config flags (length fs)) flags item after) ≡ (closed >>= λ (s, after). all_repetitions config flags s after >>= λ (x, r). resume config fs (push_item g x) (all_branches config flags (length fs) r))
+  by_group : (fs : List Around) (g : Gathered) (flags : Flags) (closed : Read Syntax)
+      → resume config fs g (closed >>= λ (item, after). item_then config (all_branches config flags (length fs)) flags item after)
+      ≡ (closed >>= λ (s, after). all_repetitions config flags s after >>= λ (x, r). resume config fs (push_item g x) (all_branches config flags (length fs) r))
   by_group fs g flags (Ok (s, after)) = by_item fs g flags (all_repetitions config flags s after)
   by_group fs g flags (Err e) = resume-err fs g e
 
@@ -105,7 +118,9 @@ module _ (config : Config) where
   opened_at : Gathered → Flags → Place → GroupKind → Around
   opened_at g flags p kind = record { gathered = g; start = p.at; end = (past p).at; kind = kind; flags = flags }
 
-  by_reading : (fs : List Around) (g : Gathered) (flags : Flags) (p : Place) (kind : GroupKind) (reading : Read Branches) → resume config fs g (reading >>= λ (body, r). close_group config kind p (whole body) r >>= λ (item, after). item_then config (all_branches config flags (length fs)) flags item after) ≡ resume config (opened_at g flags p kind ∷ fs) nothing reading
+  by_reading : (fs : List Around) (g : Gathered) (flags : Flags) (p : Place) (kind : GroupKind) (reading : Read Branches)
+      → resume config fs g (reading >>= λ (body, r). close_group config kind p (whole body) r >>= λ (item, after). item_then config
+      (all_branches config flags (length fs)) flags item after) ≡ resume config (opened_at g flags p kind ∷ fs) nothing reading
   unfolding resume opened_at
   by_reading fs g flags p kind (Ok (b, r)) = by_group fs g flags (close_group config kind p (whole b) r)
   by_reading fs g flags p kind (Err e) = resume-err fs g e
@@ -114,7 +129,8 @@ module _ (config : Config) where
   resume-too_many fs g flags opened p kind inside q = resume-err fs g _
 
   pub resume-pushed : (fs stack : List Around) (a : Around) (g h : Gathered) (flags : Flags) (p : Place) (kind : GroupKind) (inside : Flags) (q : Place) → stack ≡ a ∷ fs → h ≡ nothing → a ≡ record { gathered = g; start = p.at; end = (past p).at; kind = kind; flags = flags } → nat_lt (limit_of config) (length fs + 1) ≡ false →
-      resume config stack h (all_branches config inside (length stack) q) ≡ resume config fs g (group_then config (all_branches config) flags (length fs) p kind inside q (nat_lt (limit_of config) (length fs + 1)))
+      resume config stack h (all_branches config inside (length stack) q) ≡ resume config fs g
+      (group_then config (all_branches config) flags (length fs) p kind inside q (nat_lt (limit_of config) (length fs + 1)))
   unfolding opened_at
   resume-pushed fs stack a g h flags p kind inside q pushed empty is within =
       rw (pushed, empty, within) (ap (λ (n : ℕ). resume config (a ∷ fs) nothing (all_branches config inside n q)) (sym (add-one (length fs)))
@@ -122,7 +138,8 @@ module _ (config : Config) where
       ∙ sym (by_reading fs g flags p kind (all_branches config inside (length fs + 1) q)))
 
   -- a group that closes
-  closing : (fs : List Around) (f : Around) (g : Gathered) (p : Place) → resume config (f ∷ fs) g (Ok (no_items, p)) ≡ then_on fs f (close_at config f (gathered_whole g) p)
+  closing : (fs : List Around) (f : Around) (g : Gathered) (p : Place)
+      → resume config (f ∷ fs) g (Ok (no_items, p)) ≡ then_on fs f (close_at config f (gathered_whole g) p)
   unfolding resume then_on
   closing fs f g p = ap (λ (s : Syntax). then_on fs f (close_at config f s p)) (merged-none g)
 
@@ -136,13 +153,16 @@ module _ (config : Config) where
   unfolding then_on closed_if
   resume-unclosed fs f g p h = closing fs f g p ∙ ap (λ (b : Bool). then_on fs f (closed_if f g p b)) h
 
-  pub resume-too_deep : (fs : List Around) (f : Around) (g : Gathered) (p : Place) → at_end p ≡ false → nat_lt (limit_of config) (depth (group f.kind (gathered_whole g))) ≡ true → resume config (f ∷ fs) g (Ok (no_items, p)) ≡ refuse NestLimit p (past p)
+  pub resume-too_deep : (fs : List Around) (f : Around) (g : Gathered) (p : Place) → at_end p ≡ false
+      → nat_lt (limit_of config) (depth (group f.kind (gathered_whole g))) ≡ true → resume config (f ∷ fs) g (Ok (no_items, p)) ≡ refuse NestLimit p (past p)
   unfolding then_on closed_if within_if
   resume-too_deep fs f g p h deep =
       closing fs f g p ∙ ap (λ (b : Bool). then_on fs f (closed_if f g p b)) h ∙ ap (λ (b : Bool). then_on fs f (within_if f g p b)) deep
 
-  pub resume-group : (fs : List Around) (f : Around) (g : Gathered) (p : Place) → at_end p ≡ false → nat_lt (limit_of config) (depth (group f.kind (gathered_whole g))) ≡ false →
-      resume config (f ∷ fs) g (Ok (no_items, p)) ≡ resume config fs f.gathered (item_then config (all_branches config f.flags (length fs)) f.flags (group f.kind (gathered_whole g)) (past p))
+  pub resume-group : (fs : List Around) (f : Around) (g : Gathered) (p : Place) → at_end p ≡ false
+      → nat_lt (limit_of config) (depth (group f.kind (gathered_whole g))) ≡ false →
+      resume config (f ∷ fs) g (Ok (no_items, p)) ≡ resume config fs f.gathered
+      (item_then config (all_branches config f.flags (length fs)) f.flags (group f.kind (gathered_whole g)) (past p))
   unfolding then_on closed_if within_if
   resume-group fs f g p h within =
       closing fs f g p ∙ ap (λ (b : Bool). then_on fs f (closed_if f g p b)) h ∙ ap (λ (b : Bool). then_on fs f (within_if f g p b)) within
@@ -161,13 +181,15 @@ module _ (config : Config) where
   from_start (Ok (b, q)) = refl
   from_start (Err e) = refl
 
-  pub resume-start : (fs : List Around) (g : Gathered) (flags : Flags) (p : Place) (text : List ℕ) → fs ≡ [] → g ≡ nothing → flags ≡ flags_of config → p ≡ start_of text → resume config fs g (all_branches config flags (length fs) p) ≡ read config text
+  pub resume-start : (fs : List Around) (g : Gathered) (flags : Flags) (p : Place) (text : List ℕ) → fs ≡ [] → g ≡ nothing → flags ≡ flags_of config
+      → p ≡ start_of text → resume config fs g (all_branches config flags (length fs) p) ≡ read config text
   unfolding read
   resume-start fs g flags p text none empty same start =
       rw (none, empty, same, start) (from_start (all_branches config (flags_of config) 0 (start_of text)))
 
   -- at the end
-  pub resume-end : (fs : List Around) (g : Gathered) (flags : Flags) (opened : ℕ) (p : Place) → at_end p ≡ true → resume config fs g (all_branches config flags opened p) ≡ resume config fs g (Ok (no_items, p))
+  pub resume-end : (fs : List Around) (g : Gathered) (flags : Flags) (opened : ℕ) (p : Place) → at_end p ≡ true
+      → resume config fs g (all_branches config flags opened p) ≡ resume config fs g (Ok (no_items, p))
   resume-end fs g flags opened p h =
       ap (resume config fs g) (all_branches-step config flags opened p ∙ ap (token_then config (all_branches config) flags opened) (skip-end flags p h))
       ∙ resume-token fs g flags opened p End p (token-end config flags p h)

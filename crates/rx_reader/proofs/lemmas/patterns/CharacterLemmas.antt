@@ -88,7 +88,8 @@ opens-scalars : (flags : Flags) (p : Place) → Scalars p → KeepsToken (opens 
 unfolding opens
 opens-scalars flags p at = bind _ (opening-scalars flags p at) (λ o q here. reads (opened-none o, here))
 
-character-scalars : (b : Bool) (flags : Flags) (piece : Piece) (c : ℕ) → IsScalar c → AllIn IsScalar (if b then atom flags piece (atoms.HexByte c) else literal flags c)
+character-scalars : (b : Bool) (flags : Flags) (piece : Piece) (c : ℕ) → IsScalar c
+    → AllIn IsScalar (if b then atom flags piece (atoms.HexByte c) else literal flags c)
 unfolding AllIn
 character-scalars true flags piece c is = is
 character-scalars false flags piece c is = is
@@ -103,7 +104,8 @@ escaped_atom-scalars flags piece (escapes.Property name negated) own = tt
 module _ (config : Config) where
   escaped-scalars : (flags : Flags) (p : Place) → Scalars p → KeepsToken (escaped config flags p)
   unfolding escaped
-  escaped-scalars flags p at = bind _ (escape-keeps Scalars IsScalar carry (octal_of config) p at) (λ e q here. reads (escaped_atom-scalars flags _ e here.0, here.1))
+  escaped-scalars flags p at = bind _ (escape-keeps Scalars IsScalar carry (octal_of config) p at)
+      (λ e q here. reads (escaped_atom-scalars flags _ e here.0, here.1))
 
   bracketed-scalars : (flags : Flags) (p : Place) → Scalars p → KeepsToken (bracketed config flags p)
   unfolding bracketed AllIn

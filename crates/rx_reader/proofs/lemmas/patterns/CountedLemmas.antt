@@ -103,7 +103,8 @@ not-before true b h e = absurd (true≢false (sym (h refl) ∙ e))
 not-before false b h e = refl
 
 -- the groups up to q, and then those up to r
-pub joined : {g : ℕ} {ns : List (List ℕ)} {q r : Place} {S T : ℕ → Option (List ℕ) → Type 0} {ks ls : List ℕ} → Counts g ns q S ks → Counts q.groups q.names r T ls → Counts g ns r (λ k n. S k n ⊎ T k n) (ks ++ ls)
+pub joined : {g : ℕ} {ns : List (List ℕ)} {q r : Place} {S T : ℕ → Option (List ℕ) → Type 0} {ks ls : List ℕ} → Counts g ns q S ks
+    → Counts q.groups q.names r T ls → Counts g ns r (λ k n. S k n ⊎ T k n) (ks ++ ls)
 joined {g} {ns} {q} {r} {S} {T} {ks} {ls} a b = record {
   grows = omega arith;
   keeps = λ x h. b.keeps x (a.keeps x h);
@@ -163,9 +164,12 @@ alike {g} {ns} {q} {S} {T} {ks} {ls} a same from to = record {
 }
 
 -- no group after q
-pub later : {g : ℕ} {ns : List (List ℕ)} {q r : Place} {S : ℕ → Option (List ℕ) → Type 0} {ks : List ℕ} → Counts g ns q S ks → IsAt q.groups q.names r → Counts g ns r S ks
-later {g} {ns} {q} {r} {S} {ks} a at = alike (joined a (none at)) (append-nil ks) (λ k n s. inl s) (λ k n s. elim s [ inl here ↦ here | inr no_group ↦ absurd no_group ])
+pub later : {g : ℕ} {ns : List (List ℕ)} {q r : Place} {S : ℕ → Option (List ℕ) → Type 0} {ks : List ℕ} → Counts g ns q S ks → IsAt q.groups q.names r
+    → Counts g ns r S ks
+later {g} {ns} {q} {r} {S} {ks} a at = alike (joined a (none at)) (append-nil ks) (λ k n s. inl s)
+    (λ k n s. elim s [ inl here ↦ here | inr no_group ↦ absurd no_group ])
 
 -- no group up to q
-pub sooner : {g : ℕ} {ns : List (List ℕ)} {q r : Place} {S : ℕ → Option (List ℕ) → Type 0} {ks : List ℕ} → Counts g ns q (λ k n. ⊥) [] → Counts q.groups q.names r S ks → Counts g ns r S ks
+pub sooner : {g : ℕ} {ns : List (List ℕ)} {q r : Place} {S : ℕ → Option (List ℕ) → Type 0} {ks : List ℕ} → Counts g ns q (λ k n. ⊥) []
+    → Counts q.groups q.names r S ks → Counts g ns r S ks
 sooner {g} {ns} {q} {r} {S} {ks} a b = alike (joined a b) refl (λ k n s. inr s) (λ k n s. elim s [ inl no_group ↦ absurd no_group | inr here ↦ here ])

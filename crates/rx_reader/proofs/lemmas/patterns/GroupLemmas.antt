@@ -34,7 +34,8 @@ module _ (config : Config) where
   limit-counts : (g : ℕ) (ns : List (List ℕ)) (s : Syntax) (p q : Place) → CountsItem g ns s q → Gives (CountsItem g ns) (within_limit config s p q)
   limit-counts g ns s p q counts = test (nat_lt (limit_of config) (depth s)) (λ _. refused) (λ _. reads counts)
 
-  repeat_if-counts : (g : ℕ) (ns : List (List ℕ)) (more : Syntax → Place → Read Syntax) → ((s : Syntax) (q : Place) → CountsItem g ns s q → Gives (CountsItem g ns) (more s q))
+  repeat_if-counts : (g : ℕ) (ns : List (List ℕ)) (more : Syntax → Place → Read Syntax)
+      → ((s : Syntax) (q : Place) → CountsItem g ns s q → Gives (CountsItem g ns) (more s q))
       → (flags : Flags) (item : Syntax) (p : Place) (b : Bool) → CountsItem g ns item p → Gives (CountsItem g ns) (repeat_if config more flags item p b)
   unfolding IsGroup group_numbers
   repeat_if-counts g ns more h flags item p false counts = reads counts
@@ -42,14 +43,17 @@ module _ (config : Config) where
       bind _ (operator-keeps (IsAt p.groups p.names) _ (groups-carry p.groups p.names) flags p (refl, refl)) (λ o q at.
       bind _ (limit-counts g ns (repeated_by o item) p q (later counts at)) (λ s r there. h s r there))
 
-  repetitions-counts : (g : ℕ) (ns : List (List ℕ)) (n : ℕ) (flags : Flags) (item : Syntax) (p : Place) → CountsItem g ns item p → Gives (CountsItem g ns) (repetitions config n flags item p)
+  repetitions-counts : (g : ℕ) (ns : List (List ℕ)) (n : ℕ) (flags : Flags) (item : Syntax) (p : Place) → CountsItem g ns item p
+      → Gives (CountsItem g ns) (repetitions config n flags item p)
   unfolding repetitions
   repetitions-counts g ns zero flags item p counts = reads counts
   repetitions-counts g ns (suc n) flags item p counts =
       let q : Place = skip flags p in
-      repeat_if-counts g ns (repetitions config n flags) (repetitions-counts g ns n flags) flags item q (is_operator q) (later counts (skip-keeps (IsAt p.groups p.names) _ (groups-carry p.groups p.names) flags p (refl, refl)))
+      repeat_if-counts g ns (repetitions config n flags) (repetitions-counts g ns n flags) flags item q (is_operator q)
+      (later counts (skip-keeps (IsAt p.groups p.names) _ (groups-carry p.groups p.names) flags p (refl, refl)))
 
-  close-counts : (g : ℕ) (ns : List (List ℕ)) (kind : GroupKind) (p : Place) (body : Syntax) (r : Place) → CountsItem g ns (group kind body) r → Gives (CountsItem g ns) (close_group config kind p body r)
+  close-counts : (g : ℕ) (ns : List (List ℕ)) (kind : GroupKind) (p : Place) (body : Syntax) (r : Place) → CountsItem g ns (group kind body) r
+      → Gives (CountsItem g ns) (close_group config kind p body r)
   close-counts g ns kind p body r counts =
       test (at_end r) (λ _. refused) (λ _. limit-counts g ns (group kind body) r (past r) (later counts (refl, refl)))
 
@@ -58,7 +62,10 @@ module _ (config : Config) where
   unfolding IsGroup group_numbers
   item_then-counts g ns more h flags item p counts =
       bind _ (repetitions-counts g ns (length p.text + 1) flags item p counts) (λ whole_item q first.
-      bind _ (h q) (λ b r rest. reads (alike (joined first rest) (sym (append_assoc (group_numbers whole_item) (all_group_numbers (syntaxes b.items)) (all_group_numbers (syntaxes b.others))))
+      bind _ (h q)
+      (λ b r rest. reads
+      (alike (joined first rest)
+      (sym (append_assoc (group_numbers whole_item) (all_group_numbers (syntaxes b.items)) (all_group_numbers (syntaxes b.others))))
       (λ k n s. elim s [ inl here ↦ elim here [ inl one ↦ inl one | inr among ↦ inr (inl among) ] | inr others ↦ inr (inr others) ])
       (λ k n s. elim s [ inl one ↦ inl (inl one) | inr behind ↦ elim behind [ inl among ↦ inl (inr among) | inr others ↦ inr others ] ]))))
 
@@ -67,7 +74,8 @@ module _ (config : Config) where
   CountsOn more = (flags : Flags) (opened : ℕ) (q : Place) → Gives (CountsBranches q.groups q.names) (more flags opened q)
 
   group_then-counts : (g : ℕ) (ns : List (List ℕ)) (more : Flags → ℕ → Place → Read Branches) → CountsOn more
-      → (flags : Flags) (opened : ℕ) (p : Place) (kind : GroupKind) (inside : Flags) (q : Place) (too_many : Bool) → Counts g ns q (λ k n. Captures k n kind) (own_number kind)
+      → (flags : Flags) (opened : ℕ) (p : Place) (kind : GroupKind) (inside : Flags) (q : Place) (too_many : Bool)
+      → Counts g ns q (λ k n. Captures k n kind) (own_number kind)
       → Gives (CountsBranches g ns) (group_then config more flags opened p kind inside q too_many)
   unfolding IsGroup group_numbers
   group_then-counts g ns more h flags opened p kind inside q true counts = refused

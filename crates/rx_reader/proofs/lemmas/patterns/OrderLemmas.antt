@@ -36,7 +36,8 @@ sign-order true false = tt
 sign-order false true = omega arith
 sign-order false false = tt
 
-operator_of-order : (flags : Flags) (counts : Counts) (q r : Place) → AreInOrder counts.min counts.max → Gives OperatorInOrder (Ok (operator_of flags counts q r))
+operator_of-order : (flags : Flags) (counts : Counts) (q r : Place) → AreInOrder counts.min counts.max
+    → Gives OperatorInOrder (Ok (operator_of flags counts q r))
 operator_of-order flags counts q r in_order = reads in_order
 
 pub operator-order : (flags : Flags) (p : Place) → Gives OperatorInOrder (operator flags p)

@@ -50,7 +50,8 @@ module _ (config : Config) (K : Place → Type 0) (P : Syntax → Type 0) (Each 
   StaysBranches r = Gives (λ b q. InBranches b × K q) r
 
   in-whole : (b : Branches) → InBranches b → P (whole b)
-  in-whole b own = stays.alts (syntaxes (cat (syntaxes b.items) ∷ b.others)) (stays.more (cat (syntaxes b.items)) (syntaxes b.others) (stays.cats (syntaxes b.items) own.0) own.1)
+  in-whole b own = stays.alts (syntaxes (cat (syntaxes b.items) ∷ b.others))
+      (stays.more (cat (syntaxes b.items)) (syntaxes b.others) (stays.cats (syntaxes b.items) own.0) own.1)
 
   limit-stays : (s : Syntax) (p q : Place) → P s → K q → StaysItem (within_limit config s p q)
   limit-stays s p q own at = test (nat_lt (limit_of config) (depth s)) (λ _. refused) (λ _. reads (own, at))

@@ -1,10 +1,12 @@
 -- On the characters ahead of a place.
-use Rattle.std.proofs.Common.{◌≡◌, ℕ, zero, suc, ◌+◌, ◌-◌, ◌<◌, ◌≤◌, false, List, length, take, drop, refl, ◌∙◌, ap, sym, arith}
-use Rattle.std.proofs.lemmas.List.{drop-drop, length-drop, take_all}
+use Rattle.std.proofs.Common.{◌≡◌, ℕ, zero, suc, ◌+◌, ◌-◌, ◌<◌, ◌≤◌, true, false, ◌&&◌, List, [], ◌∷◌, length, drop, Option, Some, refl, ◌∙◌, ap, sym, arith}
+use Rattle.std.proofs.lemmas.Bool.Decides.{nat_tests}
+use Rattle.std.proofs.lemmas.List.{drop-drop, length-drop}
+use Rattle.std.specs.Option.{option_eq}
 use Rattle.rx_reader.specs.Reading.{Place, past, begins}
 use Rattle.rx_reader.specs.Ahead.{past_n, skip, skipped_len}
 use Rattle.rx_reader.specs.declared.flags.Flags.{Flags}
-use Rattle.std.specs.Prelude.{nat_eq, codes}
+use Rattle.std.specs.Prelude.{nat_eq, slice_get, codes}
 use Rattle.std.specs.List.{starts_with}
 
 pub by_zero : {P : Type 0} (n : ℕ) → (n ≡ 0 → P) → (0 < n → P) → P
@@ -30,17 +32,21 @@ text_past (suc n) p =
     let one : 1 + n ≡ suc n = omega arith in
     text_past n (past p) ∙ drop-drop n 1 p.text ∙ ap (λ (k : ℕ). drop k p.text) one
 
-pub rest_from : (n : ℕ) (xs : List ℕ) → take (length xs - n) (drop n xs) ≡ drop n xs
-rest_from n xs =
-    let size = length-drop n xs in
-    let ends : length (drop n xs) ≤ length xs - n = omega (arith, size) in
-    take_all (length xs - n) (drop n xs) ends
+next_is : (cs : List ℕ) (n c : ℕ) → option_eq nat_eq (slice_get cs n) (Some c) ≡ starts_with nat_eq (drop n cs) (c ∷ [])
+next_is [] zero c = refl
+next_is [] (suc n) c = refl
+next_is (d ∷ cs) zero c = turned
+  where
+    turned : nat_eq d c ≡ (nat_eq c d && true)
+    turned = grind (arith, nat_tests)
+next_is (d ∷ cs) (suc n) c = next_is cs n c
 
 -- whether a `?` stands after what is skipped
-pub lazy_at : (p : Place) (flags : Flags) (rest : List ℕ) (n : ℕ) → rest ≡ p.text → n ≡ skipped_len flags rest → starts_with nat_eq (take (length rest - n) (drop n rest)) (codes "?") ≡ begins "?" (skip flags p)
-lazy_at p flags rest n text count =
-    ap (λ (xs : List ℕ). starts_with nat_eq xs (codes "?")) (rest_from n rest ∙ ap (λ (xs : List ℕ). drop n xs) text ∙ sym (text_past n p))
-    ∙ ap (λ (k : ℕ). begins "?" (past_n k p)) (count ∙ ap (skipped_len flags) text)
+pub lazy_at : (p : Place) (flags : Flags) (n : ℕ) (next : Option ℕ) → n ≡ skipped_len flags p.text → next ≡ slice_get p.text n
+    → option_eq nat_eq next (Some 63) ≡ begins "?" (skip flags p)
+lazy_at p flags n next count is =
+    ap (λ (o : Option ℕ). option_eq nat_eq o (Some 63)) is ∙ next_is p.text n 63 ∙ ap (λ (xs : List ℕ). starts_with nat_eq xs (codes "?")) (sym (text_past n p))
+    ∙ ap (λ (k : ℕ). begins "?" (past_n k p)) count
 
 -- past a character there is no more to read than before
 pub past_shorter : (p q : Place) → q ≡ past p → length q.text ≤ length p.text

@@ -3,10 +3,7 @@ use Rattle.std.proofs.Common.{◌≡◌, ℕ, zero, suc, ◌+◌, ◌<◌, ◌==
 use Rattle.std.proofs.lemmas.Bool.Decides.{nat_tests}
 use Rattle.std.specs.List.{list_any}
 use Rattle.std.specs.Char.{len_utf8}
-use lib.Utf8.{encodes}
-use Rattle.std.specs.Prelude.{slice_index}
-use Rattle.std.proofs.lemmas.Str.{length-encode}
-use Rattle.std.proofs.Common.{length-append, drop-cons, add-one}
+use Rattle.rx_reader.proofs.lemmas.places.CharsLemmas.{first-at}
 use Rattle.rx_reader.specs.Reading.{Place, at_end, first, past, is_among, passes, past_if, past_while, past_all}
 
 pub list_any-is_among : (c : ℕ) (ds : List ℕ) → list_any (λ d. d == c) ds ≡ is_among c ds
@@ -24,14 +21,16 @@ past_at p t c w h text char width = past_in _ _ (not_at_end p h) text char width
     past_in : (p : Place) (t : List ℕ) {c w : ℕ} → at_end p ≡ false → t ≡ drop 1 p.text → c ≡ first p → w ≡ len_utf8 c → past p ≡ record { text = t; at = p.at + w; groups = p.groups; names = p.names }
     past_in p t e text char width = rw e (cc (ap len_utf8 char))
 
+-- past a character that stands there before these
+pub past_first : (p : Place) (cs : List ℕ) (c w : ℕ) → p.text ≡ c ∷ cs → w ≡ len_utf8 c
+    → past p ≡ record { text = cs; at = p.at + w; groups = p.groups; names = p.names }
+past_first p cs c w is width =
+    let first = first-at p.text cs c is in
+    past_at p cs c w first.0 (sym (ap (λ (t : List ℕ). drop 1 t) is)) first.1 width
+
 -- a character stands there, which is one of these or not
 pub is_at_of : (p : Place) (ds : List ℕ) (c : ℕ) → 0 < length p.text → c ≡ first p → (not (at_end p) && is_among (first p) ds) ≡ list_any (λ d. d == c) ds
 is_at_of p ds c h char = rw (not_at_end p h, ← char) (sym (list_any-is_among c ds))
-
--- the bytes of a character and of those after it
-pub encodes_at : (cs : List ℕ) (n : ℕ) → n < length cs → length (encodes (drop n cs)) ≡ len_utf8 (slice_index (drop n cs) 0) + length (encodes (drop (n + 1) cs))
-encodes_at cs n lt =
-    rw (add-one, drop-cons cs n 0 lt) (simp (length-append, length-encode) refl)
 
 -- a character stands there, which passes the test or not
 pub passes_of : (p : Place) (test : ℕ → Bool) (c : ℕ) → 0 < length p.text → c ≡ first p → passes test p ≡ test c

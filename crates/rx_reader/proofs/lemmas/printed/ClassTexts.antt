@@ -69,7 +69,7 @@ item-begins (Range low high) more has =
     (found.0, found.1, append_assoc (escaped_one l) tail more ∙ found.2, found.3)
 item-begins (Perl kind negated) more has = perl-begins kind negated more
 item-begins (Posix kind negated) more has = absurd has
-item-begins (Property piece name negated) more has = absurd has
+item-begins (Property negated piece name) more has = absurd has
 
 first-other : (d c : ℕ) (cs : List ℕ) → (c == d) ≡ false → starts_with nat_eq (c ∷ cs) (d ∷ []) ≡ false
 first-other d c cs other = rw (turned d c other) refl
@@ -247,7 +247,7 @@ module _ (octal : Bool) where
               ∙ alone (onto text p) read.0 (Many (Perl kind negated)) rest next,
         )
     item-at-reads (Posix kind negated) rest p has next = absurd has
-    item-at-reads (Property piece name negated) rest p has next = absurd has
+    item-at-reads (Property negated piece name) rest p has next = absurd has
 
     next_if : (leads : Bool) → Place → (ends closes : Bool) → Read (Option ClassItem)
     next_if leads p ends closes =

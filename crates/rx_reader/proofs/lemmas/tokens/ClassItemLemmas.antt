@@ -17,7 +17,8 @@ after-none : (reading : Read (List ClassItem)) → after [] reading ≡ reading
 after-none (Ok (more, q)) = refl
 after-none (Err e) = refl
 
-after-more : (items : List ClassItem) (item : ClassItem) (reading : Read (List ClassItem)) → after items (reading >>= λ (more, r). Ok (item ∷ more, r)) ≡ after (items ++ item ∷ []) reading
+after-more : (items : List ClassItem) (item : ClassItem) (reading : Read (List ClassItem))
+    → after items (reading >>= λ (more, r). Ok (item ∷ more, r)) ≡ after (items ++ item ∷ []) reading
 after-more items item (Ok (more, q)) = ap (λ (xs : List ClassItem). Ok (xs, q)) (sym (append_assoc items (item ∷ []) more))
 after-more items item (Err e) = refl
 
@@ -28,9 +29,11 @@ module _ (octal skips : Bool) (from : Place) where
   step : (comes_first : Bool) (p : Place) (items : List ClassItem) (reading : Read (Option ClassItem)) → class_item octal skips from comes_first p ≡ reading
       → after items (all_class_items octal skips from comes_first p) ≡ after items (reading >>= with_item (all_class_items octal skips from false))
   step comes_first p items reading h =
-      ap (after items) (all_class_items-step octal skips from comes_first p ∙ ap (λ (r : Read (Option ClassItem)). r >>= with_item (all_class_items octal skips from false)) h)
+      ap (after items) (all_class_items-step octal skips from comes_first p
+      ∙ ap (λ (r : Read (Option ClassItem)). r >>= with_item (all_class_items octal skips from false)) h)
 
-  pub after_item : (comes_first : Bool) (p q : Place) (items : List ClassItem) (item : ClassItem) → class_item octal skips from comes_first p ≡ Ok (Some item, q)
+  pub after_item : (comes_first : Bool) (p q : Place) (items : List ClassItem) (item : ClassItem)
+      → class_item octal skips from comes_first p ≡ Ok (Some item, q)
       → after items (all_class_items octal skips from comes_first p) ≡ after (items ++ item ∷ []) (all_class_items octal skips from false q)
   after_item comes_first p q items item h = step comes_first p items _ h ∙ after-more items item _
 

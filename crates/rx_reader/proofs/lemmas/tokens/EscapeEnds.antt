@@ -24,7 +24,8 @@ unfolding past_n
 past_n-le zero p = omega arith
 past_n-le (suc n) p = omega (arith, past_n-le n (past p), past_le p)
 
-past_if-le : (more : Place → Place) → ((q : Place) → length (more q).text ≤ length q.text) → (p : Place) (b : Bool) → length (past_if more p b).text ≤ length p.text
+past_if-le : (more : Place → Place) → ((q : Place) → length (more q).text ≤ length q.text) → (p : Place) (b : Bool)
+    → length (past_if more p b).text ≤ length p.text
 past_if-le more h p true = omega (arith, h (past p), past_le p)
 past_if-le more h p false = omega arith
 
@@ -46,7 +47,8 @@ hex_digits-ends : (n : ℕ) (from : Place) (count : ℕ) (p : Place) → length 
 unfolding hex_digits
 hex_digits-ends n from count p lt =
     let many = length (digits 16 count p) in
-    test (many == count) (λ _. numbered-ends n from (count == 2) (digits_value 16 (digits 16 count p)) (past_n many p) (omega (arith, lt, past_n-le many p))) (λ _. refused _ _)
+    test (many == count) (λ _. numbered-ends n from (count == 2) (digits_value 16 (digits 16 count p)) (past_n many p) (omega (arith, lt, past_n-le many p)))
+    (λ _. refused _ _)
 
 hex_in_braces-ends : (n : ℕ) (from p : Place) → length p.text < n → EndsBelow n (hex_in_braces from p)
 unfolding hex_in_braces
@@ -122,7 +124,8 @@ escaped_member-ends n p (Perl kind negated) q lt = reads lt
 escaped_member-ends n p (Property name negated) q lt = reads lt
 escaped_member-ends n p (Assertion kind) q lt = refused _ _
 
-posix_named-ends : (n : ℕ) (p : Place) (negated : Bool) (kind : Option ClassAsciiKind) (q : Place) → length q.text < n → EndsBelow n (posix_named p negated kind q)
+posix_named-ends : (n : ℕ) (p : Place) (negated : Bool) (kind : Option ClassAsciiKind) (q : Place) → length q.text < n
+    → EndsBelow n (posix_named p negated kind q)
 posix_named-ends n p negated (Some kind) q lt = reads (omega (arith, lt, past_n-le 2 q))
 posix_named-ends n p negated None q lt = refused _ _
 
@@ -154,7 +157,8 @@ member-ends octal p more =
     test (is_at "\\" p) (λ _. bind _ (escape-ends octal p more) (λ e q lt. escaped_member-ends _ p e q lt)) (λ _.
     test (is_at "[" p) (λ _. bind _ (posix-ends p more) (λ item q lt. reads lt)) (λ _. reads (past_lt p more)))
 
-class_range-ends : (octal skips : Bool) (from p : Place) (low : ClassMember) (q : Place) → EndsBelow (suc (length q.text)) (class_range octal skips from p low q)
+class_range-ends : (octal skips : Bool) (from p : Place) (low : ClassMember) (q : Place)
+    → EndsBelow (suc (length q.text)) (class_range octal skips from p low q)
 unfolding class_range
 class_range-ends octal skips from p low q =
     let r = past_white skips (past q) in
@@ -166,7 +170,8 @@ item_at-ends : (octal skips : Bool) (from p : Place) → 0 < length p.text → E
 unfolding item_at
 item_at-ends octal skips from p more =
     test (is_set_operator p) (λ _. refused _ _) (λ _. test (is_at "[" p) (λ _. posix-ends p more) (λ _.
-    bind _ (member-ends octal p more) (λ low q lt. weaker (omega (arith, lt, past_white-le skips q)) (class_range-ends octal skips from p low (past_white skips q)))))
+    bind _ (member-ends octal p more) (λ low q lt. weaker (omega (arith, lt, past_white-le skips q))
+    (class_range-ends octal skips from p low (past_white skips q)))))
 
 class_item-ends : (octal skips : Bool) (from : Place) (comes_first : Bool) (p : Place) → EndsBelow (length p.text) (class_item octal skips from comes_first p)
 unfolding class_item
@@ -176,11 +181,13 @@ class_item-ends octal skips from comes_first p =
     test (at_end q) (λ _. refused _ _) (λ e. test (is_at "]" q) (λ _. reads (omega (arith, le, past_lt q (at_end_of q e)))) (λ _.
     bind _ (item_at-ends octal skips from q (at_end_of q e)) (λ item r lt. reads (omega (arith, lt, le)))))
 
-with_item-ends : (n : ℕ) (more : Place → Read (List ClassItem)) (item : Option ClassItem) (q : Place) → length q.text < n → EndsBelow (length q.text) (more q) → EndsBelow n (with_item more (item, q))
+with_item-ends : (n : ℕ) (more : Place → Read (List ClassItem)) (item : Option ClassItem) (q : Place) → length q.text < n → EndsBelow (length q.text) (more q)
+    → EndsBelow n (with_item more (item, q))
 with_item-ends n more None q lt h = reads lt
 with_item-ends n more (Some item) q lt h = bind _ h (λ items r le. reads (omega (arith, lt, le)))
 
-class_items-ends : (octal skips : Bool) (n : ℕ) (from : Place) (comes_first : Bool) (p : Place) → EndsBelow (length p.text) (class_items octal skips n from comes_first p)
+class_items-ends : (octal skips : Bool) (n : ℕ) (from : Place) (comes_first : Bool) (p : Place)
+    → EndsBelow (length p.text) (class_items octal skips n from comes_first p)
 unfolding class_items
 class_items-ends octal skips zero from comes_first p = refused _ _
 class_items-ends octal skips (suc n) from comes_first p =
@@ -209,7 +216,8 @@ pub all_class_items-step : (octal skips : Bool) (from : Place) (comes_first : Bo
     → all_class_items octal skips from comes_first p ≡ class_item octal skips from comes_first p >>= with_item (all_class_items octal skips from false)
 all_class_items-step octal skips from comes_first p =
     class_items-suc octal skips (length p.text) from comes_first p
-    ∙ same_bind (class_item octal skips from comes_first p) (with_item (class_items octal skips (length p.text) from false)) (with_item (all_class_items octal skips from false)) (class_item-ends octal skips from comes_first p) (λ item q lt.
+    ∙ same_bind (class_item octal skips from comes_first p) (with_item (class_items octal skips (length p.text) from false))
+    (with_item (all_class_items octal skips from false)) (class_item-ends octal skips from comes_first p) (λ item q lt.
     with_item-same _ _ item q (class_items-same octal skips (length p.text) (length q.text + 1) from false q lt (omega arith)))
 
 pub class-ends : (octal skips : Bool) (p : Place) → 0 < length p.text → EndsBelow (length p.text) (class octal skips p)
@@ -218,7 +226,8 @@ class-ends octal skips p more =
     let q = past_white skips (past p) in
     let inside = if is_at "^" q then past q else q in
     let within : length inside.text ≤ length q.text = inside-le (is_at "^" q) q in
-    bind _ (class_items-ends octal skips (length inside.text + 1) p true inside) (λ items r lt. reads (omega (arith, lt, within, past_white-le skips (past p), past_lt p more)))
+    bind _ (class_items-ends octal skips (length inside.text + 1) p true inside)
+    (λ items r lt. reads (omega (arith, lt, within, past_white-le skips (past p), past_lt p more)))
   where
     inside-le : (b : Bool) (q : Place) → length (if b then past q else q).text ≤ length q.text
     inside-le true q = past_le q

@@ -127,7 +127,8 @@ module _ (K : Place → Type 0) (S : ℕ → Type 0) (go : Carries K S) where
       listed-keeps 0x07 (c ∈ "a") _ refl (listed-keeps 0x0C (c ∈ "f") _ refl (listed-keeps 0x09 (c ∈ "t") _ refl (listed-keeps 0x0A (c ∈ "n") _ refl
       (listed-keeps 0x0D (c ∈ "r") _ refl (listed-keeps 0x0B (c ∈ "v") _ refl (itself-keeps c (is_escapable c) own))))))
 
-  by_letter-keeps : (set : Option (ClassPerlKind × Bool)) (found : Option AssertionKind) (char : Option ℕ) → AllIf S char → AllIf (AllInEscaped S) (by_letter set found char)
+  by_letter-keeps : (set : Option (ClassPerlKind × Bool)) (found : Option AssertionKind) (char : Option ℕ) → AllIf S char
+      → AllIf (AllInEscaped S) (by_letter set found char)
   by_letter-keeps (Some set) found char h = tt
   by_letter-keeps None (Some kind) char h = tt
   by_letter-keeps None None (Some c) h = h
@@ -207,7 +208,8 @@ module _ (K : Place → Type 0) (S : ℕ → Type 0) (go : Carries K S) where
   item_of-keeps (One c) own = (own, own)
   item_of-keeps (Many item) own = own
 
-  class_range-keeps : (octal skips : Bool) (from p : Place) (low : ClassMember) (q : Place) → AllInMember S low → K q → KeepsItem (class_range octal skips from p low q)
+  class_range-keeps : (octal skips : Bool) (from p : Place) (low : ClassMember) (q : Place) → AllInMember S low → K q
+      → KeepsItem (class_range octal skips from p low q)
   unfolding class_range
   class_range-keeps octal skips from p low q own at =
       let r = past_white skips (past q) in
@@ -235,15 +237,18 @@ module _ (K : Place → Type 0) (S : ℕ → Type 0) (go : Carries K S) where
       test (at_end q) (λ _. refused) (λ _. test (is_at "]" q) (λ _. reads (bracket-keeps comes_first (first q) (go.first q here), go.on q here)) (λ _.
       bind _ (item_at-keeps octal skips from q here) (λ item r there. reads there)))
 
-  with_item-keeps : (more : Place → Read (List ClassItem)) (item : Option ClassItem) (q : Place) → AllIf (AllInItem S) item → K q → KeepsItems (more q) → KeepsItems (with_item more (item, q))
+  with_item-keeps : (more : Place → Read (List ClassItem)) (item : Option ClassItem) (q : Place) → AllIf (AllInItem S) item → K q → KeepsItems (more q)
+      → KeepsItems (with_item more (item, q))
   with_item-keeps more None q own at h = reads (All-nil (AllInItem S), at)
   with_item-keeps more (Some item) q own at h = bind _ h (λ items r there. reads (All-cons (AllInItem S) item items own there.0, there.1))
 
-  class_items-keeps : (octal skips : Bool) (n : ℕ) (from : Place) (comes_first : Bool) (p : Place) → K p → KeepsItems (class_items octal skips n from comes_first p)
+  class_items-keeps : (octal skips : Bool) (n : ℕ) (from : Place) (comes_first : Bool) (p : Place) → K p
+      → KeepsItems (class_items octal skips n from comes_first p)
   unfolding class_items
   class_items-keeps octal skips zero from comes_first p at = refused
   class_items-keeps octal skips (suc n) from comes_first p at =
-      bind _ (class_item-keeps octal skips from comes_first p at) (λ item q here. with_item-keeps _ item q here.0 here.1 (class_items-keeps octal skips n from false q here.1))
+      bind _ (class_item-keeps octal skips from comes_first p at)
+      (λ item q here. with_item-keeps _ item q here.0 here.1 (class_items-keeps octal skips n from false q here.1))
 
   pub class-keeps : (octal skips : Bool) (p : Place) → K p → Gives (λ a q. AllInAtom S a × K q) (class octal skips p)
   unfolding class

@@ -55,7 +55,8 @@ pub leading-stops : (test : ℕ → Bool) (p : Place) → passes test p ≡ fals
 leading-stops test p h = leading_text-stops test p.text (sym (text_passes test p.text) ∙ h)
 
 -- digits, so many at most
-digits_text-goes : (test : ℕ → Bool) (n : ℕ) (t : List ℕ) → passing test t ≡ true → leading test (take (suc n) t) ≡ slice_index t 0 ∷ leading test (take n (drop 1 t))
+digits_text-goes : (test : ℕ → Bool) (n : ℕ) (t : List ℕ) → passing test t ≡ true
+    → leading test (take (suc n) t) ≡ slice_index t 0 ∷ leading test (take n (drop 1 t))
 unfolding passing
 digits_text-goes test n [] h = absurd (true≢false (sym h))
 digits_text-goes test n (c ∷ cs) h = leading-step test c (take n cs) h

@@ -11,7 +11,10 @@ beq-same true false h = absurd (true≢false (sym h))
 beq-same false true h = absurd (true≢false (sym h))
 
 -- equal in each flag
-pub flags-same : (f g : Flags) → (beq f.case_insensitive g.case_insensitive && (beq f.multi_line g.multi_line && (beq f.dot_matches_new_line g.dot_matches_new_line && (beq f.swap_greed g.swap_greed && (beq f.unicode g.unicode && (beq f.crlf g.crlf && beq f.ignore_whitespace g.ignore_whitespace)))))) ≡ true → f ≡ g
+pub flags-same : (f g : Flags)
+    → (beq f.case_insensitive g.case_insensitive && (beq f.multi_line
+    g.multi_line && (beq f.dot_matches_new_line g.dot_matches_new_line
+    && (beq f.swap_greed g.swap_greed && (beq f.unicode g.unicode && (beq f.crlf g.crlf && beq f.ignore_whitespace g.ignore_whitespace)))))) ≡ true → f ≡ g
 flags-same f g h =
     let a = and_parts (beq f.case_insensitive g.case_insensitive) (beq f.multi_line g.multi_line && (beq f.dot_matches_new_line g.dot_matches_new_line && (beq f.swap_greed g.swap_greed && (beq f.unicode g.unicode && (beq f.crlf g.crlf && beq f.ignore_whitespace g.ignore_whitespace))))) h in
     let b = and_parts (beq f.multi_line g.multi_line) (beq f.dot_matches_new_line g.dot_matches_new_line && (beq f.swap_greed g.swap_greed && (beq f.unicode g.unicode && (beq f.crlf g.crlf && beq f.ignore_whitespace g.ignore_whitespace)))) a.1 in

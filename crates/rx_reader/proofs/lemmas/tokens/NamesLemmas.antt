@@ -22,7 +22,8 @@ module _ {K : Type 0} (text : K → List ℕ) where
   map-insert_key [] key = refl
   map-insert_key (k ∷ keys) key =
       map-match (by_text key k) (key ∷ k ∷ keys) (k ∷ keys) (k ∷ insert_key by_text keys key)
-      ∙ ap (λ (ts : List (List ℕ)). match_ordering (by_text key k) (text key ∷ text k ∷ map text keys) (text k ∷ map text keys) (text k ∷ ts)) (map-insert_key keys key)
+      ∙ ap (λ (ts : List (List ℕ)). match_ordering (by_text key k) (text key ∷ text k ∷ map text keys) (text k ∷ map text keys) (text k ∷ ts))
+      (map-insert_key keys key)
 
   -- the key is there where its text is
   pub contains-names : (keys : List K) (key : K) → list_any (λ k. is_eq (by_text key k)) keys ≡ list_any (bytes_eq (text key)) (map text keys)

@@ -1,5 +1,5 @@
 -- What flags, names, counts and openings read as, case by case.
-use Rattle.std.proofs.Common.{◌≡◌, ℕ, ◌==◌, Bool, true, false, not, ◌&&◌, ◌||◌, List, length, take, Option, Some, None, Ok, Err, refl, ◌∙◌, ap, sym}
+use Rattle.std.proofs.Common.{◌≡◌, ℕ, ◌==◌, Bool, true, false, not, ◌&&◌, ◌||◌, List, length, Option, Some, None, Ok, Err, refl, ◌∙◌, ap, sym}
 use Rattle.std.specs.Prelude.{if◌then◌else◌}
 use Rattle.std.specs.List.{take_while}
 use Rattle.std.specs.Char.{is_ascii_digit}
@@ -20,13 +20,8 @@ use Rattle.rx_reader.specs.Openings.{is_look_ahead, is_look_behind, is_reference
 
 -- Flags, whose letters end at q.
 
-pub letters_len_at : (p : Place) (rest : List ℕ) (n : ℕ) → rest ≡ p.text → n ≡ length (letters rest) → n ≡ length (letters p.text)
-letters_len_at p rest n text len = len ∙ ap (λ (cs : List ℕ). length (letters cs)) text
-
-pub letters_taken_at : (p : Place) (rest again : List ℕ) (n : ℕ) → rest ≡ p.text → again ≡ p.text → take n rest ≡ letters rest → take n again ≡ letters p.text
-letters_taken_at p rest again n text same taken = ap (λ (cs : List ℕ). take n cs) (same ∙ sym text) ∙ taken ∙ ap letters text
-
-pub flags_cut : (from p q : Place) (flags : Flags) (n : ℕ) → n ≡ length (letters p.text) → q ≡ past_n n p → at_end q ≡ true → read_flags from flags p ≡ refuse UnclosedGroup from (past from)
+pub flags_cut : (from p q : Place) (flags : Flags) (n : ℕ) → n ≡ length (letters p.text) → q ≡ past_n n p → at_end q ≡ true
+    → read_flags from flags p ≡ refuse UnclosedGroup from (past from)
 unfolding read_flags
 flags_cut from p q flags n len here cut = rw (← len, ← here, cut) refl
 
@@ -37,7 +32,8 @@ flags_by from q flags cut ends =
 abbrev ends_at : (named : List ℕ) → (n : ℕ) → Place → Bool
 ends_at named n q = not (ends_with_hyphen named) && may_end_at n q
 
-flags_read : (from p q : Place) (flags : Flags) (n : ℕ) → n ≡ length (letters p.text) → q ≡ past_n n p → read_flags from flags p ≡ flags_by from q (changed (letters p.text) flags) (at_end q) (ends_at (letters p.text) n q)
+flags_read : (from p q : Place) (flags : Flags) (n : ℕ) → n ≡ length (letters p.text) → q ≡ past_n n p
+    → read_flags from flags p ≡ flags_by from q (changed (letters p.text) flags) (at_end q) (ends_at (letters p.text) n q)
 unfolding read_flags
 flags_read from p q flags n len here =
     let there : q ≡ past_n (length (letters p.text)) p = here ∙ ap (λ (k : ℕ). past_n k p) len in
@@ -47,21 +43,17 @@ flags_read from p q flags n len here =
 flags_by_tests : (from q : Place) (flags : Flags) (a b c d : Bool) → a ≡ b → c ≡ d → flags_by from q flags a c ≡ flags_by from q flags b d
 flags_by_tests from q flags a b c d cut ends = λ i. flags_by from q flags (cut i) (ends i)
 
-pub flags_fail : (from p q : Place) (flags : Flags) (n : ℕ) → n ≡ length (letters p.text) → q ≡ past_n n p → at_end q ≡ false → (not (ends_with_hyphen (letters p.text)) && may_end_at n q) ≡ false → read_flags from flags p ≡ refuse Flag q (past q)
+pub flags_fail : (from p q : Place) (flags : Flags) (n : ℕ) → n ≡ length (letters p.text) → q ≡ past_n n p → at_end q ≡ false
+    → (not (ends_with_hyphen (letters p.text)) && may_end_at n q) ≡ false → read_flags from flags p ≡ refuse Flag q (past q)
 flags_fail from p q flags n len here cut ends =
     flags_read from p q flags n len here ∙ flags_by_tests from q (changed (letters p.text) flags) (at_end q) false (ends_at (letters p.text) n q) false cut ends
 
-pub flags_done : (from p q : Place) (flags : Flags) (n : ℕ) → n ≡ length (letters p.text) → q ≡ past_n n p → at_end q ≡ false → (not (ends_with_hyphen (letters p.text)) && may_end_at n q) ≡ true → read_flags from flags p ≡ Ok (changed (letters p.text) flags, q)
+pub flags_done : (from p q : Place) (flags : Flags) (n : ℕ) → n ≡ length (letters p.text) → q ≡ past_n n p → at_end q ≡ false
+    → (not (ends_with_hyphen (letters p.text)) && may_end_at n q) ≡ true → read_flags from flags p ≡ Ok (changed (letters p.text) flags, q)
 flags_done from p q flags n len here cut ends =
     flags_read from p q flags n len here ∙ flags_by_tests from q (changed (letters p.text) flags) (at_end q) false (ends_at (letters p.text) n q) true cut ends
 
 -- A name that ends at q.
-
-pub name_len_at : (p : Place) (rest : List ℕ) (n : ℕ) → rest ≡ p.text → n ≡ length (name_of rest) → n ≡ length (name_of p.text)
-name_len_at p rest n text len = len ∙ ap (λ (cs : List ℕ). length (name_of cs)) text
-
-pub name_taken_at : (p : Place) (rest again : List ℕ) (n : ℕ) → rest ≡ p.text → again ≡ p.text → take n rest ≡ name_of rest → take n again ≡ name_of p.text
-name_taken_at p rest again n text same taken = ap (λ (cs : List ℕ). take n cs) (same ∙ sym text) ∙ taken ∙ ap name_of text
 
 pub name_fails : (p q : Place) (n : ℕ) → n ≡ length (name_of p.text) → q ≡ past_n n p → ((n == 0) || not (is_at ">" q)) ≡ true → read_name p ≡ refuse GroupName p q
 unfolding read_name
@@ -77,7 +69,9 @@ name_read p q n len here fails taken = rw (← len, ← here, fails, taken) refl
 
 -- A count whose digits end at q.
 
-pub number_read : (from p begun q : Place) (flags : Flags) (n : ℕ) → begun ≡ past_white flags.ignore_whitespace p → n ≡ length (take_while is_ascii_digit begun.text) → q ≡ past_n n begun → read_number from flags p ≡ number_at from flags (number_of (take_while is_ascii_digit begun.text)) q
+pub number_read : (from p begun q : Place) (flags : Flags) (n : ℕ) → begun ≡ past_white flags.ignore_whitespace p
+    → n ≡ length (take_while is_ascii_digit begun.text) → q ≡ past_n n begun
+    → read_number from flags p ≡ number_at from flags (number_of (take_while is_ascii_digit begun.text)) q
 unfolding read_number
 number_read from p begun q flags n white len here = rw (← white, ← len, ← here) refl
 
@@ -101,11 +95,13 @@ pub counts_refused : (p begun : Place) (flags : Flags) (e : SyntaxError) → beg
 unfolding read_counts
 counts_refused p begun flags e next refused = rw (← next, refused) refl
 
-pub counts_max_refused : (p begun q : Place) (flags : Flags) (min : ℕ) (e : SyntaxError) → begun ≡ past p → read_number p flags begun ≡ Ok (min, q) → max_after p flags min q ≡ Err e → read_counts flags p ≡ Err e
+pub counts_max_refused : (p begun q : Place) (flags : Flags) (min : ℕ) (e : SyntaxError) → begun ≡ past p → read_number p flags begun ≡ Ok (min, q)
+    → max_after p flags min q ≡ Err e → read_counts flags p ≡ Err e
 unfolding read_counts
 counts_max_refused p begun q flags min e next found refused = rw (← next, found, refused) refl
 
-pub counts_closed : (p begun q r : Place) (flags : Flags) (min : ℕ) (max : Option ℕ) → begun ≡ past p → read_number p flags begun ≡ Ok (min, q) → max_after p flags min q ≡ Ok (max, r) → read_counts flags p ≡ close_counts p min max r
+pub counts_closed : (p begun q r : Place) (flags : Flags) (min : ℕ) (max : Option ℕ) → begun ≡ past p → read_number p flags begun ≡ Ok (min, q)
+    → max_after p flags min q ≡ Ok (max, r) → read_counts flags p ≡ close_counts p min max r
 unfolding read_counts
 counts_closed p begun q r flags min max next found most = rw (← next, found, most) refl
 
@@ -139,7 +135,8 @@ pub named_refused : (p : Place) (flags : Flags) (e : SyntaxError) → read_name 
 unfolding named
 named_refused p flags e refused = rw refused refl
 
-pub named_read : (p q : Place) (flags : Flags) (name : List ℕ) → read_name p ≡ Ok (name, q) → named flags p ≡ Ok (Group (CaptureName (number_after q.groups) name) flags, count_group q)
+pub named_read : (p q : Place) (flags : Flags) (name : List ℕ) → read_name p ≡ Ok (name, q)
+    → named flags p ≡ Ok (Group (CaptureName (number_after q.groups) name) flags, count_group q)
 unfolding named
 named_read p q flags name found = rw found refl
 
@@ -159,7 +156,8 @@ pub opens_behind : (p : Place) (flags : Flags) → is_look_ahead p ≡ false →
 unfolding opening
 opens_behind p flags ahead behind = rw (ahead, behind) refl
 
-pub opens_reference : (p : Place) (flags : Flags) → is_look_ahead p ≡ false → is_look_behind p ≡ false → is_reference p ≡ true → opening flags p ≡ refuse Unsupported p (past_n 4 p)
+pub opens_reference : (p : Place) (flags : Flags) → is_look_ahead p ≡ false → is_look_behind p ≡ false → is_reference p ≡ true
+    → opening flags p ≡ refuse Unsupported p (past_n 4 p)
 unfolding opening
 opens_reference p flags ahead behind back = rw (ahead, behind, back) refl
 

@@ -40,7 +40,8 @@ read_flags-ends : (from : Place) (flags : Flags) (p : Place) → EndsBelow (suc 
 unfolding read_flags
 read_flags-ends from flags p =
     let q : Place = past_n (length (letters p.text)) p in
-    test (at_end q) (λ _. refused _ _) (λ _. test (not (ends_with_hyphen (letters p.text)) && may_end_at (length (letters p.text)) q) (λ _. reads (omega (arith, past_n-le (length (letters p.text)) p))) (λ _. refused _ _))
+    test (at_end q) (λ _. refused _ _) (λ _. test (not (ends_with_hyphen (letters p.text)) && may_end_at (length (letters p.text)) q)
+    (λ _. reads (omega (arith, past_n-le (length (letters p.text)) p))) (λ _. refused _ _))
 
 flagged-ends : (flags : Flags) (p : Place) → 0 < length p.text → EndsBelow (length p.text) (flagged flags p)
 unfolding flagged
@@ -96,7 +97,8 @@ lazy-ends : (n : ℕ) (lazy : Bool) (o : Operator) (q r : Place) → length q.te
 lazy-ends n true o q r a b = reads (omega (arith, past_le r, b))
 lazy-ends n false o q r a b = reads a
 
-operator_of-ends : (n : ℕ) (flags : Flags) (counts : Counts) (q r : Place) → length q.text < n → length r.text < n → EndsBelow n (Ok (operator_of flags counts q r))
+operator_of-ends : (n : ℕ) (flags : Flags) (counts : Counts) (q r : Place) → length q.text < n → length r.text < n
+    → EndsBelow n (Ok (operator_of flags counts q r))
 operator_of-ends n flags counts q r a b = lazy-ends n (begins "?" r) _ q r a b
 
 pub operator-ends : (flags : Flags) (p : Place) → 0 < length p.text → EndsBelow (length p.text) (operator flags p)
@@ -104,7 +106,8 @@ unfolding operator
 operator-ends flags p more =
     test (is_at "*+?" p) (λ _. operator_of-ends (length p.text) flags (counts_of (first p)) (past p) (past p) (past_lt p more) (past_lt p more)) (λ _.
     test (begins "{," p) (λ _. refused _ _) (λ _.
-    bind _ (read_counts-ends flags p more) (λ counts q lt. operator_of-ends (length p.text) flags counts q (skip flags q) lt (omega (arith, skip-le flags q, lt)))))
+    bind _ (read_counts-ends flags p more) (λ counts q lt. operator_of-ends (length p.text) flags counts q (skip flags q) lt
+    (omega (arith, skip-le flags q, lt)))))
 
 -- tokens
 

@@ -116,7 +116,8 @@ module _ (g : ℕ) (ns : List (List ℕ)) where
   unfolding IsGroup group_numbers
   literal-counts flags c q at = none at
 
-  character-counts : (b : Bool) (flags : Flags) (piece : Piece) (c : ℕ) (q : Place) → IsAt g ns q → CountsToken (One (if b then atom flags piece (atoms.HexByte c) else literal flags c)) q
+  character-counts : (b : Bool) (flags : Flags) (piece : Piece) (c : ℕ) (q : Place) → IsAt g ns q
+      → CountsToken (One (if b then atom flags piece (atoms.HexByte c) else literal flags c)) q
   character-counts true flags piece c q at = atom-counts flags piece (atoms.HexByte c) q at
   character-counts false flags piece c q at = literal-counts flags c q at
 
@@ -129,11 +130,13 @@ module _ (g : ℕ) (ns : List (List ℕ)) where
   module _ (config : Config) where
     escaped-counts : (flags : Flags) (p : Place) → IsAt g ns p → Gives CountsToken (escaped config flags p)
     unfolding escaped
-    escaped-counts flags p at = bind _ (escape-keeps (IsAt g ns) _ (groups-carry g ns) (octal_of config) p at) (λ e q here. reads (escaped_atom-counts flags _ e q here.1))
+    escaped-counts flags p at = bind _ (escape-keeps (IsAt g ns) _ (groups-carry g ns) (octal_of config) p at)
+        (λ e q here. reads (escaped_atom-counts flags _ e q here.1))
 
     bracketed-counts : (flags : Flags) (p : Place) → IsAt g ns p → Gives CountsToken (bracketed config flags p)
     unfolding bracketed
-    bracketed-counts flags p at = bind _ (class-keeps (IsAt g ns) _ (groups-carry g ns) (octal_of config) flags.ignore_whitespace p at) (λ a q here. reads (atom-counts flags _ a q here.1))
+    bracketed-counts flags p at = bind _ (class-keeps (IsAt g ns) _ (groups-carry g ns) (octal_of config) flags.ignore_whitespace p at)
+        (λ a q here. reads (atom-counts flags _ a q here.1))
 
     token_of-counts : (c : ℕ) (flags : Flags) (p : Place) → IsAt g ns p → Gives CountsToken (token_of config c flags p)
     unfolding token_of

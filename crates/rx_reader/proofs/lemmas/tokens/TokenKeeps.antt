@@ -21,7 +21,8 @@ module _ (K : Place → Type 0) (S : ℕ → Type 0) (go : Carries K S) where
   unfolding read_flags
   read_flags-keeps from flags p at =
       let q : Place = past_n (length (letters p.text)) p in
-      test (at_end q) (λ _. refused) (λ _. test (not (ends_with_hyphen (letters p.text)) && may_end_at (length (letters p.text)) q) (λ _. reads (past_n-keeps K S go (length (letters p.text)) p at)) (λ _. refused))
+      test (at_end q) (λ _. refused) (λ _. test (not (ends_with_hyphen (letters p.text)) && may_end_at (length (letters p.text)) q)
+      (λ _. reads (past_n-keeps K S go (length (letters p.text)) p at)) (λ _. refused))
 
   number_at-keeps : (from : Place) (flags : Flags) (found : Option ℕ) (q : Place) → K q → Keeps K (number_at from flags found q)
   number_at-keeps from flags None q at = refused

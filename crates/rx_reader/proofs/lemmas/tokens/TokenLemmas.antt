@@ -35,23 +35,27 @@ unfolding opens
 opens-ok flags p o q t h is = ap (λ (r : Read Opening). r >>= λ (o, q). Ok (opened o, q)) h ∙ ap (λ (x : Token). Ok (x, q)) (sym is)
 
 module _ (config : Config) where
-  pub escaped-err : (octal : Bool) (flags : Flags) (p : Place) (e : SyntaxError) → octal ≡ octal_of config → escape octal p ≡ Err e → escaped config flags p ≡ Err e
+  pub escaped-err : (octal : Bool) (flags : Flags) (p : Place) (e : SyntaxError) → octal ≡ octal_of config → escape octal p ≡ Err e
+      → escaped config flags p ≡ Err e
   unfolding escaped
   escaped-err octal flags p e same h =
       ap (λ (r : Read Escaped). r >>= λ (x, q). Ok (One (escaped_atom flags (piece_of p q) x), q)) (ap (λ (b : Bool). escape b p) (sym same) ∙ h)
 
-  pub escaped-ok : (octal : Bool) (flags : Flags) (p : Place) (x : Escaped) (q : Place) (piece : Piece) (s : Syntax) → octal ≡ octal_of config → escape octal p ≡ Ok (x, q) → piece ≡ piece_of p q → s ≡ escaped_atom flags piece x → escaped config flags p ≡ Ok (One s, q)
+  pub escaped-ok : (octal : Bool) (flags : Flags) (p : Place) (x : Escaped) (q : Place) (piece : Piece) (s : Syntax) → octal ≡ octal_of config
+      → escape octal p ≡ Ok (x, q) → piece ≡ piece_of p q → s ≡ escaped_atom flags piece x → escaped config flags p ≡ Ok (One s, q)
   unfolding escaped
   escaped-ok octal flags p x q piece s same h at is =
       ap (λ (r : Read Escaped). r >>= λ (x, q). Ok (One (escaped_atom flags (piece_of p q) x), q)) (ap (λ (b : Bool). escape b p) (sym same) ∙ h)
       ∙ ap (λ (k : Piece). Ok (One (escaped_atom flags k x), q)) (sym at) ∙ ap (λ (t : Syntax). Ok (One t, q)) (sym is)
 
-  pub bracketed-err : (octal : Bool) (flags : Flags) (p : Place) (e : SyntaxError) → octal ≡ octal_of config → class octal flags.ignore_whitespace p ≡ Err e → bracketed config flags p ≡ Err e
+  pub bracketed-err : (octal : Bool) (flags : Flags) (p : Place) (e : SyntaxError) → octal ≡ octal_of config → class octal flags.ignore_whitespace p ≡ Err e
+      → bracketed config flags p ≡ Err e
   unfolding bracketed
   bracketed-err octal flags p e same h =
       ap (λ (r : Read Atom). r >>= λ (a, q). Ok (One (atom flags (piece_of p q) a), q)) (ap (λ (b : Bool). class b flags.ignore_whitespace p) (sym same) ∙ h)
 
-  pub bracketed-ok : (octal : Bool) (flags : Flags) (p : Place) (a : Atom) (q : Place) (piece : Piece) (s : Syntax) → octal ≡ octal_of config → class octal flags.ignore_whitespace p ≡ Ok (a, q) → piece ≡ piece_of p q → s ≡ atom flags piece a → bracketed config flags p ≡ Ok (One s, q)
+  pub bracketed-ok : (octal : Bool) (flags : Flags) (p : Place) (a : Atom) (q : Place) (piece : Piece) (s : Syntax) → octal ≡ octal_of config
+      → class octal flags.ignore_whitespace p ≡ Ok (a, q) → piece ≡ piece_of p q → s ≡ atom flags piece a → bracketed config flags p ≡ Ok (One s, q)
   unfolding bracketed
   bracketed-ok octal flags p a q piece s same h at is =
       ap (λ (r : Read Atom). r >>= λ (a, q). Ok (One (atom flags (piece_of p q) a), q)) (ap (λ (b : Bool). class b flags.ignore_whitespace p) (sym same) ∙ h)

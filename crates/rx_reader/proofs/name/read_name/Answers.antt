@@ -1,19 +1,20 @@
-use Rattle.std.proofs.Common.{arith, ◌≡◌, ◌∙◌, ap, sym, true, false, not, ◌||◌, ◌==◌, ℕ, List, Ok}
+use Rattle.std.proofs.Common.{arith, ◌≡◌, ◌∙◌, ap, sym, true, false, not, ◌||◌, ◌==◌, ℕ, List, length, Ok}
 use Rattle.std.proofs.lemmas.Grind.{common_steps}
 use Rattle.rx_reader.specs.declared.error.SyntaxErrorKind.TheVariants.{GroupName, GroupNameTwice}
 use Rattle.rx_reader.specs.Input.{place}
 use Rattle.rx_reader.specs.Reading.{Place, is_at, past, has_name, add_name}
 use Rattle.rx_reader.specs.Names.{name_of}
 use Rattle.rx_reader.proofs.lemmas.places.ReadsLemmas.{refuse_at}
-use Rattle.rx_reader.proofs.lemmas.tokens.PartLemmas.{name_fails, name_taken, name_read, name_len_at, name_taken_at}
+use Rattle.rx_reader.proofs.lemmas.tokens.PartLemmas.{name_fails, name_taken, name_read}
 use Rattle.rx_reader.proofs.name.read_name.Goals as goal
 
 pub returns-then-count-eq0-clause-value : goal.returns-then-count-eq0-clause-value
 returns-then-count-eq0-clause-value c =
     let p = place c.args.cursor.now in
     let q = place c.bump_by.new.self in
-    let n = c.name_len-count.result in
-    let len = name_len_at p c.rest.result.now n c.rest.ensures c.name_len-count.ensures.len in
+    let n = c.len-count.result in
+    let read : c.in_ok-name.name.items ≡ name_of p.text = c.in_ok-name.ensures ∙ ap name_of c.rest.ensures in
+    let len : n ≡ length (name_of p.text) = omega (arith, c.in_ok-name.name.ok.0, ap (λ (cs : List ℕ). length cs) read) in
     let fails : ((n == 0) || not (is_at ">" q)) ≡ true = rw c.if-count-eq0.true (grind (arith, common_steps)) in
     rw c.refuse_from.ensures (name_fails p q n len c.bump_by.ensures.value fails ∙ refuse_at GroupName p q _ _ c.at-start.ensures (grind (arith, common_steps)))
 
@@ -21,33 +22,39 @@ pub returns-then-not-is_at-clause-value : goal.returns-then-not-is_at-clause-val
 returns-then-not-is_at-clause-value c =
     let p = place c.args.cursor.now in
     let q = place c.bump_by.new.self in
-    let n = c.name_len-count.result in
-    let len = name_len_at p c.rest.result.now n c.rest.ensures c.name_len-count.ensures.len in
+    let n = c.len-count.result in
+    let read : c.in_ok-name.name.items ≡ name_of p.text = c.in_ok-name.ensures ∙ ap name_of c.rest.ensures in
+    let len : n ≡ length (name_of p.text) = omega (arith, c.in_ok-name.name.ok.0, ap (λ (cs : List ℕ). length cs) read) in
     let fails : ((n == 0) || not (is_at ">" q)) ≡ true = grind (arith, common_steps) in
-    rw c.refuse_from-then-not-is_at.ensures (name_fails p q n len c.bump_by.ensures.value fails ∙ refuse_at GroupName p q _ _ c.at-start.ensures (grind (arith, common_steps)))
+    rw c.refuse_from-then-not-is_at.ensures (name_fails p q n len c.bump_by.ensures.value fails
+    ∙ refuse_at GroupName p q _ _ c.at-start.ensures (grind (arith, common_steps)))
 
 pub returns-then-not-branch-clause-value : goal.returns-then-not-branch-clause-value
 returns-then-not-branch-clause-value c =
     let p = place c.args.cursor.now in
     let q = place c.bump_by.new.self in
-    let n = c.name_len-count.result in
-    let len = name_len_at p c.rest.result.now n c.rest.ensures c.name_len-count.ensures.len in
+    let n = c.len-count.result in
+    let read : c.in_ok-name.name.items ≡ name_of p.text = c.in_ok-name.ensures ∙ ap name_of c.rest.ensures in
+    let len : n ≡ length (name_of p.text) = omega (arith, c.in_ok-name.name.ok.0, ap (λ (cs : List ℕ). length cs) read) in
     let fails : ((n == 0) || not (is_at ">" q)) ≡ false = grind (arith, common_steps) in
-    let name : c.deref.result.now ≡ name_of p.text = c.deref.ensures.value ∙ c.in_ok-name.ensures.items_if_clones_equal (λ x y h. h) ∙ name_taken_at p c.rest.result.now c.rest-2.result.now n c.rest.ensures c.rest-2.ensures c.name_len-count.ensures.value in
+    let name : c.deref.result.now ≡ name_of p.text = c.deref.ensures.value ∙ read in
     let fresh : not (has_name (name_of p.text) q) ≡ c.in_ok-add_name.field-0 = sym (c.in_ok-add_name.ensures.fresh ∙ ap (λ (x : Place). not (has_name c.deref.result.now x)) c.bump.ensures.value ∙ ap (λ (cs : List ℕ). not (has_name cs q)) name) in
     let taken : has_name (name_of p.text) q ≡ true = grind (arith, common_steps) in
-    rw c.refuse.ensures (name_taken p q n len c.bump_by.ensures.value fails taken ∙ refuse_at GroupNameTwice p q _ _ (grind (arith, common_steps)) (grind (arith, common_steps)))
+    rw c.refuse.ensures (name_taken p q n len c.bump_by.ensures.value fails taken
+    ∙ refuse_at GroupNameTwice p q _ _ (grind (arith, common_steps)) (grind (arith, common_steps)))
 
 pub returns-clause-value : goal.returns-clause-value
 returns-clause-value c =
     let p = place c.args.cursor.now in
     let q = place c.bump_by.new.self in
-    let n = c.name_len-count.result in
-    let len = name_len_at p c.rest.result.now n c.rest.ensures c.name_len-count.ensures.len in
+    let n = c.len-count.result in
+    let read : c.in_ok-name.name.items ≡ name_of p.text = c.in_ok-name.ensures ∙ ap name_of c.rest.ensures in
+    let len : n ≡ length (name_of p.text) = omega (arith, c.in_ok-name.name.ok.0, ap (λ (cs : List ℕ). length cs) read) in
     let fails : ((n == 0) || not (is_at ">" q)) ≡ false = grind (arith, common_steps) in
-    let name : c.deref.result.now ≡ name_of p.text = c.deref.ensures.value ∙ c.in_ok-name.ensures.items_if_clones_equal (λ x y h. h) ∙ name_taken_at p c.rest.result.now c.rest-2.result.now n c.rest.ensures c.rest-2.ensures c.name_len-count.ensures.value in
+    let name : c.deref.result.now ≡ name_of p.text = c.deref.ensures.value ∙ read in
     let fresh : not (has_name (name_of p.text) q) ≡ c.in_ok-add_name.field-0 = sym (c.in_ok-add_name.ensures.fresh ∙ ap (λ (x : Place). not (has_name c.deref.result.now x)) c.bump.ensures.value ∙ ap (λ (cs : List ℕ). not (has_name cs q)) name) in
     let taken : has_name (name_of p.text) q ≡ false = grind (arith, common_steps) in
     let known : c.in_ok-new.field-0 ≡ name_of p.text = c.in_ok-new.ensures ∙ sym c.deref.ensures.value ∙ name in
     let added : place c.add_name.new.self ≡ add_name (name_of p.text) (past q) = c.in_ok-add_name.ensures.value ∙ ap (λ (cs : List ℕ). add_name cs (place c.bump.new.self)) name ∙ ap (add_name (name_of p.text)) c.bump.ensures.value in
-    name_read p q n len c.bump_by.ensures.value fails taken ∙ ap (λ (cs : List ℕ). Ok (cs, add_name (name_of p.text) (past q))) (sym known) ∙ ap (λ (x : Place). Ok (c.in_ok-new.field-0, x)) (sym added)
+    name_read p q n len c.bump_by.ensures.value fails taken ∙ ap (λ (cs : List ℕ). Ok (cs, add_name (name_of p.text) (past q))) (sym known)
+    ∙ ap (λ (x : Place). Ok (c.in_ok-new.field-0, x)) (sym added)

@@ -24,4 +24,5 @@ pub returns-clause-value : goal.returns-clause-value
 returns-clause-value c from start =
     let q = place c.skip_white.new.self in
     let more : is_at "}" q ≡ false = sym c.is_at.ensures.value ∙ c.if-is_at.false in
-    max_some from (place c.args.cursor.now) q (place c.read_number.new.cursor) c.args.flags c.in_ok-number.number c.skip_white.ensures.value more (c.in_ok-number.ensures.value from start)
+    max_some from (place c.args.cursor.now) q (place c.read_number.new.cursor) c.args.flags c.in_ok-number.number c.skip_white.ensures.value more
+    (c.in_ok-number.ensures.value from start)

@@ -16,7 +16,8 @@ returns-then-is_at-clause-value c =
     let simple : is_at "*+?" p ≡ true = sym c.is_at.ensures.value ∙ c.if-is_at.true in
     let same : c.counts_of-counts.result ≡ counts_of (first p) = c.counts_of-counts.ensures.value ∙ ap counts_of c.first.ensures in
     operator_simple p q c.args.flags c.bump.ensures.value simple
-    ∙ operator_is c.args.flags c.counts_of-counts.result (counts_of (first p)) q q (place c.bump_over_question-lazy.new.self) c.bump_over_question-lazy.result c.with_greed.result same c.bump_over_question-lazy.ensures.value c.with_greed.ensures c.bump_over_question-lazy.ensures.place
+    ∙ operator_is c.args.flags c.counts_of-counts.result (counts_of (first p)) q q (place c.bump_over_question-lazy.new.self) c.bump_over_question-lazy.result
+    c.with_greed.result same c.bump_over_question-lazy.ensures.value c.with_greed.ensures c.bump_over_question-lazy.ensures.place
 
 pub returns-then-begins-clause-value : goal.returns-then-begins-clause-value
 returns-then-begins-clause-value c =
@@ -24,7 +25,8 @@ returns-then-begins-clause-value c =
     let simple : is_at "*+?" p ≡ false = sym c.is_at.ensures.value ∙ c.if-is_at.false in
     let without : begins "{," p ≡ true = sym c.begins.ensures ∙ c.if-begins.true in
     let end : (place c.bump_by.new.self).at ≡ (past_n 2 p).at = ap (λ (x : Place). x.at) c.bump_by.ensures.value in
-    rw c.refuse_from.ensures (operator_without_min p c.args.flags simple without ∙ refuse_at Unsupported p (past_n 2 p) c.at-start.result (place c.bump_by.new.self).at c.at-start.ensures end)
+    rw c.refuse_from.ensures (operator_without_min p c.args.flags simple without
+    ∙ refuse_at Unsupported p (past_n 2 p) c.at-start.result (place c.bump_by.new.self).at c.at-start.ensures end)
 
 pub returns-in_err-counts-clause-value : goal.returns-in_err-counts-clause-value
 returns-in_err-counts-clause-value c =
@@ -44,4 +46,5 @@ returns-clause-value c =
     let simple : is_at "*+?" p ≡ false = sym c.is_at.ensures.value ∙ c.if-is_at.false in
     let without : begins "{," p ≡ false = sym c.begins.ensures ∙ c.if-begins.false in
     operator_counted p q c.args.flags counts simple without c.in_ok-counts.ensures.value
-    ∙ operator_is c.args.flags counts counts q (skip c.args.flags q) (place c.bump_over_lazy-lazy.new.self) c.bump_over_lazy-lazy.result c.with_greed-2.result refl c.bump_over_lazy-lazy.ensures.value c.with_greed-2.ensures c.bump_over_lazy-lazy.ensures.place
+    ∙ operator_is c.args.flags counts counts q (skip c.args.flags q) (place c.bump_over_lazy-lazy.new.self) c.bump_over_lazy-lazy.result c.with_greed-2.result
+    refl c.bump_over_lazy-lazy.ensures.value c.with_greed-2.ensures c.bump_over_lazy-lazy.ensures.place

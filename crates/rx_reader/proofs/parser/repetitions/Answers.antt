@@ -11,7 +11,8 @@ use Rattle.rx_reader.proofs.parser.repetitions.Goals as goal
 
 pub loop-flags-init : goal.loop-flags-init
 loop-flags-init c = record {
-  read = all_repetitions-step c.args.config c.args.flags c.args.item (place c.args.cursor.now) ∙ ap (repeated_from c.args.config c.args.flags c.args.item) (sym c.skip.ensures.value);
+  read = all_repetitions-step c.args.config c.args.flags c.args.item (place c.args.cursor.now)
+      ∙ ap (repeated_from c.args.config c.args.flags c.args.item) (sym c.skip.ensures.value);
   moves = c.skip.ensures.progress;
 }
 

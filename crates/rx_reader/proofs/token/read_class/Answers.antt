@@ -10,11 +10,13 @@ returns-in_err-atom-clause-value c =
     let p = place c.args.cursor.now in
     let e = err_from_is_err_and c.from_residual.result c.from_residual.ensures.1 in
     rw (e.1, e.2) (refuses_from _ _ (λ x is.
-    bracketed-err c.args.config c.get_octal.result c.args.flags p x c.get_octal.ensures (refuses _ (class c.get_octal.result c.args.flags.ignore_whitespace p) c.in_err-atom.ensures.value x is)))
+    bracketed-err c.args.config c.get_octal.result c.args.flags p x c.get_octal.ensures
+    (refuses _ (class c.get_octal.result c.args.flags.ignore_whitespace p) c.in_err-atom.ensures.value x is)))
 
 pub returns-clause-value : goal.returns-clause-value
 returns-clause-value c =
     let p = place c.args.cursor.now in
     let q = place c.class.new.cursor in
-    bracketed-ok c.args.config c.get_octal.result c.args.flags p c.in_ok-atom.atom q c.piece_from-piece.result c.atom.result c.get_octal.ensures c.in_ok-atom.ensures.value
+    bracketed-ok c.args.config c.get_octal.result c.args.flags p c.in_ok-atom.atom q c.piece_from-piece.result c.atom.result c.get_octal.ensures
+    c.in_ok-atom.ensures.value
     (piece_between c.at-start.result p q c.piece_from-piece.result c.piece_from-piece.ensures c.at-start.ensures) c.atom.ensures

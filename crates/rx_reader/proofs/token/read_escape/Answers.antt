@@ -10,11 +10,13 @@ returns-in_err-escaped-clause-value c =
     let p = place c.args.cursor.now in
     let e = err_from_is_err_and c.from_residual.result c.from_residual.ensures.1 in
     rw (e.1, e.2) (refuses_from _ _ (λ x is.
-    escaped-err c.args.config c.get_octal.result c.args.flags p x c.get_octal.ensures (refuses _ (escape c.get_octal.result p) c.in_err-escaped.ensures.value x is)))
+    escaped-err c.args.config c.get_octal.result c.args.flags p x c.get_octal.ensures
+    (refuses _ (escape c.get_octal.result p) c.in_err-escaped.ensures.value x is)))
 
 pub returns-clause-value : goal.returns-clause-value
 returns-clause-value c =
     let p = place c.args.cursor.now in
     let q = place c.escape.new.cursor in
-    escaped-ok c.args.config c.get_octal.result c.args.flags p c.in_ok-escaped.escaped q c.piece_from-piece.result c.escaped_atom.result c.get_octal.ensures c.in_ok-escaped.ensures.value
+    escaped-ok c.args.config c.get_octal.result c.args.flags p c.in_ok-escaped.escaped q c.piece_from-piece.result c.escaped_atom.result c.get_octal.ensures
+    c.in_ok-escaped.ensures.value
     (piece_between c.at-start.result p q c.piece_from-piece.result c.piece_from-piece.ensures c.at-start.ensures) c.escaped_atom.ensures

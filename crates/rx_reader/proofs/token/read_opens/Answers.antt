@@ -14,4 +14,5 @@ returns-in_err-opening-clause-value c =
 
 pub returns-clause-value : goal.returns-clause-value
 returns-clause-value c =
-    opens-ok c.args.flags (place c.args.cursor.now) c.in_ok-opening.opening (place c.read_opening.new.cursor) c.opened.result c.in_ok-opening.ensures.value c.opened.ensures.value
+    opens-ok c.args.flags (place c.args.cursor.now) c.in_ok-opening.opening (place c.read_opening.new.cursor) c.opened.result c.in_ok-opening.ensures.value
+    c.opened.ensures.value

@@ -12,7 +12,11 @@ use Rattle.rx_scan.proofs.answer.all_rows.Goals as goal
 pub returns : goal.returns
 returns g c = λ hs built utf8.
     let each = subst (All (λ line. IsUtf8 line.now)) (sym c.deref.ensures.value) c.in_ok-haystacks.ensures.utf8 in
-    let scanned = ap (map vec_items) c.deref-2.ensures.value ∙ c.in_ok-rows.ensures (config_without c.args.command.now.off) hs built refl tt (λ _ k d below. utf8 _ (each k d below)) in
+    let scanned =
+    ap (map vec_items) c.deref-2.ensures.value ∙ c.in_ok-rows.ensures (config_without c.args.command.now.off) hs built refl tt
+    (λ _ k d below. utf8 _ (each k d below)) in
     let told = ap (map (λ line. line.now)) c.deref.ensures.value ∙ c.in_ok-haystacks.ensures.lines in
-    let text = all-printed vec_items (λ line. line.now) (patterns_of hs) c.deref-2.result.now c.deref.result.now _ _ _ c.new-text.ensures.items c.in_ok-print_haystacks.ensures scanned told in
+    let text =
+    all-printed vec_items (λ line. line.now) (patterns_of hs) c.deref-2.result.now c.deref.result.now _ _ _ c.new-text.ensures.items
+    c.in_ok-print_haystacks.ensures scanned told in
     λ i. record { status = Rows; text = text i }

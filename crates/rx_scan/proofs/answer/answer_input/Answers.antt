@@ -16,5 +16,6 @@ returns-in-Ok g c =
 
 pub returns-in-Err : goal.returns-in-Err
 returns-in-Err g c =
-    let same = answer_input-not_utf8 c.args.input.now _ c.if-input-gt-INPUT_LIMIT.false c.in-Err.ensures.cases.0 (c.valid_up_to.ensures ∙ c.in-Err.ensures.valid_len) in
+    let same =
+    answer_input-not_utf8 c.args.input.now _ c.if-input-gt-INPUT_LIMIT.false c.in-Err.ensures.cases.0 (c.valid_up_to.ensures ∙ c.in-Err.ensures.valid_len) in
     IfOk-weaker c.not_utf8.result _ _ (λ a e. e ∙ sym same) c.not_utf8.ensures

@@ -12,11 +12,13 @@ returns-in-Ok g c =
     let hs = c.args.expressions.now in
     let off = c.args.command.now.off in
     let built : IsBuilt (config_without off) hs c.in-Ok.regex = subst (λ k. IsBuilt k hs c.in-Ok.regex) c.builder_without.ensures c.in-Ok.ensures.built in
-    IfOk-weaker c.all_rows.result _ _ (λ a e. e ∙ sym (answer_patterns-small hs _ (small-allowed off hs built.allowed))) (c.all_rows.ensures hs built c.requires.utf8)
+    IfOk-weaker c.all_rows.result _ _ (λ a e. e ∙ sym (answer_patterns-small hs _ (small-allowed off hs built.allowed)))
+    (c.all_rows.ensures hs built c.requires.utf8)
 
 pub returns-in-Err-NFA : goal.returns-in-Err-NFA
 returns-in-Err-NFA g c =
     let hs = c.args.expressions.now in
     let refused = rw c.in-Err-NFA.field-0-is at c.in-Err-NFA.ensures.refused in
     let is = subst (λ k. IsRefused k hs (NFA c.in-Err-NFA.field-0-0)) c.builder_without.ensures refused in
-    IfOk-weaker c.too_big.result _ _ (λ a e. e ∙ sym (answer_patterns-big hs _ (refused-big c.args.command.now.off c.in-Err-NFA.field-0-0 hs is))) c.too_big.ensures
+    IfOk-weaker c.too_big.result _ _ (λ a e. e ∙ sym (answer_patterns-big hs _ (refused-big c.args.command.now.off c.in-Err-NFA.field-0-0 hs is)))
+    c.too_big.ensures

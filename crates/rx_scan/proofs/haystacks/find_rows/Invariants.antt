@@ -16,7 +16,8 @@ invariant-loop-rows l = record {
   place : (i : ℕ) → from_place i l.searcher.input ≡ from_place i (whole l.haystack);
   promised : (r : Patterns) → FindsRows l.initial.finder.regex.now r l.haystack → AtEachPlace (PromisesFor l.finder.regex.now) l.searcher.input;
   told : (r : Patterns) → FindsRows l.initial.finder.regex.now r l.haystack
-      → Progress (searches l.finder.regex.now) (row_of r) (map (row_of r) (successive (searches l.initial.finder.regex.now) (whole l.haystack))) l.rows.items l.searcher;
+      → Progress (searches l.finder.regex.now) (row_of r) (map (row_of r) (successive (searches l.initial.finder.regex.now) (whole l.haystack))) l.rows.items
+      l.searcher;
 }
 
 abbrev pub decreases-loop-rows : goal.decreases-loop-rows

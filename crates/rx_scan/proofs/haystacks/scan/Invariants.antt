@@ -10,5 +10,6 @@ use Rattle.rx_scan.proofs.haystacks.scan.Given as goal
 abbrev pub invariant-loop-index : goal.invariant-loop-index
 invariant-loop-index g l = record {
   same : l.finder.regex.now ≡ l.regex;
-  told : (r : Patterns) → All (λ h. FindsRows l.regex r h.now) l.haystacks → map vec_items l.all.items ≡ map (λ h. scan_rows r h.now) (take l.index l.haystacks);
+  told : (r : Patterns) → All (λ h. FindsRows l.regex r h.now) l.haystacks
+      → map vec_items l.all.items ≡ map (λ h. scan_rows r h.now) (take l.index l.haystacks);
 }

@@ -30,7 +30,8 @@ loop-source-preserved g c =
       limit = omega (arith, added.len, length-take c.in_ok-n.n c.deref.result.now, c.in_ok-n.ensures.len.0, c.len-in-loop-source.ensures, c.len.ensures);
       room = c.loop-source.invariant.room;
       counts = omega (arith, c.read_at_most.ensures.counts, c.loop-source.invariant.counts);
-      reads = CountsAtMost-more _ _ _ _ _ c.loop-source.invariant.reads c.read_at_most.ensures.call (omega (arith, added.len, length-take c.in_ok-n.n c.deref.result.now, ap length piece, c.in_ok-n.ensures.len.1, c.if-n-eq0.false));
+      reads = CountsAtMost-more _ _ _ _ _ c.loop-source.invariant.reads c.read_at_most.ensures.call
+          (omega (arith, added.len, length-take c.in_ok-n.n c.deref.result.now, ap length piece, c.in_ok-n.ensures.len.1, c.if-n-eq0.false));
     }
 
 pub returns-in_err-extend_from_slice-clause-takes : goal.returns-in_err-extend_from_slice-clause-takes
@@ -39,5 +40,12 @@ returns-in_err-extend_from_slice-clause-takes g c =
     let gave = take c.in_ok-n.n c.read_at_most.new.buf in (
       had ++ gave,
       Consumes-trans _ _ _ _ _ c.loop-source.invariant.given c.in_ok-n.ensures.bytes,
-      omega (arith, length-append had gave, length-take c.in_ok-n.n c.read_at_most.new.buf, c.in_ok-n.ensures.len.0, c.len-in-loop-source.ensures, c.loop-source.input.ok.0),
+      omega (
+        arith,
+        length-append had gave,
+        length-take c.in_ok-n.n c.read_at_most.new.buf,
+        c.in_ok-n.ensures.len.0,
+        c.len-in-loop-source.ensures,
+        c.loop-source.input.ok.0,
+      ),
     )

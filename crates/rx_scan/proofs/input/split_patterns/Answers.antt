@@ -15,7 +15,8 @@ returns-then-is_empty-clause-haystacks c =
 
 pub lines-preserved : goal.lines-preserved
 lines-preserved c = record {
-  cut = Cut-more (λ line. line.now) _ _ _ _ _ _ _ c.lines.invariant.cut c.split_line.ensures.lines (eqb-false _ _ (sym c.if-is_empty.ensures)) refl c.in_ok-push.ensures.items;
+  cut = Cut-more (λ line. line.now) _ _ _ _ _ _ _ c.lines.invariant.cut c.split_line.ensures.lines (eqb-false _ _ (sym c.if-is_empty.ensures)) refl
+      c.in_ok-push.ensures.items;
   each = each-utf8 (λ line. line.now) _ _ _ _ c.in_ok-push.ensures.items refl c.split_line.ensures.utf8.0 c.lines.invariant.each;
   utf8 = c.split_line.ensures.utf8.1;
 }

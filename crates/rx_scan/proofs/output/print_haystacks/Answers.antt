@@ -6,7 +6,8 @@ use Rattle.rx_scan.proofs.output.print_haystacks.Goals as goal
 pub loop-rows-preserved : goal.loop-rows-preserved
 loop-rows-preserved c = record {
   told =
-      haystacks-more vec_items c.args.haystacks.now c.loop-rows.rows-index c.loop-rows.line c.rows-item.result c.deref.result.now _ _ _ c.loop-rows-test.true c.rows-item.is
+      haystacks-more vec_items c.args.haystacks.now c.loop-rows.rows-index c.loop-rows.line c.rows-item.result c.deref.result.now _ _ _ c.loop-rows-test.true
+      c.rows-item.is
       c.loop-rows.invariant.count c.deref.ensures.value c.in_ok-print_rows.ensures c.loop-rows.invariant.told;
   count = omega arith;
 }

@@ -4,7 +4,8 @@ use Rattle.rx_scan.proofs.output.push_groups.Goals as goal
 
 pub loop-at-preserved : goal.loop-at-preserved
 loop-at-preserved c = record {
-  told = told-more c.args.slots.now c.loop-at.at c.loop-at.group _ _ _ _ _ (omega arith) c.index-slots-at.is c.index-slots-at-in-loop-at.is c.in_ok-push_group.ensures c.loop-at.invariant.told;
+  told = told-more c.args.slots.now c.loop-at.at c.loop-at.group _ _ _ _ _ (omega arith) c.index-slots-at.is c.index-slots-at-in-loop-at.is
+      c.in_ok-push_group.ensures c.loop-at.invariant.told;
   within = omega arith;
   few = omega arith;
 }

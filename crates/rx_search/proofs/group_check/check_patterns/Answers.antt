@@ -36,4 +36,5 @@ loop-index-preserved c =
 pub returns : goal.returns
 returns c =
     let gs = groups_of c.args.patterns.now in
-    no_fault-all gs c.loop-index.index (omega (arith, c.loop-index-test.false, length-groups_of c.args.patterns.now)) c.loop-index.invariant.1 c.loop-index.invariant.0
+    no_fault-all gs c.loop-index.index (omega (arith, c.loop-index-test.false, length-groups_of c.args.patterns.now)) c.loop-index.invariant.1
+    c.loop-index.invariant.0

@@ -4,8 +4,9 @@ use Rattle.std.specs.BTreeSet.{contains_by}
 use Rattle.std.specs.Cmp.Lexicographic.{slice_cmp}
 use Rattle.std.specs.Ordering.{nat_cmp}
 use Rattle.rx_search.specs.GroupInfo.{names_of, is_named, has_duplicate}
-use Rattle.rx_search.proofs.FaultLemmas.{has_duplicate-more, has_duplicate-front, list_any-more, name_of_item, length-names_of, set_with, cond_or, bytes_eq-sym, or_false, not_false, not_true}
+use Rattle.rx_search.proofs.FaultLemmas.{has_duplicate-more, has_duplicate-front, list_any-more, name_of_item, length-names_of, set_with, cond_or, bytes_eq-sym, not_false, not_true}
 use Rattle.std.proofs.lemmas.Bool.{or_right, or_from}
+use Rattle.std.proofs.Math.Bool.{or-false}
 use Rattle.rx_search.proofs.group_check.has_duplicate.Goals as goal
 
 pub loop-group-preserved-in_default : goal.loop-group-preserved-in_default
@@ -14,8 +15,8 @@ loop-group-preserved-in_default c =
     let i = c.loop-group.group-index in
     let below : i < length names = omega (arith, c.loop-group-test.true, length-names_of c.args.groups.now) in
     let item : get_or names i None ≡ None = name_of_item c.args.groups.now i c.group-item.result c.loop-group-test.true c.group-item.is ∙ ap (option_map string_bytes) c.in_default.is in (
-      λ (name : List ℕ). c.loop-group.invariant.0 name ∙ sym (list_any-more (is_named name) names i None item below ∙ or_false _),
-      has_duplicate-more names i None item below ∙ or_false _ ∙ c.loop-group.invariant.1,
+      λ (name : List ℕ). c.loop-group.invariant.0 name ∙ sym (list_any-more (is_named name) names i None item below ∙ or-false _),
+      has_duplicate-more names i None item below ∙ or-false _ ∙ c.loop-group.invariant.1,
     )
 
 pub returns-then-not-branch : goal.returns-then-not-branch

@@ -19,5 +19,7 @@ loop-groups-preserved c =
     let i = c.loop-groups.groups-index in
     let below : i < length gs = omega (arith, c.loop-groups-test.true, length-groups_of c.args.patterns.now) in
     let len : length (get_or gs i []) ≡ length c.groups-item.result.items = ap length (group_at c.args.patterns.now i c.groups-item.result c.loop-groups-test.true c.groups-item.is) ∙ length-names_of c.groups-item.result.items in
-    let more = group_count-more gs i [] below in
-    (omega (arith, len, more, c.loop-groups.invariant.0, c.len-count.ensures), omega (arith, c.loop-groups.invariant.1, c.len.ensures, c.len-count.ensures, c.if-len-count.false))
+    let more = group_count-more gs i [] below in (
+      omega (arith, len, more, c.loop-groups.invariant.0, c.len-count.ensures),
+      omega (arith, c.loop-groups.invariant.1, c.len.ensures, c.len-count.ensures, c.if-len-count.false),
+    )

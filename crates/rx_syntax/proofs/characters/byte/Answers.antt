@@ -1,6 +1,6 @@
 use Rattle.std.proofs.Common.{◌≡◌, ℕ, List, IfOk, subst}
 use Rattle.rx_class.specs.Ranges.{next_byte}
-use Rattle.rx_syntax.proofs.FewestLemmas.{fewest-one}
+use Rattle.rx_syntax.proofs.lemmas.translation.FewestLemmas.{fewest-one}
 use Rattle.rx_syntax.proofs.characters.byte.Goals as goal
 
 pub returns : goal.returns

@@ -1,5 +1,5 @@
 use Rattle.std.proofs.Common.{sym, ◌∙◌}
-use Rattle.rx_syntax.proofs.SetLemmas.{named-same}
+use Rattle.rx_syntax.proofs.lemmas.sets.SetLemmas.{named-same}
 use Rattle.rx_syntax.proofs.named.same_property.Goals as goal
 
 pub returns : goal.returns

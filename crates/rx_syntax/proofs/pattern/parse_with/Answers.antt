@@ -8,7 +8,7 @@ use Rattle.rx_reader.specs.declared.error.SyntaxError.{SyntaxError}
 use Rattle.rx_syntax.specs.Answers.{Answers}
 use Rattle.rx_syntax.specs.Pattern.{reads}
 use Rattle.rx_syntax.specs.Translation.{translated}
-use Rattle.rx_syntax.proofs.RefusalLemmas.{refuses-then}
+use Rattle.rx_syntax.proofs.lemmas.patterns.RefusalLemmas.{refuses-then}
 use Rattle.rx_syntax.proofs.pattern.parse_with.Goals as goal
 
 pub returns-in_err-ast : goal.returns-in_err-ast

@@ -1,4 +1,4 @@
-use Rattle.rx_syntax.proofs.PatternsLemmas.{Gathers, each_answer, syntax_of}
+use Rattle.rx_syntax.proofs.lemmas.patterns.PatternsLemmas.{Gathers, each_answer, syntax_of}
 use Rattle.rx_syntax.proofs.patterns.read_all.Given as goal
 
 abbrev pub invariant-loop-pattern : goal.invariant-loop-pattern

@@ -1,4 +1,4 @@
-use Rattle.rx_syntax.proofs.PatternsLemmas.{Gathers, translate_each}
+use Rattle.rx_syntax.proofs.lemmas.patterns.PatternsLemmas.{Gathers, translate_each}
 use Rattle.rx_syntax.proofs.patterns.translate_all.Given as goal
 
 abbrev pub invariant-loop-ast : goal.invariant-loop-ast

@@ -1,5 +1,5 @@
 use Rattle.std.proofs.Common.{arith}
-use Rattle.rx_syntax.proofs.PartialLemmas.{first-begun, first-more, first-over}
+use Rattle.rx_syntax.proofs.lemmas.sets.PartialLemmas.{first-begun, first-more, first-over}
 use Rattle.rx_syntax.proofs.scalars.gather.Goals as goal
 
 pub loop-item-init : goal.loop-item-init

@@ -6,15 +6,15 @@ use Rattle.rx_hir.specs.Normal.{concat_of, alternation_of}
 use Rattle.rx_reader.specs.Reading.{◌>>=◌}
 use Rattle.rx_reader.specs.Syntax.{Syntax, cat, alt, syntaxes}
 use Rattle.rx_reader.specs.Coded.{syntax_size, greatest_size}
-use Rattle.rx_reader.specs.AstViews.{expanded, kind_view}
+use Rattle.rx_reader.specs.AstViews.{expanded, kind_view, only_branch as written_branch}
 use Rattle.rx_reader.specs.declared.config.Config.{Config}
 use Rattle.rx_reader.specs.declared.ast.Item.{Item}
 use Rattle.rx_syntax.specs.Refused.{gathered}
 use Rattle.rx_syntax.specs.Translation.{translated}
-use Rattle.rx_syntax.specs.ItemViews.{all_parts, branch_parts, item_size}
-use Rattle.rx_syntax.proofs.RefusalLemmas.{refuses-then}
-use Rattle.rx_syntax.proofs.SizeLemmas.{size-branch, size-item}
-use Rattle.rx_syntax.proofs.TranslationLemmas.{concat-items, branches-same}
+use Rattle.rx_syntax.specs.ItemViews.{all_parts, branch_parts, item_size, only_branch}
+use Rattle.rx_syntax.proofs.lemmas.patterns.RefusalLemmas.{refuses-then}
+use Rattle.rx_syntax.proofs.lemmas.translation.SizeLemmas.{size-branch, size-item}
+use Rattle.rx_syntax.proofs.lemmas.translation.TranslationLemmas.{concat-items, branches-same, branch-items}
 use Rattle.rx_syntax.proofs.translate.+translate.Goals as goal
 
 concat_is : (config : Config) (items shown : List Item) (s : Syntax) → shown ≡ items → cat (syntaxes (expanded items)) ≡ s
@@ -28,36 +28,67 @@ alternation_is config branches shown s same is =
     ap (λ xs. gathered (branch_parts config) xs >>= λ es. Ok (alternation_of es)) same
     ∙ ap (λ r. r >>= λ es. Ok (alternation_of es)) (branches-same config branches) ∙ ap (translated config) is
 
+branch_is : (config : Config) (items shown : List Item) (s : Syntax) → shown ≡ items → written_branch items ≡ s
+    → (all_parts config shown >>= λ es. Ok (only_branch es)) ≡ translated config s
+branch_is config items shown s same is =
+    ap (λ xs. all_parts config xs >>= λ es. Ok (only_branch es)) same ∙ branch-items config items ∙ ap (translated config) is
+
 pub translate-returns-in_err-subs-in-Concat : goal.translate-returns-in_err-subs-in-Concat
 translate-returns-in_err-subs-in-Concat t c =
     let shown = c.deref-in-Concat.result.now in
     let config = c.args.config.now in
-    let same = concat_is config c.in-Concat.items.items shown c.args.ast.now c.deref-in-Concat.ensures.value (sym (ap kind_view c.in-Concat.is) ∙ c.kind.ensures.value) in
+    let same =
+    concat_is config c.in-Concat.items.items shown c.args.ast.now c.deref-in-Concat.ensures.value (sym (ap kind_view c.in-Concat.is) ∙ c.kind.ensures.value) in
     let e = err_from_is_err_and c.from_residual-in_err-subs-in-Concat.result c.from_residual-in_err-subs-in-Concat.ensures.1 in
     rw (e.1, e.2) (refuses-then _ (all_parts config shown) (λ es. Ok (concat_of es)) _ same c.in_err-subs-in-Concat.ensures)
 
 pub translate-returns-in_ok-concat-in-Concat : goal.translate-returns-in_ok-concat-in-Concat
 translate-returns-in_ok-concat-in-Concat t c =
-    let same = concat_is c.args.config.now c.in-Concat.items.items c.deref-in-Concat.result.now c.args.ast.now c.deref-in-Concat.ensures.value (sym (ap kind_view c.in-Concat.is) ∙ c.kind.ensures.value) in
+    let same =
+    concat_is c.args.config.now c.in-Concat.items.items c.deref-in-Concat.result.now c.args.ast.now c.deref-in-Concat.ensures.value
+    (sym (ap kind_view c.in-Concat.is) ∙ c.kind.ensures.value) in
     sym same ∙ ap (λ r. r >>= λ es. Ok (concat_of es)) c.in_ok-subs-in-Concat.ensures ∙ ap (λ (h : Expression). Ok h) (sym c.in_ok-concat-in-Concat.ensures)
 
 pub translate-returns-in_err-subs-in-Alternation : goal.translate-returns-in_err-subs-in-Alternation
 translate-returns-in_err-subs-in-Alternation t c =
     let shown = c.deref-in-Alternation.result.now in
     let config = c.args.config.now in
-    let same = alternation_is config c.in-Alternation.branches.items shown c.args.ast.now c.deref-in-Alternation.ensures.value (sym (ap kind_view c.in-Alternation.is) ∙ c.kind.ensures.value) in
+    let same =
+    alternation_is config c.in-Alternation.branches.items shown c.args.ast.now c.deref-in-Alternation.ensures.value
+    (sym (ap kind_view c.in-Alternation.is) ∙ c.kind.ensures.value) in
     let e = err_from_is_err_and c.from_residual-in_err-subs-in-Alternation.result c.from_residual-in_err-subs-in-Alternation.ensures.1 in
     rw (e.1, e.2) (refuses-then _ (gathered (branch_parts config) shown) (λ es. Ok (alternation_of es)) _ same c.in_err-subs-in-Alternation.ensures)
 
 pub translate-returns-in_ok-alternation-in-Alternation : goal.translate-returns-in_ok-alternation-in-Alternation
 translate-returns-in_ok-alternation-in-Alternation t c =
-    let same = alternation_is c.args.config.now c.in-Alternation.branches.items c.deref-in-Alternation.result.now c.args.ast.now c.deref-in-Alternation.ensures.value (sym (ap kind_view c.in-Alternation.is) ∙ c.kind.ensures.value) in
-    sym same ∙ ap (λ r. r >>= λ es. Ok (alternation_of es)) c.in_ok-subs-in-Alternation.ensures ∙ ap (λ (h : Expression). Ok h) (sym c.in_ok-alternation-in-Alternation.ensures)
+    let same =
+    alternation_is c.args.config.now c.in-Alternation.branches.items c.deref-in-Alternation.result.now c.args.ast.now c.deref-in-Alternation.ensures.value
+    (sym (ap kind_view c.in-Alternation.is) ∙ c.kind.ensures.value) in
+    sym same ∙ ap (λ r. r >>= λ es. Ok (alternation_of es)) c.in_ok-subs-in-Alternation.ensures
+    ∙ ap (λ (h : Expression). Ok h) (sym c.in_ok-alternation-in-Alternation.ensures)
+
+pub translate-returns-in_err-subs-in-Branch : goal.translate-returns-in_err-subs-in-Branch
+translate-returns-in_err-subs-in-Branch t c =
+    let shown = c.deref-in-Branch.result.now in
+    let config = c.args.config.now in
+    let same =
+    branch_is config c.in-Branch.items.items shown c.args.ast.now c.deref-in-Branch.ensures.value (sym (ap kind_view c.in-Branch.is) ∙ c.kind.ensures.value) in
+    let e = err_from_is_err_and c.from_residual-in_err-subs-in-Branch.result c.from_residual-in_err-subs-in-Branch.ensures.1 in
+    rw (e.1, e.2) (refuses-then _ (all_parts config shown) (λ es. Ok (only_branch es)) _ same c.in_err-subs-in-Branch.ensures)
+
+pub translate-returns-in_ok-only_branch-in-Branch : goal.translate-returns-in_ok-only_branch-in-Branch
+translate-returns-in_ok-only_branch-in-Branch t c =
+    let same =
+    branch_is c.args.config.now c.in-Branch.items.items c.deref-in-Branch.result.now c.args.ast.now c.deref-in-Branch.ensures.value
+    (sym (ap kind_view c.in-Branch.is) ∙ c.kind.ensures.value) in
+    sym same ∙ ap (λ r. r >>= λ es. Ok (only_branch es)) c.in_ok-subs-in-Branch.ensures
+    ∙ ap (λ (h : Expression). Ok h) (sym c.in_ok-only_branch-in-Branch.ensures)
 
 pub translate_branches-translate-requires : goal.translate_branches-translate-requires
 translate_branches-translate-requires t c =
     let smaller = size-branch c.args.branches.now c.loop-branch.branch-index c.branch-item.result c.loop-branch-test.true in
-    let same : syntax_size c.branch-item.result ≡ syntax_size (get_or c.args.branches.now c.loop-branch.branch-index c.branch-item.result) = ap syntax_size c.branch-item.is in
+    let same : syntax_size c.branch-item.result ≡ syntax_size (get_or c.args.branches.now c.loop-branch.branch-index c.branch-item.result) =
+    ap syntax_size c.branch-item.is in
     let start : 2 * greatest_size (syntaxes c.args.branches.now) ≡ t = c.decreases in
     (omega arith, tt)
 

@@ -9,7 +9,8 @@ use Rattle.rx_class.proofs.class.ClassBytes.new.Goals as goal
 pub invariant_of-result : goal.invariant_of-result
 invariant_of-result c =
     let up : IsNonDecreasingBy (λ (r : ℕ × ℕ). r.0) c.sort_unstable_by_key.new.self.items =
-    IsNonDecreasingBy-from_sort (λ (r : ℕ × ℕ). r.0) _ (c.sort_unstable_by_key.ensures.sorted (λ (r : ℕ × ℕ). r.0) (answers_always _ _ _ (λ f a r g h. search rules))) in
+    IsNonDecreasingBy-from_sort (λ (r : ℕ × ℕ). r.0) _ (c.sort_unstable_by_key.ensures.sorted (λ (r : ℕ × ℕ). r.0)
+    (answers_always _ _ _ (λ f a r g h. search rules))) in
     let moved = rw c.in_ok-sorted.ensures.items at c.sort_unstable_by_key.ensures.permutation in
     let held = sorted-bytes c.args.ranges.now c.sort_unstable_by_key.new.self.items moved up in
     let found = c.in_ok-ranges.ensures ∙ ap (add_all next_byte []) c.deref.ensures.value in
@@ -18,7 +19,8 @@ invariant_of-result c =
 pub returns : goal.returns
 returns c =
     let up : IsNonDecreasingBy (λ (r : ℕ × ℕ). r.0) c.sort_unstable_by_key.new.self.items =
-    IsNonDecreasingBy-from_sort (λ (r : ℕ × ℕ). r.0) _ (c.sort_unstable_by_key.ensures.sorted (λ (r : ℕ × ℕ). r.0) (answers_always _ _ _ (λ f a r g h. search rules))) in
+    IsNonDecreasingBy-from_sort (λ (r : ℕ × ℕ). r.0) _ (c.sort_unstable_by_key.ensures.sorted (λ (r : ℕ × ℕ). r.0)
+    (answers_always _ _ _ (λ f a r g h. search rules))) in
     let moved = rw c.in_ok-sorted.ensures.items at c.sort_unstable_by_key.ensures.permutation in
     let held = sorted-bytes c.args.ranges.now c.sort_unstable_by_key.new.self.items moved up in
     let found = c.in_ok-ranges.ensures ∙ ap (add_all next_byte []) c.deref.ensures.value in

@@ -12,7 +12,8 @@ returns c =
     let rs = c.ranges-ranges.result.now in
     let found = c.loop-low.folded.items in
     let all : found ≡ rs ++ flat_map (joined_to_one fold_pairs) rs =
-    sym (append-nil found) ∙ ap (λ (ys : List (ℕ × ℕ)). found ++ flat_map (joined_to_one fold_pairs) ys) (sym (drop_all c.loop-low.low-index rs c.loop-low-test.false)) ∙ c.loop-low.invariant in
+    sym (append-nil found) ∙ ap (λ (ys : List (ℕ × ℕ)). found ++ flat_map (joined_to_one fold_pairs) ys)
+    (sym (drop_all c.loop-low.low-index rs c.loop-low-test.false)) ∙ c.loop-low.invariant in
     let same : rs ≡ c.args.self.now = c.ranges-ranges.ensures.value in
     let ends : HaveScalarEnds rs = subst HaveScalarEnds (sym same) c.ranges-ranges.ensures.fewest.1 in
     let members : fewest next_scalar c.deref-2.result.now ≡ folded c.args.self.now =

@@ -4,7 +4,7 @@ use Rattle.rx_nfa.specs.Automaton.{at}
 use Rattle.rx_engines.specs.Search.{graph_for}
 use Rattle.rx_engines.specs.Backtrack.{passed_by}
 use Rattle.rx_engines.specs.Threads.{Frames}
-use Rattle.rx_engines.proofs.SearchingLemmas.{Searching-begun, Searching-restored, Searching-over}
+use Rattle.rx_engines.proofs.lemmas.backtracking.SearchingLemmas.{Searching-begun, Searching-restored, Searching-over}
 use Rattle.rx_engines.proofs.backtrack.attempt.attempt.Goals as goal
 
 pub returns-in-Some-clause-value : goal.returns-in-Some-clause-value

@@ -1,5 +1,5 @@
-use Rattle.std.proofs.Common.{refl, ◌∙◌, arith}
-use Rattle.rx_engines.proofs.AttemptLemmas.{inserts-at, inserted-passed, passed-work, passed-frames, inserted-accepts, inserted-yields, yields-work, inserted-frames}
+use Rattle.std.proofs.Common.{◌+◌, refl, ◌∙◌, arith}
+use Rattle.rx_engines.proofs.lemmas.backtracking.AttemptLemmas.{bit-of, bit-within, row-on, inserts-at, inserted-passed, passed-work, passed-frames, inserted-accepts, inserted-yields, yields-work, inserted-frames}
 use Rattle.rx_engines.proofs.backtrack.attempt.follow.Goals as goal
 
 pub loop-state-init : goal.loop-state-init
@@ -8,6 +8,7 @@ loop-state-init c = record {
   state = c.requires.start;
   above = c.requires.from.0;
   below = c.requires.from.1;
+  row = refl;
   inside = c.requires.inside;
   less = omega arith;
   frames = c.requires.frames;
@@ -19,23 +20,36 @@ loop-state-init c = record {
 pub returns-in-Stop-clause-followed : goal.returns-in-Stop-clause-followed
 returns-in-Stop-clause-followed c before goal base x =
     let v = c.loop-state.invariant in
-    let t = inserts-at c.args.search.now c.loop-state.visited c.insert.new.self c.insert.result c.loop-state.state c.loop-state.place c.index.result v.state v.above v.below c.index.ensures.value c.index.ensures.within c.insert.ensures.new c.insert.ensures.after in
+    let s = c.args.search.now in
+    let at_n = bit-of s c.loop-state.row c.loop-state.state c.loop-state.place c.as_usize.result v.row c.as_usize.ensures.value in
+    let within = bit-within s c.loop-state.row c.loop-state.state c.loop-state.place v.state v.above v.below v.row in
+    let t = inserts-at s c.loop-state.visited c.insert.new.self c.insert.result c.loop-state.state c.loop-state.place (c.loop-state.row + c.as_usize.result)
+    v.state v.above v.below at_n (omega arith) c.insert.ensures.new c.insert.ensures.after in
     let stepped = rw c.in-Stop.is at c.step.ensures.stepped in
     rw (c.new.ensures, stepped.1) (inserted-accepts t c.loop-state-test.true c.in-Stop.pattern stepped.0 (v.followed before goal base x))
 
 pub loop-state-smaller : goal.loop-state-smaller
 loop-state-smaller c =
     let v = c.loop-state.invariant in
-    let t = inserts-at c.args.search.now c.loop-state.visited c.insert.new.self c.insert.result c.loop-state.state c.loop-state.place c.index.result v.state v.above v.below c.index.ensures.value c.index.ensures.within c.insert.ensures.new c.insert.ensures.after in
+    let s = c.args.search.now in
+    let at_n = bit-of s c.loop-state.row c.loop-state.state c.loop-state.place c.as_usize.result v.row c.as_usize.ensures.value in
+    let within = bit-within s c.loop-state.row c.loop-state.state c.loop-state.place v.state v.above v.below v.row in
+    let t = inserts-at s c.loop-state.visited c.insert.new.self c.insert.result c.loop-state.state c.loop-state.place (c.loop-state.row + c.as_usize.result)
+    v.state v.above v.below at_n (omega arith) c.insert.ensures.new c.insert.ensures.after in
     let less = yields-work t c.loop-state-test.true (rw c.in-To.is at c.step.ensures.stepped) in
     omega arith
 
 pub loop-state-preserved : goal.loop-state-preserved
 loop-state-preserved c =
     let v = c.loop-state.invariant in
-    let t = inserts-at c.args.search.now c.loop-state.visited c.insert.new.self c.insert.result c.loop-state.state c.loop-state.place c.index.result v.state v.above v.below c.index.ensures.value c.index.ensures.within c.insert.ensures.new c.insert.ensures.after in
+    let s = c.args.search.now in
+    let at_n = bit-of s c.loop-state.row c.loop-state.state c.loop-state.place c.as_usize.result v.row c.as_usize.ensures.value in
+    let within = bit-within s c.loop-state.row c.loop-state.state c.loop-state.place v.state v.above v.below v.row in
+    let t = inserts-at s c.loop-state.visited c.insert.new.self c.insert.result c.loop-state.state c.loop-state.place (c.loop-state.row + c.as_usize.result)
+    v.state v.above v.below at_n (omega arith) c.insert.ensures.new c.insert.ensures.after in
     let stepped = rw c.in-To.is at c.step.ensures.stepped in
     let inside = rw c.in-To.is at c.step.ensures.inside in
+    let near = rw c.in-To.is at c.step.ensures.near in
     let less = yields-work t c.loop-state-test.true stepped in
     let before = v.less in
     let fewer = inserted-frames t c.loop-state-test.true in
@@ -47,6 +61,7 @@ loop-state-preserved c =
       state = inside.0;
       above = inside.1;
       below = inside.2;
+      row = c.row_at-row.ensures ∙ row-on s c.loop-state.row c.loop-state.place c.in-To.at v.row v.above near.0;
       inside = inside.3;
       less = omega arith;
       frames = omega arith;
@@ -58,13 +73,21 @@ loop-state-preserved c =
 pub returns-in-Back-clause-followed : goal.returns-in-Back-clause-followed
 returns-in-Back-clause-followed c before goal base x =
     let v = c.loop-state.invariant in
-    let t = inserts-at c.args.search.now c.loop-state.visited c.insert.new.self c.insert.result c.loop-state.state c.loop-state.place c.index.result v.state v.above v.below c.index.ensures.value c.index.ensures.within c.insert.ensures.new c.insert.ensures.after in
+    let s = c.args.search.now in
+    let at_n = bit-of s c.loop-state.row c.loop-state.state c.loop-state.place c.as_usize.result v.row c.as_usize.ensures.value in
+    let within = bit-within s c.loop-state.row c.loop-state.state c.loop-state.place v.state v.above v.below v.row in
+    let t = inserts-at s c.loop-state.visited c.insert.new.self c.insert.result c.loop-state.state c.loop-state.place (c.loop-state.row + c.as_usize.result)
+    v.state v.above v.below at_n (omega arith) c.insert.ensures.new c.insert.ensures.after in
     inserted-yields t c.loop-state-test.true (rw c.in-Back.is at c.step.ensures.stepped) (v.followed before goal base x)
 
 pub returns-in-Back-clause-less : goal.returns-in-Back-clause-less
 returns-in-Back-clause-less c =
     let v = c.loop-state.invariant in
-    let t = inserts-at c.args.search.now c.loop-state.visited c.insert.new.self c.insert.result c.loop-state.state c.loop-state.place c.index.result v.state v.above v.below c.index.ensures.value c.index.ensures.within c.insert.ensures.new c.insert.ensures.after in
+    let s = c.args.search.now in
+    let at_n = bit-of s c.loop-state.row c.loop-state.state c.loop-state.place c.as_usize.result v.row c.as_usize.ensures.value in
+    let within = bit-within s c.loop-state.row c.loop-state.state c.loop-state.place v.state v.above v.below v.row in
+    let t = inserts-at s c.loop-state.visited c.insert.new.self c.insert.result c.loop-state.state c.loop-state.place (c.loop-state.row + c.as_usize.result)
+    v.state v.above v.below at_n (omega arith) c.insert.ensures.new c.insert.ensures.after in
     let less = yields-work t c.loop-state-test.true (rw c.in-Back.is at c.step.ensures.stepped) in
     let before = v.less in
     omega arith
@@ -72,13 +95,21 @@ returns-in-Back-clause-less c =
 pub returns-clause-followed : goal.returns-clause-followed
 returns-clause-followed c before goal base x =
     let v = c.loop-state.invariant in
-    let t = inserts-at c.args.search.now c.loop-state.visited c.insert.new.self c.insert.result c.loop-state.state c.loop-state.place c.index.result v.state v.above v.below c.index.ensures.value c.index.ensures.within c.insert.ensures.new c.insert.ensures.after in
+    let s = c.args.search.now in
+    let at_n = bit-of s c.loop-state.row c.loop-state.state c.loop-state.place c.as_usize.result v.row c.as_usize.ensures.value in
+    let within = bit-within s c.loop-state.row c.loop-state.state c.loop-state.place v.state v.above v.below v.row in
+    let t = inserts-at s c.loop-state.visited c.insert.new.self c.insert.result c.loop-state.state c.loop-state.place (c.loop-state.row + c.as_usize.result)
+    v.state v.above v.below at_n (omega arith) c.insert.ensures.new c.insert.ensures.after in
     inserted-passed t c.loop-state-test.false (v.followed before goal base x)
 
 pub returns-clause-less : goal.returns-clause-less
 returns-clause-less c =
     let v = c.loop-state.invariant in
-    let t = inserts-at c.args.search.now c.loop-state.visited c.insert.new.self c.insert.result c.loop-state.state c.loop-state.place c.index.result v.state v.above v.below c.index.ensures.value c.index.ensures.within c.insert.ensures.new c.insert.ensures.after in
+    let s = c.args.search.now in
+    let at_n = bit-of s c.loop-state.row c.loop-state.state c.loop-state.place c.as_usize.result v.row c.as_usize.ensures.value in
+    let within = bit-within s c.loop-state.row c.loop-state.state c.loop-state.place v.state v.above v.below v.row in
+    let t = inserts-at s c.loop-state.visited c.insert.new.self c.insert.result c.loop-state.state c.loop-state.place (c.loop-state.row + c.as_usize.result)
+    v.state v.above v.below at_n (omega arith) c.insert.ensures.new c.insert.ensures.after in
     let same = passed-work t c.loop-state-test.false in
     let before = v.less in
     omega arith
@@ -88,7 +119,11 @@ returns-clause-less c =
 pub step-requires-clause-room : goal.step-requires-clause-room
 step-requires-clause-room c =
     let v = c.loop-state.invariant in
-    let t = inserts-at c.args.search.now c.loop-state.visited c.insert.new.self c.insert.result c.loop-state.state c.loop-state.place c.index.result v.state v.above v.below c.index.ensures.value c.index.ensures.within c.insert.ensures.new c.insert.ensures.after in
+    let s = c.args.search.now in
+    let at_n = bit-of s c.loop-state.row c.loop-state.state c.loop-state.place c.as_usize.result v.row c.as_usize.ensures.value in
+    let within = bit-within s c.loop-state.row c.loop-state.state c.loop-state.place v.state v.above v.below v.row in
+    let t = inserts-at s c.loop-state.visited c.insert.new.self c.insert.result c.loop-state.state c.loop-state.place (c.loop-state.row + c.as_usize.result)
+    v.state v.above v.below at_n (omega arith) c.insert.ensures.new c.insert.ensures.after in
     let fewer = inserted-frames t c.loop-state-test.true in
     let frames = v.frames in
     omega arith
@@ -96,7 +131,11 @@ step-requires-clause-room c =
 pub returns-in-Back-clause-frames : goal.returns-in-Back-clause-frames
 returns-in-Back-clause-frames c =
     let v = c.loop-state.invariant in
-    let t = inserts-at c.args.search.now c.loop-state.visited c.insert.new.self c.insert.result c.loop-state.state c.loop-state.place c.index.result v.state v.above v.below c.index.ensures.value c.index.ensures.within c.insert.ensures.new c.insert.ensures.after in
+    let s = c.args.search.now in
+    let at_n = bit-of s c.loop-state.row c.loop-state.state c.loop-state.place c.as_usize.result v.row c.as_usize.ensures.value in
+    let within = bit-within s c.loop-state.row c.loop-state.state c.loop-state.place v.state v.above v.below v.row in
+    let t = inserts-at s c.loop-state.visited c.insert.new.self c.insert.result c.loop-state.state c.loop-state.place (c.loop-state.row + c.as_usize.result)
+    v.state v.above v.below at_n (omega arith) c.insert.ensures.new c.insert.ensures.after in
     let fewer = inserted-frames t c.loop-state-test.true in
     let frames = v.frames in
     let left = c.step.ensures.frames in
@@ -106,7 +145,16 @@ returns-in-Back-clause-frames c =
 pub returns-clause-frames : goal.returns-clause-frames
 returns-clause-frames c =
     let v = c.loop-state.invariant in
-    let t = inserts-at c.args.search.now c.loop-state.visited c.insert.new.self c.insert.result c.loop-state.state c.loop-state.place c.index.result v.state v.above v.below c.index.ensures.value c.index.ensures.within c.insert.ensures.new c.insert.ensures.after in
+    let s = c.args.search.now in
+    let at_n = bit-of s c.loop-state.row c.loop-state.state c.loop-state.place c.as_usize.result v.row c.as_usize.ensures.value in
+    let within = bit-within s c.loop-state.row c.loop-state.state c.loop-state.place v.state v.above v.below v.row in
+    let t = inserts-at s c.loop-state.visited c.insert.new.self c.insert.result c.loop-state.state c.loop-state.place (c.loop-state.row + c.as_usize.result)
+    v.state v.above v.below at_n (omega arith) c.insert.ensures.new c.insert.ensures.after in
     let same = passed-frames t c.loop-state-test.false in
     let frames = v.frames in
     omega arith
+
+-- the bits
+
+pub row_at-row-requires-clause-near : goal.row_at-row-requires-clause-near
+row_at-row-requires-clause-near c = rw c.in-To.is at c.step.ensures.near

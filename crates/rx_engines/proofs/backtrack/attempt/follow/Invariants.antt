@@ -1,4 +1,4 @@
-use Rattle.std.proofs.Common.{◌≡◌, ◌+◌, ◌<◌, ◌≤◌, ◌∷◌, length}
+use Rattle.std.proofs.Common.{◌≡◌, ◌+◌, ◌-◌, ◌*◌, ◌<◌, ◌≤◌, ◌∷◌, length}
 use Rattle.std.specs.Prelude.{Option}
 use Rattle.rx_model.specs.Runs.{Passed}
 use Rattle.rx_engines.specs.Walk.{Slots, Answer}
@@ -15,6 +15,7 @@ invariant-loop-state l = record {
   state : l.state < length l.search.states.now;
   above : l.search.first ≤ l.place;
   below : l.place ≤ l.search.end;
+  row : l.row ≡ (l.place - l.search.first) * length l.search.states.now;
   inside : AllInside l.search l.stack.items;
   less : work l.search l.visited + length l.stack.items ≤ work l.search l.fn.visited + length l.fn.stack.items;
   frames : frames_left l.search l.visited + length l.stack.items ≤ l.stack.room;

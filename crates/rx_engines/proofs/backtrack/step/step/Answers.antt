@@ -7,8 +7,8 @@ use Rattle.rx_nfa.specs.declared.state.Transition.{Transition}
 use Rattle.rx_nfa.proofs.lemmas.runs.StateLemmas.{accepted-is, state-known, names-known}
 use Rattle.rx_engines.specs.Search.{graph_for}
 use Rattle.rx_engines.specs.Onward.{onto}
-use Rattle.rx_engines.proofs.CloseLemmas.{going-onto}
-use Rattle.rx_engines.proofs.YieldLemmas.{reads-onto, looks-onto, Stepped-onto, Yields-unwritten, Yields-saved, AllWithin-read, AllWithin-looked, AllWithin-union}
+use Rattle.rx_engines.proofs.lemmas.walks.CloseLemmas.{going-onto}
+use Rattle.rx_engines.proofs.lemmas.walks.YieldLemmas.{reads-onto, looks-onto, onto-near, Stepped-onto, Yields-unwritten, Yields-saved, AllWithin-read, AllWithin-looked, AllWithin-union}
 use Rattle.rx_engines.proofs.backtrack.step.step.Goals as goal
 
 pub returns-in-ByteRange-clause-stepped : goal.returns-in-ByteRange-clause-stepped
@@ -28,9 +28,11 @@ returns-in-Sparse-clause-stepped c =
     let s = c.args.search.now in
     let is = state-known s.states.now _ c.args.state _ _ c.as_usize.ensures.value c.requires.state c.index-states-as_usize.is c.in-Sparse.is in
     let goes : c.to-in-Sparse.result ≡ onto (target_of c.in-Sparse.transitions (byte_at s.text.now s.end c.args.place)) (c.args.place + 1) =
-    c.to-in-Sparse.ensures ∙ ap (λ o. onto o (c.args.place + 1)) (c.in_any.ensures ∙ (λ j. target_of (c.as_slice.ensures j) (c.byte_at-byte-in-Sparse.ensures j))) in
+    c.to-in-Sparse.ensures ∙ ap (λ o. onto o (c.args.place + 1))
+    (c.in_any.ensures ∙ (λ j. target_of (c.as_slice.ensures j) (c.byte_at-byte-in-Sparse.ensures j))) in
     rw goes
-    (Stepped-onto (graph_for s) (at c.args.state c.args.place) (target_of c.in-Sparse.transitions (byte_at s.text.now s.end c.args.place)) (c.args.place + 1) _ _ _ _
+    (Stepped-onto (graph_for s) (at c.args.state c.args.place) (target_of c.in-Sparse.transitions (byte_at s.text.now s.end c.args.place)) (c.args.place + 1) _
+    _ _ _
     (Yields-unwritten s.matcher s.states.now s.text.now s.end c.args.state c.args.place c.requires.state c.requires.place.1 _ is refl refl _ _ _
     (reads-onto ℕ s.text.now s.end c.in-Sparse.transitions c.args.place c.args.stack.now.items)))
 
@@ -39,7 +41,8 @@ returns-in-Sparse-clause-inside c =
     let s = c.args.search.now in
     let is = state-known s.states.now _ c.args.state _ _ c.as_usize.ensures.value c.requires.state c.index-states-as_usize.is c.in-Sparse.is in
     let goes : c.to-in-Sparse.result ≡ onto (target_of c.in-Sparse.transitions (byte_at s.text.now s.end c.args.place)) (c.args.place + 1) =
-    c.to-in-Sparse.ensures ∙ ap (λ o. onto o (c.args.place + 1)) (c.in_any.ensures ∙ (λ j. target_of (c.as_slice.ensures j) (c.byte_at-byte-in-Sparse.ensures j))) in
+    c.to-in-Sparse.ensures ∙ ap (λ o. onto o (c.args.place + 1))
+    (c.in_any.ensures ∙ (λ j. target_of (c.as_slice.ensures j) (c.byte_at-byte-in-Sparse.ensures j))) in
     rw goes
     (AllWithin-read ℕ (length s.states.now) s.first s.end s.text.now c.in-Sparse.transitions c.args.place c.args.stack.now.items c.requires.place.0
     (names-known s.states.now c.args.state _ c.requires.search.names c.requires.state is) c.requires.inside)
@@ -57,7 +60,12 @@ pub returns-in-Union-clause-inside : goal.returns-in-Union-clause-inside
 returns-in-Union-clause-inside c =
     let s = c.args.search.now in
     let is = state-known s.states.now _ c.args.state _ _ c.as_usize.ensures.value c.requires.state c.index-states-as_usize.is c.in-Union.is in
-    rw (c.to-in-Union.ensures, going-onto ℕ c.choose-first.result c.args.place c.choose-first.new.stack.items, c.choose-first.ensures.chosen, c.as_slice-in-Union.ensures)
+    rw (
+      c.to-in-Union.ensures,
+      going-onto ℕ c.choose-first.result c.args.place c.choose-first.new.stack.items,
+      c.choose-first.ensures.chosen,
+      c.as_slice-in-Union.ensures,
+    )
     (AllWithin-union (length s.states.now) s.first s.end c.args.place c.in-Union.alternates c.args.stack.now.items c.requires.place.0 c.requires.place.1
     (names-known s.states.now c.args.state _ c.requires.search.names c.requires.state is) c.requires.inside)
 
@@ -65,7 +73,8 @@ pub returns-in-Capture-clause-stepped : goal.returns-in-Capture-clause-stepped
 returns-in-Capture-clause-stepped c =
     let s = c.args.search.now in
     let is = state-known s.states.now _ c.args.state _ _ c.as_usize.ensures.value c.requires.state c.index-states-as_usize.is c.in-Capture.is in
-    Yields-saved s.matcher s.states.now s.text.now s.end c.args.state c.args.place c.requires.state c.requires.place.1 _ c.in-Capture.slot c.in-Capture.next is refl refl refl _ _ _ _
+    Yields-saved s.matcher s.states.now s.text.now s.end c.args.state c.args.place c.requires.state c.requires.place.1 _ c.in-Capture.slot c.in-Capture.next is
+    refl refl refl _ _ _ _
     c.save.ensures.saved
 
 pub returns-in-Fail-clause-stepped : goal.returns-in-Fail-clause-stepped
@@ -136,3 +145,17 @@ returns-in-Look-clause-inside c =
     rw goes
     (AllWithin-looked ℕ (length s.states.now) s.first s.end yes c.in-Look.next c.args.place c.args.stack.now.items
     (names-known s.states.now c.args.state _ c.requires.search.names c.requires.state is) c.requires.place.0 c.requires.place.1 c.requires.inside)
+
+-- it goes on here, or at the next place
+
+pub returns-in-ByteRange-clause-near : goal.returns-in-ByteRange-clause-near
+returns-in-ByteRange-clause-near c = rw c.to.ensures (onto-near ℕ c.in_range.result c.args.place (c.args.place + 1) (omega arith) (omega arith))
+
+pub returns-in-Sparse-clause-near : goal.returns-in-Sparse-clause-near
+returns-in-Sparse-clause-near c = rw c.to-in-Sparse.ensures (onto-near ℕ c.in_any.result c.args.place (c.args.place + 1) (omega arith) (omega arith))
+
+pub returns-in-Look-clause-near : goal.returns-in-Look-clause-near
+returns-in-Look-clause-near c = rw c.to-in-Look.ensures (onto-near ℕ c.look_on-next.result c.args.place c.args.place (omega arith) (omega arith))
+
+pub returns-in-Union-clause-near : goal.returns-in-Union-clause-near
+returns-in-Union-clause-near c = rw c.to-in-Union.ensures (onto-near ℕ c.choose-first.result c.args.place c.args.place (omega arith) (omega arith))

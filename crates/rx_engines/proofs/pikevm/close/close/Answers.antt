@@ -1,9 +1,9 @@
 use Rattle.std.proofs.Common.{◌∷◌, length, length-set, ◌∙◌, ap, arith}
 use Rattle.rx_engines.specs.Threads.{Frames}
 use Rattle.rx_nfa.specs.Ordered.{passed_at}
-use Rattle.rx_engines.proofs.CloseLemmas.{on_top}
-use Rattle.rx_engines.proofs.LineLemmas.{line-frames}
-use Rattle.rx_engines.proofs.SimulationLemmas.{Waits-restored, Waits-over}
+use Rattle.rx_engines.proofs.lemmas.walks.CloseLemmas.{on_top}
+use Rattle.rx_engines.proofs.lemmas.walks.LineLemmas.{line-frames}
+use Rattle.rx_engines.proofs.lemmas.threads.SimulationLemmas.{Waits-restored, Waits-over}
 use Rattle.rx_engines.proofs.pikevm.close.close.Goals as goal
 
 pub follow-requires-clause-frames : goal.follow-requires-clause-frames
@@ -30,6 +30,7 @@ loop-frame-init c =
       rows = c.follow.ensures.table ∙ c.requires.table;
       width = c.follow.ensures.width;
       capacity = c.follow.ensures.capacity;
+      kept = c.follow.ensures.kept;
       slots_len = c.follow.ensures.slots;
       stack_room = c.follow.ensures.stack;
     }
@@ -38,16 +39,18 @@ pub loop-frame-preserved-in-Restore : goal.loop-frame-preserved-in-Restore
 loop-frame-preserved-in-Restore c =
     let popped = ap (λ (f : Frames). f.items) c.in-Some.ensures.some ∙ ap (λ f. f ∷ c.pop.new.self.items) c.in-Restore.is in
     let size = ap length popped in
-    let wide = length-set c.loop-frame.slots c.in-Restore.slot c.in-Restore.old in
+    let wide = length-set c.loop-frame.walk.slots.items c.in-Restore.slot c.in-Restore.old in
     rw c.write.ensures
     (record {
-      waits = λ end later goal le stable w. Waits-restored c.in-Restore.slot c.in-Restore.old c.pop.new.self.items (rw popped at (c.loop-frame.invariant.waits end later goal le stable w));
+      waits = λ end later goal le stable w. Waits-restored c.in-Restore.slot c.in-Restore.old c.pop.new.self.items
+          (rw popped at (c.loop-frame.invariant.waits end later goal le stable w));
       here = rw popped at c.loop-frame.invariant.here;
       few = omega arith;
       room = c.loop-frame.invariant.room;
       rows = c.loop-frame.invariant.rows;
       width = c.loop-frame.invariant.width;
       capacity = c.loop-frame.invariant.capacity;
+      kept = c.loop-frame.invariant.kept;
       slots_len = omega arith;
       stack_room = omega arith;
     })
@@ -61,13 +64,15 @@ loop-frame-preserved c =
     let same = c.follow-in-Explore.ensures.stack in
     let room = c.pop.ensures.room in
     record {
-      waits = λ end later goal le stable w. c.follow-in-Explore.ensures.followed end later goal le stable (rw t.0 at (c.loop-frame.invariant.waits end later goal le stable w));
+      waits = λ end later goal le stable w. c.follow-in-Explore.ensures.followed end later goal le stable
+          (rw t.0 at (c.loop-frame.invariant.waits end later goal le stable w));
       here = c.follow-in-Explore.ensures.inside;
       few = omega arith;
       room = c.follow-in-Explore.ensures.set ∙ c.loop-frame.invariant.room;
       rows = c.follow-in-Explore.ensures.table ∙ c.loop-frame.invariant.rows;
       width = c.follow-in-Explore.ensures.width ∙ c.loop-frame.invariant.width;
       capacity = c.follow-in-Explore.ensures.capacity ∙ c.loop-frame.invariant.capacity;
+      kept = c.follow-in-Explore.ensures.kept ∙ c.loop-frame.invariant.kept;
       slots_len = c.follow-in-Explore.ensures.slots ∙ c.loop-frame.invariant.slots_len;
       stack_room = c.follow-in-Explore.ensures.stack ∙ c.pop.ensures.room ∙ c.loop-frame.invariant.stack_room;
     }

@@ -3,12 +3,12 @@ use Rattle.std.specs.Prelude.{false}
 use Rattle.rx_nfa.specs.Automaton.{forwards}
 use Rattle.rx_nfa.proofs.lemmas.runs.AutomatonLemmas.{automaton-bounded}
 use Rattle.rx_nfa.specs.Ordered.{has, passed_at}
-use Rattle.rx_engines.proofs.CloseLemmas.{not-true, not-false}
-use Rattle.rx_engines.proofs.LineLemmas.{frames-less}
+use Rattle.rx_engines.proofs.lemmas.walks.CloseLemmas.{not-true, not-false}
+use Rattle.rx_engines.proofs.lemmas.walks.LineLemmas.{frames-less}
 use Rattle.rx_nfa.proofs.lemmas.lists.ClosureLemmas.{found-rests}
 use Rattle.rx_nfa.proofs.lemmas.lists.LaterLemmas.{automaton-steps}
 use Rattle.rx_nfa.proofs.lemmas.lists.PlaceLemmas.{left-less, passed_at-has, passed_at-elsewhere}
-use Rattle.rx_engines.proofs.SimulationLemmas.{Waits-passed, Waits-moves, Waits-rests}
+use Rattle.rx_engines.proofs.lemmas.threads.SimulationLemmas.{Waits-passed, Waits-moves, Waits-rests}
 use Rattle.rx_engines.proofs.pikevm.close.follow.Goals as goal
 
 pub loop-state-init : goal.loop-state-init
@@ -21,6 +21,7 @@ loop-state-init c = record {
   rows = refl;
   width = refl;
   capacity = refl;
+  kept = refl;
   slots_len = refl;
   stack_room = refl;
 }
@@ -48,9 +49,11 @@ returns-in-Stop-clause-followed c end later goal le stable w =
     let table = c.requires.table in
     let inside = v.state in
     let lt : q < length c.loop-state.threads.table.items = omega arith in
-    rw (more, c.set.ensures, seen.1, seen.2)
+    rw (more, c.set.ensures, c.as_slice.ensures, seen.1, seen.2)
     (Waits-rests stable (v.followed end later goal le stable w) new lt seen.0
-    (found-rests (forwards c.args.search.now.matcher c.args.search.now.text.now) c.args.search.now.states.now end _ (automaton-steps (forwards c.args.search.now.matcher c.args.search.now.text.now) c.args.search.now.states.now end) (passed_at items c.args.place) q c.args.place v.state le seen.0 (passed_at-has items c.args.place q ∙ new)
+    (found-rests (forwards c.args.search.now.matcher c.args.search.now.text.now) c.args.search.now.states.now end _
+    (automaton-steps (forwards c.args.search.now.matcher c.args.search.now.text.now) c.args.search.now.states.now end) (passed_at items c.args.place) q
+    c.args.place v.state le seen.0 (passed_at-has items c.args.place q ∙ new)
     (λ d lt. passed_at-elsewhere items c.args.place d (omega arith))))
 
 pub returns-in-Stop-clause-less : goal.returns-in-Stop-clause-less
@@ -91,7 +94,8 @@ loop-state-preserved c =
     rw more
     (record {
       followed = λ end later goal le stable w.
-          Waits-moves stable (v.followed end later goal le stable w) (automaton-bounded (forwards c.args.search.now.matcher c.args.search.now.text.now) states end) new seen.0 _ _ (seen.1 end le);
+          Waits-moves stable (v.followed end later goal le stable w)
+          (automaton-bounded (forwards c.args.search.now.matcher c.args.search.now.text.now) states end) new seen.0 _ _ (seen.1 end le);
       state = inside.0;
       inside = inside.3;
       less = omega arith;
@@ -99,6 +103,7 @@ loop-state-preserved c =
       rows = v.rows;
       width = v.width;
       capacity = v.capacity;
+      kept = c.visit.ensures.kept ∙ v.kept;
       slots_len = c.visit.ensures.width ∙ v.slots_len;
       stack_room = c.visit.ensures.room ∙ v.stack_room;
     })
@@ -110,7 +115,8 @@ returns-in-Back-clause-followed c end later goal le stable w =
     let more = rw c.loop-state-test.true at c.insert.ensures.after in
     let seen = rw c.in-Back.is at c.visit.ensures.visited in
     rw more
-    (Waits-moves stable (v.followed end later goal le stable w) (automaton-bounded (forwards c.args.search.now.matcher c.args.search.now.text.now) c.args.search.now.states.now end) new seen.0 _ _ (seen.1 end le))
+    (Waits-moves stable (v.followed end later goal le stable w)
+    (automaton-bounded (forwards c.args.search.now.matcher c.args.search.now.text.now) c.args.search.now.states.now end) new seen.0 _ _ (seen.1 end le))
 
 pub returns-in-Back-clause-less : goal.returns-in-Back-clause-less
 returns-in-Back-clause-less c =

@@ -1,105 +1,65 @@
-use Rattle.std.proofs.Common.{◌+◌, drop, refl, sym, ◌∙◌, arith}
-use Rattle.rx_nfa.specs.Automaton.{automaton, forwards}
-use Rattle.rx_nfa.proofs.lemmas.runs.AutomatonLemmas.{automaton-bounded}
-use Rattle.rx_nfa.proofs.lemmas.runs.AutomatonLemmas.{automaton-rises}
-use Rattle.rx_engines.proofs.StepLemmas.{onward, onward-stable, Stepping-accepts, Stepping-reads, Stepping-ends, Stepping-over, Stepping-begun, acts-known, idle-known, idle-ends, idle-accepts, among-over}
-use Rattle.rx_engines.specs.declared.onward.Onward.TheVariants.{To, Back}
+use Rattle.std.proofs.Common.{refl, ◌∙◌}
 use Rattle.rx_engines.proofs.pikevm.step.step.Goals as goal
-use Rattle.rx_engines.proofs.pikevm.step.step.Goals.{in-To, in-Back}
 
-pub loop-k-init : goal.loop-k-init
-loop-k-init c = record {
-  stepping = λ end later goal le byte stable value. Stepping-begun c.requires.none value;
-  accepting = refl;
-  room = c.requires.set.1;
-  rows = c.requires.table.1;
-  width = refl;
-  capacity = refl;
-  slots_len = refl;
-  kept = refl;
-  empty = c.requires.empty;
-  stack_room = refl;
+pub returns-then-buffers-clause-stepped : goal.returns-then-buffers-clause-stepped
+returns-then-buffers-clause-stepped c end later goal le byte stable value = c.step_over.ensures.stepped end later goal le byte stable
+    (rw c.if-buffers.true at value)
+
+pub returns-then-buffers-clause-accepted : goal.returns-then-buffers-clause-accepted
+returns-then-buffers-clause-accepted c = rw c.if-buffers.true c.step_over.ensures.accepted
+
+pub returns-then-buffers-clause-ready : goal.returns-then-buffers-clause-ready
+returns-then-buffers-clause-ready c =
+    let ready = c.requires.ready in
+    record {
+      odd = ready.odd;
+      even = record {
+        set = c.step_over.ensures.set ∙ ready.even.set;
+        rows = c.step_over.ensures.table ∙ ready.even.rows;
+        wide = c.step_over.ensures.width ∙ ready.even.wide;
+      };
+      slots = c.step_over.ensures.slots.0 ∙ ready.slots;
+      best = c.step_over.ensures.best.0;
+      stack = rw c.step_over.ensures.stack ready.stack;
+      empty = c.step_over.ensures.empty;
+    }
+
+pub returns-then-buffers-clause-room : goal.returns-then-buffers-clause-room
+returns-then-buffers-clause-room c = record {
+  odd = refl;
+  even = c.step_over.ensures.capacity;
+  slots = c.step_over.ensures.slots.1;
+  stack = c.step_over.ensures.stack;
+  best = c.step_over.ensures.best.1;
 }
 
-pub returns-in-Stop-clause-stepped : goal.returns-in-Stop-clause-stepped
-returns-in-Stop-clause-stepped c end later goal le byte stable value =
-    let acts = acts-known c.args.search.now.matcher c.args.search.now.states.now c.args.search.now.text.now end c.get-state.result c.args.place c.requires.search.names (omega arith) le _ _ _ _ _ c.as_usize.ensures.value c.index-states-as_usize.is (c.byte_at-byte.ensures ∙ sym byte) c.in-Stop.ensures in
-    rw (c.start-start.ensures, c.copy_from_slice.ensures.after, c.slots.ensures.value)
-    (Stepping-accepts (automaton-bounded (forwards c.args.search.now.matcher c.args.search.now.text.now) c.args.search.now.states.now end) c.args.curr.now.set.items c.loop-k.k c.get-state.result (omega arith) c.get-state.ensures.value
-    (c.loop-k.invariant.stepping end later goal le byte stable value) c.in-Stop.pattern acts.0 acts.1)
-
-pub returns-in-Stop-clause-accepted : goal.returns-in-Stop-clause-accepted
-returns-in-Stop-clause-accepted c =
-    rw (c.start-start.ensures, c.copy_from_slice.ensures.after, c.slots.ensures.value)
-    (c.loop-k.invariant.accepting
-    ∙ idle-accepts c.args.search.now.matcher c.args.search.now.states.now c.args.search.now.text.now c.get-state.result c.args.place c.requires.search.names (omega arith) c.args.curr.now.table.items c.args.curr.now.set.items c.loop-k.k c.in-Stop.pattern (omega arith) c.get-state.ensures.value
-    (idle-known c.args.search.now.matcher c.args.search.now.states.now c.args.search.now.text.now c.get-state.result c.args.place c.requires.search.names (omega arith) c.args.curr.now.table.items _ _ _ _ _ c.as_usize.ensures.value c.index-states-as_usize.is c.in-Stop.ensures))
-
-pub loop-k-preserved : goal.loop-k-preserved
-loop-k-preserved c =
-    elim c.match-act.branch [
-      | in-To w ↦
-          rw (w.next-is, w.stack-is, w.slots-is)
-          (record {
-            stepping = λ end later goal le byte stable value.
-                (let acts = acts-known c.args.search.now.matcher c.args.search.now.states.now c.args.search.now.text.now end c.get-state.result c.args.place c.requires.search.names (omega arith) le _ _ _ _ _ c.as_usize.ensures.value c.index-states-as_usize.is (c.byte_at-byte.ensures ∙ sym byte) w.in-To.ensures in
-                let waits = Stepping-reads (automaton-bounded (forwards c.args.search.now.matcher c.args.search.now.text.now) c.args.search.now.states.now end) c.args.curr.now.set.items c.loop-k.k c.get-state.result (omega arith) c.get-state.ensures.value
-                (c.loop-k.invariant.stepping end later goal le byte stable value) (automaton-rises (forwards c.args.search.now.matcher c.args.search.now.text.now) c.args.search.now.states.now end) w.in-To.target acts.0 acts.3 acts.4 acts.5 in
-                let closed = w.close.ensures.closed end (onward c.args.search.now.states.now (automaton c.args.search.now.matcher c.args.search.now.states.now c.args.search.now.text.now end) c.args.place c.args.curr.now.table.items (drop (c.loop-k.k + 1) c.args.curr.now.set.items) later) goal
-                (let lt = acts.2 in omega arith)
-                (onward-stable c.args.search.now.states.now (automaton c.args.search.now.matcher c.args.search.now.states.now c.args.search.now.text.now end) c.args.place c.args.curr.now.table.items (drop (c.loop-k.k + 1) c.args.curr.now.set.items) later stable)
-                (rw (w.start.ensures, w.copy_from_slice-in-To.ensures.after, w.slots-in-To.ensures.value) waits) in
-                record { value = closed.value });
-            accepting =
-                c.loop-k.invariant.accepting
-                ∙ idle-ends c.args.search.now.matcher c.args.search.now.states.now c.args.search.now.text.now c.get-state.result c.args.place c.requires.search.names (omega arith) c.args.curr.now.table.items c.args.curr.now.set.items c.loop-k.k (To w.in-To.target w.in-To.place) (omega arith) c.get-state.ensures.value refl
-                (idle-known c.args.search.now.matcher c.args.search.now.states.now c.args.search.now.text.now c.get-state.result c.args.place c.requires.search.names (omega arith) c.args.curr.now.table.items _ _ _ _ _ c.as_usize.ensures.value c.index-states-as_usize.is w.in-To.ensures);
-            room = w.close.ensures.set ∙ c.loop-k.invariant.room;
-            rows = w.close.ensures.table ∙ c.loop-k.invariant.rows;
-            width = w.close.ensures.width ∙ c.loop-k.invariant.width;
-            capacity = w.close.ensures.capacity ∙ c.loop-k.invariant.capacity;
-            slots_len = w.close.ensures.slots ∙ w.copy_from_slice-in-To.ensures.len ∙ c.loop-k.invariant.slots_len;
-            kept = c.loop-k.invariant.kept;
-            empty = w.close.ensures.empty;
-            stack_room = w.close.ensures.stack ∙ c.loop-k.invariant.stack_room;
-          })
-      | in-Back w ↦
-          rw (w.next-is, w.stack-is, w.slots-is)
-          (record {
-            stepping = λ end later goal le byte stable value.
-                (let acts = acts-known c.args.search.now.matcher c.args.search.now.states.now c.args.search.now.text.now end c.get-state.result c.args.place c.requires.search.names (omega arith) le _ _ _ _ _ c.as_usize.ensures.value c.index-states-as_usize.is (c.byte_at-byte.ensures ∙ sym byte) w.in-Back.ensures in
-                Stepping-ends (automaton-bounded (forwards c.args.search.now.matcher c.args.search.now.text.now) c.args.search.now.states.now end) c.args.curr.now.set.items c.loop-k.k c.get-state.result (omega arith) c.get-state.ensures.value
-                (c.loop-k.invariant.stepping end later goal le byte stable value) acts);
-            accepting =
-                c.loop-k.invariant.accepting
-                ∙ idle-ends c.args.search.now.matcher c.args.search.now.states.now c.args.search.now.text.now c.get-state.result c.args.place c.requires.search.names (omega arith) c.args.curr.now.table.items c.args.curr.now.set.items c.loop-k.k Back (omega arith) c.get-state.ensures.value refl
-                (idle-known c.args.search.now.matcher c.args.search.now.states.now c.args.search.now.text.now c.get-state.result c.args.place c.requires.search.names (omega arith) c.args.curr.now.table.items _ _ _ _ _ c.as_usize.ensures.value c.index-states-as_usize.is w.in-Back.ensures);
-            room = c.loop-k.invariant.room;
-            rows = c.loop-k.invariant.rows;
-            width = c.loop-k.invariant.width;
-            capacity = c.loop-k.invariant.capacity;
-            slots_len = c.loop-k.invariant.slots_len;
-            kept = c.loop-k.invariant.kept;
-            empty = c.loop-k.invariant.empty;
-            stack_room = c.loop-k.invariant.stack_room;
-          })
-    ]
-
 pub returns-clause-stepped : goal.returns-clause-stepped
-returns-clause-stepped c end later goal le byte stable value =
-    Stepping-over c.args.curr.now.set.items c.loop-k.k (omega arith) (c.loop-k.invariant.stepping end later goal le byte stable value)
+returns-clause-stepped c end later goal le byte stable value = c.step_over-2.ensures.stepped end later goal le byte stable (rw c.if-buffers.false at value)
 
 pub returns-clause-accepted : goal.returns-clause-accepted
-returns-clause-accepted c =
-    c.loop-k.invariant.accepting
-    ∙ among-over c.args.search.now.states.now (automaton c.args.search.now.matcher c.args.search.now.states.now c.args.search.now.text.now c.args.place) _ c.args.place c.args.curr.now.table.items c.args.curr.now.set.items c.loop-k.k (omega arith)
+returns-clause-accepted c = rw c.if-buffers.false c.step_over-2.ensures.accepted
 
-pub close-requires-clause-state : goal.close-requires-clause-state
-close-requires-clause-state c =
-    (acts-known c.args.search.now.matcher c.args.search.now.states.now c.args.search.now.text.now c.args.search.now.end c.get-state.result c.args.place c.requires.search.names (omega arith) c.requires.place _ _ _ _ _ c.as_usize.ensures.value c.index-states-as_usize.is c.byte_at-byte.ensures c.in-To.ensures).1
+pub returns-clause-ready : goal.returns-clause-ready
+returns-clause-ready c =
+    let ready = c.requires.ready in
+    record {
+      even = ready.even;
+      odd = record {
+        set = c.step_over-2.ensures.set ∙ ready.odd.set;
+        rows = c.step_over-2.ensures.table ∙ ready.odd.rows;
+        wide = c.step_over-2.ensures.width ∙ ready.odd.wide;
+      };
+      slots = c.step_over-2.ensures.slots.0 ∙ ready.slots;
+      best = c.step_over-2.ensures.best.0;
+      stack = rw c.step_over-2.ensures.stack ready.stack;
+      empty = c.step_over-2.ensures.empty;
+    }
 
-pub close-requires-clause-place : goal.close-requires-clause-place
-close-requires-clause-place c =
-    let lt = (acts-known c.args.search.now.matcher c.args.search.now.states.now c.args.search.now.text.now c.args.search.now.end c.get-state.result c.args.place c.requires.search.names (omega arith) c.requires.place _ _ _ _ _ c.as_usize.ensures.value c.index-states-as_usize.is c.byte_at-byte.ensures c.in-To.ensures).2 in
-    let within = c.requires.search.end in
-    omega arith
+pub returns-clause-room : goal.returns-clause-room
+returns-clause-room c = record {
+  even = refl;
+  odd = c.step_over-2.ensures.capacity;
+  slots = c.step_over-2.ensures.slots.1;
+  stack = c.step_over-2.ensures.stack;
+  best = c.step_over-2.ensures.best.1;
+}

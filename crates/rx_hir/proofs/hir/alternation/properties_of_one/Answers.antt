@@ -22,7 +22,9 @@ loop-i-preserved c =
     let others = subst (λ xs. AreOf (alternation xs) c.loop-i.properties) later (rw (← e) c.loop-i.invariant.later) in
     let all = c.or-properties.ensures one next rest own others in
     record {
-      later = subst (λ xs. AreOf (alternation xs) c.or-properties.result) (ap (λ ys. cons one ys) (sym later) ∙ sym (expressions-drop hs i one within c.index-alternatives-i-in-loop-i.is)) all;
-      sound = AreSound-drop hs i one within c.index-alternatives-i-in-loop-i.is (subst IsSound c.alternative.view_is c.alternative.invariant.1) (rw (← e) c.loop-i.invariant.sound);
+      later = subst (λ xs. AreOf (alternation xs) c.or-properties.result)
+          (ap (λ ys. cons one ys) (sym later) ∙ sym (expressions-drop hs i one within c.index-alternatives-i-in-loop-i.is)) all;
+      sound = AreSound-drop hs i one within c.index-alternatives-i-in-loop-i.is (subst IsSound c.alternative.view_is c.alternative.invariant.1)
+          (rw (← e) c.loop-i.invariant.sound);
       within = within;
     }

@@ -17,6 +17,7 @@ loop-i-preserved c =
     let row = c.then-properties.ensures part (expressions (drop (c.loop-i.i - 1 + 1) c.args.parts.now)) own (rw (← e) c.loop-i.invariant.later) in
     record {
       later = subst (λ hs. AreOf (concat hs) c.then-properties.result) (sym (expressions-drop c.args.parts.now i part within c.index-parts-i.is)) row;
-      sound = AreSound-drop c.args.parts.now i part within c.index-parts-i.is (subst IsSound c.part.view_is c.part.invariant.1) (rw (← e) c.loop-i.invariant.sound);
+      sound = AreSound-drop c.args.parts.now i part within c.index-parts-i.is (subst IsSound c.part.view_is c.part.invariant.1)
+          (rw (← e) c.loop-i.invariant.sound);
       within = omega arith;
     }

@@ -68,14 +68,16 @@ pub kind_can_be_empty-returns-then-repetition-eq0 : goal.kind_can_be_empty-retur
 unfolding can_be_empty
 kind_can_be_empty-returns-then-repetition-eq0 t c =
     let none : (c.in-Repetition.repetition.min == 0) ≡ true = grind (arith, nat_tests) in
-    sym (ap (λ k. can_be_empty (kind_view k)) c.in-Repetition.is ∙ or_left (c.in-Repetition.repetition.min == 0) (can_be_empty c.in-Repetition.repetition.sub.value) none)
+    sym (ap (λ k. can_be_empty (kind_view k)) c.in-Repetition.is
+    ∙ or_left (c.in-Repetition.repetition.min == 0) (can_be_empty c.in-Repetition.repetition.sub.value) none)
 
 pub kind_can_be_empty-returns-else-repetition-eq0 : goal.kind_can_be_empty-returns-else-repetition-eq0
 unfolding can_be_empty
 kind_can_be_empty-returns-else-repetition-eq0 t c =
     let some : (c.in-Repetition.repetition.min == 0) ≡ false = grind (arith, nat_tests) in
     c.can_be_empty.ensures ∙ ap can_be_empty c.deref.ensures
-    ∙ sym (ap (λ k. can_be_empty (kind_view k)) c.in-Repetition.is ∙ or-false (c.in-Repetition.repetition.min == 0) (can_be_empty c.in-Repetition.repetition.sub.value) some)
+    ∙ sym (ap (λ k. can_be_empty (kind_view k)) c.in-Repetition.is
+    ∙ or-false (c.in-Repetition.repetition.min == 0) (can_be_empty c.in-Repetition.repetition.sub.value) some)
 
 pub kind_can_be_empty-returns-in-Capture : goal.kind_can_be_empty-returns-in-Capture
 unfolding can_be_empty
@@ -85,9 +87,11 @@ kind_can_be_empty-returns-in-Capture t c =
 pub kind_can_be_empty-returns-in-Concat : goal.kind_can_be_empty-returns-in-Concat
 unfolding can_be_empty
 kind_can_be_empty-returns-in-Concat t c =
-    c.all_can_be_empty.ensures ∙ ap (λ ys. all_can_be_empty (expressions ys)) c.deref-in-Concat.ensures.value ∙ sym (ap (λ k. can_be_empty (kind_view k)) c.in-Concat.is)
+    c.all_can_be_empty.ensures ∙ ap (λ ys. all_can_be_empty (expressions ys)) c.deref-in-Concat.ensures.value
+    ∙ sym (ap (λ k. can_be_empty (kind_view k)) c.in-Concat.is)
 
 pub kind_can_be_empty-returns-in-Alternation : goal.kind_can_be_empty-returns-in-Alternation
 unfolding can_be_empty
 kind_can_be_empty-returns-in-Alternation t c =
-    c.one_can_be_empty.ensures ∙ ap (λ ys. one_can_be_empty (expressions ys)) c.deref-in-Alternation.ensures.value ∙ sym (ap (λ k. can_be_empty (kind_view k)) c.in-Alternation.is)
+    c.one_can_be_empty.ensures ∙ ap (λ ys. one_can_be_empty (expressions ys)) c.deref-in-Alternation.ensures.value
+    ∙ sym (ap (λ k. can_be_empty (kind_view k)) c.in-Alternation.is)

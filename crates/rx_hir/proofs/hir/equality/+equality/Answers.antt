@@ -47,7 +47,8 @@ is_alternation-returns-in-Alternation t c =
     c.are_same.ensures ∙ ap (λ hs. are_same (expressions c.args.subs.now) (expressions hs)) c.deref.ensures.value ∙ sym whole
 
 pub is_alternation-returns-in_default : goal.is_alternation-returns-in_default
-is_alternation-returns-in_default t c = sym (other-alternation (expressions c.args.subs.now) c.kind.result.now c.in_default.not-Alternation) ∙ ap (is_same (alternation (expressions c.args.subs.now))) c.kind.ensures.value
+is_alternation-returns-in_default t c = sym (other-alternation (expressions c.args.subs.now) c.kind.result.now c.in_default.not-Alternation)
+    ∙ ap (is_same (alternation (expressions c.args.subs.now))) c.kind.ensures.value
 
 pub is_concat-returns-in-Concat : goal.is_concat-returns-in-Concat
 unfolding is_same
@@ -56,34 +57,50 @@ is_concat-returns-in-Concat t c =
     c.are_same.ensures ∙ ap (λ hs. are_same (expressions c.args.subs.now) (expressions hs)) c.deref.ensures.value ∙ sym whole
 
 pub is_concat-returns-in_default : goal.is_concat-returns-in_default
-is_concat-returns-in_default t c = sym (other-concat (expressions c.args.subs.now) c.kind.result.now c.in_default.not-Concat) ∙ ap (is_same (concat (expressions c.args.subs.now))) c.kind.ensures.value
+is_concat-returns-in_default t c = sym (other-concat (expressions c.args.subs.now) c.kind.result.now c.in_default.not-Concat)
+    ∙ ap (is_same (concat (expressions c.args.subs.now))) c.kind.ensures.value
 
 pub is_capture-returns-then-not-same_group : goal.is_capture-returns-then-not-same_group
 unfolding is_same
 is_capture-returns-then-not-same_group t c =
-    let whole = ap (is_same (capture (non_zero_usize_get c.args.group.now.index) (option_map string_bytes c.args.group.now.name) c.args.group.now.sub.value)) (sym c.kind.ensures.value ∙ ap kind_view c.in-Capture.is) in
+    let whole =
+    ap (is_same (capture (non_zero_usize_get c.args.group.now.index) (option_map string_bytes c.args.group.now.name) c.args.group.now.sub.value))
+    (sym c.kind.ensures.value ∙ ap kind_view c.in-Capture.is) in
     sym (whole ∙ and-no _ _ (sym c.same_group.ensures ∙ c.if-not-same_group.true))
 
 pub is_capture-returns-else-not-same_group : goal.is_capture-returns-else-not-same_group
 unfolding is_same
 is_capture-returns-else-not-same_group t c =
-    let whole = ap (is_same (capture (non_zero_usize_get c.args.group.now.index) (option_map string_bytes c.args.group.now.name) c.args.group.now.sub.value)) (sym c.kind.ensures.value ∙ ap kind_view c.in-Capture.is) in
-    c.is_same.ensures ∙ (λ i. is_same (c.deref.ensures i) (c.deref-in-Capture.ensures i)) ∙ sym (whole ∙ and-true _ _ (sym c.same_group.ensures ∙ c.if-not-same_group.false))
+    let whole =
+    ap (is_same (capture (non_zero_usize_get c.args.group.now.index) (option_map string_bytes c.args.group.now.name) c.args.group.now.sub.value))
+    (sym c.kind.ensures.value ∙ ap kind_view c.in-Capture.is) in
+    c.is_same.ensures ∙ (λ i. is_same (c.deref.ensures i) (c.deref-in-Capture.ensures i))
+    ∙ sym (whole ∙ and-true _ _ (sym c.same_group.ensures ∙ c.if-not-same_group.false))
 
 pub is_capture-returns-in_default : goal.is_capture-returns-in_default
-is_capture-returns-in_default t c = sym (other-capture (non_zero_usize_get c.args.group.now.index) (option_map string_bytes c.args.group.now.name) c.args.group.now.sub.value c.kind.result.now c.in_default.not-Capture) ∙ ap (is_same (capture (non_zero_usize_get c.args.group.now.index) (option_map string_bytes c.args.group.now.name) c.args.group.now.sub.value)) c.kind.ensures.value
+is_capture-returns-in_default t c = sym (other-capture (non_zero_usize_get c.args.group.now.index) (option_map string_bytes c.args.group.now.name)
+    c.args.group.now.sub.value c.kind.result.now c.in_default.not-Capture)
+    ∙ ap (is_same (capture (non_zero_usize_get c.args.group.now.index) (option_map string_bytes c.args.group.now.name) c.args.group.now.sub.value))
+    c.kind.ensures.value
 
 pub is_repetition-returns-then-not-same_counts : goal.is_repetition-returns-then-not-same_counts
 unfolding is_same
 is_repetition-returns-then-not-same_counts t c =
-    let whole = ap (is_same (repetition c.args.copies.now.min c.args.copies.now.max c.args.copies.now.greedy c.args.copies.now.sub.value)) (sym c.kind.ensures.value ∙ ap kind_view c.in-Repetition.is) in
+    let whole =
+    ap (is_same (repetition c.args.copies.now.min c.args.copies.now.max c.args.copies.now.greedy c.args.copies.now.sub.value))
+    (sym c.kind.ensures.value ∙ ap kind_view c.in-Repetition.is) in
     sym (whole ∙ and-no _ _ (sym c.same_counts.ensures ∙ c.if-not-same_counts.true))
 
 pub is_repetition-returns-else-not-same_counts : goal.is_repetition-returns-else-not-same_counts
 unfolding is_same
 is_repetition-returns-else-not-same_counts t c =
-    let whole = ap (is_same (repetition c.args.copies.now.min c.args.copies.now.max c.args.copies.now.greedy c.args.copies.now.sub.value)) (sym c.kind.ensures.value ∙ ap kind_view c.in-Repetition.is) in
-    c.is_same.ensures ∙ (λ i. is_same (c.deref.ensures i) (c.deref-in-Repetition.ensures i)) ∙ sym (whole ∙ and-true _ _ (sym c.same_counts.ensures ∙ c.if-not-same_counts.false))
+    let whole =
+    ap (is_same (repetition c.args.copies.now.min c.args.copies.now.max c.args.copies.now.greedy c.args.copies.now.sub.value))
+    (sym c.kind.ensures.value ∙ ap kind_view c.in-Repetition.is) in
+    c.is_same.ensures ∙ (λ i. is_same (c.deref.ensures i) (c.deref-in-Repetition.ensures i))
+    ∙ sym (whole ∙ and-true _ _ (sym c.same_counts.ensures ∙ c.if-not-same_counts.false))
 
 pub is_repetition-returns-in_default : goal.is_repetition-returns-in_default
-is_repetition-returns-in_default t c = sym (other-repetition c.args.copies.now.min c.args.copies.now.max c.args.copies.now.greedy c.args.copies.now.sub.value c.kind.result.now c.in_default.not-Repetition) ∙ ap (is_same (repetition c.args.copies.now.min c.args.copies.now.max c.args.copies.now.greedy c.args.copies.now.sub.value)) c.kind.ensures.value
+is_repetition-returns-in_default t c = sym (other-repetition c.args.copies.now.min c.args.copies.now.max c.args.copies.now.greedy c.args.copies.now.sub.value
+    c.kind.result.now c.in_default.not-Repetition) ∙ ap (is_same
+    (repetition c.args.copies.now.min c.args.copies.now.max c.args.copies.now.greedy c.args.copies.now.sub.value)) c.kind.ensures.value

@@ -13,4 +13,5 @@ returns-in-Class c =
     c.same_class.ensures ∙ sym whole
 
 pub returns-in_default : goal.returns-in_default
-returns-in_default c = sym (other-class (class_view c.args.members.now) c.kind.result.now c.in_default.not-Class) ∙ ap (is_same (class (class_view c.args.members.now))) c.kind.ensures.value
+returns-in_default c = sym (other-class (class_view c.args.members.now) c.kind.result.now c.in_default.not-Class)
+    ∙ ap (is_same (class (class_view c.args.members.now))) c.kind.ensures.value

@@ -12,4 +12,5 @@ returns-in-Literal c =
     c.eq.ensures ∙ ap (λ bs. is_same (literal c.args.bytes.now) (literal bs)) c.as_slice.ensures.value ∙ sym whole
 
 pub returns-in_default : goal.returns-in_default
-returns-in_default c = sym (other-literal c.args.bytes.now c.kind.result.now c.in_default.not-Literal) ∙ ap (is_same (literal c.args.bytes.now)) c.kind.ensures.value
+returns-in_default c = sym (other-literal c.args.bytes.now c.kind.result.now c.in_default.not-Literal)
+    ∙ ap (is_same (literal c.args.bytes.now)) c.kind.ensures.value

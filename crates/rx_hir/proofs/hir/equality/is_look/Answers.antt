@@ -14,4 +14,5 @@ returns-in-Look c =
     c.contains.ensures ∙ c.insert.ensures k ∙ ap (λ b. b || is_same_kind k (kind_of c.in-Look.other)) (c.empty.ensures k) ∙ sym whole
 
 pub returns-in_default : goal.returns-in_default
-returns-in_default c = sym (other-look (kind_of c.args.kind) c.kind.result.now c.in_default.not-Look) ∙ ap (is_same (look (kind_of c.args.kind))) c.kind.ensures.value
+returns-in_default c = sym (other-look (kind_of c.args.kind) c.kind.result.now c.in_default.not-Look)
+    ∙ ap (is_same (look (kind_of c.args.kind))) c.kind.ensures.value

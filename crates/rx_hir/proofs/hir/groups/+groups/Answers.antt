@@ -56,9 +56,11 @@ greatest_of_kind-returns-in-Look t c = sym (ap (λ k. greatest_group (kind_view 
 pub greatest_of_kind-returns-in-Concat : goal.greatest_of_kind-returns-in-Concat
 unfolding greatest_group
 greatest_of_kind-returns-in-Concat t c =
-    c.greatest_in.ensures ∙ ap (λ ys. greatest_in (expressions ys)) c.deref-in-Concat.ensures.value ∙ sym (ap (λ k. greatest_group (kind_view k)) c.in-Concat.is)
+    c.greatest_in.ensures ∙ ap (λ ys. greatest_in (expressions ys)) c.deref-in-Concat.ensures.value
+    ∙ sym (ap (λ k. greatest_group (kind_view k)) c.in-Concat.is)
 
 pub greatest_of_kind-returns-in-Alternation : goal.greatest_of_kind-returns-in-Alternation
 unfolding greatest_group
 greatest_of_kind-returns-in-Alternation t c =
-    c.greatest_in-in-Alternation.ensures ∙ ap (λ ys. greatest_in (expressions ys)) c.deref-in-Alternation.ensures.value ∙ sym (ap (λ k. greatest_group (kind_view k)) c.in-Alternation.is)
+    c.greatest_in-in-Alternation.ensures ∙ ap (λ ys. greatest_in (expressions ys)) c.deref-in-Alternation.ensures.value
+    ∙ sym (ap (λ k. greatest_group (kind_view k)) c.in-Alternation.is)

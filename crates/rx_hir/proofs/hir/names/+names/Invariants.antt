@@ -8,7 +8,8 @@ use Rattle.rx_hir.proofs.hir.names.+names.Given as goal
 
 abbrev pub invariant-add_names_among-loop-sub : goal.invariant-add_names_among-loop-sub
 invariant-add_names_among-loop-sub l = record {
-  added : filled (λ g. name_among g (expressions (drop l.sub-index l.subs))) 1 (names_of l.names.items) ≡ filled (λ g. name_among g (expressions l.subs)) 1 (names_of l.initial.names.items);
+  added : filled (λ g. name_among g (expressions (drop l.sub-index l.subs))) 1 (names_of l.names.items) ≡ filled (λ g. name_among g (expressions l.subs)) 1
+      (names_of l.initial.names.items);
   count : length l.names.items ≡ length l.initial.names.items;
 }
 

@@ -15,4 +15,5 @@ returns-in_ok-names-clause-added c =
 pub returns-else-is_none-clause-added : goal.returns-else-is_none-clause-added
 returns-else-is_none-clause-added c =
     let some : is_some c.index.result.now ≡ true = c.is_none.ensures ∙ ap not c.if-is_none.false in
-    name-kept c.args.names.now.items c.args.group c.index.result.now (option_map string_bytes c.args.name.now) c.requires.explicit c.requires.inside c.index.ensures some
+    name-kept c.args.names.now.items c.args.group c.index.result.now (option_map string_bytes c.args.name.now) c.requires.explicit c.requires.inside
+    c.index.ensures some

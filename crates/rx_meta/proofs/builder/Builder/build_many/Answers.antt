@@ -20,5 +20,7 @@ returns-clause-built c =
     let counted : length texts ≡ length ps = length-map ps (λ p. p.now) in
     let few : length texts ≤ id_limit = omega (arith, c.in_ok-exprs.ensures.1) in
     IfOk-weaker c.build_many_from_hir.result _ _
-    (λ regex is. built-of c.args.self.now.syntax c.args.self.now.config texts c.in_ok-exprs.exprs.items c.deref.result.now few c.in_ok-exprs.ensures.0 c.deref.ensures.value regex is)
+    (λ regex is.
+    built-of c.args.self.now.syntax c.args.self.now.config texts c.in_ok-exprs.exprs.items c.deref.result.now few c.in_ok-exprs.ensures.0
+    c.deref.ensures.value regex is)
     c.build_many_from_hir.ensures.built

@@ -1,9 +1,16 @@
 use Rattle.std.proofs.Common.{subst}
-use Rattle.std.specs.Prelude.{IfOk}
+use Rattle.std.specs.Prelude.{false, IfOk}
 use Rattle.rx_meta.specs.Regex.{RegexValue}
 use Rattle.rx_meta.specs.Search.{TellsWhether}
+use Rattle.rx_meta.proofs.ServeLemmas.{whether-of, none-there}
 use Rattle.rx_meta.proofs.regex.Regex.is_match.Goals as goal
 
 pub returns-clause-value : goal.returns-clause-value
 returns-clause-value g c =
-    subst (λ (regex : RegexValue). IfOk c.is_match.result (TellsWhether regex c.args.input.now)) c.self.view_is c.is_match.ensures.value
+    subst (λ (regex : RegexValue). IfOk c.is_match.result (TellsWhether regex c.args.input.now)) c.self.view_is
+    (whether-of _ c.args.input.now c.is_match.result c.is_match.ensures.value)
+
+pub returns-then-is_impossible-clause-value : goal.returns-then-is_impossible-clause-value
+returns-then-is_impossible-clause-value g c =
+    subst (λ (regex : RegexValue). TellsWhether regex c.args.input.now false) c.self.view_is
+    (none-there _ c.args.input.now (c.is_impossible.ensures.none c.if-is_impossible.true))

@@ -12,7 +12,8 @@ invariant_of-self-2 c =
     let closed = rw c.replace-states.ensures.value at c.in_ok-start.ensures.closed in
     let count = rw c.replace-states.ensures.value at c.in_ok-start.ensures.count in
     let long : length c.self.inside.states.items ≡ length c.args.self.now.states = ap (λ (d : Draft). length d.states) c.self.view_is in
-    AreInRange-adds c.self.inside.group_info c.self.inside.written_len c.self.inside.states.items c.compile_bytes.new.states.items c.self.invariant adds (closed (omega arith) c.self.invariant.names) (omega arith)
+    AreInRange-adds c.self.inside.group_info c.self.inside.written_len c.self.inside.states.items c.compile_bytes.new.states.items c.self.invariant adds
+    (closed (omega arith) c.self.invariant.names) (omega arith)
 
 pub returns-clause-built : goal.returns-clause-built
 returns-clause-built c =

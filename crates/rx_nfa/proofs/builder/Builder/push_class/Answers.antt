@@ -1,7 +1,4 @@
-use Rattle.std.proofs.Common.{◌≡◌, ◌∙◌, sym, ap, refl}
-use Rattle.std.specs.Prelude.{Bool, true, false}
-use Rattle.rx_model.specs.Graph.{build_state, set}
-use Rattle.rx_model.specs.Text.{byte_ranges}
+use Rattle.std.proofs.Common.{◌∙◌, sym, ap}
 use Rattle.rx_class.specs.ClassViews.{class_view}
 use Rattle.rx_nfa.specs.Directed.{build_class}
 use Rattle.rx_nfa.proofs.lemmas.parts.CompileLemmas.{Built-same}
@@ -10,9 +7,11 @@ use Rattle.rx_nfa.proofs.builder.Builder.push_class.Goals as goal
 
 pub returns-in-Unicode-clause-built : goal.returns-in-Unicode-clause-built
 returns-in-Unicode-clause-built c =
-    Built-same _ _ c.args.next c.args.self.now c.push_scalars.new.self c.push_scalars.result (ap (λ class. build_class c.args.backwards (class_view class)) (sym c.in-Unicode.is)) c.push_scalars.ensures.built
+    Built-same _ _ c.args.next c.args.self.now c.push_scalars.new.self c.push_scalars.result
+    (ap (λ class. build_class c.args.backwards (class_view class)) (sym c.in-Unicode.is)) c.push_scalars.ensures.built
 
 pub returns-in-Bytes-clause-built : goal.returns-in-Bytes-clause-built
 returns-in-Bytes-clause-built c =
     Built-same _ _ c.args.next c.args.self.now c.push_bytes.new.self c.push_bytes.result
-    (class-bytes c.args.backwards c.in-Bytes.bytes ∙ ap (λ class. build_class c.args.backwards (class_view class)) (sym c.in-Bytes.is)) c.push_bytes.ensures.built
+    (class-bytes c.args.backwards c.in-Bytes.bytes ∙ ap (λ class. build_class c.args.backwards (class_view class)) (sym c.in-Bytes.is))
+    c.push_bytes.ensures.built

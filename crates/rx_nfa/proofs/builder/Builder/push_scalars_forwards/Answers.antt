@@ -22,7 +22,8 @@ invariant_of-self-2 c =
     let long : length c.self.inside.states.items ≡ length c.args.self.now.states = ap (λ (d : Draft). length d.states) c.self.view_is in
     let cost = cost_of_class-accounted c.args.scalars.now c.ranges-ranges.ensures.fewest in
     let room = c.requires.room in
-    AreInRange-adds c.self.inside.group_info c.self.inside.written_len c.self.inside.states.items c.compile_class.new.states.items c.self.invariant adds (closed (omega arith) c.self.invariant.names) (omega arith)
+    AreInRange-adds c.self.inside.group_info c.self.inside.written_len c.self.inside.states.items c.compile_class.new.states.items c.self.invariant adds
+    (closed (omega arith) c.self.invariant.names) (omega arith)
 
 pub returns-clause-built : goal.returns-clause-built
 returns-clause-built c =

@@ -16,7 +16,8 @@ loop-start-preserved c =
           let a = w.max.ensures in
           let b = w.min.ensures in
           rw (w.parts-is, w.in_ok-push.ensures.items, a, b)
-          (append_assoc c.loop-start.parts.items _ (clip c.args.low c.args.high (drop (c.loop-start.start-index + 1) c.args.ranges.now)) ∙ ap (λ ys. c.loop-start.parts.items ++ ys) (sym kept) ∙ before)
+          (append_assoc c.loop-start.parts.items _ (clip c.args.low c.args.high (drop (c.loop-start.start-index + 1) c.args.ranges.now))
+          ∙ ap (λ ys. c.loop-start.parts.items ++ ys) (sym kept) ∙ before)
       | else-not-high-first w ↦
           let skipped = clip-skip c.args.low c.args.high c.loop-start.start-index c.args.ranges.now (grind (arith, common_steps)) (either w.if-not-high-first.either) in
           rw w.parts-is (ap (λ ys. c.loop-start.parts.items ++ ys) (sym skipped) ∙ before)
@@ -27,4 +28,5 @@ loop-start-preserved c =
     either (inr x) = inr x.1
 
 pub returns : goal.returns
-returns c = clip-all c.args.low c.args.high c.loop-start.parts.items c.args.ranges.now c.loop-start.start-index (grind (arith, common_steps)) c.loop-start.invariant
+returns c = clip-all c.args.low c.args.high c.loop-start.parts.items c.args.ranges.now c.loop-start.start-index (grind (arith, common_steps))
+    c.loop-start.invariant

@@ -9,8 +9,11 @@ pub loop-skipped-init : goal.loop-skipped-init
 loop-skipped-init c = (omega arith, IsRest-same c.args.start c.args.ranges.now c.requires)
 
 pub loop-skipped-preserved : goal.loop-skipped-preserved
-loop-skipped-preserved c =
-    (grind (arith, common_steps), IsRest-next c.args.start c.loop-skipped.skipped c.args.ranges.now (grind (arith, common_steps)) (grind (arith, common_steps)) c.loop-skipped.invariant.1)
+loop-skipped-preserved c = (
+  grind (arith, common_steps),
+  IsRest-next c.args.start c.loop-skipped.skipped c.args.ranges.now (grind (arith, common_steps)) (grind (arith, common_steps))
+      c.loop-skipped.invariant.1,
+)
 
 pub returns-clause-rest : goal.returns-clause-rest
 returns-clause-rest c = rw take_rest c.loop-skipped.invariant.1

@@ -14,8 +14,10 @@ returns-clause-reads c =
 
 pub returns-clause-grows : goal.returns-clause-grows
 returns-clause-grows c =
-    subst (AddsReaders c.args.states.now.items) (sym c.in_ok-push.ensures.items) (AddsReaders-push c.args.states.now.items c.reader-state.result c.args.row.items c.reader-state.ensures c.requires.ascends)
+    subst (AddsReaders c.args.states.now.items) (sym c.in_ok-push.ensures.items)
+    (AddsReaders-push c.args.states.now.items c.reader-state.result c.args.row.items c.reader-state.ensures c.requires.ascends)
 
 pub returns-clause-closed : goal.returns-clause-closed
 returns-clause-closed c =
-    λ below closed. subst AreClosed (sym c.in_ok-push.ensures.items) (AreClosed-reader c.args.states.now.items c.reader-state.result c.args.row.items c.reader-state.ensures c.requires.ascends below closed)
+    λ below closed. subst AreClosed (sym c.in_ok-push.ensures.items)
+    (AreClosed-reader c.args.states.now.items c.reader-state.result c.args.row.items c.reader-state.ensures c.requires.ascends below closed)

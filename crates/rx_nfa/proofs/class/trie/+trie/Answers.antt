@@ -17,7 +17,8 @@ block-coverage_of-requires-clause-some t c = rw c.block_size.ensures (size_of_bl
 pub block-bounds-whole-depth : goal.block-bounds-whole-depth
 block-bounds-whole-depth t c =
     let covers = (rw c.block_size.ensures at c.in-Everything.ensures) in
-    covered-depth (length c.args.whole.now) c.args.depth c.args.start c.args.ranges.now covers.1 covers.2 c.requires.enough covers.3 c.requires.aligned covers.4 covers.5
+    covered-depth (length c.args.whole.now) c.args.depth c.args.start c.args.ranges.now covers.1 covers.2 c.requires.enough covers.3 c.requires.aligned covers.4
+    covers.5
 
 pub block-overflow_sub-children : goal.block-overflow_sub-children
 block-overflow_sub-children t c = HasEnd-deep c.args.ranges.now c.args.depth c.args.start (rw c.block_size.ensures at c.in-Part.ensures)
@@ -47,7 +48,8 @@ block-row-requires t c =
                   rw c.new-transitions.ensures.items (omega arith),
                   (
                     CoversUpTo-less (c.args.depth - 1) c.args.depth _ c.args.ranges.now (omega arith) c.requires.enough,
-                    subst (λ s. length c.args.states.now.items + (c.args.depth - 1) * ends_in c.args.ranges.now c.args.start (c.args.start + s) ≤ id_limit) size (omega arith),
+                    subst (λ s. length c.args.states.now.items + (c.args.depth - 1) * ends_in c.args.ranges.now c.args.start (c.args.start + s) ≤ id_limit) size
+                        (omega arith),
                   ),
                 ),
               ),
@@ -73,7 +75,8 @@ block-push_reader-requires-clause-room t c =
 
 pub block-returns-in-Nothing-clause-built : goal.block-returns-in-Nothing-clause-built
 block-returns-in-Nothing-clause-built t c base next ready =
-    IsBlock-none (IsReader base c.args.states.now.items) next (is_member c.args.ranges.now) c.args.depth c.args.start (rw c.block_size.ensures at c.in-Nothing.ensures)
+    IsBlock-none (IsReader base c.args.states.now.items) next (is_member c.args.ranges.now) c.args.depth c.args.start
+    (rw c.block_size.ensures at c.in-Nothing.ensures)
 
 pub block-returns-in-Everything-clause-built : goal.block-returns-in-Everything-clause-built
 block-returns-in-Everything-clause-built t c base next ready =
@@ -81,7 +84,8 @@ block-returns-in-Everything-clause-built t c base next ready =
     let deep = covered-depth (length c.args.whole.now) c.args.depth c.args.start c.args.ranges.now covers.1 covers.2 c.requires.enough covers.3 c.requires.aligned covers.4 covers.5 in
     let is : slice_index c.args.whole.now c.args.depth ≡ c.index-whole-depth.result = grind (arith, common_steps) in
     subst (λ q. IsBlock (IsReader base c.args.states.now.items) next (is_member c.args.ranges.now) c.args.depth c.args.start (Some q)) is
-    (IsBlock-same (IsReader base c.args.states.now.items) next (λ x. true) (is_member c.args.ranges.now) c.args.depth c.args.start _ covers.0 (ready.whole c.args.depth deep c.args.start))
+    (IsBlock-same (IsReader base c.args.states.now.items) next (λ x. true) (is_member c.args.ranges.now) c.args.depth c.args.start _ covers.0
+    (ready.whole c.args.depth deep c.args.start))
 
 pub block-returns-in_ok-id-in-Part-clause-built : goal.block-returns-in_ok-id-in-Part-clause-built
 block-returns-in_ok-id-in-Part-clause-built t c base next ready =
@@ -91,9 +95,11 @@ block-returns-in_ok-id-in-Part-clause-built t c base next ready =
     let longer = row.grows.longer in
     let is = id.is in
     let based = ready.based in
-    IsBlock-row (IsReader base c.push_reader.new.states.items) next (is_member c.args.ranges.now) c.args.depth c.args.start c.in_ok-id-in-Part.id c.row.new.transitions.items deep
+    IsBlock-row (IsReader base c.push_reader.new.states.items) next (is_member c.args.ranges.now) c.args.depth c.args.start c.in_ok-id-in-Part.id
+    c.row.new.transitions.items deep
     (IsReader-lower base (length c.row.new.states.items) _ _ _ (omega arith) id.reads)
-    (IsRow-map (IsReader base c.row.new.states.items) (IsReader base c.push_reader.new.states.items) next (IsReader-grows base _ _ id.grows) (is_member c.args.ranges.now) (c.args.depth - 1) c.args.start 128 64 _ _
+    (IsRow-map (IsReader base c.row.new.states.items) (IsReader base c.push_reader.new.states.items) next (IsReader-grows base _ _ id.grows)
+    (is_member c.args.ranges.now) (c.args.depth - 1) c.args.start 128 64 _ _
     (rw c.new-transitions.ensures.items at row.built base next ready))
 
 pub block-returns-in_ok-id-in-Part-clause-count : goal.block-returns-in_ok-id-in-Part-clause-count
@@ -113,8 +119,10 @@ block-returns-in_ok-id-in-Part-clause-closed t c =
     (let row = c.in_ok-row-in-Part.ensures in
     let id = c.in_ok-id-in-Part.ensures in
     let longer = row.grows.longer in
-    id.closed (row-below c.row.new.states.items base next (is_member c.args.ranges.now) (c.args.depth - 1) c.args.start 128 64 [] c.row.new.transitions.items (omega arith)
-    (rw c.new-transitions.ensures.items at row.built base next ready) (RoutesBelow-none (length c.row.new.states.items))) (row.closed base next ready lt closed))
+    id.closed (row-below c.row.new.states.items base next (is_member c.args.ranges.now) (c.args.depth - 1) c.args.start 128 64 [] c.row.new.transitions.items
+    (omega arith)
+    (rw c.new-transitions.ensures.items at row.built base next ready) (RoutesBelow-none (length c.row.new.states.items)))
+    (row.closed base next ready lt closed))
 
 pub row-loop-k-init : goal.row-loop-k-init
 row-loop-k-init t c =
@@ -128,7 +136,8 @@ row-loop-k-init t c =
       closed = λ base next ready lt closed. closed;
       rest = IsRest-same (start + 0 * size_of_block depth) c.args.ranges.now c.requires.rises;
       ascends = subst (λ n. Ascends 0 n c.args.transitions.now.items) byte c.requires.before;
-      built = λ base next ready. IsRow-none (IsReader base c.args.states.now.items) next (is_member c.args.ranges.now) depth start first c.args.transitions.now.items;
+      built = λ base next ready. IsRow-none (IsReader base c.args.states.now.items) next (is_member c.args.ranges.now) depth start first
+          c.args.transitions.now.items;
       count = omega arith;
     }
 
@@ -189,13 +198,18 @@ row-loop-k-preserved t c =
       grows = AddsReaders-trans c.args.states.now.items c.loop-k.states.items c.block.new.states.items before.grows target.grows;
       closed = λ base next ready lt closed.
           (let states = before.grows.longer in
-          target.closed base next (IsReady-grows c.args.states.now.items c.loop-k.states.items base next c.args.whole.now before.grows ready) (omega arith) (before.closed base next ready lt closed));
-      rest = IsRest-later (start + c.loop-k.k * size_of_block depth) (start + (c.loop-k.k + 1) * size_of_block depth) c.args.ranges.now c.skip_below-rest.result.now (omega arith) here;
+          target.closed base next (IsReady-grows c.args.states.now.items c.loop-k.states.items base next c.args.whole.now before.grows ready) (omega arith)
+          (before.closed base next ready lt closed));
+      rest = IsRest-later (start + c.loop-k.k * size_of_block depth) (start + (c.loop-k.k + 1) * size_of_block depth) c.args.ranges.now
+          c.skip_below-rest.result.now (omega arith) here;
       ascends = subst (λ n. Ascends 0 n c.add_target.new.row.items) byte added.ascends;
-      built = λ base next ready. IsRow-next (IsReader base c.loop-k.states.items) (IsReader base c.block.new.states.items) next (IsReader-grows base _ _ target.grows)
-          (is_member c.args.ranges.now) depth start first c.loop-k.k c.args.transitions.now.items c.loop-k.transitions.items c.add_target.new.row.items c.in_ok-target.target
+      built = λ base next ready. IsRow-next (IsReader base c.loop-k.states.items) (IsReader base c.block.new.states.items) next
+          (IsReader-grows base _ _ target.grows)
+          (is_member c.args.ranges.now) depth start first c.loop-k.k c.args.transitions.now.items c.loop-k.transitions.items c.add_target.new.row.items
+          c.in_ok-target.target
           (before.built base next ready)
-          (IsBlock-same (IsReader base c.block.new.states.items) next (is_member c.skip_below-rest.result.now) (is_member c.args.ranges.now) depth (start + c.loop-k.k * size_of_block depth) c.in_ok-target.target
+          (IsBlock-same (IsReader base c.block.new.states.items) next (is_member c.skip_below-rest.result.now) (is_member c.args.ranges.now) depth
+          (start + c.loop-k.k * size_of_block depth) c.in_ok-target.target
           (λ x from to. sym (here.same x from))
           (rw size at target.built base next (IsReady-grows c.args.states.now.items c.loop-k.states.items base next c.args.whole.now before.grows ready)))
           added.routes;
@@ -205,7 +219,8 @@ row-loop-k-preserved t c =
 pub row-returns-clause-built : goal.row-returns-clause-built
 row-returns-clause-built t c =
     let ended : c.loop-k.k ≡ c.args.children.len = grind (arith, common_steps) in
-    λ base next ready. subst (λ n. IsRow (IsReader base c.loop-k.states.items) next (is_member c.args.ranges.now) c.args.children.depth c.args.children.start c.args.children.first n c.args.transitions.now.items c.loop-k.transitions.items) ended
+    λ base next ready. subst (λ n. IsRow (IsReader base c.loop-k.states.items) next (is_member c.args.ranges.now) c.args.children.depth c.args.children.start
+    c.args.children.first n c.args.transitions.now.items c.loop-k.transitions.items) ended
     (c.loop-k.invariant.built base next ready)
 
 pub block-returns-in_ok-id-in-Part-clause-grows : goal.block-returns-in_ok-id-in-Part-clause-grows

@@ -15,8 +15,10 @@ loop-range-init c = record {
 }
 
 pub whole_depth-depth-requires-clause-small : goal.whole_depth-depth-requires-clause-small
-whole_depth-depth-requires-clause-small c =
-    (RisesFrom-at 0 c.loop-range.range-index c.args.ranges.now c.requires.rises c.loop-range-test.true, StaysBelow-at 0x10_FFFF c.loop-range.range-index c.args.ranges.now c.requires.small c.loop-range-test.true)
+whole_depth-depth-requires-clause-small c = (
+  RisesFrom-at 0 c.loop-range.range-index c.args.ranges.now c.requires.rises c.loop-range-test.true,
+  StaysBelow-at 0x10_FFFF c.loop-range.range-index c.args.ranges.now c.requires.small c.loop-range-test.true,
+)
 
 pub reach-requires-clause-deep : goal.reach-requires-clause-deep
 reach-requires-clause-deep c =
@@ -56,6 +58,7 @@ loop-range-preserved c =
       closed = λ base next ready lt closed. (let states = before.grows.longer in reached.closed base next (before.ready base next ready) (omega arith) (before.closed base next ready lt closed));
       ready = λ base next ready. reached.ready base next (before.ready base next ready);
       enough = rw next (CoversUpTo-push c.args.deepest (length c.reach.new.whole.items) (take c.loop-range.range-index c.args.ranges.now) r deep
-          (CoversUpTo-more c.args.deepest (length c.loop-range.whole.items) (length c.reach.new.whole.items) (take c.loop-range.range-index c.args.ranges.now) longer before.enough) (omega arith));
+          (CoversUpTo-more c.args.deepest (length c.loop-range.whole.items) (length c.reach.new.whole.items) (take c.loop-range.range-index c.args.ranges.now)
+          longer before.enough) (omega arith));
       count = rw next (omega arith);
     }

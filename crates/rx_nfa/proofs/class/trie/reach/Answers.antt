@@ -22,9 +22,12 @@ loop-alloc-preserved c =
     let row : c.push.new.self.items ≡ record { start = 0x80; end = 0xBF; next = slice_index c.loop-alloc.whole.items (length c.loop-alloc.whole.items - 1) } ∷ [] = rw (c.in_ok-push.ensures.items, c.new-transitions.ensures.items) (ap (λ n. record { start = 0x80; end = 0xBF; next = n } ∷ []) last) in
     record {
       grows = AddsReaders-trans c.args.states.now.items c.loop-alloc.states.items c.push_reader.new.states.items before.grows id.grows;
-      closed = λ base next ready lt closed. id.closed (rw row (RoutesBelow-one (length c.loop-alloc.states.items) 0x80 0xBF (slice_index c.loop-alloc.whole.items (length c.loop-alloc.whole.items - 1))
-          (whole-inside c.loop-alloc.states.items base next (length c.loop-alloc.whole.items - 1) c.loop-alloc.whole.items (omega arith) (before.ready base next ready).whole (omega arith)))) (before.closed base next ready lt closed);
-      ready = λ base next ready. rw pushed (IsReady-push c.loop-alloc.states.items c.push_reader.new.states.items base next c.in_ok-id.id c.loop-alloc.whole.items c.push.new.self.items (omega arith) id.grows id.is id.reads row (before.ready base next ready));
+      closed = λ base next ready lt closed. id.closed
+          (rw row (RoutesBelow-one (length c.loop-alloc.states.items) 0x80 0xBF (slice_index c.loop-alloc.whole.items (length c.loop-alloc.whole.items - 1))
+          (whole-inside c.loop-alloc.states.items base next (length c.loop-alloc.whole.items - 1) c.loop-alloc.whole.items (omega arith)
+          (before.ready base next ready).whole (omega arith)))) (before.closed base next ready lt closed);
+      ready = λ base next ready. rw pushed (IsReady-push c.loop-alloc.states.items c.push_reader.new.states.items base next c.in_ok-id.id
+          c.loop-alloc.whole.items c.push.new.self.items (omega arith) id.grows id.is id.reads row (before.ready base next ready));
       longer = omega arith;
       most = omega arith;
       count = omega arith;

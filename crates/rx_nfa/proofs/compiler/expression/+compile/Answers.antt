@@ -18,7 +18,7 @@ use Rattle.rx_hir.specs.HirViews.{kind_view}
 use Rattle.rx_nfa.specs.Built.{Built, slot_from}
 use Rattle.rx_nfa.proofs.lemmas.parts.AccountedLemmas.{accounted_in-more, accounted_in-least, copies-accounted, times-more}
 use Rattle.rx_nfa.specs.Room.{HasRoom}
-use Rattle.rx_nfa.proofs.lemmas.parts.ExpressionLemmas.{depth_at, expressions-more, expressions-none}
+use Rattle.rx_nfa.proofs.lemmas.parts.ExpressionLemmas.{depth_at}
 use Rattle.rx_nfa.proofs.lemmas.parts.BuiltLemmas.{Built-nothing}
 use Rattle.rx_nfa.proofs.lemmas.parts.CompileLemmas.{Built-same, HasRoom-kept, HasRoom-less, greatest-at, BuiltEach-next, below-more}
 use Rattle.rx_nfa.specs.Directed.{in_order, build_row, build_sides, build_directed, part_for}
@@ -101,14 +101,16 @@ pub compile-returns-in-Empty-clause-built : goal.compile-returns-in-Empty-clause
 unfolding build_directed
 compile-returns-in-Empty-clause-built t c =
     let is : empty ≡ c.args.hir.now = sym (ap kind_view c.in-Empty.is) ∙ c.kind.ensures.value in
-    subst (λ h. Built (part_for c.args.groups.now h) c.args.next c.args.builder.now c.args.builder.now c.args.next) is (Built-nothing c.args.next c.args.builder.now)
+    subst (λ h. Built (part_for c.args.groups.now h) c.args.next c.args.builder.now c.args.builder.now c.args.next) is
+    (Built-nothing c.args.next c.args.builder.now)
 
 pub compile-returns-in-Literal-clause-built : goal.compile-returns-in-Literal-clause-built
 unfolding build_directed
 compile-returns-in-Literal-clause-built t c =
     let is : literal c.in-Literal.bytes.items ≡ c.args.hir.now = sym (ap kind_view c.in-Literal.is) ∙ c.kind.ensures.value in
     Built-same _ _ c.args.next c.args.builder.now c.compile_literal.new.builder c.compile_literal.result
-    (ap (λ bytes. build_state (text (in_order c.args.groups.now.reverse bytes))) c.deref.ensures.value ∙ ap (part_for c.args.groups.now) is) c.compile_literal.ensures.built
+    (ap (λ bytes. build_state (text (in_order c.args.groups.now.reverse bytes))) c.deref.ensures.value ∙ ap (part_for c.args.groups.now) is)
+    c.compile_literal.ensures.built
 
 pub compile-returns-in-Look-clause-built : goal.compile-returns-in-Look-clause-built
 unfolding build_directed
@@ -164,7 +166,8 @@ compile_alternation-compile-requires t c =
       (
         omega arith,
         (
-          HasRoom-kept c.args.builder.now c.loop-sub.builder c.args.groups.now (greatest_in (expressions c.args.subs.now)) (greatest_group item) c.loop-sub.invariant.groups c.loop-sub.invariant.slots
+          HasRoom-kept c.args.builder.now c.loop-sub.builder c.args.groups.now (greatest_in (expressions c.args.subs.now)) (greatest_group item)
+              c.loop-sub.invariant.groups c.loop-sub.invariant.slots
               (greatest-at c.args.subs.now k item item lt c.sub-item.is) c.requires.room,
           omega arith,
         ),
@@ -177,9 +180,11 @@ compile_alternation-loop-sub-preserved t c =
     let longer = b.extends.longer in
     let before = c.loop-sub.invariant in
     record {
-      built = BuiltEach-next (part_for c.args.groups.now) c.args.subs.now c.loop-sub.sub-index c.sub-item.result c.args.next c.args.builder.now c.loop-sub.builder c.compile.new.builder
+      built = BuiltEach-next (part_for c.args.groups.now) c.args.subs.now c.loop-sub.sub-index c.sub-item.result c.args.next c.args.builder.now
+          c.loop-sub.builder c.compile.new.builder
           c.loop-sub.starts.items c.push.new.self.items c.in_ok-start.start (omega arith) c.sub-item.is c.in_ok-push.ensures.items before.built b;
-      inside = below-more (length c.loop-sub.builder.states) (length c.compile.new.builder.states) c.loop-sub.starts.items c.push.new.self.items c.in_ok-start.start longer c.in_ok-start.ensures.inside c.in_ok-push.ensures.items before.inside;
+      inside = below-more (length c.loop-sub.builder.states) (length c.compile.new.builder.states) c.loop-sub.starts.items c.push.new.self.items
+          c.in_ok-start.start longer c.in_ok-start.ensures.inside c.in_ok-push.ensures.items before.inside;
       longer = omega arith;
       count =
           (let states = accounted_in-drop c.args.subs.now c.loop-sub.sub-index c.sub-item.result (omega arith) c.sub-item.is in
@@ -196,8 +201,10 @@ compile_alternation-returns-clause-built t c =
     let all : take c.loop-sub.sub-index subs ≡ subs = take_all c.loop-sub.sub-index subs (omega arith) in
     let b = subst (λ hs. BuiltEach (map (part_for c.args.groups.now) hs) c.args.next c.args.builder.now c.loop-sub.builder c.loop-sub.starts.items) all c.loop-sub.invariant.built in
     IfOk-both (λ id. id ≡ length c.loop-sub.builder.states) (λ id. c.push-2.new.self ≡ pushed c.loop-sub.builder (Union c.new.result))
-    (λ start. Built (build_choice (build_sides (map (part_for c.args.groups.now) c.args.subs.now))) c.args.next c.args.builder.now c.push-2.new.self start) c.push-2.result c.push-2.ensures.id c.push-2.ensures.states
-    (λ start id is. Built-choice (map (part_for c.args.groups.now) c.args.subs.now) c.args.next c.args.builder.now c.loop-sub.builder c.push-2.new.self c.loop-sub.starts.items start b id (is ∙ ap (λ qs. pushed c.loop-sub.builder (Union qs)) c.new.ensures))
+    (λ start. Built (build_choice (build_sides (map (part_for c.args.groups.now) c.args.subs.now))) c.args.next c.args.builder.now c.push-2.new.self start)
+    c.push-2.result c.push-2.ensures.id c.push-2.ensures.states
+    (λ start id is. Built-choice (map (part_for c.args.groups.now) c.args.subs.now) c.args.next c.args.builder.now c.loop-sub.builder c.push-2.new.self
+    c.loop-sub.starts.items start b id (is ∙ ap (λ qs. pushed c.loop-sub.builder (Union qs)) c.new.ensures))
 
 pub compile_capture-push-requires-clause-own : goal.compile_capture-push-requires-clause-own
 compile_capture-push-requires-clause-own t c =
@@ -224,13 +231,21 @@ compile_capture-returns-clause-built t c =
     let first = c.in-Some.first in
     let sub = c.args.capture.now.sub.value in
     let body = subst (λ h. Built (part_for c.args.groups.now h) c.in_ok-close.close c.push.new.self c.compile-2.new.builder c.in_ok-body.body) c.deref-2.ensures c.in_ok-body.ensures.built in
-    subst (λ number. IfOk c.push-2.result (λ start. Built (build_group (slot_from c.args.groups.now.first_slot number) (part_for c.args.groups.now c.args.capture.now.sub.value)) c.args.next c.args.builder.now c.push-2.new.self start))
+    subst
+    (λ number. IfOk c.push-2.result
+    (λ start. Built (build_group (slot_from c.args.groups.now.first_slot number) (part_for c.args.groups.now c.args.capture.now.sub.value)) c.args.next
+    c.args.builder.now c.push-2.new.self start))
     c.get.ensures.value
-    (subst (λ o. IfOk c.push-2.result (λ start. Built (build_group (slot_from o c.get.result) (part_for c.args.groups.now c.args.capture.now.sub.value)) c.args.next c.args.builder.now c.push-2.new.self start))
+    (subst
+    (λ o. IfOk c.push-2.result (λ start. Built (build_group (slot_from o c.get.result) (part_for c.args.groups.now c.args.capture.now.sub.value))
+    c.args.next c.args.builder.now c.push-2.new.self start))
     (sym c.in-Some.is)
-    (IfOk-both (λ id. id ≡ length c.compile-2.new.builder.states) (λ id. c.push-2.new.self ≡ pushed c.compile-2.new.builder (Slot c.in_ok-body.body c.args.groups.now.pattern (c.in-Some.first + 2 * (c.get.result - 1)))) _
+    (IfOk-both (λ id. id ≡ length c.compile-2.new.builder.states)
+    (λ id. c.push-2.new.self ≡ pushed c.compile-2.new.builder (Slot c.in_ok-body.body c.args.groups.now.pattern (c.in-Some.first + 2 * (c.get.result - 1))))
+    _
     c.push-2.result c.push-2.ensures.id c.push-2.ensures.states
-    (λ start id is. Built-group (part_for c.args.groups.now sub) (first + 2 * (c.get.result - 1)) c.args.groups.now.pattern c.args.next c.in_ok-close.close c.in_ok-body.body start
+    (λ start id is. Built-group (part_for c.args.groups.now sub) (first + 2 * (c.get.result - 1)) c.args.groups.now.pattern c.args.next c.in_ok-close.close
+    c.in_ok-body.body start
     c.args.builder.now c.push.new.self c.compile-2.new.builder c.push-2.new.self c.in_ok-close.ensures.id c.in_ok-close.ensures.states body id is)))
 
 pub compile_concat-loop-left-init : goal.compile_concat-loop-left-init
@@ -267,7 +282,8 @@ compile_concat-compile-requires t c =
       (
         c.loop-left.invariant.inside,
         (
-          HasRoom-kept c.args.builder.now c.loop-left.builder c.args.groups.now (greatest_in (expressions c.args.subs.now)) (greatest_group item) b.groups b.slots
+          HasRoom-kept c.args.builder.now c.loop-left.builder c.args.groups.now (greatest_in (expressions c.args.subs.now)) (greatest_group item) b.groups
+              b.slots
               (greatest-at c.args.subs.now c.place_of-place.result item item lt c.index-subs-place.is) c.requires.room,
           omega arith,
         ),
@@ -285,7 +301,8 @@ compile_concat-loop-left-preserved t c =
     record {
       built =
           subst (λ bs. Built (build_row bs) c.args.next c.args.builder.now c.compile.new.builder c.in_ok-start.start) (sym more)
-          (Built-then (part_for c.args.groups.now item) (build_row (map (part_for c.args.groups.now) (drop c.loop-left.left hs))) c.args.next c.loop-left.start c.in_ok-start.start c.args.builder.now c.loop-left.builder c.compile.new.builder
+          (Built-then (part_for c.args.groups.now item) (build_row (map (part_for c.args.groups.now) (drop c.loop-left.left hs))) c.args.next c.loop-left.start
+          c.in_ok-start.start c.args.builder.now c.loop-left.builder c.compile.new.builder
           c.loop-left.invariant.built c.in_ok-start.ensures.built);
       count =
           (let states = accounted_in-more hs c.loop-left.left item item (omega arith) (omega arith) at in
@@ -308,14 +325,16 @@ pub compile_loop-returns-clause-from_choice : goal.compile_loop-returns-clause-f
 compile_loop-returns-clause-from_choice t c =
     let r = c.args.repetition.now in
     let body = subst (λ h. Built (part_for c.args.groups.now h) c.in_ok-choice.choice c.push.new.self c.compile.new.builder c.in_ok-body.body) c.deref.ensures c.in_ok-body.ensures.built in
-    (loop-closed r.greedy (part_for c.args.groups.now r.sub.value) c.args.next c.in_ok-choice.choice c.in_ok-body.body c.args.builder.now c.push.new.self c.compile.new.builder c.patch.new.self Fail c.in_ok-state.state
+    (loop-closed r.greedy (part_for c.args.groups.now r.sub.value) c.args.next c.in_ok-choice.choice c.in_ok-body.body c.args.builder.now c.push.new.self
+    c.compile.new.builder c.patch.new.self Fail c.in_ok-state.state
     c.in_ok-choice.ensures.id c.in_ok-choice.ensures.states c.in_ok-state.ensures c.patch.ensures body).0
 
 pub compile_loop-returns-clause-from_body : goal.compile_loop-returns-clause-from_body
 compile_loop-returns-clause-from_body t c =
     let r = c.args.repetition.now in
     let body = subst (λ h. Built (part_for c.args.groups.now h) c.in_ok-choice.choice c.push.new.self c.compile.new.builder c.in_ok-body.body) c.deref.ensures c.in_ok-body.ensures.built in
-    (loop-closed r.greedy (part_for c.args.groups.now r.sub.value) c.args.next c.in_ok-choice.choice c.in_ok-body.body c.args.builder.now c.push.new.self c.compile.new.builder c.patch.new.self Fail c.in_ok-state.state
+    (loop-closed r.greedy (part_for c.args.groups.now r.sub.value) c.args.next c.in_ok-choice.choice c.in_ok-body.body c.args.builder.now c.push.new.self
+    c.compile.new.builder c.patch.new.self Fail c.in_ok-state.state
     c.in_ok-choice.ensures.id c.in_ok-choice.ensures.states c.in_ok-state.ensures c.patch.ensures body).1
 
 pub compile_options-loop-option-preserved : goal.compile_options-loop-option-preserved
@@ -329,8 +348,10 @@ compile_options-loop-option-preserved t c =
     let same = patched-length c.compile.new.builder c.in_ok-choice.choice c.in_ok-option.option in
     let id = c.in_ok-choice.ensures.id in
     record {
-      built = option-closed r.greedy c.loop-option._option (part_for c.args.groups.now r.sub.value) c.args.next c.loop-option.start c.in_ok-choice.choice c.in_ok-body.body c.args.builder.now c.loop-option.builder c.push.new.self
-          c.compile.new.builder c.patch.new.self Fail c.in_ok-option.option c.in_ok-choice.ensures.id c.in_ok-choice.ensures.states c.in_ok-option.ensures c.patch.ensures c.loop-option.invariant.built body;
+      built = option-closed r.greedy c.loop-option._option (part_for c.args.groups.now r.sub.value) c.args.next c.loop-option.start c.in_ok-choice.choice
+          c.in_ok-body.body c.args.builder.now c.loop-option.builder c.push.new.self
+          c.compile.new.builder c.patch.new.self Fail c.in_ok-option.option c.in_ok-choice.ensures.id c.in_ok-choice.ensures.states c.in_ok-option.ensures
+          c.patch.ensures c.loop-option.invariant.built body;
       count =
           (let states = ap accounted_states c.deref.ensures in
           let more = c.in_ok-body.ensures.count in
@@ -354,7 +375,12 @@ compile_repetition-compile-requires t c =
       omega arith,
       (
         c.loop-copy.invariant.inside,
-        (HasRoom-kept c.args.builder.now c.loop-copy.builder c.args.groups.now (greatest_group r.sub.value) (greatest_group c.deref.result.now) b.groups b.slots (omega arith) c.requires.room, omega arith),
+        (
+          HasRoom-kept c.args.builder.now c.loop-copy.builder c.args.groups.now (greatest_group r.sub.value) (greatest_group c.deref.result.now) b.groups
+              b.slots
+              (omega arith) c.requires.room,
+          omega arith,
+        ),
       ),
     )
 
@@ -372,7 +398,9 @@ compile_repetition-loop-copy-preserved t c =
     let r = c.args.repetition.now in
     let body = subst (λ h. Built (part_for c.args.groups.now h) c.loop-copy.start c.loop-copy.builder c.compile.new.builder c.in_ok-start-2.start) c.deref.ensures c.in_ok-start-2.ensures.built in
     record {
-      built = copy-more c.loop-copy._copy (part_for c.args.groups.now r.sub.value) (tail (is_positive (minimum_len r.sub.value)) r.min r.max r.greedy (part_for c.args.groups.now r.sub.value)) c.args.next c.loop-copy.start c.in_ok-start-2.start
+      built = copy-more c.loop-copy._copy (part_for c.args.groups.now r.sub.value)
+          (tail (is_positive (minimum_len r.sub.value)) r.min r.max r.greedy (part_for c.args.groups.now r.sub.value)) c.args.next c.loop-copy.start
+          c.in_ok-start-2.start
           c.args.builder.now c.loop-copy.builder c.compile.new.builder c.loop-copy.invariant.built body;
       count =
           (let states = ap accounted_states c.deref.ensures in
@@ -388,8 +416,10 @@ compile_unbounded-returns-clause-built t c =
     let body = part_for c.args.groups.now c.args.repetition.now.sub.value in
     let none : c.args.repetition.now.min ≡ 0 = omega arith in
     let empty : is_positive (minimum_len c.args.repetition.now.sub.value) ≡ false = ap (λ h. is_positive (minimum_len h)) (sym c.deref.ensures) ∙ sym c.takes_bytes.ensures ∙ c.if-takes_bytes.false in
-    subst (λ part. Built part c.args.next c.args.builder.now c.patch.new.self c.in_ok-choice.choice) (tail-star (is_positive (minimum_len c.args.repetition.now.sub.value)) c.args.repetition.now.min r.greedy body none empty)
-    (optional-closed r.greedy (loop_once r.greedy body) c.args.next c.in_ok-choice.choice c.in_ok-inner.inner.body c.args.builder.now c.push.new.self c.compile_loop-2.new.builder c.patch.new.self Fail c.in_ok-state.state
+    subst (λ part. Built part c.args.next c.args.builder.now c.patch.new.self c.in_ok-choice.choice)
+    (tail-star (is_positive (minimum_len c.args.repetition.now.sub.value)) c.args.repetition.now.min r.greedy body none empty)
+    (optional-closed r.greedy (loop_once r.greedy body) c.args.next c.in_ok-choice.choice c.in_ok-inner.inner.body c.args.builder.now c.push.new.self
+    c.compile_loop-2.new.builder c.patch.new.self Fail c.in_ok-state.state
     c.in_ok-choice.ensures.id c.in_ok-choice.ensures.states c.in_ok-state.ensures c.patch.ensures c.in_ok-inner.ensures.from_body)
 
 pub compile-returns-in-Class-clause-built : goal.compile-returns-in-Class-clause-built

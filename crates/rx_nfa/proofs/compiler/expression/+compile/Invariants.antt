@@ -35,9 +35,11 @@ invariant-compile_alternation-loop-sub l = record {
 abbrev pub invariant-compile_repetition-loop-copy : goal.invariant-compile_repetition-loop-copy
 invariant-compile_repetition-loop-copy l = record {
   built : Built (copies l._copy (part_for l.groups l.repetition.sub.value)
-      (tail (is_positive (minimum_len l.repetition.sub.value)) l.repetition.min l.repetition.max l.repetition.greedy (part_for l.groups l.repetition.sub.value)))
+      (tail (is_positive (minimum_len l.repetition.sub.value)) l.repetition.min l.repetition.max l.repetition.greedy
+      (part_for l.groups l.repetition.sub.value)))
       l.fn.next l.fn.builder l.builder l.start;
-  count : length l.builder.states ≤ length l.fn.builder.states + (states_of_tail l.repetition.min l.repetition.max (accounted_states l.repetition.sub.value) + l._copy * accounted_states l.repetition.sub.value);
+  count : length l.builder.states ≤ length l.fn.builder.states + (states_of_tail l.repetition.min l.repetition.max
+      (accounted_states l.repetition.sub.value) + l._copy * accounted_states l.repetition.sub.value);
   inside : l.start < length l.builder.states;
 }
 

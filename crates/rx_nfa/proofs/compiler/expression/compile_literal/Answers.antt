@@ -1,4 +1,4 @@
-use Rattle.std.proofs.Common.{◌≡◌, ◌<◌, ◌-◌, subst, sym, ap, refl, arith, length, drop, get_or}
+use Rattle.std.proofs.Common.{◌≡◌, ◌-◌, subst, sym, ap, refl, arith, length, drop, get_or}
 use Rattle.rx_nfa.specs.Directed.{in_order}
 use Rattle.rx_nfa.specs.Draft.{Draft, Extends, pushed}
 use Rattle.rx_nfa.specs.States.{Stands}
@@ -14,7 +14,8 @@ loop-left-init c =
     let long = in_order-length c.args.reverse c.args.bytes.now in
     record {
       extends = Extends-same c.args.builder.now;
-      chain = IsChain-none (Stands (length c.args.builder.now.states) c.args.builder.now.states) c.args.next (in_order c.args.reverse c.args.bytes.now) (length c.args.bytes.now) (omega arith);
+      chain = IsChain-none (Stands (length c.args.builder.now.states) c.args.builder.now.states) c.args.next (in_order c.args.reverse c.args.bytes.now)
+          (length c.args.bytes.now) (omega arith);
       count = omega arith;
       within = omega arith;
       inside = c.requires.next;
@@ -39,7 +40,8 @@ loop-left-preserved c =
       extends = subst (Extends old) (sym is) (Extends-trans old before (pushed before state) c.loop-left.invariant.extends (Extends-pushed before state));
       chain =
           subst (λ q. IsChain (Stands (length old.states) c.push.new.self.states) q (drop (c.loop-left.left - 1) bytes) c.args.next) (sym id)
-          (IsChain-more old before c.push.new.self bytes c.loop-left.left b c.loop-left.start c.args.next c.loop-left.invariant.extends (omega arith) (omega arith) byte_is is c.loop-left.invariant.chain);
+          (IsChain-more old before c.push.new.self bytes c.loop-left.left b c.loop-left.start c.args.next c.loop-left.invariant.extends (omega arith)
+          (omega arith) byte_is is c.loop-left.invariant.chain);
       count = omega arith;
       within = omega arith;
       inside = omega arith;
@@ -52,4 +54,5 @@ returns-clause-built c =
     let long = in_order-length c.args.reverse c.args.bytes.now in
     let some = c.requires.some in
     Built-text c.args.builder.now c.loop-left.builder bytes c.loop-left.start c.args.next (omega arith) c.loop-left.invariant.extends
-    (subst (λ n. IsChain (Stands (length c.args.builder.now.states) c.loop-left.builder.states) c.loop-left.start (drop n (in_order c.args.reverse c.args.bytes.now)) c.args.next) none c.loop-left.invariant.chain)
+    (subst (λ n. IsChain (Stands (length c.args.builder.now.states) c.loop-left.builder.states) c.loop-left.start
+    (drop n (in_order c.args.reverse c.args.bytes.now)) c.args.next) none c.loop-left.invariant.chain)

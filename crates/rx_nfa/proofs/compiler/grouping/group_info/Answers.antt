@@ -33,4 +33,5 @@ named-requires-clause-few c =
 
 pub returns : goal.returns
 returns c =
-    c.in_ok-info.ensures ∙ ap (λ gs. groups_of gs) c.deref.ensures.value ∙ c.loop-hir.invariant ∙ ap (map group_names) (take_all c.loop-hir.hir-index c.args.exprs.now (omega arith))
+    c.in_ok-info.ensures ∙ ap (λ gs. groups_of gs) c.deref.ensures.value ∙ c.loop-hir.invariant
+    ∙ ap (map group_names) (take_all c.loop-hir.hir-index c.args.exprs.now (omega arith))

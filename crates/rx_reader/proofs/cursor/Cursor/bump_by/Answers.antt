@@ -11,12 +11,14 @@ loop-preserved c =
     let one : c.args.count - c.loop.counter ≡ suc (c.args.count - (c.loop.counter + 1)) = omega arith in
     let shorter : unread c.bump.new.self ≤ unread c.loop.self = past_shorter (place c.loop.self) (place c.bump.new.self) c.bump.ensures.value in
     record {
-      same = c.loop.invariant.same ∙ past_more (c.args.count - c.loop.counter) (c.args.count - (c.loop.counter + 1)) (place c.loop.self) (place c.bump.new.self) one c.bump.ensures.value;
+      same = c.loop.invariant.same ∙ past_more (c.args.count - c.loop.counter) (c.args.count - (c.loop.counter + 1)) (place c.loop.self) (place c.bump.new.self)
+          one c.bump.ensures.value;
       moves = omega (arith, c.loop.invariant.moves, shorter);
       passed = λ some unfinished.
           by_zero c.loop.counter (λ first. let less = c.bump.ensures.progress (omega (arith, c.loop.invariant.begun first)) in omega (arith, c.loop.invariant.moves, less))
           (λ later. let less = c.loop.invariant.passed later unfinished in omega (arith, shorter, less));
-      room = λ some unfinished. by_zero c.loop.counter (λ first. c.bump.ensures.room (omega (arith, c.loop.invariant.begun first))) (λ later. c.bump.ensures.kept (c.loop.invariant.room later unfinished));
+      room = λ some unfinished. by_zero c.loop.counter (λ first. c.bump.ensures.room (omega (arith, c.loop.invariant.begun first)))
+          (λ later. c.bump.ensures.kept (c.loop.invariant.room later unfinished));
       begun = λ first. absurd (omega arith);
       kept = λ h. c.bump.ensures.kept (c.loop.invariant.kept h);
     }

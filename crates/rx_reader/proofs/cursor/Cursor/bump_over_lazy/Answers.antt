@@ -5,8 +5,8 @@ use Rattle.rx_reader.proofs.cursor.Cursor.bump_over_lazy.Goals as goal
 
 pub returns-then-lazy-clause-value : goal.returns-then-lazy-clause-value
 returns-then-lazy-clause-value c =
-    c.starts_with-lazy.ensures.value ∙ lazy_at (place c.args.self.now) c.args.flags c.rest-rest.result.now c.skipped_len-count.result c.rest-rest.ensures c.skipped_len-count.ensures.value
+    c.eq-lazy.ensures ∙ lazy_at (place c.args.self.now) c.args.flags _ _ c.skipped_gap-gap.ensures.len c.skipped_gap-gap.ensures.next
 
 pub returns-else-lazy-clause-value : goal.returns-else-lazy-clause-value
 returns-else-lazy-clause-value c =
-    c.starts_with-lazy.ensures.value ∙ lazy_at (place c.args.self.now) c.args.flags c.rest-rest.result.now c.skipped_len-count.result c.rest-rest.ensures c.skipped_len-count.ensures.value
+    c.eq-lazy.ensures ∙ lazy_at (place c.args.self.now) c.args.flags _ _ c.skipped_gap-gap.ensures.len c.skipped_gap-gap.ensures.next

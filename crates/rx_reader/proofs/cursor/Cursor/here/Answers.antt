@@ -1,16 +1,13 @@
-use Rattle.std.proofs.Common.{arith, ◌<◌, length, drop, ◌≡◌, ap, ◌∙◌}
-use Rattle.std.proofs.lemmas.Grind.{common_steps}
-use Rattle.std.specs.Prelude.{slice_index}
-use Rattle.std.specs.Char.{len_utf8}
-use Rattle.rx_reader.specs.Input.{text_from}
-use Rattle.rx_reader.proofs.lemmas.places.PlaceLemmas.{encodes_at}
+use Rattle.std.proofs.Common.{arith, refl, ap, sym}
+use Rattle.rx_reader.specs.Input.{place}
+use Rattle.rx_reader.specs.Reading.{Place}
+use Rattle.rx_reader.proofs.lemmas.places.PlaceLemmas.{past_first}
 use Rattle.rx_reader.proofs.cursor.Cursor.here.Goals as goal
 
 pub overflow_add-result : goal.overflow_add-result
-unfolding text_from
-overflow_add-result c =
-    let s = c.args.self.now in
-    let more : s.pos < length s.chars.items = grind (arith, common_steps) in
-    let size = encodes_at s.chars.items s.pos more in
-    let w : c.len_utf8.result ≡ len_utf8 (slice_index (drop s.pos s.chars.items) 0) = c.len_utf8.ensures.value ∙ ap len_utf8 c.in-Some.ensures.1 in
-    omega (arith, s.narrow)
+overflow_add-result c = omega (arith, c.args.self.now.narrow, c.in-Some.ensures.size, c.len_utf8.ensures.value)
+
+pub returns-in-Some : goal.returns-in-Some
+returns-in-Some c =
+    let there = past_first (place c.args.self.now) _ c.in-Some.c c.len_utf8.result c.in-Some.ensures.parts c.len_utf8.ensures.value in
+    (refl, sym (ap (λ (q : Place). q.at) there))

@@ -1,13 +1,14 @@
-use Rattle.std.proofs.Common.{rules, ◌∙◌, ap, List, ℕ}
-use Rattle.std.proofs.lemmas.Str.{chars_from_encodes}
+use Rattle.std.proofs.Common.{ap, List, ℕ, arith}
+use Rattle.std.specs.Prelude.{chars}
 use Rattle.rx_reader.specs.Reading.{Place}
-use Rattle.rx_reader.specs.Input.{text_from, start_of}
 use Rattle.rx_reader.proofs.cursor.Cursor.new.Goals as goal
 
 with_names : List ℕ → List (List ℕ) → Place
 with_names text names = record { text = text; at = 0; groups = 0; names = names }
 
+pub invariant_of-result : goal.invariant_of-result
+invariant_of-result c = record { narrow = omega arith; few = omega arith; utf8 = ∣ c.utf8.pattern ∣₁ }
+
 pub returns : goal.returns
-unfolding text_from with_names
-returns c =
-    ap (with_names c.in_ok-chars.chars.items) c.new.ensures ∙ ap start_of (search (rules, chars_from_encodes))
+unfolding with_names
+returns c = ap (with_names (chars c.args.pattern.now)) c.new.ensures

@@ -56,5 +56,8 @@ returns-clause-value c p start more at =
     let same : c.in_ok-group.group ≡ group f.kind (gathered_whole g) = c.in_ok-group.ensures ∙ ap (group f.kind) body in
     let mid = goes ∙ ap (λ (x : Syntax). resume s.config fs f.gathered (item_then s.config (all_branches s.config f.flags (length fs)) f.flags x (past p))) (sym same)
     ∙ ap (λ (q : Place). resume s.config fs f.gathered (item_then s.config (all_branches s.config f.flags (length fs)) f.flags c.in_ok-group.group q)) (sym at)
-    ∙ ap (λ (l : Level). resume s.config fs (gathered l) (item_then s.config (all_branches s.config f.flags (length fs)) f.flags c.in_ok-group.group (place s.cursor))) (sym c.replace-inside.ensures.after) in
-    subst (λ (x : Result Syntax SyntaxError). MatchResult c.take_item.result (λ _. answer c.take_item.new.self ≡ x) (λ e. Refuses e x)) (sym mid) c.take_item.ensures.value
+    ∙ ap
+    (λ (l : Level). resume s.config fs (gathered l) (item_then s.config (all_branches s.config f.flags (length fs)) f.flags c.in_ok-group.group
+    (place s.cursor))) (sym c.replace-inside.ensures.after) in
+    subst (λ (x : Result Syntax SyntaxError). MatchResult c.take_item.result (λ _. answer c.take_item.new.self ≡ x) (λ e. Refuses e x)) (sym mid)
+    c.take_item.ensures.value

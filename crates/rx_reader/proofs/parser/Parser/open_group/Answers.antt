@@ -23,7 +23,8 @@ returns-then-len-get_nest_limit-clause-value c p piece =
     let same = innermost-length s.frames.items in
     let many : nat_lt (limit_of s.config) (length fs + 1) ≡ true = grind (arith, nat_tests) in
     rw c.refuse_from.ensures (
-    ap (λ (b : Bool). resume s.config fs (gathered s.level) (group_then s.config (all_branches s.config) s.flags (length fs) p c.args.kind c.args.flags q b)) many
+    ap (λ (b : Bool). resume s.config fs (gathered s.level) (group_then s.config (all_branches s.config) s.flags (length fs) p c.args.kind c.args.flags q b))
+    many
     ∙ resume-too_many s.config fs (gathered s.level) s.flags (length fs) p c.args.kind c.args.flags q
     ∙ refuse_at NestLimit p q c.args.opening.start q.at piece.0 refl)
 
@@ -33,5 +34,7 @@ returns-clause-value c p piece =
     let fs = innermost s.frames.items in
     let same = innermost-length s.frames.items in
     let few : nat_lt (limit_of s.config) (length fs + 1) ≡ false = grind (arith, nat_tests) in
-    resume-pushed s.config fs (innermost c.push.new.self.items) _ (gathered s.level) (gathered c.replace-level.new.dest) s.flags p c.args.kind c.args.flags (place s.cursor)
-    (stack_of c.push.new.self.items s.frames.items _ c.in_ok-push.ensures.items) (ap gathered c.replace-level.ensures.after ∙ c.new.ensures) (around_same _ (gathered s.level) _ _ _ _ _ _ (ap gathered c.replace-level.ensures.value) piece.0 piece.1) few
+    resume-pushed s.config fs (innermost c.push.new.self.items) _ (gathered s.level) (gathered c.replace-level.new.dest) s.flags p c.args.kind c.args.flags
+    (place s.cursor)
+    (stack_of c.push.new.self.items s.frames.items _ c.in_ok-push.ensures.items) (ap gathered c.replace-level.ensures.after ∙ c.new.ensures)
+    (around_same _ (gathered s.level) _ _ _ _ _ _ (ap gathered c.replace-level.ensures.value) piece.0 piece.1) few

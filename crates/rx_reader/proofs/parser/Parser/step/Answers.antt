@@ -14,4 +14,5 @@ returns-clause-value c =
     let p = place s.cursor in
     let same = ap (resume s.config (innermost s.frames.items) (gathered s.level)) (all_branches-step s.config s.flags (opened_in s) p
     ∙ ap (token_then s.config (all_branches s.config) s.flags (opened_in s)) (sym c.skip.ensures.value)) in
-    subst (λ (x : Result Syntax SyntaxError). MatchResult c.take_token.result (λ _. answer c.take_token.new.self ≡ x) (λ e. Refuses e x)) (sym same) c.take_token.ensures.value
+    subst (λ (x : Result Syntax SyntaxError). MatchResult c.take_token.result (λ _. answer c.take_token.new.self ≡ x) (λ e. Refuses e x)) (sym same)
+    c.take_token.ensures.value

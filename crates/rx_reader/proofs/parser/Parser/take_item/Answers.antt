@@ -13,7 +13,8 @@ returns-in_err-item-clause-value c =
     let p = place s.cursor in
     let e = err_from_is_err_and c.from_residual.result c.from_residual.ensures.1 in
     rw (e.1, e.2) (refuses_from _ _ (λ x is.
-    resume-item_err s.config (innermost s.frames.items) (gathered s.level) (reads_on s s.flags) s.flags c.args.item p x (refuses _ (all_repetitions s.config s.flags c.args.item p) c.in_err-item.ensures.value x is)))
+    resume-item_err s.config (innermost s.frames.items) (gathered s.level) (reads_on s s.flags) s.flags c.args.item p x
+    (refuses _ (all_repetitions s.config s.flags c.args.item p) c.in_err-item.ensures.value x is)))
 
 pub returns-clause-value : goal.returns-clause-value
 returns-clause-value c =

@@ -21,7 +21,8 @@ returns-in_err-read_token-clause-value c =
     let p = place s.cursor in
     let e = err_from_is_err_and c.from_residual.result c.from_residual.ensures.1 in
     rw (e.1, e.2) (refuses_from _ _ (λ x is.
-    resume-token_err s.config (innermost s.frames.items) (gathered s.level) s.flags (opened_in s) p x (refuses _ (token s.config s.flags p) c.in_err-read_token.ensures.value x is)))
+    resume-token_err s.config (innermost s.frames.items) (gathered s.level) s.flags (opened_in s) p x
+    (refuses _ (token s.config s.flags p) c.in_err-read_token.ensures.value x is)))
 
 pub returns-in-End-clause-value : goal.returns-in-End-clause-value
 returns-in-End-clause-value c =

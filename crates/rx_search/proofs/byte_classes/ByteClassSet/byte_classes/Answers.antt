@@ -25,7 +25,8 @@ loop-byte-preserved c =
     let inv = c.loop-byte.invariant in
     let f = λ (e : ℕ). get_or c.self.inside.ends e false in
     let here : c.next_class-next.result ≡ class_of (λ e. get_or c.self.inside.ends e false) (c.loop-byte.byte + 1) =
-    c.next_class-next.ensures ∙ ap (λ n. n + (if get_or c.self.inside.ends c.loop-byte.byte false then 1 else 0)) inv.class ∙ sym (class_of-next (λ e. get_or c.self.inside.ends e false) c.loop-byte.byte) in
+    c.next_class-next.ensures ∙ ap (λ n. n + (if get_or c.self.inside.ends c.loop-byte.byte false then 1 else 0)) inv.class
+    ∙ sym (class_of-next (λ e. get_or c.self.inside.ends e false) c.loop-byte.byte) in
     let len = inv.len in
     let small = one-more c.loop-byte.class (get_or c.self.inside.ends c.loop-byte.byte false) in
     let value = c.next_class-next.ensures in
@@ -38,7 +39,8 @@ loop-byte-preserved c =
           (λ ge.
           let e : c.loop-byte.byte + 1 ≡ k = omega arith in
           let lt : c.loop-byte.byte + 1 < length c.loop-byte.classes = omega arith in
-          subst (λ n. get_or (set c.loop-byte.classes (c.loop-byte.byte + 1) c.next_class-next.result) n 0 ≡ class_of (λ e. get_or c.self.inside.ends e false) n) e
+          subst (λ n. get_or (set c.loop-byte.classes (c.loop-byte.byte + 1) c.next_class-next.result) n 0 ≡ class_of (λ e. get_or c.self.inside.ends e false)
+          n) e
           (get_or-set_same c.loop-byte.classes (c.loop-byte.byte + 1) c.next_class-next.result 0 lt ∙ here))
           (cases_lt k (c.loop-byte.byte + 1));
       class = here;

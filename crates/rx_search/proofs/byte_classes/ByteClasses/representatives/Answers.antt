@@ -11,7 +11,8 @@ pub loop-byte-preserved : goal.loop-byte-preserved
 loop-byte-preserved c =
     let long : c.len.result ≡ length c.loop-byte.bytes.items = (let ok = c.loop-byte.bytes.ok.0 in let len = c.len.ensures in omega arith) in
     Met-next c.self.inside.classes c.self.invariant c.loop-byte.byte c.loop-byte.bytes.items c.push_if.new.bytes.items (omega arith)
-    (c.in_ok-push_if.ensures ∙ ap (λ n. if get_or c.self.inside.classes c.loop-byte.byte 0 == n then c.loop-byte.bytes.items ++ c.loop-byte.byte ∷ [] else c.loop-byte.bytes.items) long)
+    (c.in_ok-push_if.ensures ∙ ap (λ n. if get_or c.self.inside.classes c.loop-byte.byte 0 == n then c.loop-byte.bytes.items ++ c.loop-byte.byte ∷ [] else
+    c.loop-byte.bytes.items) long)
     c.loop-byte.invariant
 
 pub returns : goal.returns

@@ -8,7 +8,8 @@ pub returns : goal.returns
 returns c =
     let tables = arc_value c.self.inside.tables in
     let all : group_count c.args.self.now ≡ length tables.patterns.items + length tables.names.items =
-    subst (λ info. group_count info ≡ length tables.patterns.items + length tables.names.items) c.self.view_is (group_count-tables tables.names.items tables.patterns.items c.self.invariant) in
+    subst (λ info. group_count info ≡ length tables.patterns.items + length tables.names.items) c.self.view_is
+    (group_count-tables tables.names.items tables.patterns.items c.self.invariant) in
     let patterns = ap (λ t. length t.patterns.items) c.deref.ensures in
     let names = ap (λ t. length t.names.items) c.deref-2.ensures in
     record { value = omega (arith, all, patterns, names); limit = omega (arith, c.self.invariant.1, patterns, names) }

@@ -14,6 +14,7 @@ returns-clause-gives g c = λ promised answers.
     let within : LiesIn c.args.self.now.input c.in-Some.found = rw c.in-Some.is at c.in_ok-found.ensures.within in
     let later : IfSome c.args.self.now.last_end (λ last. last < c.in-Some.found.end) = rw c.in-Some.is at c.in_ok-found.ensures.later in
     let input : c.set_start.new.self ≡ from_place c.in-Some.found.end c.args.self.now.input =
-    c.set_start.ensures ∙ ap (λ n. from_place n c.self.inside.input) c.end.ensures.value ∙ ap (λ (s : SearcherValue). from_place c.in-Some.found.end s.input) c.self.view_is in
+    c.set_start.ensures ∙ ap (λ n. from_place n c.self.inside.input) c.end.ensures.value
+    ∙ ap (λ (s : SearcherValue). from_place c.in-Some.found.end s.input) c.self.view_is in
     gives-some _ _ answers c.in-Some.is (c.in_ok-found.ensures.answer promised) (λ j. record { input = input j; last_end = Some (c.end-2.ensures.value j) })
     (places-fall c.args.self.now c.in-Some.found later within.0 c.end.ensures.in_order within.1)

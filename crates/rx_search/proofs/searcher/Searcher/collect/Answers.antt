@@ -1,6 +1,7 @@
 use Rattle.std.proofs.Common.{refl, inl}
 use Rattle.std.proofs.lemmas.Result.{err_from_is_err_and}
-use Rattle.rx_search.proofs.SearcherLemmas.{Progress-begun, Progress-more, Progress-over, AnswersAlike-begun, AnswersAlike-more, IsLeft-begun, IsLeft-more, HasCause-left}
+use Rattle.rx_search.specs.Searcher.{AtEachPlace}
+use Rattle.rx_search.proofs.SearcherLemmas.{Progress-begun, Progress-more, Progress-contains, Progress-over, AnswersAlike-begun, AnswersAlike-more, IsReached-more, HasCause-later}
 use Rattle.rx_search.proofs.searcher.Searcher.collect.Goals as goal
 
 pub loop-all-init : goal.loop-all-init
@@ -9,7 +10,7 @@ loop-all-init g c = record {
   can = c.requires;
   promised = λ promised. promised;
   alike = AnswersAlike-begun _;
-  left = IsLeft-begun _;
+  reached = inl refl;
 }
 
 pub advance-requires : goal.advance-requires
@@ -30,7 +31,11 @@ loop-all-preserved g c =
       alike =
           AnswersAlike-more i.alike c.in_ok-found.ensures.same_answers c.in_ok-found.ensures.still_can c.in_ok-found.ensures.still_promises
           c.in_ok-found.ensures.same_failures c.in_ok-found.ensures.stays;
-      left = IsLeft-more _ _ i.left c.in-Some.is c.in_ok-found.ensures.moved c.in_ok-found.ensures.forward;
+      reached =
+          IsReached-more (g.F.Finder.searches c.args.finder.now) (AtEachPlace (g.F.Finder.promises c.args.finder.now) c.args.self.input) _ _ _ i.reached c.in-Some.is c.in_ok-found.ensures.moved c.in_ok-found.ensures.forward c.in_ok-found.ensures.within
+          (λ promised.
+          Progress-contains (i.progress promised) _ c.in-Some.is (c.in_ok-found.ensures.answer (i.promised promised)) c.in_ok-found.ensures.moved
+          c.in_ok-found.ensures.fewer_left _ (λ x next value. value));
     }
 
 pub returns-clause-value : goal.returns-clause-value
@@ -42,4 +47,6 @@ pub returns-in_err-found-clause-cause : goal.returns-in_err-found-clause-cause
 returns-in_err-found-clause-cause g c =
     let i = c.loop-all.invariant in
     let p = err_from_is_err_and c.from_residual.result c.from_residual.ensures.1 in
-    rw (p.1, p.2) (inl (HasCause-left (g.F.Finder.fails c.args.finder.now) (g.F.Finder.fails c.loop-all.finder) i.alike.same_failures _ _ _ i.left c.in_err-found.ensures.cause))
+    rw (p.1, p.2)
+    (inl (HasCause-later (g.F.Finder.fails c.args.finder.now) (g.F.Finder.fails c.loop-all.finder) (g.F.Finder.searches c.args.finder.now)
+    (g.F.Finder.searches c.loop-all.finder) _ _ i.alike.same_failures i.alike.same_answers i.promised _ _ _ i.reached c.in_err-found.ensures.cause))

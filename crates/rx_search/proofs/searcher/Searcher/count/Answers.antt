@@ -1,11 +1,11 @@
-use Rattle.std.proofs.Common.{ℕ, ◌+◌, ◌<◌, ◌≤◌, [], ◌∷◌, ◌++◌, length, refl, sym, ◌∙◌, ap, arith, length-append}
+use Rattle.std.proofs.Common.{ℕ, ◌+◌, ◌<◌, ◌≤◌, [], ◌∷◌, ◌++◌, length, refl, sym, ◌∙◌, ap, inl, arith, length-append}
 use Rattle.std.specs.Prelude.{Option, Some, None}
 use Rattle.std.proofs.lemmas.List.{length-map}
 use Rattle.std.proofs.lemmas.Result.{err_from_is_err_and}
 use Rattle.rx_search.specs.Input.{InputValue}
-use Rattle.rx_search.specs.Searcher.{places_left, places_after, to_come}
-use Rattle.rx_search.proofs.SearcherLemmas.{Progress-begun, Progress-more, Progress-over, AnswersAlike-begun, AnswersAlike-more, IsLeft-begun, IsLeft-more, HasCause-left}
-use Rattle.rx_search.proofs.searcher.Searcher.count.Invariants.{one}
+use Rattle.rx_search.specs.Matches.{match_value}
+use Rattle.rx_search.specs.Searcher.{places_left, places_after, to_come, AtEachPlace}
+use Rattle.rx_search.proofs.SearcherLemmas.{Progress-begun, Progress-more, Progress-contains, Progress-over, AnswersAlike-begun, AnswersAlike-more, IsReached-more, HasCause-later}
 use Rattle.rx_search.proofs.searcher.Searcher.count.Goals as goal
 
 pub loop-count-init : goal.loop-count-init
@@ -14,7 +14,7 @@ loop-count-init g c = record {
   can = c.requires;
   promised = λ promised. promised;
   alike = AnswersAlike-begun _;
-  left = IsLeft-begun _;
+  reached = inl refl;
   room = omega arith;
 }
 
@@ -48,18 +48,22 @@ loop-count-preserved g c =
       counted = λ promised.
           let before = i.counted promised in
           record {
-            so_far = before.so_far ++ tt ∷ [];
+            so_far = before.so_far ++ c.in-Some.field-0 ∷ [];
             progress =
                 Progress-more before.progress c.in-Some.is (c.in_ok-advance.ensures.answer (i.promised promised)) c.in_ok-advance.ensures.moved
-                c.in_ok-advance.ensures.fewer_left c.in_ok-advance.ensures.same_answers (λ x next value. refl) refl;
-            counted = length-append before.so_far (tt ∷ []) ∙ ap (λ n. n + 1) before.counted;
+                c.in_ok-advance.ensures.fewer_left c.in_ok-advance.ensures.same_answers (λ x next value. value) refl;
+            counted = length-append before.so_far (c.in-Some.field-0 ∷ []) ∙ ap (λ n. n + 1) before.counted;
           };
       can = c.in_ok-advance.ensures.can_go_on;
       promised = λ promised. c.in_ok-advance.ensures.goes_on (i.promised promised);
       alike =
           AnswersAlike-more i.alike c.in_ok-advance.ensures.same_answers c.in_ok-advance.ensures.still_can c.in_ok-advance.ensures.still_promises
           c.in_ok-advance.ensures.same_failures c.in_ok-advance.ensures.stays;
-      left = IsLeft-more _ _ i.left c.in-Some.is c.in_ok-advance.ensures.moved c.in_ok-advance.ensures.forward;
+      reached =
+          IsReached-more (g.F.Finder.searches c.args.finder.now) (AtEachPlace (g.F.Finder.promises c.args.finder.now) c.args.self.input) _ _ _ i.reached c.in-Some.is c.in_ok-advance.ensures.moved c.in_ok-advance.ensures.forward c.in_ok-advance.ensures.within
+          (λ promised.
+          Progress-contains (i.counted promised).progress _ c.in-Some.is (c.in_ok-advance.ensures.answer (i.promised promised)) c.in_ok-advance.ensures.moved
+          c.in_ok-advance.ensures.fewer_left _ (λ x next value. value));
       room = omega arith;
     }
 
@@ -70,16 +74,18 @@ returns-clause-value g c = λ promised.
     let counted = i.counted promised in
     sym counted.counted
     ∙ ap length (Progress-over counted.progress c.in_default.is (c.in_ok-advance.ensures.answer (i.promised promised)))
-    ∙ length-map all one
+    ∙ length-map all match_value
 
 pub returns-in_err-advance-clause-cause : goal.returns-in_err-advance-clause-cause
 returns-in_err-advance-clause-cause g c =
     let i = c.loop-count.invariant in
     let p = err_from_is_err_and c.from_residual.result c.from_residual.ensures.1 in
-    rw (p.1, p.2) (HasCause-left (g.F.Finder.fails c.args.finder.now) (g.F.Finder.fails c.loop-count.finder) i.alike.same_failures _ _ _ i.left c.in_err-advance.ensures.cause)
+    rw (p.1, p.2) (HasCause-later (g.F.Finder.fails c.args.finder.now) (g.F.Finder.fails c.loop-count.finder) (g.F.Finder.searches c.args.finder.now)
+    (g.F.Finder.searches c.loop-count.finder) _ _ i.alike.same_failures i.alike.same_answers i.promised _ _ _ i.reached c.in_err-advance.ensures.cause)
 
 pub returns-in_err-advance-clause-still_promises : goal.returns-in_err-advance-clause-still_promises
-returns-in_err-advance-clause-still_promises g c = λ v promised. c.in_err-advance.ensures.still_promises v (c.loop-count.invariant.alike.still_promises v promised)
+returns-in_err-advance-clause-still_promises g c = λ v promised. c.in_err-advance.ensures.still_promises v
+    (c.loop-count.invariant.alike.still_promises v promised)
 
 pub returns-in_err-advance-clause-same_failures : goal.returns-in_err-advance-clause-same_failures
 returns-in_err-advance-clause-same_failures g c = λ v e cause. c.loop-count.invariant.alike.same_failures v e (c.in_err-advance.ensures.same_failures v e cause)

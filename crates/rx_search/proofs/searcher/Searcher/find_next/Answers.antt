@@ -1,8 +1,7 @@
-use Rattle.std.proofs.Common.{◌≡◌, ◌+◌, sym, ◌∙◌, ap, subst}
+use Rattle.std.proofs.Common.{◌≡◌, ◌+◌, sym, ◌∙◌, ap, subst, inl}
 use Rattle.std.proofs.lemmas.Result.{err_from_is_err_and}
 use Rattle.rx_search.specs.Input.{InputValue, from_place}
-use Rattle.rx_search.specs.Searcher.{SearcherValue, HasCause}
-use Rattle.rx_search.proofs.SearcherLemmas.{HasCause-here}
+use Rattle.rx_search.specs.Searcher.{SearcherValue}
 use Rattle.rx_search.proofs.searcher.Searcher.find_next.Goals as goal
 
 pub find-requires : goal.find-requires
@@ -14,9 +13,8 @@ pub returns-in_err-found-clause-cause : goal.returns-in_err-found-clause-cause
 returns-in_err-found-clause-cause g c =
     let fails = g.F.Finder.fails c.args.finder.now in
     let p = err_from_is_err_and c.from_residual.result c.from_residual.ensures.1 in
-    let C : SearcherValue → Type 0 = λ s. HasCause fails s.input c.in_err-found.field-0.0 in
-    let here : HasCause fails c.self.inside.input c.in_err-found.field-0.0 = HasCause-here fails _ _ c.get_span-span.ensures.spanned.start c.in_err-found.ensures.err in
-    rw (p.1, p.2) (subst C c.self.view_is here)
+    let C : SearcherValue → Type 0 = λ s. fails s.input c.in_err-found.field-0.0 in
+    rw (p.1, p.2) (inl (subst C c.self.view_is c.in_err-found.ensures.err))
 
 pub find-requires-2 : goal.find-requires-2
 find-requires-2 g c =

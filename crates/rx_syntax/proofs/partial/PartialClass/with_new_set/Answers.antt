@@ -4,7 +4,7 @@ use Rattle.rx_class.specs.Ranges.{next_scalar, fewest, HaveScalarEnds}
 use Rattle.rx_class.proofs.EarlyLemmas.{both-ends, fewest-front}
 use Rattle.rx_syntax.specs.Named.{scalars_of}
 use Rattle.rx_syntax.specs.Partial.{IsHeld}
-use Rattle.rx_syntax.proofs.HeldLemmas.{set-held}
+use Rattle.rx_syntax.proofs.lemmas.sets.HeldLemmas.{set-held}
 use Rattle.rx_syntax.proofs.partial.PartialClass.with_new_set.Goals as goal
 
 pub returns : goal.returns

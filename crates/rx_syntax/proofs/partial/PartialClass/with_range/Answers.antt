@@ -1,7 +1,7 @@
 use Rattle.std.proofs.Common.{[], ◌∷◌, ◌++◌, ◌∙◌, ap}
 use Rattle.rx_class.specs.Ranges.{next_scalar, fewest}
 use Rattle.rx_class.proofs.EarlyLemmas.{both-ends, fewest-front}
-use Rattle.rx_syntax.proofs.HeldLemmas.{sets-held}
+use Rattle.rx_syntax.proofs.lemmas.sets.HeldLemmas.{sets-held}
 use Rattle.rx_syntax.proofs.partial.PartialClass.with_range.Goals as goal
 
 pub returns : goal.returns

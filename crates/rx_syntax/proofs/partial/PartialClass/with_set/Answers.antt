@@ -1,7 +1,7 @@
 use Rattle.std.proofs.Common.{◌∙◌, sym}
 use Rattle.rx_class.proofs.EarlyLemmas.{both-ends}
 use Rattle.rx_syntax.specs.Named.{scalars_of}
-use Rattle.rx_syntax.proofs.HeldLemmas.{sets-held}
+use Rattle.rx_syntax.proofs.lemmas.sets.HeldLemmas.{sets-held}
 use Rattle.rx_syntax.proofs.partial.PartialClass.with_set.Goals as goal
 
 pub returns-then-has : goal.returns-then-has

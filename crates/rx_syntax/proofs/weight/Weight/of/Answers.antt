@@ -1,6 +1,6 @@
 use Rattle.std.proofs.Common.{◌∙◌, ap}
 use Rattle.rx_syntax.specs.Weight.{shape_of}
-use Rattle.rx_syntax.proofs.WeighLemmas.{atom-no_group}
+use Rattle.rx_syntax.proofs.lemmas.weights.WeighLemmas.{atom-no_group}
 use Rattle.rx_syntax.proofs.weight.Weight.of.Goals as goal
 
 pub returns : goal.returns

@@ -1,6 +1,6 @@
 use Rattle.std.proofs.Common.{◌≡◌, ◌^◌, ◌<◌}
-use Rattle.rx_syntax.proofs.PatternsLemmas.{translate_each}
-use Rattle.rx_syntax.proofs.WeighLemmas.{AllWeighed}
+use Rattle.rx_syntax.proofs.lemmas.patterns.PatternsLemmas.{translate_each}
+use Rattle.rx_syntax.proofs.lemmas.weights.WeighLemmas.{AllWeighed}
 use Rattle.rx_syntax.proofs.weight.list.weigh_all.Given as goal
 
 abbrev pub invariant-loop-ast : goal.invariant-loop-ast

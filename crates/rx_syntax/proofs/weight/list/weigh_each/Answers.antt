@@ -2,8 +2,8 @@ use Rattle.std.proofs.Common.{◌≡◌, ◌≤◌, ◌<◌, Bor, List, ℕ, ◌
 use Rattle.rx_syntax.specs.Patterns.{each_read, RefusesAll, error_at}
 use Rattle.rx_syntax.specs.Weight.{AreWeightsOf}
 use Rattle.rx_syntax.specs.declared.patterns.PatternsError.{PatternsError}
-use Rattle.rx_syntax.proofs.PatternsLemmas.{Gathers-fails, each_answer, each_answer-at, length-each_answer, expression_of}
-use Rattle.rx_syntax.proofs.WeighLemmas.{all-more, all-end}
+use Rattle.rx_syntax.proofs.lemmas.patterns.PatternsLemmas.{Gathers-fails, each_answer, each_answer-at, length-each_answer, expression_of}
+use Rattle.rx_syntax.proofs.lemmas.weights.WeighLemmas.{all-more, all-end}
 use Rattle.rx_syntax.proofs.weight.list.weigh_each.Goals as goal
 
 pub returns-in-Err-clause-value : goal.returns-in-Err-clause-value
@@ -30,7 +30,8 @@ loop-pattern-preserved c =
       counted = ap (λ n. n + 1) c.loop-pattern.invariant.counted;
       weighed =
           all-more rs k c.loop-pattern.sum.halves c.loop-pattern.sum.states c.with-sum.result.halves c.with-sum.result.states _ c.in-Ok.weight
-          c.loop-pattern.invariant.weighed lt (each_answer-at f ps k _ c.loop-pattern-test.true) c.in-Ok.ensures c.with-sum.ensures.halves c.with-sum.ensures.states;
+          c.loop-pattern.invariant.weighed lt (each_answer-at f ps k _ c.loop-pattern-test.true) c.in-Ok.ensures c.with-sum.ensures.halves
+          c.with-sum.ensures.states;
     }
 
 pub returns-clause-value : goal.returns-clause-value
@@ -44,4 +45,5 @@ returns-clause-value c =
     let le : length rs ≤ k = omega (arith, count, c.loop-pattern-test.false) in
     let ge : k ≤ length rs = omega (arith, count, c.loop-pattern.auto.pattern-index-end) in
     subst (λ (n : ℕ). AreWeightsOf (each_read c.args.config.now (map (λ (p : Bor (List ℕ)). p.now) ps)) n c.weights.result) count
-    (all-end rs k c.loop-pattern.sum.halves c.loop-pattern.sum.states c.weights.result c.loop-pattern.invariant.weighed le ge c.weights.ensures.slots c.weights.ensures.states)
+    (all-end rs k c.loop-pattern.sum.halves c.loop-pattern.sum.states c.weights.result c.loop-pattern.invariant.weighed le ge c.weights.ensures.slots
+    c.weights.ensures.states)

@@ -1,6 +1,6 @@
 use Rattle.std.proofs.Common.{◌≡◌}
-use Rattle.rx_syntax.proofs.PatternsLemmas.{each_answer, expression_of}
-use Rattle.rx_syntax.proofs.WeighLemmas.{AllWeighed}
+use Rattle.rx_syntax.proofs.lemmas.patterns.PatternsLemmas.{each_answer, expression_of}
+use Rattle.rx_syntax.proofs.lemmas.weights.WeighLemmas.{AllWeighed}
 use Rattle.rx_syntax.proofs.weight.list.weigh_each.Given as goal
 
 abbrev pub invariant-loop-pattern : goal.invariant-loop-pattern

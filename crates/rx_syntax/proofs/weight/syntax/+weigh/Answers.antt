@@ -6,13 +6,13 @@ use Rattle.rx_reader.specs.Coded.{syntax_size, greatest_size}
 use Rattle.rx_reader.specs.AstViews.{expanded, kind_view, IsWellFormed}
 use Rattle.rx_reader.specs.declared.error.SyntaxError.{SyntaxError}
 use Rattle.rx_hir.specs.Normal.{parts_of}
-use Rattle.rx_syntax.specs.ItemViews.{item_size, run_parts}
+use Rattle.rx_syntax.specs.ItemViews.{item_size, run_parts, row_of}
 use Rattle.rx_syntax.specs.Row.{IsRow}
 use Rattle.rx_syntax.specs.Translation.{translated}
 use Rattle.rx_syntax.specs.Weight.{IsWeightOf, Weighs}
 use Rattle.rx_syntax.specs.declared.weight.Weight.{Weight}
-use Rattle.rx_syntax.proofs.SizeLemmas.{size-branch, size-item}
-use Rattle.rx_syntax.proofs.WeighLemmas.{ItemsWeighed, BranchesWeighed, weighs-copies, weighs-group, repetition-is, group-is, row-is, choice-is, items-run, items-one, items-end, branches-more}
+use Rattle.rx_syntax.proofs.lemmas.translation.SizeLemmas.{size-branch, size-item}
+use Rattle.rx_syntax.proofs.lemmas.weights.WeighLemmas.{ItemsWeighed, BranchesWeighed, weighs-copies, weighs-group, repetition-is, group-is, row-is, choice-is, branch-is, only-weighs, items-run, items-one, items-end, branches-more}
 use Rattle.rx_syntax.proofs.weight.syntax.+weigh.Goals as goal
 use Rattle.rx_syntax.proofs.weight.syntax.+weigh.Goals.{weigh_items-in-Literals+in_ok-row-in-Literals, weigh_items-in-One+in_ok-weigh-in-One}
 
@@ -39,18 +39,31 @@ weigh-returns-in_ok-body-in-Group t c =
 
 pub weigh-returns-in-Concat : goal.weigh-returns-in-Concat
 weigh-returns-in-Concat t c =
-    let same = row-is c.args.config.now c.in-Concat.items.items c.deref-in-Concat.result.now c.args.ast.now c.deref-in-Concat.ensures.value (sym (ap kind_view c.in-Concat.is) ∙ c.kind.ensures.value) in
+    let same =
+    row-is c.args.config.now c.in-Concat.items.items c.deref-in-Concat.result.now c.args.ast.now c.deref-in-Concat.ensures.value
+    (sym (ap kind_view c.in-Concat.is) ∙ c.kind.ensures.value) in
     subst (λ (r : Result Expression SyntaxError). Weighs c.weigh_items.result r) same c.weigh_items.ensures
 
 pub weigh-returns-in-Alternation : goal.weigh-returns-in-Alternation
 weigh-returns-in-Alternation t c =
-    let same = choice-is c.args.config.now c.in-Alternation.branches.items c.deref-in-Alternation.result.now c.args.ast.now c.deref-in-Alternation.ensures.value (sym (ap kind_view c.in-Alternation.is) ∙ c.kind.ensures.value) in
+    let same =
+    choice-is c.args.config.now c.in-Alternation.branches.items c.deref-in-Alternation.result.now c.args.ast.now c.deref-in-Alternation.ensures.value
+    (sym (ap kind_view c.in-Alternation.is) ∙ c.kind.ensures.value) in
     subst (λ (r : Result Expression SyntaxError). Weighs c.weigh_branches.result r) same c.weigh_branches.ensures
+
+pub weigh-returns-in-Branch : goal.weigh-returns-in-Branch
+weigh-returns-in-Branch t c =
+    let config = c.args.config.now in
+    let shown = c.deref-in-Branch.result.now in
+    let same =
+    branch-is config c.in-Branch.items.items shown c.args.ast.now c.deref-in-Branch.ensures.value (sym (ap kind_view c.in-Branch.is) ∙ c.kind.ensures.value) in
+    only-weighs c.weigh_items-in-Branch.result (row_of config shown) (translated config c.args.ast.now) same c.weigh_items-in-Branch.ensures
 
 pub weigh_branches-weigh-requires : goal.weigh_branches-weigh-requires
 weigh_branches-weigh-requires t c =
     let smaller = size-branch c.args.branches.now c.loop-branch.branch-index c.branch-item.result c.loop-branch-test.true in
-    let same : syntax_size c.branch-item.result ≡ syntax_size (get_or c.args.branches.now c.loop-branch.branch-index c.branch-item.result) = ap syntax_size c.branch-item.is in
+    let same : syntax_size c.branch-item.result ≡ syntax_size (get_or c.args.branches.now c.loop-branch.branch-index c.branch-item.result) =
+    ap syntax_size c.branch-item.is in
     let start : 2 * greatest_size (syntaxes c.args.branches.now) ≡ t = c.decreases in
     (omega arith, tt)
 
@@ -60,7 +73,8 @@ weigh_branches-loop-branch-preserved t c =
     let branches = c.args.branches.now in
     let k = c.loop-branch.branch-index in
     subst (λ (w : Weight). BranchesWeighed config branches (k + 1) (Some w)) (sym c.either_of.ensures)
-    (branches-more config branches k c.branch-item.result c.loop-branch.whole c.in_ok-weigh.field-0 c.loop-branch.invariant c.loop-branch-test.true c.branch-item.is c.in_ok-weigh.ensures)
+    (branches-more config branches k c.branch-item.result c.loop-branch.whole c.in_ok-weigh.field-0 c.loop-branch.invariant c.loop-branch-test.true
+    c.branch-item.is c.in_ok-weigh.ensures)
 
 pub weigh_items-weigh-requires : goal.weigh_items-weigh-requires
 weigh_items-weigh-requires t c =
@@ -83,7 +97,8 @@ weigh_items-loop-item-preserved t c =
           let row = w.in_ok-row-in-Literals.row in
           subst (λ (x : Weight). ItemsWeighed config items (k + 1) x) (sym w.row-is)
           (items-run config items k item c.loop-item.row row flags w.in-Literals.run' c.loop-item.invariant lt c.item-item.is w.in-Literals.is
-          (λ ps so. subst (λ (xs : List ℕ). IsRow (ps ++ flat_map parts_of (run_parts flags xs)) row) w.deref.ensures.value (w.in_ok-row-in-Literals.ensures ps so)))
+          (λ ps so. subst (λ (xs : List ℕ). IsRow (ps ++ flat_map parts_of (run_parts flags xs)) row) w.deref.ensures.value
+          (w.in_ok-row-in-Literals.ensures ps so)))
       | weigh_items-in-One+in_ok-weigh-in-One w ↦
           let own = w.in_ok-weigh-in-One.field-0 in
           subst (λ (x : Weight). ItemsWeighed config items (k + 1) x) (sym (w.row-is ∙ w.followed-row.ensures))

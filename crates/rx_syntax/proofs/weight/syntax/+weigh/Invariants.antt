@@ -2,7 +2,7 @@ use Rattle.std.proofs.Common.{◌+◌, ◌*◌}
 use Rattle.rx_reader.specs.Syntax.{syntaxes}
 use Rattle.rx_reader.specs.Coded.{syntax_size, greatest_size}
 use Rattle.rx_reader.specs.AstViews.{expanded}
-use Rattle.rx_syntax.proofs.WeighLemmas.{ItemsWeighed, BranchesWeighed}
+use Rattle.rx_syntax.proofs.lemmas.weights.WeighLemmas.{ItemsWeighed, BranchesWeighed}
 use Rattle.rx_syntax.proofs.weight.syntax.+weigh.Given as goal
 
 abbrev pub decreases-weigh : goal.decreases-weigh

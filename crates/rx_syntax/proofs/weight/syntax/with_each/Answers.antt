@@ -5,7 +5,7 @@ use Rattle.rx_syntax.specs.Literals.{in_either_case}
 use Rattle.rx_syntax.specs.Row.{IsRow}
 use Rattle.rx_syntax.specs.Weight.{weight_of}
 use Rattle.rx_syntax.specs.declared.weight.Weight.{Weight}
-use Rattle.rx_syntax.proofs.WeighLemmas.{folded-atom, atom-normal, run-more}
+use Rattle.rx_syntax.proofs.lemmas.weights.WeighLemmas.{folded-atom, atom-normal, run-more}
 use Rattle.rx_syntax.proofs.weight.syntax.with_each.Goals as goal
 
 pub loop-c-preserved : goal.loop-c-preserved

@@ -6,7 +6,7 @@ use Rattle.rx_syntax.specs.ItemViews.{run_parts}
 use Rattle.rx_syntax.specs.Row.{IsRow}
 use Rattle.rx_syntax.specs.Weight.{IsNormal}
 use Rattle.rx_syntax.specs.declared.weight.Weight.{Weight}
-use Rattle.rx_syntax.proofs.WeighLemmas.{literal-atom, atom-normal, row-more, run-plain}
+use Rattle.rx_syntax.proofs.lemmas.weights.WeighLemmas.{literal-atom, atom-normal, row-more, run-plain}
 use Rattle.rx_syntax.proofs.weight.syntax.with_run.Goals as goal
 
 pub returns : goal.returns

@@ -7,4 +7,5 @@ use Rattle.rx_thompson.proofs.compiler.Compiler.build_many_from_hir.Goals as goa
 pub returns-in-Err-clause-refused : goal.returns-in-Err-clause-refused
 returns-in-Err-clause-refused c =
     let config = c.args.self.now.nfa.config in
-    subst (λ (e : BuildError). IsRefused config c.args.exprs.now e) (sym c.from.ensures) (refused-error config c.args.exprs.now c.in-Err.error c.in-Err.ensures.refused)
+    subst (λ (e : BuildError). IsRefused config c.args.exprs.now e) (sym c.from.ensures)
+    (refused-error config c.args.exprs.now c.in-Err.error c.in-Err.ensures.refused)

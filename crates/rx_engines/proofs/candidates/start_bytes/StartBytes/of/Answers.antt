@@ -1,4 +1,4 @@
-use Rattle.rx_engines.proofs.StartBytesLemmas.{marked-none}
+use Rattle.rx_engines.proofs.lemmas.candidates.StartBytesLemmas.{marked-none}
 use Rattle.rx_engines.proofs.candidates.start_bytes.StartBytes.of.Goals as goal
 
 pub returns-in-Some : goal.returns-in-Some

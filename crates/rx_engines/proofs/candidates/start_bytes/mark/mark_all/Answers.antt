@@ -4,7 +4,7 @@ use Rattle.std.proofs.lemmas.List.{get_or_default}
 use Rattle.rx_model.proofs.lemmas.runs.RunLemmas.{by_test}
 use Rattle.rx_nfa.specs.declared.state.Transition.{Transition}
 use Rattle.rx_engines.specs.StartBytes.{HasRange}
-use Rattle.rx_engines.proofs.StartBytesLemmas.{marks-same, marks-more}
+use Rattle.rx_engines.proofs.lemmas.candidates.StartBytesLemmas.{marks-same, marks-more}
 use Rattle.rx_engines.proofs.candidates.start_bytes.mark.mark_all.Goals as goal
 
 pub loop-k-init : goal.loop-k-init

@@ -2,7 +2,7 @@ use Rattle.std.proofs.Common.{◌≡◌, ◌<◌, true, false, length, get_or, a
 use Rattle.std.proofs.lemmas.Bool.Decides.{nat_tests}
 use Rattle.std.proofs.lemmas.List.{get_or-set_same}
 use Rattle.rx_model.proofs.lemmas.runs.RunLemmas.{by_test}
-use Rattle.rx_engines.proofs.StartBytesLemmas.{marks-same, marks-set}
+use Rattle.rx_engines.proofs.lemmas.candidates.StartBytesLemmas.{marks-same, marks-set}
 use Rattle.rx_engines.proofs.candidates.start_bytes.mark.mark_range.Goals as goal
 
 pub loop-byte-init : goal.loop-byte-init

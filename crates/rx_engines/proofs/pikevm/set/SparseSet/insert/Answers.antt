@@ -2,7 +2,7 @@ use Rattle.std.proofs.Common.{◌≡◌, ◌∙◌, ap, sym, arith, length, leng
 use Rattle.std.specs.Prelude.{false}
 use Rattle.rx_nfa.specs.Ordered.{has}
 use Rattle.rx_engines.specs.Threads.{StateSet}
-use Rattle.rx_engines.proofs.SetLemmas.{sparse-room, sparse-push}
+use Rattle.rx_engines.proofs.lemmas.threads.SetLemmas.{sparse-room, sparse-push}
 use Rattle.rx_engines.proofs.pikevm.set.SparseSet.insert.Goals as goal
 
 pub overflow_cast-place : goal.overflow_cast-place

@@ -1,6 +1,6 @@
 use Rattle.std.proofs.Common.{ap, arith}
 use Rattle.rx_engines.specs.Threads.{Rows}
-use Rattle.rx_engines.proofs.TableLemmas.{length-used}
+use Rattle.rx_engines.proofs.lemmas.threads.TableLemmas.{length-used}
 use Rattle.rx_engines.proofs.pikevm.table.Table.reset.Goals as goal
 
 pub returns-clause-items : goal.returns-clause-items

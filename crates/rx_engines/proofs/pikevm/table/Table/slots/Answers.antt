@@ -1,7 +1,7 @@
 use Rattle.std.proofs.Common.{◌≡◌, ◌+◌, ◌*◌, ◌-◌, length, ◌∙◌, ap, sym, arith, rules}
 use Rattle.std.proofs.lemmas.Nat.{row_fits}
 use Rattle.rx_engines.specs.Threads.{Rows, Row, row_at}
-use Rattle.rx_engines.proofs.TableLemmas.{length-used, used-row}
+use Rattle.rx_engines.proofs.lemmas.threads.TableLemmas.{length-used, used-row}
 use Rattle.rx_engines.proofs.pikevm.table.Table.slots.Goals as goal
 
 pub overflow_mul-from : goal.overflow_mul-from
@@ -39,5 +39,7 @@ returns-clause-value c =
     let here = c.as_usize.ensures.value in
     let wide : c.args.state * c.self.inside.width + c.self.inside.width - c.args.state * c.self.inside.width ≡ c.self.inside.width = omega arith in
     rw (here, wide, c.deref.ensures.value)
-    (sym (ap (λ (r : Row). r.1) (used-row c.self.inside.rows c.self.inside.width c.self.inside.starts.items c.self.inside.cells.items c.self.invariant.0 c.args.state (omega arith)))
+    (sym
+    (ap (λ (r : Row). r.1) (used-row c.self.inside.rows c.self.inside.width c.self.inside.starts.items c.self.inside.cells.items c.self.invariant.0
+    c.args.state (omega arith)))
     ∙ ap (λ (r : Rows). (row_at r.items c.args.state).1) c.self.view_is)

@@ -26,6 +26,7 @@ loop-i-preserved c =
     let lt : c.loop-i.i - 1 + 1 < length c.args.patterns.now = omega arith in
     let e : c.loop-i.i ≡ c.loop-i.i - 1 + 1 = omega arith in
     record {
-      later = λ hs each. union-more hs ps i c.index-patterns-i-in-loop-i.result c.or-union.result c.loop-i.union lt c.index-patterns-i-in-loop-i.is (rw (← e) c.loop-i.invariant.later) c.or-union.ensures each;
+      later = λ hs each. union-more hs ps i c.index-patterns-i-in-loop-i.result c.or-union.result c.loop-i.union lt c.index-patterns-i-in-loop-i.is
+          (rw (← e) c.loop-i.invariant.later) c.or-union.ensures each;
       within = omega arith;
     }

@@ -7,7 +7,8 @@ use Rattle.rx_prefilter.proofs.aho_corasick.automaton.Automaton.find.Goals as go
 pub loop-at-init : goal.loop-at-init
 loop-at-init c =
     let self = c.args.self.now in
-    reading-root (map vec_items self.needles.items) self.next.items self.depths.items c.args.text.now c.args.from c.requires.automaton c.args.from c.requires.within refl
+    reading-root (map vec_items self.needles.items) self.next.items self.depths.items c.args.text.now c.args.from c.requires.automaton c.args.from
+    c.requires.within refl
 
 pub loop-at-preserved-then-next : goal.loop-at-preserved-then-next
 loop-at-preserved-then-next c =
@@ -31,12 +32,14 @@ pub returns-in-Some : goal.returns-in-Some
 returns-in-Some c =
     let self = c.args.self.now in
     let low : c.loop-at.at < length c.args.text.now = omega (arith, c.loop-at-test.true) in
-    sym (reading-found (map vec_items self.needles.items) self.next.items self.depths.items c.args.text.now c.args.from c.loop-at.at c.loop-at.state c.in-Some.span c.loop-at.invariant
+    sym (reading-found (map vec_items self.needles.items) self.next.items self.depths.items c.args.text.now c.args.from c.loop-at.at c.loop-at.state
+    c.in-Some.span c.loop-at.invariant
     (omega (arith, low)) (sym c.look_back.ensures ∙ c.in-Some.is))
 
 pub loop-at-preserved : goal.loop-at-preserved
 loop-at-preserved c =
     let self = c.args.self.now in
     let low : c.loop-at.at < length c.args.text.now = omega (arith, c.loop-at-test.true) in
-    reading-missed (map vec_items self.needles.items) self.next.items self.depths.items c.args.text.now c.args.from c.loop-at.at c.loop-at.state c.loop-at.invariant
+    reading-missed (map vec_items self.needles.items) self.next.items self.depths.items c.args.text.now c.args.from c.loop-at.at c.loop-at.state
+    c.loop-at.invariant
     low (sym c.look_back.ensures ∙ c.in_default.is)

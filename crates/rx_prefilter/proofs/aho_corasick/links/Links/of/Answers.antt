@@ -8,7 +8,9 @@ pub returns : goal.returns
 returns c =
     let trie = c.args.trie in
     let count : c.len-states.result ≡ length trie.depths.items = omega (arith, trie.depths.ok.0, c.len-states.ensures) in (
-      trie_linked (map vec_items c.args.needles.items) trie.next.items trie.depths.items trie.ends.items c.requires.trie c.in_ok-vec.field-0.items c.in_ok-vec-2.field-0.items c.requires.all
-          (c.in_ok-vec.ensures.items_if_clones_equal (λ y h. h) ∙ ap (λ (n : ℕ). replicate n stop) count) (c.in_ok-vec-2.ensures.items_if_clones_equal (λ y h. h)),
+      trie_linked (map vec_items c.args.needles.items) trie.next.items trie.depths.items trie.ends.items c.requires.trie c.in_ok-vec.field-0.items
+          c.in_ok-vec-2.field-0.items c.requires.all
+          (c.in_ok-vec.ensures.items_if_clones_equal (λ y h. h) ∙ ap (λ (n : ℕ). replicate n stop) count)
+          (c.in_ok-vec-2.ensures.items_if_clones_equal (λ y h. h)),
       refl,
     )

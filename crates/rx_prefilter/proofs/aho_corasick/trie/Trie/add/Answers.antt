@@ -14,5 +14,7 @@ returns c =
     let within : c.args.state < length depths = omega (arith, rows, tall, c.requires.row, c.requires.within) in
     let count : c.len-child.result ≡ length depths = omega (arith, long, c.len-child.ensures) in
     let read : c.index.result.now ≡ slice_index depths c.args.state = get_or_read depths c.args.state c.index.result.now within c.index.ensures 0 in
-    added old.next.items depths old.ends.items t c.args.place c.args.state c.len-child.result c.index.result.now c.extend_from_slice.new.self.items c.push.new.self.items c.push-2.new.self.items
-    c.requires.within c.requires.empty (omega (arith, count)) c.requires.row count read c.in_ok-extend_from_slice.ensures.items c.in_ok-push.ensures.items c.in_ok-push-2.ensures.items
+    added old.next.items depths old.ends.items t c.args.place c.args.state c.len-child.result c.index.result.now c.extend_from_slice.new.self.items
+    c.push.new.self.items c.push-2.new.self.items
+    c.requires.within c.requires.empty (omega (arith, count)) c.requires.row count read c.in_ok-extend_from_slice.ensures.items c.in_ok-push.ensures.items
+    c.in_ok-push-2.ensures.items

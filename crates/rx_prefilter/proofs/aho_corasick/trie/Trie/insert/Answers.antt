@@ -57,7 +57,8 @@ returns c =
     let within : state < length old.ends.items = omega (arith, tall, wide, low) in
     let all = take_all c.loop-byte.byte-index needle c.loop-byte-test.false in (
       ended_trie old.next.items old.depths.items old.ends.items state t,
-      grows-on start.next.items start.ends.items old.next.items old.ends.items old.next.items (set old.ends.items state true) invariant.1 (ended_grows old.next.items old.ends.items state within),
+      grows-on start.next.items start.ends.items old.next.items old.ends.items old.next.items (set old.ends.items state true) invariant.1
+          (ended_grows old.next.items old.ends.items state within),
       record {
         state = state;
         leads = subst (λ u. Walks old.next.items 0 u state) all invariant.2;

@@ -22,7 +22,8 @@ loop-needle-preserved c =
     let here : P x.items = rw c.deref.ensures.value at insert.2 in (
       insert.0,
       All-same P (map vec_items (take (i + 1) needles)) (before ++ x.items ∷ []) (map-take_more vec_items needles i x (omega arith) c.needle-item.is)
-          (All-push P before x.items (All-weaker Q P (λ n has. needle-grows old.next.items old.ends.items new.next.items new.ends.items n insert.1 has) before invariant.1) here),
+          (All-push P before x.items (All-weaker Q P (λ n has. needle-grows old.next.items old.ends.items new.next.items new.ends.items n insert.1 has) before
+          invariant.1) here),
     )
 
 pub returns : goal.returns
@@ -31,5 +32,6 @@ returns c =
     let invariant = c.loop-needle.invariant in
     let P : List ℕ → Type 0 = HasNeedleOf c.loop-needle.trie.next.items c.loop-needle.trie.ends.items in (
       invariant.0,
-      All-same P (map vec_items needles) (map vec_items (take c.loop-needle.needle-index needles)) (ap (map vec_items) (sym (take_all c.loop-needle.needle-index needles c.loop-needle-test.false))) invariant.1,
+      All-same P (map vec_items needles) (map vec_items (take c.loop-needle.needle-index needles))
+          (ap (map vec_items) (sym (take_all c.loop-needle.needle-index needles c.loop-needle-test.false))) invariant.1,
     )

@@ -10,7 +10,8 @@ use Rattle.rx_prefilter.proofs.multi.place_table.PlaceTable.at_place.Goals as go
 pub returns-then-text-at : goal.returns-then-text-at
 returns-then-text-at c =
     let table = c.requires.table in
-    sym (short_none c.args.self.now.places.items c.args.self.now.stride c.args.text.now (map vec_items c.args.self.now.needles.items) c.args.at table.marked (omega arith))
+    sym (short_none c.args.self.now.places.items c.args.self.now.stride c.args.text.now (map vec_items c.args.self.now.needles.items) c.args.at table.marked
+    (omega arith))
 
 pub returns-then-index-j-eq0 : goal.returns-then-index-j-eq0
 returns-then-index-j-eq0 c =

@@ -20,7 +20,8 @@ loop-at-preserved c =
     let invariant = c.loop-at.invariant in
     let inside : c.loop-at.at + (stride + stride) ≤ length text + 1 = omega arith in (
       c.pass-at-in-loop-at.ensures.within,
-      invariant.1 ∙ first_span-window_next needles text c.loop-at.at (stride + stride) inside (sym c.in_two_windows.ensures ∙ c.in_default.is) ∙ c.pass-at-in-loop-at.ensures.same,
+      invariant.1 ∙ first_span-window_next needles text c.loop-at.at (stride + stride) inside (sym c.in_two_windows.ensures ∙ c.in_default.is)
+          ∙ c.pass-at-in-loop-at.ensures.same,
     )
 
 pub returns : goal.returns

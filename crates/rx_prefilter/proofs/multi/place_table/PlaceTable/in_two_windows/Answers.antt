@@ -5,7 +5,8 @@ use Rattle.rx_prefilter.proofs.multi.place_table.PlaceTable.in_two_windows.Goals
 
 pub returns-in-Some : goal.returns-in-Some
 returns-in-Some c =
-    sym (two_found (map vec_items c.args.self.now.needles.items) c.args.text.now c.args.at c.args.self.now.stride c.in-Some.span (sym c.in_window.ensures ∙ c.in-Some.is))
+    sym (two_found (map vec_items c.args.self.now.needles.items) c.args.text.now c.args.at c.args.self.now.stride c.in-Some.span
+    (sym c.in_window.ensures ∙ c.in-Some.is))
 
 pub returns : goal.returns
 returns c =

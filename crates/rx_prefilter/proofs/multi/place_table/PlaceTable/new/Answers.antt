@@ -12,7 +12,8 @@ mark-requires-clause-short c =
     let x = c.needle-item.result in
     let stride = c.stride_of-stride.result in
     let P : List ℕ → Type 0 = λ n. stride < length n in
-    rw c.deref.ensures.value (All-at P vec_items c.args.needles.now c.loop-needle.needle-index x (omega arith) c.needle-item.is c.stride_of-stride.ensures.short)
+    rw c.deref.ensures.value (All-at P vec_items c.args.needles.now c.loop-needle.needle-index x (omega arith) c.needle-item.is
+    c.stride_of-stride.ensures.short)
 
 pub loop-needle-preserved : goal.loop-needle-preserved
 loop-needle-preserved c =

@@ -29,7 +29,8 @@ loop-needle-preserved c =
       some,
       few,
       all_longer_more c.loop-needle.stride c.min-stride.result (map vec_items (take i needles)) _ x.items
-          (omega (arith, c.min-stride.ensures)) (omega (arith, c.min-stride.ensures)) (map-take_more vec_items needles i x (omega arith) c.needle-item.is) invariant.2,
+          (omega (arith, c.min-stride.ensures)) (omega (arith, c.min-stride.ensures)) (map-take_more vec_items needles i x (omega arith) c.needle-item.is)
+          invariant.2,
     )
 
 pub returns-clause-short : goal.returns-clause-short

@@ -14,5 +14,6 @@ returns-clause-value c =
     let nfa : c.self.inside.pikevm.nfa ≡ core.nfa = ap (λ (k : CoreValue). k.nfa) c.self.view_is in
     let pre : c.self.inside.pikevm.pre ≡ core.pre = c.self.invariant.2 ∙ ap (λ (k : CoreValue). k.pre) c.self.view_is in
     core-whether core v c.is_match.result
-    (subst (λ (p : Option (List (List ℕ)) × Nfa). BeginsEachRun p.0 p.1 v → c.is_match.result ≡ is_some (next_match_in p.1 v)) (λ i. (pre i, nfa i)) c.is_match.ensures.value)
+    (subst (λ (p : Option (List (List ℕ)) × Nfa). BeginsEachRun p.0 p.1 v → c.is_match.result ≡ is_some (next_match_in p.1 v)) (λ i. (pre i, nfa i))
+    c.is_match.ensures.value)
     c.requires.spanned.end

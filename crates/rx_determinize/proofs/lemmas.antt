@@ -1,0 +1,13 @@
+pub mod ArrivedLemmas
+pub mod SpanLemmas
+pub mod EndsLemmas
+pub mod PermittedLemmas
+pub mod ToldLemmas
+pub mod ReverseLemmas
+pub mod SightLemmas
+pub mod OnceLemmas
+pub mod DeadLemmas
+pub mod SeenLemmas
+pub mod KeepsLemmas
+pub mod StartLemmas
+pub mod AliveLemmas

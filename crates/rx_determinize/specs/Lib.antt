@@ -1,0 +1,5 @@
+pub mod Key
+pub mod Span
+pub mod Permitted
+pub mod Told
+pub mod Sight

@@ -1,0 +1,12 @@
+pub mod LooplessLemmas
+pub mod CourseLemmas
+pub mod MetLemmas
+pub mod LastLemmas
+pub mod ForwardLemmas
+pub mod BackwardLemmas
+pub mod PatternLemmas
+pub mod BothLemmas
+pub mod ListLemmas
+pub mod CloseLemmas
+pub mod ThreadLemmas
+pub mod KeyLemmas

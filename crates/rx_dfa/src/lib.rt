@@ -1,0 +1,20 @@
+//! DFAs: one look into a table for each byte. It stands on rx_determinize.
+//!
+//! `Automaton` is what a search needs of a DFA, and the searches serve any. `determinize` makes the keys for which its states
+//! stand.
+#![tactic(auto)]
+
+mod automaton;
+mod beside;
+mod close;
+pub mod determinize;
+pub mod scratch;
+mod search;
+pub mod state_key;
+mod state_list;
+mod step_error;
+mod step_parts;
+
+pub use automaton::Automaton;
+pub use search::{try_search, try_search_half_fwd, try_search_half_rev};
+pub use step_error::StepError;

@@ -1,0 +1,357 @@
+//! Tests of strategies.
+ghost use Rattle.rx_strategy.specs.Cache.{Fits};
+
+use rx_hir::Hir;
+use rx_nfa::{BuildError, WhichCaptures};
+use rx_prefilter::Prefilter;
+use rx_search::{Input, Look, Match, MatchKind, Memory, NonMaxUsize};
+use rx_strategy::{Cache, Config, Strategy};
+use std::alloc::Global;
+use std::process::Abort;
+
+/// The expression of these bytes.
+fn text(alloc: Global, bytes: &[u8]) -> Result<Hir, Memory> {
+    Ok(Hir::literal(Vec::from_slice(alloc, bytes)?))
+}
+
+/// The expression `a|ab`.
+fn a_or_ab(alloc: Global) -> Result<Hir, Memory> {
+    let mut alternatives = Vec::new(alloc);
+    alternatives.push(text(alloc, b"a")?)?;
+    alternatives.push(text(alloc, b"ab")?)?;
+    Hir::alternation(alloc, alternatives)
+}
+
+/// The expression `^ab`.
+fn ab_at_the_start(alloc: Global) -> Result<Hir, Memory> {
+    let mut parts = Vec::new(alloc);
+    parts.push(Hir::look(Look::Start))?;
+    parts.push(text(alloc, b"ab")?)?;
+    Hir::concat(alloc, parts)
+}
+
+/// What is made of the expression under the configuration.
+fn made(
+    alloc: Global,
+    config: &Config,
+    expression: Result<Hir, Memory>,
+) -> Result<Result<Strategy, BuildError>, Memory> {
+    let mut expressions = Vec::new(alloc);
+    expressions.push(expression?)?;
+    Ok(Strategy::new(alloc, config, &expressions))
+}
+
+/// The strategy of the expression under the configuration.
+fn strategy_of(
+    rt: &impl Abort,
+    alloc: Global,
+    config: &Config,
+    expression: Result<Hir, Memory>,
+) -> Strategy {
+    let made = made(alloc, config, expression).ok().expect(rt, "memory");
+    made.ok().expect(rt, "a strategy")
+}
+
+/// The strategy of `a`, without a backtracker.
+fn of_a(rt: &impl Abort, alloc: Global) -> Strategy {
+    strategy_of(
+        rt,
+        alloc,
+        &Config::new().backtrack(false),
+        text(alloc, b"a"),
+    )
+}
+
+/// A prefilter of these needles.
+fn prefilter(alloc: Global, first: &[u8], second: &[u8]) -> Result<Option<Prefilter>, Memory> {
+    let mut needles = Vec::new(alloc);
+    needles.push(Vec::from_slice(alloc, first)?)?;
+    needles.push(Vec::from_slice(alloc, second)?)?;
+    Prefilter::new(alloc, MatchKind::LeftmostFirst, &needles)
+}
+
+/// A configuration into which a prefilter of these needles is handed, and that makes none else.
+fn handing_in(rt: &impl Abort, alloc: Global, first: &[u8], second: &[u8]) -> Config {
+    let pre = prefilter(alloc, first, second).ok().expect(rt, "memory");
+    Config::new().auto_prefilter(false).prefilter(pre)
+}
+
+/// A cache of the strategy.
+fn cache_of(rt: &impl Abort, alloc: Global, strategy: &Strategy) -> Cache
+    ensures { Fits strategy.now result }
+{
+    Cache::new(alloc, strategy).ok().expect(rt, "a cache")
+}
+
+/// Makes the cache one of the strategy.
+fn reset(rt: &impl Abort, alloc: Global, cache: &mut Cache, strategy: &Strategy)
+    ensures { Fits strategy.now cache.new }
+{
+    cache.reset(alloc, strategy).ok().expect(rt, "memory")
+}
+
+/// The place that a slot holds.
+fn place(slot: Option<NonMaxUsize>) -> Option<usize> {
+    match slot {
+        Some(place) => Some(place.get()),
+        None => None,
+    }
+}
+
+/// The start and the end of a match.
+fn told(found: Option<Match>) -> Option<(usize, usize)> {
+    match found {
+        Some(found) => Some((found.start(), found.end())),
+        None => None,
+    }
+}
+
+#[test]
+fn each_option_has_a_default(rt: HostRuntime) {
+    let config = Config::default();
+    assert!(rt; config.get_match_kind() == MatchKind::LeftmostFirst);
+    assert!(rt; config.get_utf8_empty());
+    assert!(rt; config.get_auto_prefilter());
+    assert!(rt; config.get_prefilter().is_none());
+    assert!(rt; config.get_which_captures() == WhichCaptures::All);
+    assert_eq!(rt; config.get_nfa_size_limit(), Some(10485760));
+    assert!(rt; config.get_backtrack());
+}
+
+#[test]
+fn each_option_is_set(rt: HostRuntime) {
+    let config = Config::new()
+        .match_kind(MatchKind::All)
+        .utf8_empty(false)
+        .auto_prefilter(false)
+        .which_captures(WhichCaptures::Implicit)
+        .nfa_size_limit(None)
+        .backtrack(false);
+    let config = config.clone().ok().expect(&rt, "memory");
+    assert!(rt; config.get_match_kind() == MatchKind::All);
+    assert!(rt; !config.get_utf8_empty());
+    assert!(rt; !config.get_auto_prefilter());
+    assert!(rt; config.get_which_captures() == WhichCaptures::Implicit);
+    assert_eq!(rt; config.get_nfa_size_limit(), None);
+    assert!(rt; !config.get_backtrack());
+    let compiler = config.compiler();
+    assert!(rt; !compiler.get_utf8());
+    assert!(rt; compiler.get_which_captures() == WhichCaptures::Implicit);
+    assert_eq!(rt; compiler.get_nfa_size_limit(), None);
+}
+
+/// The length of the longest needle of the prefilter that is handed in.
+fn handed_in(config: &Config) -> Option<usize> {
+    match config.get_prefilter() {
+        Some(pre) => Some(pre.max_needle_len()),
+        None => None,
+    }
+}
+
+#[test]
+fn what_is_set_overwrites(rt: HostRuntime) {
+    let alloc = rt.alloc();
+    let old = Config::new().utf8_empty(false).nfa_size_limit(Some(1));
+    let new = handing_in(&rt, alloc, b"ab", b"abc").nfa_size_limit(None);
+    let config = old.overwrite(new);
+    assert!(rt; !config.get_utf8_empty());
+    assert_eq!(rt; config.get_nfa_size_limit(), None);
+    assert!(rt; config.get_match_kind() == MatchKind::LeftmostFirst);
+    assert_eq!(rt; handed_in(&config), Some(3));
+    // what is not set stays, and that none is handed in is set too
+    let config = config.overwrite(Config::new().backtrack(false));
+    assert_eq!(rt; handed_in(&config), Some(3));
+    let config = config.overwrite(Config::new().prefilter(None));
+    assert_eq!(rt; handed_in(&config), None);
+}
+
+/// The span of the match in the haystack, and what it leaves in two slots.
+fn found_by(
+    rt: &impl Abort,
+    alloc: Global,
+    strategy: &Strategy,
+    haystack: &[u8],
+) -> (Option<(usize, usize)>, Option<usize>, Option<usize>) {
+    let mut cache = cache_of(rt, alloc, strategy);
+    let mut slots = [NonMaxUsize::new(9); 2];
+    let found = strategy.search_slots(&mut cache, &Input::new(haystack), &mut slots);
+    let found = told(found.ok().expect(rt, "memory"));
+    (found, place(slots[0]), place(slots[1]))
+}
+
+/// `a|ab` prefers its first alternative under this configuration, with the backtracker and without it.
+fn prefers_the_first(rt: &impl Abort, alloc: Global, config: &Config) {
+    let strategy = strategy_of(rt, alloc, config, a_or_ab(alloc));
+    let found = found_by(rt, alloc, &strategy, b"xab");
+    assert!(rt; found == (Some((1, 2)), Some(1), Some(2)));
+    let found = found_by(rt, alloc, &strategy, b"b");
+    assert!(rt; found == (None, None, None));
+}
+
+#[test]
+fn both_engines_prefer_the_first_alternative(rt: HostRuntime) {
+    let alloc = rt.alloc();
+    for backtrack in [true, false] {
+        prefers_the_first(&rt, alloc, &Config::new().backtrack(backtrack));
+    }
+}
+
+#[test]
+fn no_prefilter_changes_an_answer(rt: HostRuntime) {
+    let alloc = rt.alloc();
+    for backtrack in [true, false] {
+        let config = Config::new().auto_prefilter(false).backtrack(backtrack);
+        prefers_the_first(&rt, alloc, &config);
+        let config = handing_in(&rt, alloc, b"a", b"x").backtrack(backtrack);
+        prefers_the_first(&rt, alloc, &config);
+    }
+}
+
+/// The bytes that are accounted for the expression's strategy.
+fn memory_of(
+    rt: &impl Abort,
+    alloc: Global,
+    config: &Config,
+    expression: Result<Hir, Memory>,
+) -> usize {
+    strategy_of(rt, alloc, config, expression).memory_usage()
+}
+
+#[test]
+fn a_prefilter_is_chosen(rt: HostRuntime) {
+    let alloc = rt.alloc();
+    // 4 states, 2 and 3 of the pattern, with 32 for each; and the lengths of the needles
+    let none = Config::new().auto_prefilter(false);
+    assert_eq!(rt; memory_of(&rt, alloc, &none, text(alloc, b"ab")), 288);
+    assert_eq!(rt;
+        memory_of(&rt, alloc, &Config::new(), text(alloc, b"ab")),
+        290
+    );
+    let given = handing_in(&rt, alloc, b"ab", b"xyz").auto_prefilter(true);
+    assert_eq!(rt; memory_of(&rt, alloc, &given, text(alloc, b"ab")), 293);
+    // each match begins at the start, so there is no prefilter
+    assert_eq!(rt; memory_of(&rt, alloc, &given, ab_at_the_start(alloc)), 320);
+}
+
+/// The span of the match in the haystack.
+fn span_in(
+    rt: &impl Abort,
+    strategy: &Strategy,
+    cache: &mut Cache,
+    haystack: &[u8],
+) -> Option<(usize, usize)>
+    requires { Fits strategy.now cache.old }
+    ensures { Fits strategy.now cache.new }
+{
+    let found = strategy.search(cache, &Input::new(haystack)).ok();
+    told(found.expect(rt, "memory"))
+}
+
+/// The end of the match in the haystack.
+fn end_in(rt: &impl Abort, strategy: &Strategy, cache: &mut Cache, haystack: &[u8]) -> Option<usize>
+    requires { Fits strategy.now cache.old }
+    ensures { Fits strategy.now cache.new }
+{
+    let found = strategy.search_half(cache, &Input::new(haystack)).ok();
+    match found.expect(rt, "memory") {
+        Some(half) => Some(half.offset()),
+        None => None,
+    }
+}
+
+/// Whether there is a match in the haystack.
+fn matches_in(rt: &impl Abort, strategy: &Strategy, cache: &mut Cache, haystack: &[u8]) -> bool
+    requires { Fits strategy.now cache.old }
+    ensures { Fits strategy.now cache.new }
+{
+    let found = strategy.is_match(cache, &Input::new(haystack)).ok();
+    found.expect(rt, "memory")
+}
+
+#[test]
+fn each_call_answers_alike(rt: HostRuntime) {
+    let alloc = rt.alloc();
+    let strategy = strategy_of(&rt, alloc, &Config::new(), a_or_ab(alloc));
+    let mut cache = cache_of(&rt, alloc, &strategy);
+    assert_eq!(rt; span_in(&rt, &strategy, &mut cache, b"xab"), Some((1, 2)));
+    assert_eq!(rt; end_in(&rt, &strategy, &mut cache, b"xab"), Some(2));
+    assert!(rt; matches_in(&rt, &strategy, &mut cache, b"xab"));
+    assert!(rt; !matches_in(&rt, &strategy, &mut cache, b"xb"));
+}
+
+#[test]
+fn a_cache_is_cloned(rt: HostRuntime) {
+    let alloc = rt.alloc();
+    let strategy = strategy_of(&rt, alloc, &Config::new(), a_or_ab(alloc));
+    let cache = cache_of(&rt, alloc, &strategy);
+    let again = cache.clone(alloc).ok().expect(&rt, "a cache");
+    assert_eq!(rt; again.memory_usage(), cache.memory_usage());
+}
+
+#[test]
+fn a_cache_is_reset_for_more_and_for_less(rt: HostRuntime) {
+    let alloc = rt.alloc();
+    let small = of_a(&rt, alloc);
+    let large = strategy_of(&rt, alloc, &Config::new(), a_or_ab(alloc));
+    let mut cache = cache_of(&rt, alloc, &small);
+    // 4 states, 1 and 3 of the pattern, with 16 for each of 2 slots
+    assert_eq!(rt; cache.memory_usage(), 16 * 8 * 2);
+    reset(&rt, alloc, &mut cache, &large);
+    // 4 more states, and as much for the backtracker
+    assert!(rt; cache.memory_usage() > 2 * 16 * 8 * 2);
+    assert_eq!(rt; span_in(&rt, &large, &mut cache, b"xab"), Some((1, 2)));
+    reset(&rt, alloc, &mut cache, &small);
+    assert_eq!(rt; cache.memory_usage(), 16 * 8 * 2);
+    assert_eq!(rt; span_in(&rt, &small, &mut cache, b"xab"), Some((1, 2)));
+}
+
+#[test]
+fn nothing_is_told_without_captures(rt: HostRuntime) {
+    let alloc = rt.alloc();
+    let config = Config::new().which_captures(WhichCaptures::None);
+    let strategy = strategy_of(&rt, alloc, &config, a_or_ab(alloc));
+    let mut cache = cache_of(&rt, alloc, &strategy);
+    assert_eq!(rt; span_in(&rt, &strategy, &mut cache, b"ab"), None);
+    assert_eq!(rt; end_in(&rt, &strategy, &mut cache, b"ab"), None);
+    assert!(rt; matches_in(&rt, &strategy, &mut cache, b"ab"));
+    let found = found_by(&rt, alloc, &strategy, b"ab");
+    assert!(rt; found == (None, None, None));
+}
+
+#[test]
+fn a_limit_is_told_before_memory(rt: HostRuntime) {
+    let alloc = rt.alloc();
+    let config = Config::new().nfa_size_limit(Some(255));
+    let made = made(alloc, &config, text(alloc, b"a")).ok();
+    let refused = made.expect(&rt, "memory").err();
+    let refusal = BuildError::ExceededSizeLimit {
+        limit: 255,
+        size: 256,
+    };
+    assert!(rt; refused == Some(refusal));
+}
+
+#[test]
+fn a_strategy_tells_of_its_patterns(rt: HostRuntime) {
+    let alloc = rt.alloc();
+    let strategy = of_a(&rt, alloc);
+    assert_eq!(rt; strategy.pattern_len(), 1);
+    assert_eq!(rt; strategy.memory_usage(), 256);
+    assert_eq!(rt; strategy.group_info().slot_len(), 2);
+    assert!(rt; strategy.is_impossible(&Input::new(b"")));
+    assert!(rt; !strategy.is_impossible(&Input::new(b"b")));
+}
+
+/// Values of this type may go to other threads.
+fn goes_to_threads<T: Send>(_value: &T) {}
+
+/// Values of this type may go to other threads, and be shared with them.
+fn crosses_threads<T: Send + Sync>(_value: &T) {}
+
+#[test]
+fn a_strategy_crosses_threads(rt: HostRuntime) {
+    let alloc = rt.alloc();
+    let strategy = of_a(&rt, alloc);
+    crosses_threads(&strategy);
+    goes_to_threads(&cache_of(&rt, alloc, &strategy));
+}

@@ -1,0 +1,5 @@
+pub mod walks
+pub mod answers
+pub mod threads
+pub mod candidates
+pub mod backtracking

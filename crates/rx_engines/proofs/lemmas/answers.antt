@@ -1,0 +1,5 @@
+pub mod OptionLemmas
+pub mod SlotLemmas
+pub mod SpanLemmas
+pub mod PatternLemmas
+pub mod EngineLemmas

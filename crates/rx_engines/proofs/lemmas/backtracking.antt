@@ -1,0 +1,5 @@
+pub mod BitLemmas
+pub mod SearchingLemmas
+pub mod FrameLemmas
+pub mod AttemptLemmas
+pub mod BoundedLemmas

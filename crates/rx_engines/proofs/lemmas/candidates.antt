@@ -1,0 +1,3 @@
+pub mod NeedleLemmas
+pub mod CandidateLemmas
+pub mod StartBytesLemmas

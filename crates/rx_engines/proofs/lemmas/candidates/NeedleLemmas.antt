@@ -1,0 +1,45 @@
+-- A needle that begins a span lies there.
+use Rattle.std.proofs.Common.{◌≡◌, ℕ, ◌+◌, ◌≤◌, List, [], ◌∷◌, length, take, drop, Some, sym, ◌∙◌, ap, inl, inr, arith, get_or, get_or-take, get_or-drop, length-take-le}
+use Rattle.std.proofs.lemmas.List.{get_or_append_left}
+use Rattle.std.specs.Prelude.{true, is_some}
+use Rattle.memchr.specs.Find.{OccursAt, occurs_at}
+use Rattle.memchr.proofs.lemmas.MatchLemmas.{occurs_at-true, OccursAt-true}
+use Rattle.rx_model.specs.Text.{stands_at}
+use Rattle.rx_model.proofs.lemmas.runs.RunLemmas.{by_test}
+use Rattle.rx_model.proofs.lemmas.runs.FirstLemmas.{none-is-some}
+use Rattle.rx_search.specs.declared.span.Span.{Span}
+use Rattle.rx_model.proofs.lemmas.meaning.CharLemmas.{stands_at_parts}
+use Rattle.rx_prefilter.specs.Needles.{span_at}
+use Rattle.rx_prefilter.proofs.NeedleLemmas.{span_at-nil, span_at-here, span_at-next}
+use Rattle.rx_search.specs.Needles.{OneBegins}
+
+module _ (text : List ℕ) (end i : ℕ) (within : end ≤ length text) where
+  occurs : (needle : List ℕ) → stands_at text i needle ≡ true → i + length needle ≤ end → OccursAt (take end text) needle i
+  occurs needle stands le =
+      let long : length (take end text) ≡ end = length-take-le end text within in
+      record {
+        fits = omega arith;
+        reads = λ j lt.
+            get_or-take end text (i + j) 0 (omega arith)
+            ∙ sym (get_or-drop i text j 0)
+            ∙ ap (λ rest. get_or rest j 0) (stands_at_parts text i needle stands)
+            ∙ get_or_append_left needle (drop (i + length needle) text) 0 j lt;
+      }
+
+  -- where a needle begins what is left of the span, a search by the needles sees it
+  pub one-lies : (needles : List (List ℕ)) → OneBegins text i end needles → is_some (span_at needles (take end text) i) ≡ true
+  one-lies [] x = elim x [ ]
+  one-lies (needle ∷ needles) (inl here) =
+      ap is_some (span_at-here (take end text) i needle needles (occurs_at-true (take end text) needle i (occurs needle here.0 here.1)))
+  one-lies (needle ∷ needles) (inr later) =
+      by_test (occurs_at (take end text) needle i)
+      (λ e. ap is_some (span_at-here (take end text) i needle needles e))
+      (λ e. ap is_some (span_at-next (take end text) i needle needles e) ∙ one-lies needles later)
+
+-- a needle that lies at a place begins in the text
+pub span_at-within : (needles : List (List ℕ)) (text : List ℕ) (i : ℕ) (span : Span) → span_at needles text i ≡ Some span → i ≤ length text
+span_at-within [] text i span h = none-is-some (sym (span_at-nil text i) ∙ h)
+span_at-within (needle ∷ needles) text i span h =
+    by_test (occurs_at text needle i)
+    (λ e. let o = (OccursAt-true text needle i e).fits in omega arith)
+    (λ e. span_at-within needles text i span (sym (span_at-next text i needle needles e) ∙ h))

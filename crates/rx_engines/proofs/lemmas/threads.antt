@@ -1,0 +1,9 @@
+pub mod SimulationLemmas
+pub mod SetLemmas
+pub mod TableLemmas
+pub mod StepLemmas
+pub mod VainLemmas
+pub mod StartLemmas
+pub mod StageLemmas
+pub mod GoingLemmas
+pub mod BufferLemmas

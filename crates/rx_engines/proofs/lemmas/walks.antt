@@ -1,0 +1,4 @@
+pub mod WalkLemmas
+pub mod LineLemmas
+pub mod CloseLemmas
+pub mod YieldLemmas

@@ -1,0 +1,133 @@
+use Rattle.std.proofs.Common.{◌+◌, drop, refl, sym, ◌∙◌, ap, arith}
+use Rattle.rx_nfa.specs.Automaton.{automaton, forwards}
+use Rattle.rx_engines.specs.Threads.{StateSet}
+use Rattle.rx_nfa.proofs.lemmas.runs.AutomatonLemmas.{automaton-bounded}
+use Rattle.rx_nfa.proofs.lemmas.runs.AutomatonLemmas.{automaton-rises}
+use Rattle.rx_engines.proofs.lemmas.threads.StepLemmas.{onward, onward-stable, Stepping-accepts, Stepping-reads, Stepping-ends, Stepping-over, Stepping-begun, acts-known, idle-known, idle-ends, idle-accepts, among-over}
+use Rattle.rx_engines.specs.declared.onward.Onward.TheVariants.{To, Back}
+use Rattle.rx_engines.proofs.pikevm.step.step_over.Goals as goal
+use Rattle.rx_engines.proofs.pikevm.step.step_over.Goals.{in-To, in-Back}
+
+pub loop-k-init : goal.loop-k-init
+loop-k-init c = record {
+  stepping = λ end later goal le byte stable value. Stepping-begun (ap (λ (s : StateSet). s.items) c.clear.ensures) value;
+  accepting = refl;
+  room = ap (λ (s : StateSet). s.room) c.clear.ensures ∙ c.requires.set.1;
+  rows = c.requires.table.1;
+  width = refl;
+  capacity = ap (λ (s : StateSet). (s.capacity, (c.args.next.now.table.capacity, c.args.next.now.table.cells))) c.clear.ensures;
+  slots_len = refl;
+  slots_room = refl;
+  kept = refl;
+  empty = c.requires.empty;
+  stack_room = refl;
+}
+
+pub returns-in-Stop-clause-stepped : goal.returns-in-Stop-clause-stepped
+returns-in-Stop-clause-stepped c end later goal le byte stable value =
+    let acts = acts-known c.args.search.now.matcher c.args.search.now.states.now c.args.search.now.text.now end c.get-state.result c.args.place c.requires.search.names (omega arith) le _ _ _ _ _ c.as_usize.ensures.value c.index-states-as_usize.is (c.byte_at-byte.ensures ∙ sym byte) c.in-Stop.ensures in
+    rw (c.start-start.ensures, c.copy.ensures, c.slots.ensures.value)
+    (Stepping-accepts (automaton-bounded (forwards c.args.search.now.matcher c.args.search.now.text.now) c.args.search.now.states.now end)
+    c.args.curr.now.set.items c.loop-k.k c.get-state.result (omega arith) c.get-state.ensures.value
+    (c.loop-k.invariant.stepping end later goal le byte stable value) c.in-Stop.pattern acts.0 acts.1)
+
+pub returns-in-Stop-clause-accepted : goal.returns-in-Stop-clause-accepted
+returns-in-Stop-clause-accepted c =
+    rw (c.start-start.ensures, c.copy.ensures, c.slots.ensures.value)
+    (c.loop-k.invariant.accepting
+    ∙ idle-accepts c.args.search.now.matcher c.args.search.now.states.now c.args.search.now.text.now c.get-state.result c.args.place c.requires.search.names
+    (omega arith) c.args.curr.now.table.items c.args.curr.now.set.items c.loop-k.k c.in-Stop.pattern (omega arith) c.get-state.ensures.value
+    (idle-known c.args.search.now.matcher c.args.search.now.states.now c.args.search.now.text.now c.get-state.result c.args.place c.requires.search.names
+    (omega arith) c.args.curr.now.table.items _ _ _ _ _ c.as_usize.ensures.value c.index-states-as_usize.is c.in-Stop.ensures))
+
+pub loop-k-preserved : goal.loop-k-preserved
+loop-k-preserved c =
+    elim c.match-act.branch [
+      | in-To w ↦
+          rw (w.next-is, w.walk-is)
+          (record {
+            stepping = λ end later goal le byte stable value.
+                (let acts = acts-known c.args.search.now.matcher c.args.search.now.states.now c.args.search.now.text.now end c.get-state.result c.args.place
+                c.requires.search.names (omega arith) le _ _ _ _ _ c.as_usize.ensures.value c.index-states-as_usize.is (c.byte_at-byte.ensures ∙ sym byte)
+                w.in-To.ensures in
+                let waits = Stepping-reads (automaton-bounded (forwards c.args.search.now.matcher c.args.search.now.text.now) c.args.search.now.states.now end) c.args.curr.now.set.items c.loop-k.k c.get-state.result (omega arith) c.get-state.ensures.value
+                (c.loop-k.invariant.stepping end later goal le byte stable value)
+                (automaton-rises (forwards c.args.search.now.matcher c.args.search.now.text.now) c.args.search.now.states.now end) w.in-To.target acts.0
+                acts.3 acts.4 acts.5 in
+                let closed = w.arrive.ensures.closed end (onward c.args.search.now.states.now (automaton c.args.search.now.matcher c.args.search.now.states.now c.args.search.now.text.now end) c.args.place c.args.curr.now.table.items (drop (c.loop-k.k + 1) c.args.curr.now.set.items) later) goal
+                (let lt = acts.2 in omega arith)
+                (onward-stable c.args.search.now.states.now (automaton c.args.search.now.matcher c.args.search.now.states.now c.args.search.now.text.now end)
+                c.args.place c.args.curr.now.table.items (drop (c.loop-k.k + 1) c.args.curr.now.set.items) later stable)
+                (rw (w.start-start-in-To.ensures, w.slots-slots.ensures.value) waits) in
+                record { value = closed.value });
+            accepting =
+                c.loop-k.invariant.accepting
+                ∙ idle-ends c.args.search.now.matcher c.args.search.now.states.now c.args.search.now.text.now c.get-state.result c.args.place
+                c.requires.search.names (omega arith) c.args.curr.now.table.items c.args.curr.now.set.items c.loop-k.k (To w.in-To.target w.in-To.place)
+                (omega arith) c.get-state.ensures.value refl
+                (idle-known c.args.search.now.matcher c.args.search.now.states.now c.args.search.now.text.now c.get-state.result c.args.place
+                c.requires.search.names (omega arith) c.args.curr.now.table.items _ _ _ _ _ c.as_usize.ensures.value c.index-states-as_usize.is
+                w.in-To.ensures);
+            room = w.arrive.ensures.set ∙ c.loop-k.invariant.room;
+            rows = w.arrive.ensures.table ∙ c.loop-k.invariant.rows;
+            width = w.arrive.ensures.width ∙ c.loop-k.invariant.width;
+            capacity = w.arrive.ensures.capacity ∙ c.loop-k.invariant.capacity;
+            slots_len = w.arrive.ensures.slots ∙ c.loop-k.invariant.slots_len;
+            slots_room = w.arrive.ensures.kept ∙ c.loop-k.invariant.slots_room;
+            kept = c.loop-k.invariant.kept;
+            empty = w.arrive.ensures.empty;
+            stack_room = w.arrive.ensures.stack ∙ c.loop-k.invariant.stack_room;
+          })
+      | in-Back w ↦
+          rw (w.next-is, w.walk-is)
+          (record {
+            stepping = λ end later goal le byte stable value.
+                (let acts = acts-known c.args.search.now.matcher c.args.search.now.states.now c.args.search.now.text.now end c.get-state.result c.args.place
+                c.requires.search.names (omega arith) le _ _ _ _ _ c.as_usize.ensures.value c.index-states-as_usize.is (c.byte_at-byte.ensures ∙ sym byte)
+                w.in-Back.ensures in
+                Stepping-ends (automaton-bounded (forwards c.args.search.now.matcher c.args.search.now.text.now) c.args.search.now.states.now end)
+                c.args.curr.now.set.items c.loop-k.k c.get-state.result (omega arith) c.get-state.ensures.value
+                (c.loop-k.invariant.stepping end later goal le byte stable value) acts);
+            accepting =
+                c.loop-k.invariant.accepting
+                ∙ idle-ends c.args.search.now.matcher c.args.search.now.states.now c.args.search.now.text.now c.get-state.result c.args.place
+                c.requires.search.names (omega arith) c.args.curr.now.table.items c.args.curr.now.set.items c.loop-k.k Back (omega arith)
+                c.get-state.ensures.value refl
+                (idle-known c.args.search.now.matcher c.args.search.now.states.now c.args.search.now.text.now c.get-state.result c.args.place
+                c.requires.search.names (omega arith) c.args.curr.now.table.items _ _ _ _ _ c.as_usize.ensures.value c.index-states-as_usize.is
+                w.in-Back.ensures);
+            room = c.loop-k.invariant.room;
+            rows = c.loop-k.invariant.rows;
+            width = c.loop-k.invariant.width;
+            capacity = c.loop-k.invariant.capacity;
+            slots_len = c.loop-k.invariant.slots_len;
+            slots_room = c.loop-k.invariant.slots_room;
+            kept = c.loop-k.invariant.kept;
+            empty = c.loop-k.invariant.empty;
+            stack_room = c.loop-k.invariant.stack_room;
+          })
+    ]
+
+pub returns-clause-stepped : goal.returns-clause-stepped
+returns-clause-stepped c end later goal le byte stable value =
+    Stepping-over c.args.curr.now.set.items c.loop-k.k (omega arith) (c.loop-k.invariant.stepping end later goal le byte stable value)
+
+pub returns-clause-accepted : goal.returns-clause-accepted
+returns-clause-accepted c =
+    c.loop-k.invariant.accepting
+    ∙ among-over c.args.search.now.states.now (automaton c.args.search.now.matcher c.args.search.now.states.now c.args.search.now.text.now c.args.place) _
+    c.args.place c.args.curr.now.table.items c.args.curr.now.set.items c.loop-k.k (omega arith)
+
+pub arrive-requires-clause-state : goal.arrive-requires-clause-state
+arrive-requires-clause-state c =
+    (acts-known c.args.search.now.matcher c.args.search.now.states.now c.args.search.now.text.now c.args.search.now.end c.get-state.result c.args.place
+    c.requires.search.names (omega arith) c.requires.place _ _ _ _ _ c.as_usize.ensures.value c.index-states-as_usize.is c.byte_at-byte.ensures
+    c.in-To.ensures).1
+
+pub arrive-requires-clause-place : goal.arrive-requires-clause-place
+arrive-requires-clause-place c =
+    let lt = (acts-known c.args.search.now.matcher c.args.search.now.states.now c.args.search.now.text.now c.args.search.now.end c.get-state.result c.args.place
+    c.requires.search.names (omega arith) c.requires.place _ _ _ _ _ c.as_usize.ensures.value c.index-states-as_usize.is c.byte_at-byte.ensures
+    c.in-To.ensures).2 in
+    let within = c.requires.search.end in
+    omega arith

@@ -1,0 +1,11 @@
+//! Tests of expressions, their literals, prefilters and NFAs.
+#![tactic(auto)]
+
+#[cfg(test)]
+mod hir;
+#[cfg(test)]
+mod literal;
+#[cfg(test)]
+mod nfa;
+#[cfg(test)]
+mod prefilter;

@@ -1,0 +1,5 @@
+//! Tests of regexes.
+#![tactic(auto)]
+
+#[cfg(test)]
+mod regex;

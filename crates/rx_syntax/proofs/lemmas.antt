@@ -1,0 +1,5 @@
+pub mod translation
+pub mod sets
+pub mod groups
+pub mod patterns
+pub mod weights

@@ -1,0 +1,4 @@
+pub mod AtomGroups
+pub mod GroupLemmas
+pub mod PlainLemmas
+pub mod ToldLemmas

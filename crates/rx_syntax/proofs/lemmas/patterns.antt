@@ -1,0 +1,2 @@
+pub mod PatternsLemmas
+pub mod RefusalLemmas

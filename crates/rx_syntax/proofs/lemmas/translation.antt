@@ -1,0 +1,10 @@
+pub mod AtomLemmas
+pub mod AtomUtf8
+pub mod FewestLemmas
+pub mod GatherLemmas
+pub mod GivesLemmas
+pub mod NamedLemmas
+pub mod OrderedLemmas
+pub mod SizeLemmas
+pub mod TranslationLemmas
+pub mod Utf8Lemmas

@@ -1,0 +1,2 @@
+pub mod WeighLemmas
+pub mod WeightLemmas

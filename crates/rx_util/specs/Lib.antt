@@ -1,0 +1,2 @@
+pub mod PoolMachine
+pub mod Stack

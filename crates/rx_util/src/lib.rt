@@ -1,0 +1,19 @@
+//! What a regex needs beside its engines: values that are made at first use, and pools of values that many threads use in
+//! turn. It stands on rx_search for the error of want of memory, and on the kit's `once_cell`.
+//!
+//! A `Maker` makes values. A `Lazy` holds one that is made at first use. A `Stack` lends numbered values, and a `Pool` has
+//! some stacks, each behind a lock.
+#![tactic(auto)]
+
+mod lazy;
+mod maker;
+mod pool;
+mod stack;
+
+pub use lazy::Lazy;
+pub use maker::{FromFn, Maker};
+pub use pool::{Pool, PoolGuard};
+pub use stack::{Empty, Stack, no_number_is_lent_twice};
+
+#[cfg(test)]
+mod tests;
