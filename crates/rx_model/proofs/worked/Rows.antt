@@ -41,7 +41,8 @@ unfolding first first_of_patterns starting_at first_start next_match matches mat
 lazy_counts = refl
 
 -- `(?:a??)*b` on `aab`: 0..3
-lazy_option_in_star : spans (matches (patterns (turn (star (repetition 0 (Some 1) false (text "a")) ∷ text "b" ∷ []) ∷ [])) (codes "aab") free 3 0) ≡ (0, 0, 3) ∷ []
+lazy_option_in_star : spans (matches (patterns (turn (star (repetition 0 (Some 1) false (text "a")) ∷ text "b" ∷ []) ∷ [])) (codes "aab") free 3 0)
+    ≡ (0, 0, 3) ∷ []
 unfolding first first_of_patterns starting_at first_start next_match matches matches_from build_pattern build runs_of graph_of first_past first_within greatest_group stands_at
 lazy_option_in_star = refl
 
@@ -51,12 +52,14 @@ unfolding first first_of_patterns starting_at first_start next_match matches mat
 dot_before_literal = refl
 
 -- `[\x80-\xBF]` of bytes on the bytes 41 98 83: 1..2, 2..3, where matches may start anywhere
-byte_class : spans (matches (record (patterns (class (byte_ranges ((0x80, 0xBF) ∷ [])) ∷ [])) { utf8_empty = false }) (0x41 ∷ 0x98 ∷ 0x83 ∷ []) free 3 0) ≡ (0, 1, 2) ∷ (0, 2, 3) ∷ []
+byte_class : spans (matches (record (patterns (class (byte_ranges ((0x80, 0xBF) ∷ [])) ∷ [])) { utf8_empty = false }) (0x41 ∷ 0x98 ∷ 0x83 ∷ []) free 3 0)
+    ≡ (0, 1, 2) ∷ (0, 2, 3) ∷ []
 unfolding first first_of_patterns starting_at first_start next_match matches matches_from build_pattern build runs_of graph_of first_past first_within greatest_group stands_at member_len
 byte_class = refl
 
 -- the empty expression on the three bytes of U+2603, where matches may start anywhere: 0..0, 1..1, 2..2, 3..3
-empty_anywhere : spans (matches (record (patterns (empty ∷ [])) { utf8_empty = false }) (0xE2 ∷ 0x98 ∷ 0x83 ∷ []) free 3 0) ≡ (0, 0, 0) ∷ (0, 1, 1) ∷ (0, 2, 2) ∷ (0, 3, 3) ∷ []
+empty_anywhere : spans (matches (record (patterns (empty ∷ [])) { utf8_empty = false }) (0xE2 ∷ 0x98 ∷ 0x83 ∷ []) free 3 0)
+    ≡ (0, 0, 0) ∷ (0, 1, 1) ∷ (0, 2, 2) ∷ (0, 3, 3) ∷ []
 unfolding first first_of_patterns starting_at first_start next_match matches matches_from build_pattern build runs_of graph_of first_past first_within greatest_group stands_at
 empty_anywhere = refl
 

@@ -99,7 +99,8 @@ module _ (terminator : ℕ) (hay : List ℕ) (end : ℕ) (whole : List State) wh
         by_test (nat_eq c.state base)
         (λ e.
         let same : base ≡ c.state = grind (arith, nat_tests) in
-        let m' = successors-in terminator hay end whole c d (prefer greedy b.start next) (subst (λ q. IsStateOf whole q (prefer greedy b.start next)) same is) m in
+        let m' =
+        successors-in terminator hay end whole c d (prefer greedy b.start next) (subst (λ q. IsStateOf whole q (prefer greedy b.start next)) same is) m in
         elim (prefer-cases terminator hay end greedy b.start next c.place d m') [
           | inl e' ↦ inr (subst (λ q. Target back (suc base) (length b.states) q) (ap (λ (z : Configuration). z.state) e') (a.starts back (suc base)))
           | inr e' ↦ inl (ap (λ (z : Configuration). z.state) e')

@@ -49,7 +49,8 @@ module _ (g m : PriorityGraph) (f : ℕ → ℕ) where
 
     Alike-later : (p q : Passed) (c d : Configuration) → Alike IsLive p q c.place → c.place < d.place → Alike IsLive (and_at c p) q d.place
     Alike-later p q c d a lt = record {
-      images = λ s live. a.ahead_m (record { state = f s; place = d.place }) lt ∙ sym (rw (same-elsewhere c (record { state = s; place = d.place }) lt) (a.ahead_g (record { state = s; place = d.place }) lt));
+      images = λ s live. a.ahead_m (record { state = f s; place = d.place }) lt
+          ∙ sym (rw (same-elsewhere c (record { state = s; place = d.place }) lt) (a.ahead_g (record { state = s; place = d.place }) lt));
       ahead_g = λ e lt'. rw (same-elsewhere c e (omega arith)) (a.ahead_g e (omega arith));
       ahead_m = λ e lt'. a.ahead_m e (omega arith);
     }

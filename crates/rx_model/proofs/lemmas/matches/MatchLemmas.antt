@@ -266,8 +266,10 @@ module _ (r : Patterns) (text : List ℕ) (anchor : Anchor) (b a : ℕ) where
       let below = x.least_start n.start n.trace.pattern n.trace y.start y.run in
       let above = y.least_start m.start m.trace.pattern m.trace x.start x.run in
       let place : m.start ≡ n.start = omega arith in
-      let y_run : HasFirstRun r text anchor b m.start n.trace.pattern n.trace = subst (λ i. HasFirstRun r text anchor b i n.trace.pattern n.trace) (sym place) y.run in
-      let x_run : HasFirstRun r text anchor b n.start m.trace.pattern m.trace = subst (λ i. HasFirstRun r text anchor b i m.trace.pattern m.trace) place x.run in
+      let y_run : HasFirstRun r text anchor b m.start n.trace.pattern n.trace =
+      subst (λ i. HasFirstRun r text anchor b i n.trace.pattern n.trace) (sym place) y.run in
+      let x_run : HasFirstRun r text anchor b n.start m.trace.pattern m.trace =
+      subst (λ i. HasFirstRun r text anchor b i m.trace.pattern m.trace) place x.run in
       let low = x.least_pattern n.trace.pattern n.trace y_run in
       let high = y.least_pattern m.trace.pattern m.trace x_run in
       let pattern : m.trace.pattern ≡ n.trace.pattern = omega arith in

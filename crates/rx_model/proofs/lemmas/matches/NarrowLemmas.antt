@@ -113,7 +113,8 @@ module _ (terminator : ℕ) (hay : List ℕ) (states : List State) (end later : 
     trace-nearer c (d ∷ run) low = λ i. with_write (written-later terminator hay states end later le c i) c.place (trace-nearer d run low i)
 
 module _ (ok : Sieve) (r : Patterns) (hay : List ℕ) (end later : ℕ) (le : end ≤ later) where
-  pub where-nearer : (p : ℕ) (h : Expression) (i : ℕ) (t : Trace) → first_where ok r hay later p h i ≡ Some t → t.end ≤ end → first_where ok r hay end p h i ≡ Some t
+  pub where-nearer : (p : ℕ) (h : Expression) (i : ℕ) (t : Trace) → first_where ok r hay later p h i ≡ Some t → t.end ≤ end
+      → first_where ok r hay end p h i ≡ Some t
   unfolding first_where
   where-nearer p h i t is low =
       let part = build_pattern (slot_of r p) p h in

@@ -34,7 +34,8 @@ module _ (r : Patterns) (text : List ℕ) (b : ℕ) where
     unfolding next_match
     skip-one =
         by_test (nat_lt b a)
-        (λ e. let e' : nat_lt b (a + 1) ≡ true = grind (arith, nat_tests) in rw (e, e') (nowhere (is_permitted r.utf8_empty text) (starting_at r text b free) a (a + 1)))
+        (λ e. let e' : nat_lt b (a + 1) ≡ true = grind (arith, nat_tests) in
+        rw (e, e') (nowhere (is_permitted r.utf8_empty text) (starting_at r text b free) a (a + 1)))
         (λ e.
         ap (λ n. first_start (is_permitted r.utf8_empty text) (starting_at r text b free) n a) (starts-next a b (grind (arith, nat_tests)))
         ∙ first_start-skip (is_permitted r.utf8_empty text) (starting_at r text b free) (starts free (a + 1) b) a none)

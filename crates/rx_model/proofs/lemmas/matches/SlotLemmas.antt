@@ -213,7 +213,8 @@ pub record TellsBody (last : ℕ) (W : ℕ → Type 0) (i : ℕ) (t : Trace) : T
   pub each : (k place : ℕ) → last_write t.writes k ≡ Some place → ((k ≡ last) ⊎ W k) × (i ≤ place) × (place ≤ t.end)
 
 -- a write before the others
-write-cases : (n i : ℕ) (t : Trace) (k place : ℕ) → last_write (with_write (Some n) i t).writes k ≡ Some place → (last_write t.writes k ≡ Some place) ⊎ ((n ≡ k) × (place ≡ i))
+write-cases : (n i : ℕ) (t : Trace) (k place : ℕ) → last_write (with_write (Some n) i t).writes k ≡ Some place
+    → (last_write t.writes k ≡ Some place) ⊎ ((n ≡ k) × (place ≡ i))
 write-cases n i t k place h =
     elim (or-cases (last_write t.writes k) (if n == k then Some i else None) place h) [
       | inl later ↦ inl later
@@ -399,7 +400,8 @@ module _ (terminator : ℕ) (hay : List ℕ) (end : ℕ) where
           let on : at start c.place ≡ d = only-among (at start c.place) d (subst (λ s. Contains (state_step terminator hay end s c.place) d) is x.3) in
           let writes : graph.written c ≡ Some first = written-of c ∙ ap state_writes is in
           let told = body-run (and_at c passed) d x.1 (subst (λ (y : Configuration). IsBetween 1 high W y.state) on within) x.4 in
-          let told_here : TellsBody (suc first) W c.place (trace graph d x.1) = subst (λ (y : Configuration). TellsBody (suc first) W y.place (trace graph d x.1)) (sym on) told in
+          let told_here : TellsBody (suc first) W c.place (trace graph d x.1) =
+          subst (λ (y : Configuration). TellsBody (suc first) W y.place (trace graph d x.1)) (sym on) told in
           subst (λ ys. TellsSpan first W c.place (trace graph c ys)) (sym x.2)
           (subst (λ o. TellsSpan first W c.place (with_write o c.place (trace graph d x.1))) (sym writes)
           (write-span first W c.place (trace graph d x.1) apart told_here))

@@ -144,13 +144,15 @@ module _ (r : Patterns) (text : List ℕ) (anchor : Anchor) (b : ℕ) where
   unfolding next_match
   next-again i m h =
       let x = first_start-some (is_permitted r.utf8_empty text) (starting_at r text b anchor) (starts anchor i b) i m h in
-      first_start-here (is_permitted r.utf8_empty text) (starting_at r text b anchor) (starts anchor m.start b) m (some_start m.start (let w = in_span in let up = w.1 in let top = w.2 in omega arith)) x.allowed x.told
+      first_start-here (is_permitted r.utf8_empty text) (starting_at r text b anchor) (starts anchor m.start b) m
+      (some_start m.start (let w = in_span in let up = w.1 in let top = w.2 in omega arith)) x.allowed x.told
     where
       in_span : (i ≤ m.start) × (m.start ≤ m.trace.end) × (m.trace.end ≤ b)
       in_span = next-within r text anchor b i m h
 
       some_start : (k : ℕ) → k ≤ b → 0 < starts anchor k b
-      some_start k le = let over : nat_lt b k ≡ false = grind (arith, nat_tests) in rw over (by_test (is_anchored anchor) (λ e. rw e (omega arith)) (λ e. rw e (omega arith)))
+      some_start k le =
+          let over : nat_lt b k ≡ false = grind (arith, nat_tests) in rw over (by_test (is_anchored anchor) (λ e. rw e (omega arith)) (λ e. rw e (omega arith)))
 
   next-search : IsSearch (next_match r text anchor b) b
   next-search = record { within = λ i m h. next-within r text anchor b i m h }

@@ -122,7 +122,8 @@ words-alike (Some b) (Some c) h small = is_word_char-ascii b small ∙ h.0 ∙ s
 -- two places of two texts
 module _ (text other : List ℕ) (i j : ℕ) (within : i ≤ length text) (within' : j ≤ length other) where
   -- bytes beside them that stand so to each other
-  module _ (R : ℕ → ℕ → Type 0) (before : BothOrNone R (byte_before text i) (byte_before other j)) (after : BothOrNone R (byte_after text i) (byte_after other j)) where
+  module _ (R : ℕ → ℕ → Type 0) (before : BothOrNone R (byte_before text i) (byte_before other j))
+      (after : BothOrNone R (byte_after text i) (byte_after other j)) where
     start : (i == 0) ≡ (j == 0)
     start = starts text i within ∙ ap not (both-some R (byte_before text i) (byte_before other j) before) ∙ sym (starts other j within')
 

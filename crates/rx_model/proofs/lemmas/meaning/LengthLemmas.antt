@@ -102,7 +102,8 @@ bytes-met rs n h =
 pub scalars-none : (rs : List (ℕ × ℕ)) → shortest_of shortest_scalar rs ≡ None → (c : ℕ) → IsScalar c → is_member rs c ≡ false
 scalars-none rs none c s =
     by_test (is_member rs c)
-    (λ e. let x = shortest-known shortest_scalar rs c (len_utf8 c) (λ r low high. shortest_scalar-known r c s low high) e in absurd (none-some x.0 (sym none ∙ x.1)))
+    (λ e. let x = shortest-known shortest_scalar rs c (len_utf8 c) (λ r low high. shortest_scalar-known r c s low high) e in
+    absurd (none-some x.0 (sym none ∙ x.1)))
     (λ e. e)
 
 pub bytes-none : (rs : List (ℕ × ℕ)) → shortest_of shortest_byte rs ≡ None → (b : ℕ) → is_member rs b ≡ false

@@ -63,7 +63,8 @@ module _ (whole : List State) (Goes : ℕ → ℕ → ℕ → Type 0) (end : ℕ
       → ((i j : ℕ) → i ≤ j → j ≤ end → N i j → M i j) → Spells N b
   Spells-within M N b a rises to from = record {
     rises = rises;
-    walked = λ next base n i placed h. (let x = a.walked next base n i placed h in (x.0, x.1, to i x.0 (a.rises i x.0 x.2) (chooses.within x.1 next x.0 x.4) x.2, x.3, x.4));
+    walked = λ next base n i placed h. (let x = a.walked next base n i placed h in
+        (x.0, x.1, to i x.0 (a.rises i x.0 x.2) (chooses.within x.1 next x.0 x.4) x.2, x.3, x.4));
     walks = λ next base m i j placed h goes. a.walks next base m i j placed (from i j (rises i j h) (chooses.within m next j goes) h) goes;
   }
 
@@ -218,8 +219,13 @@ module _ (whole : List State) (Goes : ℕ → ℕ → ℕ → Type 0) (end : ℕ
               elim step.2 [
                 | inl goes ↦
                     let y = a.walked o.start (suc c) step.0 i (Placed-rest whole c (prefer greedy b.start next) b.states back) goes in
-                    let z = later.walked next base y.1 y.0 front y.4 in
-                    (z.0, z.1, (suc z.2.0, (let le = z.2.1 in omega arith), (y.0, y.2, z.2.2)), (let e = step.1 in let p = y.3 in let q = z.3 in omega arith), z.4)
+                    let z = later.walked next base y.1 y.0 front y.4 in (
+                      z.0,
+                      z.1,
+                      (suc z.2.0, (let le = z.2.1 in omega arith), (y.0, y.2, z.2.2)),
+                      (let e = step.1 in let p = y.3 in let q = z.3 in omega arith),
+                      z.4,
+                    )
                 | inr goes ↦ (i, step.0, (0, omega arith, refl), (let e = step.1 in omega arith), goes)
               ]);
           walks = λ next base m i j placed h goes.

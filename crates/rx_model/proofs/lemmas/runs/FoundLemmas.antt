@@ -32,7 +32,8 @@ module _ (g : PriorityGraph) (p : Passed) where
   found-prune x c h = ap (option_map (trace g c)) (past-prune g p x c (map-none (trace g x) _ h))
 
   module _ (bounded : IsBounded g) where
-    pub found-accepted : (c : Configuration) (pattern : ℕ) → p c ≡ false → g.accepted c ≡ Some pattern → found g p c ≡ Some (record { pattern = pattern; end = c.place; writes = [] })
+    pub found-accepted : (c : Configuration) (pattern : ℕ) → p c ≡ false → g.accepted c ≡ Some pattern
+        → found g p c ≡ Some (record { pattern = pattern; end = c.place; writes = [] })
     found-accepted c pattern new h = ap (option_map (trace g c)) (past-accepted g p bounded c new (ap is_some h)) ∙ rw h refl
 
     pub found-step : (c : Configuration) → p c ≡ false → g.accepted c ≡ None

@@ -30,7 +30,8 @@ grid-has zero n q i lt below = absurd (omega arith)
 grid-has (suc k) n q i lt below =
     is_among-append (column k n) (grid k n) _ ∙
     by_test (k == q)
-    (λ e. or_left _ _ (let e' : k ≡ q = grind (arith, nat_tests) in subst (λ x. is_among (column x n) (record { state = q; place = i }) ≡ true) (sym e') (column-has n q i below)))
+    (λ e. or_left _ _ (let e' : k ≡ q = grind (arith, nat_tests) in
+    subst (λ x. is_among (column x n) (record { state = q; place = i }) ≡ true) (sym e') (column-has n q i below)))
     (λ e. let less : q < k = grind (arith, nat_tests) in or_right _ _ (grid-has k n q i less below))
 
 outside : (m : Machine) (end : ℕ) (c : Configuration) → is_among (grid m.states (suc end)) c ≡ false → is_inside m end c ≡ false

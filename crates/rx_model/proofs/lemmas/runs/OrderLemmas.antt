@@ -104,8 +104,11 @@ module _ (terminator : ℕ) (hay : List ℕ) (end : ℕ) (whole : List State) wh
 
   pub Closes-nothing : Closes build_nothing
   Closes-nothing = record {
-    closes = λ A next base s.
-        (closed-same A (Inside A base 0) (λ x h. inl h) (λ x h. elim h [ inl a ↦ a | inr r ↦ absurd (let low = r.0 in let high = r.1 in omega arith) ]) s.closed, inl s.next_in);
+    closes = λ A next base s. (
+      closed-same A (Inside A base 0) (λ x h. inl h) (λ x h. elim h [ inl a ↦ a | inr r ↦ absurd (let low = r.0 in let high = r.1 in omega arith) ])
+          s.closed,
+      inl s.next_in,
+    );
   }
 
   pub Closes-state : (state : ℕ → State) → ((next i : ℕ) (d : Configuration) → Contains (state_step terminator hay end (state next) i) d → next ≡ d.state)
@@ -164,12 +167,14 @@ module _ (terminator : ℕ) (hay : List ℕ) (end : ℕ) (whole : List State) wh
         let one = first two.start (base + length two.states) in
         let long = length-append two.states one.states in
         let x = a.closes (Inside A base (length two.states)) two.start (base + length two.states) (stands-first A first second b next base s) in
-        let to : (y : ℕ) → Inside (Inside A base (length two.states)) (base + length two.states) (length one.states) y → Inside A base (length (two.states ++ one.states)) y
+        let to : (y : ℕ) → Inside (Inside A base (length two.states)) (base + length two.states) (length one.states) y
+        → Inside A base (length (two.states ++ one.states)) y
         = λ y h. elim h [
           | inl h' ↦ elim h' [ inl c ↦ inl c | inr r ↦ inr (r.0, (let up = r.1 in omega arith)) ]
           | inr r ↦ inr ((let low = r.0 in omega arith), (let up = r.1 in omega arith))
         ] in
-        let from : (y : ℕ) → Inside A base (length (two.states ++ one.states)) y → Inside (Inside A base (length two.states)) (base + length two.states) (length one.states) y
+        let from : (y : ℕ) → Inside A base (length (two.states ++ one.states)) y
+        → Inside (Inside A base (length two.states)) (base + length two.states) (length one.states) y
         = λ y h. elim h [
           | inl c ↦ inl (inl c)
           | inr r ↦
@@ -307,7 +312,8 @@ module _ (terminator : ℕ) (hay : List ℕ) (end : ℕ) (whole : List State) wh
                   by_test (nat_eq c.state (base + 0))
                   (λ e.
                   let same : base + 0 ≡ c.state = grind (arith, nat_tests) in
-                  let m' = successors-in terminator hay end whole c d (prefer greedy b.start next) (subst (λ q. IsStateOf whole q (prefer greedy b.start next)) same is) m in
+                  let m' = successors-in terminator hay end whole c d (prefer greedy b.start next)
+                  (subst (λ q. IsStateOf whole q (prefer greedy b.start next)) same is) m in
                   elim (prefer-cases terminator hay end greedy b.start next c.place d m') [
                     | inl e' ↦ subst (λ q. Inside A base (suc (length b.states)) q) (ap (λ (z : Configuration). z.state) e') (to b.start x.1)
                     | inr e' ↦ inl (subst A (ap (λ (z : Configuration). z.state) e') s.next_in)
@@ -368,8 +374,11 @@ module _ (terminator : ℕ) (hay : List ℕ) (end : ℕ) (whole : List State) wh
 
   pub ClosesOne-none : ClosesOne no_parts
   ClosesOne-none = record {
-    closes = λ A next base s.
-        (closed-same A (Inside A base 0) (λ x h. inl h) (λ x h. elim h [ inl a ↦ a | inr r ↦ absurd (let low = r.0 in let high = r.1 in omega arith) ]) s.closed, λ q m. absurd (let lt = m.1 in omega arith));
+    closes = λ A next base s. (
+      closed-same A (Inside A base 0) (λ x h. inl h) (λ x h. elim h [ inl a ↦ a | inr r ↦ absurd (let low = r.0 in let high = r.1 in omega arith) ])
+          s.closed,
+      λ q m. absurd (let lt = m.1 in omega arith),
+    );
   }
 
   pub LeadsOne-none : LeadsOne no_parts (λ f i. None)
@@ -381,7 +390,12 @@ module _ (terminator : ℕ) (hay : List ℕ) (end : ℕ) (whole : List State) wh
       let f = first next base in
       let o = others next (base + length f.states) in
       let long = length-append f.states o.states in
-      record { placed = Placed-front whole base f.states o.states s.placed; closed = s.closed; next_in = s.next_in; apart = λ x a low high. s.apart x a low (omega arith) }
+      record {
+        placed = Placed-front whole base f.states o.states s.placed;
+        closed = s.closed;
+        next_in = s.next_in;
+        apart = λ x a low high. s.apart x a low (omega arith);
+      }
 
   pub beside-others : (A : ℕ → Type 0) (first : Builder) (others : (next base : ℕ) → Parts) (next base : ℕ)
       → Stands A next base (build_beside first others next base).states
@@ -390,7 +404,12 @@ module _ (terminator : ℕ) (hay : List ℕ) (end : ℕ) (whole : List State) wh
       let f = first next base in
       let o = others next (base + length f.states) in
       let long = length-append f.states o.states in
-      record { placed = Placed-back whole base f.states o.states s.placed; closed = s.closed; next_in = s.next_in; apart = λ x a low high. s.apart x a (omega arith) (omega arith) }
+      record {
+        placed = Placed-back whole base f.states o.states s.placed;
+        closed = s.closed;
+        next_in = s.next_in;
+        apart = λ x a low high. s.apart x a (omega arith) (omega arith);
+      }
 
   pub ClosesOne-beside : (first : Builder) (others : (next base : ℕ) → Parts) → Closes first → ClosesOne others → ClosesOne (build_beside first others)
   ClosesOne-beside first others a b = record {
@@ -434,12 +453,18 @@ module _ (terminator : ℕ) (hay : List ℕ) (end : ℕ) (whole : List State) wh
   choice-parts A parts next base s =
       let p = parts next base in
       let long = length-append p.states (choice p.starts ∷ []) in
-      record { placed = Placed-front whole base p.states (choice p.starts ∷ []) s.placed; closed = s.closed; next_in = s.next_in; apart = λ x a low high. s.apart x a low (omega arith) }
+      record {
+        placed = Placed-front whole base p.states (choice p.starts ∷ []) s.placed;
+        closed = s.closed;
+        next_in = s.next_in;
+        apart = λ x a low high. s.apart x a low (omega arith);
+      }
 
   pub choice-is : (A : ℕ → Type 0) (parts : (next base : ℕ) → Parts) (next base : ℕ) → Stands A next base (build_choice parts next base).states
       → IsStateOf whole (base + length (parts next base).states) (choice (parts next base).starts)
   choice-is A parts next base s =
-      let p = parts next base in Placed-first whole (base + length p.states) (choice p.starts) [] (Placed-back whole base p.states (choice p.starts ∷ []) s.placed)
+      let p = parts next base in
+      Placed-first whole (base + length p.states) (choice p.starts) [] (Placed-back whole base p.states (choice p.starts ∷ []) s.placed)
 
   pub Closes-choice : (parts : (next base : ℕ) → Parts) → ClosesOne parts → Closes (build_choice parts)
   Closes-choice parts a = record {
@@ -486,7 +511,8 @@ module _ (terminator : ℕ) (hay : List ℕ) (end : ℕ) (whole : List State) wh
         let le : i ≤ end = grind (arith, nat_tests) in
         ends-state (Inside A base (length p.states)) x.0 (base + length p.states) i (choice p.starts) is refl
         (λ h. elim h [ inl c' ↦ s.apart (base + length p.states) c' (omega arith) (omega arith) | inr r ↦ (let up = r.1 in omega arith) ])
-        (λ d m. let y = choice-member p.starts i d m in subst (λ q. Inside A base (length p.states) q) (ap (λ (z : Configuration). z.state) y.2) (x.1 y.0 y.1)) le
+        (λ d m. let y = choice-member p.starts i d m in
+        subst (λ q. Inside A base (length p.states) q) (ap (λ (z : Configuration). z.state) y.2) (x.1 y.0 y.1)) le
         ∙ onward)
         (λ e.
         let past : end < i = grind (arith, nat_tests) in

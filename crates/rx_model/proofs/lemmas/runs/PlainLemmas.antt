@@ -122,7 +122,8 @@ first-plain r hay end p h plain i =
       next_in = refl;
       apart = λ s at_0 low high. omega arith;
     } in
-    let leads = Leads-group r.terminator hay end whole (Some (2 * p)) (build (slot_of r p) h) (onward hay h) (plain-closes r.terminator hay end whole (slot_of r p) h plain) (plain-leads r.terminator hay end whole (slot_of r p) h plain) in
+    let leads = Leads-group r.terminator hay end whole (Some (2 * p)) (build (slot_of r p) h) (onward hay h)
+    (plain-closes r.terminator hay end whole (slot_of r p) h plain) (plain-leads r.terminator hay end whole (slot_of r p) h plain) in
     let final : (j : ℕ) → ends r.terminator hay end whole (at 0 j) ≡ within end j = λ j.
     by_test (nat_le j end)
     (λ e.
