@@ -146,9 +146,11 @@ module _ (text : List ℕ) (i : ℕ) (within : i ≤ length text) where
       let ys = encode_utf8 c in
       let size : length ys ≡ n = length-encode c ∙ parts.1 in
       let start : length (take (i - n) text) ≡ i - n = length-take-le (i - n) text (omega arith) in
-      let whole : text ≡ take (i - n) text ++ (ys ++ drop (i - n + len_utf8 c) text) = sym (take-append-drop (i - n) text) ∙ ap (λ r. take (i - n) text ++ r) stands.1 in
+      let whole : text ≡ take (i - n) text ++ (ys ++ drop (i - n + len_utf8 c) text) =
+      sym (take-append-drop (i - n) text) ∙ ap (λ r. take (i - n) text ++ r) stands.1 in
       let place : i ≡ length (take (i - n) text) + n = omega arith in
-      let front : take i text ≡ take (i - n) text ++ ys = (λ k. take (place k) (whole k)) ∙ take-append-add (take (i - n) text) (ys ++ drop (i - n + len_utf8 c) text) n
+      let front : take i text ≡ take (i - n) text ++ ys =
+      (λ k. take (place k) (whole k)) ∙ take-append-add (take (i - n) text) (ys ++ drop (i - n + len_utf8 c) text) n
       ∙ ap (λ r. take (i - n) text ++ r) (ap (λ m. take m (ys ++ drop (i - n + len_utf8 c) text)) (sym size)
       ∙ take-append_seam ys (drop (i - n + len_utf8 c) text)) in
       subst (λ bs. IsLastPiece bs (good c n)) (sym front) (subst (λ m. IsLastPiece (take (i - n) text ++ ys) (good c m)) parts.1

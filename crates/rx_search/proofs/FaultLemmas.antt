@@ -57,7 +57,8 @@ pub first_fault-stays : (gs : List (List (Option (List ℕ)))) (i n : ℕ) (e : 
     → first_fault 0 (take n gs) ≡ Some e
 first_fault-stays gs i n e order fault =
     let rest = drop i (take n gs) in
-    let whole : take i gs ++ rest ≡ take n gs = ap (λ (xs : List (List (Option (List ℕ)))). xs ++ rest) (sym (take-take i n gs order)) ∙ take-append-drop i (take n gs) in
+    let whole : take i gs ++ rest ≡ take n gs =
+    ap (λ (xs : List (List (Option (List ℕ)))). xs ++ rest) (sym (take-take i n gs order)) ∙ take-append-drop i (take n gs) in
     ap (first_fault 0) (sym whole) ∙ first_fault-append 0 (take i gs) rest
     ∙ ap (λ (o : Option GroupInfoError). option_or o (first_fault (0 + length (take i gs)) rest)) fault
 
@@ -116,7 +117,8 @@ length-names_of names = length-map names (option_map string_bytes)
 pub fault_is_refusal : (gs : List (List (Option (List ℕ)))) (i : ℕ) (g : List (Option (List ℕ))) (e : GroupInfoError) → first_fault 0 (take i gs) ≡ None
     → get_or gs i [] ≡ g → i < length gs → i < id_limit → IsFault i g e → IsRefusal gs e
 fault_is_refusal gs i g e none item below limit fault =
-    let front : fault_of i g ≡ Some e → first_fault 0 (take (i + 1) gs) ≡ Some e = λ h. first_fault-more gs i [] below ∙ ap (λ (o : Option GroupInfoError). option_or o (fault_of i (get_or gs i []))) none ∙ ap (fault_of i) item ∙ h in
+    let front : fault_of i g ≡ Some e → first_fault 0 (take (i + 1) gs) ≡ Some e =
+    λ h. first_fault-more gs i [] below ∙ ap (λ (o : Option GroupInfoError). option_or o (fault_of i (get_or gs i []))) none ∙ ap (fault_of i) item ∙ h in
     ⊎_elim (λ h. inl (fault_refusal gs e (first_fault-stays gs (i + 1) id_limit e (omega arith) (front h)))) (λ h. inr h) fault
 
 -- the next pattern has no fault

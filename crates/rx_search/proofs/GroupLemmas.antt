@@ -37,7 +37,8 @@ row_facts names from (first ∷ rows) to zero row laid few at =
 row_facts names from (first ∷ rows) to (suc p) row laid few at =
     let rest = row_facts names first.end rows to p row laid.2 few at in
     let rises : first.end ≤ to = AreInRow-rises first.end rows to laid.2 in
-    let len : length (slice_range names first.start first.end) ≡ first.end - first.start = length-slice_range names first.start first.end laid.1 (omega arith) in
+    let len : length (slice_range names first.start first.end) ≡ first.end - first.start =
+    length-slice_range names first.start first.end laid.1 (omega arith) in
     record { ordered = rest.ordered; within = rest.within; before = omega (arith, laid.0, laid.1, rest.before, len) }
 
 -- the groups that rows stand for are counted by the rows and their explicit groups
@@ -47,7 +48,8 @@ group_count-rows names from [] to laid few = omega (arith, laid)
 group_count-rows names from (first ∷ rows) to laid few =
     let rest = group_count-rows names first.end rows to laid.2 few in
     let rises : first.end ≤ to = AreInRow-rises first.end rows to laid.2 in
-    let len : length (slice_range names first.start first.end) ≡ first.end - first.start = length-slice_range names first.start first.end laid.1 (omega arith) in
+    let len : length (slice_range names first.start first.end) ≡ first.end - first.start =
+    length-slice_range names first.start first.end laid.1 (omega arith) in
     omega (arith, laid.0, laid.1, rest, len)
 
 -- the groups of a pattern that is there
@@ -82,7 +84,8 @@ is_row_of names rows p row tables at =
     let within = slice_get_within rows p row at in
     let all = group_count-tables names rows tables in
     let fits : row.end ≤ length (names_of names) = omega (arith, facts.within, many) in
-    let len : length (slice_range (names_of names) row.start row.end) ≡ row.end - row.start = length-slice_range (names_of names) row.start row.end facts.ordered fits in
+    let len : length (slice_range (names_of names) row.start row.end) ≡ row.end - row.start =
+    length-slice_range (names_of names) row.start row.end facts.ordered fits in
     record {
       there = omega (arith, same, within);
       ordered = facts.ordered;
@@ -145,7 +148,8 @@ table_groups-append names more from (row ∷ rows) to laid few =
     ∙ ap (λ (gs : List (List (Option (List ℕ)))). groups_in names row ∷ gs) (table_groups-append names more row.end rows to laid.2 few)
 
 -- one row more
-pub AreInRow-push : (from : ℕ) (rows : List Explicit) (to end : ℕ) → AreInRow from rows to → to ≤ end → AreInRow from (rows ++ record { start = to; end = end } ∷ []) end
+pub AreInRow-push : (from : ℕ) (rows : List Explicit) (to end : ℕ) → AreInRow from rows to → to ≤ end
+    → AreInRow from (rows ++ record { start = to; end = end } ∷ []) end
 AreInRow-push from [] to end laid order = (sym laid, order, refl)
 AreInRow-push from (row ∷ rows) to end laid order = (laid.0, laid.1, AreInRow-push row.end rows to end laid.2 order)
 
@@ -156,7 +160,10 @@ slice_range-last xs ys =
     ap (take (length (xs ++ ys) - length xs)) (drop_at xs ys (length xs) refl) ∙ take_all (length (xs ++ ys) - length xs) ys (omega (arith, len))
 
 -- one pattern more
-pub AreOf-push : {A : Type 0} (info : List (List (Option (List ℕ)))) (names longer : List (Option (String A))) (rows : List Explicit) (g more : List (Option (List ℕ))) (start end : ℕ) → AreOf info names rows → names_of longer ≡ names_of names ++ more → g ≡ None ∷ more → start ≡ length names → end ≡ length longer → AreOf (info ++ g ∷ []) longer (rows ++ record { start = start; end = end } ∷ [])
+pub AreOf-push : {A : Type 0} (info : List (List (Option (List ℕ)))) (names longer : List (Option (String A))) (rows : List Explicit)
+    (g more : List (Option (List ℕ))) (start end : ℕ) → AreOf info names rows → names_of longer ≡ names_of names ++ more
+    → g ≡ None ∷ more → start ≡ length names
+    → end ≡ length longer → AreOf (info ++ g ∷ []) longer (rows ++ record { start = start; end = end } ∷ [])
 AreOf-push info names longer rows g more start end tables longer_is g_is start_is end_is =
     let many : length (names_of names) ≡ length names = length-map names (option_map string_bytes) in
     let many_longer : length (names_of longer) ≡ length longer = length-map longer (option_map string_bytes) in
@@ -167,7 +174,8 @@ AreOf-push info names longer rows g more start end tables longer_is g_is start_i
     let last : slice_range (names_of names ++ more) start end ≡ more =
     subst (λ (a : ℕ). slice_range (names_of names ++ more) a end ≡ more) same_start
     (subst (λ (b : ℕ). slice_range (names_of names ++ more) (length (names_of names)) b ≡ more) same_end (slice_range-last (names_of names) more)) in
-    let front : table_groups (names_of names ++ more) rows ≡ info = table_groups-append (names_of names) more 0 rows (length names) tables.in_row (omega arith) ∙ tables.groups in
+    let front : table_groups (names_of names ++ more) rows ≡ info =
+    table_groups-append (names_of names) more 0 rows (length names) tables.in_row (omega arith) ∙ tables.groups in
     let rows_laid = AreInRow-push 0 rows (length names) end tables.in_row (omega (arith, start_is, end_is, len, many, many_longer)) in
     record {
       groups =

@@ -29,7 +29,8 @@ pub record AnswersAlike {F E : Type 0} (searches : F → InputValue → Option M
   pub same_failures : (v : InputValue) (e : E) → fails g v e → fails f v e
   pub stays : (s : F) → keeps s f → keeps s g
 
-module _ {F E : Type 0} {searches : F → InputValue → Option Match} {can_search promises : F → InputValue → Type 0} {fails : F → InputValue → E → Type 0} {keeps : F → F → Type 0} where
+module _ {F E : Type 0} {searches : F → InputValue → Option Match} {can_search promises : F → InputValue → Type 0} {fails : F → InputValue → E → Type 0}
+    {keeps : F → F → Type 0} where
   pub AnswersAlike-begun : (f : F) → AnswersAlike searches can_search promises fails keeps f f
   AnswersAlike-begun f = record {
     same_answers = λ v. refl;
@@ -248,8 +249,10 @@ module _ (searches : InputValue → Option Match) (s : SearcherValue) where
           → to_come searches s ≡ x ∷ to_come searches (moved_past m s)
       follow x next ends zero count = absurd (omega arith)
       follow x next ends (suc n) count =
-          let enough : (k : ℕ) → s.input.end + 1 - x.trace.end ≤ k → IsEnough (search_from searches s.input) s.input.end is_search k (next_after (search_from searches s.input) x.trace.end) =
-          λ k le y h. let f = next_after-follows (search_from searches s.input) s.input.end is_search x.trace.end y h in let up = f.rises in let top = f.ahead.2 in (top, omega arith) in
+          let enough : (k : ℕ) → s.input.end + 1 - x.trace.end ≤ k
+          → IsEnough (search_from searches s.input) s.input.end is_search k (next_after (search_from searches s.input) x.trace.end) =
+          λ k le y h. let f = next_after-follows (search_from searches s.input) s.input.end is_search x.trace.end y h in let up = f.rises in
+          let top = f.ahead.2 in (top, omega arith) in
           (λ j. matches_from (search_from searches s.input) (count j) (next j))
           ∙ ap (λ ms. x ∷ ms) (matches_from-enough (search_from searches s.input) s.input.end is_search n (s.input.end + 1 - x.trace.end)
           (next_after (search_from searches s.input) x.trace.end)

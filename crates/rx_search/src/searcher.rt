@@ -140,7 +140,8 @@ impl<'h> Searcher<'h> {
     pub fn count<F: Finder>(mut self, finder: &mut F) -> Result<usize, F::Error>
         requires { AtEachPlace (F.can_search finder.old) self.input }
         ensures value { AtEachPlace (F.promises finder.old) self.entry.input → IfOk result (λ n. n ≡ length (to_come (F.searches finder.old) self.entry)) }
-        ensures cause { IfErr result (HasCauseOfOne (F.fails finder.old) (F.searches finder.old) (AtEachPlace (F.promises finder.old) self.entry.input) self.entry) }
+        ensures cause { IfErr result (HasCauseOfOne (F.fails finder.old) (F.searches finder.old)
+            (AtEachPlace (F.promises finder.old) self.entry.input) self.entry) }
         ensures same_answers { (v : InputValue) → F.searches finder.new v ≡ F.searches finder.old v }
         ensures still_can { (v : InputValue) → F.can_search finder.old v → F.can_search finder.new v }
         ensures still_promises { (v : InputValue) → F.promises finder.old v → F.promises finder.new v }
@@ -171,7 +172,8 @@ impl<'h> Searcher<'h> {
         requires { AtEachPlace (F.can_search finder.old) self.input }
         ensures value { AtEachPlace (F.promises finder.old) self.entry.input
             → IfOk result (λ all. all.items ≡ map match_value (to_come (F.searches finder.old) self.entry)) }
-        ensures cause { IfErr result (λ e. HasCauseOfOne (F.fails finder.old) (F.searches finder.old) (AtEachPlace (F.promises finder.old) self.entry.input) self.entry e
+        ensures cause { IfErr result (λ e. HasCauseOfOne (F.fails finder.old) (F.searches finder.old)
+            (AtEachPlace (F.promises finder.old) self.entry.input) self.entry e
             ⊎ ((a : AllocFailed MatchValue) × F.Error.from_gives a e)) }
         ensures same_answers { (v : InputValue) → F.searches finder.new v ≡ F.searches finder.old v }
         ensures still_can { (v : InputValue) → F.can_search finder.old v → F.can_search finder.new v }

@@ -19,9 +19,12 @@ returns-in_err-check_pattern c =
     let i = c.loop-index.index in
     let e = c.in_err-check_pattern.field-0.0 in
     let below : i < length gs = omega (arith, c.loop-index-test.true, length-groups_of c.args.patterns.now) in
-    let item : get_or gs i [] ≡ names_of c.as_slice.result.now = group_at c.args.patterns.now i c.index-patterns-index.result c.loop-index-test.true c.index-patterns-index.is ∙ ap names_of (sym c.as_slice.ensures.value) in
-    let fault : IsFault i (names_of c.as_slice.result.now) e = subst (λ (n : ℕ). IsFault n (names_of c.as_slice.result.now) e) c.in-Some.ensures.0 c.in_err-check_pattern.ensures in
-    let refused : IsRefusal gs e = fault_is_refusal gs i (names_of c.as_slice.result.now) e c.loop-index.invariant.0 item below (omega (arith, c.in-Some.ensures.0, c.in-Some.ensures.1)) fault in
+    let item : get_or gs i [] ≡ names_of c.as_slice.result.now = group_at c.args.patterns.now i c.index-patterns-index.result c.loop-index-test.true
+    c.index-patterns-index.is ∙ ap names_of (sym c.as_slice.ensures.value) in
+    let fault : IsFault i (names_of c.as_slice.result.now) e =
+    subst (λ (n : ℕ). IsFault n (names_of c.as_slice.result.now) e) c.in-Some.ensures.0 c.in_err-check_pattern.ensures in
+    let refused : IsRefusal gs e = fault_is_refusal gs i (names_of c.as_slice.result.now) e c.loop-index.invariant.0 item below
+    (omega (arith, c.in-Some.ensures.0, c.in-Some.ensures.1)) fault in
     subst (λ r. MatchResult r (λ _. first_fault 0 (take id_limit gs) ≡ None) (IsRefusal gs)) (sym (p.1 ∙ ap Err p.2)) refused
 
 pub loop-index-preserved : goal.loop-index-preserved
@@ -29,8 +32,10 @@ loop-index-preserved c =
     let gs = groups_of c.args.patterns.now in
     let i = c.loop-index.index in
     let below : i < length gs = omega (arith, c.loop-index-test.true, length-groups_of c.args.patterns.now) in
-    let item : get_or gs i [] ≡ names_of c.as_slice.result.now = group_at c.args.patterns.now i c.index-patterns-index.result c.loop-index-test.true c.index-patterns-index.is ∙ ap names_of (sym c.as_slice.ensures.value) in
-    let none : fault_of i (names_of c.as_slice.result.now) ≡ None = subst (λ (n : ℕ). fault_of n (names_of c.as_slice.result.now) ≡ None) c.in-Some.ensures.0 c.in_ok-check_pattern.ensures in
+    let item : get_or gs i [] ≡ names_of c.as_slice.result.now = group_at c.args.patterns.now i c.index-patterns-index.result c.loop-index-test.true
+    c.index-patterns-index.is ∙ ap names_of (sym c.as_slice.ensures.value) in
+    let none : fault_of i (names_of c.as_slice.result.now) ≡ None =
+    subst (λ (n : ℕ). fault_of n (names_of c.as_slice.result.now) ≡ None) c.in-Some.ensures.0 c.in_ok-check_pattern.ensures in
     (no_fault-more gs i (names_of c.as_slice.result.now) c.loop-index.invariant.0 item below none, omega (arith, c.in-Some.ensures.0, c.in-Some.ensures.1))
 
 pub returns : goal.returns

@@ -14,7 +14,8 @@ loop-group-preserved-in_default c =
     let names = names_of c.args.groups.now in
     let i = c.loop-group.group-index in
     let below : i < length names = omega (arith, c.loop-group-test.true, length-names_of c.args.groups.now) in
-    let item : get_or names i None ≡ None = name_of_item c.args.groups.now i c.group-item.result c.loop-group-test.true c.group-item.is ∙ ap (option_map string_bytes) c.in_default.is in (
+    let item : get_or names i None ≡ None =
+    name_of_item c.args.groups.now i c.group-item.result c.loop-group-test.true c.group-item.is ∙ ap (option_map string_bytes) c.in_default.is in (
       λ (name : List ℕ). c.loop-group.invariant.0 name ∙ sym (list_any-more (is_named name) names i None item below ∙ or-false _),
       has_duplicate-more names i None item below ∙ or-false _ ∙ c.loop-group.invariant.1,
     )
@@ -25,9 +26,11 @@ returns-then-not-branch c =
     let i = c.loop-group.group-index in
     let name = c.as_str.result.now in
     let below : i < length names = omega (arith, c.loop-group-test.true, length-names_of c.args.groups.now) in
-    let item : get_or names i None ≡ Some name = name_of_item c.args.groups.now i c.group-item.result c.loop-group-test.true c.group-item.is ∙ ap (option_map string_bytes) c.in-Some.is ∙ ap Some (sym c.as_str.ensures.value) in
+    let item : get_or names i None ≡ Some name = name_of_item c.args.groups.now i c.group-item.result c.loop-group-test.true c.group-item.is
+    ∙ ap (option_map string_bytes) c.in-Some.is ∙ ap Some (sym c.as_str.ensures.value) in
     let seen : contains_by (λ k. slice_cmp nat_cmp name k.now) c.loop-group.seen ≡ true = not_false _ _ c.in_ok-insert.ensures.added c.if-not-branch.true in
-    let twice : has_duplicate (take (i + 1) names) ≡ true = has_duplicate-more names i (Some name) item below ∙ or_right _ _ (sym (c.loop-group.invariant.0 name) ∙ seen) in
+    let twice : has_duplicate (take (i + 1) names) ≡ true =
+    has_duplicate-more names i (Some name) item below ∙ or_right _ _ (sym (c.loop-group.invariant.0 name) ∙ seen) in
     sym (has_duplicate-front (i + 1) names twice)
 
 pub loop-group-preserved : goal.loop-group-preserved
@@ -36,7 +39,8 @@ loop-group-preserved c =
     let i = c.loop-group.group-index in
     let name = c.as_str.result.now in
     let below : i < length names = omega (arith, c.loop-group-test.true, length-names_of c.args.groups.now) in
-    let item : get_or names i None ≡ Some name = name_of_item c.args.groups.now i c.group-item.result c.loop-group-test.true c.group-item.is ∙ ap (option_map string_bytes) c.in-Some.is ∙ ap Some (sym c.as_str.ensures.value) in
+    let item : get_or names i None ≡ Some name = name_of_item c.args.groups.now i c.group-item.result c.loop-group-test.true c.group-item.is
+    ∙ ap (option_map string_bytes) c.in-Some.is ∙ ap Some (sym c.as_str.ensures.value) in
     let new : contains_by (λ k. slice_cmp nat_cmp name k.now) c.loop-group.seen ≡ false = not_true _ _ c.in_ok-insert.ensures.added c.if-not-branch.false in (
       λ (other : List ℕ).
           set_with c.as_str.result c.loop-group.seen c.insert.new.self c.in_ok-insert.ensures.updates other

@@ -20,7 +20,8 @@ loop-power-preserved c =
     let len = inv.len in
     let next : c.loop-power.power * 2 ≡ 2 ^ (c.loop-power.exponent + 1) = ap (λ n. n * 2) inv.is ∙ doubled c.loop-power.exponent in
     let least : (j : ℕ) → c.alphabet_len-len.result ≤ 2 ^ j → c.loop-power.exponent + 1 ≤ j =
-    λ j le. ⊎_elim (λ gt. omega arith) (λ few. let more = pow_mono {i = j} {j = c.loop-power.exponent} few in absurd (omega arith)) (cases_lt c.loop-power.exponent j) in
+    λ j le. ⊎_elim (λ gt. omega arith) (λ few. let more = pow_mono {i = j} {j = c.loop-power.exponent} few in absurd (omega arith))
+    (cases_lt c.loop-power.exponent j) in
     record {
       is = next;
       some = (let some = inv.some in omega arith);

@@ -11,5 +11,6 @@ returns c =
     let row = c.in_ok-explicit.explicit.now in
     let lookup = c.in_ok-explicit.ensures.lookup in
     let same : c.deref-2.result.now ≡ tables.patterns.items = c.deref-2.ensures.value ∙ ap (λ t. t.patterns.items) c.deref.ensures in
-    let there : slice_get tables.patterns.items c.args.pid ≡ Some row = rw (← same, ← c.as_usize.ensures.value) (slice_get_read _ _ _ row refl lookup.3.0 lookup.1) in
+    let there : slice_get tables.patterns.items c.args.pid ≡ Some row =
+    rw (← same, ← c.as_usize.ensures.value) (slice_get_read _ _ _ row refl lookup.3.0 lookup.1) in
     subst (λ info. IsRowOf info c.args.pid row) c.self.view_is (is_row_of tables.names.items tables.patterns.items c.args.pid row c.self.invariant there)

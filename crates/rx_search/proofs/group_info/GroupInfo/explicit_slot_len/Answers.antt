@@ -10,6 +10,7 @@ returns c =
     let all : group_count c.args.self.now ≡ length tables.patterns.items + length tables.names.items =
     subst (λ info. group_count info ≡ length tables.patterns.items + length tables.names.items) c.self.view_is
     (group_count-tables tables.names.items tables.patterns.items c.self.invariant) in
-    let patterns : length c.args.self.now ≡ length tables.patterns.items = subst (λ info. length info ≡ length tables.patterns.items) c.self.view_is (length-tables tables.names.items tables.patterns.items) in
+    let patterns : length c.args.self.now ≡ length tables.patterns.items =
+    subst (λ info. length info ≡ length tables.patterns.items) c.self.view_is (length-tables tables.names.items tables.patterns.items) in
     let names = ap (λ t. length t.names.items) c.deref.ensures in
     omega (arith, all, patterns, names)

@@ -13,5 +13,6 @@ named_tables-requires c =
 pub invariant_of-result : goal.invariant_of-result
 invariant_of-result c =
     let made = c.in_ok-tables.tables in
-    let kept = AreOf-tables (groups_of c.args.groups.now) made.names.items made.patterns.items c.in_ok-tables.ensures (refused_none (groups_of c.args.groups.now) c.in_ok-check.ensures).few in
+    let kept = AreOf-tables (groups_of c.args.groups.now) made.names.items made.patterns.items c.in_ok-tables.ensures
+    (refused_none (groups_of c.args.groups.now) c.in_ok-check.ensures).few in
     subst (λ t. AreTables t.names.items t.patterns.items) (sym c.in_ok-tables-2.ensures.ok) kept

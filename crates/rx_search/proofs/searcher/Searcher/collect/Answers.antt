@@ -32,7 +32,8 @@ loop-all-preserved g c =
           AnswersAlike-more i.alike c.in_ok-found.ensures.same_answers c.in_ok-found.ensures.still_can c.in_ok-found.ensures.still_promises
           c.in_ok-found.ensures.same_failures c.in_ok-found.ensures.stays;
       reached =
-          IsReached-more (g.F.Finder.searches c.args.finder.now) (AtEachPlace (g.F.Finder.promises c.args.finder.now) c.args.self.input) _ _ _ i.reached c.in-Some.is c.in_ok-found.ensures.moved c.in_ok-found.ensures.forward c.in_ok-found.ensures.within
+          IsReached-more (g.F.Finder.searches c.args.finder.now) (AtEachPlace (g.F.Finder.promises c.args.finder.now) c.args.self.input) _ _ _ i.reached
+          c.in-Some.is c.in_ok-found.ensures.moved c.in_ok-found.ensures.forward c.in_ok-found.ensures.within
           (λ promised.
           Progress-contains (i.progress promised) _ c.in-Some.is (c.in_ok-found.ensures.answer (i.promised promised)) c.in_ok-found.ensures.moved
           c.in_ok-found.ensures.fewer_left _ (λ x next value. value));

@@ -60,7 +60,8 @@ loop-count-preserved g c =
           AnswersAlike-more i.alike c.in_ok-advance.ensures.same_answers c.in_ok-advance.ensures.still_can c.in_ok-advance.ensures.still_promises
           c.in_ok-advance.ensures.same_failures c.in_ok-advance.ensures.stays;
       reached =
-          IsReached-more (g.F.Finder.searches c.args.finder.now) (AtEachPlace (g.F.Finder.promises c.args.finder.now) c.args.self.input) _ _ _ i.reached c.in-Some.is c.in_ok-advance.ensures.moved c.in_ok-advance.ensures.forward c.in_ok-advance.ensures.within
+          IsReached-more (g.F.Finder.searches c.args.finder.now) (AtEachPlace (g.F.Finder.promises c.args.finder.now) c.args.self.input) _ _ _ i.reached
+          c.in-Some.is c.in_ok-advance.ensures.moved c.in_ok-advance.ensures.forward c.in_ok-advance.ensures.within
           (λ promised.
           Progress-contains (i.counted promised).progress _ c.in-Some.is (c.in_ok-advance.ensures.answer (i.promised promised)) c.in_ok-advance.ensures.moved
           c.in_ok-advance.ensures.fewer_left _ (λ x next value. value));
