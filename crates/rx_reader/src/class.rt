@@ -163,7 +163,8 @@ fn class_range(
     start: usize,
     low: ClassMember,
 ) -> Result<ClassItem, ParseError>
-    ensures value { (from p : Place) → IsPieceAt opening from → start ≡ p.at → Reads result (class_range syntax.octal syntax.skips from p low (place cursor.old)) (place cursor.new) }
+    ensures value { (from p : Place) → IsPieceAt opening from → start ≡ p.at
+        → Reads result (class_range syntax.octal syntax.skips from p low (place cursor.old)) (place cursor.new) }
     ensures progress { OnOk result (unread cursor.new ≤ unread cursor.old) }
 {
     if !begins_range(cursor, syntax.skips) {
@@ -213,7 +214,8 @@ fn class_item(
     opening: Piece,
     comes_first: bool,
 ) -> Result<Option<ClassItem>, ParseError>
-    ensures value { (from : Place) → IsPieceAt opening from → Reads result (class_item syntax.octal syntax.skips from comes_first (place cursor.old)) (place cursor.new) }
+    ensures value { (from : Place) → IsPieceAt opening from
+        → Reads result (class_item syntax.octal syntax.skips from comes_first (place cursor.old)) (place cursor.new) }
     ensures progress { OnOk result (unread cursor.new < unread cursor.old) }
 {
     cursor.skip_white(syntax.skips);
@@ -238,7 +240,8 @@ fn class_items(
     syntax: ClassSyntax,
     opening: Piece,
 ) -> Result<Vec<ClassItem>, ParseError>
-    ensures value { (from : Place) → IsPieceAt opening from → ReadsAs (λ items. items.items) result (all_class_items syntax.octal syntax.skips from true (place cursor.old)) (place cursor.new) }
+    ensures value { (from : Place) → IsPieceAt opening from
+        → ReadsAs (λ items. items.items) result (all_class_items syntax.octal syntax.skips from true (place cursor.old)) (place cursor.new) }
     ensures progress { OnOk result (unread cursor.new < unread cursor.old) }
 {
     let mut items = Vec::new(cursor.alloc());

@@ -96,7 +96,9 @@ pub(crate) fn read_name(cursor: &mut Cursor, inside: NameIn) -> Result<Vec<char>
 fn digit(cursor: &Cursor, radix: u32) -> Option<u32>
     requires radix { 2 ≤ radix }
     requires small { radix ≤ 16 }
-    ensures { MatchOption result (passes (λ c. is_digit c radix) (place cursor.now) ≡ false) (λ d. (0 < unread cursor.now) × (passes (λ c. is_digit c radix) (place cursor.now) ≡ true) × (d ≡ digit_value (first (place cursor.now))) × (d < radix)) }
+    ensures { MatchOption result (passes (λ c. is_digit c radix) (place cursor.now) ≡ false)
+        (λ d. (0 < unread cursor.now) × (passes (λ c. is_digit c radix) (place cursor.now) ≡ true)
+        × (d ≡ digit_value (first (place cursor.now))) × (d < radix)) }
 {
     match cursor.current() {
         Some(c) => c.to_digit(radix),

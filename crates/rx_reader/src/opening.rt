@@ -45,7 +45,11 @@ fn is_reference(cursor: &Cursor) -> bool
 
 /// Refuses the token of so many characters at the position.
 fn unsupported(cursor: &mut Cursor, count: usize) -> ParseError
-    ensures value { result ≡ ParseError.Syntax (record { kind = SyntaxErrorKind.Unsupported; start = (place cursor.old).at; end = (past_n count (place cursor.old)).at }) }
+    ensures value { result ≡ ParseError.Syntax (record {
+      kind = SyntaxErrorKind.Unsupported;
+      start = (place cursor.old).at;
+      end = (past_n count (place cursor.old)).at;
+    }) }
     ensures kept { HasRoom cursor.old → HasRoom cursor.new }
 {
     let start = cursor.at();

@@ -123,7 +123,8 @@ impl<'a> Parser<'a> {
 
     /// Closes a group, whose end was read.
     fn close_group(&mut self, start: usize) -> Result<(), ParseError>
-        ensures value { (p : Place) → start ≡ p.at → at_end p ≡ false → place self.old.cursor ≡ past p → Continues result self.new (answer_with self.old (Ok (no_items, p))) }
+        ensures value { (p : Place) → start ≡ p.at → at_end p ≡ false → place self.old.cursor ≡ past p
+            → Continues result self.new (answer_with self.old (Ok (no_items, p))) }
         ensures progress { OnOk result (unread self.new.cursor ≤ unread self.old.cursor) }
     {
         let frame = match self.frames.pop() {

@@ -16,7 +16,8 @@ unfoldable start : List ℕ → Place
 start text = record { text = text; at = 0; groups = 0; names = [] }
 
 unfoldable flags : (U x : Bool) → Flags
-flags U x = record { case_insensitive = false; multi_line = false; dot_matches_new_line = false; swap_greed = U; unicode = true; crlf = false; ignore_whitespace = x }
+flags U x =
+    record { case_insensitive = false; multi_line = false; dot_matches_new_line = false; swap_greed = U; unicode = true; crlf = false; ignore_whitespace = x }
 
 unfoldable found_with : (U x : Bool) → String → Result (Operator × ℕ) SyntaxError
 found_with U x text = operator (flags U x) (start (codes text)) >>= λ (o, q). Ok (o, q.at)

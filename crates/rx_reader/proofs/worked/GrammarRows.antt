@@ -71,8 +71,11 @@ items_rows :
     (read default (codes "") ≡ Ok (row [])) ×
     (read default (codes "a|") ≡ Ok (alt (cons (cat (syntaxes (plain 97 ∷ []))) (cons (cat (syntaxes [])) nil)))) ×
     (read default (codes "(a)(?:b)") ≡ Ok (row (group (CaptureIndex (number_after 0)) (row (plain 97 ∷ [])) ∷ group NonCapturing (row (plain 98 ∷ [])) ∷ []))) ×
-    (read default (codes "((a)b)(c)") ≡ Ok (row (group (CaptureIndex (number_after 0)) (row (group (CaptureIndex (number_after 1)) (row (plain 97 ∷ [])) ∷ plain 98 ∷ [])) ∷ group (CaptureIndex (number_after 2)) (row (plain 99 ∷ [])) ∷ []))) ×
-    (read default (codes "^.$") ≡ Ok (row (atom unicode_alone (piece 0 1) (Assertion StartLine) ∷ atom unicode_alone (piece 1 2) Dot ∷ atom unicode_alone (piece 2 3) (Assertion EndLine) ∷ [])))
+    (read default (codes "((a)b)(c)") ≡ Ok (row (group (CaptureIndex (number_after 0))
+    (row (group (CaptureIndex (number_after 1)) (row (plain 97 ∷ [])) ∷ plain 98 ∷ []))
+    ∷ group (CaptureIndex (number_after 2)) (row (plain 99 ∷ [])) ∷ []))) ×
+    (read default (codes "^.$") ≡ Ok (row (atom unicode_alone (piece 0 1) (Assertion StartLine) ∷ atom unicode_alone (piece 1 2) Dot
+    ∷ atom unicode_alone (piece 2 3) (Assertion EndLine) ∷ [])))
 unfolding read branches repetitions token token_of opens escaped bracketed opening named flagged read_flags letters_after read_name operator read_counts read_number read_max past_n blank_len past_while escape lettered boundary one_letter property property_in_braces octal_digits hex hex_in_braces hex_digits digits class class_items class_item item_at class_range member posix posix_name
 items_rows = (refl, refl, refl, refl, refl)
 
@@ -81,7 +84,8 @@ items_rows = (refl, refl, refl, refl, refl)
 flags_rows :
     (read default (codes "(?i-s:a)") ≡ Ok (row (group NonCapturing (row (literal folding 97 ∷ [])) ∷ []))) ×
     (read default (codes "(?i-s:a)b") ≡ Ok (row (group NonCapturing (row (literal folding 97 ∷ [])) ∷ plain 98 ∷ []))) ×
-    (read default (codes "(?:(?i)a|b)c") ≡ Ok (row (group NonCapturing (alt (cons (cat (syntaxes (literal folding 97 ∷ []))) (cons (cat (syntaxes (literal folding 98 ∷ []))) nil))) ∷ plain 99 ∷ []))) ×
+    (read default (codes "(?:(?i)a|b)c") ≡ Ok (row (group NonCapturing (alt
+    (cons (cat (syntaxes (literal folding 97 ∷ []))) (cons (cat (syntaxes (literal folding 98 ∷ []))) nil))) ∷ plain 99 ∷ []))) ×
     (read default (codes "a(?i)b") ≡ Ok (row (plain 97 ∷ literal folding 98 ∷ []))) ×
     (read default (codes "(?x) a b # c") ≡ Ok (row (literal spaced 97 ∷ literal spaced 98 ∷ []))) ×
     (read default (codes "(?-u:\\xff)") ≡ Ok (row (group NonCapturing (row (atom none (piece 5 9) (HexByte 255) ∷ [])) ∷ [])))
@@ -105,7 +109,8 @@ atoms_rows :
     (read default (codes "\\b{start-half}") ≡ Ok (row (atom unicode_alone (piece 0 14) (Assertion WordBoundaryStartHalf) ∷ []))) ×
     (read default (codes "\\x{1F600}") ≡ Ok (row (plain 128512 ∷ []))) ×
     (read with_octal (codes "\\141b") ≡ Ok (row (plain 97 ∷ plain 98 ∷ []))) ×
-    (read default (codes "[[:^alpha:]\\d-]") ≡ Ok (row (atom unicode_alone (piece 0 15) (Bracketed false (Posix Alpha true ∷ Perl Digit false ∷ Range hyphen hyphen ∷ [])) ∷ [])))
+    (read default (codes "[[:^alpha:]\\d-]") ≡ Ok (row (atom unicode_alone (piece 0 15)
+    (Bracketed false (Posix Alpha true ∷ Perl Digit false ∷ Range hyphen hyphen ∷ [])) ∷ [])))
 unfolding read branches repetitions token token_of opens escaped bracketed opening named flagged read_flags letters_after read_name operator read_counts read_number read_max past_n blank_len past_while escape lettered boundary one_letter property property_in_braces octal_digits hex hex_in_braces hex_digits digits class class_items class_item item_at class_range member posix posix_name
 atoms_rows = (refl, refl, refl, refl)
 

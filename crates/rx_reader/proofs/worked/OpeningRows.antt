@@ -18,10 +18,26 @@ use Rattle.rx_reader.specs.Groups.{number_after}
 use Rattle.rx_reader.specs.Openings.{named, flagged, opening}
 
 unfoldable defaults : Flags
-defaults = record { case_insensitive = false; multi_line = false; dot_matches_new_line = false; swap_greed = false; unicode = true; crlf = false; ignore_whitespace = false }
+defaults = record {
+  case_insensitive = false;
+  multi_line = false;
+  dot_matches_new_line = false;
+  swap_greed = false;
+  unicode = true;
+  crlf = false;
+  ignore_whitespace = false;
+}
 
 unfoldable folding : Flags
-folding = record { case_insensitive = true; multi_line = false; dot_matches_new_line = false; swap_greed = false; unicode = true; crlf = false; ignore_whitespace = false }
+folding = record {
+  case_insensitive = true;
+  multi_line = false;
+  dot_matches_new_line = false;
+  swap_greed = false;
+  unicode = true;
+  crlf = false;
+  ignore_whitespace = false;
+}
 
 -- what this text begins, where groups with these names were opened: that, the bytes before the place after it,
 -- the groups, and the names

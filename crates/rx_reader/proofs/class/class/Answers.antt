@@ -12,7 +12,8 @@ returns-in_err-items-clause-value c =
     let e = err_from_is_err_and c.from_residual.result c.from_residual.ensures.1 in
     rw (e.1, e.2) (refuses_from _ _ (λ x is.
     let p = place c.args.cursor.now in
-    let stops = refuses _ (all_class_items c.args.syntax.octal c.args.syntax.skips p true (place c.bump_over-negated.new.self)) (c.in_err-items.ensures.value p c.here-opening.ensures) x is in
+    let stops = refuses _ (all_class_items c.args.syntax.octal c.args.syntax.skips p true (place c.bump_over-negated.new.self))
+    (c.in_err-items.ensures.value p c.here-opening.ensures) x is in
     grind (arith, common_steps)))
 
 pub returns-clause-value : goal.returns-clause-value

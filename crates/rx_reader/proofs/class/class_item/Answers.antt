@@ -23,7 +23,8 @@ unfolding class_item
 returns-in_err-item_at-clause-value c from piece =
     let e = err_from_is_err_and c.from_residual.result c.from_residual.ensures.1 in
     rw (e.1, e.2) (refuses_from _ _ (λ x is.
-    let stops = refuses _ (item_at c.args.syntax.octal c.args.syntax.skips from (place c.skip_white.new.self)) (c.in_err-item_at.ensures.value from piece) x is in
+    let stops =
+    refuses _ (item_at c.args.syntax.octal c.args.syntax.skips from (place c.skip_white.new.self)) (c.in_err-item_at.ensures.value from piece) x is in
     grind (arith, common_steps)))
 
 pub returns-clause-value : goal.returns-clause-value

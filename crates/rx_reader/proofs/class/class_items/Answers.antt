@@ -17,7 +17,8 @@ returns-in_err-item-clause-value c from piece =
     let s = c.loop-items in
     let e = err_from_is_err_and c.from_residual.result c.from_residual.ensures.1 in
     rw (e.1, e.2) (refuses_from _ _ (λ x is.
-    let stops = refuses _ (class_item c.args.syntax.octal c.args.syntax.skips from s.comes_first (place s.cursor)) (c.in_err-item.ensures.value from piece) x is in
+    let stops =
+    refuses _ (class_item c.args.syntax.octal c.args.syntax.skips from s.comes_first (place s.cursor)) (c.in_err-item.ensures.value from piece) x is in
     s.invariant.read from piece ∙ after_refused c.args.syntax.octal c.args.syntax.skips from s.comes_first (place s.cursor) s.items.items x stops))
 
 pub returns-in-None-clause-value : goal.returns-in-None-clause-value

@@ -30,5 +30,6 @@ pub returns-clause-value : goal.returns-clause-value
 unfolding class_range
 returns-clause-value c from p piece start =
     let q = place c.member.new.cursor in
-    let same : class_range c.args.syntax.octal c.args.syntax.skips from p c.args.low (place c.args.cursor.now) ≡ range_of p c.args.low c.in_ok-high.high q = grind (arith, common_steps) in
+    let same : class_range c.args.syntax.octal c.args.syntax.skips from p c.args.low (place c.args.cursor.now) ≡ range_of p c.args.low c.in_ok-high.high q =
+    grind (arith, common_steps) in
     subst (λ reading. Reads c.range_of.result reading q) (sym same) (c.range_of.ensures p start)

@@ -24,7 +24,8 @@ pub returns-in-Some-clause-value : goal.returns-in-Some-clause-value
 returns-in-Some-clause-value c from piece =
     let q = place c.read_name.new.cursor in
     let named = sym c.in-Some.is ∙ c.from_name.ensures ∙ ap ascii_named (c.deref.ensures.value ∙ c.in_ok-name.ensures.name) in
-    let read = by_name from (place c.args.cursor.now) q c.args.negated (Some c.in-Some.kind) c.in_ok-name.ensures.value (sym c.begins.ensures ∙ c.if-not-begins.false) named in
+    let read = by_name from (place c.args.cursor.now) q c.args.negated (Some c.in-Some.kind) c.in_ok-name.ensures.value
+    (sym c.begins.ensures ∙ c.if-not-begins.false) named in
     read ∙ ap (λ (r : Place). found c.in-Some.kind c.args.negated r) (sym c.bump_by.ensures.value)
 
 pub returns-clause-value : goal.returns-clause-value

@@ -28,7 +28,8 @@ returns-then-not-may_end_at-clause-value c from piece =
     let len : n ≡ length (letters p.text) = omega (arith, c.in_ok-named.named.ok.0, ap (λ (cs : List ℕ). length cs) named) in
     let hyphen : c.ends_with-ends_with_hyphen.result ≡ ends_with_hyphen (letters p.text) =
     c.ends_with-ends_with_hyphen.ensures.value ∙ ap ends_with_hyphen (c.deref-2.ensures.value ∙ named) in
-    let ends : c.may_end_at.result ≡ (not (ends_with_hyphen (letters p.text)) && may_end_at n q) = c.may_end_at.ensures ∙ ap (λ (b : Bool). not b && may_end_at n q) hyphen in
+    let ends : c.may_end_at.result ≡ (not (ends_with_hyphen (letters p.text)) && may_end_at n q) =
+    c.may_end_at.ensures ∙ ap (λ (b : Bool). not b && may_end_at n q) hyphen in
     let fails : c.may_end_at.result ≡ false = grind (arith, common_steps) in
     let cut : at_end q ≡ false = sym c.is_at_end.ensures.value ∙ c.if-is_at_end.false in
     rw c.refuse-then-not-may_end_at.ensures (flags_fail from p q c.args.flags n len c.bump_by.ensures.value cut (sym ends ∙ fails)
@@ -43,7 +44,8 @@ returns-clause-value c from piece =
     let len : n ≡ length (letters p.text) = omega (arith, c.in_ok-named.named.ok.0, ap (λ (cs : List ℕ). length cs) named) in
     let hyphen : c.ends_with-ends_with_hyphen.result ≡ ends_with_hyphen (letters p.text) =
     c.ends_with-ends_with_hyphen.ensures.value ∙ ap ends_with_hyphen (c.deref-2.ensures.value ∙ named) in
-    let ends : c.may_end_at.result ≡ (not (ends_with_hyphen (letters p.text)) && may_end_at n q) = c.may_end_at.ensures ∙ ap (λ (b : Bool). not b && may_end_at n q) hyphen in
+    let ends : c.may_end_at.result ≡ (not (ends_with_hyphen (letters p.text)) && may_end_at n q) =
+    c.may_end_at.ensures ∙ ap (λ (b : Bool). not b && may_end_at n q) hyphen in
     let well : c.may_end_at.result ≡ true = grind (arith, common_steps) in
     let cut : at_end q ≡ false = sym c.is_at_end.ensures.value ∙ c.if-is_at_end.false in
     let flags : c.changed-flags.result ≡ changed (letters p.text) c.args.flags =

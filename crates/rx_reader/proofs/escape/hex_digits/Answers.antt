@@ -14,5 +14,6 @@ unfolding hex_digits
 returns-clause-value c from start =
     let p = place c.args.cursor.now in
     let q = place c.read_digits-digits.new.cursor in
-    let same : hex_digits from c.args.count p ≡ numbered from (c.args.count == 2) c.read_digits-digits.result.value q = grind (arith, common_steps, nat_tests) in
+    let same : hex_digits from c.args.count p ≡ numbered from (c.args.count == 2) c.read_digits-digits.result.value q =
+    grind (arith, common_steps, nat_tests) in
     subst (λ reading. Reads c.numbered.result reading q) (sym same) (c.numbered.ensures from start)

@@ -45,5 +45,6 @@ returns-then-bump_over-6-clause-value c from start = grind (arith, common_steps,
 pub returns-clause-value : goal.returns-clause-value
 unfolding lettered
 returns-clause-value c from start =
-    let same : lettered from (place c.args.cursor.now) ≡ known from (place c.bump_over-6.new.self) (one_letter c.first-c.result) = grind (arith, common_steps, nat_tests) in
+    let same : lettered from (place c.args.cursor.now) ≡ known from (place c.bump_over-6.new.self) (one_letter c.first-c.result) =
+    grind (arith, common_steps, nat_tests) in
     subst (λ reading. Reads c.known.result reading (place c.known.new.cursor)) (sym same) (c.known.ensures.value from start)

@@ -15,13 +15,15 @@ returns-then-not-bump_over-clause-value c from start = grind (arith, common_step
 pub returns-then-bump_over-clause-value : goal.returns-then-bump_over-clause-value
 unfolding property
 returns-then-bump_over-clause-value c from start =
-    let same : property from c.args.negated (place c.args.cursor.now) ≡ property_in_braces from (not c.args.negated) (place c.bump_over-2.new.self) = grind (arith, common_steps) in
+    let same : property from c.args.negated (place c.args.cursor.now) ≡ property_in_braces from (not c.args.negated) (place c.bump_over-2.new.self) =
+    grind (arith, common_steps) in
     subst (λ reading. Reads c.property_in_braces.result reading (place c.property_in_braces.new.cursor)) (sym same)
     (c.property_in_braces.ensures.value from start)
 
 pub returns-clause-value : goal.returns-clause-value
 unfolding property
 returns-clause-value c from start =
-    let same : property from c.args.negated (place c.args.cursor.now) ≡ property_in_braces from c.args.negated (place c.bump_over-2.new.self) = grind (arith, common_steps) in
+    let same : property from c.args.negated (place c.args.cursor.now) ≡ property_in_braces from c.args.negated (place c.bump_over-2.new.self) =
+    grind (arith, common_steps) in
     subst (λ reading. Reads c.property_in_braces-2.result reading (place c.property_in_braces-2.new.cursor)) (sym same)
     (c.property_in_braces-2.ensures.value from start)

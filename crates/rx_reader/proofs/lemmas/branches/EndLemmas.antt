@@ -14,7 +14,8 @@ pub refused : {A : Type 0} (n : ℕ) (e : SyntaxError) → EndsBelow {A = A} n (
 refused n e = record { below = λ a q is. cc }
 
 pub reads : {A : Type 0} {n : ℕ} {a : A} {q : Place} → length q.text < n → EndsBelow {A = A} n (Ok (a, q))
-reads {A} {n} {a} {q} h = record { below = λ b r is. let pairs : ◌≡◌ {A = A × Place} (a, q) (b, r) = cc in subst (λ (t : A × Place). length t.1.text < n) pairs h }
+reads {A} {n} {a} {q} h =
+    record { below = λ b r is. let pairs : ◌≡◌ {A = A × Place} (a, q) (b, r) = cc in subst (λ (t : A × Place). length t.1.text < n) pairs h }
 
 pub bind : {A B : Type 0} {n m : ℕ} {r : Read A} (f : A × Place → Read B) → EndsBelow m r → ((a : A) (q : Place) → length q.text < m → EndsBelow n (f (a, q)))
     → EndsBelow n (r >>= f)

@@ -38,8 +38,10 @@ pub deepest-step : (items : List Item) (n : ℕ) (item : Item) (most d total : �
     → max (max most d) (deepest (syntaxes (expanded (drop (n + 1) items)))) ≡ total
 deepest-step items n item most d total lt is depth before =
     let rest = drop (n + 1) items in
-    let here : drop n items ≡ item ∷ rest = drop-cons items n item lt ∙ ap (λ (i : Item). i ∷ drop (suc n) items) (sym is) ∙ ap (λ (k : ℕ). item ∷ drop k items) (sym (add-one n)) in
-    let split : deepest (syntaxes (expanded (drop n items))) ≡ max (deepest (syntaxes (expanded (item ∷ [])))) (deepest (syntaxes (expanded rest))) = ap (λ (is : List Item). deepest (syntaxes (expanded is))) here ∙ deepest-expanded item rest in
+    let here : drop n items ≡ item ∷ rest =
+    drop-cons items n item lt ∙ ap (λ (i : Item). i ∷ drop (suc n) items) (sym is) ∙ ap (λ (k : ℕ). item ∷ drop k items) (sym (add-one n)) in
+    let split : deepest (syntaxes (expanded (drop n items))) ≡ max (deepest (syntaxes (expanded (item ∷ [])))) (deepest (syntaxes (expanded rest))) =
+    ap (λ (is : List Item). deepest (syntaxes (expanded is))) here ∙ deepest-expanded item rest in
     omega arith
 
 map-append : (flags : Flags) (cs : List ℕ) (c : ℕ) → map (literal flags) (cs ++ c ∷ []) ≡ map (literal flags) cs ++ literal flags c ∷ []
@@ -72,12 +74,16 @@ with_run-item items later item flags run pushed empty =
     ∙ ap (λ (ss : List Syntax). ss ++ item ∷ []) (sym (append-nil (expanded items))))
 
 -- what was gathered, and an item more
-pub gathered-item : (g : Gathered) (branches : List Syntax) (items later : List Item) (item : Syntax) (flags : Flags) (run : List ℕ) → ◌≡◌ {A = Gathered} (record { branches = branches; items = with_run items flags run }) g → later ≡ items ++ One item ∷ [] → run ≡ [] → ◌≡◌ {A = Gathered} (record { branches = branches; items = with_run later flags run }) (push_item g item)
+pub gathered-item : (g : Gathered) (branches : List Syntax) (items later : List Item) (item : Syntax) (flags : Flags) (run : List ℕ)
+    → ◌≡◌ {A = Gathered} (record { branches = branches; items = with_run items flags run }) g → later ≡ items ++ One item ∷ [] → run ≡ []
+    → ◌≡◌ {A = Gathered} (record { branches = branches; items = with_run later flags run }) (push_item g item)
 gathered-item g branches items later item flags run same pushed empty =
-    ap (λ (ss : List Syntax). record { branches = branches; items = ss }) (with_run-item items later item flags run pushed empty) ∙ ap (λ (h : Gathered). push_item h item) same
+    ap (λ (ss : List Syntax). record { branches = branches; items = ss }) (with_run-item items later item flags run pushed empty)
+    ∙ ap (λ (h : Gathered). push_item h item) same
 
 -- the only branch, where no run is left
-pub whole-branch : (g : Gathered) (branches : List Syntax) (items : List Item) (flags : Flags) (run : List ℕ) → ◌≡◌ {A = Gathered} (record { branches = branches; items = with_run items flags run }) g → g.branches ≡ [] → run ≡ []
+pub whole-branch : (g : Gathered) (branches : List Syntax) (items : List Item) (flags : Flags) (run : List ℕ)
+    → ◌≡◌ {A = Gathered} (record { branches = branches; items = with_run items flags run }) g → g.branches ≡ [] → run ≡ []
     → only_branch items ≡ gathered_whole g
 whole-branch g branches items flags run same none empty =
     let alone : branches ≡ [] = ap (λ (h : Gathered). h.branches) same ∙ none in

@@ -125,10 +125,14 @@ module _ (config : Config) where
   by_reading fs g flags p kind (Ok (b, r)) = by_group fs g flags (close_group config kind p (whole b) r)
   by_reading fs g flags p kind (Err e) = resume-err fs g e
 
-  pub resume-too_many : (fs : List Around) (g : Gathered) (flags : Flags) (opened : ℕ) (p : Place) (kind : GroupKind) (inside : Flags) (q : Place) → resume config fs g (group_then config (all_branches config) flags opened p kind inside q true) ≡ Err (record { kind = NestLimit; start = p.at; end = q.at })
+  pub resume-too_many : (fs : List Around) (g : Gathered) (flags : Flags) (opened : ℕ) (p : Place) (kind : GroupKind) (inside : Flags) (q : Place)
+      → resume config fs g (group_then config (all_branches config) flags opened p kind inside q true)
+      ≡ Err (record { kind = NestLimit; start = p.at; end = q.at })
   resume-too_many fs g flags opened p kind inside q = resume-err fs g _
 
-  pub resume-pushed : (fs stack : List Around) (a : Around) (g h : Gathered) (flags : Flags) (p : Place) (kind : GroupKind) (inside : Flags) (q : Place) → stack ≡ a ∷ fs → h ≡ nothing → a ≡ record { gathered = g; start = p.at; end = (past p).at; kind = kind; flags = flags } → nat_lt (limit_of config) (length fs + 1) ≡ false →
+  pub resume-pushed : (fs stack : List Around) (a : Around) (g h : Gathered) (flags : Flags) (p : Place) (kind : GroupKind) (inside : Flags) (q : Place)
+      → stack ≡ a ∷ fs → h ≡ nothing → a ≡ record { gathered = g; start = p.at; end = (past p).at; kind = kind; flags = flags }
+      → nat_lt (limit_of config) (length fs + 1) ≡ false →
       resume config stack h (all_branches config inside (length stack) q) ≡ resume config fs g
       (group_then config (all_branches config) flags (length fs) p kind inside q (nat_lt (limit_of config) (length fs + 1)))
   unfolding opened_at
@@ -144,12 +148,14 @@ module _ (config : Config) where
   closing fs f g p = ap (λ (s : Syntax). then_on fs f (close_at config f s p)) (merged-none g)
 
   closed_if : (f : Around) (g : Gathered) (p : Place) → Bool → Read Syntax
-  closed_if f g p b = if b then Err (record { kind = UnclosedGroup; start = f.start; end = f.end }) else within_limit config (group f.kind (gathered_whole g)) p (past p)
+  closed_if f g p b =
+      if b then Err (record { kind = UnclosedGroup; start = f.start; end = f.end }) else within_limit config (group f.kind (gathered_whole g)) p (past p)
 
   within_if : (f : Around) (g : Gathered) (p : Place) → Bool → Read Syntax
   within_if f g p b = if b then refuse NestLimit p (past p) else Ok (group f.kind (gathered_whole g), past p)
 
-  pub resume-unclosed : (fs : List Around) (f : Around) (g : Gathered) (p : Place) → at_end p ≡ true → resume config (f ∷ fs) g (Ok (no_items, p)) ≡ Err (record { kind = UnclosedGroup; start = f.start; end = f.end })
+  pub resume-unclosed : (fs : List Around) (f : Around) (g : Gathered) (p : Place) → at_end p ≡ true
+      → resume config (f ∷ fs) g (Ok (no_items, p)) ≡ Err (record { kind = UnclosedGroup; start = f.start; end = f.end })
   unfolding then_on closed_if
   resume-unclosed fs f g p h = closing fs f g p ∙ ap (λ (b : Bool). then_on fs f (closed_if f g p b)) h
 

@@ -118,12 +118,17 @@ pub record HasCounts (s : Syntax) : Type 0 where
 
 end-counts : (config : Config) (r : Read Branches) (s : Syntax) → Gives (CountsBranches 0 []) r → r >>= to_end config ≡ Ok s → HasCounts s
 end-counts config (Ok (b, q)) s h is =
-    record { end = q; counts = subst (λ (t : Syntax). Counts 0 [] q (λ k n. IsGroup k n t) (group_numbers t)) (to-whole b q (at_end q) s is) (h.given b q refl) }
+    record {
+      end = q;
+      counts = subst (λ (t : Syntax). Counts 0 [] q (λ k n. IsGroup k n t) (group_numbers t)) (to-whole b q (at_end q) s is)
+          (h.given b q refl);
+    }
 end-counts config (Err e) s h is = cc
 
 read-counts : (config : Config) (text : List ℕ) (s : Syntax) → read config text ≡ Ok s → HasCounts s
 unfolding read
-read-counts config text s is = end-counts config _ s (branches-counts config (length text + 1) (flags_of config) 0 (record { text = text; at = 0; groups = 0; names = [] })) is
+read-counts config text s is =
+    end-counts config _ s (branches-counts config (length text + 1) (flags_of config) 0 (record { text = text; at = 0; groups = 0; names = [] })) is
 
 module _ (config : Config) (text : List ℕ) (s : Syntax) (is : read config text ≡ Ok s) where
   pub from_one : (g : ℕ) (n : Option (List ℕ)) → IsGroup g n s → 1 ≤ g

@@ -15,10 +15,12 @@ list_any-is_among c (d ∷ e ∷ rest) =
 pub not_at_end : (p : Place) → 0 < length p.text → at_end p ≡ false
 not_at_end p h = grind (arith, nat_tests)
 
-pub past_at : (p : Place) (t : List ℕ) (c w : ℕ) → 0 < length p.text → t ≡ drop 1 p.text → c ≡ first p → w ≡ len_utf8 c → past p ≡ record { text = t; at = p.at + w; groups = p.groups; names = p.names }
+pub past_at : (p : Place) (t : List ℕ) (c w : ℕ) → 0 < length p.text → t ≡ drop 1 p.text → c ≡ first p → w ≡ len_utf8 c
+    → past p ≡ record { text = t; at = p.at + w; groups = p.groups; names = p.names }
 past_at p t c w h text char width = past_in _ _ (not_at_end p h) text char width
   where
-    past_in : (p : Place) (t : List ℕ) {c w : ℕ} → at_end p ≡ false → t ≡ drop 1 p.text → c ≡ first p → w ≡ len_utf8 c → past p ≡ record { text = t; at = p.at + w; groups = p.groups; names = p.names }
+    past_in : (p : Place) (t : List ℕ) {c w : ℕ} → at_end p ≡ false → t ≡ drop 1 p.text → c ≡ first p → w ≡ len_utf8 c
+        → past p ≡ record { text = t; at = p.at + w; groups = p.groups; names = p.names }
     past_in p t e text char width = rw e (cc (ap len_utf8 char))
 
 -- past a character that stands there before these

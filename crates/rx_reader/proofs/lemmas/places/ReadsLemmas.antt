@@ -16,5 +16,6 @@ pub refuses : {A : Type 0} (e : ParseError) (reading : Result A SyntaxError) →
 refuses (Refused y) reading h x is = cc
 refuses Memory reading h x is = cc
 
-pub refuse_at : {A : Type 0} (kind : SyntaxErrorKind) (p q : Place) (s e : ℕ) → s ≡ p.at → e ≡ q.at → ◌≡◌ {A = Result A SyntaxError} (refuse kind p q) (Err (record { kind = kind; start = s; end = e }))
+pub refuse_at : {A : Type 0} (kind : SyntaxErrorKind) (p q : Place) (s e : ℕ) → s ≡ p.at → e ≡ q.at
+    → ◌≡◌ {A = Result A SyntaxError} (refuse kind p q) (Err (record { kind = kind; start = s; end = e }))
 refuse_at kind p q s e start end = λ i. Err (record { kind = kind; start = sym start i; end = sym end i })

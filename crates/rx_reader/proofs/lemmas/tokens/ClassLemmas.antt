@@ -10,7 +10,8 @@ use Rattle.rx_reader.specs.Escapes.{leading, in_name}
 use Rattle.rx_reader.specs.Classes.{posix_named, posix_name}
 
 -- a name that was read up to q, and the set of that name
-pub by_name : (from p q : Place) (negated : Bool) (found : Option ClassAsciiKind) → q ≡ past_all (in_name Brackets) p → begins ":]" q ≡ true → found ≡ ascii_named (leading (in_name Brackets) p.text)
+pub by_name : (from p q : Place) (negated : Bool) (found : Option ClassAsciiKind) → q ≡ past_all (in_name Brackets) p → begins ":]" q ≡ true
+    → found ≡ ascii_named (leading (in_name Brackets) p.text)
     → posix_name from negated p ≡ posix_named from negated found q
 unfolding posix_name
 by_name from p q negated found next closes named =

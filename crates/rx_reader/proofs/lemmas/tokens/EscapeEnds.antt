@@ -55,7 +55,8 @@ unfolding hex_in_braces
 hex_in_braces-ends n from p lt =
     let many = length (digits 16 8 p) in
     let q = past_n many p in
-    test (many == 0 || not (is_at "}" q)) (λ _. refused _ _) (λ _. numbered-ends n from false (digits_value 16 (digits 16 8 p)) (past q) (omega (arith, lt, past_n-le many p, past_le q)))
+    test (many == 0 || not (is_at "}" q)) (λ _. refused _ _) (λ _. numbered-ends n from false (digits_value 16 (digits 16 8 p)) (past q)
+    (omega (arith, lt, past_n-le many p, past_le q)))
 
 hex-ends : (n : ℕ) (from : Place) (count : ℕ) (p : Place) → length p.text < n → EndsBelow n (hex from count p)
 unfolding hex
@@ -133,7 +134,8 @@ posix_name-ends : (n : ℕ) (from : Place) (negated : Bool) (p : Place) → leng
 unfolding posix_name
 posix_name-ends n from negated p lt =
     let q = past_all (in_name Brackets) p in
-    test (begins ":]" q) (λ _. posix_named-ends n from negated (ascii_named (leading (in_name Brackets) p.text)) q (omega (arith, lt, past_while-le (in_name Brackets) (length p.text) p))) (λ _. refused _ _)
+    test (begins ":]" q) (λ _. posix_named-ends n from negated (ascii_named (leading (in_name Brackets) p.text)) q
+    (omega (arith, lt, past_while-le (in_name Brackets) (length p.text) p))) (λ _. refused _ _)
 
 pub past_n-lt : (n : ℕ) (p : Place) → 0 < length p.text → length (past_n (suc n) p).text < length p.text
 unfolding past_n

@@ -77,7 +77,8 @@ module _ (K : Place → Type 0) (S : ℕ → Type 0) (go : Carries K S) where
   hex_in_braces-keeps from p at =
       let many = length (digits 16 8 p) in
       let q = past_n many p in
-      test (many == 0 || not (is_at "}" q)) (λ _. refused) (λ _. numbered-keeps from false (digits_value 16 (digits 16 8 p)) (past q) (go.on q (past_n-keeps many p at)))
+      test (many == 0 || not (is_at "}" q)) (λ _. refused) (λ _. numbered-keeps from false (digits_value 16 (digits 16 8 p)) (past q)
+      (go.on q (past_n-keeps many p at)))
 
   hex-keeps : (from : Place) (count : ℕ) (p : Place) → K p → KeepsEscaped (hex from count p)
   unfolding hex
@@ -185,7 +186,8 @@ module _ (K : Place → Type 0) (S : ℕ → Type 0) (go : Carries K S) where
   unfolding posix_name
   posix_name-keeps from negated p at =
       let q = past_all (in_name Brackets) p in
-      test (begins ":]" q) (λ _. posix_named-keeps from negated (ascii_named (leading (in_name Brackets) p.text)) q (past_while-keeps (in_name Brackets) (length p.text) p at)) (λ _. refused)
+      test (begins ":]" q) (λ _. posix_named-keeps from negated (ascii_named (leading (in_name Brackets) p.text)) q
+      (past_while-keeps (in_name Brackets) (length p.text) p at)) (λ _. refused)
 
   posix-keeps : (p : Place) → K p → KeepsItem (posix p)
   unfolding posix
@@ -213,7 +215,8 @@ module _ (K : Place → Type 0) (S : ℕ → Type 0) (go : Carries K S) where
   unfolding class_range
   class_range-keeps octal skips from p low q own at =
       let r = past_white skips (past q) in
-      test (not (begins_range skips q)) (λ _. reads (item_of-keeps low own, at)) (λ _. test (begins "--" q) (λ _. refused) (λ _. test (at_end r) (λ _. refused) (λ _.
+      test (not (begins_range skips q)) (λ _. reads (item_of-keeps low own, at))
+      (λ _. test (begins "--" q) (λ _. refused) (λ _. test (at_end r) (λ _. refused) (λ _.
       bind _ (member-keeps octal r (past_white-keeps skips (past q) (go.on q at))) (λ high s here. range_of-keeps p low high s own here.0 here.1))))
 
   item_at-keeps : (octal skips : Bool) (from p : Place) → K p → KeepsItem (item_at octal skips from p)

@@ -16,9 +16,13 @@ pub flags-same : (f g : Flags)
     g.multi_line && (beq f.dot_matches_new_line g.dot_matches_new_line
     && (beq f.swap_greed g.swap_greed && (beq f.unicode g.unicode && (beq f.crlf g.crlf && beq f.ignore_whitespace g.ignore_whitespace)))))) ≡ true → f ≡ g
 flags-same f g h =
-    let a = and_parts (beq f.case_insensitive g.case_insensitive) (beq f.multi_line g.multi_line && (beq f.dot_matches_new_line g.dot_matches_new_line && (beq f.swap_greed g.swap_greed && (beq f.unicode g.unicode && (beq f.crlf g.crlf && beq f.ignore_whitespace g.ignore_whitespace))))) h in
-    let b = and_parts (beq f.multi_line g.multi_line) (beq f.dot_matches_new_line g.dot_matches_new_line && (beq f.swap_greed g.swap_greed && (beq f.unicode g.unicode && (beq f.crlf g.crlf && beq f.ignore_whitespace g.ignore_whitespace)))) a.1 in
-    let c = and_parts (beq f.dot_matches_new_line g.dot_matches_new_line) (beq f.swap_greed g.swap_greed && (beq f.unicode g.unicode && (beq f.crlf g.crlf && beq f.ignore_whitespace g.ignore_whitespace))) b.1 in
+    let a = and_parts (beq f.case_insensitive g.case_insensitive) (beq f.multi_line g.multi_line
+    && (beq f.dot_matches_new_line g.dot_matches_new_line
+    && (beq f.swap_greed g.swap_greed && (beq f.unicode g.unicode && (beq f.crlf g.crlf && beq f.ignore_whitespace g.ignore_whitespace))))) h in
+    let b = and_parts (beq f.multi_line g.multi_line) (beq f.dot_matches_new_line g.dot_matches_new_line
+    && (beq f.swap_greed g.swap_greed && (beq f.unicode g.unicode && (beq f.crlf g.crlf && beq f.ignore_whitespace g.ignore_whitespace)))) a.1 in
+    let c = and_parts (beq f.dot_matches_new_line g.dot_matches_new_line) (beq f.swap_greed g.swap_greed
+    && (beq f.unicode g.unicode && (beq f.crlf g.crlf && beq f.ignore_whitespace g.ignore_whitespace))) b.1 in
     let d = and_parts (beq f.swap_greed g.swap_greed) (beq f.unicode g.unicode && (beq f.crlf g.crlf && beq f.ignore_whitespace g.ignore_whitespace)) c.1 in
     let e = and_parts (beq f.unicode g.unicode) (beq f.crlf g.crlf && beq f.ignore_whitespace g.ignore_whitespace) d.1 in
     let k = and_parts (beq f.crlf g.crlf) (beq f.ignore_whitespace g.ignore_whitespace) e.1 in

@@ -55,15 +55,18 @@ flags_done from p q flags n len here cut ends =
 
 -- A name that ends at q.
 
-pub name_fails : (p q : Place) (n : ℕ) → n ≡ length (name_of p.text) → q ≡ past_n n p → ((n == 0) || not (is_at ">" q)) ≡ true → read_name p ≡ refuse GroupName p q
+pub name_fails : (p q : Place) (n : ℕ) → n ≡ length (name_of p.text) → q ≡ past_n n p → ((n == 0) || not (is_at ">" q)) ≡ true
+    → read_name p ≡ refuse GroupName p q
 unfolding read_name
 name_fails p q n len here fails = rw (← len, ← here, fails) refl
 
-pub name_taken : (p q : Place) (n : ℕ) → n ≡ length (name_of p.text) → q ≡ past_n n p → ((n == 0) || not (is_at ">" q)) ≡ false → has_name (name_of p.text) q ≡ true → read_name p ≡ refuse GroupNameTwice p q
+pub name_taken : (p q : Place) (n : ℕ) → n ≡ length (name_of p.text) → q ≡ past_n n p → ((n == 0) || not (is_at ">" q)) ≡ false
+    → has_name (name_of p.text) q ≡ true → read_name p ≡ refuse GroupNameTwice p q
 unfolding read_name
 name_taken p q n len here fails taken = rw (← len, ← here, fails, taken) refl
 
-pub name_read : (p q : Place) (n : ℕ) → n ≡ length (name_of p.text) → q ≡ past_n n p → ((n == 0) || not (is_at ">" q)) ≡ false → has_name (name_of p.text) q ≡ false → read_name p ≡ Ok (name_of p.text, add_name (name_of p.text) (past q))
+pub name_read : (p q : Place) (n : ℕ) → n ≡ length (name_of p.text) → q ≡ past_n n p → ((n == 0) || not (is_at ">" q)) ≡ false
+    → has_name (name_of p.text) q ≡ false → read_name p ≡ Ok (name_of p.text, add_name (name_of p.text) (past q))
 unfolding read_name
 name_read p q n len here fails taken = rw (← len, ← here, fails, taken) refl
 
@@ -81,11 +84,13 @@ pub max_none : (from p q : Place) (flags : Flags) → q ≡ past_white flags.ign
 unfolding read_max
 max_none from p q flags white ends = rw (← white, ends) refl
 
-pub max_refused : (from p q : Place) (flags : Flags) (e : SyntaxError) → q ≡ past_white flags.ignore_whitespace p → is_at "}" q ≡ false → read_number from flags q ≡ Err e → read_max from flags p ≡ Err e
+pub max_refused : (from p q : Place) (flags : Flags) (e : SyntaxError) → q ≡ past_white flags.ignore_whitespace p → is_at "}" q ≡ false
+    → read_number from flags q ≡ Err e → read_max from flags p ≡ Err e
 unfolding read_max
 max_refused from p q flags e white ends refused = rw (← white, ends, refused) refl
 
-pub max_some : (from p q r : Place) (flags : Flags) (n : ℕ) → q ≡ past_white flags.ignore_whitespace p → is_at "}" q ≡ false → read_number from flags q ≡ Ok (n, r) → read_max from flags p ≡ Ok (Some n, r)
+pub max_some : (from p q r : Place) (flags : Flags) (n : ℕ) → q ≡ past_white flags.ignore_whitespace p → is_at "}" q ≡ false
+    → read_number from flags q ≡ Ok (n, r) → read_max from flags p ≡ Ok (Some n, r)
 unfolding read_max
 max_some from p q r flags n white ends found = rw (← white, ends, found) refl
 
@@ -115,16 +120,19 @@ pub operator_without_min : (p : Place) (flags : Flags) → is_at "*+?" p ≡ fal
 unfolding operator
 operator_without_min p flags simple without = rw (simple, without) refl
 
-pub operator_refused : (p : Place) (flags : Flags) (e : SyntaxError) → is_at "*+?" p ≡ false → begins "{," p ≡ false → read_counts flags p ≡ Err e → operator flags p ≡ Err e
+pub operator_refused : (p : Place) (flags : Flags) (e : SyntaxError) → is_at "*+?" p ≡ false → begins "{," p ≡ false → read_counts flags p ≡ Err e
+    → operator flags p ≡ Err e
 unfolding operator
 operator_refused p flags e simple without refused = rw (simple, without, refused) refl
 
-pub operator_counted : (p q : Place) (flags : Flags) (counts : Counts) → is_at "*+?" p ≡ false → begins "{," p ≡ false → read_counts flags p ≡ Ok (counts, q) → operator flags p ≡ Ok (operator_of flags counts q (skip flags q))
+pub operator_counted : (p q : Place) (flags : Flags) (counts : Counts) → is_at "*+?" p ≡ false → begins "{," p ≡ false → read_counts flags p ≡ Ok (counts, q)
+    → operator flags p ≡ Ok (operator_of flags counts q (skip flags q))
 unfolding operator
 operator_counted p q flags counts simple without found = rw (simple, without, found) refl
 
 -- the operator and the place that were found
-pub operator_is : (flags : Flags) (found counts : Counts) (q r after : Place) (lazy : Bool) (o : Operator) → found ≡ counts → lazy ≡ begins "?" r → o ≡ with_greed found lazy flags → after ≡ (if lazy then past r else q) → ◌≡◌ {A = Read Operator} (Ok (operator_of flags counts q r)) (Ok (o, after))
+pub operator_is : (flags : Flags) (found counts : Counts) (q r after : Place) (lazy : Bool) (o : Operator) → found ≡ counts → lazy ≡ begins "?" r
+    → o ≡ with_greed found lazy flags → after ≡ (if lazy then past r else q) → ◌≡◌ {A = Read Operator} (Ok (operator_of flags counts q r)) (Ok (o, after))
 operator_is flags found counts q r after lazy o same is made there =
     let by : Counts → Bool → Read Operator = λ k b. Ok (with_greed k b flags, if b then past r else q) in
     ap (λ (k : Counts). by k (begins "?" r)) (sym same) ∙ ap (by found) (sym is) ∙ (λ i. Ok (sym made i, sym there i))
@@ -144,7 +152,8 @@ pub flagged_refused : (p begun : Place) (flags : Flags) (e : SyntaxError) → be
 unfolding flagged
 flagged_refused p begun flags e next refused = rw (← next, refused) refl
 
-pub flagged_read : (p begun q : Place) (flags inside : Flags) → begun ≡ past_n 2 p → read_flags p flags begun ≡ Ok (inside, q) → flagged flags p ≡ Ok (if is_at ":" q then Group NonCapturing inside else Directive inside, past q)
+pub flagged_read : (p begun q : Place) (flags inside : Flags) → begun ≡ past_n 2 p → read_flags p flags begun ≡ Ok (inside, q)
+    → flagged flags p ≡ Ok (if is_at ":" q then Group NonCapturing inside else Directive inside, past q)
 unfolding flagged
 flagged_read p begun q flags inside next found = rw (← next, found) refl
 
@@ -161,18 +170,22 @@ pub opens_reference : (p : Place) (flags : Flags) → is_look_ahead p ≡ false 
 unfolding opening
 opens_reference p flags ahead behind back = rw (ahead, behind, back) refl
 
-pub opens_named : (p : Place) (flags : Flags) → is_look_ahead p ≡ false → is_look_behind p ≡ false → is_reference p ≡ false → begins "(?P<" p ≡ true → opening flags p ≡ named flags (past_n 4 p)
+pub opens_named : (p : Place) (flags : Flags) → is_look_ahead p ≡ false → is_look_behind p ≡ false → is_reference p ≡ false → begins "(?P<" p ≡ true
+    → opening flags p ≡ named flags (past_n 4 p)
 unfolding opening
 opens_named p flags ahead behind back found = rw (ahead, behind, back, found) refl
 
-pub opens_short : (p : Place) (flags : Flags) → is_look_ahead p ≡ false → is_look_behind p ≡ false → is_reference p ≡ false → begins "(?P<" p ≡ false → begins "(?<" p ≡ true → opening flags p ≡ named flags (past_n 3 p)
+pub opens_short : (p : Place) (flags : Flags) → is_look_ahead p ≡ false → is_look_behind p ≡ false → is_reference p ≡ false → begins "(?P<" p ≡ false
+    → begins "(?<" p ≡ true → opening flags p ≡ named flags (past_n 3 p)
 unfolding opening
 opens_short p flags ahead behind back long found = rw (ahead, behind, back, long, found) refl
 
-pub opens_flagged : (p : Place) (flags : Flags) → is_look_ahead p ≡ false → is_look_behind p ≡ false → is_reference p ≡ false → begins "(?P<" p ≡ false → begins "(?<" p ≡ false → begins "(?" p ≡ true → opening flags p ≡ flagged flags p
+pub opens_flagged : (p : Place) (flags : Flags) → is_look_ahead p ≡ false → is_look_behind p ≡ false → is_reference p ≡ false → begins "(?P<" p ≡ false
+    → begins "(?<" p ≡ false → begins "(?" p ≡ true → opening flags p ≡ flagged flags p
 unfolding opening
 opens_flagged p flags ahead behind back long short found = rw (ahead, behind, back, long, short, found) refl
 
-pub opens_plain : (p : Place) (flags : Flags) → is_look_ahead p ≡ false → is_look_behind p ≡ false → is_reference p ≡ false → begins "(?P<" p ≡ false → begins "(?<" p ≡ false → begins "(?" p ≡ false → opening flags p ≡ Ok (plain flags p)
+pub opens_plain : (p : Place) (flags : Flags) → is_look_ahead p ≡ false → is_look_behind p ≡ false → is_reference p ≡ false → begins "(?P<" p ≡ false
+    → begins "(?<" p ≡ false → begins "(?" p ≡ false → opening flags p ≡ Ok (plain flags p)
 unfolding opening
 opens_plain p flags ahead behind back long short none = rw (ahead, behind, back, long, short, none) refl

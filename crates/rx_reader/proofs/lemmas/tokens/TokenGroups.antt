@@ -77,7 +77,10 @@ module _ (g : ℕ) (ns : List (List ℕ)) where
   named-counts flags p at =
       bind _ (read_name-adds p at) (λ name q adds. reads (single (q.groups + 1) (Some name) (ap (λ (k : ℕ). k + 1) adds.same) (ap (λ (k : ℕ). k + 1) adds.same)
       (λ x h. ap (is_in x) adds.added ∙ kept_in x name ns h)
-      (λ x is. let same : name ≡ x = cc in (ap (λ (y : List ℕ). is_in y ns) (sym same) ∙ adds.fresh, ap (λ (y : List ℕ). is_in y q.names) (sym same) ∙ ap (is_in name) adds.added ∙ added_in name ns))))
+      (λ x is. let same : name ≡ x = cc in (
+        ap (λ (y : List ℕ). is_in y ns) (sym same) ∙ adds.fresh,
+        ap (λ (y : List ℕ). is_in y q.names) (sym same) ∙ ap (is_in name) adds.added ∙ added_in name ns,
+      ))))
 
   flagged-kind : (b : Bool) (flags : Flags) (q : Place) → IsAt g ns q → CountsOpening (if b then Group NonCapturing flags else Turns flags) q
   flagged-kind true flags q at = none at
@@ -86,7 +89,8 @@ module _ (g : ℕ) (ns : List (List ℕ)) where
   flagged-counts : (flags : Flags) (p : Place) → IsAt g ns p → Gives CountsOpening (flagged flags p)
   unfolding flagged
   flagged-counts flags p at =
-      bind _ (read_flags-keeps (IsAt g ns) _ (groups-carry g ns) p flags (past_n 2 p) (past_n-keeps (IsAt g ns) _ (groups-carry g ns) 2 p at)) (λ changed q here. reads (flagged-kind (is_at ":" q) changed (past q) here))
+      bind _ (read_flags-keeps (IsAt g ns) _ (groups-carry g ns) p flags (past_n 2 p) (past_n-keeps (IsAt g ns) _ (groups-carry g ns) 2 p at))
+      (λ changed q here. reads (flagged-kind (is_at ":" q) changed (past q) here))
 
   opening-counts : (flags : Flags) (p : Place) → IsAt g ns p → Gives CountsOpening (opening flags p)
   unfolding opening

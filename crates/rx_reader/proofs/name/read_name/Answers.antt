@@ -38,7 +38,9 @@ returns-then-not-branch-clause-value c =
     let len : n ≡ length (name_of p.text) = omega (arith, c.in_ok-name.name.ok.0, ap (λ (cs : List ℕ). length cs) read) in
     let fails : ((n == 0) || not (is_at ">" q)) ≡ false = grind (arith, common_steps) in
     let name : c.deref.result.now ≡ name_of p.text = c.deref.ensures.value ∙ read in
-    let fresh : not (has_name (name_of p.text) q) ≡ c.in_ok-add_name.field-0 = sym (c.in_ok-add_name.ensures.fresh ∙ ap (λ (x : Place). not (has_name c.deref.result.now x)) c.bump.ensures.value ∙ ap (λ (cs : List ℕ). not (has_name cs q)) name) in
+    let fresh : not (has_name (name_of p.text) q) ≡ c.in_ok-add_name.field-0 = sym
+    (c.in_ok-add_name.ensures.fresh ∙ ap (λ (x : Place). not (has_name c.deref.result.now x)) c.bump.ensures.value
+    ∙ ap (λ (cs : List ℕ). not (has_name cs q)) name) in
     let taken : has_name (name_of p.text) q ≡ true = grind (arith, common_steps) in
     rw c.refuse.ensures (name_taken p q n len c.bump_by.ensures.value fails taken
     ∙ refuse_at GroupNameTwice p q _ _ (grind (arith, common_steps)) (grind (arith, common_steps)))
@@ -52,9 +54,12 @@ returns-clause-value c =
     let len : n ≡ length (name_of p.text) = omega (arith, c.in_ok-name.name.ok.0, ap (λ (cs : List ℕ). length cs) read) in
     let fails : ((n == 0) || not (is_at ">" q)) ≡ false = grind (arith, common_steps) in
     let name : c.deref.result.now ≡ name_of p.text = c.deref.ensures.value ∙ read in
-    let fresh : not (has_name (name_of p.text) q) ≡ c.in_ok-add_name.field-0 = sym (c.in_ok-add_name.ensures.fresh ∙ ap (λ (x : Place). not (has_name c.deref.result.now x)) c.bump.ensures.value ∙ ap (λ (cs : List ℕ). not (has_name cs q)) name) in
+    let fresh : not (has_name (name_of p.text) q) ≡ c.in_ok-add_name.field-0 = sym
+    (c.in_ok-add_name.ensures.fresh ∙ ap (λ (x : Place). not (has_name c.deref.result.now x)) c.bump.ensures.value
+    ∙ ap (λ (cs : List ℕ). not (has_name cs q)) name) in
     let taken : has_name (name_of p.text) q ≡ false = grind (arith, common_steps) in
     let known : c.in_ok-new.field-0 ≡ name_of p.text = c.in_ok-new.ensures ∙ sym c.deref.ensures.value ∙ name in
-    let added : place c.add_name.new.self ≡ add_name (name_of p.text) (past q) = c.in_ok-add_name.ensures.value ∙ ap (λ (cs : List ℕ). add_name cs (place c.bump.new.self)) name ∙ ap (add_name (name_of p.text)) c.bump.ensures.value in
+    let added : place c.add_name.new.self ≡ add_name (name_of p.text) (past q) =
+    c.in_ok-add_name.ensures.value ∙ ap (λ (cs : List ℕ). add_name cs (place c.bump.new.self)) name ∙ ap (add_name (name_of p.text)) c.bump.ensures.value in
     name_read p q n len c.bump_by.ensures.value fails taken ∙ ap (λ (cs : List ℕ). Ok (cs, add_name (name_of p.text) (past q))) (sym known)
     ∙ ap (λ (x : Place). Ok (c.in_ok-new.field-0, x)) (sym added)

@@ -25,6 +25,7 @@ returns-clause-value c =
     let begun = place c.bump_by.new.self in
     let q = place c.read_flags.new.cursor in
     let inside = c.in_ok-flags.flags in
-    let opened : c.opening_of.result ≡ (if is_at ":" q then Group NonCapturing inside else Directive inside) = c.opening_of.ensures ∙ ap (λ (b : Bool). if b then Group NonCapturing inside else Directive inside) c.is_at-is_group.ensures.value in
+    let opened : c.opening_of.result ≡ (if is_at ":" q then Group NonCapturing inside else Directive inside) =
+    c.opening_of.ensures ∙ ap (λ (b : Bool). if b then Group NonCapturing inside else Directive inside) c.is_at-is_group.ensures.value in
     flagged_read p begun q c.args.flags inside c.bump_by.ensures.value (c.in_ok-flags.ensures.value p c.here-opening.ensures)
     ∙ (λ i. Ok (sym opened i, sym c.bump.ensures.value i))

@@ -65,5 +65,6 @@ returns-clause-value c =
     let short : begins "(?<" p ≡ false = sym c.begins-2.ensures ∙ c.if-begins-2.false in
     let none : begins "(?" p ≡ false = sym c.begins-3.ensures ∙ c.if-begins-3.false in
     let counted : place c.count_group-index.new.self ≡ count_group (past p) = c.count_group-index.ensures.place ∙ ap count_group c.bump.ensures.value in
-    let index : c.count_group-index.result ≡ number_after p.groups = c.count_group-index.ensures.number ∙ ap (λ (x : Place). number_after x.groups) c.bump.ensures.value in
+    let index : c.count_group-index.result ≡ number_after p.groups =
+    c.count_group-index.ensures.number ∙ ap (λ (x : Place). number_after x.groups) c.bump.ensures.value in
     opens_plain p c.args.flags ahead behind back long short none ∙ (λ i. Ok (Group (CaptureIndex (sym index i)) c.args.flags, sym counted i))

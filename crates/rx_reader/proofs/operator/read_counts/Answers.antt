@@ -29,6 +29,7 @@ returns-in_err-max-clause-value c =
 pub returns-clause-value : goal.returns-clause-value
 returns-clause-value c =
     let p = place c.args.cursor.now in
-    let same = counts_closed p (place c.bump.new.self) (place c.read_number.new.cursor) (place c.max_after.new.cursor) c.args.flags c.in_ok-min.min c.in_ok-max.max c.bump.ensures.value
+    let same = counts_closed p (place c.bump.new.self) (place c.read_number.new.cursor) (place c.max_after.new.cursor) c.args.flags c.in_ok-min.min
+    c.in_ok-max.max c.bump.ensures.value
     (c.in_ok-min.ensures.value p c.at-start.ensures) (c.in_ok-max.ensures.value p c.at-start.ensures) in
     subst (λ reading. Reads c.close_counts.result reading (place c.close_counts.new.cursor)) (sym same) (c.close_counts.ensures.value p c.at-start.ensures)

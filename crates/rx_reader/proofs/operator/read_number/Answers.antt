@@ -16,7 +16,8 @@ returns-in-Some-clause-value c from start =
     let n = c.digits_of-digits.result.len in
     let digits = take_while is_ascii_digit begun.text in
     let len : n ≡ length digits = c.digits_of-digits.ensures.len ∙ ap (λ (cs : List ℕ). length (take_while is_ascii_digit cs)) c.rest.ensures in
-    let written : c.digits_of-digits.result.value ≡ within (numeral digits) = c.digits_of-digits.ensures.value ∙ ap (λ (cs : List ℕ). within (numeral (take_while is_ascii_digit cs))) c.rest.ensures in
+    let written : c.digits_of-digits.result.value ≡ within (numeral digits) =
+    c.digits_of-digits.ensures.value ∙ ap (λ (cs : List ℕ). within (numeral (take_while is_ascii_digit cs))) c.rest.ensures in
     let number : number_of digits ≡ Some c.in-Some.number = sym (c.number_of.ensures digits len written) ∙ c.in-Some.is in
     number_read from (place c.args.cursor.now) begun q c.args.flags n c.skip_white.ensures.value len c.bump_by.ensures.value
     ∙ ap (λ (o : Option ℕ). number_at from c.args.flags o q) number ∙ ap (λ (r : Place). Ok (c.in-Some.number, r)) (sym c.skip_white-in-Some.ensures.value)
@@ -28,7 +29,8 @@ returns-in-None-clause-value c from start =
     let n = c.digits_of-digits.result.len in
     let digits = take_while is_ascii_digit begun.text in
     let len : n ≡ length digits = c.digits_of-digits.ensures.len ∙ ap (λ (cs : List ℕ). length (take_while is_ascii_digit cs)) c.rest.ensures in
-    let written : c.digits_of-digits.result.value ≡ within (numeral digits) = c.digits_of-digits.ensures.value ∙ ap (λ (cs : List ℕ). within (numeral (take_while is_ascii_digit cs))) c.rest.ensures in
+    let written : c.digits_of-digits.result.value ≡ within (numeral digits) =
+    c.digits_of-digits.ensures.value ∙ ap (λ (cs : List ℕ). within (numeral (take_while is_ascii_digit cs))) c.rest.ensures in
     let number : number_of digits ≡ None = sym (c.number_of.ensures digits len written) ∙ c.in-None.is in
     rw c.refuse_from.ensures (
     number_read from (place c.args.cursor.now) begun q c.args.flags n c.skip_white.ensures.value len c.bump_by.ensures.value

@@ -15,7 +15,8 @@ loop-preserved c =
           one c.bump.ensures.value;
       moves = omega (arith, c.loop.invariant.moves, shorter);
       passed = λ some unfinished.
-          by_zero c.loop.counter (λ first. let less = c.bump.ensures.progress (omega (arith, c.loop.invariant.begun first)) in omega (arith, c.loop.invariant.moves, less))
+          by_zero c.loop.counter (λ first. let less = c.bump.ensures.progress (omega (arith, c.loop.invariant.begun first)) in
+          omega (arith, c.loop.invariant.moves, less))
           (λ later. let less = c.loop.invariant.passed later unfinished in omega (arith, shorter, less));
       room = λ some unfinished. by_zero c.loop.counter (λ first. c.bump.ensures.room (omega (arith, c.loop.invariant.begun first)))
           (λ later. c.bump.ensures.kept (c.loop.invariant.room later unfinished));

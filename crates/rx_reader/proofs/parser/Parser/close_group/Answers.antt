@@ -38,7 +38,8 @@ returns-then-depth-get_nest_limit-clause-value c p start more at =
     let fs = innermost c.pop.new.self.items in
     let stack = stack_of s.frames.items c.pop.new.self.items c.in-Some.frame c.in-Some.ensures.items in
     let body : c.in_ok-body.body ≡ gathered_whole g = c.in_ok-body.ensures ∙ ap (λ (l : Level). gathered_whole (gathered l)) c.replace-inside.ensures.value in
-    let deep : nat_lt (limit_of s.config) (depth (group f.kind (gathered_whole g))) ≡ true = deep_if _ (gathered_whole g) _ c.get_nest_limit.result c.depth.result body c.depth.ensures c.get_nest_limit.ensures c.if-depth-get_nest_limit.true in
+    let deep : nat_lt (limit_of s.config) (depth (group f.kind (gathered_whole g))) ≡ true =
+    deep_if _ (gathered_whole g) _ c.get_nest_limit.result c.depth.result body c.depth.ensures c.get_nest_limit.ensures c.if-depth-get_nest_limit.true in
     rw c.refuse_from-then-depth-get_nest_limit.ensures (
     ap (λ (x : List Around). resume s.config x g (Ok (no_items, p))) stack ∙ resume-too_deep s.config fs f g p more deep
     ∙ refuse_at NestLimit p (past p) c.args.start (place s.cursor).at start (ap (λ (q : Place). q.at) at))
@@ -51,10 +52,12 @@ returns-clause-value c p start more at =
     let fs = innermost c.pop.new.self.items in
     let stack = stack_of s.frames.items c.pop.new.self.items c.in-Some.frame c.in-Some.ensures.items in
     let body : c.in_ok-body.body ≡ gathered_whole g = c.in_ok-body.ensures ∙ ap (λ (l : Level). gathered_whole (gathered l)) c.replace-inside.ensures.value in
-    let within : nat_lt (limit_of s.config) (depth (group f.kind (gathered_whole g))) ≡ false = within_if _ (gathered_whole g) _ c.get_nest_limit.result c.depth.result body c.depth.ensures c.get_nest_limit.ensures c.if-depth-get_nest_limit.false in
+    let within : nat_lt (limit_of s.config) (depth (group f.kind (gathered_whole g))) ≡ false =
+    within_if _ (gathered_whole g) _ c.get_nest_limit.result c.depth.result body c.depth.ensures c.get_nest_limit.ensures c.if-depth-get_nest_limit.false in
     let goes = ap (λ (x : List Around). resume s.config x g (Ok (no_items, p))) stack ∙ resume-group s.config fs f g p more within in
     let same : c.in_ok-group.group ≡ group f.kind (gathered_whole g) = c.in_ok-group.ensures ∙ ap (group f.kind) body in
-    let mid = goes ∙ ap (λ (x : Syntax). resume s.config fs f.gathered (item_then s.config (all_branches s.config f.flags (length fs)) f.flags x (past p))) (sym same)
+    let mid =
+    goes ∙ ap (λ (x : Syntax). resume s.config fs f.gathered (item_then s.config (all_branches s.config f.flags (length fs)) f.flags x (past p))) (sym same)
     ∙ ap (λ (q : Place). resume s.config fs f.gathered (item_then s.config (all_branches s.config f.flags (length fs)) f.flags c.in_ok-group.group q)) (sym at)
     ∙ ap
     (λ (l : Level). resume s.config fs (gathered l) (item_then s.config (all_branches s.config f.flags (length fs)) f.flags c.in_ok-group.group

@@ -12,7 +12,9 @@ use Rattle.rx_reader.proofs.lemmas.places.ReadsLemmas.{refuse_at}
 use Rattle.rx_reader.proofs.lemmas.branches.StackLemmas.{stack_of, innermost-length, resume-too_many, resume-pushed}
 use Rattle.rx_reader.proofs.parser.Parser.open_group.Goals as goal
 
-around_same : (g h : Gathered) (s t e f : ℕ) (kind : GroupKind) (flags : Flags) → g ≡ h → s ≡ t → e ≡ f → ◌≡◌ {A = Around} (record { gathered = g; start = s; end = e; kind = kind; flags = flags }) (record { gathered = h; start = t; end = f; kind = kind; flags = flags })
+around_same : (g h : Gathered) (s t e f : ℕ) (kind : GroupKind) (flags : Flags) → g ≡ h → s ≡ t → e ≡ f
+    → ◌≡◌ {A = Around} (record { gathered = g; start = s; end = e; kind = kind; flags = flags })
+    (record { gathered = h; start = t; end = f; kind = kind; flags = flags })
 around_same g h s t e f kind flags a b c = λ i. record { gathered = a i; start = b i; end = c i; kind = kind; flags = flags }
 
 pub returns-then-len-get_nest_limit-clause-value : goal.returns-then-len-get_nest_limit-clause-value
