@@ -30,7 +30,8 @@ module _ (hay : List ℕ) where
   stands-right : (i : ℕ) (s t : List ℕ) → stands_at hay i (s ++ t) ≡ true → stands_at hay i s ≡ true → stands_at hay (i + length s) t ≡ true
   stands-right i s t h g =
       let rest = drop (i + length (s ++ t)) hay in
-      let whole : s ++ drop (i + length s) hay ≡ s ++ (t ++ rest) = sym (stands_at_parts hay i s g) ∙ stands_at_parts hay i (s ++ t) h ∙ append_assoc s t rest in
+      let whole : s ++ drop (i + length s) hay ≡ s ++ (t ++ rest) =
+      sym (stands_at_parts hay i s g) ∙ stands_at_parts hay i (s ++ t) h ∙ append_assoc s t rest in
       stands_at_from hay (i + length s) t rest (append_cancel_left s (drop (i + length s) hay) (t ++ rest) whole)
 
   pub one-append : (f : ℕ → Option ℕ) (i : ℕ) (s t : List ℕ) → one (s ++ t) f i ≡ (if stands_at hay i s then one t f (i + length s) else None)

@@ -46,7 +46,8 @@ first-tells r hay end p h ordered free i =
       next_in = refl;
       apart = λ s at_0 low high. omega arith;
     } in
-    let t = Tells-group r.terminator hay end whole (Some (2 * p)) (build (slot_of r p) h) (literals front h) (local r.terminator hay end whole (slot_of r p) h) (tells-all r.terminator hay end whole (slot_of r p) h ordered free) in
+    let t = Tells-group r.terminator hay end whole (Some (2 * p)) (build (slot_of r p) h) (literals front h) (local r.terminator hay end whole (slot_of r p) h)
+    (tells-all r.terminator hay end whole (slot_of r p) h ordered free) in
     let final : (j : ℕ) → ends r.terminator hay end whole (at 0 j) ≡ within end j = λ j.
     by_test (nat_le j end)
     (λ e.

@@ -36,7 +36,8 @@ each-weaker : (P Q : ℕ → Type 0) → ((x : ℕ) → P x → Q x) → (xs : L
 each-weaker P Q to [] h = tt
 each-weaker P Q to (x ∷ xs) h = (to x h.0, each-weaker P Q to xs h.1)
 
-module _ (next : ℕ → ℕ) (M : ℕ → Type 0) (rises : (low : ℕ) → low ≤ next low) (step : (low high : ℕ) → M low → M high → low ≤ high → M (next low) ⊎ (high < next low)) where
+module _ (next : ℕ → ℕ) (M : ℕ → Type 0) (rises : (low : ℕ) → low ≤ next low)
+    (step : (low high : ℕ) → M low → M high → low ≤ high → M (next low) ⊎ (high < next low)) where
   -- what is listed lies in the range, and M holds of it
   numbers-each : (n low high : ℕ) → M low ⊎ (high < low) → M high → Each (λ d. M d × (low ≤ d) × (d ≤ high)) (numbers next n low high)
   numbers-each zero low high a b = tt
@@ -47,7 +48,11 @@ module _ (next : ℕ → ℕ) (M : ℕ → Type 0) (rises : (low : ℕ) → low 
       let m : M low = elim a [ inl is ↦ is | inr past ↦ absurd (omega arith) ] in
       let up = rises low in
       let rest = numbers-each n (next low) high (step low high m b le) b in
-      rw e ((m, omega arith, le), each-weaker (λ d. M d × (next low ≤ d) × (d ≤ high)) (λ d. M d × (low ≤ d) × (d ≤ high)) (λ d h. (h.0, (let above = h.1 in omega arith), h.2)) (numbers next n (next low) high) rest))
+      rw e (
+        (m, omega arith, le),
+        each-weaker (λ d. M d × (next low ≤ d) × (d ≤ high)) (λ d. M d × (low ≤ d) × (d ≤ high))
+            (λ d h. (h.0, (let above = h.1 in omega arith), h.2)) (numbers next n (next low) high) rest,
+      ))
       (λ e. rw e tt)
 
   -- and it is a member

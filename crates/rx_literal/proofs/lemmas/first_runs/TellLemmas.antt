@@ -131,8 +131,10 @@ module _ (terminator : ℕ) (hay : List ℕ) (end : ℕ) (whole : List State) wh
         let leads' = Leads-slot terminator hay end whole (suc number) in
         let standing = stands-second terminator hay end whole A (build_state (slot number)) inner next base s in
         let two = last next base in
-        let x = t.tells (Inside A base (length two.states)) two.start (base + length two.states) (stands-first terminator hay end whole A body last last_closes next base standing) i in
-        let after_body : from two.start ≡ from next = λ k j. leads'.leads A next base (stands-second terminator hay end whole A body last next base standing) j k in
+        let x = t.tells (Inside A base (length two.states)) two.start (base + length two.states)
+        (stands-first terminator hay end whole A body last last_closes next base standing) i in
+        let after_body : from two.start ≡ from next =
+        λ k j. leads'.leads A next base (stands-second terminator hay end whole A body last next base standing) j k in
         let before : from (build_group (Some number) body next base).start i ≡ from (inner next base).start i
         = leads.leads (Inside A base (length (inner next base).states)) (inner next base).start (base + length (inner next base).states)
         (stands-first terminator hay end whole A (build_state (slot number)) inner (inner_closes last_closes) next base s) i in
@@ -178,7 +180,8 @@ module _ (terminator : ℕ) (hay : List ℕ) (end : ℕ) (whole : List State) wh
         let le : i ≤ end = grind (arith, nat_tests) in
         ends-state terminator hay end whole (Inside A base n) closed (base + n) i (choice p.starts) is refl
         (λ h. elim h [ inl c' ↦ s.apart (base + n) c' (omega arith) (omega arith) | inr r ↦ (let up = r.1 in omega arith) ])
-        (λ d m. let y = choice-member p.starts i d m in subst (λ q. Inside A base n q) (ap (λ (z : Configuration). z.state) y.2) (to y.0 (l.starts next base y.0 y.1))) le)
+        (λ d m. let y = choice-member p.starts i d m in
+        subst (λ q. Inside A base n q) (ap (λ (z : Configuration). z.state) y.2) (to y.0 (l.starts next base y.0 y.1))) le)
         (λ e.
         let past : end < i = grind (arith, nat_tests) in
         ends-past terminator hay end whole (at (base + n) i) past ∙ sym (starts-past terminator hay end whole p.starts i past)) in
@@ -199,7 +202,8 @@ module _ (terminator : ℕ) (hay : List ℕ) (end : ℕ) (whole : List State) wh
       absurd (none-among h.0 (subst (λ ds. Contains ds h.0) (successors-past terminator hay end whole (at q j) past) h.1)))
 
   -- a part that means nothing within the end leads nowhere, whatever was passed
-  module _ (b : Builder) (M : ℕ → ℕ → Type 0) (spells : (pattern final : ℕ) → Spells terminator hay end whole pattern final M b) (next base : ℕ) (placed : Placed whole base (b next base).states) (i : ℕ) (nothing : (j : ℕ) → j ≤ end → M i j → ⊥) (p : Passed) where
+  module _ (b : Builder) (M : ℕ → ℕ → Type 0) (spells : (pattern final : ℕ) → Spells terminator hay end whole pattern final M b) (next base : ℕ)
+      (placed : Placed whole base (b next base).states) (i : ℕ) (nothing : (j : ℕ) → j ≤ end → M i j → ⊥) (p : Passed) where
     no-run : (run : List Configuration) → IsRun (g terminator hay end whole) p (at (b next base).start i) run → ⊥
     no-run run r =
         let c = at (b next base).start i in
@@ -219,7 +223,8 @@ module _ (terminator : ℕ) (hay : List ℕ) (end : ℕ) (whole : List State) wh
             (no-run run (found-is_run (g terminator hay end whole) (runs_of-bounded terminator hay end whole) run p (at (b next base).start i) e))
 
   -- what is left of a choice between a body and the next state
-  module _ (A : ℕ → Type 0) (closed : IsClosed (g terminator hay end whole) A) (next : ℕ) (next_in : A next) (greedy : Bool) (q body : ℕ) (out : A q → ⊥) (is : IsStateOf whole q (prefer greedy body next)) (i : ℕ) where
+  module _ (A : ℕ → Type 0) (closed : IsClosed (g terminator hay end whole) A) (next : ℕ) (next_in : A next) (greedy : Bool) (q body : ℕ) (out : A q → ⊥)
+      (is : IsStateOf whole q (prefer greedy body next)) (i : ℕ) where
     from-choice : (from q i ≡ either_first greedy (option_map end_of (found (g terminator hay end whole) (and_at (at q i) nowhere) (at body i))) (from next i))
         ⊎ (from q i ≡ either_first greedy None (from next i))
     from-choice =
@@ -228,7 +233,8 @@ module _ (terminator : ℕ) (hay : List ℕ) (end : ℕ) (whole : List State) wh
         by_test (nat_le i end)
         (λ e.
         let le : i ≤ end = grind (arith, nat_tests) in
-        let exit : option_map end_of (found G passed (at next i)) ≡ from next i = ap (option_map end_of) (found-outside G A closed (at q i) out nowhere (at next i) next_in) in
+        let exit : option_map end_of (found G passed (at next i)) ≡ from next i =
+        ap (option_map end_of) (found-outside G A closed (at q i) out nowhere (at next i) next_in) in
         inl (
         ap (option_map end_of) (found-step G nowhere (runs_of-bounded terminator hay end whole) (at q i) refl
         (accepted-at terminator hay end whole q i (prefer greedy body next) is le ∙ prefer-accepts greedy body next))

@@ -56,7 +56,8 @@ unfolding stopped
 stopped-in P Q each ss h = by_test (list_any is_empty ss) (λ e. rw e tt) (λ e. rw e (one-map P Q loose each ss h))
 
 -- A part that R tells of and one further inside that Q tells of, and P of both together.
-module _ (side : Side) (R Q P : Literal → Type 0) (extends : (s : List ℕ) (t : Literal) → R (exact s) → Q t → P (cut side 100 (extended side s t))) (loosens : (l : Literal) → R l → P (loose l)) where
+module _ (side : Side) (R Q P : Literal → Type 0) (extends : (s : List ℕ) (t : Literal) → R (exact s) → Q t → P (cut side 100 (extended side s t)))
+    (loosens : (l : Literal) → R l → P (loose l)) where
   extended-in : (ts : List Literal) → OneOf Q ts → (s : Literal) → R s → OneOf P (extended_by_each side ts s)
   unfolding extended_by_each
   extended-in ts h (exact s) r = one-map Q P (λ t. cut side 100 (extended side s t)) (λ t q. extends s t r q) ts h

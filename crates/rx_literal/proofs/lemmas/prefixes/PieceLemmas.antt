@@ -46,7 +46,9 @@ module _ (R : ℕ → ℕ → Type 0) (rises : (i j : ℕ) → R i j → i ≤ j
 
 -- What a repetition's literals tell of i..j, by what the body's tell: of no bytes, of several pieces loosely, of
 -- one piece, and of copies.
-module _ (side : Side) (P : Literal → Type 0) (R : ℕ → ℕ → Type 0) (ts : Seq) (i j : ℕ) (nothing : i ≡ j → OneIn P one_empty) (some : (n : ℕ) → 1 ≤ n → Pieces R n i j → OneIn P (loosened ts)) (single : R i j → OneIn P ts) (several : (least most n : ℕ) → least ≤ n → n ≤ most → Pieces R n i j → OneIn P (copies side least most ts)) where
+module _ (side : Side) (P : Literal → Type 0) (R : ℕ → ℕ → Type 0) (ts : Seq) (i j : ℕ) (nothing : i ≡ j → OneIn P one_empty)
+    (some : (n : ℕ) → 1 ≤ n → Pieces R n i j → OneIn P (loosened ts)) (single : R i j → OneIn P ts)
+    (several : (least most n : ℕ) → least ≤ n → n ≤ most → Pieces R n i j → OneIn P (copies side least most ts)) where
   with_empty-body : (greedy : Bool) (ss : Seq) → OneIn P ss → OneIn P (with_empty greedy ss)
   with_empty-body true ss h = union-left P ss one_empty h
   with_empty-body false ss h = union-right P one_empty ss h

@@ -77,14 +77,16 @@ module _ (first second : List ℕ) (most i whole : ℕ) (some : most ≤ length 
   len-more a b same =
       let l = long in
       let m = length-reverse second in
-      let e = common-more (take most (reverse first)) (reverse second) i 0 0 (omega arith) (omega arith) (first-byte a ∙ same ∙ sym (get_or-reverse second i 0 b)) in
+      let e =
+      common-more (take most (reverse first)) (reverse second) i 0 0 (omega arith) (omega arith) (first-byte a ∙ same ∙ sym (get_or-reverse second i 0 b)) in
       omega (arith, before, e)
 
   pub len-differ : i < most → i < length second → get_or first (length first - 1 - i) 0 ≢ get_or second (length second - 1 - i) 0 → i ≡ whole
   len-differ a b differ =
       let l = long in
       let m = length-reverse second in
-      let e = common-differ (take most (reverse first)) (reverse second) i 0 0 (omega arith) (omega arith) (λ same. differ (sym (first-byte a) ∙ same ∙ get_or-reverse second i 0 b)) in
+      let e = common-differ (take most (reverse first)) (reverse second) i 0 0 (omega arith) (omega arith)
+      (λ same. differ (sym (first-byte a) ∙ same ∙ get_or-reverse second i 0 b)) in
       omega (arith, before, e)
 
   pub len-over : (most ≤ i) ⊎ (length second ≤ i) → i ≡ whole

@@ -82,7 +82,8 @@ pub record Seen (n : ℕ) (ls : List Literal) (seen : List Bool) (i : ℕ) : Typ
 pub seen-none : (n : ℕ) (ls : List Literal) (seen : List Bool) → Seen n ls seen 0
 seen-none n ls seen = record { each = λ j m lt at. absurd (omega arith) }
 
-pub seen-more : (n : ℕ) (ls : List Literal) (seen : List Bool) (i : ℕ) (l : Literal) (s : ℕ) → i < length ls → l ≡ get_or ls i l → s ≡ slot n l → s < length seen
+pub seen-more : (n : ℕ) (ls : List Literal) (seen : List Bool) (i : ℕ) (l : Literal) (s : ℕ) → i < length ls → l ≡ get_or ls i l → s ≡ slot n l
+    → s < length seen
     → Seen n ls seen i → Seen n ls (set seen s true) (i + 1)
 seen-more n ls seen i l s lt at is within before = record {
   each = λ j m below there. ⊎_elim
@@ -103,7 +104,8 @@ one-fits true found i le = omega arith
 one-fits false found i le = omega arith
 
 -- one more where the slot is new
-pub distinct-more : (n : ℕ) (ls : List Literal) (seen : List Bool) (i : ℕ) (l : Literal) (s : ℕ) → n ≤ 3 → list_all (has_bytes n) ls ≡ true → i < length ls → l ≡ get_or ls i l
+pub distinct-more : (n : ℕ) (ls : List Literal) (seen : List Bool) (i : ℕ) (l : Literal) (s : ℕ) → n ≤ 3 → list_all (has_bytes n) ls ≡ true → i < length ls
+    → l ≡ get_or ls i l
     → s ≡ slot n l → Seen n ls seen i → (found : ℕ) → found ≤ length (preferred [] (map short (take i ls))) → (b : Bool) → b ≡ not (get_or seen s false)
     → (if b then found + 1 else found) ≤ length (preferred [] (map short (take (i + 1) ls)))
 distinct-more n ls seen i l s le all lt at is before found few b tells =

@@ -112,7 +112,8 @@ few-exact text end i n ls t h =
     (λ e. rw e refl)
     (λ e. let h' = rw e at h in
     by_test (nat_le (length short) n)
-    (λ f. let same = uncut 3 [] ls t (rw f at h') in rw (e, f) (ap (λ xs. first_literal text end i (preferred [] xs)) same ∙ first-preferred text end i [] ls refl))
+    (λ f. let same = uncut 3 [] ls t (rw f at h') in
+    rw (e, f) (ap (λ xs. first_literal text end i (preferred [] xs)) same ∙ first-preferred text end i [] ls refl))
     (λ f. let h'' = rw f at h' in
     by_test (list_all is_exact ls)
     (λ d. rw (e, f, d) refl)

@@ -106,7 +106,8 @@ parted-after l (m ∷ ms) o none apart =
     by_test (starts m l)
     (λ e. rw e (parted-after l ms o.1 not.1 out.1))
     (λ e.
-    let here = branch-after (bytes_of m) (bytes_of l) not.0 (sym (starts-begins (bytes_of l) (bytes_of m)) ∙ out.0) (sym (starts-begins (bytes_of m) (bytes_of l)) ∙ e) in
+    let here = branch-after (bytes_of m) (bytes_of l) not.0 (sym (starts-begins (bytes_of l) (bytes_of m)) ∙ out.0)
+    (sym (starts-begins (bytes_of m) (bytes_of l)) ∙ e) in
     rw e (
       all-both (follows by_branches m l) (list_all (λ y. follows by_branches y l) ms) here
           (all-all (λ y. follows by_branches y m) (λ y. follows by_branches y l)

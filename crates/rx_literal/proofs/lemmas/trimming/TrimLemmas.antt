@@ -139,13 +139,15 @@ module _ (text : List ℕ) (i j : ℕ) where
       elim h [ inl b ↦ subst (λ x. (stands_at text i x ≡ true) × (i + length x ≡ j)) e b | inr b ↦ b ]
   either-begins (exact s) (inexact t) e h =
       elim h [
-        | inl b ↦ let c : (stands_at text i t ≡ true) × (i + length t ≡ j) = subst (λ x. (stands_at text i x ≡ true) × (i + length x ≡ j)) e b in let ends = c.1 in (c.0, omega arith)
+        | inl b ↦ let c : (stands_at text i t ≡ true) × (i + length t ≡ j) =
+            subst (λ x. (stands_at text i x ≡ true) × (i + length x ≡ j)) e b in let ends = c.1 in (c.0, omega arith)
         | inr b ↦ b
       ]
   either-begins (inexact s) (exact t) e h =
       elim h [
         | inl b ↦ b
-        | inr b ↦ let c : (stands_at text i s ≡ true) × (i + length s ≡ j) = subst (λ x. (stands_at text i x ≡ true) × (i + length x ≡ j)) (sym e) b in let ends = c.1 in (c.0, omega arith)
+        | inr b ↦ let c : (stands_at text i s ≡ true) × (i + length s ≡ j) =
+            subst (λ x. (stands_at text i x ≡ true) × (i + length x ≡ j)) (sym e) b in let ends = c.1 in (c.0, omega arith)
       ]
   either-begins (inexact s) (inexact t) e h =
       elim h [ inl b ↦ b | inr b ↦ subst (λ x. (stands_at text i x ≡ true) × (i + length x ≤ j)) (sym e) b ]

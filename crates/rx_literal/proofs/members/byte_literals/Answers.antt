@@ -32,6 +32,7 @@ returns c =
     let rs = c.args.ranges.now in
     let i = c.loop-low.low-index in
     let found = c.loop-low.found.items in
-    let whole = all-found found (encoded (λ b. b ∷ []) (members next_byte (drop i rs))) (encoded (λ b. b ∷ []) (members next_byte rs)) (none-left next_byte (λ b. b ∷ []) rs i c.loop-low-test.false)
+    let whole = all-found found (encoded (λ b. b ∷ []) (members next_byte (drop i rs))) (encoded (λ b. b ∷ []) (members next_byte rs))
+    (none-left next_byte (λ b. b ∷ []) rs i c.loop-low-test.false)
     c.loop-low.invariant.so_far in
     c.finite.ensures ∙ each-few (λ b. b ∷ []) (members next_byte rs) found whole c.loop-low.invariant.few

@@ -33,6 +33,7 @@ returns c =
     let rs = c.args.ranges.now in
     let i = c.loop-low.low-index in
     let found = c.loop-low.found.items in
-    let whole = all-found found (encoded encode_utf8 (members next_scalar (drop i rs))) (encoded encode_utf8 (members next_scalar rs)) (none-left next_scalar encode_utf8 rs i c.loop-low-test.false)
+    let whole = all-found found (encoded encode_utf8 (members next_scalar (drop i rs))) (encoded encode_utf8 (members next_scalar rs))
+    (none-left next_scalar encode_utf8 rs i c.loop-low-test.false)
     c.loop-low.invariant.so_far in
     c.finite.ensures ∙ each-few encode_utf8 (members next_scalar rs) found whole c.loop-low.invariant.few

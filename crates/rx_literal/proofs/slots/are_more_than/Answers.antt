@@ -28,7 +28,8 @@ returns-then-found-most c yes_is =
     let le : n ≤ 3 = omega (arith, c.min-count.ensures) in
     let all = have-fewer c.bytes_to_look_at.result n ls c.bytes_to_look_at.ensures (omega (arith, c.min-count.ensures)) in
     let is : s ≡ slot n l = c.slot_of-slot.ensures.value ∙ ap (λ bs. slot_of 0 (take n bs)) c.as_bytes.ensures in
-    let more = distinct-more n ls seen i l s le all c.loop-literal-test.true c.literal-item.is is invariant.seen found invariant.few (not (get_or seen s false)) (λ _. not (get_or seen s false)) in
+    let more = distinct-more n ls seen i l s le all c.loop-literal-test.true c.literal-item.is is invariant.seen found invariant.few (not (get_or seen s false))
+    (λ _. not (get_or seen s false)) in
     let few : c.one_more_if-found.result ≤ length (preferred [] (map short (take (i + 1) ls))) =
     subst (λ k. k ≤ length (preferred [] (map short (take (i + 1) ls)))) (sym c.one_more_if-found.ensures) more in
     distinct-all ls (i + 1) c.args.most (omega (arith, few, c.if-found-most.true))

@@ -40,7 +40,8 @@ returns c =
     let i = c.loop-pair.pair-index in
     let long = length-map ps second in
     let over : length (map second ps) ≤ i = omega (arith, long) in
-    let moved : IsPermutation ls (map second ps) = subst (λ qs. IsPermutation ls (map second qs)) (sym c.deref-pair-items.ensures.value) c.in_ok-headed.ensures in
+    let moved : IsPermutation ls (map second ps) =
+    subst (λ qs. IsPermutation ls (map second qs)) (sym c.deref-pair-items.ensures.value) c.in_ok-headed.ensures in
     let alike = subst (Alike found) (take_all i (map second ps) over) c.loop-pair.invariant.alike in
     let is = c.deref.ensures.value ∙ sorted-alike ls (map second ps) found moved c.loop-pair.invariant.order alike in
     IfOk-weaker c.owned.result _ _ (λ v same. same ∙ is) c.owned.ensures
