@@ -30,7 +30,8 @@ module _ (needles : List (List ℕ)) (next depths text : List ℕ) (from : ℕ) 
   reading-depth at state r = let tall = r.automaton.tall in let within = r.within in r.automaton.depths_are state (omega (arith, tall, within))
 
   pub reading-within : (at state b : ℕ) → IsReading needles next depths text from at state → b < 256 → state * 256 + b < length next
-  reading-within at state b r byte = let tall = r.automaton.tall in let rows = r.automaton.rows in let within = r.within in omega (arith, tall, rows, within, byte)
+  reading-within at state b r byte =
+      let tall = r.automaton.tall in let rows = r.automaton.rows in let within = r.within in omega (arith, tall, rows, within, byte)
 
   pub reading-behind : (at state : ℕ) → IsReading needles next depths text from at state → slice_index depths state ≤ at
   reading-behind at state r = let behind = r.behind in let d = reading-depth at state r in omega (arith, behind, d)

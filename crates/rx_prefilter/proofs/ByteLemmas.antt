@@ -79,7 +79,8 @@ pub table_more : (table : List Bool) (bytes : List ℕ) (i b : ℕ) → i < leng
     → (x : ℕ) → x < 256 → slice_index_or (set table b true) x false ≡ is_one_of (take (i + 1) bytes) x
 table_more table bytes i b l long is before x fits =
     let p : ℕ → Bool = λ y. y == x in
-    let more : is_one_of (take (i + 1) bytes) x ≡ (is_one_of (take i bytes) x || b == x) = list_any_more p bytes i 0 l ∙ ap (λ y. is_one_of (take i bytes) x || y == x) (sym is) in
+    let more : is_one_of (take (i + 1) bytes) x ≡ (is_one_of (take i bytes) x || b == x) =
+    list_any_more p bytes i 0 l ∙ ap (λ y. is_one_of (take i bytes) x || y == x) (sym is) in
     let old = before x fits in
     ⊎_elim
     (λ same. let within : b < length table = omega arith in

@@ -74,12 +74,14 @@ module _ (bytes : List ℕ) (offset : ℕ) (text : List ℕ) where
     none_unless : (k : ℕ) → at ≤ k → ¬ Passes (is_one_of bytes) (drop (at + offset) text) (k - at) → NoneLies needles text k
     none_unless k le fails = none_without needles k all (λ within.
         let place : at + offset + (k - at) ≡ k + offset = omega arith in
-        let read : slice_index (drop (at + offset) text) (k - at) ≡ slice_index text (k + offset) = get_or-drop (at + offset) text (k - at) 0 ∙ ap (slice_index text) place in
+        let read : slice_index (drop (at + offset) text) (k - at) ≡ slice_index text (k + offset) =
+        get_or-drop (at + offset) text (k - at) 0 ∙ ap (slice_index text) place in
         ⊎_elim (λ yes_is. absurd (fails (ap (is_one_of bytes) read ∙ yes_is))) (λ no_is. no_is) (cases_Bool (is_one_of bytes (slice_index text (k + offset)))))
 
     pub next_place : (r : Option ℕ) → IsFirstByte (is_one_of bytes) (drop (at + offset) text) r → IsNextPlace needles text at (option_map (λ k. at + k) r)
     next_place None nowhere = λ k le. ⊎_elim
-        (λ (within : k + offset < length text). none_unless k le (nowhere (k - at) (omega arith) (let l = length-drop (at + offset) text in omega (arith, l, within))))
+        (λ (within : k + offset < length text). none_unless k le (nowhere (k - at) (omega arith)
+        (let l = length-drop (at + offset) text in omega (arith, l, within))))
         (λ (past : length text ≤ k + offset). none_without needles k all (λ within. absurd (omega (arith, past, within))))
         (cases_lt (k + offset) (length text))
     next_place (Some n) found =

@@ -57,7 +57,8 @@ last_byte text u b s o =
     (omega (arith, long, fits), o.reads (length u) (omega (arith, long)) ∙ get_or_push u b 0 (length u) refl)
 
 pub occurs_before : (text u : List ℕ) (b s : ℕ) → OccursAt text (u ++ b ∷ []) s → OccursAt text u s
-occurs_before text u b s o = let e : s + 0 ≡ s = omega arith in occurs_at_same text u (s + 0) s e (occurs_in text (u ++ b ∷ []) u s 0 o (occurs_left u (b ∷ [])))
+occurs_before text u b s o =
+    let e : s + 0 ≡ s = omega arith in occurs_at_same text u (s + 0) s e (occurs_in text (u ++ b ∷ []) u s 0 o (occurs_left u (b ∷ [])))
 
 pub occurs_next : (text u : List ℕ) (b s : ℕ) → OccursAt text u s → s + length u < length text → slice_index text (s + length u) ≡ b
     → OccursAt text (u ++ b ∷ []) s
@@ -134,8 +135,10 @@ module _ (needles : List (List ℕ)) where
       let between : (text : List ℕ) (at : ℕ) → OccursAt text (v ++ b ∷ []) at → OccursAt text (f ++ b ∷ []) (at + (length v - length f)) = λ text at o.
       let last = last_byte text v b at o in
       let same : at + (length v - length f) + length f ≡ at + length v = omega (arith, low) in
-      occurs_more text f b (at + (length v - length f)) (first.reads text at (occurs_before text v b at o)) (let l = last.0 in omega (arith, l, same)) (ap (slice_index text) same ∙ last.1) in
-      let here : (at : ℕ) → at + (length v - length f) + (length (f ++ b ∷ []) - length to) ≡ at + (length (v ++ b ∷ []) - length to) = λ at. omega (arith, long_v, long_f, low, lower) in record {
+      occurs_more text f b (at + (length v - length f)) (first.reads text at (occurs_before text v b at o)) (let l = last.0 in omega (arith, l, same))
+      (ap (slice_index text) same ∙ last.1) in
+      let here : (at : ℕ) → at + (length v - length f) + (length (f ++ b ∷ []) - length to) ≡ at + (length (v ++ b ∷ []) - length to) =
+      λ at. omega (arith, long_v, long_f, low, lower) in record {
         shorter = omega (arith, long_v, long_f, low, lower);
         reads = λ text at o. occurs_at_same text to _ _ (here at) (then.reads text (at + (length v - length f)) (between text at o));
         keeps = λ text at o. first.keeps text at (occurs_before text v b at o) ∙ then.keeps text (at + (length v - length f)) (between text at o)

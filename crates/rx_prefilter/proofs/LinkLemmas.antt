@@ -66,7 +66,8 @@ module _ (needles : List (List ℕ)) (next depths : List ℕ) (ends : List Bool)
           root = t.root;
           places = λ place within. (
             (λ empty. All-weaker H (λ n. ¬ OccursAt n (word_at t.words place) 0) (λ n has. none_begins n place within empty has) needles all),
-            (λ stands. let child = t.children place (slice_index next place) (within, stands, refl) in (child.0, leads-same needles (word_at t.words place) (word_of t.words (slice_index next place)) child.1)),
+            (λ stands. let child = t.children place (slice_index next place) (within, stands, refl) in
+                (child.0, leads-same needles (word_at t.words place) (word_of t.words (slice_index next place)) child.1)),
           );
         };
         wide = omega (arith, wide, tall);
@@ -90,7 +91,8 @@ module _ (needles : List (List ℕ)) (next depths : List ℕ) (ends : List Bool)
       let some = l.automaton.some in
       let root : length (word_of words 0) ≡ 0 = ap (λ (w : List ℕ). length w) l.automaton.root in
       All-weaker (λ n. n ≢ word_of words 0) (λ n. ¬ OccursAt (word_of words 0) n 0)
-      (λ n differ o. let fits = o.fits in differ (occurs_same (word_of words 0) n (omega (arith, fits, root)) o)) needles (l.ended 0 (omega (arith, tall, some)) none)
+      (λ n differ o. let fits = o.fits in differ (occurs_same (word_of words 0) n (omega (arith, fits, root)) o)) needles
+      (l.ended 0 (omega (arith, tall, some)) none)
 
   word_there : (q b : ℕ) → b < 256 → word_at words (q * 256 + b) ≡ word_of words q ++ b ∷ []
   word_there q b byte =
@@ -114,7 +116,8 @@ module _ (needles : List (List ℕ)) (next depths : List ℕ) (ends : List Bool)
       let rows = l.automaton.rows in
       let place = f * 256 + b in
       let there = (l.automaton.places place (omega (arith, rows, below, byte))).1 (λ e. some (by_fail.1 ∙ e)) in
-      let step : Leads needles (word_of words f ++ b ∷ []) (word_of words (slice_index next place)) = subst (λ w. Leads needles w (word_of words (slice_index next place))) (word_there f b byte) there.1 in
+      let step : Leads needles (word_of words f ++ b ∷ []) (word_of words (slice_index next place)) =
+      subst (λ w. Leads needles w (word_of words (slice_index next place))) (word_there f b byte) there.1 in
       rw by_fail.1 (
         there.0,
         fail.2,
@@ -125,7 +128,8 @@ module _ (needles : List (List ℕ)) (next depths : List ℕ) (ends : List Bool)
       is
 
   -- a place is filled at which no state stood
-  module _ (q b later : ℕ) (low : q < length depths) (byte : b < 256) (is : IsLater next ends fails q b later) (empty : slice_index next (q * 256 + b) ≡ stop) where
+  module _ (q b later : ℕ) (low : q < length depths) (byte : b < 256) (is : IsLater next ends fails q b later)
+      (empty : slice_index next (q * 256 + b) ≡ stop) where
     within : q * 256 + b < length next
     within = let rows = l.automaton.rows in let tall = l.automaton.tall in omega (arith, rows, tall, low, byte)
 
@@ -220,7 +224,8 @@ module _ (needles : List (List ℕ)) (next depths : List ℕ) (ends : List Bool)
         let w = word_of words q in
         let long = length-append w (b ∷ []) in
         let tall = l.automaton.tall in
-        let differ : All (λ needle. needle ≢ w ++ b ∷ []) needles = subst (λ u. All (λ needle. needle ≢ u) needles) child_word (l.ended child (child_low q b child stands) none) in
+        let differ : All (λ needle. needle ≢ w ++ b ∷ []) needles =
+        subst (λ u. All (λ needle. needle ≢ u) needles) child_word (l.ended child (child_low q b child stands) none) in
         rw child_word (leads.0, omega (arith, long), within_more needles w b leads.1 differ, leads.2)
 
     pub failing_linked : IsLinkedOf needles next depths ends (set fails child later) queue
@@ -233,7 +238,8 @@ module _ (needles : List (List ℕ)) (next depths : List ℕ) (ends : List Bool)
           (λ (here : k ≡ child).
           let narrow = l.narrow in
           let low_child = child_low q b child stands in
-          let value : slice_index (set fails child later) k ≡ later = ap (slice_index (set fails child later)) here ∙ get_or-set_same fails child later 0 (omega (arith, narrow, low_child)) in
+          let value : slice_index (set fails child later) k ≡ later =
+          ap (slice_index (set fails child later)) here ∙ get_or-set_same fails child later 0 (omega (arith, narrow, low_child)) in
           rw (value, here) (child_fail (λ e. some (value ∙ e))))
           (λ (other : k ≡ child → ⊥).
           let value : slice_index (set fails child later) k ≡ slice_index fails k = get_or-set_other fails child k later 0 other in

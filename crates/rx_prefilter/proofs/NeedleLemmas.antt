@@ -78,7 +78,8 @@ module _ (needles : List (List ℕ)) (text : List ℕ) where
       ap (span_among needles text from) k ∙ span_among-here from (length text - from) span e
 
   pub first_span-next : (at : ℕ) → at ≤ length text → NoneLies needles text at → first_span needles text at ≡ first_span needles text (at + 1)
-  first_span-next at le none = first_span-skip at (at + 1) (omega arith) (omega arith) (λ k a b. let e : at ≡ k = omega arith in subst (NoneLies needles text) e none)
+  first_span-next at le none =
+      first_span-skip at (at + 1) (omega arith) (omega arith) (λ k a b. let e : at ≡ k = omega arith in subst (NoneLies needles text) e none)
 
   -- a window of places that holds the first needle, or none
   pub first_span-window_found : (from k : ℕ) (span : Span) → from + k ≤ length text + 1 → span_among needles text from k ≡ Some span

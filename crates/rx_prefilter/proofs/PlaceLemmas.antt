@@ -74,7 +74,8 @@ module _ (places : List ℕ) (stride : ℕ) (text : List ℕ) where
       let first : slice_index text (at + j) ≡ slice_index needle j = o.reads j (omega arith) in
       let s : at + j + 1 ≡ at + (j + 1) = omega arith in
       let second : slice_index text (at + j + 1) ≡ slice_index needle (j + 1) = ap (slice_index text) s ∙ o.reads (j + 1) (omega arith) in
-      let same : pair_at text (at + j) ≡ pair_at needle j = ap (λ a. pair_number a (slice_index text (at + j + 1))) first ∙ ap (pair_number (slice_index needle j)) second in
+      let same : pair_at text (at + j) ≡ pair_at needle j =
+      ap (λ a. pair_number a (slice_index text (at + j + 1))) first ∙ ap (pair_number (slice_index needle j)) second in
       ap (λ p. bit_at (slice_index places p) j) same ∙ m.marked j l
 
   pub unmarked_none : (needles : List (List ℕ)) (at j : ℕ) → All (IsMarked places stride) needles → j < stride
@@ -106,7 +107,8 @@ module _ (places : List ℕ) (stride : ℕ) (text : List ℕ) where
   unmarked_window needles at before here marked some here_is before_is apart = none_among needles at (λ k a b.
       let j = at + stride - 1 - k in
       let place : at + stride - 1 ≡ k + j = omega arith in
-      let both : 0 ≡ min (bit_at here j) (bit_at (2 * before + 1) j) = sym (bit_at-zero j) ∙ ap (λ n. bit_at n j) (sym apart) ∙ bit_at_and here (2 * before + 1) j in
+      let both : 0 ≡ min (bit_at here j) (bit_at (2 * before + 1) j) =
+      sym (bit_at-zero j) ∙ ap (λ n. bit_at n j) (sym apart) ∙ bit_at_and here (2 * before + 1) j in
       let small = bit_at-lt here j in
       let clear : bit_at here j ≡ 0 → NoneLies needles text k = λ zero_is. unmarked_none needles k j marked (omega arith)
       (λ one. absurd (omega (arith, zero_is, ap (λ n. bit_at n j) (here_is ∙ ap (λ p. slice_index places (pair_at text p)) place) ∙ one))) in

@@ -31,7 +31,8 @@ walks-stay old new stays p (b ∷ u) q way =
 
 pub needle-grows : (next : List ℕ) (ends : List Bool) (later : List ℕ) (later_ends : List Bool) (needle : List ℕ) → GrowsTo next ends later later_ends
     → HasNeedleOf next ends needle → HasNeedleOf later later_ends needle
-needle-grows next ends later later_ends needle g has = record { state = has.state; leads = g.walks 0 needle has.state has.leads; is_end = g.keeps_ends has.state has.is_end }
+needle-grows next ends later later_ends needle g has =
+    record { state = has.state; leads = g.walks 0 needle has.state has.leads; is_end = g.keeps_ends has.state has.is_end }
 
 pub grows-on : (n1 : List ℕ) (e1 : List Bool) (n2 : List ℕ) (e2 : List Bool) (n3 : List ℕ) (e3 : List Bool) → GrowsTo n1 e1 n2 e2 → GrowsTo n2 e2 n3 e3
     → GrowsTo n1 e1 n3 e3
@@ -101,7 +102,8 @@ module _ (next depths : List ℕ) (ends : List Bool) (t : IsTrieOf next depths e
     many = length-append t.words (word_at t.words place ∷ [])
 
     by_word : (q : ℕ) → q < length new_words → (P : ℕ → Type 0) → ((k : ℕ) → k < length t.words → P k) → P child → P q
-    by_word q l P old here = ⊎_elim (λ below. old q below) (λ above. let e : child ≡ q = let tall = t.tall in omega (arith, many, tall, l, above) in subst P e here) (cases_lt q (length t.words))
+    by_word q l P old here = ⊎_elim (λ below. old q below) (λ above. let e : child ≡ q = let tall = t.tall in omega (arith, many, tall, l, above) in
+        subst P e here) (cases_lt q (length t.words))
 
     old_reached : (q : ℕ) → q < length t.words → Walks new_next 0 (word_of new_words q) q
     old_reached q l = rw (old_word q l) (walks-stay next new_next stays 0 (word_of t.words q) q (t.reached q l))
@@ -109,7 +111,8 @@ module _ (next depths : List ℕ) (ends : List Bool) (t : IsTrieOf next depths e
     new_reached : Walks new_next 0 (word_of new_words child) child
     new_reached =
         let step : Walks new_next (place / 256) (place % 256 ∷ []) child = subst (λ i. StandsAt new_next i child) (sym parts) added_stands in
-        let way : Walks new_next 0 (word_of t.words (place / 256)) (place / 256) = walks-stay next new_next stays 0 (word_of t.words (place / 256)) (place / 256) (t.reached (place / 256) row_of) in
+        let way : Walks new_next 0 (word_of t.words (place / 256)) (place / 256) =
+        walks-stay next new_next stays 0 (word_of t.words (place / 256)) (place / 256) (t.reached (place / 256) row_of) in
         rw new_word (walks-on new_next 0 (word_of t.words (place / 256)) (place % 256 ∷ []) (place / 256) child way step)
 
     child_of : (i c : ℕ) → StandsAt new_next i c → (c < length new_words) × (word_of new_words c ≡ word_at new_words i)
@@ -128,7 +131,8 @@ module _ (next depths : List ℕ) (ends : List Bool) (t : IsTrieOf next depths e
         let low : i / 256 < length t.words = omega (arith, rows, below) in
         (omega (arith, many, old.0), old_word c old.0 ∙ old.1 ∙ ap (λ w. w ++ i % 256 ∷ []) (sym (old_word (i / 256) low))))
         (λ (above : length next ≤ i).
-        let is : slice_index new_next i ≡ stop = read ∙ get_or-append_right next row (length next) i 0 refl above ∙ get_or-replicate 256 (i - length next) stop 0 (let l = stands.0 in omega (arith, long, l, above)) in
+        let is : slice_index new_next i ≡ stop = read ∙ get_or-append_right next row (length next) i 0 refl above
+        ∙ get_or-replicate 256 (i - length next) stop 0 (let l = stands.0 in omega (arith, long, l, above)) in
         absurd (stands.1 is))
         (cases_lt i (length next)))
         (cases_eq i place)
@@ -151,7 +155,8 @@ module _ (next depths : List ℕ) (ends : List Bool) (t : IsTrieOf next depths e
           root = old_word 0 t.some ∙ t.root;
           short = λ q l. by_word q l (λ k. length (word_of new_words k) ≤ k)
               (λ k below. rw (old_word k below) (t.short k below))
-              (let s = t.short (place / 256) row_of in let w = length-append (word_of t.words (place / 256)) (place % 256 ∷ []) in rw new_word (omega (arith, s, w, row_of, tall)));
+              (let s = t.short (place / 256) row_of in let w = length-append (word_of t.words (place / 256)) (place % 256 ∷ []) in
+              rw new_word (omega (arith, s, w, row_of, tall)));
           children = child_of;
           reached = λ q l. by_word q l (λ k. Walks new_next 0 (word_of new_words k) k) old_reached new_reached;
         }
@@ -164,7 +169,8 @@ pub added : (next depths : List ℕ) (ends : List Bool) (t : IsTrieOf next depth
     → IsTrieOf (set rows place n) later_depths later_ends × GrowsTo next ends (set rows place n) later_ends × StandsAt (set rows place n) place n
     × (n < length later_depths)
 added next depths ends t place state n v rows later_depths later_ends within empty few row is read e_rows e_depths e_ends =
-    let depths_are : later_depths ≡ new_depths next depths ends t place = e_depths ∙ ap (λ k. depths ++ (k + 1) ∷ []) (read ∙ ap (slice_index depths) (sym row)) in
+    let depths_are : later_depths ≡ new_depths next depths ends t place =
+    e_depths ∙ ap (λ k. depths ++ (k + 1) ∷ []) (read ∙ ap (slice_index depths) (sym row)) in
     let long = length-append depths ((slice_index depths (place / 256) + 1) ∷ []) in
     rw (e_rows, is, depths_are, e_ends) (
       added_trie next depths ends t place within empty few,
@@ -186,7 +192,8 @@ empty_trie next depths ends e_next e_depths e_ends =
       some = omega arith;
       root = refl;
       short = λ q l. let z : q ≡ 0 = omega arith in rw z (omega arith);
-      children = λ i c stands. absurd (stands.1 (ap (λ (l : List ℕ). slice_index l i) e_next ∙ get_or-replicate 256 i stop 0 (let w = stands.0 in omega (arith, w, long))));
+      children = λ i c stands. absurd (stands.1 (ap (λ (l : List ℕ). slice_index l i) e_next
+          ∙ get_or-replicate 256 i stop 0 (let w = stands.0 in omega (arith, w, long))));
       reached = λ q l. let z : q ≡ 0 = omega arith in rw z refl;
     }
 

@@ -65,7 +65,8 @@ impl Automaton {
         requires state { state < length self.now.depths.items }
         requires behind { slice_index self.now.depths.items state ≤ at }
         requires within { at ≤ length text.now }
-        ensures { result ≡ span_among (map vec_items self.now.needles.items) text.now (at - slice_index self.now.depths.items state) (slice_index self.now.depths.items state + 1) }
+        ensures { result ≡ span_among (map vec_items self.now.needles.items) text.now (at - slice_index self.now.depths.items state)
+            (slice_index self.now.depths.items state + 1) }
     {
         let depth = self.depths[state];
         for i in 0..depth + 1 {

@@ -59,7 +59,8 @@ impl Trie {
     fn step(&mut self, state: usize, byte: u8) -> Result<usize, Memory>
         requires trie { IsTrie self.old }
         requires state { state < length self.old.depths.items }
-        ensures { IfOk result (λ child. IsTrie self.new × Grows self.old self.new × Walks self.new.next.items state (byte ∷ []) child × (child < length self.new.depths.items)) }
+        ensures { IfOk result (λ child. IsTrie self.new × Grows self.old self.new × Walks self.new.next.items state (byte ∷ []) child
+            × (child < length self.new.depths.items)) }
     {
         let place = state * 256 + byte as usize;
         if self.next[place] != STOP {
@@ -74,7 +75,8 @@ impl Trie {
         requires row { place / 256 ≡ state }
         requires within { place < length self.old.next.items }
         requires empty { slice_index self.old.next.items place ≡ stop }
-        ensures { IfOk result (λ child. IsTrie self.new × Grows self.old self.new × StandsAt self.new.next.items place child × (child < length self.new.depths.items)) }
+        ensures { IfOk result (λ child. IsTrie self.new × Grows self.old self.new × StandsAt self.new.next.items place child
+            × (child < length self.new.depths.items)) }
     {
         let child = self.depths.len();
         if child >= STOP as usize {

@@ -9,14 +9,16 @@ use Rattle.rx_prefilter.proofs.needles.first_bytes.Goals as goal
 pub index-requires : goal.index-requires
 index-requires c =
     let x = c.needle-item.result in
-    let one : is_single x.items ≡ true = list_all-at is_single vec_items c.args.needles.now c.loop-needle.needle-index x (omega arith) c.needle-item.is c.requires in
+    let one : is_single x.items ≡ true =
+    list_all-at is_single vec_items c.args.needles.now c.loop-needle.needle-index x (omega arith) c.needle-item.is c.requires in
     let long = eqb-true (length x.items) 1 one in
     omega (arith, x.ok.0, long)
 
 pub loop-needle-preserved : goal.loop-needle-preserved
 loop-needle-preserved c =
     let x = c.needle-item.result in
-    let one : is_single x.items ≡ true = list_all-at is_single vec_items c.args.needles.now c.loop-needle.needle-index x (omega arith) c.needle-item.is c.requires in
+    let one : is_single x.items ≡ true =
+    list_all-at is_single vec_items c.args.needles.now c.loop-needle.needle-index x (omega arith) c.needle-item.is c.requires in
     let long = eqb-true (length x.items) 1 one in
     let more = map-take_more vec_items c.args.needles.now c.loop-needle.needle-index x (omega arith) c.needle-item.is in
     let whole = one_element x.items long in

@@ -12,7 +12,8 @@ loop-needle-preserved c =
     let long : c.len.result ≡ length x.items = omega (arith, c.len.ensures, x.ok.0) in
     let invariant = c.loop-needle.invariant in
     let rest = total_length (drop (c.loop-needle.needle-index + 1) (map vec_items c.args.needles.now)) in
-    let step : saturated (total + (length x.items + rest)) ≡ saturated (c.saturating_add-total.result + rest) = omega (arith, c.saturating_add-total.ensures, long) in
+    let step : saturated (total + (length x.items + rest)) ≡ saturated (c.saturating_add-total.result + rest) =
+    omega (arith, c.saturating_add-total.ensures, long) in
     (omega arith, invariant.1 ∙ ap (λ (ns : List (List ℕ)). saturated (total + total_length ns)) next ∙ step)
 
 pub returns : goal.returns

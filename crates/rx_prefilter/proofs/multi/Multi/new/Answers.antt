@@ -9,4 +9,5 @@ of-jump-requires c =
     let table = c.in_ok-table.table in
     let P = IsMarked table.places.items table.stride in
     let Q : List ℕ → Type 0 = λ n. table.stride + 1 ≤ length n in
-    rw c.deref.ensures.value (All-weaker P Q (λ n m. let long = m.long in omega (arith, long)) (map vec_items table.needles.items) c.in_ok-table.ensures.0.marked)
+    rw c.deref.ensures.value (All-weaker P Q (λ n m. let long = m.long in omega (arith, long)) (map vec_items table.needles.items)
+    c.in_ok-table.ensures.0.marked)

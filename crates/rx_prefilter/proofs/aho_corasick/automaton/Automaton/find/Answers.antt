@@ -25,7 +25,8 @@ loop-at-preserved-then-next c =
     let byte : b < 256 = omega (arith, fits) in
     let low : at < length text = omega (arith, c.loop-at-test.true) in
     let within = reading-within needles next depths text c.args.from at state b reading byte in
-    let there : c.index-next.result.now ≡ slice_index next (state * 256 + b) = get_or_read next (state * 256 + b) c.index-next.result.now within c.index-next.ensures 0 in
+    let there : c.index-next.result.now ≡ slice_index next (state * 256 + b) =
+    get_or_read next (state * 256 + b) c.index-next.result.now within c.index-next.ensures 0 in
     reading-next needles next depths text c.args.from at state b c.index-next.result.now reading low byte refl (sym there) c.if-next.true
 
 pub returns-in-Some : goal.returns-in-Some

@@ -28,5 +28,6 @@ returns c =
     let fail : f ≡ slice_index fails c.args.state = get_or_read fails c.args.state f low c.index-fail.ensures 0 in
     let below = (l.failing c.args.state c.requires.state (λ e. c.if-fail.false (fail ∙ e))).0 in
     let within : f * 256 + c.args.byte < length next = omega (arith, rows, below, fail, c.requires.byte) in
-    let value : c.index-2.result.now ≡ slice_index next (f * 256 + c.args.byte) = get_or_read next (f * 256 + c.args.byte) c.index-2.result.now within c.index-2.ensures 0 in
+    let value : c.index-2.result.now ≡ slice_index next (f * 256 + c.args.byte) =
+    get_or_read next (f * 256 + c.args.byte) c.index-2.result.now within c.index-2.ensures 0 in
     inr (inr ((λ e. c.if-fail.false (fail ∙ e)), value ∙ ap (λ s. slice_index next (s * 256 + c.args.byte)) fail))

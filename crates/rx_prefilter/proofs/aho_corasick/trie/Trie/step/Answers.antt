@@ -13,7 +13,8 @@ returns-then-index c =
     let place = c.args.state * 256 + c.args.byte in
     let within : place < length next = omega (arith, rows, tall) in
     let first : c.index.result.now ≡ slice_index next place = get_or_read next place c.index.result.now within c.index.ensures 0 in
-    let second : c.index-then-index.result.now ≡ slice_index next place = get_or_read next place c.index-then-index.result.now within c.index-then-index.ensures 0 in
+    let second : c.index-then-index.result.now ≡ slice_index next place =
+    get_or_read next place c.index-then-index.result.now within c.index-then-index.ensures 0 in
     let some : slice_index next place ≢ stop = λ e. c.if-index.true (first ∙ e) in
     let child = t.children place c.index-then-index.result.now (within, some, sym second) in
     let low = child.0 in

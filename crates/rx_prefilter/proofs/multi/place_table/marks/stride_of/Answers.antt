@@ -11,7 +11,8 @@ use Rattle.rx_prefilter.proofs.multi.place_table.marks.stride_of.Goals as goal
 pub overflow_sub-len : goal.overflow_sub-len
 overflow_sub-len c =
     let x = c.needle-item.result in
-    let two : has_bytes 2 x.items ≡ true = list_all-at (has_bytes 2) vec_items c.args.needles.now c.loop-needle.needle-index x (omega arith) c.needle-item.is c.requires in
+    let two : has_bytes 2 x.items ≡ true =
+    list_all-at (has_bytes 2) vec_items c.args.needles.now c.loop-needle.needle-index x (omega arith) c.needle-item.is c.requires in
     let long = leb-true 2 (length x.items) two in
     omega (arith, x.ok.0, long, c.len.ensures)
 
