@@ -137,7 +137,8 @@ build_last last parts = build_then (build_state (byte_between (0x80 + last.0) (0
 unfoldable pub build_digits : (lead depth : ℕ) → List (ℕ × ℕ) → PartsBuilder
 build_digits lead zero ranges = build_all (map (λ (r : ℕ × ℕ). build_one (build_state (byte_between (lead + r.0) (lead + r.1)))) ranges)
 build_digits lead (suc depth) ranges =
-    build_all (map (λ (last : ℕ × ℕ). build_one (build_last last (build_digits lead depth (before_last last (pieces_in ranges))))) (lasts_of (pieces_in ranges)))
+    build_all (map (λ (last : ℕ × ℕ). build_one (build_last last (build_digits lead depth (before_last last (pieces_in ranges)))))
+    (lasts_of (pieces_in ranges)))
 
 -- these last digits, and what stands before them among the pieces
 abbrev pub build_behind : (lead depth : ℕ) → List Piece → (last : ℕ × ℕ) → PartsBuilder

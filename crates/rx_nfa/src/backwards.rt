@@ -117,7 +117,8 @@ fn push_band(
     requires deep { band.depth ≤ 3 }
     requires small { band.lead + band.high / size_of_block band.depth ≤ 255 }
     requires fits { length builder.old.states + cost_of_parts (band.depth + 1) (clip band.low band.high ranges.now) ≤ id_limit }
-    ensures adds { OnOk result (AddsParts (build_digits band.lead band.depth (clip band.low band.high ranges.now)) next builder.old builder.new starts.old.items starts.new.items) }
+    ensures adds { OnOk result (AddsParts (build_digits band.lead band.depth (clip band.low band.high ranges.now)) next builder.old builder.new starts.old.items
+        starts.new.items) }
     ensures inside { OnOk result (All (λ q. q < length builder.new.states) starts.new.items) }
     ensures longer { OnOk result (length builder.old.states ≤ length builder.new.states) }
     ensures count { OnOk result (length builder.new.states ≤ length builder.old.states + cost_of_parts (band.depth + 1) (clip band.low band.high ranges.now)) }

@@ -113,7 +113,8 @@ pub fn a_step_depends_on_the_class_of_the_byte()
     ensures { (nfa : Nfa) → IsInRange nfa → (here there : Surroundings) (end last q i j : ℕ) → i < end → j < last
         → AreOfOneClass nfa.classes (here.byte i) (there.byte j)
         → ((kind : model.Look) → asks_for kind (state_at nfa.states q) ≡ true → here.looks kind i ≡ there.looks kind j)
-        → map (onward i) ((automaton_over here nfa.states end).successors (at q i)) ≡ map (onward j) ((automaton_over there nfa.states last).successors (at q j)) }
+        → map (onward i) ((automaton_over here nfa.states end).successors (at q i))
+        ≡ map (onward j) ((automaton_over there nfa.states last).successors (at q j)) }
 {}
 
 /// Whether a look-around holds at a place depends on the class of the byte before it and on that of the byte after it,

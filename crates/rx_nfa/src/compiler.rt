@@ -197,7 +197,8 @@ fn compile_patterns(
     requires fits { length builder.old.states + nfa_states exprs.now ≤ id_limit }
     ensures extends { OnOk result (Extends builder.old builder.new) }
     ensures len { IfOk result (λ starts. length starts.items ≡ length exprs.now) }
-    ensures has { IfOk result (λ starts. HasParts builder.new.states (directed_part reverse (patterns_of exprs.now true 0 (captures_kind which))) exprs.now (length exprs.now) starts.items) }
+    ensures has { IfOk result (λ starts. HasParts builder.new.states (directed_part reverse (patterns_of exprs.now true 0 (captures_kind which))) exprs.now
+        (length exprs.now) starts.items) }
     ensures inside { IfOk result (λ starts. All (λ q. q < length builder.new.states) starts.items) }
     ensures count { OnOk result (length builder.new.states + 4 ≤ length builder.old.states + nfa_states exprs.now) }
     ensures sound { OnOk result ((p : ℕ) (h : Expression) → slice_get exprs.now p ≡ Some h → IsSound h) }

@@ -25,7 +25,8 @@ pub fn the_closure_keeps_the_first_success()
 /// Over a byte, the first success of threads is that of the states that the byte leads to from those up to the first that
 /// accepts, and then the match of that one; at the end it is the match of the first that accepts.
 pub fn a_step_keeps_the_first_success()
-    ensures byte { (around : Surroundings) (states : List State) (end : ℕ) (g : PriorityGraph) → HasSteps around states end g → (i : ℕ) → i < end → (qs : List ℕ)
+    ensures byte { (around : Surroundings) (states : List State) (end : ℕ) (g : PriorityGraph) → HasSteps around states end g → (i : ℕ) → i < end
+        → (qs : List ℕ)
         → first_on g nowhere i (resting states qs)
         ≡ option_or (first_on g nowhere (i + 1) (targets states (around.byte i) (cut (accepts_at g i) (resting states qs))))
         (match_here (accepts_at g i) i (resting states qs)) }

@@ -114,7 +114,8 @@ fn compile_capture(
     requires group { HasRoom builder.old groups.now (non_zero_usize_get capture.now.index) }
     requires room { HasRoom builder.old groups.now (greatest_group capture.now.sub.value) }
     requires fits { length builder.old.states + (accounted_states capture.now.sub.value + 2) ≤ id_limit }
-    ensures built { IfOk result (λ start. Built (build_group (slot_from groups.now.first_slot (non_zero_usize_get capture.now.index)) (part_for groups.now capture.now.sub.value))
+    ensures built { IfOk result (λ start. Built (build_group (slot_from groups.now.first_slot (non_zero_usize_get capture.now.index))
+        (part_for groups.now capture.now.sub.value))
         next builder.old builder.new start) }
     ensures inside { IfOk result (λ start. start < length builder.new.states) }
     ensures count { OnOk result (length builder.new.states ≤ length builder.old.states + (accounted_states capture.now.sub.value + 2)) }
@@ -148,7 +149,8 @@ fn compile_concat(
     requires next { next < length builder.old.states }
     requires room { HasRoom builder.old groups.now (greatest_in (expressions subs.now)) }
     requires fits { length builder.old.states + accounted_in (expressions subs.now) ≤ id_limit }
-    ensures built { IfOk result (λ start. Built (build_row (map (part_for groups.now) (in_order groups.now.reverse subs.now))) next builder.old builder.new start) }
+    ensures built { IfOk result (λ start. Built (build_row (map (part_for groups.now) (in_order groups.now.reverse subs.now))) next builder.old
+        builder.new start) }
     ensures inside { IfOk result (λ start. start < length builder.new.states) }
     ensures count { OnOk result (length builder.new.states ≤ length builder.old.states + accounted_in (expressions subs.now)) }
 {
@@ -204,7 +206,8 @@ fn compile_repetition(
     ensures built { IfOk result (λ start. Built (build_repetition (is_positive (minimum_len repetition.now.sub.value)) repetition.now.min repetition.now.max
         repetition.now.greedy (part_for groups.now repetition.now.sub.value)) next builder.old builder.new start) }
     ensures inside { IfOk result (λ start. start < length builder.new.states) }
-    ensures count { OnOk result (length builder.new.states ≤ length builder.old.states + states_of_copies repetition.now.min repetition.now.max (accounted_states repetition.now.sub.value)) }
+    ensures count { OnOk result (length builder.new.states ≤ length builder.old.states + states_of_copies repetition.now.min repetition.now.max
+        (accounted_states repetition.now.sub.value)) }
 {
     let copies = leading(repetition);
     let mut start = compile_tail(alloc, builder, groups, repetition, next)?;
@@ -239,7 +242,8 @@ fn compile_tail(
     ensures built { IfOk result (λ start. Built (tail (is_positive (minimum_len repetition.now.sub.value)) repetition.now.min repetition.now.max
         repetition.now.greedy (part_for groups.now repetition.now.sub.value)) next builder.old builder.new start) }
     ensures inside { IfOk result (λ start. start < length builder.new.states) }
-    ensures count { OnOk result (length builder.new.states ≤ length builder.old.states + states_of_tail repetition.now.min repetition.now.max (accounted_states repetition.now.sub.value)) }
+    ensures count { OnOk result (length builder.new.states ≤ length builder.old.states + states_of_tail repetition.now.min repetition.now.max
+        (accounted_states repetition.now.sub.value)) }
 {
     match repetition.max {
         Some(max) => compile_options(
@@ -269,7 +273,8 @@ fn compile_unbounded(
     ensures built { IfOk result (λ start. Built (tail (is_positive (minimum_len repetition.now.sub.value)) repetition.now.min None
         repetition.now.greedy (part_for groups.now repetition.now.sub.value)) next builder.old builder.new start) }
     ensures inside { IfOk result (λ start. start < length builder.new.states) }
-    ensures count { OnOk result (length builder.new.states ≤ length builder.old.states + states_of_tail repetition.now.min None (accounted_states repetition.now.sub.value)) }
+    ensures count { OnOk result (length builder.new.states ≤ length builder.old.states + states_of_tail repetition.now.min None
+        (accounted_states repetition.now.sub.value)) }
 {
     if repetition.min > 0 {
         let turn = compile_loop(alloc, builder, groups, repetition, next)?;
@@ -315,8 +320,10 @@ fn compile_loop(
     requires next { next < length builder.old.states }
     requires room { HasRoom builder.old groups.now (greatest_group repetition.now.sub.value) }
     requires fits { length builder.old.states + (accounted_states repetition.now.sub.value + 1) ≤ id_limit }
-    ensures from_choice { IfOk result (λ turn. Built (loop repetition.now.greedy (part_for groups.now repetition.now.sub.value)) next builder.old builder.new turn.choice) }
-    ensures from_body { IfOk result (λ turn. Built (loop_once repetition.now.greedy (part_for groups.now repetition.now.sub.value)) next builder.old builder.new turn.body) }
+    ensures from_choice { IfOk result (λ turn. Built (loop repetition.now.greedy (part_for groups.now repetition.now.sub.value)) next builder.old builder.new
+        turn.choice) }
+    ensures from_body { IfOk result (λ turn. Built (loop_once repetition.now.greedy (part_for groups.now repetition.now.sub.value)) next builder.old
+        builder.new turn.body) }
     ensures inside { IfOk result (λ turn. (turn.choice < length builder.new.states) × (turn.body < length builder.new.states)) }
     ensures count { OnOk result (length builder.new.states ≤ length builder.old.states + (accounted_states repetition.now.sub.value + 1)) }
 {
@@ -340,7 +347,8 @@ fn compile_options(
     requires next { next < length builder.old.states }
     requires room { HasRoom builder.old groups.now (greatest_group repetition.now.sub.value) }
     requires fits { length builder.old.states + count * (accounted_states repetition.now.sub.value + 1) ≤ id_limit }
-    ensures built { IfOk result (λ start. Built (options repetition.now.greedy count (part_for groups.now repetition.now.sub.value)) next builder.old builder.new start) }
+    ensures built { IfOk result (λ start. Built (options repetition.now.greedy count (part_for groups.now repetition.now.sub.value)) next builder.old
+        builder.new start) }
     ensures inside { IfOk result (λ start. start < length builder.new.states) }
     ensures count { OnOk result (length builder.new.states ≤ length builder.old.states + count * (accounted_states repetition.now.sub.value + 1)) }
 {

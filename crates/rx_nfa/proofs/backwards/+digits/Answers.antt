@@ -31,7 +31,8 @@ pub push_digits-returns-then-depth-eq0-clause-adds : goal.push_digits-returns-th
 push_digits-returns-then-depth-eq0-clause-adds t c =
     let none : c.args.depth ≡ 0 = omega arith in
     subst
-    (λ d. OnOk c.push_first_digits.result (AddsParts (build_digits c.args.lead d c.args.ranges.now) c.args.next c.args.builder.now c.push_first_digits.new.builder
+    (λ d. OnOk c.push_first_digits.result (AddsParts (build_digits c.args.lead d c.args.ranges.now) c.args.next c.args.builder.now
+    c.push_first_digits.new.builder
     c.args.starts.now.items c.push_first_digits.new.starts.items)) (sym none) c.push_first_digits.ensures.adds
 
 pub push_digits-returns-then-depth-eq0-clause-count : goal.push_digits-returns-then-depth-eq0-clause-count
@@ -75,7 +76,8 @@ push_digits-push_groups-requires t c =
 pub push_digits-returns-clause-adds : goal.push_digits-returns-clause-adds
 push_digits-returns-clause-adds t c =
     let is = c.deref.ensures.value ∙ c.in_ok-pieces.ensures in
-    let parts = ap (λ ps. build_all (map (build_behind c.args.lead (c.args.depth - 1) ps) (lasts_of ps))) is ∙ digits-next c.args.lead c.args.depth c.args.ranges.now (omega arith) in
+    let parts = ap (λ ps. build_all (map (build_behind c.args.lead (c.args.depth - 1) ps) (lasts_of ps))) is
+    ∙ digits-next c.args.lead c.args.depth c.args.ranges.now (omega arith) in
     subst
     (λ p. OnOk c.push_groups.result (AddsParts p c.args.next c.args.builder.now c.push_groups.new.builder c.args.starts.now.items
     c.push_groups.new.starts.items)) parts c.push_groups.ensures.adds
@@ -123,9 +125,11 @@ push_groups-push_last-requires t c =
         (
           c.requires.some,
           (
-            subst (All (FitsDigits c.args.lead (c.args.depth - 1))) (sym before_is) (before-fits c.args.lead c.args.depth last c.args.pieces.now c.requires.digits),
+            subst (All (FitsDigits c.args.lead (c.args.depth - 1))) (sym before_is)
+                (before-fits c.args.lead c.args.depth last c.args.pieces.now c.requires.digits),
             (
-              subst (All IsDigits) (sym (c.deref-last-items.ensures.value ∙ c.in_ok-lasts.ensures)) (lasts-fit c.args.lead c.args.depth c.args.pieces.now c.requires.digits) k (0, 0) lt,
+              subst (All IsDigits) (sym (c.deref-last-items.ensures.value ∙ c.in_ok-lasts.ensures))
+                  (lasts-fit c.args.lead c.args.depth c.args.pieces.now c.requires.digits) k (0, 0) lt,
               omega arith,
             ),
           ),
@@ -168,7 +172,8 @@ push_groups-returns-clause-adds t c =
     subst
     (λ ks. AddsParts (build_all (map (build_behind c.args.lead (c.args.depth - 1) c.args.pieces.now) ks)) c.args.next c.args.builder.now c.loop-last.builder
     c.args.starts.now.items c.loop-last.starts.items) (c.deref-last-items.ensures.value ∙ c.in_ok-lasts.ensures)
-    (adds-all (build_behind c.args.lead (c.args.depth - 1) c.args.pieces.now) c.deref-last-items.result.now c.loop-last.last-index c.args.next c.args.builder.now
+    (adds-all (build_behind c.args.lead (c.args.depth - 1) c.args.pieces.now) c.deref-last-items.result.now c.loop-last.last-index c.args.next
+    c.args.builder.now
     c.loop-last.builder c.args.starts.now.items c.loop-last.starts.items (omega arith) c.loop-last.invariant.adds)
 
 pub push_groups-returns-clause-count : goal.push_groups-returns-clause-count
@@ -180,7 +185,8 @@ push_groups-returns-clause-count t c =
 
 pub push_groups-returns-clause-ways : goal.push_groups-returns-clause-ways
 push_groups-returns-clause-ways t c =
-    let ways = c.loop-last.invariant.ways in let all = ap length (c.deref-last-items.ensures.value ∙ c.in_ok-lasts.ensures) in let within = c.loop-last.auto in omega arith
+    let ways = c.loop-last.invariant.ways in let all = ap length (c.deref-last-items.ensures.value ∙ c.in_ok-lasts.ensures) in
+    let within = c.loop-last.auto in omega arith
 
 -- One range of last digits.
 
@@ -191,7 +197,10 @@ push_last-push_digits-requires t c =
       omega arith,
       (
         c.requires.next,
-        (subst (All (λ q. q < length c.args.builder.now.states)) (sym c.new-ways.ensures.items) (λ k d lt. absurd (omega arith)), (c.requires.digits, omega arith)),
+        (
+          subst (All (λ q. q < length c.args.builder.now.states)) (sym c.new-ways.ensures.items) (λ k d lt. absurd (omega arith)),
+          (c.requires.digits, omega arith),
+        ),
       ),
     )
 

@@ -24,7 +24,8 @@ unfolding cost_of_class
 push_band-requires-2-clause-fits c = let fits = c.requires.fits in let one = c.in_ok-push_band.ensures.count in omega arith
 
 pub push_band-requires-3-clause-next : goal.push_band-requires-3-clause-next
-push_band-requires-3-clause-next c = let next = c.requires.next in let one = c.in_ok-push_band.ensures.longer in let two = c.in_ok-push_band-2.ensures.longer in omega arith
+push_band-requires-3-clause-next c =
+    let next = c.requires.next in let one = c.in_ok-push_band.ensures.longer in let two = c.in_ok-push_band-2.ensures.longer in omega arith
 
 pub push_band-requires-3-clause-small : goal.push_band-requires-3-clause-small
 unfolding size_of_block
@@ -32,11 +33,13 @@ push_band-requires-3-clause-small c = omega arith
 
 pub push_band-requires-3-clause-fits : goal.push_band-requires-3-clause-fits
 unfolding cost_of_class
-push_band-requires-3-clause-fits c = let fits = c.requires.fits in let one = c.in_ok-push_band.ensures.count in let two = c.in_ok-push_band-2.ensures.count in omega arith
+push_band-requires-3-clause-fits c =
+    let fits = c.requires.fits in let one = c.in_ok-push_band.ensures.count in let two = c.in_ok-push_band-2.ensures.count in omega arith
 
 pub push_band-requires-4-clause-next : goal.push_band-requires-4-clause-next
 push_band-requires-4-clause-next c =
-    let next = c.requires.next in let one = c.in_ok-push_band.ensures.longer in let two = c.in_ok-push_band-2.ensures.longer in let three = c.in_ok-push_band-3.ensures.longer in omega arith
+    let next = c.requires.next in let one = c.in_ok-push_band.ensures.longer in let two = c.in_ok-push_band-2.ensures.longer in
+    let three = c.in_ok-push_band-3.ensures.longer in omega arith
 
 pub push_band-requires-4-clause-small : goal.push_band-requires-4-clause-small
 unfolding size_of_block
@@ -45,7 +48,8 @@ push_band-requires-4-clause-small c = omega arith
 pub push_band-requires-4-clause-fits : goal.push_band-requires-4-clause-fits
 unfolding cost_of_class
 push_band-requires-4-clause-fits c =
-    let fits = c.requires.fits in let one = c.in_ok-push_band.ensures.count in let two = c.in_ok-push_band-2.ensures.count in let three = c.in_ok-push_band-3.ensures.count in omega arith
+    let fits = c.requires.fits in let one = c.in_ok-push_band.ensures.count in let two = c.in_ok-push_band-2.ensures.count in
+    let three = c.in_ok-push_band-3.ensures.count in omega arith
 
 pub push_band-requires-5-clause-next : goal.push_band-requires-5-clause-next
 push_band-requires-5-clause-next c =

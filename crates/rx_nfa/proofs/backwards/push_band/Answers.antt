@@ -40,5 +40,6 @@ returns-clause-count c =
     let states = ap (states_of_digits c.args.band.depth) is in
     let most = digits-accounted c.args.band.depth (clip c.args.band.low c.args.band.high c.args.ranges.now) c.requires.deep in
     on_ok_weaker c.push_digits.result
-    (λ (grown : length c.push_digits.new.builder.states ≡ length c.args.builder.now.states + states_of_digits c.args.band.depth c.deref.result.now). omega arith)
+    (λ (grown : length c.push_digits.new.builder.states
+    ≡ length c.args.builder.now.states + states_of_digits c.args.band.depth c.deref.result.now). omega arith)
     c.push_digits.ensures.count

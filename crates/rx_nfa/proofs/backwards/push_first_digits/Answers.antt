@@ -20,7 +20,8 @@ loop-range-init c = record {
 
 pub push_bytes-requires-clause-bytes : goal.push_bytes-requires-clause-bytes
 push_bytes-requires-clause-bytes c =
-    first-bytes c.args.lead (get_or c.args.ranges.now c.loop-range.range-index (0, 0)) (c.requires.digits c.loop-range.range-index (0, 0) c.loop-range-test.true)
+    first-bytes c.args.lead (get_or c.args.ranges.now c.loop-range.range-index (0, 0))
+    (c.requires.digits c.loop-range.range-index (0, 0) c.loop-range-test.true)
 
 pub push_bytes-requires-clause-fits : goal.push_bytes-requires-clause-fits
 push_bytes-requires-clause-fits c =
@@ -45,7 +46,8 @@ loop-range-preserved c =
           c.args.starts.now.items c.loop-range.starts.items c.push.new.self.items lt refl c.loop-range.invariant.adds
           (Adds-built (build_state (byte_between (c.args.lead + r.0) (c.args.lead + r.1))) c.args.next c.in_ok-start.start c.loop-range.builder
           c.push_bytes.new.builder c.loop-range.starts.items c.push.new.self.items
-          (Built-byte (c.args.lead + r.0) (c.args.lead + r.1) c.args.next c.in_ok-start.start c.loop-range.builder c.push_bytes.new.builder (omega arith) bytes.1
+          (Built-byte (c.args.lead + r.0) (c.args.lead + r.1) c.args.next c.in_ok-start.start c.loop-range.builder c.push_bytes.new.builder
+          (omega arith) bytes.1
           c.in_ok-start.ensures.id c.in_ok-start.ensures.states) c.in_ok-push.ensures.items);
       inside = below-more (length c.loop-range.builder.states) (length c.push_bytes.new.builder.states) c.loop-range.starts.items c.push.new.self.items
           c.in_ok-start.start (omega arith) (omega arith) c.in_ok-push.ensures.items c.loop-range.invariant.inside;

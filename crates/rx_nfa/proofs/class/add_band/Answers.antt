@@ -24,7 +24,8 @@ pub deepen-requires-clause-room : goal.deepen-requires-clause-room
 deepen-requires-clause-room c =
     let is = c.deref.ensures.value ∙ c.in_ok-parts.ensures in
     let rises = RisesFrom-clip c.args.band.low c.args.band.high c.requires.ordered.0 0 c.args.ranges.now c.requires.rises in
-    let cost = parts_cost c.args.band.children.depth 0 (clip c.args.band.low c.args.band.high c.args.ranges.now) c.args.band.children.start (c.args.band.children.start + c.args.band.children.len * size_of_block c.args.band.children.depth) c.requires.deep rises in
+    let cost = parts_cost c.args.band.children.depth 0 (clip c.args.band.low c.args.band.high c.args.ranges.now) c.args.band.children.start
+    (c.args.band.children.start + c.args.band.children.len * size_of_block c.args.band.children.depth) c.requires.deep rises in
     let room = c.requires.room in
     subst (λ parts. length c.args.states.now.items + whole_depths c.args.band.children.depth parts ≤ id_limit) (sym is) (omega arith)
 
@@ -39,7 +40,8 @@ row-requires-clause-room c =
     let is = c.deref-2.ensures.value ∙ c.in_ok-parts.ensures in
     let end = c.args.band.children.start + c.args.band.children.len * size_of_block c.args.band.children.depth in
     let rises = RisesFrom-clip c.args.band.low c.args.band.high c.requires.ordered.0 0 c.args.ranges.now c.requires.rises in
-    let cost = parts_cost c.args.band.children.depth 0 (clip c.args.band.low c.args.band.high c.args.ranges.now) c.args.band.children.start end c.requires.deep rises in
+    let cost =
+    parts_cost c.args.band.children.depth 0 (clip c.args.band.low c.args.band.high c.args.ranges.now) c.args.band.children.start end c.requires.deep rises in
     let deepened = rw parts at c.in_ok-deepen.ensures.count in
     let room = c.requires.room in
     subst (λ ps. length c.deepen.new.states.items + c.args.band.children.depth * ends_in ps c.args.band.children.start end ≤ id_limit) (sym is) (omega arith)
@@ -74,7 +76,8 @@ returns-clause-count c =
     let parts' = c.deref-2.ensures.value ∙ c.in_ok-parts.ensures in
     let children = c.args.band.children in
     let rises = RisesFrom-clip c.args.band.low c.args.band.high c.requires.ordered.0 0 c.args.ranges.now c.requires.rises in
-    let cost = parts_cost children.depth 0 (clip c.args.band.low c.args.band.high c.args.ranges.now) children.start (children.start + children.len * size_of_block children.depth) c.requires.deep rises in
+    let cost = parts_cost children.depth 0 (clip c.args.band.low c.args.band.high c.args.ranges.now) children.start
+    (children.start + children.len * size_of_block children.depth) c.requires.deep rises in
     let deepened = rw parts at c.in_ok-deepen.ensures.count in
     let added = rw parts' at c.in_ok-row.ensures.count in
     omega arith

@@ -121,7 +121,8 @@ returns-clause-built c =
     let from_three = AddsReaders-trans _ _ _ upper.grows from_upper in
     let from_two = AddsReaders-trans _ _ _ three.grows from_three in
     let from_one = AddsReaders-trans _ _ _ two.grows from_two in
-    let before = AddsReaders-trans _ _ _ one.grows (AddsReaders-trans _ _ _ two.grows (AddsReaders-trans _ _ _ three.grows (AddsReaders-trans _ _ _ upper.grows four.grows))) in
+    let before = AddsReaders-trans _ _ _ one.grows (AddsReaders-trans _ _ _ two.grows
+    (AddsReaders-trans _ _ _ three.grows (AddsReaders-trans _ _ _ upper.grows four.grows))) in
     let long = before.longer in
     let ready1 : IsReady base c.args.states.now.items next c.push.new.self.items =
     rw (c.in_ok-push.ensures.items, c.new-whole.ensures.items) (IsReady-one c.args.states.now.items next) in
@@ -171,11 +172,16 @@ returns-clause-closed c =
     let ready3 = two.ready base next ready2 in
     let ready4 = three.ready base next ready3 in
     let ready5 = upper.ready base next ready4 in
-    let r1 = row-below c.add_band.new.states.items base next _ 0 0 0 128 c.new-transitions.result.items c.add_band.new.transitions.items (omega arith) (one.built base next ready1) (rw c.new-transitions.ensures.items (RoutesBelow-none (length c.add_band.new.states.items))) in
-    let r2 = row-below c.add_band-2.new.states.items base next _ 1 128 194 30 c.add_band.new.transitions.items c.add_band-2.new.transitions.items (omega arith) (two.built base next ready2) (RoutesBelow-more _ _ _ b r1) in
-    let r3 = row-below c.add_band-3.new.states.items base next _ 2 0 224 14 c.add_band-2.new.transitions.items c.add_band-3.new.transitions.items (omega arith) (three.built base next ready3) (RoutesBelow-more _ _ _ d r2) in
-    let r4 = row-below c.add_band-4.new.states.items base next _ 2 57344 238 2 c.add_band-3.new.transitions.items c.add_band-4.new.transitions.items (omega arith) (upper.built base next ready4) (RoutesBelow-more _ _ _ e r3) in
-    let r5 = row-below c.add_band-5.new.states.items base next _ 3 0 240 5 c.add_band-4.new.transitions.items c.add_band-5.new.transitions.items (omega arith) (four.built base next ready5) (RoutesBelow-more _ _ _ f r4) in
+    let r1 = row-below c.add_band.new.states.items base next _ 0 0 0 128 c.new-transitions.result.items c.add_band.new.transitions.items (omega arith)
+    (one.built base next ready1) (rw c.new-transitions.ensures.items (RoutesBelow-none (length c.add_band.new.states.items))) in
+    let r2 = row-below c.add_band-2.new.states.items base next _ 1 128 194 30 c.add_band.new.transitions.items c.add_band-2.new.transitions.items (omega arith)
+    (two.built base next ready2) (RoutesBelow-more _ _ _ b r1) in
+    let r3 = row-below c.add_band-3.new.states.items base next _ 2 0 224 14 c.add_band-2.new.transitions.items c.add_band-3.new.transitions.items (omega arith)
+    (three.built base next ready3) (RoutesBelow-more _ _ _ d r2) in
+    let r4 = row-below c.add_band-4.new.states.items base next _ 2 57344 238 2 c.add_band-3.new.transitions.items c.add_band-4.new.transitions.items
+    (omega arith) (upper.built base next ready4) (RoutesBelow-more _ _ _ e r3) in
+    let r5 = row-below c.add_band-5.new.states.items base next _ 3 0 240 5 c.add_band-4.new.transitions.items c.add_band-5.new.transitions.items (omega arith)
+    (four.built base next ready5) (RoutesBelow-more _ _ _ f r4) in
     let c1 = one.closed base next ready1 lt closed in
     let c2 = two.closed base next ready2 (omega arith) c1 in
     let c3 = three.closed base next ready3 (omega arith) c2 in

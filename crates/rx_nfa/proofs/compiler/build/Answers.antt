@@ -27,10 +27,13 @@ finish-requires-clause-slots c =
     let starts = c.in_ok-starts.starts.items in
     let old = c.compile_patterns.new.builder in
     let new = c.start_of_all.new.builder in
-    let all : StartsAll old new starts c.in_ok-start.start = subst (λ qs. StartsAll c.compile_patterns.new.builder c.start_of_all.new.builder qs c.in_ok-start.start) c.deref.ensures.value c.in_ok-start.ensures.starts in
+    let all : StartsAll old new starts c.in_ok-start.start = subst (λ qs. StartsAll c.compile_patterns.new.builder c.start_of_all.new.builder qs
+    c.in_ok-start.start) c.deref.ensures.value c.in_ok-start.ensures.starts in
     let kept = StartsAll-kept old new starts c.in_ok-start.start all in
-    let written : new.slots ≡ slots_written which exprs = kept.1 ∙ c.in_ok-starts.ensures.extends.slots ∙ ap (λ (d : Draft). d.slots) c.new-builder.ensures ∙ c.slots_written.ensures in
-    let groups : new.groups ≡ groups_of exprs = kept.0 ∙ c.in_ok-starts.ensures.extends.groups ∙ ap (λ (d : Draft). d.groups) c.new-builder.ensures ∙ c.in_ok-group_info.ensures in
+    let written : new.slots ≡ slots_written which exprs =
+    kept.1 ∙ c.in_ok-starts.ensures.extends.slots ∙ ap (λ (d : Draft). d.slots) c.new-builder.ensures ∙ c.slots_written.ensures in
+    let groups : new.groups ≡ groups_of exprs =
+    kept.0 ∙ c.in_ok-starts.ensures.extends.groups ∙ ap (λ (d : Draft). d.groups) c.new-builder.ensures ∙ c.in_ok-group_info.ensures in
     let within = written-within which exprs in
     let counted = slots-counted exprs ∙ sym (ap slot_count groups) in
     omega arith
@@ -41,7 +44,8 @@ finish-requires-clause-patterns c =
     let starts = c.in_ok-starts.starts.items in
     let old = c.compile_patterns.new.builder in
     let new = c.start_of_all.new.builder in
-    let all : StartsAll old new starts c.in_ok-start.start = subst (λ qs. StartsAll c.compile_patterns.new.builder c.start_of_all.new.builder qs c.in_ok-start.start) c.deref.ensures.value c.in_ok-start.ensures.starts in
+    let all : StartsAll old new starts c.in_ok-start.start = subst (λ qs. StartsAll c.compile_patterns.new.builder c.start_of_all.new.builder qs
+    c.in_ok-start.start) c.deref.ensures.value c.in_ok-start.ensures.starts in
     let groups : new.groups ≡ groups_of exprs =
     (StartsAll-kept old new starts c.in_ok-start.start all).0 ∙ c.in_ok-starts.ensures.extends.groups ∙ ap (λ (d : Draft). d.groups) c.new-builder.ensures
     ∙ c.in_ok-group_info.ensures in
@@ -53,7 +57,8 @@ finish-requires-clause-few c =
     let starts = c.in_ok-starts.starts.items in
     let old = c.compile_patterns.new.builder in
     let new = c.start_of_all.new.builder in
-    let all : StartsAll old new starts c.in_ok-start.start = subst (λ qs. StartsAll c.compile_patterns.new.builder c.start_of_all.new.builder qs c.in_ok-start.start) c.deref.ensures.value c.in_ok-start.ensures.starts in
+    let all : StartsAll old new starts c.in_ok-start.start = subst (λ qs. StartsAll c.compile_patterns.new.builder c.start_of_all.new.builder qs
+    c.in_ok-start.start) c.deref.ensures.value c.in_ok-start.ensures.starts in
     let groups : new.groups ≡ groups_of exprs =
     (StartsAll-kept old new starts c.in_ok-start.start all).0 ∙ c.in_ok-starts.ensures.extends.groups ∙ ap (λ (d : Draft). d.groups) c.new-builder.ensures
     ∙ c.in_ok-group_info.ensures in
@@ -66,19 +71,22 @@ returns c =
     let exprs = c.args.exprs.now in
     let reverse = reverse_of c.args.config in
     let which = written_in (reverse_of c.args.config) (captures_of c.args.config) in
-    let which_is : captures_kind c.written_in-which.result ≡ which = c.written_in-which.ensures ∙ (λ i. written_in (c.get_reverse-reverse.ensures i) (captures_kind (c.get_which_captures.ensures i))) in
+    let which_is : captures_kind c.written_in-which.result ≡ which =
+    c.written_in-which.ensures ∙ (λ i. written_in (c.get_reverse-reverse.ensures i) (captures_kind (c.get_which_captures.ensures i))) in
     let starts = c.in_ok-starts.starts.items in
     let old = c.compile_patterns.new.builder in
     let new = c.start_of_all.new.builder in
     let nfa = c.in_ok-nfa.nfa in
     let is = c.in_ok-nfa.ensures.value in
     let long = c.in_ok-starts.ensures.len in
-    let all : StartsAll old new starts c.in_ok-start.start = subst (λ qs. StartsAll old new qs c.in_ok-start.start) c.deref.ensures.value c.in_ok-start.ensures.starts in
+    let all : StartsAll old new starts c.in_ok-start.start =
+    subst (λ qs. StartsAll old new qs c.in_ok-start.start) c.deref.ensures.value c.in_ok-start.ensures.starts in
     let kept = StartsAll-kept old new starts c.in_ok-start.start all in
     let written : new.slots ≡ slots_written which exprs =
     kept.1 ∙ c.in_ok-starts.ensures.extends.slots ∙ ap (λ (d : Draft). d.slots) c.new-builder.ensures ∙ c.slots_written.ensures
     ∙ ap (λ w. slots_written w c.args.exprs.now) which_is in
-    let groups : new.groups ≡ groups_of exprs = kept.0 ∙ c.in_ok-starts.ensures.extends.groups ∙ ap (λ (d : Draft). d.groups) c.new-builder.ensures ∙ c.in_ok-group_info.ensures in
+    let groups : new.groups ≡ groups_of exprs =
+    kept.0 ∙ c.in_ok-starts.ensures.extends.groups ∙ ap (λ (d : Draft). d.groups) c.new-builder.ensures ∙ c.in_ok-group_info.ensures in
     let slots : nfa.slots ≡ slots_of exprs = ap (λ (n : Nfa). n.slots) is ∙ ap slot_count groups ∙ sym (slots-counted exprs) in
     let states : nfa.states ≡ new.states = ap (λ (n : Nfa). n.states) is in
     let terminator : nfa.terminator ≡ terminator_of c.args.config = ap (λ (n : Nfa). n.terminator) is ∙ c.get_look_matcher.ensures in
@@ -139,5 +147,6 @@ returns c =
           (subst (λ b. HasParts old.states (directed_part b (patterns_of exprs true 0 which)) exprs (length exprs) starts) behind has) long
           c.get_look_matcher.ensures refl all
           (λ p h at. IsSound-ordered h (c.in_ok-starts.ensures.sound p h at)) in
-          subst (λ n. HasReverseRuns n (patterns_of exprs utf8_empty (terminator_of c.args.config) (captures_of c.args.config))) (sym is) (record { patterns = runs.patterns; each = runs.each; all = runs.all }));
+          subst (λ n. HasReverseRuns n (patterns_of exprs utf8_empty (terminator_of c.args.config) (captures_of c.args.config))) (sym is)
+          (record { patterns = runs.patterns; each = runs.each; all = runs.all }));
     }

@@ -16,7 +16,8 @@ returns-clause-has c =
     let groups = c.args.groups.now in
     let body = part_for c.args.groups.now c.args.hir.now in
     let whole = c.args.groups.now.whole_slot in
-    let last = subst (λ o. Built (build_state (bound o)) c.in_ok-accept.accept c.push.new.self c.push_bound.new.builder c.in_ok-close.close) c.second_slot-last_slot.ensures c.in_ok-close.ensures.built in
+    let last = subst (λ o. Built (build_state (bound o)) c.in_ok-accept.accept c.push.new.self c.push_bound.new.builder c.in_ok-close.close)
+    c.second_slot-last_slot.ensures c.in_ok-close.ensures.built in
     let part = Built-bounds body whole c.in_ok-accept.accept c.in_ok-close.close c.in_ok-body.body c.in_ok-open.open
     c.push.new.self c.push_bound.new.builder c.compile.new.builder c.push_bound-2.new.builder last c.in_ok-body.ensures.built c.in_ok-open.ensures.built in
     HasPart-pattern whole body c.args.groups.now.pattern c.args.builder.now c.push.new.self c.push_bound-2.new.builder c.in_ok-open.open
@@ -40,6 +41,7 @@ push_bound-requires-2-clause-own c =
     let old = c.args.builder.now in
     let more = c.requires.room.enough in
     let some : 0 < length (groups_at old.groups p) = omega arith in
-    let same = c.in_ok-body.ensures.built.extends.groups ∙ c.in_ok-close.ensures.built.extends.groups ∙ ap (λ (d : Draft). d.groups) c.in_ok-accept.ensures.states in
+    let same =
+    c.in_ok-body.ensures.built.extends.groups ∙ c.in_ok-close.ensures.built.extends.groups ∙ ap (λ (d : Draft). d.groups) c.in_ok-accept.ensures.states in
     subst (λ gs. IfSome c.args.groups.now.whole_slot (λ number. IsSlotOf gs p number)) (sym same)
     (whole-own old.groups p c.args.groups.now.whole_slot some c.requires.own)

@@ -30,7 +30,8 @@ compile_pattern-requires-clause-room c =
     let groups : c.loop-hir.builder.groups ≡ groups_of exprs = c.loop-hir.invariant.extends.groups ∙ c.requires.groups in
     let names : length (groups_at (groups_of exprs) p) ≡ suc (greatest_group item) =
     ap (λ n. length (groups_at (groups_of exprs) n)) index ∙ groups_at-names exprs c.loop-hir.hir-index item (omega arith) c.hir-item.is in
-    let first = subst (λ o. IfSome o (λ first. first ≡ slot_of_group (groups_of exprs) c.loop-hir.hir-index 1)) (sym c.loop-hir.invariant.first_slot) (first_slot-group which exprs c.loop-hir.hir-index) in
+    let first = subst (λ o. IfSome o (λ first. first ≡ slot_of_group (groups_of exprs) c.loop-hir.hir-index 1)) (sym c.loop-hir.invariant.first_slot)
+    (first_slot-group which exprs c.loop-hir.hir-index) in
     let inside = groups-inside which exprs c.loop-hir.hir-index item (omega arith) c.hir-item.is in
     let few = c.requires.few.slots in
     let written = written-within which exprs in
@@ -53,7 +54,8 @@ compile_pattern-requires-clause-own c =
 
 pub compile_pattern-requires-clause-whole : goal.compile_pattern-requires-clause-whole
 compile_pattern-requires-clause-whole c =
-    let slots : c.loop-hir.builder.slots ≡ slots_written (captures_kind c.args.which) c.args.exprs.now = c.loop-hir.invariant.extends.slots ∙ c.requires.slots in
+    let slots : c.loop-hir.builder.slots ≡ slots_written (captures_kind c.args.which) c.args.exprs.now =
+    c.loop-hir.invariant.extends.slots ∙ c.requires.slots in
     let is = rw c.unwrap-pattern.ensures at c.new.ensures in
     let index : c.unwrap-pattern.result ≡ c.loop-hir.hir-index = is.0 ∙ c.len.ensures ∙ c.loop-hir.invariant.len in
     let inside = whole-inside (captures_kind c.args.which) c.args.exprs.now c.unwrap-pattern.result (omega arith) in
@@ -82,8 +84,10 @@ loop-hir-preserved c =
     let is = rw c.unwrap-pattern.ensures at c.new.ensures in
     let index : c.unwrap-pattern.result ≡ c.loop-hir.hir-index = is.0 ∙ c.len.ensures ∙ c.loop-hir.invariant.len in
     let e = c.in_ok-start.ensures.extends in
-    let part = part-is r c.unwrap-pattern.result k item c.whole_slot.result c.loop-hir.first_slot c.whole_slot.ensures c.loop-hir.invariant.first_slot index c.args.reverse in
-    let has : HasPart new.states (directed_part c.args.reverse r k item) start = subst (λ p. HasPart c.compile_pattern.new.builder.states p c.in_ok-start.start) part c.in_ok-start.ensures.has in
+    let part = part-is r c.unwrap-pattern.result k item c.whole_slot.result c.loop-hir.first_slot c.whole_slot.ensures c.loop-hir.invariant.first_slot index
+    c.args.reverse in
+    let has : HasPart new.states (directed_part c.args.reverse r k item) start =
+    subst (λ p. HasPart c.compile_pattern.new.builder.states p c.in_ok-start.start) part c.in_ok-start.ensures.has in
     let long = ap length grown in
     let sum = length-append c.loop-hir.starts.items (start ∷ []) in
     record {

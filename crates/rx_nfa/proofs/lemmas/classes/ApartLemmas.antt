@@ -44,7 +44,8 @@ class-none f b zero same k low high = absurd (omega arith)
 class-none f b (suc c) same k low high =
     let r = class-rises f b c (omega arith) in
     by_test (f c)
-    (λ e. let more : class_of f b ≡ class_of f c + (if f c then 1 else 0) = same in let one = ap (λ x. class_of f c + (if x then 1 else 0)) e in absurd (omega arith))
+    (λ e. let more : class_of f b ≡ class_of f c + (if f c then 1 else 0) = same in let one = ap (λ x. class_of f c + (if x then 1 else 0)) e in
+    absurd (omega arith))
     (λ e.
     let more : class_of f b ≡ class_of f c + (if f c then 1 else 0) = same in
     let none = ap (λ x. class_of f c + (if x then 1 else 0)) e in
@@ -65,16 +66,19 @@ module _ (b c : ℕ) (le : b ≤ c) where
       (λ below.
       -- the range begins after b
       ⊎_elim
-      (λ before. let x : (nat_le start b && nat_le b end) ≡ false = grind (arith, nat_tests) in let y : (nat_le start c && nat_le c end) ≡ false = grind (arith, nat_tests) in x ∙ sym y)
+      (λ before. let x : (nat_le start b && nat_le b end) ≡ false = grind (arith, nat_tests) in
+      let y : (nat_le start c && nat_le c end) ≡ false = grind (arith, nat_tests) in x ∙ sym y)
       (λ behind. let q = quiet (start - 1) (omega arith) (omega arith) in let e : start - 1 + 1 ≡ start = omega arith in grind (arith, nat_tests))
       (cases_lt c start))
       (λ above.
       ⊎_elim
-      (λ past. let x : (nat_le start b && nat_le b end) ≡ false = grind (arith, nat_tests) in let y : (nat_le start c && nat_le c end) ≡ false = grind (arith, nat_tests) in x ∙ sym y)
+      (λ past. let x : (nat_le start b && nat_le b end) ≡ false = grind (arith, nat_tests) in
+      let y : (nat_le start c && nat_le c end) ≡ false = grind (arith, nat_tests) in x ∙ sym y)
       (λ within.
       ⊎_elim
       (λ cut. let q = quiet end within cut in grind (arith, nat_tests))
-      (λ whole. let x : (nat_le start b && nat_le b end) ≡ true = grind (arith, nat_tests) in let y : (nat_le start c && nat_le c end) ≡ true = grind (arith, nat_tests) in x ∙ sym y)
+      (λ whole. let x : (nat_le start b && nat_le b end) ≡ true = grind (arith, nat_tests) in
+      let y : (nat_le start c && nat_le c end) ≡ true = grind (arith, nat_tests) in x ∙ sym y)
       (cases_lt end c))
       (cases_lt end b))
       (cases_lt b start)

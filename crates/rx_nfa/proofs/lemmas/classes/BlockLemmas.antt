@@ -114,14 +114,16 @@ AreWhole-push old new base next q ids ts some g reads is h depth lt start =
     (λ e. let l = length-append ids (q ∷ []) in
     let last : depth ≡ length ids = grind (arith, nat_tests) in
     let zero_more : length ids - length ids ≡ 0 = omega arith in
-    let at : slice_index (ids ++ q ∷ []) depth ≡ q = ap (slice_index (ids ++ q ∷ [])) last ∙ get_or-append_right ids (q ∷ []) (length ids) (length ids) 0 refl (omega arith) ∙ ap (slice_index (q ∷ [])) zero_more in
+    let at : slice_index (ids ++ q ∷ []) depth ≡ q = ap (slice_index (ids ++ q ∷ [])) last
+    ∙ get_or-append_right ids (q ∷ []) (length ids) (length ids) 0 refl (omega arith) ∙ ap (slice_index (q ∷ [])) zero_more in
     subst (λ x. IsBlock (IsReader base new) next (λ c. true) depth start (Some x)) (sym at)
     (IsBlock-row (IsReader base new) next (λ c. true) depth start q ts (omega arith) reads (record {
       elsewhere = λ b out. (ap (λ xs. route xs b) is ∙ outside b out);
       each = λ k small.
           (let less : depth - 1 < length ids = omega arith in
           let place : length ids - 1 ≡ depth - 1 = omega arith in
-          let leads : route ts (0x80 + k) ≡ Some (slice_index ids (depth - 1)) = (ap (λ xs. route xs (0x80 + k)) is ∙ within k small ∙ ap (λ n. Some (slice_index ids n)) place) in
+          let leads : route ts (0x80 + k) ≡ Some (slice_index ids (depth - 1)) =
+          (ap (λ xs. route xs (0x80 + k)) is ∙ within k small ∙ ap (λ n. Some (slice_index ids n)) place) in
           subst (λ o. IsBlock (IsReader base new) next (λ c. true) (depth - 1) (start + k * size_of_block (depth - 1)) o) (sym leads)
           (IsBlock-map (IsReader base old) (IsReader base new) next (IsReader-grows base old new g) (λ c. true) (depth - 1)
           (start + k * size_of_block (depth - 1)) (Some (slice_index ids (depth - 1))) (h (depth - 1) less (start + k * size_of_block (depth - 1)))));
@@ -130,7 +132,8 @@ AreWhole-push old new base next q ids ts some g reads is h depth lt start =
     outside : (b : ℕ) → (b < 0x80) ⊎ (0x80 + 64 ≤ b) → route (record { start = 0x80; end = 0xBF; next = slice_index ids (length ids - 1) } ∷ []) b ≡ None
     outside b out = let e : (nat_le 0x80 b && nat_le b 0xBF) ≡ false = grind (arith, nat_tests) in rw e refl
 
-    within : (k : ℕ) → k < 64 → route (record { start = 0x80; end = 0xBF; next = slice_index ids (length ids - 1) } ∷ []) (0x80 + k) ≡ Some (slice_index ids (length ids - 1))
+    within : (k : ℕ) → k < 64 → route (record { start = 0x80; end = 0xBF; next = slice_index ids (length ids - 1) } ∷ []) (0x80 + k)
+        ≡ Some (slice_index ids (length ids - 1))
     within k small =
         let x : nat_le 0x80 (0x80 + k) ≡ true = grind (arith, nat_tests) in
         let y : nat_le (0x80 + k) 0xBF ≡ true = grind (arith, nat_tests) in
@@ -230,7 +233,8 @@ count-next d rs rest start k s r =
     let e = r.ends (start + k * s) (start + k * s + s) (omega arith) in
     let far : start + k * s + s ≡ start + (k + 1) * s = omega arith in
     let split = ends_in-split rs start (start + k * s) (start + k * s + s) (omega arith) (omega arith) in
-    let sum : d * ends_in rs start (start + k * s) + d * ends_in rs (start + k * s) (start + k * s + s) ≡ d * ends_in rs start (start + k * s + s) = (rw split (omega arith)) in
+    let sum : d * ends_in rs start (start + k * s) + d * ends_in rs (start + k * s) (start + k * s + s) ≡ d * ends_in rs start (start + k * s + s) =
+    (rw split (omega arith)) in
     ap (λ n. d * ends_in rs start (start + k * s) + d * n) e ∙ sum ∙ ap (λ n. d * ends_in rs start n) far
 
 -- the first k + 1 blocks count no more than all

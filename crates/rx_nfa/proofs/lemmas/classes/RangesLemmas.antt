@@ -220,7 +220,8 @@ CoversUpTo-more deepest n more (r ∷ rs) le h =
 pub CoversUpTo-push : (deepest n : ℕ) (rs : List (ℕ × ℕ)) (r : ℕ × ℕ) → deepest ≤ 3 → CoversUpTo deepest n rs → whole_depth deepest r < n
     → CoversUpTo deepest n (rs ++ r ∷ [])
 unfolding CoversUpTo
-CoversUpTo-push deepest n [] r deep h lt = (λ depth start below aligned low high. (let le = whole_depth-enough deepest depth start r deep below aligned low high in omega arith), tt)
+CoversUpTo-push deepest n [] r deep h lt =
+    (λ depth start below aligned low high. (let le = whole_depth-enough deepest depth start r deep below aligned low high in omega arith), tt)
 CoversUpTo-push deepest n (x ∷ xs) r deep h lt = (h.0, CoversUpTo-push deepest n xs r deep h.1 lt)
 
 pub CoversUpTo-nil : (deepest n : ℕ) → CoversUpTo deepest n []

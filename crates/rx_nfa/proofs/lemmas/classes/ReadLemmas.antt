@@ -197,7 +197,8 @@ clip-bounds low high rs c ordered e = within (is_member rs c) (sym (member-clip 
     within true h = (grind (arith, nat_tests), grind (arith, nat_tests))
     within false h = absurd (true≢false (sym h))
 
-module _ (text : List ℕ) (end : ℕ) (inside : end ≤ length text) (m : PriorityGraph) (bounded : IsBounded m) (rises : NeverFalls m) (next : ℕ) (rs : List (ℕ × ℕ)) where
+module _ (text : List ℕ) (end : ℕ) (inside : end ≤ length text) (m : PriorityGraph) (bounded : IsBounded m) (rises : NeverFalls m) (next : ℕ)
+    (rs : List (ℕ × ℕ)) where
   -- A number is picked and tested. Each character is picked, and passes where it is a member; what passes is the character.
   same_outcome : (p : Passed) (i place : ℕ) (member : ℕ → Bool) (pick : Option ℕ)
       → ((c : ℕ) → char_at text i ≡ Some c → i + len_utf8 c ≤ end → (pick ≡ Some c) × (member c ≡ is_member rs c) × (place ≡ i + len_utf8 c))
@@ -390,8 +391,10 @@ module _ (text : List ℕ) (end : ℕ) (inside : end ≤ length text) (m : Prior
         (λ c e passes. absurd (none-some c e))
       where
         impossible : (c : ℕ) → char_at text i ≡ Some c → ((0x80 ≤ slice_index text i) × (slice_index text i < 0xC2)) ⊎ (0xF5 ≤ slice_index text i) → ⊥
-        impossible c found_c (inl x) = let low = x.0 in let high = x.1 in let h = two_bytes i c found_c (omega arith) (omega arith) in let a = h.0 in let b = h.3 in omega arith
-        impossible c found_c (inr x) = let h = four_bytes i c found_c (omega arith) in let b = h.2 in let top = most-scalar c (char_at_cases text i c found_c).0 in omega arith
+        impossible c found_c (inl x) =
+            let low = x.0 in let high = x.1 in let h = two_bytes i c found_c (omega arith) (omega arith) in let a = h.0 in let b = h.3 in omega arith
+        impossible c found_c (inr x) =
+            let h = four_bytes i c found_c (omega arith) in let b = h.2 in let top = most-scalar c (char_at_cases text i c found_c).0 in omega arith
 
   after_end : (p : Passed) (i : ℕ) → end ≤ i → None ≡ found_after m p end next i (member_len text (scalar_ranges rs) i)
   unfolding outcome

@@ -97,7 +97,8 @@ Adds-push low byte next [] a = record {
       (λ e. rw e (passes (record { start = byte; end = byte; next = next }) [] b (grind (arith, nat_tests))));
 }
 Adds-push low byte next (t ∷ ts) a =
-    Adds-after t ts (ts ++ record { start = byte; end = byte; next = next } ∷ []) low byte (Some next) a.0 a.1 (omega (arith, Ascends-bounds (t.end + 1) byte ts a.2)) (Adds-push (t.end + 1) byte next ts a.2)
+    Adds-after t ts (ts ++ record { start = byte; end = byte; next = next } ∷ []) low byte (Some next) a.0 a.1
+    (omega (arith, Ascends-bounds (t.end + 1) byte ts a.2)) (Adds-push (t.end + 1) byte next ts a.2)
 
 either : (b byte start : ℕ) → (b < start) ⊎ (byte < b) → start ≤ byte → (b < byte) ⊎ (byte < b)
 either b byte start (inl lt) le = inl (omega arith)
@@ -111,7 +112,12 @@ pub Adds-extend : (low byte next n : ℕ) (ts : List Transition) (x : Transition
     → x.next ≡ next → x.end + 1 ≡ byte → Adds ts (set ts n (record { start = x.start; end = byte; next = next })) low byte (Some next)
 Adds-extend low byte next n [] x a long last to at = absurd (omega arith)
 Adds-extend low byte next zero (t ∷ []) x a long last to at = record {
-  ascends = (let s = ap (λ (y : Transition). y.start) last in omega (arith, a.0), (let s = ap (λ (y : Transition). y.start) last in let e = ap (λ (y : Transition). y.end) last in omega (arith, a.1)), omega arith);
+  ascends = (
+    let s = ap (λ (y : Transition). y.start) last in
+        omega (arith, a.0),
+    (let s = ap (λ (y : Transition). y.start) last in let e = ap (λ (y : Transition). y.end) last in omega (arith, a.1)),
+    omega arith,
+  );
   routes = λ b.
       (let s = ap (λ (y : Transition). y.start) last in
       let e = ap (λ (y : Transition). y.end) last in
@@ -120,12 +126,15 @@ Adds-extend low byte next zero (t ∷ []) x a long last to at = record {
       takes_or_passes new b
       (λ above below. by_test (b == byte)
       (λ is. rw is (takes new [] b above below))
-      (λ outside. takes new [] b above below ∙ sym (rw outside (takes t [] b (omega arith) (let ne : b < byte = grind (arith, nat_tests) in omega arith) ∙ ap Some (sym n ∙ to)))))
-      (λ out. passes new [] b out ∙ sym (rw (no_byte b byte (either b byte x.start out (let rises = a.1 in omega arith))) (passes t [] b (either_end b byte t.start t.end x.start out (omega arith) (omega arith))))));
+      (λ outside. takes new [] b above below ∙ sym (rw outside (takes t [] b (omega arith) (let ne : b < byte = grind (arith, nat_tests) in omega arith)
+      ∙ ap Some (sym n ∙ to)))))
+      (λ out. passes new [] b out ∙ sym (rw (no_byte b byte (either b byte x.start out (let rises = a.1 in omega arith)))
+      (passes t [] b (either_end b byte t.start t.end x.start out (omega arith) (omega arith))))));
 }
 Adds-extend low byte next zero (t ∷ u ∷ us) x a long last to at = absurd (omega arith)
 Adds-extend low byte next (suc n) (t ∷ ts) x a long last to at =
-    Adds-after t ts (set ts n (record { start = x.start; end = byte; next = next })) low byte (Some next) a.0 a.1 (omega (arith, Ascends-bounds (t.end + 1) byte ts a.2))
+    Adds-after t ts (set ts n (record { start = x.start; end = byte; next = next })) low byte (Some next) a.0 a.1
+    (omega (arith, Ascends-bounds (t.end + 1) byte ts a.2))
     (Adds-extend (t.end + 1) byte next n ts x a.2 (omega arith) last to at)
 
 -- states

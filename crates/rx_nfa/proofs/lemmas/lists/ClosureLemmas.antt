@@ -161,7 +161,8 @@ module _ (around : Surroundings) (states : List State) (end : ℕ) (g : Priority
             ∙ sym (found-accepted g nowhere has_steps.bounded (at q i) some.0 refl some.1)
       ]
 
-  module _ (names : All (NamesBelow (length states)) states) (holding : model.Look → Bool) (i : ℕ) (place : i ≤ end) (holds : HoldsAt around states holding i) where
+  module _ (names : All (NamesBelow (length states)) states) (holding : model.Look → Bool) (i : ℕ) (place : i ≤ end)
+      (holds : HoldsAt around states holding i) where
     -- a state that doesn't rest gives way to others
     pub tell-moves : (p : Passed) (q : ℕ) → q < length states → p (at q i) ≡ false → is_resting (state_at states q) ≡ false
         → tell g p i q ≡ first_on g (and_at (at q i) p) i (epsilon_successors holding (state_at states q))

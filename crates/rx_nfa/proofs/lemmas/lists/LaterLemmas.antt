@@ -44,7 +44,8 @@ module _ (g : PriorityGraph) (may : ℕ → Bool) (start : ℕ) where
 
   -- a match may start here
   pub first_of_starts-here : (n i : ℕ) (p : Passed) → may i ≡ true
-      → first_of_starts g may start (suc n) i p ≡ option_or (option_map (λ t. record { start = i; trace = t }) (found g p (at start i))) (first_of_starts g may start n (i + 1) p)
+      → first_of_starts g may start (suc n) i p ≡ option_or (option_map (λ t. record { start = i; trace = t }) (found g p (at start i)))
+      (first_of_starts g may start n (i + 1) p)
   unfolding first_start
   first_of_starts-here n i p allowed = rw allowed refl
 
@@ -66,7 +67,8 @@ module _ (g : PriorityGraph) (may : ℕ → Bool) (start : ℕ) where
   begun-first n i true allowed =
       (λ k. option_or ((or-none_right (tell g nowhere i start) ∙ sym (half-start i (found g nowhere (at start i)))) k) (told_later n (i + 1)))
       ∙ sym (ap (option_map half_match_value) (first_of_starts-here n i nowhere allowed)
-      ∙ option_map-or half_match_value (option_map (λ t. record { start = i; trace = t }) (found g nowhere (at start i))) (first_of_starts g may start n (i + 1) nowhere))
+      ∙ option_map-or half_match_value (option_map (λ t. record { start = i; trace = t }) (found g nowhere (at start i)))
+      (first_of_starts g may start n (i + 1) nowhere))
   begun-first n i false forbidden = ap (option_map half_match_value) (sym (first_of_starts-not_here n i nowhere forbidden))
 
   -- It stands behind the others on the list.
@@ -143,7 +145,8 @@ module _ (around : Surroundings) (states : List State) (names : All (NamesBelow 
       let here : i ≡ end = omega arith in
       let le : i ≤ end = omega arith in
       let threads = threads_at i loops qs in
-      let last : first_on g nowhere end threads ≡ match_here (accepts_at g end) end threads = end-first around states end g has_steps (close states (looks_at i) (length states) (qs ++ begun start (loops && may i)) []) in
+      let last : first_on g nowhere end threads ≡ match_here (accepts_at g end) end threads =
+      end-first around states end g has_steps (close states (looks_at i) (length states) (qs ++ begun start (loops && may i)) []) in
       ap (λ o. option_or o best)
       (sym (subst (λ e. first_on g nowhere e threads ≡ match_here (accepts_at g e) e threads) (sym here) last)
       ∙ sym (or-none_right (first_on g nowhere i threads))
@@ -201,7 +204,8 @@ sieved-steps ok around states end g has_steps = record {
 not-past : (a b : ℕ) → a ≤ b → nat_lt b a ≡ false
 not-past a b le = grind (arith, nat_tests)
 
-module _ (nfa : Nfa) (range : IsInRange nfa) (utf8_empty : Bool) (text : List ℕ) (b a : ℕ) (in_order : a ≤ b) (anchor : Anchor) (start : ℕ) (begins : start_of nfa anchor ≡ Some start) where
+module _ (nfa : Nfa) (range : IsInRange nfa) (utf8_empty : Bool) (text : List ℕ) (b a : ℕ) (in_order : a ≤ b) (anchor : Anchor) (start : ℕ)
+    (begins : start_of nfa anchor ≡ Some start) where
   abbrev graph : PriorityGraph
   graph = automaton nfa.terminator nfa.states text b
 

@@ -44,7 +44,8 @@ first_told-resting states tell (q ∷ qs) =
 
 -- A list that is being closed: what its threads tell, and then what comes later. On top is the state q, of which f tells what
 -- a run from it has; `later` is what is below it.
-module _ {A : Type 0} (states : List State) (g : PriorityGraph) (at_place : ℕ → Option A) (items : List ℕ) (i q : ℕ) (f : Trace → A) (later : Passed → Option A) where
+module _ {A : Type 0} (states : List State) (g : PriorityGraph) (at_place : ℕ → Option A) (items : List ℕ) (i q : ℕ) (f : Trace → A)
+    (later : Passed → Option A) where
   abbrev front : Option A
   front = first_told (at_rest states at_place) items
 

@@ -179,8 +179,10 @@ Built-then first second next middle start old mid new s t = record {
         let a = s.mirrors f next' base is sends.0 in
         let l = AllZip-length (IsImage (Stands (length old.states) mid.states) f) p.states s.images a.each in
         let b = t.mirrors f p.start (base + length p.states) a.start_is (subst (λ n. Sends f (base + n) t.images) (sym l) sends.1) in
-        let a' = Mirrors-kept f (length old.states) (length old.states) mid.states new.states p s.images middle (omega arith) (Keeps-extends (length old.states) mid new t.extends) a in
-        let b' = Mirrors-kept f (length old.states) (length mid.states) new.states new.states (first p.start (base + length p.states)) t.images start s.extends.longer (Keeps-same (length mid.states) new.states) b in
+        let a' = Mirrors-kept f (length old.states) (length old.states) mid.states new.states p s.images middle (omega arith)
+        (Keeps-extends (length old.states) mid new t.extends) a in
+        let b' = Mirrors-kept f (length old.states) (length mid.states) new.states new.states (first p.start (base + length p.states)) t.images start
+        s.extends.longer (Keeps-same (length mid.states) new.states) b in
         record {
           start_is = b'.start_is;
           each = AllZip-append (IsImage (Stands (length old.states) new.states) f) p.states (first p.start (base + length p.states)).states s.images t.images

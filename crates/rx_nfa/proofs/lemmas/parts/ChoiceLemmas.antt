@@ -58,7 +58,8 @@ BuiltParts-beside first others next q old mid new starts rest starts_is a b = re
       (let sent = Sends-append f base a.images b.images sends in
       let p = first next' base in
       let o = others next' (base + length p.states) in
-      let m = Mirrors-kept f (length old.states) (length old.states) mid.states new.states p a.images q (omega arith) (Keeps-extends (length old.states) mid new b.extends) (a.mirrors f next' base is sent.0) in
+      let m = Mirrors-kept f (length old.states) (length old.states) mid.states new.states p a.images q (omega arith)
+      (Keeps-extends (length old.states) mid new b.extends) (a.mirrors f next' base is sent.0) in
       AllZip-append (IsImage (Stands (length old.states) new.states) f) p.states o.states a.images b.images m.each
       (AllZip-map (IsImage (Stands (length mid.states) new.states) f) (IsImage (Stands (length old.states) new.states) f)
       (IsImage-map (Stands (length mid.states) new.states) (Stands (length old.states) new.states)
@@ -110,7 +111,8 @@ chosen-rises : (parts : (next base : ℕ) → graph.Parts) (next : ℕ) (old mid
     → Rises (length old.states) (length (pushed mid (Union starts)).states) (p.images ++ length mid.states ∷ [])
 chosen-rises parts next old mid starts p =
     let l = pushed-length mid (Union starts) in
-    Rises-append (length old.states) (length mid.states) (length (pushed mid (Union starts)).states) p.images (length mid.states ∷ []) p.rises (omega arith, omega arith)
+    Rises-append (length old.states) (length mid.states) (length (pushed mid (Union starts)).states) p.images (length mid.states ∷ []) p.rises
+    (omega arith, omega arith)
 
 pub Built-chosen : (parts : (next base : ℕ) → graph.Parts) (next : ℕ) (old mid new : Draft) (starts : List ℕ) (q : ℕ) → BuiltParts parts next old mid starts
     → q ≡ length mid.states
@@ -139,7 +141,8 @@ join-choice [] states base many = refl
 join-choice (q ∷ []) states base many = absurd (many refl)
 join-choice (q ∷ r ∷ qs) states base many = refl
 
-joined-one : (parts : (next base : ℕ) → graph.Parts) (next s : ℕ) (old mid : Draft) → BuiltParts parts next old mid (s ∷ []) → Built (build_joined parts) next old mid s
+joined-one : (parts : (next base : ℕ) → graph.Parts) (next s : ℕ) (old mid : Draft) → BuiltParts parts next old mid (s ∷ [])
+    → Built (build_joined parts) next old mid s
 joined-one parts next s old mid p = record {
   extends = p.extends;
   images = p.images;
@@ -152,7 +155,8 @@ joined-one parts next s old mid p = record {
       });
 }
 
-joined-choice : (parts : (next base : ℕ) → graph.Parts) (next : ℕ) (old mid : Draft) (starts : List ℕ) → (length starts ≡ 1 → ⊥) → BuiltParts parts next old mid starts
+joined-choice : (parts : (next base : ℕ) → graph.Parts) (next : ℕ) (old mid : Draft) (starts : List ℕ) → (length starts ≡ 1 → ⊥)
+    → BuiltParts parts next old mid starts
     → Built (build_joined parts) next old (pushed mid (Union starts)) (length mid.states)
 joined-choice parts next old mid starts many p = record {
   extends = Extends-trans old mid (pushed mid (Union starts)) p.extends (Extends-pushed mid (Union starts));
@@ -160,7 +164,8 @@ joined-choice parts next old mid starts many p = record {
   rises = chosen-rises parts next old mid starts p;
   mirrors = λ f next' base is sends.
       (let sent = Sends-append f base p.images (length mid.states ∷ []) sends in
-      let long : length (parts next' base).starts ≡ length starts = sym (length-map (parts next' base).starts f) ∙ ap length (p.starts_are f next' base is sent.0) in
+      let long : length (parts next' base).starts ≡ length starts =
+      sym (length-map (parts next' base).starts f) ∙ ap length (p.starts_are f next' base is sent.0) in
       subst (λ part. Mirrors f (length old.states) (pushed mid (Union starts)).states part (p.images ++ length mid.states ∷ []) (length mid.states))
       (join-choice (parts next' base).starts (parts next' base).states base (λ one. many (sym long ∙ one)))
       (chosen-mirrors parts next old mid starts p f next' base is sends));
@@ -173,7 +178,8 @@ Built-joined parts next old mid new [] q p j =
     (subst (λ d. Built (build_joined parts) next old d (length mid.states)) (sym j.1)
     (joined-choice parts next old mid [] (λ e. absurd (omega arith)) p))
 Built-joined parts next old mid new (s ∷ []) q p j =
-    subst (Built (build_joined parts) next old new) (sym j.0) (subst (λ d. Built (build_joined parts) next old d s) (sym j.1) (joined-one parts next s old mid p))
+    subst (Built (build_joined parts) next old new) (sym j.0) (subst (λ d. Built (build_joined parts) next old d s) (sym j.1)
+    (joined-one parts next s old mid p))
 Built-joined parts next old mid new (s ∷ t ∷ ss) q p j =
     subst (Built (build_joined parts) next old new) (sym j.0)
     (subst (λ d. Built (build_joined parts) next old d (length mid.states)) (sym j.1)

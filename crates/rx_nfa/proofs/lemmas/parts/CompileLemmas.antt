@@ -117,7 +117,8 @@ module _ (greedy : Bool) (body : graph.Builder) (next choice start : ℕ) (old m
   pub loop-closed : Built body choice mid after start → Built (graph.loop greedy body) next old new choice
       × Built (graph.loop_once greedy body) next old new start
   loop-closed b =
-      let b' : Built body (length old.states) (pushed old blank) after start = subst (λ n. Built body n (pushed old blank) after start) choice_is (subst (λ d. Built body choice d after start) mid_is b) in (
+      let b' : Built body (length old.states) (pushed old blank) after start =
+      subst (λ n. Built body n (pushed old blank) after start) choice_is (subst (λ d. Built body choice d after start) mid_is b) in (
         subst (Built (graph.loop greedy body) next old new) (sym choice_is)
             (subst (λ d. Built (graph.loop greedy body) next old d (length old.states)) (sym new-written)
             (Built-loop greedy body next start old after blank b')),

@@ -75,10 +75,12 @@ module _ (w : ℕ × ℕ → ℕ) where
       by_test (is_range last (last_of p))
       (λ e.
       let same = range-same last (last_of p) e in
-      let here : weighed (p ∷ ps) last ≡ w (before_of p) + weighed ps last = ap (sum_by w) (before-here last p ps e) ∙ sum_by-cons w (before_of p) (before_last last ps) in
+      let here : weighed (p ∷ ps) last ≡ w (before_of p) + weighed ps last =
+      ap (sum_by w) (before-here last p ps e) ∙ sum_by-cons w (before_of p) (before_last last ps) in
       let once = added-none p lasts (ap (λ r. list_any (is_range r) lasts) (sym same) ∙ d.0) in
       let first : list_any (is_range (last_of p)) (last ∷ lasts) ≡ true =
-      ap (λ r. is_range (last_of p) r || list_any (is_range (last_of p)) lasts) same ∙ ap (λ b. b || list_any (is_range (last_of p)) lasts) (range-itself (last_of p)) in
+      ap (λ r. is_range (last_of p) r || list_any (is_range (last_of p)) lasts) same
+      ∙ ap (λ b. b || list_any (is_range (last_of p)) lasts) (range-itself (last_of p)) in
       let now = added-some p (last ∷ lasts) first in
       omega arith)
       (λ e.
@@ -295,7 +297,8 @@ states-lone zero rs = let states = states-first rs in let ones = sum-ones (lone 
 states-lone (suc depth) rs =
     let ps = pieces_in rs in
     let states = states-next depth rs in
-    let groups = sum-among (states_behind depth (pieces_in rs)) (λ last. sum_by (before_weight depth) (before_last last (pieces_in rs))) (lasts_of (pieces_in rs))
+    let groups =
+    sum-among (states_behind depth (pieces_in rs)) (λ last. sum_by (before_weight depth) (before_last last (pieces_in rs))) (lasts_of (pieces_in rs))
     (λ last m. group-most depth (before_last last (pieces_in rs)) (states-lone depth) (before-some (pieces_in rs) last m)) in
     let once = pieces-once (before_weight depth) (pieces_in rs) (lasts_of (pieces_in rs)) (lasts-distinct [] (pieces_in rs) tt) in
     let pieces = pieces-weight depth rs in

@@ -59,7 +59,8 @@ ways-digits-next zero rs some = absurd (omega arith)
 ways-digits-next (suc depth) rs some = refl
 
 -- one alternative more
-pub adds-more : {A : Type 0} (build : A → PartsBuilder) (xs : List A) (k : ℕ) (x d : A) (next : ℕ) (old mid new : Draft) (before between after : List ℕ) → k < length xs
+pub adds-more : {A : Type 0} (build : A → PartsBuilder) (xs : List A) (k : ℕ) (x d : A) (next : ℕ) (old mid new : Draft) (before between after : List ℕ)
+    → k < length xs
     → x ≡ get_or xs k d → AddsAll (map build (take k xs)) next old mid before between → AddsParts (build x) next mid new between after
     → AddsAll (map build (take (k + 1) xs)) next old new before after
 adds-more build xs k x d next old mid new before between after lt is a p =
@@ -89,7 +90,8 @@ pub class-built : (rs : List (ℕ × ℕ)) (next q : ℕ) (old a b c d mid new :
     → AddsParts (build_digits 0xF0 3 (clip 0x1_0000 0x10_FFFF rs)) next d mid v starts
     → JoinsAll mid new starts q → Built (build_joined (build_all (scalar_digits rs))) next old new q
 class-built rs next q old a b c d mid new none s t u v starts empty one two three high four j =
-    let all = AddsAll-built (scalar_digits rs) next old mid none starts (a, s, one, (b, t, two, (c, u, three, (d, v, high, (mid, starts, four, (refl, refl)))))) in
+    let all =
+    AddsAll-built (scalar_digits rs) next old mid none starts (a, s, one, (b, t, two, (c, u, three, (d, v, high, (mid, starts, four, (refl, refl)))))) in
     let same : starts ≡ all.added = all.appended ∙ ap (λ xs. xs ++ all.added) empty in
     Built-joined (build_all (scalar_digits rs)) next old mid new starts q
     (subst (λ qs. BuiltParts (build_all (scalar_digits rs)) next old mid qs) (sym same) all.built) j

@@ -29,7 +29,9 @@ pub groups_before-more : (hs : List Expression) (k : ℕ) (h d : Expression) →
     → groups_before (k + 1) hs ≡ groups_before k hs + greatest_group h
 groups_before-more [] k h d lt e = absurd (omega arith)
 groups_before-more (x ∷ hs) zero h d lt e = let same : greatest_group h ≡ greatest_group x = ap greatest_group e in omega arith
-groups_before-more (x ∷ hs) (suc k) h d lt e = let later = groups_before-more hs k h d (omega arith) e in let more : suc k + 1 ≡ suc (k + 1) = omega arith in ap (λ n. groups_before n (x ∷ hs)) more ∙ omega arith
+groups_before-more (x ∷ hs) (suc k) h d lt e =
+    let later = groups_before-more hs k h d (omega arith) e in let more : suc k + 1 ≡ suc (k + 1) = omega arith in
+    ap (λ n. groups_before n (x ∷ hs)) more ∙ omega arith
 
 -- there are no more groups in the first patterns than in all
 pub groups_before-within : (hs : List Expression) (j k : ℕ) → j ≤ k → groups_before j hs ≤ groups_before k hs
@@ -42,7 +44,8 @@ groups_before-within (h ∷ hs) (suc j) (suc k) le = let later = groups_before-w
 -- the groups of a pattern and of those before it are among all
 pub groups_before-all : (hs : List Expression) (k : ℕ) (h d : Expression) → k < length hs → h ≡ get_or hs k d
     → groups_before k hs + greatest_group h ≤ groups_before (length hs) hs
-groups_before-all hs k h d lt e = let more = groups_before-more hs k h d lt e in let within = groups_before-within hs (k + 1) (length hs) (omega arith) in omega arith
+groups_before-all hs k h d lt e =
+    let more = groups_before-more hs k h d lt e in let within = groups_before-within hs (k + 1) (length hs) (omega arith) in omega arith
 
 -- the states of one pattern more
 pub nfa_states-drop : (hs : List Expression) (k : ℕ) (h d : Expression) → k < length hs → h ≡ get_or hs k d

@@ -252,7 +252,8 @@ lasts-fit lead depth ps all =
 pub before-fits : (lead depth : ℕ) (last : ℕ × ℕ) (ps : List Piece) → All (IsPiece lead depth) ps → All (FitsDigits lead (depth - 1)) (before_last last ps)
 before-fits lead depth last ps all =
     All-weaker (Contains (before_last last ps)) (FitsDigits lead (depth - 1))
-    (λ r m. let x = before-of-piece last ps r m in let is = All-contains (IsPiece lead depth) ps x.piece all x.inside in subst (FitsDigits lead (depth - 1)) x.is is.rest)
+    (λ r m. let x = before-of-piece last ps r m in let is = All-contains (IsPiece lead depth) ps x.piece all x.inside in
+    subst (FitsDigits lead (depth - 1)) x.is is.rest)
     (before_last last ps) (All-contains_itself (before_last last ps))
 
 -- ranges within a band

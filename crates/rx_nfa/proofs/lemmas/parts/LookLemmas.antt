@@ -14,7 +14,8 @@ pub Built-look : (look : Look) (next : ℕ) (old new : Draft) (q : ℕ) → q �
 Built-look look next old new q id is =
     subst (Built (graph.build_state (graph.assertion (kind_of look))) next old new) (sym id)
     (subst (λ d. Built (graph.build_state (graph.assertion (kind_of look))) next old d (length old.states)) (sym is)
-    (Built-state (graph.assertion (kind_of look)) next old (pushed old (Looks look next)) (length old.states) (Extends-pushed old (Looks look next)) (omega arith) (let l = pushed-length old (Looks look next) in omega arith)
+    (Built-state (graph.assertion (kind_of look)) next old (pushed old (Looks look next)) (length old.states) (Extends-pushed old (Looks look next))
+    (omega arith) (let l = pushed-length old (Looks look next) in omega arith)
     (λ f next' same. (
       look,
       refl,

@@ -18,7 +18,8 @@ ways-map f true body body' exit exit' b e = λ i. Union (sym b i ∷ sym e i ∷
 ways-map f false body body' exit exit' b e = λ i. Union (sym e i ∷ sym b i ∷ [])
 
 -- Draft `mid` is `old` with a state for the choice, `after` has the body, and in `new` the choice is written.
-module _ (greedy : Bool) (body : graph.Builder) (next onward start : ℕ) (old after : Draft) (blank : State) (b : Built body onward (pushed old blank) after start) where
+module _ (greedy : Bool) (body : graph.Builder) (next onward start : ℕ) (old after : Draft) (blank : State)
+    (b : Built body onward (pushed old blank) after start) where
   abbrev pub written : Draft
   written = patched after (length old.states) (Union (ways greedy start next))
 
@@ -49,21 +50,29 @@ module _ (greedy : Bool) (body : graph.Builder) (next onward start : ℕ) (old a
   }
 
   rises : Rises (length old.states) (length written.states) (length old.states ∷ b.images)
-  rises = (omega arith, Rises-from (suc (length old.states)) (length (pushed old blank).states) (length written.states) b.images (let l = pushed-length old blank in omega arith) (Rises-to (length (pushed old blank).states) (length after.states) (length written.states) b.images (let l = same-length in omega arith) b.rises))
+  rises = (
+    omega arith,
+    Rises-from (suc (length old.states)) (length (pushed old blank).states) (length written.states) b.images
+        (let l = pushed-length old blank in
+        omega arith) (Rises-to (length (pushed old blank).states) (length after.states) (length written.states) b.images
+        (let l = same-length in omega arith) b.rises),
+  )
 
   -- the choice and the body
   each : (f : ℕ → ℕ) (part : graph.Part) (next' : ℕ) → f next' ≡ next → Mirrors f (length (pushed old blank).states) after.states part b.images start
       → AllZip (IsImage (Stands (length old.states) written.states) f) (graph.prefer greedy part.start next' ∷ part.states) (length old.states ∷ b.images)
   each f part next' is m = (
     subst (Stands (length old.states) written.states (length old.states)) (ways-map f greedy part.start start next' next m.start_is is) stands,
-    (Mirrors-kept f (length old.states) (length (pushed old blank).states) after.states written.states part b.images start (let l = pushed-length old blank in omega arith) keeps' m).each,
+    (Mirrors-kept f (length old.states) (length (pushed old blank).states) after.states written.states part b.images start
+        (let l = pushed-length old blank in omega arith) keeps' m).each,
   )
     where
       keeps' : Keeps (length (pushed old blank).states) after.states written.states
       keeps' = record { longer = (let l = same-length in omega arith); kept = λ q above inside. kept-other q (let l = pushed-length old blank in omega arith) }
 
 -- The body goes back to the choice, and the part starts at the choice, or at the body.
-module _ (greedy : Bool) (body : graph.Builder) (next start : ℕ) (old after : Draft) (blank : State) (b : Built body (length old.states) (pushed old blank) after start) where
+module _ (greedy : Bool) (body : graph.Builder) (next start : ℕ) (old after : Draft) (blank : State)
+    (b : Built body (length old.states) (pushed old blank) after start) where
   pub Built-loop : Built (graph.loop greedy body) next old (written greedy body next (length old.states) start old after blank b) (length old.states)
   Built-loop = record {
     extends = written-extends greedy body next (length old.states) start old after blank b;
@@ -123,9 +132,11 @@ module _ (greedy : Bool) (n : ℕ) (body : graph.Builder) (next inner start : �
           let m = o.mirrors f next' base is sent.0 in
           let long = AllZip-length (IsImage (Stands (length old.states) mid.states) f) i.states o.images m.each in
           let c = base + length i.states in
-          let sent' : Sends f (base + length i.states) (length mid.states ∷ b.images) = subst (λ k. Sends f (base + k) (length mid.states ∷ b.images)) (sym long) sent.1 in
+          let sent' : Sends f (base + length i.states) (length mid.states ∷ b.images) =
+          subst (λ k. Sends f (base + k) (length mid.states ∷ b.images)) (sym long) sent.1 in
           let r = b.mirrors f i.start (suc (base + length i.states)) m.start_is sent'.1 in
-          let kept = Mirrors-kept f (length old.states) (length old.states) mid.states later.states i o.images inner (omega arith) (Keeps-extends (length old.states) mid later (written-extends greedy body next inner start mid after blank b)) m in
+          let kept = Mirrors-kept f (length old.states) (length old.states) mid.states later.states i o.images inner (omega arith)
+          (Keeps-extends (length old.states) mid later (written-extends greedy body next inner start mid after blank b)) m in
           let part = body i.start (suc (base + length i.states)) in
           record {
             start_is = sent'.0;

@@ -33,7 +33,8 @@ module _ (size low high : ℕ) where
   unfolding low_piece
   low-whole e z = rw (e, z) refl
 
-  pub low-part : one ≡ false → (low % size == 0) ≡ false → low_piece size low high ≡ Some (record { first = low / size; last = low / size; low = low % size; high = size - 1 })
+  pub low-part : one ≡ false → (low % size == 0) ≡ false
+      → low_piece size low high ≡ Some (record { first = low / size; last = low / size; low = low % size; high = size - 1 })
   unfolding low_piece
   low-part e z = rw (e, z) refl
 
@@ -58,7 +59,8 @@ module _ (size low high : ℕ) where
   unfolding high_piece
   high-whole e z = rw (e, z) refl
 
-  pub high-part : one ≡ false → (high % size + 1 == size) ≡ false → high_piece size low high ≡ Some (record { first = high / size; last = high / size; low = 0; high = high % size })
+  pub high-part : one ≡ false → (high % size + 1 == size) ≡ false
+      → high_piece size low high ≡ Some (record { first = high / size; last = high / size; low = 0; high = high % size })
   unfolding high_piece
   high-part e z = rw (e, z) refl
 
@@ -115,7 +117,8 @@ module _ (size low high : ℕ) (some : 0 < size) (ordered : low ≤ high) where
   digit-less : (low / size == high / size) ≡ false → low / size < high / size
   digit-less e =
       let rise = div-le size low high some ordered in
-      ⊎_elim (λ lt. lt) (λ ge. let same : low / size ≡ high / size = omega arith in absurd (eqb-false (low / size) (high / size) e same)) (cases_lt (low / size) (high / size))
+      ⊎_elim (λ lt. lt) (λ ge. let same : low / size ≡ high / size = omega arith in absurd (eqb-false (low / size) (high / size) e same))
+      (cases_lt (low / size) (high / size))
 
   abbrev IsWithin : ℕ → ℕ → Type 0
   IsWithin q r = (low ≤ q * size + r) × (q * size + r ≤ high)
@@ -123,8 +126,10 @@ module _ (size low high : ℕ) (some : 0 < size) (ordered : low ≤ high) where
   from-whole : (q : ℕ) → whole_from size low ≤ q → low ≤ q * size
   from-whole q le =
       by_test (low % size == 0)
-      (λ z. let none = eqb-true (low % size) 0 z in let le' : low / size ≤ q = subst (λ b. (if b then low / size else low / size + 1) ≤ q) z le in let more = multiples (low / size) q le' in omega arith)
-      (λ z. let le' : low / size + 1 ≤ q = subst (λ b. (if b then low / size else low / size + 1) ≤ q) z le in let more = multiples (low / size + 1) q le' in omega arith)
+      (λ z. let none = eqb-true (low % size) 0 z in let le' : low / size ≤ q = subst (λ b. (if b then low / size else low / size + 1) ≤ q) z le in
+      let more = multiples (low / size) q le' in omega arith)
+      (λ z. let le' : low / size + 1 ≤ q = subst (λ b. (if b then low / size else low / size + 1) ≤ q) z le in
+      let more = multiples (low / size + 1) q le' in omega arith)
 
   to-whole : (q : ℕ) → q < whole_to size high → q * size + size ≤ high + 1
   to-whole q lt =
@@ -134,7 +139,8 @@ module _ (size low high : ℕ) (some : 0 < size) (ordered : low ≤ high) where
       let le : q < high / size + 1 = subst (λ b. q < (if b then high / size + 1 else high / size)) z lt in
       let more = multiples q (high / size) (omega arith) in
       omega arith)
-      (λ z. let le : q < high / size = subst (λ b. q < (if b then high / size + 1 else high / size)) z lt in let more = multiples (q + 1) (high / size) (omega arith) in omega arith)
+      (λ z. let le : q < high / size = subst (λ b. q < (if b then high / size + 1 else high / size)) z lt in
+      let more = multiples (q + 1) (high / size) (omega arith) in omega arith)
 
   pub piece-sound : (p : Piece) (q r : ℕ) → Contains (pieces_of size low high) p → IsIn p q r → IsWithin q r
   piece-sound p q r m is =
@@ -217,8 +223,11 @@ module _ (size low high : ℕ) (some : 0 < size) (ordered : low ≤ high) where
       let one = eqb-true (low / size) (high / size) e in
       let digit : c / size ≡ low / size = omega arith in
       let product : c / size * size ≡ low / size * size = ap (λ n. n * size) digit in
-      let product' : c / size * size ≡ high / size * size = ap (λ n. n * size) (digit ∙ one) in
-      (record { first = low / size; last = low / size; low = low % size; high = high % size }, is-piece size low high _ (inl (low-one size low high e)), record { from = omega arith; to = omega arith; least = omega arith; most = omega arith }))
+      let product' : c / size * size ≡ high / size * size = ap (λ n. n * size) (digit ∙ one) in (
+        record { first = low / size; last = low / size; low = low % size; high = high % size },
+        is-piece size low high _ (inl (low-one size low high e)),
+        record { from = omega arith; to = omega arith; least = omega arith; most = omega arith },
+      ))
       (λ e.
       let less = digit-less e in
       by_test (low % size == 0)
@@ -228,8 +237,11 @@ module _ (size low high : ℕ) (some : 0 < size) (ordered : low ≤ high) where
       (λ later. from-first e c above below (from-next c z later))
       (λ same.
       let digit : c / size ≡ low / size = omega arith in
-      let product : c / size * size ≡ low / size * size = ap (λ n. n * size) digit in
-      (record { first = low / size; last = low / size; low = low % size; high = size - 1 }, is-piece size low high _ (inl (low-part size low high e z)), record { from = omega arith; to = omega arith; least = omega arith; most = omega arith }))
+      let product : c / size * size ≡ low / size * size = ap (λ n. n * size) digit in (
+        record { first = low / size; last = low / size; low = low % size; high = size - 1 },
+        is-piece size low high _ (inl (low-part size low high e z)),
+        record { from = omega arith; to = omega arith; least = omega arith; most = omega arith },
+      ))
       (cases_lt (low / size) (c / size))))
     where
       from-zero : (c : ℕ) → (low % size == 0) ≡ true → low / size ≤ c / size → whole_from size low ≤ c / size
@@ -250,8 +262,11 @@ module _ (size low high : ℕ) (some : 0 < size) (ordered : low ≤ high) where
           (λ before. middle e c from (to-part z before))
           (λ same.
           let digit : c / size ≡ high / size = omega arith in
-          let product : c / size * size ≡ high / size * size = ap (λ n. n * size) digit in
-          (record { first = high / size; last = high / size; low = 0; high = high % size }, is-piece size low high _ (inr (inr (high-part size low high e z))), record { from = omega arith; to = omega arith; least = omega arith; most = omega arith }))
+          let product : c / size * size ≡ high / size * size = ap (λ n. n * size) digit in (
+            record { first = high / size; last = high / size; low = 0; high = high % size },
+            is-piece size low high _ (inr (inr (high-part size low high e z))),
+            record { from = omega arith; to = omega arith; least = omega arith; most = omega arith },
+          ))
           (cases_lt (c / size) (high / size)))
         where
           to-full : (high % size + 1 == size) ≡ true → c / size ≤ high / size → c / size < whole_to size high
@@ -266,8 +281,11 @@ module _ (size low high : ℕ) (some : 0 < size) (ordered : low ≤ high) where
           middle : (low / size == high / size) ≡ false → (c : ℕ) → whole_from size low ≤ c / size → c / size < whole_to size high
               → (p : Piece) × Contains (pieces_of size low high) p × IsIn p (c / size) (c % size)
           middle e c from to =
-              let order : nat_le (whole_to size high) (whole_from size low) ≡ false = not-le (whole_to size high) (whole_from size low) (omega arith) in
-              (record { first = whole_from size low; last = whole_to size high - 1; low = 0; high = size - 1 }, is-piece size low high _ (inr (inl (middle-some size low high e order))), record { from = from; to = omega arith; least = omega arith; most = omega arith })
+              let order : nat_le (whole_to size high) (whole_from size low) ≡ false = not-le (whole_to size high) (whole_from size low) (omega arith) in (
+                record { first = whole_from size low; last = whole_to size high - 1; low = 0; high = size - 1 },
+                is-piece size low high _ (inr (inl (middle-some size low high e order))),
+                record { from = from; to = omega arith; least = omega arith; most = omega arith },
+              )
 
 -- a number by its first digit and its rest
 module _ (size q r : ℕ) (small : r < size) where
@@ -304,11 +322,17 @@ module _ (size low high : ℕ) (some : 0 < size) (rise : low ≤ high) where
       (λ e.
       let same = eqb-true (low / size) (high / size) e in
       let product = ap (λ q. size * q) same in
-      subst (λ o. IfSome o (Fits size high)) (sym (low-one size low high e)) (record { digits = omega arith; top = omega arith; ordered = omega arith; small = omega arith }))
+      subst (λ o. IfSome o (Fits size high)) (sym (low-one size low high e)) (record {
+        digits = omega arith;
+        top = omega arith;
+        ordered = omega arith;
+        small = omega arith;
+      }))
       (λ e.
       by_test (low % size == 0)
       (λ z. subst (λ o. IfSome o (Fits size high)) (sym (low-whole size low high e z)) tt)
-      (λ z. subst (λ o. IfSome o (Fits size high)) (sym (low-part size low high e z)) (record { digits = omega arith; top = omega arith; ordered = omega arith; small = omega arith })))
+      (λ z. subst (λ o. IfSome o (Fits size high)) (sym (low-part size low high e z))
+      (record { digits = omega arith; top = omega arith; ordered = omega arith; small = omega arith })))
 
   middle-fits : IfSome (middle_piece size low high) (Fits size high)
   middle-fits =
@@ -320,7 +344,8 @@ module _ (size low high : ℕ) (some : 0 < size) (rise : low ≤ high) where
       (λ z. subst (λ o. IfSome o (Fits size high)) (sym (middle-none size low high e z)) tt)
       (λ z.
       let less : whole_from size low < whole_to size high = grind (arith, nat_tests) in
-      subst (λ o. IfSome o (Fits size high)) (sym (middle-some size low high e z)) (record { digits = omega arith; top = omega arith; ordered = omega arith; small = omega arith })))
+      subst (λ o. IfSome o (Fits size high)) (sym (middle-some size low high e z))
+      (record { digits = omega arith; top = omega arith; ordered = omega arith; small = omega arith })))
 
   high-fits : IfSome (high_piece size low high) (Fits size high)
   high-fits =
@@ -329,7 +354,8 @@ module _ (size low high : ℕ) (some : 0 < size) (rise : low ≤ high) where
       (λ e.
       by_test (high % size + 1 == size)
       (λ z. subst (λ o. IfSome o (Fits size high)) (sym (high-whole size low high e z)) tt)
-      (λ z. subst (λ o. IfSome o (Fits size high)) (sym (high-part size low high e z)) (record { digits = omega arith; top = omega arith; ordered = omega arith; small = omega arith })))
+      (λ z. subst (λ o. IfSome o (Fits size high)) (sym (high-part size low high e z))
+      (record { digits = omega arith; top = omega arith; ordered = omega arith; small = omega arith })))
 
   fits-of : (p : Piece) → Contains (pieces_of size low high) p → Fits size high p
   fits-of p m =
@@ -346,7 +372,8 @@ piece-fits lead depth r p some fits m =
     let pos = size_of_block-pos (depth - 1) in
     let less = div-le (size_of_block (depth - 1)) p.last (r.1 / 64) pos is.top in
     let block : size_of_block depth ≡ 64 * size_of_block (depth - 1) = size_of_block-suc depth some in
-    let digit : r.1 / 64 / size_of_block (depth - 1) ≡ r.1 / size_of_block depth = div-div-eq-div-mul r.1 64 (size_of_block (depth - 1)) ∙ ap (λ n. r.1 / n) (sym block) in
+    let digit : r.1 / 64 / size_of_block (depth - 1) ≡ r.1 / size_of_block depth =
+    div-div-eq-div-mul r.1 64 (size_of_block (depth - 1)) ∙ ap (λ n. r.1 / n) (sym block) in
     let bytes = fits.bytes in
     record { rest = record { ordered = is.digits; bytes = omega arith }; last = record { ordered = is.ordered; small = omega arith } }
 

@@ -36,7 +36,8 @@ Built-bytes ranges next old new q groups slots adds below c =
     (λ f next' is. (below, subst (λ n. IsByteClass (IsReader (length old.states) new.states) n ranges q) (sym is) c))
 
 -- what is in range stays so where readers were added
-pub AreInRange-adds : (groups : List (List (Option (List ℕ)))) (slots : ℕ) (old new : List State) → AreInRange (record { states = old; groups = groups; slots = slots }) → AddsReaders old new → AreClosed new → length new ≤ id_limit
+pub AreInRange-adds : (groups : List (List (Option (List ℕ)))) (slots : ℕ) (old new : List State)
+    → AreInRange (record { states = old; groups = groups; slots = slots }) → AddsReaders old new → AreClosed new → length new ≤ id_limit
     → AreInRange (record { states = new; groups = groups; slots = slots })
 AreInRange-adds groups slots old new r adds closed few = record {
   names = closed;

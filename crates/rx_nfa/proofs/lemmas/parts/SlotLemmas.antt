@@ -18,7 +18,8 @@ pub Built-slot : (number pattern next : ℕ) (old new : Draft) (q : ℕ) → q �
 Built-slot number pattern next old new q id is =
     subst (Built (graph.build_state (graph.slot number)) next old new) (sym id)
     (subst (λ d. Built (graph.build_state (graph.slot number)) next old d (length old.states)) (sym is)
-    (Built-state (graph.slot number) next old (pushed old (Capture next pattern number)) (length old.states) (Extends-pushed old (Capture next pattern number)) (omega arith) (let l = pushed-length old (Capture next pattern number) in omega arith)
+    (Built-state (graph.slot number) next old (pushed old (Capture next pattern number)) (length old.states) (Extends-pushed old (Capture next pattern number))
+    (omega arith) (let l = pushed-length old (Capture next pattern number) in omega arith)
     (λ f next' same. (
       pattern,
       subst (λ n. Stands (length old.states) (pushed old (Capture next pattern number)).states (length old.states)
@@ -43,7 +44,8 @@ pub Built-way : (next : ℕ) (old new : Draft) (q : ℕ) → q ≡ length old.st
 Built-way next old new q id is =
     subst (Built (graph.build_state (bound None)) next old new) (sym id)
     (subst (λ d. Built (graph.build_state (bound None)) next old d (length old.states)) (sym is)
-    (Built-state (bound None) next old (pushed old (Union (next ∷ []))) (length old.states) (Extends-pushed old (Union (next ∷ []))) (omega arith) (let l = pushed-length old (Union (next ∷ [])) in omega arith)
+    (Built-state (bound None) next old (pushed old (Union (next ∷ []))) (length old.states) (Extends-pushed old (Union (next ∷ []))) (omega arith)
+    (let l = pushed-length old (Union (next ∷ [])) in omega arith)
     (λ f next' same. subst (λ n. Stands (length old.states) (pushed old (Union (next ∷ []))).states (length old.states) (Union (n ∷ []))) (sym same)
     (Stands-pushed old (Union (next ∷ []))))))
 

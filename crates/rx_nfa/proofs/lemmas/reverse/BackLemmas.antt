@@ -101,7 +101,8 @@ module _ (text : List ℕ) (end : ℕ) (fits : end ≤ length text) where
       let k : ℕ = e - 1 in
       let on : length text - k ≡ suc (length text - e) = omega arith in
       let at : length text - e ≡ length text - suc k = omega arith in
-      let both = and_parts (nat_eq b (slice_index text (length text - e))) (stands_at text (suc (length text - e)) bytes) (sym (stands-cons text (length text - e) b bytes (omega arith)) ∙ stands) in
+      let both = and_parts (nat_eq b (slice_index text (length text - e))) (stands_at text (suc (length text - e)) bytes)
+      (sym (stands-cons text (length text - e) b bytes (omega arith)) ∙ stands) in
       let byte : b ≡ slice_index text (length text - e) = nat_equal b (slice_index text (length text - e)) both.0 in
       let before = stands-literal bytes d k (omega arith) (omega arith) (ap (λ n. stands_at text n bytes) on ∙ both.1) (omega arith) in
       subst (λ bs. ReadsBack bs d e) (sym (turned b bytes))

@@ -46,7 +46,8 @@ is-ranged (x ∷ rs) r c m le le' =
 
 -- What the digits of numbers spell, of any walks that read a byte at a time.
 module _ (whole : List graph.State) (Goes : ℕ → ℕ → ℕ → Type 0) (end : ℕ) (chooses : Chooses whole Goes end) (byte : ℕ → ℕ)
-    (reads : (rs : List (ℕ × ℕ)) → Spells whole Goes end chooses (λ i j. (i < end) × (is_member rs (byte i) ≡ true) × (i + 1 ≡ j)) (graph.build_state (graph.set (byte_ranges rs)))) where
+    (reads : (rs : List (ℕ × ℕ)) → Spells whole Goes end chooses (λ i j. (i < end) × (is_member rs (byte i) ≡ true) × (i + 1 ≡ j))
+    (graph.build_state (graph.set (byte_ranges rs)))) where
   -- a byte from the one to the other is read
   abbrev Between : (first last : ℕ) → ℕ → ℕ → Type 0
   Between first last i j = (i < end) × (first ≤ byte i) × (byte i ≤ last) × (i + 1 ≡ j)
@@ -126,7 +127,8 @@ module _ (whole : List graph.State) (Goes : ℕ → ℕ → ℕ → Type 0) (end
         let least = h.1.1 in
         let most = h.1.2 in
         let small = rest-small 64 z.range.0 z.range.1 b.piece (omega arith) z.ordered z.is in
-        let within = piece-sound 64 z.range.0 z.range.1 (omega arith) z.ordered b.piece c d z.is (record { from = omega arith; to = omega arith; least = omega arith; most = omega arith }) in
+        let within = piece-sound 64 z.range.0 z.range.1 (omega arith) z.ordered b.piece c d z.is
+        (record { from = omega arith; to = omega arith; least = omega arith; most = omega arith }) in
         let less : d < 64 = omega arith in
         let digit = digit-of 64 c d less in
         let rest = rest-of 64 c d less in (

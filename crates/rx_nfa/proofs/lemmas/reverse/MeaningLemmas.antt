@@ -88,7 +88,8 @@ bands-map : (rs : List (ℕ × ℕ)) → map (build_band rs) bands ≡ scalar_di
 bands-map rs = refl
 
 -- a band is one of these
-by_band : {P : Type 0} (b : Band) → Contains bands b → (one_band ≡ b → P) → (two_band ≡ b → P) → (three_band ≡ b → P) → (upper_band ≡ b → P) → (four_band ≡ b → P) → P
+by_band : {P : Type 0} (b : Band) → Contains bands b → (one_band ≡ b → P) → (two_band ≡ b → P) → (three_band ≡ b → P) → (upper_band ≡ b → P)
+    → (four_band ≡ b → P) → P
 by_band b m one two three upper four =
     ⊎_elim one
     (λ m2.
@@ -176,7 +177,8 @@ module _ (terminator : ℕ) (text : List ℕ) (end : ℕ) (fits : end ≤ length
         depth lead c d e
 
     abbrev BandMeans : Band → ℕ → ℕ → Type 0
-    BandMeans b d e = DigitsMean whole walks end picks byte (Spells-member (backwards terminator text) states end pattern final whole images each) b.depth b.lead
+    BandMeans b d e =
+        DigitsMean whole walks end picks byte (Spells-member (backwards terminator text) states end pattern final whole images each) b.depth b.lead
         (clip b.low b.high rs) d e
 
     spelt-band : (b : Band) → Contains bands b → SpeltOne (BandMeans b) (build_band rs b)
@@ -200,7 +202,8 @@ module _ (terminator : ℕ) (text : List ℕ) (end : ℕ) (fits : end ≤ length
         of (Some c) is =
             by_test (is_member rs c)
             (λ member.
-            let len : len_utf8 c ≡ h.0 = same_Some _ _ (sym (member_len-some text rs (length text - e) c is ∙ ap (λ b. if b then Some (len_utf8 c) else None) member) ∙ h.1) in
+            let len : len_utf8 c ≡ h.0 =
+            same_Some _ _ (sym (member_len-some text rs (length text - e) c is ∙ ap (λ b. if b then Some (len_utf8 c) else None) member) ∙ h.1) in
             (c, member, record { is = is; long = ap (λ k. length text - e + k) len ∙ h.2 }))
             (λ other. absurd
             (none-some h.0 (sym (member_len-some text rs (length text - e) c is ∙ ap (λ b. if b then Some (len_utf8 c) else None) other) ∙ h.1)))
@@ -312,7 +315,8 @@ module _ (terminator : ℕ) (text : List ℕ) (end : ℕ) (fits : end ≤ length
     spelt-row (cons sub subs) o rest M a =
         let b = build_directed true slot sub in
         let first : ℕ → ℕ → Type 0 = λ d e. (k : ℕ) × back (length text) (Means terminator text sub) d k × M k e in
-        let tail = spelt-row subs o.1 (b ∷ rest) first (Spells-then whole walks end picks (back (length text) (Means terminator text sub)) M b (build_row rest) o.0 a) in
+        let tail =
+        spelt-row subs o.1 (b ∷ rest) first (Spells-then whole walks end picks (back (length text) (Means terminator text sub)) M b (build_row rest) o.0 a) in
         subst (λ bs. Spelt (λ d e. (k : ℕ) × back (length text) (MeansInTurn terminator text (cons sub subs)) d k × M k e) (build_row bs))
         (sym (turned b (each_directed true slot subs) rest))
         (Spells-within whole walks end picks (λ d e. (k : ℕ) × back (length text) (MeansInTurn terminator text subs) d k × first k e)

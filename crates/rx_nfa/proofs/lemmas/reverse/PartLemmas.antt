@@ -18,14 +18,17 @@ module _ (whole : List State) (Goes : ℕ → ℕ → ℕ → Type 0) (end : ℕ
         let s = second next (base + length f.states) in
         elim (either-among f.starts s.starts q m) [
           | inl here ↦ let x = a.walked next base n i q (Placed-front whole base f.states s.states placed) here h in (x.0, x.1, inl x.2, x.3, x.4)
-          | inr more ↦ let y = b.walked next (base + length f.states) n i q (Placed-back whole base f.states s.states placed) more h in (y.0, y.1, inr y.2, y.3, y.4)
+          | inr more ↦ let y =
+              b.walked next (base + length f.states) n i q (Placed-back whole base f.states s.states placed) more h in (y.0, y.1, inr y.2, y.3, y.4)
         ]);
     walks = λ next base m i j placed h goes.
         (let f = first next base in
         let s = second next (base + length f.states) in
         elim h [
-          | inl x ↦ let y = a.walks next base m i j (Placed-front whole base f.states s.states placed) x goes in (y.0, y.1, front-among f.starts s.starts y.1 y.2, y.3)
-          | inr x ↦ let y = b.walks next (base + length f.states) m i j (Placed-back whole base f.states s.states placed) x goes in (y.0, y.1, back-among f.starts s.starts y.1 y.2, y.3)
+          | inl x ↦ let y =
+              a.walks next base m i j (Placed-front whole base f.states s.states placed) x goes in (y.0, y.1, front-among f.starts s.starts y.1 y.2, y.3)
+          | inr x ↦ let y = b.walks next (base + length f.states) m i j (Placed-back whole base f.states s.states placed) x
+              goes in (y.0, y.1, back-among f.starts s.starts y.1 y.2, y.3)
         ]);
   }
 
@@ -46,7 +49,8 @@ module _ (whole : List State) (Goes : ℕ → ℕ → ℕ → Type 0) (end : ℕ
   joined-placed (q ∷ []) states base placed = placed
   joined-placed (q ∷ r ∷ qs) states base placed = Placed-front whole base states (choice (q ∷ r ∷ qs) ∷ []) placed
 
-  is-chosen : (starts : List ℕ) (states : List State) (base : ℕ) → Placed whole base (states ++ choice starts ∷ []) → IsStateOf whole (base + length states) (choice starts)
+  is-chosen : (starts : List ℕ) (states : List State) (base : ℕ) → Placed whole base (states ++ choice starts ∷ [])
+      → IsStateOf whole (base + length states) (choice starts)
   is-chosen starts states base placed = Placed-first whole (base + length states) (choice starts) [] (Placed-back whole base states (choice starts ∷ []) placed)
 
   chosen-walked : (starts : List ℕ) (states : List State) (base n i : ℕ) → Placed whole base (states ++ choice starts ∷ []) → Goes n (base + length states) i
@@ -88,7 +92,8 @@ module _ (whole : List State) (Goes : ℕ → ℕ → ℕ → Type 0) (end : ℕ
       → ((x : A) → Contains xs x → SpellsOne whole Goes end chooses (M x) (build x))
       → SpellsOne whole Goes end chooses (λ i j. (x : A) × Contains xs x × M x i j) (build_all (map build xs))
   SpellsOne-all {A} build M [] each =
-      SpellsOne-same whole Goes end chooses (λ i j. ⊥) (λ i j. (x : A) × Contains [] x × M x i j) no_parts (SpellsOne-none whole Goes end chooses) (λ i j h. absurd h) (λ i j h. (let lt = h.1.1 in absurd (omega arith)))
+      SpellsOne-same whole Goes end chooses (λ i j. ⊥) (λ i j. (x : A) × Contains [] x × M x i j) no_parts (SpellsOne-none whole Goes end chooses)
+      (λ i j h. absurd h) (λ i j h. (let lt = h.1.1 in absurd (omega arith)))
   SpellsOne-all {A} build M (x ∷ xs) each =
       SpellsOne-same whole Goes end chooses (λ i j. M x i j ⊎ ((y : A) × Contains xs y × M y i j)) (λ i j. (y : A) × Contains (x ∷ xs) y × M y i j)
       (build_both (build x) (build_all (map build xs)))

@@ -144,7 +144,8 @@ module _ (r : Patterns) (nfa : Nfa) (old new : Draft) (e : Extends old new)
   pub each-means : (p q i j : ℕ) (h : Expression) → i ≤ length text → j ≤ length text → slice_get r.expressions p ≡ Some h
       → Back (slice_index nfa.starts p) q i j → (q ≡ p) × Means r.terminator text h i j
   each-means p q i j h le le' is w =
-      let x = walk-means r.terminator text (length text - first) (omega arith) new.states (whole_slot r.which_captures p) (slot_of r p) p h (ordered p h is) (slice_index nfa.starts p) (has-part p h is) q (length text - i) w.0 (length text - j) w.1 in
+      let x = walk-means r.terminator text (length text - first) (omega arith) new.states (whole_slot r.which_captures p) (slot_of r p) p h (ordered p h is)
+      (slice_index nfa.starts p) (has-part p h is) q (length text - i) w.0 (length text - j) w.1 in
       let at-i : length text - (length text - i) ≡ i = omega arith in
       let at-j : length text - (length text - j) ≡ j = omega arith in
       (x.0, subst (λ k. Means r.terminator text h k j) at-i (subst (λ k. Means r.terminator text h (length text - (length text - i)) k) at-j x.2))
@@ -221,7 +222,8 @@ module _ (r : Patterns) (nfa : Nfa) (old new : Draft) (e : Extends old new)
         start-means y.0 q i j le le' y.1 (x.0, subst (λ d. Leads m q (length text - i) x.0 d) (sym y.2) x.4)),
     λ o.
         (let w = means-each q q i j o.0 from le le' o.1 (refl, o.2) in
-        let within = walk-within (backwards r.terminator text) new.states (length text - first) q (length text - i) w.0 (slice_index nfa.starts q) (length text - j) w.1 in (
+        let within = walk-within (backwards r.terminator text) new.states (length text - first) q (length text - i) w.0 (slice_index nfa.starts q)
+        (length text - j) w.1 in (
           suc w.0,
           step-walk (backwards r.terminator text) new.states (length text - first) q (length text - i) w.0 (length old.states) (length text - j)
               (Union nfa.starts) (at (slice_index nfa.starts q) (length text - j)) stands within

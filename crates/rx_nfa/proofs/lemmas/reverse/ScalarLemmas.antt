@@ -41,7 +41,11 @@ module _ (text : List ℕ) (end : ℕ) (fits : end ≤ length text) where
       let e = h.2 in
       let len = len_is c 1 (inl (omega arith, refl)) in
       record {
-        is = char_at_one text (length text - j) c (omega arith, omega arith, stands i (length text - j) c (omega arith) (let plain : 0 + c ≡ c = omega arith in h.1 ∙ plain));
+        is = char_at_one text (length text - j) c (
+          omega arith,
+          omega arith,
+          stands i (length text - j) c (omega arith) (let plain : 0 + c ≡ c = omega arith in h.1 ∙ plain),
+        );
         long = omega arith;
       }
 

@@ -109,7 +109,8 @@ module _ (around : Surroundings) (states : List State) (end : ℕ) where
       → (i < end) × (q : ℕ) × (route ts (around.byte i) ≡ Some q) × (at q (i + 1) ≡ d)
   read-member ts i d m =
       by_test (nat_lt i end)
-      (λ e. let y = go_on-member (route ts (around.byte i)) (i + 1) d (subst (λ b. Contains (if b then go_on (route ts (around.byte i)) (i + 1) else []) d) e m) in (below-is i end e, y.0, y.1, y.2))
+      (λ e. let y = go_on-member (route ts (around.byte i)) (i + 1) d (subst (λ b. Contains (if b then go_on (route ts (around.byte i)) (i + 1) else []) d) e
+      m) in (below-is i end e, y.0, y.1, y.2))
       (λ e. absurd (none-among d (subst (λ b. Contains (if b then go_on (route ts (around.byte i)) (i + 1) else []) d) e m)))
 
   member-read : (ts : List Transition) (i q : ℕ) → i < end → route ts (around.byte i) ≡ Some q → Contains (read_byte around.byte end ts i) (at q (i + 1))
@@ -126,7 +127,8 @@ module _ (around : Surroundings) (states : List State) (end : ℕ) where
       by_test (nat_le b (around.byte i) && nat_le (around.byte i) b)
       (λ e.
       let target : c.0 ≡ y.1 = same_Some _ _ (sym (ap (λ t. if t then Some c.0 else None) e) ∙ y.2) in
-      let z = chain-walked pattern final bytes c.0 r x.0 (i + 1) c.2 (subst (λ d. Leads g pattern final x.0 d) (sym y.3 ∙ ap (λ s. at s (i + 1)) (sym target)) x.4) in
+      let z =
+      chain-walked pattern final bytes c.0 r x.0 (i + 1) c.2 (subst (λ d. Leads g pattern final x.0 d) (sym y.3 ∙ ap (λ s. at s (i + 1)) (sym target)) x.4) in
       (z.0, z.1, (y.0, byte-equal (around.byte i) b e, z.2), (let e' = x.2 in let le = z.3 in omega arith), z.4))
       (λ e. absurd (none-some y.1 (sym (ap (λ t. if t then Some c.0 else None) e) ∙ y.2)))
 
@@ -202,7 +204,8 @@ module _ (around : Surroundings) (states : List State) (end pattern final : ℕ)
   }
 
   pub Spells-slot : (number : ℕ) → Spells whole Goes end chooses (λ i j. i ≡ j) (graph.build_state (graph.slot number))
-  Spells-slot number = Spells-stay (graph.slot number) (λ next c is. (let m = image-of c (graph.slot number next) is in (Capture (f next) m.0 number, m.1, refl, λ i. refl)))
+  Spells-slot number =
+      Spells-stay (graph.slot number) (λ next c is. (let m = image-of c (graph.slot number next) is in (Capture (f next) m.0 number, m.1, refl, λ i. refl)))
 
   pub Spells-way : Spells whole Goes end chooses (λ i j. i ≡ j) (graph.build_state (λ next. graph.choice (next ∷ [])))
   Spells-way = Spells-stay (λ next. graph.choice (next ∷ [])) (λ next c is. (Union (f next ∷ []), image-of c (graph.choice (next ∷ [])) is, refl, λ i. refl))
@@ -216,8 +219,13 @@ module _ (around : Surroundings) (states : List State) (end pattern final : ℕ)
         let x = walk-step around states end pattern final n (f base) i (Look m.0 (f next)) m.2 refl h in
         by_test (around.looks (kind_of m.0) i)
         (λ e.
-        let is = only-among (at (f next) i) x.1 (subst (λ b. Contains (if b then at (f next) i ∷ [] else []) x.1) e x.3) in
-        (i, x.0, (ap (λ k. around.looks k i) (sym m.1) ∙ e, refl), (let e' = x.2 in omega arith), subst (λ c. Leads (automaton_over around states end) pattern final x.0 c) (sym is) x.4))
+        let is = only-among (at (f next) i) x.1 (subst (λ b. Contains (if b then at (f next) i ∷ [] else []) x.1) e x.3) in (
+          i,
+          x.0,
+          (ap (λ k. around.looks k i) (sym m.1) ∙ e, refl),
+          (let e' = x.2 in omega arith),
+          subst (λ c. Leads (automaton_over around states end) pattern final x.0 c) (sym is) x.4,
+        ))
         (λ e. absurd (none-among x.1 (subst (λ b. Contains (if b then at (f next) i ∷ [] else []) x.1) e x.3))));
     walks = λ next base m i j placed h goes.
         (let im = image-of base (graph.assertion kind next) (Placed-first whole base (graph.assertion kind next) [] placed) in
@@ -253,14 +261,21 @@ module _ (around : Surroundings) (states : List State) (end pattern final : ℕ)
         let y = read-member around states end im.1.row i x.1 (subst (λ ds. Contains ds x.1) (reads-step around end r.state im.1.row r.reads i) x.3) in
         by_test (is_member rs (around.byte i))
         (λ e.
-        let target : f next ≡ y.1 = same_Some _ _ (sym (class-route rs (f next) (f base) (around.byte i) im.0 im.1 ∙ ap (λ b. if b then Some (f next) else None) e) ∙ y.2) in
-        (i + 1, x.0, (y.0, e, refl), (let e' = x.2 in omega arith), subst (λ d. Leads (automaton_over around states end) pattern final x.0 d) (sym y.3 ∙ ap (λ q. at q (i + 1)) (sym target)) x.4))
+        let target : f next ≡ y.1 =
+        same_Some _ _ (sym (class-route rs (f next) (f base) (around.byte i) im.0 im.1 ∙ ap (λ b. if b then Some (f next) else None) e) ∙ y.2) in (
+          i + 1,
+          x.0,
+          (y.0, e, refl),
+          (let e' = x.2 in omega arith),
+          subst (λ d. Leads (automaton_over around states end) pattern final x.0 d) (sym y.3 ∙ ap (λ q. at q (i + 1)) (sym target)) x.4,
+        ))
         (λ e. absurd (none-some y.1 (sym (class-route rs (f next) (f base) (around.byte i) im.0 im.1 ∙ ap (λ b. if b then Some (f next) else None) e) ∙ y.2))));
     walks = λ next base m i j placed h goes.
         (let im = image-of base (graph.set (byte_ranges rs) next) (Placed-first whole base (graph.set (byte_ranges rs) next) [] placed) in
         let r = im.1.reads in
         let lt = h.0 in
-        let leads : route im.1.row (around.byte i) ≡ Some (f next) = class-route rs (f next) (f base) (around.byte i) im.0 im.1 ∙ ap (λ b. if b then Some (f next) else None) h.1 in (
+        let leads : route im.1.row (around.byte i) ≡ Some (f next) =
+        class-route rs (f next) (f base) (around.byte i) im.0 im.1 ∙ ap (λ b. if b then Some (f next) else None) h.1 in (
           suc m,
           step-walk around states end pattern final m (f base) i r.state (at (f next) (i + 1)) r.stands (omega arith)
               (subst (λ ds. Contains ds (at (f next) (i + 1))) (sym (reads-step around end r.state im.1.row r.reads i))

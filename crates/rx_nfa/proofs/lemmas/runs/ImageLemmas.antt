@@ -93,7 +93,8 @@ zip-at R (x ∷ xs) (q ∷ qs) n zero z lt = z.0
 zip-at R (x ∷ xs) (q ∷ qs) n (suc k) z lt = zip-at R xs qs (suc n) k z.1 (omega arith)
 
 module _ (t : ℕ) (text : List ℕ) (end : ℕ) (inside : end ≤ length text) (states : List graph.State) (whole : List State) (low high : ℕ) (images : List ℕ)
-    (within : high ≤ length whole) (rises : Rises low high images) (each : AllZip (IsImage (Stands low whole) (image images (length whole))) states images) where
+    (within : high ≤ length whole) (rises : Rises low high images) (each : AllZip (IsImage (Stands low whole) (image images (length whole)))
+    states images) where
   abbrev f : ℕ → ℕ
   f = image images (length whole)
 
@@ -233,10 +234,13 @@ module _ (t : ℕ) (text : List ℕ) (end : ℕ) (inside : end ≤ length text) 
       kinds (graph.text [] next) h w in_g in_m =
           let none : c.place + 0 ≡ c.place = omega arith in
           let fits : nat_le (c.place + 0) end ≡ true = grind (arith, nat_tests) in
-          let to : graph.state_step t text end (graph.text [] next) c.place ≡ at next c.place ∷ [] = rw (stands-none text c.place, fits) (ap (λ i. at next i ∷ []) none) in
+          let to : graph.state_step t text end (graph.text [] next) c.place ≡ at next c.place ∷ [] =
+          rw (stands-none text c.place, fits) (ap (λ i. at next i ∷ []) none) in
           inl (stays c (next ∷ []) (in_g ∙ to) (in_m (Union (f next ∷ [])) h.is))
       kinds (graph.text (b ∷ bytes) next) h w in_g in_m =
-          let reads : (ok : Sieve) (p : Passed) → IsFresh p (moved f c) → found (sieved ok m) p (moved f c) ≡ after ok (forwards t text) whole end low p (f next) c.place (stands_at text c.place (b ∷ bytes)) (suc (length bytes)) =
+          let reads : (ok : Sieve) (p : Passed) → IsFresh p (moved f c)
+          → found (sieved ok m) p (moved f c) ≡ after ok (forwards t text) whole end low p (f next) c.place (stands_at text c.place (b ∷ bytes))
+          (suc (length bytes)) =
           λ ok p fresh. chain-found ok t whole text end inside low p (f c.state) (b ∷ bytes) (f next) c.place le h fresh.new fresh.ahead in
           by_test (stands_at text c.place (b ∷ bytes))
           (λ stands. by_test (nat_le (c.place + suc (length bytes)) end)

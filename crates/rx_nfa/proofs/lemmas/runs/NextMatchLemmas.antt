@@ -28,7 +28,8 @@ first_start-alike permitted f h zero i alike = refl
 first_start-alike permitted f h (suc n) i alike =
     rw (alike i (omega arith), first_start-alike permitted f h n (i + 1) (λ j le. alike j (omega arith))) refl
 
-pick : (i : ℕ) (m : Match) (b : Bool) (o : Option Trace) (rest : Option Match) → option_or (if b then option_map (λ t. record { start = i; trace = t }) o else None) rest ≡ Some m
+pick : (i : ℕ) (m : Match) (b : Bool) (o : Option Trace) (rest : Option Match)
+    → option_or (if b then option_map (λ t. record { start = i; trace = t }) o else None) rest ≡ Some m
     → ((t : Trace) × (o ≡ Some t) × (record { start = i; trace = t } ≡ m)) ⊎ (rest ≡ Some m)
 pick i m true (Some t) rest h = inl (t, refl, some-is h)
 pick i m true None rest h = inr h
@@ -54,7 +55,8 @@ first_start-told : (which : WhichCaptures) (permitted : ℕ → Bool) (from : �
 unfolding first_start
 first_start-told which permitted from zero i = refl
 first_start-told which permitted from (suc n) i =
-    ap (λ rest. option_or (if permitted i then option_map (λ t. record { start = i; trace = t }) (option_map (told which) (from i)) else None) rest) (first_start-told which permitted from n (i + 1))
+    ap (λ rest. option_or (if permitted i then option_map (λ t. record { start = i; trace = t }) (option_map (told which) (from i)) else None) rest)
+    (first_start-told which permitted from n (i + 1))
     ∙ told-pick (permitted i) (from i) (first_start permitted from n (i + 1))
   where
     told-pick : (b : Bool) (o : Option Trace) (rest : Option Match)
@@ -143,11 +145,13 @@ module _ (nfa : Nfa) (range : IsInRange nfa) (text : List ℕ) (end slot : ℕ) 
 
   written-within : (c : Configuration) (k : ℕ) → graph.written c ≡ Some k → k ≢ slot
   written-within c k h same =
-      let writes : state_writes (state_at nfa.states c.state) ≡ Some k = sym (automaton-written (forwards nfa.terminator text) nfa.states end c.state c.place) ∙ h in
+      let writes : state_writes (state_at nfa.states c.state) ≡ Some k =
+      sym (automaton-written (forwards nfa.terminator text) nfa.states end c.state c.place) ∙ h in
       by_test (nat_lt c.state (length nfa.states))
       (λ e.
       let lt : c.state < length nfa.states = grind (arith, nat_tests) in
-      let less = writes-within (length nfa.starts) nfa.slots k (state_at nfa.states c.state) (All-get_or (IsWithin (length nfa.starts) nfa.slots) nfa.states c.state _ lt range.within) writes in
+      let less = writes-within (length nfa.starts) nfa.slots k (state_at nfa.states c.state)
+      (All-get_or (IsWithin (length nfa.starts) nfa.slots) nfa.states c.state _ lt range.within) writes in
       omega arith)
       (λ e.
       let fails : state_at nfa.states c.state ≡ Fail = get_or_past nfa.states c.state Fail (grind (arith, nat_tests)) in
@@ -180,7 +184,8 @@ module _ (nfa : Nfa) (range : IsInRange nfa) (text : List ℕ) (end slot : ℕ) 
       → slot_value m slot ≡ None
   unfolding next_match_of
   next_match_of-slot utf8_empty anchor start m h =
-      let x = first_start-from (is_permitted utf8_empty text) (first_from nfa.terminator nfa.states text end (start_of nfa anchor)) (starts anchor start end) start m h in
+      let x = first_start-from (is_permitted utf8_empty text) (first_from nfa.terminator nfa.states text end (start_of nfa anchor))
+      (starts anchor start end) start m h in
       first_from-writes (start_of nfa anchor) m.start m.trace x.1
 
 -- Where a match lies.
@@ -189,7 +194,8 @@ first_from-within : (terminator : ℕ) (states : List State) (text : List ℕ) (
     → first_from terminator states text end start i ≡ Some t → (i ≤ t.end) × (t.end ≤ end)
 first_from-within terminator states text end None i t h = none-is-some h
 first_from-within terminator states text end (Some q) i t h =
-    let ends = found-end (automaton terminator states text end) (automaton-bounded (forwards terminator text) states end) (automaton-rises (forwards terminator text) states end) end (automaton-accepts-within (forwards terminator text) states end) nowhere (at q i) t h in
+    let ends = found-end (automaton terminator states text end) (automaton-bounded (forwards terminator text) states end)
+    (automaton-rises (forwards terminator text) states end) end (automaton-accepts-within (forwards terminator text) states end) nowhere (at q i) t h in
     (ends.0, ends.1)
 
 pub next_match_of-within : (nfa : Nfa) (utf8_empty : Bool) (text : List ℕ) (anchor : Anchor) (end start : ℕ) (m : Match)
@@ -197,6 +203,7 @@ pub next_match_of-within : (nfa : Nfa) (utf8_empty : Bool) (text : List ℕ) (an
     → (start ≤ m.start) × (m.start ≤ m.trace.end) × (m.trace.end ≤ end)
 unfolding next_match_of
 next_match_of-within nfa utf8_empty text anchor end start m h =
-    let x = first_start-from (is_permitted utf8_empty text) (first_from nfa.terminator nfa.states text end (start_of nfa anchor)) (starts anchor start end) start m h in
+    let x = first_start-from (is_permitted utf8_empty text) (first_from nfa.terminator nfa.states text end (start_of nfa anchor))
+    (starts anchor start end) start m h in
     let y = first_from-within nfa.terminator nfa.states text end (start_of nfa anchor) m.start m.trace x.1 in
     (x.0, y.0, y.1)

@@ -42,7 +42,11 @@ pub HasPart-pattern : (whole : Option ℕ) (body : graph.Builder) (p : ℕ) (old
 unfolding compiled_pattern
 HasPart-pattern whole body p old mid new start is b' = record {
   images = length old.states ∷ b.images;
-  rises = (omega arith, Rises-from (suc (length old.states)) (length (pushed old (Match p)).states) (length new.states) b.images (let l = pushed-length old (Match p) in omega arith) b.rises);
+  rises = (
+    omega arith,
+    Rises-from (suc (length old.states)) (length (pushed old (Match p)).states) (length new.states) b.images
+        (let l = pushed-length old (Match p) in omega arith) b.rises,
+  );
   mirrors = λ f sends. mirrors f sends;
 }
   where
@@ -53,7 +57,8 @@ HasPart-pattern whole body p old mid new start is b' = record {
         → Mirrors f 0 new.states (compiled_pattern whole body p) (length old.states ∷ b.images) start
     mirrors f sends =
         let part = build_bounds whole body 0 1 in
-        let m = Mirrors-kept f 0 (length (pushed old (Match p)).states) new.states new.states part b.images start (omega arith) (Keeps-same (length (pushed old (Match p)).states) new.states) (b.mirrors f 0 1 sends.0 sends.1) in
+        let m = Mirrors-kept f 0 (length (pushed old (Match p)).states) new.states new.states part b.images start (omega arith)
+        (Keeps-same (length (pushed old (Match p)).states) new.states) (b.mirrors f 0 1 sends.0 sends.1) in
         record {
           start_is = m.start_is;
           each = (
@@ -104,7 +109,8 @@ module _ (ok : Sieve) (r : Patterns) (text : List ℕ) (end : ℕ) (inside : end
       let n = length new.states in
       let f = image has.images (length new.states) in
       let mirrors = has.mirrors (image has.images (length new.states)) (image-sends has.images (length new.states)) in
-      let kept = Mirrors-kept (image has.images (length new.states)) 0 0 old.states new.states (part_of r p h) has.images start (omega arith) (Keeps-extends 0 old new e) mirrors in
+      let kept = Mirrors-kept (image has.images (length new.states)) 0 0 old.states new.states (part_of r p h) has.images start (omega arith)
+      (Keeps-extends 0 old new e) mirrors in
       sym (told-found r.which_captures silent q (at start i))
       ∙ ap (option_map (told r.which_captures))
       (ap (λ s. found m q (at s i)) (sym kept.start_is)
@@ -127,7 +133,8 @@ module _ (ok : Sieve) (r : Patterns) (text : List ℕ) (end : ℕ) (inside : end
       let here : HasPart old.states (part_of r p h) s = subst (λ n. HasPart old.states (part_of r n h) s) none (has 0 h refl) in
       (λ j. option_or (HasPart-found p h s here q i clear ahead j)
       (starts-found (suc p) hs starts (omega arith)
-      (λ k x is. (let more : p + suc k ≡ suc p + k = omega arith in subst (λ n. HasPart old.states (part_of r n x) (slice_index starts k)) more (has (suc k) x is)))
+      (λ k x is. (let more : p + suc k ≡ suc p + k = omega arith in
+      subst (λ n. HasPart old.states (part_of r n x) (slice_index starts k)) more (has (suc k) x is)))
       q i clear ahead j))
       ∙ sym (told-or r.which_captures (first_where ok r text end p h i) (first_of_patterns_where ok r text end (suc p) hs i))
 
@@ -223,7 +230,8 @@ HasParts-more part hs n old new starts starts' q h e long grown inside is has la
     let same : p ≡ n = omega arith in
     let none : n - n ≡ 0 = omega arith in
     let this : x ≡ h = same_Some _ _ (sym here ∙ ap (slice_get hs) same ∙ slice_get-get_or hs n h inside ∙ ap Some (sym is)) in
-    let place : q ≡ get_or starts' p 0 = sym (ap (λ k. get_or starts' k 0) same ∙ ap (λ qs. get_or qs n 0) grown ∙ get_or-append_right starts (q ∷ []) n n 0 long (omega arith) ∙ ap (λ k. get_or (q ∷ []) k 0) none) in
+    let place : q ≡ get_or starts' p 0 = sym (ap (λ k. get_or starts' k 0) same ∙ ap (λ qs. get_or qs n 0) grown
+    ∙ get_or-append_right starts (q ∷ []) n n 0 long (omega arith) ∙ ap (λ k. get_or (q ∷ []) k 0) none) in
     subst (HasPart new.states (part p x)) place (moved-part same this last))
     (cases_lt p n)
   where

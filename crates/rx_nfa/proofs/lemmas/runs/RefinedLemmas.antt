@@ -29,7 +29,8 @@ use Rattle.rx_nfa.proofs.lemmas.classes.ReadLemmas.{class-found, byte_class-foun
 
 pub reads-step : (around : Surroundings) (end : ℕ) (s : State) (ts : List Transition) → reading s ≡ Some ts → (i : ℕ)
     → state_step around end s i ≡ read_byte around.byte end ts i
-reads-step around end (ByteRange low high next) ts e i = ap (λ xs. read_byte around.byte end xs i) (same_transitions (record { start = low; end = high; next = next } ∷ []) ts e)
+reads-step around end (ByteRange low high next) ts e i =
+    ap (λ xs. read_byte around.byte end xs i) (same_transitions (record { start = low; end = high; next = next } ∷ []) ts e)
 reads-step around end (Sparse transitions) ts e i = ap (λ xs. read_byte around.byte end xs i) (same_transitions transitions ts e)
 reads-step around end (Look look next) ts e i = absurd (no_transitions ts e)
 reads-step around end (Union alternates) ts e i = absurd (no_transitions ts e)

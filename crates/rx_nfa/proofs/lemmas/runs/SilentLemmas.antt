@@ -51,7 +51,8 @@ module _ (t : ℕ) (text : List ℕ) (end : ℕ) where
   unfolding graph.runs_of graph_of
   agrees-erased xs = record {
     successors = λ c.
-        let step : graph.state_step t text end (graph.state_at xs c.state) c.place ≡ graph.state_step t text end (graph.state_at (map erased xs) c.state) c.place =
+        let step : graph.state_step t text end (graph.state_at xs c.state) c.place
+        ≡ graph.state_step t text end (graph.state_at (map erased xs) c.state) c.place =
         step-erased t text end (graph.state_at xs c.state) c.place ∙ ap (λ s. graph.state_step t text end s c.place) (at-erased xs c.state) in
         λ i. if nat_lt c.state (length-erased xs i) && nat_le c.place end then step i else [];
     accepted = λ c.

@@ -75,7 +75,8 @@ module _ (here there : Surroundings) (end last i j : ℕ) where
   steps-alike : (s : State) → ((ts : List Transition) → reading s ≡ Some ts → HasTarget ts)
       → ((kind : model.Look) → asks_for kind s ≡ true → here.looks kind i ≡ there.looks kind j)
       → map (onward i) (state_step here end s i) ≡ map (onward j) (state_step there last s j)
-  steps-alike (ByteRange low high next) targets looks = reads-alike (record { start = low; end = high; next = next } ∷ []) (targets (record { start = low; end = high; next = next } ∷ []) refl)
+  steps-alike (ByteRange low high next) targets looks =
+      reads-alike (record { start = low; end = high; next = next } ∷ []) (targets (record { start = low; end = high; next = next } ∷ []) refl)
   steps-alike (Sparse transitions) targets looks = reads-alike transitions (targets transitions refl)
   steps-alike (Look look next) targets looks =
       stays i j (here.looks (kind_of look) i) next

@@ -22,7 +22,11 @@ returns-clause-built c =
     let below = rw c.ranges-2.ensures.value at c.in_ok-start.ensures.bytes in
     let new : Draft = record { states = c.compile_bytes.new.states.items; groups = c.self.inside.group_info; slots = c.self.inside.written_len } in
     subst (λ d. Built (build_state (set (byte_ranges c.args.bytes.now))) c.args.next d new c.in_ok-start.start) c.self.view_is
-    (Built-bytes c.args.bytes.now c.args.next (record { states = c.self.inside.states.items; groups = c.self.inside.group_info; slots = c.self.inside.written_len }) new c.in_ok-start.start refl refl adds below class)
+    (Built-bytes c.args.bytes.now c.args.next (record {
+      states = c.self.inside.states.items;
+      groups = c.self.inside.group_info;
+      slots = c.self.inside.written_len;
+    }) new c.in_ok-start.start refl refl adds below class)
 
 pub returns-clause-count : goal.returns-clause-count
 returns-clause-count c =

@@ -31,7 +31,11 @@ returns-clause-built c =
     let class = rw (c.replace-states.ensures.value, c.ranges-ranges.ensures.value) at c.in_ok-start.ensures.built in
     let new : Draft = record { states = c.compile_class.new.states.items; groups = c.self.inside.group_info; slots = c.self.inside.written_len } in
     subst (λ d. Built (build_state (set (scalar_ranges c.args.scalars.now))) c.args.next d new c.in_ok-start.start) c.self.view_is
-    (Built-scalars c.args.scalars.now c.args.next (record { states = c.self.inside.states.items; groups = c.self.inside.group_info; slots = c.self.inside.written_len }) new c.in_ok-start.start refl refl adds class)
+    (Built-scalars c.args.scalars.now c.args.next (record {
+      states = c.self.inside.states.items;
+      groups = c.self.inside.group_info;
+      slots = c.self.inside.written_len;
+    }) new c.in_ok-start.start refl refl adds class)
 
 pub returns-clause-count : goal.returns-clause-count
 returns-clause-count c =

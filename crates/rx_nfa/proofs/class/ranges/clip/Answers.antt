@@ -12,14 +12,16 @@ loop-start-preserved c =
     elim c.if-not-high-first.branch [
       | then-not-high-first+in_ok-push w ↦
           let inside = w.if-not-high-first.true in
-          let kept = clip-keep c.args.low c.args.high c.loop-start.start-index c.args.ranges.now (grind (arith, common_steps)) (grind (arith, common_steps)) (grind (arith, common_steps)) in
+          let kept = clip-keep c.args.low c.args.high c.loop-start.start-index c.args.ranges.now (grind (arith, common_steps)) (grind (arith, common_steps))
+          (grind (arith, common_steps)) in
           let a = w.max.ensures in
           let b = w.min.ensures in
           rw (w.parts-is, w.in_ok-push.ensures.items, a, b)
           (append_assoc c.loop-start.parts.items _ (clip c.args.low c.args.high (drop (c.loop-start.start-index + 1) c.args.ranges.now))
           ∙ ap (λ ys. c.loop-start.parts.items ++ ys) (sym kept) ∙ before)
       | else-not-high-first w ↦
-          let skipped = clip-skip c.args.low c.args.high c.loop-start.start-index c.args.ranges.now (grind (arith, common_steps)) (either w.if-not-high-first.either) in
+          let skipped =
+          clip-skip c.args.low c.args.high c.loop-start.start-index c.args.ranges.now (grind (arith, common_steps)) (either w.if-not-high-first.either) in
           rw w.parts-is (ap (λ ys. c.loop-start.parts.items ++ ys) (sym skipped) ∙ before)
     ]
   where

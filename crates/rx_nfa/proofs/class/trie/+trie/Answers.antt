@@ -30,7 +30,8 @@ block-row-requires t c =
     let size = size_of_block-suc c.args.depth deep in
     let small = c.requires.small in
     let deepest = c.requires.deep in
-    let some = HasEnd-counts c.args.ranges.now c.args.start (c.args.start + size_of_block c.args.depth) (aligned-64 c.args.depth c.args.start deep c.requires.deep c.requires.aligned) part in
+    let some = HasEnd-counts c.args.ranges.now c.args.start (c.args.start + size_of_block c.args.depth)
+    (aligned-64 c.args.depth c.args.start deep c.requires.deep c.requires.aligned) part in
     let one = count-one c.args.depth (ends_in c.args.ranges.now c.args.start (c.args.start + size_of_block c.args.depth)) deep some in
     let room = c.requires.room in (
       omega arith,
@@ -67,7 +68,8 @@ block-push_reader-requires-clause-room t c =
     let part = (rw c.block_size.ensures at c.in-Part.ensures) in
     let deep = HasEnd-deep c.args.ranges.now c.args.depth c.args.start part in
     let size = size_of_block-suc c.args.depth deep in
-    let some = HasEnd-counts c.args.ranges.now c.args.start (c.args.start + size_of_block c.args.depth) (aligned-64 c.args.depth c.args.start deep c.requires.deep c.requires.aligned) part in
+    let some = HasEnd-counts c.args.ranges.now c.args.start (c.args.start + size_of_block c.args.depth)
+    (aligned-64 c.args.depth c.args.start deep c.requires.deep c.requires.aligned) part in
     let one = count-one c.args.depth (ends_in c.args.ranges.now c.args.start (c.args.start + size_of_block c.args.depth)) deep some in
     let below = (rw (← size) at c.in_ok-row-in-Part.ensures.count) in
     let room = c.requires.room in
@@ -81,7 +83,8 @@ block-returns-in-Nothing-clause-built t c base next ready =
 pub block-returns-in-Everything-clause-built : goal.block-returns-in-Everything-clause-built
 block-returns-in-Everything-clause-built t c base next ready =
     let covers = (rw c.block_size.ensures at c.in-Everything.ensures) in
-    let deep = covered-depth (length c.args.whole.now) c.args.depth c.args.start c.args.ranges.now covers.1 covers.2 c.requires.enough covers.3 c.requires.aligned covers.4 covers.5 in
+    let deep = covered-depth (length c.args.whole.now) c.args.depth c.args.start c.args.ranges.now covers.1 covers.2 c.requires.enough covers.3
+    c.requires.aligned covers.4 covers.5 in
     let is : slice_index c.args.whole.now c.args.depth ≡ c.index-whole-depth.result = grind (arith, common_steps) in
     subst (λ q. IsBlock (IsReader base c.args.states.now.items) next (is_member c.args.ranges.now) c.args.depth c.args.start (Some q)) is
     (IsBlock-same (IsReader base c.args.states.now.items) next (λ x. true) (is_member c.args.ranges.now) c.args.depth c.args.start _ covers.0
@@ -107,7 +110,8 @@ block-returns-in_ok-id-in-Part-clause-count t c =
     let part = (rw c.block_size.ensures at c.in-Part.ensures) in
     let deep = HasEnd-deep c.args.ranges.now c.args.depth c.args.start part in
     let size = size_of_block-suc c.args.depth deep in
-    let some = HasEnd-counts c.args.ranges.now c.args.start (c.args.start + size_of_block c.args.depth) (aligned-64 c.args.depth c.args.start deep c.requires.deep c.requires.aligned) part in
+    let some = HasEnd-counts c.args.ranges.now c.args.start (c.args.start + size_of_block c.args.depth)
+    (aligned-64 c.args.depth c.args.start deep c.requires.deep c.requires.aligned) part in
     let below = (rw (← size) at c.in_ok-row-in-Part.ensures.count) in
     let one = count-one c.args.depth (ends_in c.args.ranges.now c.args.start (c.args.start + size_of_block c.args.depth)) deep some in
     let pushed = c.in_ok-id-in-Part.ensures.count in
@@ -149,7 +153,8 @@ row-block-requires t c =
     let size = c.block_size-size.ensures in
     let rest = (rw size at c.skip_below-rest.ensures.rest) in
     let before = c.loop-k.invariant.rest in
-    let here = IsRest-trans (start + c.loop-k.k * size_of_block depth) (start + c.loop-k.k * size_of_block depth) c.args.ranges.now c.loop-k.rest.now c.skip_below-rest.result.now (omega arith) before rest in
+    let here = IsRest-trans (start + c.loop-k.k * size_of_block depth) (start + c.loop-k.k * size_of_block depth) c.args.ranges.now c.loop-k.rest.now
+    c.skip_below-rest.result.now (omega arith) before rest in
     let lt = c.loop-k-test.true in
     let small = c.requires.small in
     let room = c.requires.room in
@@ -189,7 +194,8 @@ row-loop-k-preserved t c =
     let skipped = rw size at c.skip_below-rest.ensures.rest in
     let target = c.in_ok-target.ensures in
     let added = c.in_ok-add_target.ensures in
-    let here = IsRest-trans (start + c.loop-k.k * size_of_block depth) (start + c.loop-k.k * size_of_block depth) c.args.ranges.now c.loop-k.rest.now c.skip_below-rest.result.now (omega arith) before.rest skipped in
+    let here = IsRest-trans (start + c.loop-k.k * size_of_block depth) (start + c.loop-k.k * size_of_block depth) c.args.ranges.now c.loop-k.rest.now
+    c.skip_below-rest.result.now (omega arith) before.rest skipped in
     let more = count-next depth c.args.ranges.now c.skip_below-rest.result.now start c.loop-k.k (size_of_block depth) here in
     let count = rw size at target.count in
     let counted = before.count in

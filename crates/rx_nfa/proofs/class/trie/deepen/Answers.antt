@@ -47,7 +47,8 @@ loop-range-preserved c =
     let depth = reached.longer.1 in
     let is = c.whole_depth-depth.ensures in
     let r = get_or c.args.ranges.now c.loop-range.range-index (0, 0) in
-    let next : take (c.loop-range.range-index + 1) c.args.ranges.now ≡ take c.loop-range.range-index c.args.ranges.now ++ r ∷ [] = take-next c.loop-range.range-index c.args.ranges.now c.loop-range-test.true in
+    let next : take (c.loop-range.range-index + 1) c.args.ranges.now ≡ take c.loop-range.range-index c.args.ranges.now ++ r ∷ [] =
+    take-next c.loop-range.range-index c.args.ranges.now c.loop-range-test.true in
     let deep = c.requires.deep in
     let more = whole_depths-push c.args.deepest (take c.loop-range.range-index c.args.ranges.now) r in
     let count = before.count in
@@ -55,7 +56,8 @@ loop-range-preserved c =
     record {
       some = omega arith;
       grows = AddsReaders-trans c.args.states.now.items c.loop-range.states.items c.reach.new.states.items before.grows reached.grows;
-      closed = λ base next ready lt closed. (let states = before.grows.longer in reached.closed base next (before.ready base next ready) (omega arith) (before.closed base next ready lt closed));
+      closed = λ base next ready lt closed. (let states = before.grows.longer in
+          reached.closed base next (before.ready base next ready) (omega arith) (before.closed base next ready lt closed));
       ready = λ base next ready. reached.ready base next (before.ready base next ready);
       enough = rw next (CoversUpTo-push c.args.deepest (length c.reach.new.whole.items) (take c.loop-range.range-index c.args.ranges.now) r deep
           (CoversUpTo-more c.args.deepest (length c.loop-range.whole.items) (length c.reach.new.whole.items) (take c.loop-range.range-index c.args.ranges.now)

@@ -14,12 +14,14 @@ loop-alloc-preserved c =
     let states = before.grows.longer in
     let is = id.is in
     let pushed = c.in_ok-push-2.ensures.items in
-    let size : length c.push-in-loop-alloc.new.self.items ≡ length c.loop-alloc.whole.items + 1 = ap length pushed ∙ length_push c.loop-alloc.whole.items c.in_ok-id.id in
+    let size : length c.push-in-loop-alloc.new.self.items ≡ length c.loop-alloc.whole.items + 1 =
+    ap length pushed ∙ length_push c.loop-alloc.whole.items c.in_ok-id.id in
     let one = id.count in
     let count = before.count in
     let test : length c.loop-alloc.whole.items ≤ c.args.depth = grind (arith, common_steps) in
     let last : c.index.result.now ≡ slice_index c.loop-alloc.whole.items (length c.loop-alloc.whole.items - 1) = grind (arith, common_steps) in
-    let row : c.push.new.self.items ≡ record { start = 0x80; end = 0xBF; next = slice_index c.loop-alloc.whole.items (length c.loop-alloc.whole.items - 1) } ∷ [] = rw (c.in_ok-push.ensures.items, c.new-transitions.ensures.items) (ap (λ n. record { start = 0x80; end = 0xBF; next = n } ∷ []) last) in
+    let row : c.push.new.self.items ≡ record { start = 0x80; end = 0xBF; next = slice_index c.loop-alloc.whole.items (length c.loop-alloc.whole.items - 1) }
+    ∷ [] = rw (c.in_ok-push.ensures.items, c.new-transitions.ensures.items) (ap (λ n. record { start = 0x80; end = 0xBF; next = n } ∷ []) last) in
     record {
       grows = AddsReaders-trans c.args.states.now.items c.loop-alloc.states.items c.push_reader.new.states.items before.grows id.grows;
       closed = λ base next ready lt closed. id.closed

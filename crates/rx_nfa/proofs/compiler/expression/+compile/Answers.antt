@@ -59,7 +59,8 @@ pub compile-compile_capture-requires : goal.compile-compile_capture-requires
 unfolding greatest_group
 compile-compile_capture-requires t c =
     let g = c.in-Capture.capture in
-    let is : capture (non_zero_usize_get g.index) (option_map string_bytes g.name) g.sub.value ≡ c.args.hir.now = sym (ap kind_view c.in-Capture.is) ∙ c.kind.ensures.value in
+    let is : capture (non_zero_usize_get g.index) (option_map string_bytes g.name) g.sub.value ≡ c.args.hir.now =
+    sym (ap kind_view c.in-Capture.is) ∙ c.kind.ensures.value in
     let deep = ap depth is in
     let groups : max (non_zero_usize_get g.index) (greatest_group g.sub.value) ≡ greatest_group c.args.hir.now = ap greatest_group is in
     let states = ap accounted_states is in
@@ -80,7 +81,8 @@ compile-compile_capture-requires t c =
 pub compile-compile_concat-requires : goal.compile-compile_concat-requires
 unfolding greatest_group
 compile-compile_concat-requires t c =
-    let is : concat (expressions c.deref-in-Concat.result.now) ≡ c.args.hir.now = ap (λ hs. concat (expressions hs)) c.deref-in-Concat.ensures.value ∙ sym (ap kind_view c.in-Concat.is) ∙ c.kind.ensures.value in
+    let is : concat (expressions c.deref-in-Concat.result.now) ≡ c.args.hir.now =
+    ap (λ hs. concat (expressions hs)) c.deref-in-Concat.ensures.value ∙ sym (ap kind_view c.in-Concat.is) ∙ c.kind.ensures.value in
     let deep = ap depth is in
     let groups : greatest_in (expressions c.deref-in-Concat.result.now) ≡ greatest_group c.args.hir.now = ap greatest_group is in
     let states = ap accounted_states is in
@@ -90,7 +92,8 @@ compile-compile_concat-requires t c =
 pub compile-compile_alternation-requires : goal.compile-compile_alternation-requires
 unfolding greatest_group
 compile-compile_alternation-requires t c =
-    let is : alternation (expressions c.deref-in-Alternation.result.now) ≡ c.args.hir.now = ap (λ hs. alternation (expressions hs)) c.deref-in-Alternation.ensures.value ∙ sym (ap kind_view c.in-Alternation.is) ∙ c.kind.ensures.value in
+    let is : alternation (expressions c.deref-in-Alternation.result.now) ≡ c.args.hir.now =
+    ap (λ hs. alternation (expressions hs)) c.deref-in-Alternation.ensures.value ∙ sym (ap kind_view c.in-Alternation.is) ∙ c.kind.ensures.value in
     let deep = ap depth is in
     let groups : greatest_in (expressions c.deref-in-Alternation.result.now) ≡ greatest_group c.args.hir.now = ap greatest_group is in
     let states = ap accounted_states is in
@@ -131,7 +134,8 @@ pub compile-returns-in-Capture-clause-built : goal.compile-returns-in-Capture-cl
 unfolding build_directed
 compile-returns-in-Capture-clause-built t c =
     let g = c.in-Capture.capture in
-    let is : capture (non_zero_usize_get g.index) (option_map string_bytes g.name) g.sub.value ≡ c.args.hir.now = sym (ap kind_view c.in-Capture.is) ∙ c.kind.ensures.value in
+    let is : capture (non_zero_usize_get g.index) (option_map string_bytes g.name) g.sub.value ≡ c.args.hir.now =
+    sym (ap kind_view c.in-Capture.is) ∙ c.kind.ensures.value in
     Built-same _ _ c.args.next c.args.builder.now c.compile_capture.new.builder c.compile_capture.result
     (ap (part_for c.args.groups.now) is) c.compile_capture.ensures.built
 
@@ -199,7 +203,8 @@ pub compile_alternation-returns-clause-built : goal.compile_alternation-returns-
 compile_alternation-returns-clause-built t c =
     let subs = c.args.subs.now in
     let all : take c.loop-sub.sub-index subs ≡ subs = take_all c.loop-sub.sub-index subs (omega arith) in
-    let b = subst (λ hs. BuiltEach (map (part_for c.args.groups.now) hs) c.args.next c.args.builder.now c.loop-sub.builder c.loop-sub.starts.items) all c.loop-sub.invariant.built in
+    let b = subst (λ hs. BuiltEach (map (part_for c.args.groups.now) hs) c.args.next c.args.builder.now c.loop-sub.builder c.loop-sub.starts.items) all
+    c.loop-sub.invariant.built in
     IfOk-both (λ id. id ≡ length c.loop-sub.builder.states) (λ id. c.push-2.new.self ≡ pushed c.loop-sub.builder (Union c.new.result))
     (λ start. Built (build_choice (build_sides (map (part_for c.args.groups.now) c.args.subs.now))) c.args.next c.args.builder.now c.push-2.new.self start)
     c.push-2.result c.push-2.ensures.id c.push-2.ensures.states
@@ -210,7 +215,8 @@ pub compile_capture-push-requires-clause-own : goal.compile_capture-push-require
 compile_capture-push-requires-clause-own t c =
     let groups = c.args.builder.now.groups in
     let p = c.args.groups.now.pattern in
-    let first : c.in-Some.first ≡ slot_of_group groups p 1 = subst (λ o. IfSome o (λ first. first ≡ slot_of_group c.args.builder.now.groups c.args.groups.now.pattern 1)) c.in-Some.is c.requires.group.first in
+    let first : c.in-Some.first ≡ slot_of_group groups p 1 =
+    subst (λ o. IfSome o (λ first. first ≡ slot_of_group c.args.builder.now.groups c.args.groups.now.pattern 1)) c.in-Some.is c.requires.group.first in
     let some : 0 < c.get.result = omega (arith, c.get.ensures.nonzero) in
     let there : c.get.result < length (groups_at groups p) = omega (arith, c.requires.group.enough, c.get.ensures.value) in
     named-own groups p c.get.result c.in-Some.first (c.in-Some.first + 2 * (c.get.result - 1) + 1) some there first (inr refl)
@@ -219,7 +225,8 @@ pub compile_capture-push-requires-2-clause-own : goal.compile_capture-push-requi
 compile_capture-push-requires-2-clause-own t c =
     let groups = c.args.builder.now.groups in
     let p = c.args.groups.now.pattern in
-    let first : c.in-Some.first ≡ slot_of_group groups p 1 = subst (λ o. IfSome o (λ first. first ≡ slot_of_group c.args.builder.now.groups c.args.groups.now.pattern 1)) c.in-Some.is c.requires.group.first in
+    let first : c.in-Some.first ≡ slot_of_group groups p 1 =
+    subst (λ o. IfSome o (λ first. first ≡ slot_of_group c.args.builder.now.groups c.args.groups.now.pattern 1)) c.in-Some.is c.requires.group.first in
     let some : 0 < c.get.result = omega (arith, c.get.ensures.nonzero) in
     let there : c.get.result < length (groups_at groups p) = omega (arith, c.requires.group.enough, c.get.ensures.value) in
     let same = c.in_ok-body.ensures.built.extends.groups ∙ ap (λ (d : Draft). d.groups) c.in_ok-close.ensures.states in
@@ -230,7 +237,8 @@ pub compile_capture-returns-clause-built : goal.compile_capture-returns-clause-b
 compile_capture-returns-clause-built t c =
     let first = c.in-Some.first in
     let sub = c.args.capture.now.sub.value in
-    let body = subst (λ h. Built (part_for c.args.groups.now h) c.in_ok-close.close c.push.new.self c.compile-2.new.builder c.in_ok-body.body) c.deref-2.ensures c.in_ok-body.ensures.built in
+    let body = subst (λ h. Built (part_for c.args.groups.now h) c.in_ok-close.close c.push.new.self c.compile-2.new.builder c.in_ok-body.body) c.deref-2.ensures
+    c.in_ok-body.ensures.built in
     subst
     (λ number. IfOk c.push-2.result
     (λ start. Built (build_group (slot_from c.args.groups.now.first_slot number) (part_for c.args.groups.now c.args.capture.now.sub.value)) c.args.next
@@ -272,7 +280,8 @@ compile_concat-compile-requires t c =
     let deep = depth_at c.args.subs.now c.place_of-place.result item item lt c.index-subs-place.is in
     let b = c.loop-left.invariant.built.extends in
     let within = c.loop-left.invariant.within in
-    let at = in_order-is c.args.groups.now.reverse c.args.subs.now (length c.args.subs.now) (c.loop-left.left - 1) c.place_of-place.result item item refl (omega arith) c.place_of-place.ensures.value c.index-subs-place.is in
+    let at = in_order-is c.args.groups.now.reverse c.args.subs.now (length c.args.subs.now) (c.loop-left.left - 1) c.place_of-place.result item item refl
+    (omega arith) c.place_of-place.ensures.value c.index-subs-place.is in
     let states = accounted_in-more hs c.loop-left.left item item (omega arith) (omega arith) at in
     let least = accounted_in-least hs (c.loop-left.left - 1) in
     let all = accounted-in_order c.args.groups.now.reverse c.args.subs.now in
@@ -296,7 +305,8 @@ compile_concat-loop-left-preserved t c =
     let hs = in_order c.args.groups.now.reverse c.args.subs.now in
     let long = in_order-length c.args.groups.now.reverse c.args.subs.now in
     let within = c.loop-left.invariant.within in
-    let at = in_order-is c.args.groups.now.reverse c.args.subs.now (length c.args.subs.now) (c.loop-left.left - 1) c.place_of-place.result item item refl (omega arith) c.place_of-place.ensures.value c.index-subs-place.is in
+    let at = in_order-is c.args.groups.now.reverse c.args.subs.now (length c.args.subs.now) (c.loop-left.left - 1) c.place_of-place.result item item refl
+    (omega arith) c.place_of-place.ensures.value c.index-subs-place.is in
     let more = row-more (part_for c.args.groups.now) hs c.loop-left.left item item (omega arith) (omega arith) at in
     record {
       built =
@@ -324,7 +334,8 @@ compile_concat-returns-clause-count t c =
 pub compile_loop-returns-clause-from_choice : goal.compile_loop-returns-clause-from_choice
 compile_loop-returns-clause-from_choice t c =
     let r = c.args.repetition.now in
-    let body = subst (λ h. Built (part_for c.args.groups.now h) c.in_ok-choice.choice c.push.new.self c.compile.new.builder c.in_ok-body.body) c.deref.ensures c.in_ok-body.ensures.built in
+    let body = subst (λ h. Built (part_for c.args.groups.now h) c.in_ok-choice.choice c.push.new.self c.compile.new.builder c.in_ok-body.body) c.deref.ensures
+    c.in_ok-body.ensures.built in
     (loop-closed r.greedy (part_for c.args.groups.now r.sub.value) c.args.next c.in_ok-choice.choice c.in_ok-body.body c.args.builder.now c.push.new.self
     c.compile.new.builder c.patch.new.self Fail c.in_ok-state.state
     c.in_ok-choice.ensures.id c.in_ok-choice.ensures.states c.in_ok-state.ensures c.patch.ensures body).0
@@ -332,7 +343,8 @@ compile_loop-returns-clause-from_choice t c =
 pub compile_loop-returns-clause-from_body : goal.compile_loop-returns-clause-from_body
 compile_loop-returns-clause-from_body t c =
     let r = c.args.repetition.now in
-    let body = subst (λ h. Built (part_for c.args.groups.now h) c.in_ok-choice.choice c.push.new.self c.compile.new.builder c.in_ok-body.body) c.deref.ensures c.in_ok-body.ensures.built in
+    let body = subst (λ h. Built (part_for c.args.groups.now h) c.in_ok-choice.choice c.push.new.self c.compile.new.builder c.in_ok-body.body) c.deref.ensures
+    c.in_ok-body.ensures.built in
     (loop-closed r.greedy (part_for c.args.groups.now r.sub.value) c.args.next c.in_ok-choice.choice c.in_ok-body.body c.args.builder.now c.push.new.self
     c.compile.new.builder c.patch.new.self Fail c.in_ok-state.state
     c.in_ok-choice.ensures.id c.in_ok-choice.ensures.states c.in_ok-state.ensures c.patch.ensures body).1
@@ -340,7 +352,8 @@ compile_loop-returns-clause-from_body t c =
 pub compile_options-loop-option-preserved : goal.compile_options-loop-option-preserved
 compile_options-loop-option-preserved t c =
     let r = c.args.repetition.now in
-    let body = subst (λ h. Built (part_for c.args.groups.now h) c.loop-option.start c.push.new.self c.compile.new.builder c.in_ok-body.body) c.deref.ensures c.in_ok-body.ensures.built in
+    let body = subst (λ h. Built (part_for c.args.groups.now h) c.loop-option.start c.push.new.self c.compile.new.builder c.in_ok-body.body) c.deref.ensures
+    c.in_ok-body.ensures.built in
     let grown = ap (λ (d : Draft). length d.states) c.in_ok-choice.ensures.states in
     let one = pushed-length c.loop-option.builder Fail in
     let longer = c.in_ok-body.ensures.built.extends.longer in
@@ -396,7 +409,8 @@ compile_repetition-returns-clause-count t c =
 pub compile_repetition-loop-copy-preserved : goal.compile_repetition-loop-copy-preserved
 compile_repetition-loop-copy-preserved t c =
     let r = c.args.repetition.now in
-    let body = subst (λ h. Built (part_for c.args.groups.now h) c.loop-copy.start c.loop-copy.builder c.compile.new.builder c.in_ok-start-2.start) c.deref.ensures c.in_ok-start-2.ensures.built in
+    let body = subst (λ h. Built (part_for c.args.groups.now h) c.loop-copy.start c.loop-copy.builder c.compile.new.builder c.in_ok-start-2.start)
+    c.deref.ensures c.in_ok-start-2.ensures.built in
     record {
       built = copy-more c.loop-copy._copy (part_for c.args.groups.now r.sub.value)
           (tail (is_positive (minimum_len r.sub.value)) r.min r.max r.greedy (part_for c.args.groups.now r.sub.value)) c.args.next c.loop-copy.start
@@ -415,7 +429,8 @@ compile_unbounded-returns-clause-built t c =
     let r = c.args.repetition.now in
     let body = part_for c.args.groups.now c.args.repetition.now.sub.value in
     let none : c.args.repetition.now.min ≡ 0 = omega arith in
-    let empty : is_positive (minimum_len c.args.repetition.now.sub.value) ≡ false = ap (λ h. is_positive (minimum_len h)) (sym c.deref.ensures) ∙ sym c.takes_bytes.ensures ∙ c.if-takes_bytes.false in
+    let empty : is_positive (minimum_len c.args.repetition.now.sub.value) ≡ false =
+    ap (λ h. is_positive (minimum_len h)) (sym c.deref.ensures) ∙ sym c.takes_bytes.ensures ∙ c.if-takes_bytes.false in
     subst (λ part. Built part c.args.next c.args.builder.now c.patch.new.self c.in_ok-choice.choice)
     (tail-star (is_positive (minimum_len c.args.repetition.now.sub.value)) c.args.repetition.now.min r.greedy body none empty)
     (optional-closed r.greedy (loop_once r.greedy body) c.args.next c.in_ok-choice.choice c.in_ok-inner.inner.body c.args.builder.now c.push.new.self

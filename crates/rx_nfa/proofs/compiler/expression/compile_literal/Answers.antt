@@ -27,7 +27,8 @@ loop-left-preserved c =
     let long = in_order-length c.args.reverse c.args.bytes.now in
     let b = get_or c.args.bytes.now c.place_of.result 0 in
     let within = c.loop-left.invariant.within in
-    let byte_is = in_order-is c.args.reverse c.args.bytes.now (length c.args.bytes.now) (c.loop-left.left - 1) c.place_of.result b 0 refl (omega arith) c.place_of.ensures.value refl in
+    let byte_is = in_order-is c.args.reverse c.args.bytes.now (length c.args.bytes.now) (c.loop-left.left - 1) c.place_of.result b 0 refl
+    (omega arith) c.place_of.ensures.value refl in
     let state = ByteRange b b c.loop-left.start in
     let is = c.in_ok-start.ensures.states in
     let old = c.args.builder.now in

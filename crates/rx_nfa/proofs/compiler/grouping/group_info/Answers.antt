@@ -20,12 +20,14 @@ loop-hir-preserved c =
 pub named-requires-clause-each : goal.named-requires-clause-each
 named-requires-clause-each c =
     let exprs = c.args.exprs.now in
-    let whole : groups_of c.deref.result.now ≡ map group_names c.args.exprs.now = ap (λ gs. groups_of gs) c.deref.ensures.value ∙ c.loop-hir.invariant ∙ ap (map group_names) (take_all c.loop-hir.hir-index c.args.exprs.now (omega arith)) in
+    let whole : groups_of c.deref.result.now ≡ map group_names c.args.exprs.now = ap (λ gs. groups_of gs) c.deref.ensures.value ∙ c.loop-hir.invariant
+    ∙ ap (map group_names) (take_all c.loop-hir.hir-index c.args.exprs.now (omega arith)) in
     subst (All BeginsUnnamed) (sym whole) (groups-begin exprs)
 
 pub named-requires-clause-few : goal.named-requires-clause-few
 named-requires-clause-few c =
-    let whole : groups_of c.deref.result.now ≡ map group_names c.args.exprs.now = ap (λ gs. groups_of gs) c.deref.ensures.value ∙ c.loop-hir.invariant ∙ ap (map group_names) (take_all c.loop-hir.hir-index c.args.exprs.now (omega arith)) in
+    let whole : groups_of c.deref.result.now ≡ map group_names c.args.exprs.now = ap (λ gs. groups_of gs) c.deref.ensures.value ∙ c.loop-hir.invariant
+    ∙ ap (map group_names) (take_all c.loop-hir.hir-index c.args.exprs.now (omega arith)) in
     let same = ap slot_count whole in
     let counted = slots-counted c.args.exprs.now in
     let few = c.requires.slots in
