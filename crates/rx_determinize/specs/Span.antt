@@ -56,6 +56,7 @@ IsAlive k = k.threads ≡ [] → k.loops ≡ false → ⊥
 
 -- From place a to place b, where the key is k at a, the sight tells of each look-around that a state asks for whether it holds
 -- there, as long as the keys live.
-pub record SeesWhileAlive (kind : MatchKind) (sight : Sight) (around : Surroundings) (size : ℕ) (states : List State) (start : ℕ) (k : Key) (b a : ℕ) : Type 0 where
+pub record SeesWhileAlive (kind : MatchKind) (sight : Sight) (around : Surroundings) (size : ℕ) (states : List State) (start : ℕ) (k : Key)
+    (b a : ℕ) : Type 0 where
   pub sees : (i : ℕ) → a ≤ i → i ≤ b → IsAlive (key_at kind states start sight around (i - a) a k)
       → HoldsAt around states (sight.holds (key_at kind states start sight around (i - a) a k).before (byte_within around.byte size i)) i

@@ -87,10 +87,12 @@ pub fn the_keys_find_the_next_match_between_characters()
 pub fn the_sight_by_classes_tells_of_look_around()
     ensures forwards { (nfa : Nfa) → IsInRange nfa → (keeps : Bool) (classes bytes : List ℕ) → AreClassesFor nfa keeps classes bytes
         → (text : List ℕ) → AreBytes text → (b a : ℕ) → a ≤ b → b ≤ length text → AreTold nfa text b a
-        → Sees (class_sight nfa.terminator false keeps classes bytes) (forwards nfa.terminator text) (length text) nfa.states (class_beside keeps classes bytes (byte_before text a)) b a }
+        → Sees (class_sight nfa.terminator false keeps classes bytes) (forwards nfa.terminator text) (length text) nfa.states
+        (class_beside keeps classes bytes (byte_before text a)) b a }
     ensures backwards { (nfa : Nfa) → IsInRange nfa → (keeps : Bool) (classes bytes : List ℕ) → AreClassesFor nfa keeps classes bytes
         → (text : List ℕ) → AreBytes text → (b a : ℕ) → a ≤ b → b ≤ length text → AreTold nfa text b a
-        → Sees (class_sight nfa.terminator true keeps classes bytes) (backwards nfa.terminator text) (length text) nfa.states (class_beside keeps classes bytes (byte_after text b))
+        → Sees (class_sight nfa.terminator true keeps classes bytes) (backwards nfa.terminator text) (length text) nfa.states
+        (class_beside keeps classes bytes (byte_after text b))
         (length text - a) (length text - b) }
 {}
 
@@ -106,8 +108,10 @@ pub fn bytes_of_one_class_give_one_key()
 
 /// No state stands twice on the list of a key.
 pub fn no_state_stands_twice()
-    ensures start { (kind : MatchKind) (states : List State) (start : ℕ) (loops : Bool) (before : Option ℕ) → AreOnce (start_key kind states start loops before).threads }
-    ensures step { (kind : MatchKind) (states : List State) (start : ℕ) (sight : Sight) (k : Key) (byte : ℕ) → AreOnce (step_key kind states start sight k byte).threads }
+    ensures start { (kind : MatchKind) (states : List State) (start : ℕ) (loops : Bool) (before : Option ℕ)
+        → AreOnce (start_key kind states start loops before).threads }
+    ensures step { (kind : MatchKind) (states : List State) (start : ℕ) (sight : Sight) (k : Key) (byte : ℕ)
+        → AreOnce (step_key kind states start sight k byte).threads }
 {}
 
 /// A key without threads and without the loop steps to such a key, in which nothing matches, and along any bytes it meets
@@ -115,7 +119,8 @@ pub fn no_state_stands_twice()
 pub fn a_key_without_threads_meets_nothing_more()
     ensures step { (kind : MatchKind) (states : List State) (start : ℕ) (sight : Sight) (k : Key) → k.threads ≡ [] → k.loops ≡ false → (byte : ℕ)
         → step_key kind states start sight k byte ≡ record { threads = []; loops = false; matches = []; before = sight.class byte } }
-    ensures run { (kind : MatchKind) (states : List State) (start : ℕ) (sight : Sight) (around : Surroundings) (size n i : ℕ) (k : Key) → k.threads ≡ [] → k.loops ≡ false
+    ensures run { (kind : MatchKind) (states : List State) (start : ℕ) (sight : Sight) (around : Surroundings) (size n i : ℕ) (k : Key) → k.threads ≡ []
+        → k.loops ≡ false
         → (best : Option HalfMatchValue) → run_keys kind states start sight around size n i k best ≡ best }
 {}
 
@@ -128,7 +133,8 @@ pub fn patterns_that_mean_utf8_keep_characters()
 
 /// From the end of the next match the keys of an NFA that reads backwards find its start, where they look for its pattern alone.
 pub fn the_keys_find_the_start_of_the_next_match()
-    ensures { (nfa : Nfa) → IsInRange nfa → (r : Patterns) → HasReverseRuns nfa r → (sight : Sight) (text : List ℕ) → MeansUtf8 r text → (b a : ℕ) → b ≤ length text
+    ensures { (nfa : Nfa) → IsInRange nfa → (r : Patterns) → HasReverseRuns nfa r → (sight : Sight) (text : List ℕ) → MeansUtf8 r text → (b a : ℕ)
+        → b ≤ length text
         → (m : Match) → next_match r text free b a ≡ Some m
         → (last : Option ℕ) → Sees sight (backwards nfa.terminator text) (length text) nfa.states last (length text - a) (length text - m.trace.end)
         → reverse_answer_of nfa sight text (anchored_to m.trace.pattern) last m.trace.end a ≡ Some (record { pattern = m.trace.pattern; offset = m.start }) }
@@ -139,16 +145,19 @@ pub fn the_keys_find_the_start_of_the_next_match()
 pub fn the_keys_find_the_next_match_while_they_live()
     ensures { (nfa : Nfa) → IsInRange nfa → (sight : Sight) (text : List ℕ) (b : ℕ) → b ≤ length text → (anchor : Anchor) (a : ℕ) (before : Option ℕ) → a ≤ b
         → (start : ℕ) → start_of nfa anchor ≡ Some start
-        → SeesWhileAlive LeftmostFirst sight (forwards nfa.terminator text) (length text) nfa.states start (start_key LeftmostFirst nfa.states start (loops_in anchor) before) b a
+        → SeesWhileAlive LeftmostFirst sight (forwards nfa.terminator text) (length text) nfa.states start
+        (start_key LeftmostFirst nfa.states start (loops_in anchor) before) b a
         → answer_of nfa sight text anchor before b a ≡ option_map half_match_value (next_match_of nfa false text anchor b a) }
 {}
 
 /// One search of a span records the next match, or else the first end inside a character, behind which it is to begin again. The
 /// sight has to tell of look-around only as long as the keys live.
 pub fn one_search_finds_the_next_match_or_where_to_begin_again()
-    ensures { (nfa : Nfa) → IsInRange nfa → (sight : Sight) (text : List ℕ) (b : ℕ) → b ≤ length text → (utf8 : Bool) (anchor : Anchor) (a : ℕ) (before : Option ℕ) → a ≤ b
+    ensures { (nfa : Nfa) → IsInRange nfa → (sight : Sight) (text : List ℕ) (b : ℕ) → b ≤ length text
+        → (utf8 : Bool) (anchor : Anchor) (a : ℕ) (before : Option ℕ) → a ≤ b
         → (start : ℕ) → start_of nfa anchor ≡ Some start → (utf8 ≡ true → KeepsCharacters nfa.terminator nfa.states text b start)
-        → SeesWhileAlive LeftmostFirst sight (forwards nfa.terminator text) (length text) nfa.states start (start_key LeftmostFirst nfa.states start (loops_in anchor) before) b a
+        → SeesWhileAlive LeftmostFirst sight (forwards nfa.terminator text) (length text) nfa.states start
+        (start_key LeftmostFirst nfa.states start (loops_in anchor) before) b a
         → option_map half_match_value (next_match_of nfa utf8 text anchor b a) ≡ found_once nfa sight utf8 text anchor start before b a }
 {}
 
@@ -172,11 +181,13 @@ pub fn one_search_finds_the_last_match()
 pub fn one_search_finds_the_least_start()
     ensures some { (nfa : Nfa) → IsInRange nfa → (r : Patterns) → HasReverseRuns nfa r → (sight : Sight) (text : List ℕ) (b a : ℕ) → a ≤ b → b ≤ length text
         → (anchor : Anchor) (utf8 : Bool) (last : Option ℕ) (start : ℕ) → start_of nfa anchor ≡ Some start
-        → SeesWhileAlive AllMatches sight (backwards nfa.terminator text) (length text) nfa.states start (start_key AllMatches nfa.states start false last) (length text - a) (length text - b)
+        → SeesWhileAlive AllMatches sight (backwards nfa.terminator text) (length text) nfa.states start (start_key AllMatches nfa.states start false last)
+        (length text - a) (length text - b)
         → (h : HalfMatchValue) → reverse_once nfa sight utf8 text start last b a ≡ Some h → IsLeastStartWhere r utf8 text anchor b a h }
     ensures none { (nfa : Nfa) → IsInRange nfa → (r : Patterns) → HasReverseRuns nfa r → (sight : Sight) (text : List ℕ) (b a : ℕ) → a ≤ b → b ≤ length text
         → (anchor : Anchor) (utf8 : Bool) (last : Option ℕ) (start : ℕ) → start_of nfa anchor ≡ Some start
-        → SeesWhileAlive AllMatches sight (backwards nfa.terminator text) (length text) nfa.states start (start_key AllMatches nfa.states start false last) (length text - a) (length text - b)
+        → SeesWhileAlive AllMatches sight (backwards nfa.terminator text) (length text) nfa.states start (start_key AllMatches nfa.states start false last)
+        (length text - a) (length text - b)
         → reverse_once nfa sight utf8 text start last b a ≡ None
         → (pattern i : ℕ) → a ≤ i → i ≤ b → is_permitted utf8 text i ≡ true → MeansUpTo r text anchor b pattern i → ⊥ }
 {}

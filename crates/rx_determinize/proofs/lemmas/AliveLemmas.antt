@@ -20,7 +20,8 @@ use Rattle.rx_determinize.proofs.lemmas.SpanLemmas.{byte-here, met-listed, later
 use Rattle.rx_determinize.proofs.lemmas.DeadLemmas.{no-more}
 use Rattle.rx_determinize.proofs.lemmas.SeenLemmas.{alive-or-none, SeesFrom, sees-here, sees-next}
 
-module _ (around : Surroundings) (size : ℕ) (states : List State) (names : All (NamesBelow (length states)) states) (end start : ℕ) (inside : start < length states) (sight : Sight) (short : end ≤ size) where
+module _ (around : Surroundings) (size : ℕ) (states : List State) (names : All (NamesBelow (length states)) states) (end start : ℕ)
+    (inside : start < length states) (sight : Sight) (short : end ≤ size) where
   abbrev accepts : ℕ → Option ℕ
   accepts = accepts_in states
 
@@ -60,7 +61,8 @@ module _ (around : Surroundings) (size : ℕ) (states : List State) (names : All
       let key = settled LeftmostFirst states qs loops matches before in
       alive-or-none states qs loops matches before
       (λ alive.
-      let holds-byte : HoldsAt around states holding i = subst (λ o. HoldsAt around states (sight.holds before o) i) byte (sees-here LeftmostFirst around size states start sight end i (omega arith) key sees alive) in
+      let holds-byte : HoldsAt around states holding i = subst (λ o. HoldsAt around states (sight.holds before o) i) byte
+      (sees-here LeftmostFirst around size states start sight end i (omega arith) key sees alive) in
       let xs = staying around size states names end start inside sight short holding qs in
       let ts = resting states xs in
       let l0 = kept around size states names end start inside sight short qs loops in

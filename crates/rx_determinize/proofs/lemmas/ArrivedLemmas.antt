@@ -98,7 +98,8 @@ absorbed : (x y z : Option HalfMatchValue) → (x ≡ None → y ≡ None) → o
 absorbed None y z fails = ap (λ o. option_or o z) (fails refl)
 absorbed (Some t) y z fails = refl
 
-module _ (around : Surroundings) (states : List State) (names : All (NamesBelow (length states)) states) (end : ℕ) (g : PriorityGraph) (has_steps : HasSteps around states end g) (i : ℕ) (place : i ≤ end) where
+module _ (around : Surroundings) (states : List State) (names : All (NamesBelow (length states)) states) (end : ℕ) (g : PriorityGraph)
+    (has_steps : HasSteps around states end g) (i : ℕ) (place : i ≤ end) where
   -- what is found from a list
   abbrev first : List ℕ → Option HalfMatchValue
   first qs = first_on g nowhere i qs

@@ -68,7 +68,8 @@ idle-within kind states start sight around may size zero i matches before r =
     ap (λ qs. met_within may (matching kind states qs) i r) (threads-nil states (sight.holds before (byte_within around.byte size i)))
     ∙ ap (λ ms. met_within may ms i r) (matching-nil kind states)
 idle-within kind states start sight around may size (suc n) i matches before r =
-    ap (λ k. run_within kind states start sight around may size n (i + 1) k (met_within may k.matches i r)) (idle-step kind states start sight matches before (around.byte i))
+    ap (λ k. run_within kind states start sight around may size n (i + 1) k (met_within may k.matches i r))
+    (idle-step kind states start sight matches before (around.byte i))
     ∙ idle-within kind states start sight around may size n (i + 1) [] (sight.class (around.byte i)) r
 
 pub no-thread : (kind : MatchKind) (states : List State) (start : ℕ) (sight : Sight) (k : Key) → k.threads ≡ [] → k.loops ≡ false → (byte : ℕ)

@@ -95,7 +95,8 @@ module _ (around : Surroundings) (states : List State) (names : All (NamesBelow 
       by_test (is_resting (state_at states q))
       (λ rests. subst (EndWell first i) (sym (resting-epsilon holding (state_at states q) rests)) tt)
       (λ moves.
-      let goes = automaton-successors around states end q i lt le ∙ step-aside around end holding (state_at states q) i (λ look next is. holds q next look is) moves in
+      let goes =
+      automaton-successors around states end q i lt le ∙ step-aside around end holding (state_at states q) i (λ look next is. holds q next look is) moves in
       EndWell-members first i (at q i) good (epsilon_successors holding (state_at states q)) (λ d m. subst (λ ds. Contains ds d) (sym goes) m))
 
   EndWell-known : (first i q : ℕ) → q < length states → i ≤ end → EndsWell first (at q i) → EndWell first i (epsilon_successors none_known (state_at states q))

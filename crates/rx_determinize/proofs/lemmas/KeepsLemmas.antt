@@ -58,7 +58,8 @@ module _ (nfa : Nfa) (r : Patterns) (runs : HasRuns nfa r) (text : List ℕ) (ut
   walk-found : (pattern e n : ℕ) (c : Configuration) → Leads g pattern e n c → is_some (first_trace (sieved (ending_at e) g) c) ≡ true
   walk-found pattern e n c h =
       let walk = Leads-run (sieved (ending_at e) g) pattern e n c (sieved-walk pattern e n c h) in
-      let found = run-is_found (sieved (ending_at e) g) (sieved-bounded (ending_at e) g (automaton-bounded (forwards nfa.terminator text) nfa.states end)) walk.0 nowhere c walk.1 in
+      let found = run-is_found (sieved (ending_at e) g) (sieved-bounded (ending_at e) g (automaton-bounded (forwards nfa.terminator text) nfa.states end))
+      walk.0 nowhere c walk.1 in
       ap (λ o. is_some (option_map (trace (sieved (ending_at e) g) c) o)) found.1
 
   abbrev Both : ℕ → ℕ → Type 0

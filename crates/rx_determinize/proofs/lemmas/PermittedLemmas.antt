@@ -131,7 +131,8 @@ and-off false b h = refl
 
 module _ (around : Surroundings) (size : ℕ) (states : List State) (names : All (NamesBelow (length states)) states) (end start : ℕ)
     (inside : start < length states) (sight : Sight) (short : end ≤ size)
-    (may : ℕ → Bool) (keeps : (i e pattern n : ℕ) → Leads (automaton_over around states end) pattern e n (at start i) → i < e → (may i ≡ true) × (may e ≡ true)) where
+    (may : ℕ → Bool) (keeps : (i e pattern n : ℕ) → Leads (automaton_over around states end) pattern e n (at start i) → i < e
+    → (may i ≡ true) × (may e ≡ true)) where
   abbrev g : PriorityGraph
   g = automaton_over around states end
 
@@ -227,7 +228,8 @@ module _ (around : Surroundings) (size : ℕ) (states : List State) (names : All
       let ys-well : EndWell around states names end may (i + 1 + 1) (i + 1) ys =
       EndWell-append around states names end may (i + 1 + 1) (i + 1) (over xs i) (begun start l1)
       (EndWell-later around states names end may (i + 1) (i + 1 + 1) (i + 1) (over xs i) (omega arith) over-well) (begun-well l1 (i + 1)) in
-      let r' = run_within LeftmostFirst states start sight around may size n (i + 1) (settled LeftmostFirst states (arrived states ys) l1 here (sight.class (around.byte i))) (met_within may here i r) in
+      let r' = run_within LeftmostFirst states start sight around may size n (i + 1)
+      (settled LeftmostFirst states (arrived states ys) l1 here (sight.class (around.byte i))) (met_within may here i r) in
       let later-follows : Follows may answer (met_within may here i r) r' =
       run-follows n (i + 1) (omega arith) l1 here (sight.class (around.byte i)) (met_within may here i r) (arrived states ys)
       (arrived-below states names ys ys-below) (EndWell-arrived around states names end may (i + 1 + 1) (i + 1) le ys ys-below ys-well)
@@ -324,7 +326,8 @@ module _ (around : Surroundings) (size : ℕ) (states : List State) (names : All
       → (go : ℕ → Option HalfMatchValue)
       → ((place : ℕ) → loops ≡ true → a ≤ place → place < end → go place ≡ allowed (suc (end - (place + 1))) (place + 1))
       → option_or (run_within LeftmostFirst states start sight around may size (end - a) a (start_key LeftmostFirst states start loops before) fresh).best
-      (begin_again loops end (run_within LeftmostFirst states start sight around may size (end - a) a (start_key LeftmostFirst states start loops before) fresh).refused
+      (begin_again loops end (run_within LeftmostFirst states start sight around may size (end - a) a
+      (start_key LeftmostFirst states start loops before) fresh).refused
       go)
       ≡ allowed (if loops then suc (end - a) else 1) a
   search-answer a before le loops sees go again =

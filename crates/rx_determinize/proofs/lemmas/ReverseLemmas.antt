@@ -47,7 +47,8 @@ module _ (nfa : Nfa) (range : IsInRange nfa) (r : Patterns) (runs : HasReverseRu
           let count = runs.patterns in
           let h = slice_index_or r.expressions k empty in
           let there : slice_get r.expressions k ≡ Some h = slice_get-get_or r.expressions k empty (omega arith) in
-          let m = (runs.each text i k p i b h (omega arith) (omega arith) within there).0 (subst (λ s. LeadsBack nfa text (size - i) s p i b) (sym start) walk) in
+          let m =
+          (runs.each text i k p i b h (omega arith) (omega arith) within there).0 (subst (λ s. LeadsBack nfa text (size - i) s p i b) (sym start) walk) in
           record { sought = m.0; expression = h; is = ap (slice_get r.expressions) m.0 ∙ there; means = m.1 }
 
   means-back : (q : ℕ) → start_of nfa anchor ≡ Some q → (p i : ℕ) → i ≤ b → MeansUpTo r text anchor b p i → LeadsBack nfa text (size - i) q p i b
@@ -124,7 +125,8 @@ module _ (nfa : Nfa) (range : IsInRange nfa) (r : Patterns) (runs : HasReverseRu
       (run_within All nfa.states q sight around (λ d. is_permitted utf8 text (size - d)) size (size - a - (size - b)) (size - b)
       (start_key All nfa.states q false last) fresh).best h found in
       let x = mapped.0 in
-      let l = last-some around size nfa.states range.names q (start-inside nfa range sight text b within anchor q is) sight (λ d. is_permitted utf8 text (size - d))
+      let l =
+      last-some around size nfa.states range.names q (start-inside nfa range sight text b within anchor q is) sight (λ d. is_permitted utf8 text (size - d))
       (size - a) (size - b) (omega arith) (omega arith) last false sees x mapped.1 in
       let low = l.from in
       let high = l.to in
@@ -145,9 +147,11 @@ module _ (nfa : Nfa) (range : IsInRange nfa) (r : Patterns) (runs : HasReverseRu
 
 module _ (nfa : Nfa) (range : IsInRange nfa) (r : Patterns) (runs : HasReverseRuns nfa r) (sight : Sight) (text : List ℕ) (b a : ℕ) (in_order : a ≤ b)
     (within : b ≤ length text)
-    (anchor : Anchor) (last : Option ℕ) (sees : Sees sight (backwards nfa.terminator text) (length text) nfa.states last (length text - a) (length text - b)) where
+    (anchor : Anchor) (last : Option ℕ) (sees : Sees sight (backwards nfa.terminator text) (length text) nfa.states last (length text - a)
+    (length text - b)) where
   abbrev found : Option ℕ → Option HalfMatchValue
-  found o = option_map (at_place (length text)) (run_from All nfa.states sight (backwards nfa.terminator text) (length text) false last (length text - a) (length text - b) o)
+  found o = option_map (at_place (length text)) (run_from All nfa.states sight (backwards nfa.terminator text) (length text) false last (length text - a)
+      (length text - b) o)
 
   seen : (q : ℕ) → SeesFrom All (backwards nfa.terminator text) (length text) nfa.states q sight (length text - a) (length text - b)
       (start_key All nfa.states q false last)

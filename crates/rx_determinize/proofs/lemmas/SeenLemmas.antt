@@ -50,7 +50,8 @@ module _ (kind : MatchKind) (around : Surroundings) (size : ℕ) (states : List 
   SeesFrom end i k = (j : ℕ) → i ≤ j → j ≤ end → IsAlive (key_at kind states start sight around (j - i) i k)
       → HoldsAt around states (sight.holds (key_at kind states start sight around (j - i) i k).before (byte_within around.byte size j)) j
 
-  pub sees-here : (end i : ℕ) → i ≤ end → (k : Key) → SeesFrom end i k → IsAlive k → HoldsAt around states (sight.holds k.before (byte_within around.byte size i)) i
+  pub sees-here : (end i : ℕ) → i ≤ end → (k : Key) → SeesFrom end i k → IsAlive k
+      → HoldsAt around states (sight.holds k.before (byte_within around.byte size i)) i
   unfolding key_at
   sees-here end i le k sees alive =
       let none : i - i ≡ 0 = omega arith in
@@ -117,7 +118,8 @@ module _ (kind : MatchKind) (around : Surroundings) (size : ℕ) (states : List 
   -- Where the key is dead at place d, it is enough to see the places before.
   pub seen-until : (end a d : ℕ) (k : Key) → a ≤ d → (key_at kind states start sight around (d - a) a k).threads ≡ []
       → (key_at kind states start sight around (d - a) a k).loops ≡ false
-      → ((j : ℕ) → a ≤ j → j < d → HoldsAt around states (sight.holds (key_at kind states start sight around (j - a) a k).before (byte_within around.byte size j)) j)
+      → ((j : ℕ) → a ≤ j → j < d → HoldsAt around states (sight.holds (key_at kind states start sight around (j - a) a k).before
+      (byte_within around.byte size j)) j)
       → SeesFrom end a k
   seen-until end a d k le none over seen j low high alive =
       by_test (nat_lt j d)

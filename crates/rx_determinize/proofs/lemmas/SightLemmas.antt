@@ -249,7 +249,8 @@ module _ (nfa : Nfa) (range : IsInRange nfa) (b c : ℕ) (of : AreOfOneClass nfa
       (matching kind nfa.states qs) before)
       (targets-alike (counting kind nfa.states qs))
 
-module _ (nfa : Nfa) (range : IsInRange nfa) (keeps : Bool) (classes bytes : List ℕ) (are : AreClassesFor nfa keeps classes bytes) (b c : ℕ) (of : AreOfOneClass classes b c) where
+module _ (nfa : Nfa) (range : IsInRange nfa) (keeps : Bool) (classes bytes : List ℕ) (are : AreClassesFor nfa keeps classes bytes) (b c : ℕ)
+    (of : AreOfOneClass classes b c) where
   of_nfa : AreOfOneClass nfa.classes b c
   of_nfa = are.finer b c of
 
@@ -279,7 +280,8 @@ module _ (nfa : Nfa) (range : IsInRange nfa) (keeps : Bool) (classes bytes : Lis
   along-alike false last within ascii kind asked =
       between-alike last (Some b) last (Some c) (same-class nfa range last (small-last last within)) of_nfa kind asked (λ unicode. ascii kind asked unicode)
   along-alike true last within ascii kind asked =
-      between-alike (Some b) last (Some c) last of_nfa (same-class nfa range last (small-last last within)) kind asked (λ unicode. let a = ascii kind asked unicode in (a.1, a.0))
+      between-alike (Some b) last (Some c) last of_nfa (same-class nfa range last (small-last last within)) kind asked
+      (λ unicode. let a = ascii kind asked unicode in (a.1, a.0))
 
   pub class-steps : (reverse : Bool) (kind : MatchKind) (start : ℕ) (k : Key) → IfSome k.before (λ x. x < 256)
       → ((look : model.Look) → has_look nfa.looks look ≡ true → IsTrue (is_unicode_word look) → IsAsciiOrNone k.before × (b < 0x80))

@@ -68,7 +68,8 @@ anywhere i = true
 pub byte-here : (byte : ℕ → ℕ) (size i : ℕ) → i < size → byte_within byte size i ≡ Some (byte i)
 byte-here byte size i lt = let e : nat_lt i size ≡ true = grind (arith, nat_tests) in rw e refl
 
-module _ (around : Surroundings) (size : ℕ) (states : List State) (names : All (NamesBelow (length states)) states) (end start : ℕ) (inside : start < length states) (sight : Sight) (short : end ≤ size) where
+module _ (around : Surroundings) (size : ℕ) (states : List State) (names : All (NamesBelow (length states)) states) (end start : ℕ)
+    (inside : start < length states) (sight : Sight) (short : end ≤ size) where
   abbrev graph : PriorityGraph
   graph = automaton_over around states end
 
@@ -156,7 +157,8 @@ module _ (around : Surroundings) (size : ℕ) (states : List State) (names : All
       let after = later (suc n) (i + 1) in
       let arrives : first (i + 1) (arrived states (next_stack xs l0 i)) ≡ first (i + 1) (next_stack xs l0 i) =
       arrived-first around states names end graph steps-there (i + 1) next (next_stack xs l0 i) (next_stack-below xs l0 i (staying-below holding qs below)) in
-      let begins : option_or (first (i + 1) (onto xs i ++ begun start (l1 && true))) (where_there l1 (later n (i + 1 + 1))) ≡ option_or (first (i + 1) (onto xs i)) (where_there l1 after) =
+      let begins : option_or (first (i + 1) (onto xs i ++ begun start (l1 && true))) (where_there l1 (later n (i + 1 + 1)))
+      ≡ option_or (first (i + 1) (onto xs i)) (where_there l1 after) =
       seeded-first graph anywhere start n (i + 1) l1 (onto xs i) in
       let reads : option_or (first (i + 1) (onto xs i)) here ≡ first i ts =
       sym (subst (λ a. first i ts ≡ option_or (first (i + 1) (targets states (around.byte i) (cut a ts))) (match_here a i ts)) (accepts-here i le)
@@ -178,7 +180,8 @@ module _ (around : Surroundings) (size : ℕ) (states : List State) (names : All
       let le : i ≤ end = omega arith in
       let xs = staying holding qs in
       let ts = resting states xs in
-      let last : first i ts ≡ match_here (accepts_at graph i) i ts = subst (λ e. first e ts ≡ match_here (accepts_at graph e) e ts) (sym same) (end-first around states end graph steps-there xs) in
+      let last : first i ts ≡ match_here (accepts_at graph i) i ts =
+      subst (λ e. first e ts ≡ match_here (accepts_at graph e) e ts) (sym same) (end-first around states end graph steps-there xs) in
       sym (last ∙ ap (λ a. match_here a i ts) (accepts-here i le))
       ∙ sym (or-none_right (first i ts))
       ∙ ap (option_or (first i ts)) (sym (ap (where_there (kept qs loops)) (told_later-none graph anywhere start (i + 1)) ∙ where_there-none (kept qs loops)))

@@ -85,7 +85,8 @@ module _ (nfa : Nfa) (range : IsInRange nfa) (r : Patterns) (has_runs : HasRever
     (b a : ℕ) (within : b ≤ length text)
     (m : Match) (next : next_match r text free b a ≡ Some m) (last : Option ℕ)
     (sees : Sees sight (backwards nfa.terminator text) (length text) nfa.states last (length text - a) (length text - m.trace.end)) where
-  pub start-found : reverse_answer_of nfa sight text (anchored_to m.trace.pattern) last m.trace.end a ≡ Some (record { pattern = m.trace.pattern; offset = m.start })
+  pub start-found : reverse_answer_of nfa sight text (anchored_to m.trace.pattern) last m.trace.end a
+      ≡ Some (record { pattern = m.trace.pattern; offset = m.start })
   start-found =
       let order = lies in
       let low = order.0 in
@@ -110,10 +111,12 @@ module _ (nfa : Nfa) (range : IsInRange nfa) (r : Patterns) (has_runs : HasRever
       begins : MeansUpTo r text (anchored_to m.trace.pattern) m.trace.end m.trace.pattern m.start
       begins = starts r text utf8.ordered (λ on. utf8) b a m next
 
-      same : (h : HalfMatchValue) → IsLeastStart r text (anchored_to m.trace.pattern) m.trace.end a h → h ≡ record { pattern = m.trace.pattern; offset = m.start }
+      same : (h : HalfMatchValue) → IsLeastStart r text (anchored_to m.trace.pattern) m.trace.end a h
+          → h ≡ record { pattern = m.trace.pattern; offset = m.start }
       same h l =
           let pattern : h.pattern ≡ m.trace.pattern = l.means.sought in
           let up = l.longest m.trace.pattern m.start lies.0 lies.1 begins in
-          let down = no-earlier r text utf8.ordered (λ on. utf8) b a m next h.offset l.from l.to (subst (λ p. MeansUpTo r text (anchored_to m.trace.pattern) m.trace.end p h.offset) pattern l.means) in
+          let down = no-earlier r text utf8.ordered (λ on. utf8) b a m next h.offset l.from l.to
+          (subst (λ p. MeansUpTo r text (anchored_to m.trace.pattern) m.trace.end p h.offset) pattern l.means) in
           let place : h.offset ≡ m.start = omega arith in
           λ k. record { pattern = pattern k; offset = place k }

@@ -66,14 +66,19 @@ with_pattern-ascends p (x ∷ xs) h =
     by_test (nat_lt p x)
     (λ e.
     let lt : p < x = grind (arith, nat_tests) in
-    rw e (λ y k. or-cases (x == y) (has xs y) k (λ same. let is : x ≡ y = (Decides-eqb x y).0 same in omega arith) (λ behind. let more = h.0 y behind in omega arith), h))
+    rw e (
+      λ y k. or-cases (x == y) (has xs y) k (λ same. let is : x ≡ y = (Decides-eqb x y).0 same in omega arith)
+          (λ behind. let more = h.0 y behind in omega arith),
+      h,
+    ))
     (λ e.
     by_test (p == x)
     (λ k. rw (e, k) h)
     (λ k.
     let lt : x < p = grind (arith, nat_tests) in
     rw (e, k) (
-      λ y m. or-cases (p == y) (has xs y) (sym (with_pattern-has p xs y) ∙ m) (λ same. let is : p ≡ y = (Decides-eqb p y).0 same in omega arith) (λ behind. h.0 y behind),
+      λ y m. or-cases (p == y) (has xs y) (sym (with_pattern-has p xs y) ∙ m) (λ same. let is : p ≡ y = (Decides-eqb p y).0 same in omega arith)
+          (λ behind. h.0 y behind),
       with_pattern-ascends p xs h.1,
     )))
 
@@ -132,7 +137,8 @@ and-true : (b : Bool) → (b && true) ≡ b
 and-true true = refl
 and-true false = refl
 
-module _ (around : Surroundings) (size : ℕ) (states : List State) (names : Each (NamesBelow (length states)) states) (end start : ℕ) (inside : start < length states) (sight : Sight) (short : end ≤ size) (p : ℕ) where
+module _ (around : Surroundings) (size : ℕ) (states : List State) (names : Each (NamesBelow (length states)) states) (end start : ℕ)
+    (inside : start < length states) (sight : Sight) (short : end ≤ size) (p : ℕ) where
   abbrev whole : PriorityGraph
   whole = automaton_over around states end
 
@@ -158,7 +164,8 @@ module _ (around : Surroundings) (size : ℕ) (states : List State) (names : Eac
       each = sifted-none (only p end) i (λ x. ap (λ b. (x == p) && b) apart ∙ and-false (x == p)) (whole.accepted (at q i))
 
   accepted-here : accepts_at g end ≡ accepts_only states p end
-  accepted-here = let le : end ≤ end = omega arith in λ k q. sifted (only p end) end (accepts-here around size states names end start inside sight short end le k q)
+  accepted-here =
+      let le : end ≤ end = omega arith in λ k q. sifted (only p end) end (accepts-here around size states names end start inside sight short end le k q)
 
   over-end : (xs : List ℕ) → is_some (first end (resting states xs)) ≡ has (accepted_by states (resting states xs)) p
   over-end xs =
@@ -247,7 +254,8 @@ module _ (around : Surroundings) (size : ℕ) (states : List State) (names : Eac
       let place : i + suc n ≡ i + 1 + n = omega arith in
       let here = accepted_by states (resting states xs) in
       let next = settled All states (arrived states ys) loops here (sight.class (around.byte i)) in
-      let begins : option_or (first (i + 1) (onto xs i ++ begun start (loops && true))) (where_there loops (later n (i + 1 + 1))) ≡ option_or (first (i + 1) (onto xs i)) (where_there loops (later (suc n) (i + 1))) =
+      let begins : option_or (first (i + 1) (onto xs i ++ begun start (loops && true))) (where_there loops (later n (i + 1 + 1)))
+      ≡ option_or (first (i + 1) (onto xs i)) (where_there loops (later (suc n) (i + 1))) =
       seeded-first g anywhere start n (i + 1) loops (onto xs i) in
       ap (λ j. has (end_key All states sight (key_at All states start sight around n (i + 1) next) (byte_within around.byte size j)).matches p) place
       ∙ run-all n (i + 1) (omega arith) loops here (sight.class (around.byte i)) (arrived states ys) (arrived-below states names ys ys-below)
@@ -412,7 +420,8 @@ module _ (around : Surroundings) (size : ℕ) (states : List State) (names : Eac
 abbrev LastMet : (told : ℕ → List ℕ) → (i n : ℕ) → (best result : Option HalfMatchValue) → Type 0
 LastMet told i n best result =
     (((j : ℕ) → j ≤ n → told j ≡ []) × (result ≡ best))
-    ⊎ ((j : ℕ) × (p : ℕ) × (ps : List ℕ) × (j ≤ n) × (told j ≡ p ∷ ps) × (result ≡ Some (record { pattern = p; offset = i + j })) × ((more : ℕ) → j < more → more ≤ n → told more ≡ []))
+    ⊎ ((j : ℕ) × (p : ℕ) × (ps : List ℕ) × (j ≤ n) × (told j ≡ p ∷ ps) × (result ≡ Some (record { pattern = p; offset = i + j }))
+    × ((more : ℕ) → j < more → more ≤ n → told more ≡ []))
 
 -- what was met where each place may be an end is what is met
 met-best : (may : ℕ → Bool) (ms : List ℕ) (i : ℕ) (r : Progress) → (met_within may ms i r).best ≡ met (if may i then ms else []) i r.best
@@ -486,7 +495,8 @@ module _ (states : List State) (start : ℕ) (sight : Sight) (around : Surroundi
           let place : i + 1 + j ≡ i + suc j = omega arith in
           inr (suc j, l.1, l.2, omega arith, next-tells k i j ∙ l.4, l.5 ∙ ap (λ x. Some (record { pattern = l.1; offset = x })) place, latest l)
         where
-          latest : (l : (j : ℕ) × (p : ℕ) × (ps : List ℕ) × (j ≤ n) × (further j ≡ p ∷ ps) × (result ≡ Some (record { pattern = p; offset = i + 1 + j })) × ((more : ℕ) → j < more → more ≤ n → further more ≡ []))
+          latest : (l : (j : ℕ) × (p : ℕ) × (ps : List ℕ) × (j ≤ n) × (further j ≡ p ∷ ps) × (result ≡ Some (record { pattern = p; offset = i + 1 + j }))
+              × ((more : ℕ) → j < more → more ≤ n → further more ≡ []))
               → (more : ℕ) → suc l.0 < more → more ≤ suc n → tells_of k i more ≡ []
           latest l zero lt high = absurd (omega arith)
           latest l (suc more) lt high = next-tells k i more ∙ l.6 more (omega arith) (omega arith)
@@ -536,7 +546,8 @@ module _ (around : Surroundings) (size : ℕ) (states : List State) (names : Eac
 
   -- of an ascending list the first is least
   least-of : (p : ℕ) (ps : List ℕ) → Ascends (p ∷ ps) → (x : ℕ) → has (p ∷ ps) x ≡ true → p ≤ x
-  least-of p ps up x h = or-cases (p == x) (has ps x) h (λ same. let is : p ≡ x = (Decides-eqb p x).0 same in omega arith) (λ behind. let more = up.0 x behind in omega arith)
+  least-of p ps up x h =
+      or-cases (p == x) (has ps x) h (λ same. let is : p ≡ x = (Decides-eqb p x).0 same in omega arith) (λ behind. let more = up.0 x behind in omega arith)
 
   -- a place of which something counts is one at which a match may end
   counted-some : (t : Bool) (xs : List ℕ) (p : ℕ) (ps : List ℕ) → (if t then xs else []) ≡ p ∷ ps → (t ≡ true) × (xs ≡ p ∷ ps)

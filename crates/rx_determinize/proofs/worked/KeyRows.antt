@@ -69,16 +69,19 @@ unfolding start_key close
 starts_both = refl
 
 -- the list is cut after the first that accepts, and the loop with it; the match is not yet told
-cut_after_match : step_key LeftmostFirst a_or_ab 0 blind (start_key LeftmostFirst a_or_ab 0 true None) 97 ≡ record { threads = 2 ∷ []; loops = false; matches = []; before = None }
+cut_after_match : step_key LeftmostFirst a_or_ab 0 blind (start_key LeftmostFirst a_or_ab 0 true None) 97
+    ≡ record { threads = 2 ∷ []; loops = false; matches = []; before = None }
 unfolding start_key step_key close
 cut_after_match = refl
 
 -- it is told after the next byte, or after the end of input
-told_late : step_key LeftmostFirst a_or_ab 0 blind (step_key LeftmostFirst a_or_ab 0 blind (start_key LeftmostFirst a_or_ab 0 true None) 97) 98 ≡ record { threads = []; loops = false; matches = 0 ∷ []; before = None }
+told_late : step_key LeftmostFirst a_or_ab 0 blind (step_key LeftmostFirst a_or_ab 0 blind (start_key LeftmostFirst a_or_ab 0 true None) 97) 98
+    ≡ record { threads = []; loops = false; matches = 0 ∷ []; before = None }
 unfolding start_key step_key close
 told_late = refl
 
-told_at_end : end_key LeftmostFirst a_or_ab blind (step_key LeftmostFirst a_or_ab 0 blind (start_key LeftmostFirst a_or_ab 0 true None) 97) None ≡ record { threads = []; loops = false; matches = 0 ∷ []; before = None }
+told_at_end : end_key LeftmostFirst a_or_ab blind (step_key LeftmostFirst a_or_ab 0 blind (start_key LeftmostFirst a_or_ab 0 true None) 97) None
+    ≡ record { threads = []; loops = false; matches = 0 ∷ []; before = None }
 unfolding start_key step_key end_key close
 told_at_end = refl
 
@@ -131,7 +134,8 @@ unfolding start_key step_key end_key close run_keys
 few = refl
 
 -- no state stands twice on the list: the thread that began first goes before the one of the loop
-once : step_key LeftmostFirst few_as_b 0 blind (start_key LeftmostFirst few_as_b 0 true None) 97 ≡ record { threads = 2 ∷ 1 ∷ []; loops = true; matches = []; before = None }
+once : step_key LeftmostFirst few_as_b 0 blind (start_key LeftmostFirst few_as_b 0 true None) 97
+    ≡ record { threads = 2 ∷ 1 ∷ []; loops = true; matches = []; before = None }
 unfolding start_key step_key close
 once = refl
 
@@ -183,7 +187,8 @@ waits : start_key LeftmostFirst word_a 0 true None ≡ record { threads = 0 ∷ 
 unfolding start_key close
 waits = refl
 
-after_word : step_key LeftmostFirst word_a 0 words (start_key LeftmostFirst word_a 0 true None) 98 ≡ record { threads = 0 ∷ []; loops = true; matches = []; before = Some 1 }
+after_word : step_key LeftmostFirst word_a 0 words (start_key LeftmostFirst word_a 0 true None) 98
+    ≡ record { threads = 0 ∷ []; loops = true; matches = []; before = Some 1 }
 unfolding start_key step_key close
 after_word = refl
 
@@ -262,7 +267,8 @@ snow_anchored : permitted_answer_of (nfa_of (Look WordAsciiNegate 1 ∷ Match 0 
 unfolding start_key step_key end_key close run_within answer_within
 snow_anchored = refl
 
-too_early : run_keys LeftmostFirst turns 0 words (forwards 10 (97 ∷ 97 ∷ [])) 2 2 0 (record { threads = 1 ∷ 4 ∷ []; loops = false; matches = []; before = None }) None ≡ ends 0 1
+too_early : run_keys LeftmostFirst turns 0 words (forwards 10 (97 ∷ 97 ∷ [])) 2 2 0
+    (record { threads = 1 ∷ 4 ∷ []; loops = false; matches = []; before = None }) None ≡ ends 0 1
 unfolding start_key step_key end_key close run_keys
 too_early = refl
 
@@ -283,12 +289,14 @@ unfolding next_match_of first_start first_past first_within automaton_over graph
 signs_model = refl
 
 -- after the first byte the repetition's choice, state 4, stands on the list
-signs_after : step_key LeftmostFirst signs 0 not_words (start_key LeftmostFirst signs 0 false None) 45 ≡ record { threads = 4 ∷ 1 ∷ 5 ∷ []; loops = false; matches = []; before = Some 0 }
+signs_after : step_key LeftmostFirst signs 0 not_words (start_key LeftmostFirst signs 0 false None) 45
+    ≡ record { threads = 4 ∷ 1 ∷ 5 ∷ []; loops = false; matches = []; before = Some 0 }
 unfolding start_key step_key close
 signs_after = refl
 
 -- without it the match would end a byte too early
-signs_too_early : run_keys LeftmostFirst signs 0 not_words (forwards 10 (45 ∷ 43 ∷ 43 ∷ [])) 3 2 1 (record { threads = 1 ∷ 5 ∷ []; loops = false; matches = []; before = Some 0 }) None ≡ ends 0 2
+signs_too_early : run_keys LeftmostFirst signs 0 not_words (forwards 10 (45 ∷ 43 ∷ 43 ∷ [])) 3 2 1
+    (record { threads = 1 ∷ 5 ∷ []; loops = false; matches = []; before = Some 0 }) None ≡ ends 0 2
 unfolding start_key step_key end_key close run_keys
 signs_too_early = refl
 

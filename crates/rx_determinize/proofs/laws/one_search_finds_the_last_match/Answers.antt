@@ -7,4 +7,5 @@ returns-clause-some c = λ around size states names start inside sight may b a l
 
 pub returns-clause-none : goal.returns-clause-none
 returns-clause-none c = λ around size states names start inside sight may b a le short before loops sees none pattern e low high on r.
-    last-none around size states names start inside sight may b a le short before loops (λ j from to alive. sees.sees j from to alive) none pattern e low high on r
+    last-none around size states names start inside sight may b a le short before loops (λ j from to alive. sees.sees j from to alive) none pattern
+    e low high on r

@@ -7,4 +7,5 @@ returns-clause-some c = λ nfa range r runs sight text b a le within anchor utf8
 
 pub returns-clause-none : goal.returns-clause-none
 returns-clause-none c = λ nfa range r runs sight text b a le within anchor utf8 last start begins sees none pattern i low high on m.
-    once-none nfa range r runs sight text b a le within anchor utf8 last start begins (λ j from to alive. sees.sees j from to alive) none pattern i low high on m
+    once-none nfa range r runs sight text b a le within anchor utf8 last start begins (λ j from to alive. sees.sees j from to alive) none pattern
+    i low high on m
