@@ -32,7 +32,8 @@ use Rattle.rx_dfa.proofs.lemmas.ForwardLemmas.{before-next, along-between}
 
 -- What is met at a distance.
 
-or-mapped : (size place : ℕ) (o : Option ℕ) → option_map (λ d. size - d) (option_or o (Some place)) ≡ option_or (option_map (λ d. size - d) o) (Some (size - place))
+or-mapped : (size place : ℕ) (o : Option ℕ) → option_map (λ d. size - d) (option_or o (Some place))
+    ≡ option_or (option_map (λ d. size - d) o) (Some (size - place))
 or-mapped size place None = refl
 or-mapped size place (Some x) = refl
 
@@ -57,7 +58,8 @@ pub tells-backwards : (d : Dfa) → IsSound d → d.nfa.reverse ≡ true → (te
 tells-backwards d sound reverse text bytes k b e before within low high readable =
     let place : length text - (length text - e) ≡ e = omega arith in
     subst
-    (λ r. Sees (class_sight d.nfa.terminator r d.keeps d.classes d.bytes) (backwards d.nfa.terminator text) (length text) d.nfa.states k.before e (length text - b))
+    (λ r. Sees (class_sight d.nfa.terminator r d.keeps d.classes d.bytes) (backwards d.nfa.terminator text) (length text) d.nfa.states k.before e
+    (length text - b))
     (sym reverse)
     (subst
     (λ o. Sees (class_sight d.nfa.terminator true d.keeps d.classes d.bytes) (backwards d.nfa.terminator text) (length text) d.nfa.states o e (length text - b))
@@ -155,7 +157,8 @@ module _ (d : Dfa) (sound : IsSound d) (reverse : d.nfa.reverse ≡ true) (text 
           at_distances = met_within may (next_key d (key_back at) byte).matches (size - at) r;
           is = met-back at (next_key d (key_back at) byte).matches met met' r le back.is is;
           going = subst
-              (λ i. Going holds a new next d around may (read_last text) size (size - end) k i (met_within may (next_key d (key_back at) byte).matches (size - at) r))
+              (λ i. Going holds a new next d around may (read_last text) size (size - end) k i
+              (met_within may (next_key d (key_back at) byte).matches (size - at) r))
               place
               (going-next d around may (read_last text) size (size - start) (size - end) (omega arith) k holds a cache new state next (size - at) r
               (met_within may (next_key d (key_back at) byte).matches (size - at) r) byte (omega arith) (byte-back at before byte lt le before_is byte_is)
@@ -363,7 +366,8 @@ module _ (d : Dfa) (sound : IsSound d) (all : d.kind ≡ All) (v : InputValue) (
         (λ h is. subst (λ a. IsLeastStartWhere r nfa.utf8 text v.anchor v.end a h) (to-start (inr each)) (least-there h is));
     none = if-missing met.best ((p i : ℕ) → v.start ≤ i → i ≤ v.end → is_permitted nfa.utf8 text i ≡ true → MeansUpTo r text v.anchor v.end p i → ⊥)
         (λ none p i low high on means. let same = to-start (inl none) in none-there none p i (omega arith) high on means);
-    is_match = if-found met.best (λ h. (v.start ≤ h.offset) × (h.offset ≤ v.end) × (is_permitted nfa.utf8 text h.offset ≡ true) × MeansUpTo r text v.anchor v.end h.pattern h.offset)
+    is_match = if-found met.best (λ h. (v.start ≤ h.offset) × (h.offset ≤ v.end) × (is_permitted nfa.utf8 text h.offset ≡ true)
+        × MeansUpTo r text v.anchor v.end h.pattern h.offset)
         (λ h is.
         let l = least-there h is in
         let far = stop-low in

@@ -37,7 +37,8 @@ module _ (nfa : Nfa) (r : Patterns) (v : InputValue) (spanned : v.end ≤ length
     (h : HalfMatchValue) (f : IsForwardAnswer nfa v (Some h)) where
   -- the next match of the patterns has the half that the next match of the NFA has
   agree : (to from : ℕ) → to ≤ length v.haystack
-      → option_map half_match_value (next_match_of nfa nfa.utf8 v.haystack v.anchor to from) ≡ option_map half_match_value (next_match r v.haystack v.anchor to from)
+      → option_map half_match_value (next_match_of nfa nfa.utf8 v.haystack v.anchor to from)
+      ≡ option_map half_match_value (next_match r v.haystack v.anchor to from)
   agree to from le =
       ap (option_map half_match_value) (next_match_of-patterns nfa r v.haystack to le p.is_for.runs nfa.utf8 v.anchor from p.is_for.utf8)
       ∙ told-half r.which_captures (next_match r v.haystack v.anchor to from)
@@ -59,7 +60,8 @@ module _ (nfa : Nfa) (r : Patterns) (v : InputValue) (spanned : v.end ≤ length
   next-ended whole = mapped-some half_match_value (next_in r v) h (sym (f.value whole ∙ agree v.end v.start spanned))
 
   -- its pattern means it
-  means-there : (to from : ℕ) (m : Match) → next_match r v.haystack v.anchor to from ≡ Some m → MeansUpTo r v.haystack v.anchor m.trace.end m.trace.pattern m.start
+  means-there : (to from : ℕ) (m : Match) → next_match r v.haystack v.anchor to from ≡ Some m
+      → MeansUpTo r v.haystack v.anchor m.trace.end m.trace.pattern m.start
   means-there to from m next =
       let run = (next-is r v.haystack v.anchor to from m next).run in
       record {

@@ -33,7 +33,8 @@ not-true true h = absurd (true≢false (sym h))
 not-true false h = refl
 
 pub dead-threads : (k : Key) → is_dead k ≡ true → k.threads ≡ []
-dead-threads k dead = is_empty-nil k.threads (and-left (is_empty k.threads) (not k.loops) (and-left (is_empty k.threads && not k.loops) (is_empty k.matches) dead))
+dead-threads k dead =
+    is_empty-nil k.threads (and-left (is_empty k.threads) (not k.loops) (and-left (is_empty k.threads && not k.loops) (is_empty k.matches) dead))
 
 pub dead-loops : (k : Key) → is_dead k ≡ true → k.loops ≡ false
 dead-loops k dead = not-true k.loops (and-right (is_empty k.threads) (not k.loops) (and-left (is_empty k.threads && not k.loops) (is_empty k.matches) dead))
@@ -81,7 +82,8 @@ module _ (d : Dfa) (around : Surroundings) (may : ℕ → Bool) (beside : ℕ �
       ∙ ap (λ p. next_key d (key at) (around.byte p)) place
 
   step-progress : (e at : ℕ) → at < e → (x : Key) (r : Progress)
-      → progress (e - at) at x r ≡ progress (e - (at + 1)) (at + 1) (next_key d x (around.byte at)) (met_within may (next_key d x (around.byte at)).matches at r)
+      → progress (e - at) at x r ≡ progress (e - (at + 1)) (at + 1) (next_key d x (around.byte at))
+      (met_within may (next_key d x (around.byte at)).matches at r)
   unfolding run_within
   step-progress e at lt x r = let count : e - at ≡ suc (e - (at + 1)) = omega arith in ap (λ n. progress n at x r) count
 

@@ -166,7 +166,8 @@ pub past-none : (nfa : Nfa) (utf8 : Bool) (text : List ℕ) (anchor : Anchor) (b
 unfolding next_match_of first_start
 past-none nfa utf8 text _ b a lt = let past : nat_lt b a ≡ true = grind (arith, nat_tests) in rw past refl
 
-none-there : (nfa : Nfa) → IsInRange nfa → (sight : Sight) (utf8 : Bool) (text : List ℕ) (anchor : Anchor) (b a : ℕ) → b ≤ length text → start_of nfa anchor ≡ None
+none-there : (nfa : Nfa) → IsInRange nfa → (sight : Sight) (utf8 : Bool) (text : List ℕ) (anchor : Anchor) (b a : ℕ) → b ≤ length text
+    → start_of nfa anchor ≡ None
     → next_match_of nfa utf8 text anchor b a ≡ None
 unfolding next_match_of
 none-there nfa range sight utf8 text anchor b a within none =
@@ -284,7 +285,8 @@ pub record Stands (d : Dfa) (v : InputValue) (from : ℕ) : Type 0 where
   pub over : d.kind ≡ All → IsOver d v from
 
 -- the premises of a later part of the span
-abbrev later-premises : (m : Nfa) (v : InputValue) (from : ℕ) (r : Patterns) → Premises (IsNfaOf m r) None r v → Premises (IsNfaOf m r) None r (from_place from v)
+abbrev later-premises : (m : Nfa) (v : InputValue) (from : ℕ) (r : Patterns) → Premises (IsNfaOf m r) None r v
+    → Premises (IsNfaOf m r) None r (from_place from v)
 later-premises m v from r p = record { is_for = p.is_for; begins = p.begins; utf8 = p.utf8 }
 
 -- where no match starts from that place on, there is none
@@ -326,7 +328,8 @@ module _ (d : Dfa) (sound : IsSound d) (v : InputValue) (spanned : v.end ≤ len
         value = λ whole.
             elim m.whole [
               | inl same ↦ sym
-                  (stands.next leftmost r p ∙ ap (λ e. option_map half_match_value (next_match_of d.nfa d.nfa.utf8 v.haystack v.anchor e from)) (sym same) ∙ once)
+                  (stands.next leftmost r p ∙ ap (λ e. option_map half_match_value (next_match_of d.nfa d.nfa.utf8 v.haystack v.anchor e from))
+                  (sym same) ∙ once)
               | inr early ↦ absurd (true≢false (sym early.0 ∙ whole))
             ];
         exists = sym there;

@@ -122,7 +122,8 @@ module _ (d : Dfa) (sound : IsSound d) where
   along-below : (around : Surroundings) (may : ℕ → Bool) (size b a : ℕ) (k : Key) (earliest : Bool) (r : Progress)
       → IsMetAlong d around may size b a k earliest r → HasBelow (length d.nfa.starts) r.best
   along-below around may size b a k earliest r m =
-      subst (λ (x : Progress). HasBelow (length d.nfa.starts) x.best) (sym m.is) (run-below around may size (m.stop - a) a k fresh (λ h none. none-is-some none))
+      subst (λ (x : Progress). HasBelow (length d.nfa.starts) x.best) (sym m.is)
+      (run-below around may size (m.stop - a) a k fresh (λ h none. none-is-some none))
 
   pub forwards-below : (v : InputValue) (r : Progress) → IsMetForwards d v r → (h : HalfMatchValue) → r.best ≡ Some h → h.pattern < length d.nfa.starts
   forwards-below v r m h is =

@@ -78,7 +78,8 @@ returns-in_default-refused-clause-answer g c = λ r p leftmost.
     let from = c.starts.rest.start in
     let spanned = c.clone-rest.ensures.spanned.end in
     let m : IsMetForwards d (from_place from v) c.in-Ok.met = subst (λ (w : InputValue). IsMetForwards d w c.in-Ok.met) i.rest c.in-Ok.ensures.met in
-    answer-unrefused d c.in-Ok.ensures.sound v spanned from i.stands c.in-Ok.met m (best_is ∙ c.in_default.is) (refused_is ∙ c.in_default-refused.is) r p leftmost
+    answer-unrefused d c.in-Ok.ensures.sound v spanned from i.stands c.in-Ok.met m (best_is ∙ c.in_default.is)
+    (refused_is ∙ c.in_default-refused.is) r p leftmost
 
 pub overflow_add-refused : goal.overflow_add-refused
 overflow_add-refused g c =

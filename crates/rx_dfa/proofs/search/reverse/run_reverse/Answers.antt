@@ -48,7 +48,9 @@ bytes-init g c =
     record {
       low = omega arith;
       high = omega arith;
-      going = subst (λ i. GoingBehind g.A.Automaton.holds c.args.dfa.now c.start_reverse.new.cache c.in-Ok.state d v i c.new-met.result) (sym c.end-at.ensures.value)
+      going =
+          subst (λ i. GoingBehind g.A.Automaton.holds c.args.dfa.now c.start_reverse.new.cache c.in-Ok.state d v i c.new-met.result)
+          (sym c.end-at.ensures.value)
           (subst (λ x. GoingBehind g.A.Automaton.holds c.args.dfa.now c.start_reverse.new.cache c.in-Ok.state d v v.end x) (sym c.new-met.ensures) first);
       bytes = bytes;
       fits = c.in-Ok.ensures.fits;
