@@ -100,7 +100,8 @@ module _ {s : Search} {words words' : List ℕ} {new : Bool} {q i : ℕ} (t : In
   -- it accepts
   pub inserted-accepts : new ≡ true → {before : Passed} {goal : Option Answer} {base : Slots} {rest : List Frame} {slots : Slots} (pattern : ℕ)
       → (graph_for s).accepted (at q i) ≡ Some pattern
-      → Searching (graph_for s) before (passed_by s words) goal base (Explore q i ∷ rest) slots → goal ≡ Some (record { pattern = pattern; end = i; slots = slots })
+      → Searching (graph_for s) before (passed_by s words) goal base (Explore q i ∷ rest) slots
+      → goal ≡ Some (record { pattern = pattern; end = i; slots = slots })
   inserted-accepts unseen pattern accepts x = Searching-accepted x (automaton-bounded (forwards s.matcher s.text.now) s.states.now s.end) pattern
       (new_here unseen) accepts
 

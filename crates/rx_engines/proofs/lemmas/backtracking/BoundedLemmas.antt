@@ -89,7 +89,8 @@ returned-some : (r : HalfMatchValue) (slots slots' : Slots) (o : Option Trace) �
     → (t : Trace) × (o ≡ Some t) × (r.pattern ≡ t.pattern) × (r.offset ≡ t.end) × (slots' ≡ write_all t.writes slots)
 returned-some r slots slots' None h = none-is-some (sym h)
 returned-some r slots slots' (Some t) h =
-    let e : record { pattern = r.pattern; end = r.offset; slots = slots' } ≡ record { pattern = t.pattern; end = t.end; slots = write_all t.writes slots } = some-is h in
+    let e : record { pattern = r.pattern; end = r.offset; slots = slots' }
+    ≡ record { pattern = t.pattern; end = t.end; slots = write_all t.writes slots } = some-is h in
     (t, refl, ap (λ (a : Answer). a.pattern) e, ap (λ (a : Answer). a.end) e, ap (λ (a : Answer). a.slots) e)
 
 -- it ends where it began or after it

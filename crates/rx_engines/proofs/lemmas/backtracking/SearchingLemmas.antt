@@ -24,7 +24,8 @@ unfolding undone
 undone-explore_all [] rest slots = refl
 undone-explore_all (d ∷ ds) rest slots = undone-explore_all ds rest slots
 
-module _ {g : PriorityGraph} {before p : Passed} {goal : Option Answer} {base : Slots} {q i : ℕ} {rest : List Frame} {slots : Slots} (s : Searching g before p goal base (Explore q i ∷ rest) slots) where
+module _ {g : PriorityGraph} {before p : Passed} {goal : Option Answer} {base : Slots} {q i : ℕ} {rest : List Frame} {slots : Slots}
+    (s : Searching g before p goal base (Explore q i ∷ rest) slots) where
   -- the top was passed before
   pub Searching-passed : p (at q i) ≡ true → Searching g before p goal base rest slots
   unfolding pending undone
@@ -35,7 +36,8 @@ module _ {g : PriorityGraph} {before p : Passed} {goal : Option Answer} {base : 
   }
 
   -- the top accepts
-  pub Searching-accepted : IsBounded g → (pattern : ℕ) → p (at q i) ≡ false → g.accepted (at q i) ≡ Some pattern → goal ≡ Some (record { pattern = pattern; end = i; slots = slots })
+  pub Searching-accepted : IsBounded g → (pattern : ℕ) → p (at q i) ≡ false → g.accepted (at q i) ≡ Some pattern
+      → goal ≡ Some (record { pattern = pattern; end = i; slots = slots })
   unfolding pending
   Searching-accepted bounded pattern new accepts = sym (rw (found-accepted g p bounded (at q i) pattern new accepts) at s.value)
 

@@ -84,7 +84,8 @@ module _ (terminator : ℕ) (states : List State) (text : List ℕ) (end later :
       let y = run-is_found far (automaton-bounded (forwards terminator text) states later) x.0 nowhere c run in
       rw y.1 refl
 
-module _ (nfa : Nfa) (v : InputValue) (spanned : v.end ≤ length v.haystack) (unanchored : v.anchor ≡ free) (end i : ℕ) (le : end ≤ v.end) (low : v.start ≤ i) (high : i ≤ v.end) where
+module _ (nfa : Nfa) (v : InputValue) (spanned : v.end ≤ length v.haystack) (unanchored : v.anchor ≡ free) (end i : ℕ) (le : end ≤ v.end) (low : v.start ≤ i)
+    (high : i ≤ v.end) where
   abbrev found_here : Option Trace
   found_here = first_trace (automaton nfa.terminator nfa.states v.haystack end) (at nfa.start_anchored i)
 
@@ -122,7 +123,8 @@ module _ (nfa : Nfa) (v : InputValue) (spanned : v.end ≤ length v.haystack) (u
   begun-none known are not_here = by-bytes known.bytes are not_here
 
 -- No run starts at a place of the search of an input that is not offered, where all candidates are offered.
-module _ (nfa : Nfa) (v : InputValue) (s : Search) (of : IsSearchOf nfa v s) (spanned : v.end ≤ length v.haystack) (known : Candidates) (is_known : s.candidates.now ≡ known) (are : AreOf nfa known) where
+module _ (nfa : Nfa) (v : InputValue) (s : Search) (of : IsSearchOf nfa v s) (spanned : v.end ≤ length v.haystack) (known : Candidates)
+    (is_known : s.candidates.now ≡ known) (are : AreOf nfa known) where
   -- the search asks
   asked : (end i : ℕ) (test : Bool) → (if s.free then test else true) ≡ false
       → (v.anchor ≡ free → test ≡ false → first_trace (graph_until s end) (at s.start i) ≡ None)

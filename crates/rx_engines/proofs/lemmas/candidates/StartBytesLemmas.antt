@@ -71,7 +71,8 @@ module _ (states : List State) (marked : List Bool) (terminator : ℕ) (text : L
       goes e None h m = nothing_in d m
       goes e (Some next) h m = true≢false (sym (routed ts all (slice_index text i) next h) ∙ (rw e at not_here))
 
-  one : (low high next : ℕ) → HasRange marked low high → All (λ (t : Transition). HasRange marked t.start t.end) (record { start = low; end = high; next = next } ∷ [])
+  one : (low high next : ℕ) → HasRange marked low high
+      → All (λ (t : Transition). HasRange marked t.start t.end) (record { start = low; end = high; next = next } ∷ [])
   one low high next settled zero d lt = settled
   one low high next settled (suc k) d lt = absurd (omega arith)
 

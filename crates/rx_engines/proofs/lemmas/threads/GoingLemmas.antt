@@ -19,13 +19,15 @@ use Rattle.rx_engines.proofs.lemmas.threads.StartLemmas.{later-stable, after-ste
 use Rattle.rx_engines.proofs.lemmas.threads.StageLemmas.{Stage, byte-same, and-true, found-none, seed-fits, stage-passed, stage-passed_over, stage-matched, stage-past, stage-over, stage-accepted, stage-in_order, stage-silent, answer-stopped, answer-none, answer-late}
 
 -- What is known at place i, if these places are offered: of the end of the span, and of each end that the search might have.
-pub record Stages (offered : ℕ → Bool) (s : Search) (earliest : Bool) (width : ℕ) (best : Option MatchValue) (slots : Slots) (i next : ℕ) (p : Passed) (rows : List Row) (items : List ℕ) : Type 0 where
+pub record Stages (offered : ℕ → Bool) (s : Search) (earliest : Bool) (width : ℕ) (best : Option MatchValue) (slots : Slots) (i next : ℕ) (p : Passed)
+    (rows : List Row) (items : List ℕ) : Type 0 where
   pub value : Stage offered s width s.end (best_hit best slots) i next p rows items
   pub values : (e : ℕ) → i ≤ e → e ≤ s.end → Stage offered s width e (best_hit best slots) i next p rows items
   pub none_before : earliest ≡ true → (e : ℕ) → s.first ≤ e → e < i → next_until offered s e ≡ None
 
 -- Which places below `next` were offered, and what is known whatever places will be.
-pub record Going (s : Search) (earliest : Bool) (width : ℕ) (best : Option MatchValue) (slots : Slots) (i next : ℕ) (p : Passed) (rows : List Row) (items : List ℕ) : Type 0 where
+pub record Going (s : Search) (earliest : Bool) (width : ℕ) (best : Option MatchValue) (slots : Slots) (i next : ℕ) (p : Passed) (rows : List Row)
+    (items : List ℕ) : Type 0 where
   pub past : ℕ → Bool
   pub offers : (j : ℕ) → j < next → is_offered s j ≡ true → may_begin s j ≡ true → past j ≡ true
   pub stages : (offered : ℕ → Bool) → ((j : ℕ) → j < next → offered j ≡ past j) → Stages offered s earliest width best slots i next p rows items
@@ -87,7 +89,8 @@ in_order s inside =
 
 module _ (s : Search) (earliest : Bool) (width : ℕ) (inside : IsInside s) {best : Option MatchValue} {slots : Slots} where
   -- On from place i, with these threads.
-  module _ {i : ℕ} {rows : List Row} {items : List ℕ} {m : Bool} {n : ℕ} (m_is : m ≡ is_some best) (n_is : n ≡ length items) (g : Going s earliest width best slots i i (passed_at items i) rows items) where
+  module _ {i : ℕ} {rows : List Row} {items : List ℕ} {m : Bool} {n : ℕ} (m_is : m ≡ is_some best) (n_is : n ≡ length items)
+      (g : Going s earliest width best slots i i (passed_at items i) rows items) where
     -- there is no candidate from here on
     pub found-nowhere : i ≤ s.end → MayPass s m n i (s.end + 1) → (slots' : Slots) → IsFound s earliest width None slots'
     found-nowhere high may slots' =
@@ -152,7 +155,8 @@ module _ (s : Search) (earliest : Bool) (width : ℕ) (inside : IsInside s) {bes
     }
 
   -- At place k, once a thread started there or not.
-  module _ {k : ℕ} {rows : List Row} {items : List ℕ} (within : k ≤ s.end) (unmatched : earliest ≡ true → best ≡ None) (g : Going s earliest width best slots k (k + 1) nowhere rows items) where
+  module _ {k : ℕ} {rows : List Row} {items : List ℕ} (within : k ≤ s.end) (unmatched : earliest ≡ true → best ≡ None)
+      (g : Going s earliest width best slots k (k + 1) nowhere rows items) where
     abbrev final : ℕ → Bool
     final = finally s g.past (k + 1)
 

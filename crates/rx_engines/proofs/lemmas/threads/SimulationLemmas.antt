@@ -158,7 +158,8 @@ module _ {states : List State} {g : PriorityGraph} {i start : ℕ} {later : Pass
           rw (get_or-set_same rows q (start, slots) (0, []) lt)
           (sym (reached-is (found g nowhere (at q i))) ∙ ap (option_map reached) (sym is))
 
-module _ {states : List State} {g : PriorityGraph} {i start : ℕ} {later : Passed → Option Hit} {items : List ℕ} {rows : List Row} {slots : Slots} {goal : Option Hit} where
+module _ {states : List State} {g : PriorityGraph} {i start : ℕ} {later : Passed → Option Hit} {items : List ℕ} {rows : List Row} {slots : Slots}
+    {goal : Option Hit} where
   pub Waits-restored : (k : ℕ) (old : Option ℕ) (rest : List Frame) → Waits states g i start later items rows (Restore k old ∷ rest) slots goal
       → Waits states g i start later items rows rest (set slots k old) goal
   unfolding pending

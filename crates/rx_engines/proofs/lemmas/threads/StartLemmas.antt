@@ -45,7 +45,8 @@ first_start-more permitted f (suc n) (suc m) i le none =
     rw (first_start-more permitted f n m (i + 1) (omega arith) (λ j low. none j (omega arith))) refl
 
 -- a start, as a hit
-pub start-hit : (width i : ℕ) (o : Option Trace) → option_map (hit_of width) (option_map (λ t. record { start = i; trace = t }) o) ≡ hit i (answer (replicate width None) o)
+pub start-hit : (width i : ℕ) (o : Option Trace) → option_map (hit_of width) (option_map (λ t. record { start = i; trace = t }) o)
+    ≡ hit i (answer (replicate width None) o)
 start-hit width i None = refl
 start-hit width i (Some t) = refl
 
@@ -101,7 +102,8 @@ module _ (offered : ℕ → Bool) (s : Search) (end width : ℕ) where
   one-more : (i : ℕ) → i ≤ s.last → s.last + 1 - i ≡ suc (s.last + 1 - (i + 1))
   one-more i le = omega arith
 
-  starts-here : (p : Passed) (i : ℕ) → i ≤ s.last → may_start offered s i ≡ true → starts p i ≡ option_or (option_map (λ t. record { start = i; trace = t }) (found g p (at s.start i))) (starts p (i + 1))
+  starts-here : (p : Passed) (i : ℕ) → i ≤ s.last → may_start offered s i ≡ true
+      → starts p i ≡ option_or (option_map (λ t. record { start = i; trace = t }) (found g p (at s.start i))) (starts p (i + 1))
   starts-here p i le allowed =
       ap (λ n. first_of_starts g (may_start offered s) s.start n i p) (one-more i le)
       ∙ first_of_starts-here g (may_start offered s) s.start (s.last + 1 - (i + 1)) i p allowed

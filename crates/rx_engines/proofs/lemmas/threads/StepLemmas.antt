@@ -32,7 +32,8 @@ use Rattle.rx_nfa.proofs.lemmas.lists.TargetLemmas.{route-below, found-dead, fou
 use Rattle.rx_engines.proofs.lemmas.threads.SimulationLemmas.{among-alike}
 
 -- The threads put aside at the next place, then those that are left at this one, then what comes later.
-pub record Stepping (states : List State) (g : PriorityGraph) (i : ℕ) (later : Passed → Option Hit) (rows : List Row) (left : List ℕ) (items : List ℕ) (rows' : List Row) (goal : Option Hit) : Type 0 where
+pub record Stepping (states : List State) (g : PriorityGraph) (i : ℕ) (later : Passed → Option Hit) (rows : List Row) (left : List ℕ) (items : List ℕ)
+    (rows' : List Row) (goal : Option Hit) : Type 0 where
   pub value : option_or (among states g nowhere (i + 1) rows' items)
       (option_or (among states g (passed_at items (i + 1)) i rows left) (later (passed_at items (i + 1)))) ≡ goal
 
@@ -84,7 +85,8 @@ not-here items q i = passed_at-elsewhere items (i + 1) (at q i) (omega arith)
 
 module _ {states : List State} {g : PriorityGraph} {i : ℕ} {later : Passed → Option Hit} {rows : List Row} {items : List ℕ} {rows' : List Row}
     {goal : Option Hit}
-    (bounded : IsBounded g) (qs : List ℕ) (k q : ℕ) (lt : k < length qs) (here : q ≡ get_or qs k 0) (s : Stepping states g i later rows (drop k qs) items rows' goal) where
+    (bounded : IsBounded g) (qs : List ℕ) (k q : ℕ) (lt : k < length qs) (here : q ≡ get_or qs k 0)
+    (s : Stepping states g i later rows (drop k qs) items rows' goal) where
   -- the first of the threads stands alone
   parted : option_or (among states g nowhere (i + 1) rows' items)
       (option_or (thread states g (passed_at items (i + 1)) i rows q) (onward states g i rows (drop (k + 1) qs) later (passed_at items (i + 1)))) ≡ goal
@@ -97,7 +99,10 @@ module _ {states : List State} {g : PriorityGraph} {i : ℕ} {later : Passed →
       ∙ s.value
 
   pub Stepping-accepts : (pattern : ℕ) → is_resting (state_at states q) ≡ true → g.accepted (at q i) ≡ Some pattern
-      → option_or (among states g nowhere (i + 1) rows' items) (Some ((row_at rows q).0, record { pattern = pattern; end = i; slots = (row_at rows q).1 })) ≡ goal
+      → option_or (among states g nowhere (i + 1) rows' items) (Some (
+        (row_at rows q).0,
+        record { pattern = pattern; end = i; slots = (row_at rows q).1 },
+      )) ≡ goal
   Stepping-accepts pattern rests accepts = rw (thread-accepts states g i rows q bounded (passed_at items (i + 1)) (not-here items q i) pattern rests accepts) at
       parted
 
@@ -142,7 +147,8 @@ Acts states g end q i (To next after) =
 Acts states g end q i Back =
     (is_resting (state_at states q) ≡ false) ⊎ ((g.accepted (at q i) ≡ None) × (g.successors (at q i) ≡ []))
 
-module _ (terminator : ℕ) (states : List State) (text : List ℕ) (end q i : ℕ) (names : All (NamesBelow (length states)) states) (state : q < length states) (place : i ≤ end) where
+module _ (terminator : ℕ) (states : List State) (text : List ℕ) (end q i : ℕ) (names : All (NamesBelow (length states)) states) (state : q < length states)
+    (place : i ≤ end) where
   -- a state that reads a byte by these transitions
   acts-read : (s : State) (ts : List Transition) (after : ℕ) → state_at states q ≡ s → is_resting s ≡ true → state_accepts s ≡ None → state_writes s ≡ None
       → state_step (forwards terminator text) end s i ≡ read_byte (byte_of text) end ts i
@@ -172,10 +178,12 @@ module _ (terminator : ℕ) (states : List State) (text : List ℕ) (end q i : �
 
   acts : (s : State) (after : ℕ) → state_at states q ≡ s → Acts states (automaton terminator states text end) end q i (act_of s (byte_at text end i) after)
   acts (ByteRange low high next) after is =
-      acts-read (ByteRange low high next) (record { start = low; end = high; next = next } ∷ []) after is refl refl refl refl (only (names-known states q (ByteRange low high next) names state is))
+      acts-read (ByteRange low high next) (record { start = low; end = high; next = next } ∷ []) after is refl refl refl refl
+      (only (names-known states q (ByteRange low high next) names state is))
     where
       only : next < length states → All (λ (t : Transition). t.next < length states) (record { start = low; end = high; next = next } ∷ [])
-      only lt = All-cons (λ (t : Transition). t.next < length states) (record { start = low; end = high; next = next }) [] lt (All-nil (λ (t : Transition). t.next < length states))
+      only lt = All-cons (λ (t : Transition). t.next < length states) (record { start = low; end = high; next = next }) [] lt
+          (All-nil (λ (t : Transition). t.next < length states))
   acts (Sparse transitions) after is = acts-read (Sparse transitions) transitions after is refl refl refl refl
       (names-known states q (Sparse transitions) names state is)
   acts (Look look next) after is = inl (ap is_resting is)
@@ -215,7 +223,8 @@ act-idle (Capture next pattern slot) b after = refl
 act-idle Fail b after = refl
 act-idle (Accepts pattern) b after = refl
 
-module _ (terminator : ℕ) (states : List State) (text : List ℕ) (q i : ℕ) (names : All (NamesBelow (length states)) states) (state : q < length states) (rows : List Row) where
+module _ (terminator : ℕ) (states : List State) (text : List ℕ) (q i : ℕ) (names : All (NamesBelow (length states)) states) (state : q < length states)
+    (rows : List Row) where
   abbrev here : PriorityGraph
   here = automaton terminator states text i
 

@@ -22,7 +22,8 @@ EndsAt states q r =
 pub ends-here : (states : List State) (q : ℕ) → EndsAt states q q
 ends-here states q terminator text end i p le seen = found-passed (automaton terminator states text end) p (at q i) seen
 
-module _ (states : List State) (q r next pattern slot : ℕ) (lt : r < length states) (is : state_at states r ≡ Capture next pattern slot) (ends : EndsAt states q r)
+module _ (states : List State) (q r next pattern slot : ℕ) (lt : r < length states) (is : state_at states r ≡ Capture next pattern slot)
+    (ends : EndsAt states q r)
     (terminator : ℕ) (text : List ℕ) (end i : ℕ) (p : Passed) (le : i ≤ end) (seen : p (at next i) ≡ true) where
   abbrev g : PriorityGraph
   g = automaton terminator states text end

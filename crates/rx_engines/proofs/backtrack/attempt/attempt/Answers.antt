@@ -10,14 +10,16 @@ use Rattle.rx_engines.proofs.backtrack.attempt.attempt.Goals as goal
 pub returns-in-Some-clause-value : goal.returns-in-Some-clause-value
 returns-in-Some-clause-value c =
     let s = c.args.search.now in
-    let begun = Searching-begun (graph_for s) (passed_by s c.args.visited.now) s.start c.args.from c.args.slots.now (c.requires.dead (at s.start c.args.from)) in
+    let begun =
+    Searching-begun (graph_for s) (passed_by s c.args.visited.now) s.start c.args.from c.args.slots.now (c.requires.dead (at s.start c.args.from)) in
     let followed = rw (c.in-Some.is, c.clear.ensures) at c.follow.ensures.followed in
     sym (followed _ _ _ begun)
 
 pub loop-frame-init : goal.loop-frame-init
 loop-frame-init c =
     let s = c.args.search.now in
-    let begun = Searching-begun (graph_for s) (passed_by s c.args.visited.now) s.start c.args.from c.args.slots.now (c.requires.dead (at s.start c.args.from)) in
+    let begun =
+    Searching-begun (graph_for s) (passed_by s c.args.visited.now) s.start c.args.from c.args.slots.now (c.requires.dead (at s.start c.args.from)) in
     let followed = rw (c.in_default.is, c.clear.ensures) at c.follow.ensures.followed in
     record {
       searching = followed _ _ _ begun;

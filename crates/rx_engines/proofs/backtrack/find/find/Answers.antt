@@ -15,7 +15,8 @@ loop-place-init c = record {
   dead = λ d. ap (λ p. found (graph_for c.args.search.now) p d)
       (passed_in-none (length c.args.search.now.states.now) c.args.search.now.first c.args.search.now.end c.clear.new.self c.clear.ensures.empty);
   empty = c.clear-2.ensures;
-  frames = (let all = frames_below-empty c.args.search.now.states.now c.clear.new.self c.clear.ensures.empty (c.args.search.now.end + 1 - c.args.search.now.first) in let room = c.requires.frames in omega arith);
+  frames = (let all = frames_below-empty c.args.search.now.states.now c.clear.new.self c.clear.ensures.empty
+      (c.args.search.now.end + 1 - c.args.search.now.first) in let room = c.requires.frames in omega arith);
   stack = refl;
   room = c.clear.ensures.room;
 }

@@ -52,7 +52,8 @@ loop-next-preserved c =
     (record {
       waits = λ end later goal le stable w.
           Waits-written q c.in-Capture.next c.in-Capture.slot _ stable (automaton-bounded (forwards matcher text) states end) new (ap is_resting is)
-          (Yields-saved matcher states text end q c.args.place v.state le _ c.in-Capture.slot c.in-Capture.next is refl refl refl [] _ slots _ (inr (refl, refl)))
+          (Yields-saved matcher states text end q c.args.place v.state le _ c.in-Capture.slot c.in-Capture.next is refl refl refl [] _ slots _
+          (inr (refl, refl)))
           (v.waits end later goal le stable w);
       state = names-known states q _ c.requires.search.names v.state is;
       room = v.room;

@@ -9,7 +9,8 @@ use Rattle.rx_engines.proofs.pikevm.close.visit.Goals as goal
 
 pub returns-in-Capture-clause-visited : goal.returns-in-Capture-clause-visited
 returns-in-Capture-clause-visited c =
-    let is = state-known c.args.search.now.states.now _ c.args.state _ _ c.as_usize.ensures.value c.requires.state c.index-states-as_usize.is c.in-Capture.is in (
+    let is =
+    state-known c.args.search.now.states.now _ c.args.state _ _ c.as_usize.ensures.value c.requires.state c.index-states-as_usize.is c.in-Capture.is in (
       ap is_resting is,
       λ end le. Yields-saved c.args.search.now.matcher c.args.search.now.states.now c.args.search.now.text.now end c.args.state c.args.place c.requires.state le
           _ c.in-Capture.slot c.in-Capture.next is refl refl refl _ _ _ _

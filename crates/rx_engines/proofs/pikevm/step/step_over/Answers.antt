@@ -25,7 +25,9 @@ loop-k-init c = record {
 
 pub returns-in-Stop-clause-stepped : goal.returns-in-Stop-clause-stepped
 returns-in-Stop-clause-stepped c end later goal le byte stable value =
-    let acts = acts-known c.args.search.now.matcher c.args.search.now.states.now c.args.search.now.text.now end c.get-state.result c.args.place c.requires.search.names (omega arith) le _ _ _ _ _ c.as_usize.ensures.value c.index-states-as_usize.is (c.byte_at-byte.ensures ∙ sym byte) c.in-Stop.ensures in
+    let acts = acts-known c.args.search.now.matcher c.args.search.now.states.now c.args.search.now.text.now end c.get-state.result c.args.place
+    c.requires.search.names (omega arith) le _ _ _ _ _ c.as_usize.ensures.value c.index-states-as_usize.is
+    (c.byte_at-byte.ensures ∙ sym byte) c.in-Stop.ensures in
     rw (c.start-start.ensures, c.copy.ensures, c.slots.ensures.value)
     (Stepping-accepts (automaton-bounded (forwards c.args.search.now.matcher c.args.search.now.text.now) c.args.search.now.states.now end)
     c.args.curr.now.set.items c.loop-k.k c.get-state.result (omega arith) c.get-state.ensures.value
@@ -50,11 +52,14 @@ loop-k-preserved c =
                 (let acts = acts-known c.args.search.now.matcher c.args.search.now.states.now c.args.search.now.text.now end c.get-state.result c.args.place
                 c.requires.search.names (omega arith) le _ _ _ _ _ c.as_usize.ensures.value c.index-states-as_usize.is (c.byte_at-byte.ensures ∙ sym byte)
                 w.in-To.ensures in
-                let waits = Stepping-reads (automaton-bounded (forwards c.args.search.now.matcher c.args.search.now.text.now) c.args.search.now.states.now end) c.args.curr.now.set.items c.loop-k.k c.get-state.result (omega arith) c.get-state.ensures.value
+                let waits = Stepping-reads (automaton-bounded (forwards c.args.search.now.matcher c.args.search.now.text.now) c.args.search.now.states.now end)
+                c.args.curr.now.set.items c.loop-k.k c.get-state.result (omega arith) c.get-state.ensures.value
                 (c.loop-k.invariant.stepping end later goal le byte stable value)
                 (automaton-rises (forwards c.args.search.now.matcher c.args.search.now.text.now) c.args.search.now.states.now end) w.in-To.target acts.0
                 acts.3 acts.4 acts.5 in
-                let closed = w.arrive.ensures.closed end (onward c.args.search.now.states.now (automaton c.args.search.now.matcher c.args.search.now.states.now c.args.search.now.text.now end) c.args.place c.args.curr.now.table.items (drop (c.loop-k.k + 1) c.args.curr.now.set.items) later) goal
+                let closed = w.arrive.ensures.closed end (onward c.args.search.now.states.now
+                (automaton c.args.search.now.matcher c.args.search.now.states.now c.args.search.now.text.now end) c.args.place c.args.curr.now.table.items
+                (drop (c.loop-k.k + 1) c.args.curr.now.set.items) later) goal
                 (let lt = acts.2 in omega arith)
                 (onward-stable c.args.search.now.states.now (automaton c.args.search.now.matcher c.args.search.now.states.now c.args.search.now.text.now end)
                 c.args.place c.args.curr.now.table.items (drop (c.loop-k.k + 1) c.args.curr.now.set.items) later stable)

@@ -103,7 +103,8 @@ pub returns-clause-within : goal.returns-clause-within
 returns-clause-within c =
     let same = ap (λ (e : BacktrackerValue). e.nfa) c.self.view_is in
     let of = rw same at c.in-Some.ensures.some in
-    found-within c.args.self.now.nfa c.args.input.now c.in-Some.search of (is_offered c.in-Some.search) _ (let end = of.end in omega arith) _ refl c.find.result c.find.ensures.value
+    found-within c.args.self.now.nfa c.args.input.now c.in-Some.search of (is_offered c.in-Some.search) _
+    (let end = of.end in omega arith) _ refl c.find.result c.find.ensures.value
 
 -- its pattern is one of the NFA's
 
@@ -126,7 +127,8 @@ pub returns-clause-slots_within : goal.returns-clause-slots_within
 returns-clause-slots_within c =
     let same = ap (λ (e : BacktrackerValue). e.nfa) c.self.view_is in
     let of = rw same at c.in-Some.ensures.some in
-    found-places c.args.self.now.nfa c.args.input.now c.in-Some.search of (is_offered c.in-Some.search) _ (let end = of.end in omega arith) _ refl c.find.new.slots
+    found-places c.args.self.now.nfa c.args.input.now c.in-Some.search of (is_offered c.in-Some.search) _
+    (let end = of.end in omega arith) _ refl c.find.new.slots
     (found-slots c.args.self.now.nfa c.args.input.now c.in-Some.search of (is_offered c.in-Some.search) (rw same at c.of.ensures.in_range) _ _ refl
     c.find.new.slots c.find.ensures.slots)
     _ (λ none. rw (c.find.ensures.value ∙ ap (option_map match_value) none) at c.find.ensures.none)

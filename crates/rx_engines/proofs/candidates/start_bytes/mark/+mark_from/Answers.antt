@@ -8,7 +8,8 @@ use Rattle.rx_engines.proofs.candidates.start_bytes.mark.+mark_from.Goals as goa
 
 pub returns-in-ByteRange-clause-marked : goal.returns-in-ByteRange-clause-marked
 returns-in-ByteRange-clause-marked t c =
-    let is = state-read c.args.states.now c.args.state c.as_usize.result c.index-states-as_usize.result _ c.requires.state c.as_usize.ensures.value c.index-states-as_usize.is c.in-ByteRange.is in (
+    let is = state-read c.args.states.now c.args.state c.as_usize.result c.index-states-as_usize.result _ c.requires.state c.as_usize.ensures.value
+    c.index-states-as_usize.is c.in-ByteRange.is in (
       omega arith,
       settled-begins c.args.states.now c.mark_range.new.has c.args.state (ByteRange c.in-ByteRange.start c.in-ByteRange.end c.in-ByteRange.next) is
           c.mark_range.ensures.marked,
@@ -16,7 +17,8 @@ returns-in-ByteRange-clause-marked t c =
 
 pub returns-in-Sparse-clause-marked : goal.returns-in-Sparse-clause-marked
 returns-in-Sparse-clause-marked t c =
-    let is = state-read c.args.states.now c.args.state c.as_usize.result c.index-states-as_usize.result _ c.requires.state c.as_usize.ensures.value c.index-states-as_usize.is c.in-Sparse.is in (
+    let is = state-read c.args.states.now c.args.state c.as_usize.result c.index-states-as_usize.result _ c.requires.state c.as_usize.ensures.value
+    c.index-states-as_usize.is c.in-Sparse.is in (
       omega arith,
       settled-begins c.args.states.now c.mark_all.new.has c.args.state (Sparse c.in-Sparse.transitions) is
           (subst (All (λ (t : Transition). HasRange c.mark_all.new.has t.start t.end)) c.as_slice.ensures c.mark_all.ensures.marked),

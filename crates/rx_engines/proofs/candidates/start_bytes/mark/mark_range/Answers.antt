@@ -21,7 +21,8 @@ loop-byte-preserved c =
       marked = λ b low high.
           by_test (nat_lt b byte)
           (λ e. marks-set has byte b lt (c.loop-byte.invariant.marked b low (grind (arith, nat_tests))))
-          (λ e. let same : byte ≡ b = grind (arith, nat_tests) in subst (λ j. get_or (set has byte true) j false ≡ true) same (get_or-set_same has byte true false lt));
+          (λ e. let same : byte ≡ b = grind (arith, nat_tests) in
+          subst (λ j. get_or (set has byte true) j false ≡ true) same (get_or-set_same has byte true false lt));
     }
 
 pub returns-clause-marked : goal.returns-clause-marked
