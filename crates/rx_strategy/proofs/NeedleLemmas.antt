@@ -156,7 +156,8 @@ pub begins-run : (needles : Option (List (List ℕ))) (nfa : Nfa) (r : Patterns)
     → ((p : ℕ) (h : Expression) → slice_get r.expressions p ≡ Some h → AreOrdered h)
     → v.end ≤ length v.haystack → (is_anchored v.anchor ≡ false → BeginsEachMatch needles r) → BeginsEachRun needles nfa v
 begins-run None nfa r v of ordered within begins = tt
-begins-run (Some needles) nfa r v of ordered within begins = λ loose i low high some. anchor-begins needles nfa r v of ordered within (begins loose) i v.anchor some
+begins-run (Some needles) nfa r v of ordered within begins =
+    λ loose i low high some. anchor-begins needles nfa r v of ordered within (begins loose) i v.anchor some
 
 -- which prefilter the patterns have, by the tests of the choice
 module _ (config : Config) (hs : List Expression) where
