@@ -43,7 +43,8 @@ module _ (regex : RegexValue) (v : InputValue) where
     answers-of (Err e) a = tt
 
     slots-are : (slots : List (Option ℕ)) (found : Option T)
-        → answer.AreSlotsOfAnswer (λ r. strategy.IsFor regex.strategy r) (strategy.prefilter_in regex.strategy) (strategy.kind_in regex.strategy) v part slots found
+        → answer.AreSlotsOfAnswer (λ r. strategy.IsFor regex.strategy r) (strategy.prefilter_in regex.strategy)
+        (strategy.kind_in regex.strategy) v part slots found
         → AreSlotsOfAnswer regex v part slots found
     slots-are slots found a = record {
       value = λ r p. a.value r (promised-of r p);
@@ -51,7 +52,8 @@ module _ (regex : RegexValue) (v : InputValue) where
     }
 
     pub slots-of : {E : Type 0} (slots : List (Option ℕ)) (result : Result (Option T) E)
-        → IfOk result (answer.AreSlotsOfAnswer (λ r. strategy.IsFor regex.strategy r) (strategy.prefilter_in regex.strategy) (strategy.kind_in regex.strategy) v part slots)
+        → IfOk result (answer.AreSlotsOfAnswer (λ r. strategy.IsFor regex.strategy r) (strategy.prefilter_in regex.strategy)
+        (strategy.kind_in regex.strategy) v part slots)
         → IfOk result (AreSlotsOfAnswer regex v part slots)
     slots-of slots (Ok found) a = slots-are slots found a
     slots-of slots (Err e) a = tt
