@@ -64,8 +64,15 @@ module _ (law : SearchesForItsPatterns) (regex : RegexValue) (r : Patterns) (tex
 -- and each of its searches is promised
 pub promised-from : (regex : RegexValue) (r : Patterns) (text : List ℕ) → FindsRows regex r text → AtEachPlace (PromisesFor regex) (whole text)
 promised-from regex r text finds = λ i.
-    let p = finds.promised in
-    (r, record { premises = record { is_for = p.premises.is_for; begins = p.premises.begins; utf8 = p.premises.utf8 }; leftmost = p.leftmost; told = p.told; whole = refl })
+    let p = finds.promised in (
+      r,
+      record {
+        premises = record { is_for = p.premises.is_for; begins = p.premises.begins; utf8 = p.premises.utf8 };
+        leftmost = p.leftmost;
+        told = p.told;
+        whole = refl;
+      },
+    )
 
 -- after a match the searcher is still within the same text
 pub moved-place : (found : Option MatchValue) (m : MatchValue) (old new : SearcherValue) (v : InputValue) → found ≡ Some m
@@ -76,7 +83,8 @@ moved-place found m old new v some moved place i =
     ap (λ (s : SearcherValue). from_place i s.input) moves ∙ place i
 
 -- what a regex that serves the patterns finds
-pub serves-finds : (regex : RegexValue) (r : Patterns) (text : List ℕ) → Serves regex r → BeginsEachMatch (given_needles regex) r → kind_in regex ≡ LeftmostFirst
+pub serves-finds : (regex : RegexValue) (r : Patterns) (text : List ℕ) → Serves regex r → BeginsEachMatch (given_needles regex) r
+    → kind_in regex ≡ LeftmostFirst
     → groups_in regex ≡ pattern_groups r.expressions
     → tells r.which_captures ≡ true → (r.utf8_empty ≡ true → MeansUtf8 r text) → FindsRows regex r text
 serves-finds regex r text serves begins leftmost groups told utf8 = record {

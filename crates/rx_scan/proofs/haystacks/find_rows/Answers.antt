@@ -45,7 +45,8 @@ loop-rows-preserved c =
           c.in_ok-found.ensures.fewer_left
           c.in_ok-found.ensures.same_answers
           (λ x next value.
-          let is = found-next law first r text finds c.loop-rows.finder.regex.now c.loop-rows.searcher x c.loop-rows.invariant.same c.loop-rows.invariant.place next in
+          let is =
+          found-next law first r text finds c.loop-rows.finder.regex.now c.loop-rows.searcher x c.loop-rows.invariant.same c.loop-rows.invariant.place next in
           let own : c.pattern.result ≡ x.trace.pattern = c.pattern.ensures ∙ ap (λ (v : MatchValue). v.pattern) (sym value) in
           let has = subst (λ xs. HasSlots xs x) (sym c.slots.ensures.value) (subst T next (c.in_ok-found.ensures.told promised)) in
           sym (c.in_ok-row.ensures.value r text (length text) is.0 x (c.requires ∙ finds.groups) is.1 own has))

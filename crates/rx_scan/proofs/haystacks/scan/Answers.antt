@@ -24,7 +24,8 @@ pub returns : goal.returns
 returns g c = λ config hs built leftmost begins utf8.
     let r = patterns_for config hs in
     let told : tells (captures_of config) ≡ true = ap (λ k. tells (captures_of k)) (sym built.config) ∙ sym c.if-not-tells_matches.ensures in
-    let given : BeginsEachMatch (prefilter_of c.args.regex.now.config) r = subst (λ (k : ConfigValue). BeginsEachMatch (prefilter_of k) r) (sym built.config) begins in
+    let given : BeginsEachMatch (prefilter_of c.args.regex.now.config) r =
+    subst (λ (k : ConfigValue). BeginsEachMatch (prefilter_of k) r) (sym built.config) begins in
     c.loop-index.invariant.told r (λ k d below. serves-finds c.args.regex.now r _ built.serves given (built.kind ∙ leftmost) built.groups told
     (λ on. utf8 on k d below))
     ∙ ap (map (λ h. scan_rows r h.now)) (take_all c.loop-index.index c.args.haystacks.now c.loop-index-test.false)

@@ -11,7 +11,8 @@ returns-clause-value c = λ r text b a m groups found own has.
     let layout = c.args.self.now in
     let info = layout.groups.now in
     let xs = c.args.slots.now in
-    let implicit : HaveImplicit (pattern_groups r.expressions) (length (pattern_groups r.expressions)) = subst (λ (g : List (List (Option (List ℕ)))). HaveImplicit g (length g)) groups layout.implicit in
+    let implicit : HaveImplicit (pattern_groups r.expressions) (length (pattern_groups r.expressions)) =
+    subst (λ (g : List (List (Option (List ℕ)))). HaveImplicit g (length g)) groups layout.implicit in
     let wide : length xs ≡ slot_count (pattern_groups r.expressions) = c.requires ∙ ap slot_count groups in
     let below : c.args.pattern < length info =
     omega (arith, own, there r text b a m found, ap length groups, length-map r.expressions group_names) in

@@ -75,8 +75,16 @@ pub with_groups-requires-clause-start : goal.with_groups-requires-clause-start
 with_groups-requires-clause-start c =
     let layout = c.args.self.now in
     let info = layout.groups.now in
-    let below : c.args.pattern < length info = omega (arith, entries info layout.explicit.items layout.asked, c.if-index-len.false, c.len.ensures, c.as_usize-index.ensures.value, layout.explicit.ok.0) in
-    let is = entry info layout.explicit.items c.args.pattern c.as_usize-index.result c.index.result.now layout.asked c.as_usize-index.ensures.value below c.index.ensures in
+    let below : c.args.pattern < length info = omega (
+      arith,
+      entries info layout.explicit.items layout.asked,
+      c.if-index-len.false,
+      c.len.ensures,
+      c.as_usize-index.ensures.value,
+      layout.explicit.ok.0,
+    ) in
+    let is = entry info layout.explicit.items c.args.pattern c.as_usize-index.result c.index.result.now layout.asked c.as_usize-index.ensures.value below
+    c.index.ensures in
     let within = explicit-within info c.args.pattern c.in-Some.span layout.implicit below (sym c.in-Some.is ∙ is) in
     within.0
 
@@ -84,8 +92,16 @@ pub with_groups-requires-clause-end : goal.with_groups-requires-clause-end
 with_groups-requires-clause-end c =
     let layout = c.args.self.now in
     let info = layout.groups.now in
-    let below : c.args.pattern < length info = omega (arith, entries info layout.explicit.items layout.asked, c.if-index-len.false, c.len.ensures, c.as_usize-index.ensures.value, layout.explicit.ok.0) in
-    let is = entry info layout.explicit.items c.args.pattern c.as_usize-index.result c.index.result.now layout.asked c.as_usize-index.ensures.value below c.index.ensures in
+    let below : c.args.pattern < length info = omega (
+      arith,
+      entries info layout.explicit.items layout.asked,
+      c.if-index-len.false,
+      c.len.ensures,
+      c.as_usize-index.ensures.value,
+      layout.explicit.ok.0,
+    ) in
+    let is = entry info layout.explicit.items c.args.pattern c.as_usize-index.result c.index.result.now layout.asked c.as_usize-index.ensures.value below
+    c.index.ensures in
     let within = explicit-within info c.args.pattern c.in-Some.span layout.implicit below (sym c.in-Some.is ∙ is) in
     omega (arith, within.1, c.requires)
 
@@ -99,8 +115,10 @@ returns-in-None-clause-value c = λ there.
     let few = patterns-few info (length info) layout.implicit in
     let is = entry info layout.explicit.items p c.as_usize-index.result c.index.result.now layout.asked same there c.index.ensures in
     let none : None ≡ explicit_slots info p = sym c.in-None.is ∙ is in
-    let first = read xs (2 * c.as_usize-index.result) (2 * p) c.index-slots-index.result (omega (arith, same)) (omega (arith, c.requires, same, there, few)) c.index-slots-index.is in
-    let second = read xs (2 * c.as_usize-index.result + 1) (2 * p + 1) c.index-slots-index-2.result (omega (arith, same)) (omega (arith, c.requires, same, there, few)) c.index-slots-index-2.is in
+    let first = read xs (2 * c.as_usize-index.result) (2 * p) c.index-slots-index.result (omega (arith, same))
+    (omega (arith, c.requires, same, there, few)) c.index-slots-index.is in
+    let second = read xs (2 * c.as_usize-index.result + 1) (2 * p + 1) c.index-slots-index-2.result (omega (arith, same))
+    (omega (arith, c.requires, same, there, few)) c.index-slots-index-2.is in
     c.whole.ensures ∙ (λ i. first i ∷ second i ∷ slots_in (none i) xs)
 
 pub returns-in-Some-clause-value : goal.returns-in-Some-clause-value
@@ -113,8 +131,10 @@ returns-in-Some-clause-value c = λ there.
     let few = patterns-few info (length info) layout.implicit in
     let is = entry info layout.explicit.items p c.as_usize-index.result c.index.result.now layout.asked same there c.index.ensures in
     let some : Some c.in-Some.span ≡ explicit_slots info p = sym c.in-Some.is ∙ is in
-    let first = read xs (2 * c.as_usize-index.result) (2 * p) c.index-slots-index.result (omega (arith, same)) (omega (arith, c.requires, same, there, few)) c.index-slots-index.is in
-    let second = read xs (2 * c.as_usize-index.result + 1) (2 * p + 1) c.index-slots-index-2.result (omega (arith, same)) (omega (arith, c.requires, same, there, few)) c.index-slots-index-2.is in
+    let first = read xs (2 * c.as_usize-index.result) (2 * p) c.index-slots-index.result (omega (arith, same))
+    (omega (arith, c.requires, same, there, few)) c.index-slots-index.is in
+    let second = read xs (2 * c.as_usize-index.result + 1) (2 * p + 1) c.index-slots-index-2.result (omega (arith, same))
+    (omega (arith, c.requires, same, there, few)) c.index-slots-index-2.is in
     IfOk-weaker c.with_groups.result _ _ (λ own e. e ∙ (λ i. first i ∷ second i ∷ slots_in (some i) xs)) c.with_groups.ensures
 
 -- where there is an entry, the pattern has groups
