@@ -1,3 +1,4 @@
+pub mod PieceLemmas
 pub mod PartLemmas
 pub mod SpellLemmas
 pub mod CoverLemmas

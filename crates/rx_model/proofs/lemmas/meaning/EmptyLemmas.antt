@@ -9,6 +9,7 @@ use Rattle.rx_model.specs.Expression.{Expression, Expressions, empty, literal, c
 use Rattle.rx_model.specs.Meaning.{Pieces, Means, MeansInTurn, MeansOne}
 use Rattle.rx_model.specs.Empty.{can_be_empty, all_can_be_empty, one_can_be_empty}
 use Rattle.rx_model.proofs.lemmas.meaning.CharLemmas.{member_len-is, byte_len-is}
+use Rattle.rx_model.proofs.lemmas.meaning.PieceLemmas.{pieces-rise}
 
 -- a member takes a byte
 member-takes : (text : List ℕ) (members : Class) (i n : ℕ) → member_len text members i ≡ Some n → 1 ≤ n
@@ -18,13 +19,6 @@ member-takes text (scalar_ranges rs) i n h =
     let long : 1 ≤ len_utf8 m.0 = grind (arith, nat_tests) in
     omega arith
 member-takes text (byte_ranges rs) i n h = let m = byte_len-is text rs i n h in let e = m.0 in omega arith
-
-pieces-rise : (R : ℕ → ℕ → Type 0) → ((i j : ℕ) → R i j → i ≤ j) → (count i j : ℕ) → Pieces R count i j → i ≤ j
-pieces-rise R each zero i j e = omega arith
-pieces-rise R each (suc count) i j h =
-    let now = each i h.0 h.1 in
-    let later = pieces-rise R each count h.0 j h.2 in
-    omega arith
 
 -- of pieces from i to i each is from i to i
 first-empty : (R : ℕ → ℕ → Type 0) → ((i j : ℕ) → R i j → i ≤ j) → (count i : ℕ) → Pieces R (suc count) i i → R i i

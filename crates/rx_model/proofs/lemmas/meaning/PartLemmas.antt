@@ -7,6 +7,7 @@ use Rattle.rx_model.specs.Graph.{State, choice, Part, Builder, build_nothing, bu
 use Rattle.rx_model.proofs.lemmas.runs.MemberLemmas.{first-among, later-among, none-among, split-among}
 use Rattle.rx_model.proofs.lemmas.graphs.PlacedLemmas.{Placed, Placed-front, Placed-back, Placed-first, Placed-rest}
 use Rattle.rx_model.proofs.lemmas.graphs.StateLemmas.{IsStateOf}
+use Rattle.rx_model.proofs.lemmas.meaning.PieceLemmas.{pieces-rise}
 
 -- walks stay within the end, and go through choices
 pub record Chooses (whole : List State) (Goes : ℕ → ℕ → ℕ → Type 0) (end : ℕ) : Type 0 where
@@ -120,10 +121,6 @@ module _ (whole : List State) (Goes : ℕ → ℕ → ℕ → Type 0) (end : ℕ
           ]);
     }
 
-    Pieces-rise : (n i j : ℕ) → Pieces M n i j → i ≤ j
-    Pieces-rise zero i j e = omega arith
-    Pieces-rise (suc n) i j h = let x = a.rises i h.0 h.1 in let y = Pieces-rise n h.0 j h.2 in omega arith
-
     module _ (next base : ℕ) (placed : Placed whole base (loop greedy body next base).states) where
       abbrev inner : Part
       inner = body base (suc base)
@@ -160,14 +157,14 @@ module _ (whole : List State) (Goes : ℕ → ℕ → ℕ → Type 0) (end : ℕ
 
     pub Spells-loop : Spells (λ i j. (k : ℕ) × Pieces M k i j) (loop greedy body)
     Spells-loop = record {
-      rises = λ i j h. Pieces-rise h.0 i j h.1;
+      rises = λ i j h. pieces-rise M a.rises h.0 i j h.1;
       walked = λ next base n i placed h. rounds-walked next base placed n n i (omega arith) h;
       walks = λ next base m i j placed h goes. rounds-walk next base placed h.0 m i j h.1 goes;
     }
 
     pub Spells-loop_once : Spells (λ i j. (k : ℕ) × Pieces M (suc k) i j) (loop_once greedy body)
     Spells-loop_once = record {
-      rises = λ i j h. Pieces-rise (suc h.0) i j h.1;
+      rises = λ i j h. pieces-rise M a.rises (suc h.0) i j h.1;
       walked = λ next base n i placed h.
           (let x = a.walked base (suc base) n i (is_body next base placed) h in
           let y = rounds-walked next base placed x.1 x.1 x.0 (omega arith) x.4 in
@@ -208,7 +205,7 @@ module _ (whole : List State) (Goes : ℕ → ℕ → ℕ → Type 0) (end : ℕ
     Spells-options (suc n) =
         let later = Spells-options n in
         record {
-          rises = λ i j h. Pieces-rise h.0 i j h.2;
+          rises = λ i j h. pieces-rise M a.rises h.0 i j h.2;
           walked = λ next base x i placed h.
               (let o = options greedy n body next base in
               let c = base + length o.states in

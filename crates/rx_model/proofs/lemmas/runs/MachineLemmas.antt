@@ -1,19 +1,16 @@
 -- The graph of a machine is bounded.
 use Rattle.std.proofs.Common.{◌≡◌, ℕ, zero, suc, ◌<◌, List, [], ◌∷◌, ◌++◌, refl, sym, ◌∙◌, subst, arith, true≢false}
-use Rattle.std.specs.Prelude.{Bool, true, false, ◌||◌, ◌==◌}
+use Rattle.std.specs.Prelude.{true, false, ◌||◌, ◌==◌}
 use Rattle.std.proofs.lemmas.Bool.Decides.{nat_tests}
 use Rattle.rx_model.specs.Runs.{Configuration, same, is_among, IsBounded}
 use Rattle.rx_model.specs.Machine.{column, grid, Machine, is_inside, graph_of}
 use Rattle.rx_model.proofs.lemmas.runs.RunLemmas.{by_test}
 use Rattle.std.proofs.lemmas.Bool.{or_left, or_right}
+use Rattle.std.proofs.Math.Bool.{or_assoc}
 
 pub is_among-append : (xs ys : List Configuration) (c : Configuration) → is_among (xs ++ ys) c ≡ (is_among xs c || is_among ys c)
 is_among-append [] ys c = refl
-is_among-append (x ∷ xs) ys c = rw (is_among-append xs ys c) (or_assoc (same x c) (is_among xs c) (is_among ys c))
-  where
-    or_assoc : (a b d : Bool) → (a || (b || d)) ≡ ((a || b) || d)
-    or_assoc true b d = refl
-    or_assoc false b d = refl
+is_among-append (x ∷ xs) ys c = rw (is_among-append xs ys c) (sym (or_assoc (same x c) (is_among xs c) (is_among ys c)))
 
 abbrev at : ℕ → ℕ → Configuration
 at q i = record { state = q; place = i }
