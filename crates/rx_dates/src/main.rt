@@ -1,4 +1,4 @@
-//! Prints the dates in standard input: the line, the place in it, and the year. It is the whole program of docs/GUIDE.md.
+//! Prints where dates stand in standard input, and where their years begin. It is the whole program of docs/GUIDE.md.
 #![tactic(auto)]
 
 use rx_meta::{BuildError, Regex};
