@@ -14,8 +14,9 @@ use Rattle.rx_model.specs.Text.{is_member}
 use Rattle.rx_class.specs.Folding.{joined_to, folded, SharesFolding}
 use Rattle.rx_class.specs.Ranges.{next_scalar, fewest, HaveScalarEnds, AreScalarRanges}
 use Rattle.rx_class.proofs.JoinedLemmas.{joins, joined-members, joined_to_one, range_by_range, list_any-from_Contains, Contains-from_list_any}
-use Rattle.rx_class.proofs.RangeLemmas.{inside, inside-true, Ends, fewest-members, fewest-fewest, fewest-ends, fewest-same, or-right}
+use Rattle.rx_class.proofs.RangeLemmas.{inside, inside-true, Ends, fewest-members, fewest-fewest, fewest-ends, fewest-same}
 use Rattle.rx_class.proofs.SuccessorLemmas.{scalars-succeed, ends-from-scalars, scalars-from-ends}
+use Rattle.std.proofs.Math.Bool.{or-true}
 
 -- The table of pairs.
 
@@ -148,7 +149,7 @@ shares-to rs c m own same false is =
     let pair = (IsFoldPairs-fold_pairs m c).1 ((λ (e : m ≡ c). grind (arith, nat_tests)), same) in
     let joined =
     list_any-from_Contains (joins rs c) fold_pairs (m, c) pair (ap (λ b. b && inside (c, c) c) own ∙ inside-true (c, c) c (omega arith) (omega arith)) in
-    ap (λ b. is_member rs c || b) joined ∙ or-right (is_member rs c)
+    ap (λ b. is_member rs c || b) joined ∙ or-true (is_member rs c)
 
 pub folded-orbits : (rs : List (ℕ × ℕ)) → HaveScalarEnds rs → (c : ℕ) → IsScalar c → IsTrue (is_member (folded rs) c) ↔ SharesFolding rs c
 folded-orbits rs ends c is = (

@@ -8,7 +8,8 @@ use Rattle.std.proofs.lemmas.List.{drop_all, get_or_default, length-drop}
 use Rattle.std.proofs.lemmas.List.Folds.{list_any-append}
 use Rattle.rx_model.specs.Text.{is_member}
 use Rattle.rx_class.specs.Folding.{joined_to}
-use Rattle.rx_class.proofs.RangeLemmas.{inside, inside-true, inside-before, inside-after, or-right}
+use Rattle.rx_class.proofs.RangeLemmas.{inside, inside-true, inside-before, inside-after}
+use Rattle.std.proofs.Math.Bool.{or-true}
 
 -- The members.
 
@@ -65,7 +66,7 @@ pub list_any-from_Contains : (p : ℕ × ℕ → Bool) (xs : List (ℕ × ℕ)) 
 list_any-from_Contains p [] x (k, lt, at) is = absurd (not-suc-le-zero lt)
 list_any-from_Contains p (y ∷ xs) x (zero, lt, at) is = ap (λ b. b || list_any p xs) (subst (λ z. p z ≡ true) (sym at) is)
 list_any-from_Contains p (y ∷ xs) x (suc k, lt, at) is =
-    ap (λ b. p y || b) (list_any-from_Contains p xs x (k, le_of_suc-le-suc lt, at) is) ∙ or-right (p y)
+    ap (λ b. p y || b) (list_any-from_Contains p xs x (k, le_of_suc-le-suc lt, at) is) ∙ or-true (p y)
 
 pub Contains-from_list_any : (p : ℕ × ℕ → Bool) (xs : List (ℕ × ℕ)) → list_any p xs ≡ true → (x : ℕ × ℕ) × Contains xs x × (p x ≡ true)
 Contains-from_list_any p [] h = cc

@@ -1,5 +1,5 @@
 -- Adding ranges in order of their first members gives the fewest ranges.
-use Rattle.std.proofs.Common.{◌≡◌, ℕ, suc, ◌<◌, ◌≤◌, Bool, true, false, List, [], ◌∷◌, ◌++◌, length, get_or, refl, ap, sym, ◌∙◌, arith}
+use Rattle.std.proofs.Common.{◌≡◌, ℕ, suc, ◌<◌, ◌≤◌, true, false, List, [], ◌∷◌, ◌++◌, length, get_or, refl, ap, sym, ◌∙◌, arith}
 use Rattle.std.specs.Prelude.{min, max, nat_le, nat_lt, ◌||◌, if◌then◌else◌}
 use Rattle.std.specs.List.Sorted.{IsNonDecreasingBy}
 use Rattle.std.proofs.lemmas.Bool.{ltb-true, ltb-false, leb-true}
@@ -7,7 +7,9 @@ use Rattle.std.proofs.lemmas.Bool.Decides.{nat_tests}
 use Rattle.rx_model.specs.Text.{is_member}
 use Rattle.rx_class.specs.Ranges.{fewest, BeginPast, AreFewest}
 use Rattle.rx_class.specs.Merged.{extend, add, add_all}
-use Rattle.rx_class.proofs.RangeLemmas.{inside, inside-joined, inside-none, or-swap, or-assoc, IsSuccessor, Ends, max-counts, fewest-unique, fewest-fewest, fewest-ends, fewest-members, choose}
+use Rattle.rx_class.proofs.RangeLemmas.{inside, inside-joined, inside-none, IsSuccessor, Ends, max-counts, fewest-unique, fewest-fewest, fewest-ends, fewest-members, choose}
+use Rattle.rx_model.proofs.lemmas.runs.RunLemmas.{or-swap}
+use Rattle.std.proofs.Math.Bool.{or_assoc, or-false}
 
 -- every range begins at n or before
 abbrev BeginUpTo : ℕ → List (ℕ × ℕ) → Type 0
@@ -27,10 +29,6 @@ pub rise-sorted : (n : ℕ) (rs : List (ℕ × ℕ)) → ((d : ℕ × ℕ) → 0
 rise-sorted n [] first up = tt
 rise-sorted n (r ∷ rs) first up =
     (first r (omega arith), rise-sorted r.0 rs (λ d lt. up 0 1 d (omega arith) (omega arith)) (λ i j d le lt. up (suc i) (suc j) d (omega arith) (omega arith)))
-
-or-false : (b : Bool) → b ≡ (b || false)
-or-false true = refl
-or-false false = refl
 
 module _ (next : ℕ → ℕ) (Counts : ℕ → Type 0) (succ : IsSuccessor next Counts) where
   extend-past : (n low high : ℕ) (r : ℕ × ℕ) (rs : List (ℕ × ℕ)) → n < r.0 → BeginPast n (extend next (r ∷ rs) low high)
@@ -67,7 +65,7 @@ module _ (next : ℕ → ℕ) (Counts : ℕ → Type 0) (succ : IsSuccessor next
       let joined = inside-joined r.0 r.1 low high n h.0 le
       (λ lt. let up = succ.between r.1 n ends.1 counts lt in let meet = ltb-false (next r.1) low e in omega arith)
       (λ lt. omega (arith, begin.0)) in
-      ap (λ (q : ℕ × ℕ). inside q n || false) (λ i. (first i, greatest i)) ∙ ap (λ b. b || false) joined ∙ or-assoc (inside (low, high) n) (inside r n) false)
+      ap (λ (q : ℕ × ℕ). inside q n || false) (λ i. (first i, greatest i)) ∙ ap (λ b. b || false) joined ∙ or_assoc (inside (low, high) n) (inside r n) false)
   extend-members low high (r ∷ s ∷ rs) le last begin h ends n counts =
       ap (λ b. inside r n || b) (extend-members low high (s ∷ rs) le last begin.1 h.2 ends.2 n counts)
       ∙ or-swap (inside r n) (inside (low, high) n) (is_member (s ∷ rs) n)
@@ -80,7 +78,7 @@ module _ (next : ℕ → ℕ) (Counts : ℕ → Type 0) (succ : IsSuccessor next
 
   added : (low : ℕ) (rs qs : List (ℕ × ℕ)) → AreFewest next rs → Ends Counts rs → BeginUpTo low rs → Rise low qs → Ends Counts qs
       → Hold rs qs (add_all next rs qs)
-  added low rs [] h ends begin rise more = record { are_fewest = h; ends = ends; members = λ n counts. or-false (is_member rs n) }
+  added low rs [] h ends begin rise more = record { are_fewest = h; ends = ends; members = λ n counts. sym (or-false (is_member rs n)) }
   added low rs (q ∷ qs) h ends begin rise more =
       let begun : BeginUpTo q.0 rs = begin-later low q.0 rs rise.0 begin in
       choose (λ ys. Hold rs (q ∷ qs) (add_all next ys qs)) (nat_le q.0 q.1) _ _
@@ -94,7 +92,7 @@ module _ (next : ℕ → ℕ) (Counts : ℕ → Type 0) (succ : IsSuccessor next
         ends = rest.ends;
         members = λ n counts. rest.members n counts
             ∙ ap (λ b. b || is_member qs n) (extend-members q.0 q.1 rs le more.1 begun h ends n counts)
-            ∙ or-assoc (inside q n) (is_member rs n) (is_member qs n) ∙ or-swap (inside q n) (is_member rs n) (is_member qs n);
+            ∙ or_assoc (inside q n) (is_member rs n) (is_member qs n) ∙ or-swap (inside q n) (is_member rs n) (is_member qs n);
       })
       (λ e.
       let rest = added q.0 rs qs h ends begun rise.1 more.2 in

@@ -2,11 +2,13 @@
 use Rattle.std.proofs.Common.{◌≡◌, ◌↔◌, ℕ, ◌-◌, ◌<◌, ◌≤◌, Bool, true, false, List, [], ◌∷◌, length, get_or, Some, refl, ap, sym, ◌∙◌, subst, arith, inl, inr}
 use Rattle.std.specs.Prelude.{min, max, nat_le, nat_lt, ◌&&◌, ◌||◌, if◌then◌else◌}
 use Rattle.std.specs.List.{list_all, slice_get}
-use Rattle.std.proofs.lemmas.Bool.{false≢true, and_parts, or_cases, cases_lt, ltb-true, ltb-false, leb-true}
+use Rattle.std.proofs.lemmas.Bool.{false≢true, and_parts, or_cases, cases_lt, ltb-true, ltb-false, leb-true, le-leb}
 use Rattle.std.proofs.lemmas.Bool.Decides.{nat_tests}
 use Rattle.std.proofs.lemmas.Option.{slice_get_within, get_or_from_slice_get}
 use Rattle.rx_model.specs.Text.{is_member}
 use Rattle.rx_class.specs.Ranges.{insert, fewest, BeginPast, AreFewest}
+use Rattle.std.proofs.Math.Bool.{or-true, or_assoc, and-true}
+use Rattle.rx_model.proofs.lemmas.runs.RunLemmas.{or-swap}
 
 -- the number lies in the range
 abbrev pub inside : ℕ × ℕ → ℕ → Bool
@@ -21,28 +23,17 @@ inside-before r n lt = grind (arith, nat_tests)
 pub inside-after : (r : ℕ × ℕ) (n : ℕ) → r.1 < n → inside r n ≡ false
 inside-after r n lt = grind (arith, nat_tests)
 
-le-test : (m n : ℕ) → m ≤ n → nat_le m n ≡ true
-le-test m n le = grind (arith, nat_tests)
-
-and-true : (b : Bool) → b ≡ (b && true)
-and-true true = refl
-and-true false = refl
-
 -- what follows from a test may be joined to it
 follows : (a b : Bool) → (b ≡ true → a ≡ true) → b ≡ (a && b)
 follows true b f = refl
 follows false true f = sym (f refl)
 follows false false f = refl
 
-pub or-right : (b : Bool) → (b || true) ≡ true
-or-right true = refl
-or-right false = refl
-
 same-first : (x y z : Bool) → x ≡ true → y ≡ true → x ≡ (y || z)
 same-first x y z e f = e ∙ sym (ap (λ b. b || z) f)
 
 same-second : (x y z : Bool) → x ≡ true → z ≡ true → x ≡ (y || z)
-same-second x y z e f = e ∙ sym (ap (λ b. y || b) f ∙ or-right y)
+same-second x y z e f = e ∙ sym (ap (λ b. y || b) f ∙ or-true y)
 
 same-neither : (x y z : Bool) → x ≡ false → y ≡ false → z ≡ false → x ≡ (y || z)
 same-neither x y z e f g = e ∙ sym (ap (λ b. b || z) f ∙ g)
@@ -73,16 +64,6 @@ inside-joined a b low high n le ordered meets follows =
         ]
       ]
     ]
-
-pub or-swap : (a b c : Bool) → (a || (b || c)) ≡ (b || (a || c))
-or-swap true true c = refl
-or-swap true false c = refl
-or-swap false true c = refl
-or-swap false false c = refl
-
-pub or-assoc : (a b c : Bool) → ((a || b) || c) ≡ (a || (b || c))
-or-assoc true b c = refl
-or-assoc false b c = refl
 
 -- a number and the next one: none that counts lies between them
 pub record IsSuccessor (next : ℕ → ℕ) (Counts : ℕ → Type 0) : Type 0 where
@@ -238,7 +219,7 @@ module _ (next : ℕ → ℕ) (Counts : ℕ → Type 0) (succ : IsSuccessor next
       (inside-joined r.0 r.1 low high n h.0 le
       (λ lt. let up = succ.between r.1 n ends.1 counts lt in let meet = ltb-false (next r.1) low f in omega arith)
       (λ lt. let up = succ.between high n last counts lt in let meet = ltb-false (next high) r.0 e in omega arith))
-      ∙ or-assoc (inside (low, high) n) (inside r n) (is_member rs n))
+      ∙ or_assoc (inside (low, high) n) (inside r n) (is_member rs n))
 
   -- Fewest ranges of any.
 
@@ -276,11 +257,11 @@ module _ (next : ℕ → ℕ) (Counts : ℕ → Type 0) (succ : IsSuccessor next
   -- the last range tells whether all end by a number
   pub last-tells : (r : ℕ × ℕ) (rs : List (ℕ × ℕ)) (n : ℕ) (d : ℕ × ℕ) → AreFewest next (r ∷ rs)
       → nat_le (get_or (r ∷ rs) (length rs) d).1 n ≡ list_all (λ (q : ℕ × ℕ). nat_le q.1 n) (r ∷ rs)
-  last-tells r [] n d h = and-true (nat_le r.1 n)
+  last-tells r [] n d h = sym (and-true (nat_le r.1 n))
   last-tells r (s ∷ rs) n d h =
       last-tells s rs n d h.2
       ∙ follows (nat_le r.1 n) (list_all (λ (q : ℕ × ℕ). nat_le q.1 n) (s ∷ rs))
-      (λ all. le-test r.1 n
+      (λ all. le-leb r.1 n
       (omega (arith, succ.above r.1, h.1, h.2.0, leb-true s.1 n (and_parts (nat_le s.1 n) (list_all (λ (q : ℕ × ℕ). nat_le q.1 n) rs) all).0)))
 
   pub last-decides : (rs : List (ℕ × ℕ)) (n : ℕ) (last d : ℕ × ℕ) → AreFewest next rs → 0 < length rs → last ≡ get_or rs (length rs - 1) d
@@ -311,8 +292,8 @@ module _ (next : ℕ → ℕ) (Counts : ℕ → Type 0) (succ : IsSuccessor next
       → list_all (λ (q : ℕ × ℕ). nat_le q.1 greatest) rs ≡ true
   members-ends [] greatest h f = refl
   members-ends (r ∷ rs) greatest h f =
-      ap (λ b. b && list_all (λ (q : ℕ × ℕ). nat_le q.1 greatest) rs) (le-test r.1 greatest (f r.1 (first-member r rs r.1 h.0 (omega arith))))
-      ∙ members-ends rs greatest h.2 (λ n m. f n (ap (λ b. inside r n || b) m ∙ or-right (inside r n)))
+      ap (λ b. b && list_all (λ (q : ℕ × ℕ). nat_le q.1 greatest) rs) (le-leb r.1 greatest (f r.1 (first-member r rs r.1 h.0 (omega arith))))
+      ∙ members-ends rs greatest h.2 (λ n m. f n (ap (λ b. inside r n || b) m ∙ or-true (inside r n)))
 
   -- all ranges end by a number where all members do
   pub ends-bound : (rs : List (ℕ × ℕ)) (greatest : ℕ) → AreFewest next rs
