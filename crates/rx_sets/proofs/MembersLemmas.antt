@@ -4,7 +4,7 @@ use Rattle.std.specs.Prelude.{nat_le, nat_lt, ◌&&◌, ◌||◌, if◌then◌el
 use Rattle.std.specs.Char.{IsScalar}
 use Rattle.std.proofs.Math.Utf8.{scalar_cases}
 use lib.Utf8.{scalar}
-use Rattle.std.proofs.lemmas.Bool.{cases_lt, false≢true}
+use Rattle.std.proofs.lemmas.Bool.{cases_lt, false≢true, and_parts}
 use Rattle.std.proofs.lemmas.Bool.Decides.{nat_tests}
 use Rattle.std.proofs.lemmas.List.Folds.{list_any-append}
 use Rattle.std.proofs.Math.Bool.{or-false}
@@ -24,11 +24,7 @@ inside low high c = nat_le low c && nat_le c high
 
 point-ends : (p : ℕ → Bool) (n : ℕ) (b : Bool) (rest : List (ℕ × ℕ)) → (scalar n && p n) ≡ b → Ends IsScalar rest
     → Ends IsScalar (if b then (n, n) ∷ rest else rest)
-point-ends p n true rest e ends = let is : scalar n ≡ true = first-of (scalar n) (p n) e in (is, is, ends)
-  where
-    first-of : (a b : Bool) → (a && b) ≡ true → a ≡ true
-    first-of true b e = refl
-    first-of false b e = e
+point-ends p n true rest e ends = let is : scalar n ≡ true = (and_parts (scalar n) (p n) e).0 in (is, is, ends)
 point-ends p n false rest e ends = ends
 
 points-ends : (p : ℕ → Bool) (n : ℕ) → Ends IsScalar (points_below p n)
