@@ -20,9 +20,6 @@ use Rattle.rx_literal.proofs.lemmas.prefixes.ClassLemmas.{IsIn, members-in, scal
 use Rattle.rx_literal.proofs.lemmas.first_runs.ExactLemmas.{one, first_end, no_exact}
 use Rattle.std.proofs.lemmas.Bool.{or_right}
 
-heads : (x y : ℕ) (xs ys : List ℕ) → (x ∷ xs) ≡ (y ∷ ys) → x ≡ y
-heads x y xs ys e = cc
-
 -- Q holds of each of the list
 abbrev Each : (ℕ → Type 0) → List ℕ → Type 0
 Each Q [] = Unit {0}
@@ -185,5 +182,6 @@ module _ (hay : List ℕ) where
       byte_of d is stands =
           let goes = stands_at_parts hay i (d ∷ []) stands in
           let lt : i < length hay = omega (arith, length-drop i hay, ap length goes) in
-          let head : slice_index hay i ≡ d = heads (slice_index hay i) d _ _ (sym (drop_more hay i _ lt) ∙ goes) in
+          let e : (slice_index hay i ∷ drop (i + 1) hay) ≡ (d ∷ drop (i + 1) hay) = sym (drop_more hay i _ lt) ∙ goes in
+          let head : slice_index hay i ≡ d = cc in
           byte_len-of hay rs i 1 (refl, lt, subst (λ x. is_member rs x ≡ true) (sym head) is)

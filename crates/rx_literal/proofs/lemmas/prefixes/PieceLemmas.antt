@@ -39,11 +39,6 @@ module _ (R : ℕ → ℕ → Type 0) (rises : (i j : ℕ) → R i j → i ≤ j
       let up = x.1 in
       (x.0, omega arith, x.2))
 
-  -- the last one, apart
-  pub last-piece : (n i j : ℕ) → Pieces R (suc n) i j → (k : ℕ) × Pieces R n i k × R k j
-  last-piece zero i j p = (i, refl, subst (λ x. R i x) p.2 p.1)
-  last-piece (suc n) i j p = let x = last-piece n p.0 j p.2 in (x.0, (p.0, p.1, x.1), x.2)
-
 -- What a repetition's literals tell of i..j, by what the body's tell: of no bytes, of several pieces loosely, of
 -- one piece, and of copies.
 module _ (side : Side) (P : Literal → Type 0) (R : ℕ → ℕ → Type 0) (ts : Seq) (i j : ℕ) (nothing : i ≡ j → OneIn P one_empty)

@@ -16,8 +16,9 @@ use Rattle.rx_literal.specs.Extract.{literals, in_turn, of_one, copies}
 use Rattle.rx_literal.specs.Trim.{common_prefix, common_from_behind, longest_common_suffix}
 use Rattle.rx_literal.specs.Spans.{Ends, OneOf, OneIn}
 use Rattle.rx_literal.proofs.lemmas.prefixes.OneLemmas.{union-left, union-right, loosened-in, cross_on-in}
-use Rattle.rx_literal.proofs.lemmas.prefixes.PieceLemmas.{last-pieces, last-piece, repeated-in}
+use Rattle.rx_literal.proofs.lemmas.prefixes.PieceLemmas.{last-pieces, repeated-in}
 use Rattle.rx_literal.proofs.lemmas.prefixes.BeginLemmas.{class-whole, stands-append, stands-none}
+use Rattle.rx_model.proofs.lemmas.meaning.PieceLemmas.{last-piece}
 
 module _ (text : List ℕ) where
   ends-loose : (i k j : ℕ) → i ≤ k → (l : Literal) → Ends text k j l → Ends text i j (loose l)
@@ -78,7 +79,7 @@ module _ (text : List ℕ) where
     ends-times : (c i k j : ℕ) (ss : Seq) → OneIn (Ends text k j) ss → Pieces R c i k → OneIn (Ends text i j) (cross_times back c ss ts)
     ends-times zero i k j ss b p = subst (λ x. OneIn (Ends text x j) ss) (sym p) b
     ends-times (suc c) i k j ss b p =
-        let x = last-piece R rises c i k p in
+        let x = last-piece R c i k p in
         ends-times c i x.0 j (cross_on back ss ts) (ends-cross_on x.0 k j (rises x.0 k x.2) ss ts b (each x.0 k x.2)) x.1
 
     ends-copies : (i j least most n : ℕ) → least ≤ n → n ≤ most → Pieces R n i j → OneIn (Ends text i j) (copies back least most ts)

@@ -8,9 +8,6 @@ use Rattle.rx_literal.specs.Trim.{common_prefix, common_from_behind, longest_com
 use Rattle.rx_literal.specs.Spans.{EndsWith, EachEndsWith}
 use Rattle.rx_literal.proofs.lemmas.suffixes.EndLemmas.{IsPart, part-part, common-right, behind-part, none-some_list, some-same}
 
-heads : (x y : ℕ) (xs ys : List ℕ) → (x ∷ xs) ≡ (y ∷ ys) → x ≡ y
-heads x y xs ys e = cc
-
 tails : (x y : ℕ) (xs ys : List ℕ) → (x ∷ xs) ≡ (y ∷ ys) → xs ≡ ys
 tails x y xs ys e = cc
 
@@ -22,8 +19,8 @@ greatest [] xs ys a b = (common_prefix xs ys, refl)
 greatest (c ∷ t) [] ys a b = not-cons c (t ++ a.0) a.1
 greatest (c ∷ t) (x ∷ xs) [] a b = not-cons c (t ++ b.0) b.1
 greatest (c ∷ t) (x ∷ xs) (y ∷ ys) a b =
-    let left : x ≡ c = heads x c xs (t ++ a.0) a.1 in
-    let right : y ≡ c = heads y c ys (t ++ b.0) b.1 in
+    let e = a.1 in let left : x ≡ c = cc in
+    let e = b.1 in let right : y ≡ c = cc in
     let same : nat_eq x y ≡ true = grind (arith, nat_tests) in
     let r = greatest t xs ys (a.0, tails x c xs (t ++ a.0) a.1) (b.0, tails y c ys (t ++ b.0) b.1) in
     rw same (r.0, λ k. left k ∷ r.1 k)

@@ -7,16 +7,15 @@ use Rattle.std.proofs.lemmas.Bool.{and_parts, not-true}
 use Rattle.std.proofs.lemmas.List.{get_or-map}
 use Rattle.std.proofs.lemmas.List.Folds.{list_any_more}
 use Rattle.std.proofs.lemmas.List.Sorted.{list_any-IsPermutation}
-use Rattle.rx_model.proofs.lemmas.runs.RunLemmas.{by_test}
-use Rattle.rx_class.proofs.RangeLemmas.{or-right}
+use Rattle.rx_model.proofs.lemmas.runs.RunLemmas.{by_test, or-swap}
 use Rattle.rx_literal.specs.Literals.{Literal, exact, inexact, bytes_of, is_exact}
 use Rattle.rx_literal.specs.declared.order.Order.TheVariants.{Bytes as by_bytes}
 use Rattle.rx_literal.specs.Order.{before, follows, InOrder}
 use Rattle.rx_literal.specs.Trim.{one_of_both, insert, sorted}
-use Rattle.rx_literal.proofs.lemmas.trimming.BeforeLemmas.{before-trans, before-self, bytes-same, and-no}
+use Rattle.rx_literal.proofs.lemmas.trimming.BeforeLemmas.{before-trans, before-self, bytes-same}
 use Rattle.rx_literal.proofs.lemmas.trimming.OrderedLemmas.{all-both, all-all, all-none}
-use Rattle.rx_literal.proofs.lemmas.trimming.PartedLemmas.{or-comm, or-assoc}
 use Rattle.rx_literal.proofs.lemmas.trimming.InsertLemmas.{insert-first, insert-later, insert-here, insert-ordered}
+use Rattle.std.proofs.Math.Bool.{or_comm, or_assoc, and-false}
 
 -- the literal has these bytes
 abbrev has_these : List ℕ → Literal → Bool
@@ -30,10 +29,6 @@ is_loose b l = has_these b l && not (is_exact l)
 pub record Alike (xs ys : List Literal) : Type 0 where
   pub stand : (b : List ℕ) → list_any (has_these b) xs ≡ list_any (has_these b) ys
   pub loose : (b : List ℕ) → list_any (is_loose b) xs ≡ list_any (is_loose b) ys
-
-or-swap : (a b c : Bool) → (a || (b || c)) ≡ (b || (a || c))
-or-swap true b c = sym (or-right b)
-or-swap false b c = refl
 
 same-or : (a : Bool) → (a || a) ≡ a
 same-or true = refl
@@ -52,14 +47,14 @@ fits-these b (inexact s) m same =
     sym (ap (λ t. has_these b (inexact s) || t) (sym (these-same b (inexact s) m same)) ∙ same-or (has_these b (inexact s)))
 
 fits-loose : (b : List ℕ) → Fits (is_loose b)
-fits-loose b (exact s) m same = sym (ap (λ t. t || is_loose b m) (and-no (has_these b (exact s))))
+fits-loose b (exact s) m same = sym (ap (λ t. t || is_loose b m) (and-false (has_these b (exact s))))
 fits-loose b (inexact s) m same =
     by_test (is_loose b m)
     (λ e.
     let there = (and_parts (has_these b m) (not (is_exact m)) e).0 in
     let here : is_loose b (inexact s) ≡ true = all-both (has_these b (inexact s)) true (these-same b (inexact s) m same ∙ there) refl in
     here ∙ sym (ap (λ t. t || is_loose b m) here))
-    (λ e. sym (ap (λ t. is_loose b (inexact s) || t) e ∙ or-comm (is_loose b (inexact s)) false))
+    (λ e. sym (ap (λ t. is_loose b (inexact s) || t) e ∙ or_comm (is_loose b (inexact s)) false))
 
 any-insert : (p : Literal → Bool) → Fits p → (l : Literal) (ms : List Literal) → list_any p (insert l ms) ≡ (p l || list_any p ms)
 unfolding insert
@@ -70,7 +65,7 @@ any-insert p fits l (m ∷ ms) =
     (λ e. by_test (follows by_bytes l m)
     (λ d. ap (list_any p) (insert-later l m ms d) ∙ ap (λ t. p m || t) (any-insert p fits l ms) ∙ or-swap (p m) (p l) (list_any p ms))
     (λ d. ap (list_any p) (insert-here l m ms e d) ∙ ap (λ t. t || list_any p ms) (fits l m (bytes-same (bytes_of l) (bytes_of m) e d))
-    ∙ sym (or-assoc (p l) (p m) (list_any p ms))))
+    ∙ or_assoc (p l) (p m) (list_any p ms)))
 
 any-sorted : (p : Literal → Bool) → Fits p → (ls : List Literal) → list_any p (sorted ls) ≡ list_any p ls
 unfolding sorted
@@ -128,7 +123,7 @@ own-loose : (x : Literal) (ls : List Literal) → list_all (λ m. follows by_byt
 own-loose x ls all =
     let self = before-self by_bytes (bytes_of x) in
     let none = no-loose (bytes_of x) ls (after-these x ls all) in
-    rw (self, none) (or-comm (not (is_exact x)) false)
+    rw (self, none) (or_comm (not (is_exact x)) false)
 
 pub unique : (xs ys : List Literal) → InOrder by_bytes xs → InOrder by_bytes ys → Alike xs ys → xs ≡ ys
 unique [] [] o u alike = refl
@@ -165,7 +160,7 @@ alike-none = record { stand = λ b. refl; loose = λ b. refl }
 any-more : (p : Literal → Bool) → Fits p → (found ls : List Literal) (i : ℕ) (l : Literal) → i < length ls → l ≡ get_or ls i l
     → list_any p found ≡ list_any p (take i ls) → list_any p (insert l found) ≡ list_any p (take (i + 1) ls)
 any-more p fits found ls i l lt at so_far =
-    any-insert p fits l found ∙ ap (λ t. p l || t) so_far ∙ or-comm (p l) (list_any p (take i ls)) ∙ ap (λ y. list_any p (take i ls) || p y) at
+    any-insert p fits l found ∙ ap (λ t. p l || t) so_far ∙ or_comm (p l) (list_any p (take i ls)) ∙ ap (λ y. list_any p (take i ls) || p y) at
     ∙ sym (list_any_more p ls i l lt)
 
 -- one more of the literals

@@ -6,12 +6,12 @@ use Rattle.std.proofs.lemmas.Bool.{and_parts}
 use Rattle.std.proofs.lemmas.List.{drop_more, get_or-drop}
 use Rattle.std.proofs.lemmas.List.Folds.{list_any_more, list_any_kept}
 use Rattle.rx_model.proofs.lemmas.runs.RunLemmas.{by_test}
-use Rattle.rx_class.proofs.RangeLemmas.{or-right}
 use Rattle.rx_literal.specs.Literals.{Literal}
 use Rattle.rx_literal.specs.Slots.{AreApart}
 use Rattle.rx_literal.specs.Trim.{has_prefix_in, preferred, picked}
 use Rattle.rx_literal.proofs.lemmas.trimming.PartedLemmas.{starts}
 use Rattle.rx_literal.proofs.lemmas.trimming.PickedLemmas.{picked-mark}
+use Rattle.std.proofs.Math.Bool.{or-true}
 
 -- none of the first n literals is a prefix of l
 pub none-before : (ls : List Literal) (n : ℕ) (l : Literal) → n ≤ length ls → ((j : ℕ) (m : Literal) → j < n → m ≡ get_or ls j m → starts l m ≡ false)
@@ -52,7 +52,7 @@ module _ (es ls : List Literal) (i : ℕ) (l : Literal) (lt : i < length ls) (at
       (λ e. ap (λ b. b || starts x (get_or ls i l)) (before x e))
       (λ e.
       let one : starts x m ≡ true = ap (λ b. b || starts x m) (sym e) ∙ sym (covered x) ∙ h in
-      ap (λ b. has_prefix_in (take i ls) x || b) (sym here ∙ one) ∙ or-right (has_prefix_in (take i ls) x))
+      ap (λ b. has_prefix_in (take i ls) x || b) (sym here ∙ one) ∙ or-true (has_prefix_in (take i ls) x))
 
   module _ (apart : (j : ℕ) (m : Literal) → j < length ls → i ≢ j → m ≡ get_or ls j m → AreApart l m) where
     alone-new : has_prefix_in es l ≡ false

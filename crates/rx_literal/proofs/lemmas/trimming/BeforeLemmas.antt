@@ -10,6 +10,7 @@ use Rattle.rx_literal.specs.declared.order.Order.{Order}
 use Rattle.rx_literal.specs.declared.order.Order.TheVariants.{Bytes as by_bytes, Branches as by_branches}
 use Rattle.rx_literal.specs.Order.{has_prefix_first, before}
 use Rattle.rx_literal.specs.Trim.{comes_before}
+use Rattle.std.proofs.Math.Bool.{and-true, and-false}
 
 pub untrue : {P : Type 0} (b : Bool) → b ≡ true → b ≡ false → P
 untrue b h n = absurd (true≢false (sym h ∙ n))
@@ -88,14 +89,6 @@ before-none : (order : Order) (xs : List ℕ) → before order xs [] ≡ false
 before-none order [] = refl
 before-none order (x ∷ xs) = refl
 
-and-yes : (b : Bool) → (b && true) ≡ b
-and-yes true = refl
-and-yes false = refl
-
-pub and-no : (b : Bool) → (b && false) ≡ false
-and-no true = refl
-and-no false = refl
-
 -- where one of them ends
 pub before-over : (order : Order) (xs ys : List ℕ) (i : ℕ) → i ≤ length xs → i ≤ length ys → (length xs ≤ i) ⊎ (length ys ≤ i)
     → before order (drop i xs) (drop i ys) ≡ (has_prefix_first order && nat_lt (length xs) (length ys))
@@ -104,11 +97,12 @@ before-over order xs ys i a b over =
       | inl past ↦
           ap (λ zs. before order zs (drop i ys)) (drop-past xs i past)
           ∙ by_test (nat_lt (length xs) (length ys))
-          (λ e. let lt : i < length ys = grind (arith, nat_tests) in rw e (ap (before order []) (drop_more ys i 0 lt) ∙ sym (and-yes (has_prefix_first order))))
-          (λ e. let le : length ys ≤ i = grind (arith, nat_tests) in rw e (ap (before order []) (drop-past ys i le) ∙ sym (and-no (has_prefix_first order))))
+          (λ e. let lt : i < length ys = grind (arith, nat_tests) in
+          rw e (ap (before order []) (drop_more ys i 0 lt) ∙ sym (and-true (has_prefix_first order))))
+          (λ e. let le : length ys ≤ i = grind (arith, nat_tests) in rw e (ap (before order []) (drop-past ys i le) ∙ sym (and-false (has_prefix_first order))))
       | inr past ↦
           let e : nat_lt (length xs) (length ys) ≡ false = grind (arith, nat_tests) in
-          rw e (ap (before order (drop i xs)) (drop-past ys i past) ∙ before-none order (drop i xs) ∙ sym (and-no (has_prefix_first order)))
+          rw e (ap (before order (drop i xs)) (drop-past ys i past) ∙ before-none order (drop i xs) ∙ sym (and-false (has_prefix_first order)))
     ]
 
 -- the first is a prefix of the second

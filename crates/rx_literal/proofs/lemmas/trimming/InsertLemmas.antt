@@ -1,9 +1,9 @@
 -- A literal put among sorted ones.
 use Rattle.std.proofs.Common.{◌≡◌, ℕ, zero, suc, ◌+◌, ◌-◌, ◌<◌, ◌≤◌, Bool, true, false, List, [], ◌∷◌, ◌++◌, length, take, drop, get_or, refl, sym, ap, ◌∙◌, subst, arith, true≢false}
-use Rattle.std.specs.Prelude.{not, ◌||◌}
+use Rattle.std.specs.Prelude.{not}
 use Rattle.std.specs.List.{list_any, list_all}
 use lib.ListN.{set}
-use Rattle.std.proofs.lemmas.Bool.{and_parts, not-true, not-false}
+use Rattle.std.proofs.lemmas.Bool.{and_parts, not-true, not-false, or_parts}
 use Rattle.std.proofs.lemmas.List.{drop_more}
 use Rattle.rx_model.proofs.lemmas.runs.RunLemmas.{by_test}
 use Rattle.rx_literal.specs.Literals.{Literal, exact, inexact, bytes_of, is_exact}
@@ -12,6 +12,7 @@ use Rattle.rx_literal.specs.Order.{before, follows, InOrder}
 use Rattle.rx_literal.specs.Trim.{comes_before, one_of_both, insert, sorted}
 use Rattle.rx_literal.proofs.lemmas.trimming.BeforeLemmas.{before-trans, before-one, bytes-before, bytes-same}
 use Rattle.rx_literal.proofs.lemmas.trimming.OrderedLemmas.{all-both, all-all}
+use Rattle.std.proofs.Math.Bool.{or-false}
 
 comes : (l m : Literal) → comes_before (bytes_of l) (bytes_of m) ≡ follows by_bytes m l
 comes l m = sym (bytes-before (bytes_of l) (bytes_of m))
@@ -35,14 +36,6 @@ insert-here l m ms p q =
     let e = comes m l ∙ q in
     rw (d, e) refl
 
-or-left : (a b : Bool) → (a || b) ≡ false → a ≡ false
-or-left true b h = absurd (true≢false h)
-or-left false b h = refl
-
-pub or-single : (a : Bool) → (a || false) ≡ a
-or-single true = refl
-or-single false = refl
-
 -- l at its place, where none is the same
 pub insert-new : (l : Literal) (ms : List Literal) (k : ℕ) → list_all (follows by_bytes l) (take k ms) ≡ true
     → list_any (follows by_bytes l) (drop k ms) ≡ false
@@ -51,7 +44,7 @@ unfolding insert
 insert-new l [] zero a b c = refl
 insert-new l [] (suc k) a b c = refl
 insert-new l (m ∷ ms) zero a b c =
-    insert-first l m ms (not-false (follows by_bytes m l) (sym (or-single (not (follows by_bytes m l))) ∙ c))
+    insert-first l m ms (not-false (follows by_bytes m l) (sym (or-false (not (follows by_bytes m l))) ∙ c))
 insert-new l (m ∷ ms) (suc k) a b c =
     let both = and_parts (follows by_bytes l m) (list_all (follows by_bytes l) (take k ms)) a in
     insert-later l m ms both.0 ∙ ap (λ ys. m ∷ ys) (insert-new l ms k both.1 b c)
@@ -71,8 +64,8 @@ pub insert-exact : (l : Literal) (ms : List Literal) (k : ℕ) → list_all (fol
 insert-exact l [] zero a b c h = absurd (true≢false (sym c))
 insert-exact l [] (suc k) a b c h = absurd (true≢false (sym c))
 insert-exact l (m ∷ ms) zero a b c h =
-    let p = not-true (follows by_bytes m l) (sym (or-single (not (follows by_bytes m l))) ∙ c) in
-    let q = or-left (follows by_bytes l m) (list_any (follows by_bytes l) ms) b in
+    let p = not-true (follows by_bytes m l) (sym (or-false (not (follows by_bytes m l))) ∙ c) in
+    let q = (or_parts (follows by_bytes l m) (list_any (follows by_bytes l) ms) b).0 in
     sym (insert-here l m ms p q ∙ ap (λ y. y ∷ ms) (both-exact l m h))
 insert-exact l (m ∷ ms) (suc k) a b c h =
     let both = and_parts (follows by_bytes l m) (list_all (follows by_bytes l) (take k ms)) a in
@@ -85,8 +78,8 @@ pub insert-inexact : (l : Literal) (ms : List Literal) (k : ℕ) → list_all (f
 insert-inexact l [] zero a b c h = absurd (true≢false (sym c))
 insert-inexact l [] (suc k) a b c h = absurd (true≢false (sym c))
 insert-inexact l (x ∷ ms) zero a b c h =
-    let p = not-true (follows by_bytes x l) (sym (or-single (not (follows by_bytes x l))) ∙ c) in
-    let q = or-left (follows by_bytes l x) (list_any (follows by_bytes l) ms) b in
+    let p = not-true (follows by_bytes x l) (sym (or-false (not (follows by_bytes x l))) ∙ c) in
+    let q = (or_parts (follows by_bytes l x) (list_any (follows by_bytes l) ms) b).0 in
     sym (insert-here l x ms p q ∙ ap (λ y. y ∷ ms) (both-inexact l x h))
 insert-inexact l (x ∷ ms) (suc k) a b c h =
     let both = and_parts (follows by_bytes l x) (list_all (follows by_bytes l) (take k ms)) a in

@@ -12,24 +12,14 @@ use Rattle.rx_literal.specs.Order.{before, follows, InOrder}
 use Rattle.rx_literal.specs.Trim.{has_prefix_in, preferred, past_longer}
 use Rattle.rx_literal.proofs.lemmas.trimming.BeforeLemmas.{untrue, before-trans, starts-begins, begins-trans, branch-apart, branch-longer, branch-after}
 use Rattle.rx_literal.proofs.lemmas.trimming.OrderedLemmas.{all-both, all-all, all-none}
-use Rattle.rx_class.proofs.RangeLemmas.{or-right}
+use Rattle.std.proofs.Math.Bool.{or-true, or_comm, or_assoc}
 
 -- the first literal begins with the second one
 abbrev pub starts : Literal → Literal → Bool
 starts l e = starts_with nat_eq (bytes_of l) (bytes_of e)
 
-pub or-comm : (a b : Bool) → (a || b) ≡ (b || a)
-or-comm true true = refl
-or-comm true false = refl
-or-comm false true = refl
-or-comm false false = refl
-
-pub or-assoc : (a b c : Bool) → (a || (b || c)) ≡ ((a || b) || c)
-or-assoc true b c = refl
-or-assoc false b c = refl
-
 absorb : (a b c : Bool) → (a ≡ true → c ≡ true) → (b || c) ≡ ((a || b) || c)
-absorb true b c to = rw (to refl) (or-right b)
+absorb true b c to = rw (to refl) (or-true b)
 absorb false b c to = refl
 
 starts-trans : (x m l : Literal) → starts x m ≡ true → starts m l ≡ true → starts x l ≡ true
@@ -62,26 +52,26 @@ has-trans [] l x h s = absurd (true≢false (sym h))
 has-trans (m ∷ ms) l x h s =
     by_test (starts l m)
     (λ e. rw (starts-trans x l m s e) refl)
-    (λ e. rw (has-trans ms l x (rw e at h) s) (or-right (starts x m)))
+    (λ e. rw (has-trans ms l x (rw e at h) s) (or-true (starts x m)))
 
 pub covered-before : (ms : List Literal) (l : Literal) → has_prefix_in ms l ≡ true → (x : Literal) → has_prefix_in ms x ≡ (has_prefix_in ms x || starts x l)
 covered-before ms l h x =
     by_test (starts x l)
-    (λ e. rw e (has-trans ms l x h e ∙ sym (or-right (has_prefix_in ms x))))
-    (λ e. rw e (or-comm false (has_prefix_in ms x)))
+    (λ e. rw e (has-trans ms l x h e ∙ sym (or-true (has_prefix_in ms x))))
+    (λ e. rw e (or_comm false (has_prefix_in ms x)))
 
 longer-covered : (l x : Literal) (ms : List Literal) → has_prefix_in (l ∷ past_longer l ms) x ≡ (has_prefix_in ms x || starts x l)
-longer-covered l x [] = or-comm (starts x l) false
+longer-covered l x [] = or_comm (starts x l) false
 longer-covered l x (m ∷ ms) =
     by_test (starts m l)
     (λ e. rw e (longer-covered l x ms ∙ absorb (starts x m) (has_prefix_in ms x) (starts x l) (λ s. starts-trans x m l s e)))
-    (λ e. rw e (or-comm (starts x l) (starts x m || has_prefix_in ms x)))
+    (λ e. rw e (or_comm (starts x l) (starts x m || has_prefix_in ms x)))
 
 -- l in place of those that begin with it leaves the same prefixes
 pub covered-after : (l x : Literal) (ks ms : List Literal) → has_prefix_in (ks ++ l ∷ past_longer l ms) x ≡ (has_prefix_in (ks ++ ms) x || starts x l)
 covered-after l x [] ms = longer-covered l x ms
 covered-after l x (k ∷ ks) ms =
-    ap (λ t. starts x k || t) (covered-after l x ks ms) ∙ or-assoc (starts x k) (has_prefix_in (ks ++ ms) x) (starts x l)
+    ap (λ t. starts x k || t) (covered-after l x ks ms) ∙ sym (or_assoc (starts x k) (has_prefix_in (ks ++ ms) x) (starts x l))
 
 past-all : (p : Literal → Bool) (l : Literal) (ms : List Literal) → list_all p ms ≡ true → list_all p (past_longer l ms) ≡ true
 past-all p l [] h = refl
@@ -166,7 +156,7 @@ preferred-same es fs same (l ∷ ls) =
 
 module _ (es fs ls : List Literal) (l : Literal) (covered : (x : Literal) → has_prefix_in fs x ≡ (has_prefix_in es x || starts x l)) where
   rest-same : preferred (l ∷ es) ls ≡ preferred fs ls
-  rest-same = preferred-same (l ∷ es) fs (λ x. or-comm (starts x l) (has_prefix_in es x) ∙ sym (covered x)) ls
+  rest-same = preferred-same (l ∷ es) fs (λ x. or_comm (starts x l) (has_prefix_in es x) ∙ sym (covered x)) ls
 
   pub preferred-skip : has_prefix_in es l ≡ true → preferred es (l ∷ ls) ≡ preferred fs ls
   unfolding preferred

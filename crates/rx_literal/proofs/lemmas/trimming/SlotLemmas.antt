@@ -3,7 +3,7 @@ use Rattle.std.proofs.Common.{◌≡◌, ◌≢◌, ℕ, zero, suc, ◌+◌, ◌
 use Rattle.std.specs.Prelude.{nat_lt, nat_le, nat_eq, slice_index}
 use Rattle.std.specs.List.{list_all, starts_with}
 use lib.ListN.{set}
-use Rattle.std.proofs.lemmas.Bool.{cases_lt, cases_eq}
+use Rattle.std.proofs.lemmas.Bool.{cases_lt, cases_eq, le-leb}
 use Rattle.std.proofs.lemmas.Bool.Decides.{nat_tests}
 use Rattle.std.proofs.lemmas.List.{length-map, get_or-map, get_or-set_same, get_or-set_other}
 use Rattle.std.proofs.lemmas.List.Folds.{list_all_more}
@@ -43,9 +43,6 @@ has-at n ls i l all lt at = let h = all-at (has_bytes n) ls i l all lt at in gri
 fewer : (n m k : ℕ) → m ≤ n → nat_le n k ≡ true → nat_le m k ≡ true
 fewer n m k le h = grind (arith, nat_tests)
 
-yes-le : (n k : ℕ) → n ≤ k → nat_le n k ≡ true
-yes-le n k le = grind (arith, nat_tests)
-
 pub have-fewer : (n m : ℕ) (ls : List Literal) → list_all (has_bytes n) ls ≡ true → m ≤ n → list_all (has_bytes m) ls ≡ true
 have-fewer n m ls all le = all-all (has_bytes n) (has_bytes m) (λ x h. fewer n m (length (bytes_of x)) le h) ls all
 
@@ -56,7 +53,7 @@ have-more n m ls i l lt at all a b =
     list_all_more (has_bytes m) ls i l lt
     ∙ all-both (list_all (has_bytes m) (take i ls)) (has_bytes m (get_or ls i l))
     (have-fewer n m (take i ls) all a)
-    (ap (has_bytes m) (sym at) ∙ yes-le m (length (bytes_of l)) b)
+    (ap (has_bytes m) (sym at) ∙ le-leb m (length (bytes_of l)) b)
 
 -- the slot at i
 pub slot-at : (n : ℕ) (ls : List Literal) (i : ℕ) (l : Literal) → i < length ls → l ≡ get_or ls i l → get_or (map (slot n) ls) i 0 ≡ slot n l
