@@ -25,7 +25,7 @@ end-written None place (Some t) = refl
 end-written (Some n) place None = refl
 end-written (Some n) place (Some t) = refl
 
-first-same : (e f : Configuration → Option Trace) (ds : List Configuration) → ((d : Configuration) → Contains ds d → e d ≡ f d)
+pub first-same : (e f : Configuration → Option Trace) (ds : List Configuration) → ((d : Configuration) → Contains ds d → e d ≡ f d)
     → option_map end_of (first_some e ds) ≡ first_some (λ d. option_map end_of (f d)) ds
 first-same e f [] h = refl
 first-same e f (d ∷ ds) h =
@@ -71,14 +71,14 @@ module _ (terminator : ℕ) (hay : List ℕ) (end : ℕ) (whole : List State) wh
       (λ d m. in_set d (subst (λ ds. Contains ds d) (successors-at terminator hay end whole q i s is le) m))
       ∙ ap (first_some ends) (successors-at terminator hay end whole q i s is le)
 
-  go_by-ends : (o : Option ℕ) (next i : ℕ) → first_some ends (go_by terminator hay end o next i) ≡ after (λ j. ends (at next j)) o i
+  pub go_by-ends : (o : Option ℕ) (next i : ℕ) → first_some ends (go_by terminator hay end o next i) ≡ after (λ j. ends (at next j)) o i
   go_by-ends None next i = refl
   go_by-ends (Some n) next i =
       by_test (nat_le (i + n) end)
       (λ e. rw e (or-none_right (ends (at next (i + n)))))
       (λ e. let past : end < i + n = grind (arith, nat_tests) in rw e (sym (ends-past (at next (i + n)) past)))
 
-  after-past : (o : Option ℕ) (next i : ℕ) → end < i → after (λ j. ends (at next j)) o i ≡ None
+  pub after-past : (o : Option ℕ) (next i : ℕ) → end < i → after (λ j. ends (at next j)) o i ≡ None
   after-past None next i past = refl
   after-past (Some n) next i past = ends-past (at next (i + n)) (omega arith)
 
