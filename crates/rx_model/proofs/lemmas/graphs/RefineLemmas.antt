@@ -1,8 +1,7 @@
 -- A graph that refines another has the same first runs, wherever acceptance is permitted.
 use Rattle.std.proofs.Common.{◌≡◌, ℕ, zero, suc, ◌≤◌, ◌<◌, ◌⊎◌, List, [], ◌∷◌, refl, sym, ◌∙◌, ap, subst, inl, inr, arith, true≢false}
 use Rattle.std.specs.Prelude.{Bool, true, false, ◌||◌, if◌then◌else◌, is_some, Option, Some, None, Contains, map, option_map}
-use Rattle.std.specs.Option.{option_or}
-use Rattle.rx_model.specs.Runs.{Configuration, PriorityGraph, Passed, Sieve, sifted, sieved, nowhere, and_at, same, first_some, IsBounded, is_among, Trace, with_write, found}
+use Rattle.rx_model.specs.Runs.{Configuration, PriorityGraph, Passed, Sieve, sifted, sieved, nowhere, and_at, same, first_some, IsBounded, is_among, with_write, found}
 pub use Rattle.rx_model.specs.Refinement.{moved, IsFresh, Stays, Reads, Fails, Refines}
 use Rattle.rx_model.proofs.lemmas.runs.RunLemmas.{by_test, same-self, same-true, same-differ, left, left-less}
 use Rattle.rx_model.proofs.lemmas.runs.FoundLemmas.{found-passed, found-accepted, found-step}

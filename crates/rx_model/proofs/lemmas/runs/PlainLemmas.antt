@@ -1,28 +1,28 @@
 -- Where the first run of a plain expression ends.
-use Rattle.std.proofs.Common.{◌≡◌, ℕ, zero, suc, ◌+◌, ◌-◌, ◌*◌, ◌≤◌, ◌<◌, ◌⊎◌, Bool, true, false, List, [], ◌∷◌, ◌++◌, length, map, refl, sym, ap, ◌∙◌, subst, inl, inr, arith, true≢false}
+use Rattle.std.proofs.Common.{◌≡◌, ℕ, zero, suc, ◌+◌, ◌-◌, ◌*◌, ◌≤◌, ◌<◌, ◌⊎◌, Bool, true, false, List, [], ◌∷◌, length, map, refl, sym, ap, ◌∙◌, subst, inl, inr, arith, true≢false}
 use Rattle.std.specs.Prelude.{nat_le, Option, Some, None, option_map, if◌then◌else◌, Contains}
 use Rattle.std.specs.Option.{option_or}
 use Rattle.std.proofs.lemmas.Bool.Decides.{nat_tests}
-use Rattle.std.proofs.lemmas.Option.{none-some, same_Some}
+use Rattle.std.proofs.lemmas.Option.{same_Some}
 use Rattle.std.proofs.Math.Nat.{mul-suc}
-use Rattle.rx_model.specs.Text.{Class, stands_at, member_len}
+use Rattle.rx_model.specs.Text.{stands_at, member_len}
 use Rattle.rx_model.specs.Look.{Look, holds}
 use Rattle.rx_model.specs.Length.{minimum_len, is_positive, sum_of_minimum_len, least_minimum_len}
-use Rattle.rx_model.specs.Runs.{Configuration, nowhere, and_at, same, first_some, first_past, trace, found, Trace}
+use Rattle.rx_model.specs.Runs.{Configuration, nowhere, and_at, same, first_some, trace, found, Trace}
 use Rattle.rx_model.specs.Expression.{Expression, Expressions, empty, literal, class, look, repetition, capture, concat, alternation, nil, cons}
 use Rattle.rx_model.specs.Graph.{State, text, set, assertion, slot, choice, accept, Builder, build_nothing, build_state, build_then, prefer, loop, loop_once, copies, options, build_repetition, build_group, Parts, no_parts, build_beside, build_choice, build, build_in_turn, build_each, build_pattern, at, go_by, state_step, state_accepts}
 use Rattle.rx_model.specs.Search.{Patterns, slot_of, first}
 use Rattle.rx_model.specs.Onward.{after, either_first, times_go, up_to, copies_left, onward, onward_in_turn, onward_one, within, IsPlain, ArePlain}
 use Rattle.rx_model.proofs.lemmas.runs.RunLemmas.{by_test, same-true, past-alike}
 use Rattle.rx_model.proofs.lemmas.runs.FoundLemmas.{found-accepted, found-step}
-use Rattle.rx_model.proofs.lemmas.runs.MemberLemmas.{none-among, only-among, first-among}
+use Rattle.rx_model.proofs.lemmas.runs.MemberLemmas.{none-among}
 use Rattle.rx_model.proofs.lemmas.runs.OptionLemmas.{or-none_right}
 use Rattle.rx_model.proofs.lemmas.runs.OrderLemmas.{g, ends, end_of, end-written, first-same, ends-past, go_by-ends, after-past, prefer-ends, prefer-past, starts-past}
 use Rattle.rx_model.proofs.lemmas.graphs.PlacedLemmas.{Placed, Placed-front, Placed-back, Placed-first, Placed-rest}
 use Rattle.rx_model.proofs.lemmas.graphs.GraphLemmas.{runs_of-bounded, runs_of-rises}
 use Rattle.rx_model.proofs.lemmas.graphs.StateLemmas.{IsStateOf, prefer-accepts, successors-at, accepted-at, successors-in}
 use Rattle.rx_model.proofs.lemmas.graphs.LocalLemmas.{local}
-use Rattle.rx_model.proofs.lemmas.graphs.RankLemmas.{Among, RankedAt, Ranked, Ranked-group, ranked}
+use Rattle.rx_model.proofs.lemmas.graphs.RankLemmas.{Among, RankedAt, Ranked-group, ranked}
 use Rattle.rx_model.proofs.lemmas.meaning.CoverLemmas.{Placed-whole}
 use Rattle.rx_model.proofs.lemmas.meaning.LengthLemmas.{class-known, plus-some, lesser-some, times-some}
 
@@ -102,7 +102,7 @@ module _ (terminator : ℕ) (hay : List ℕ) (end : ℕ) where
         let first = x.4 in
         let other = x.5 in
         λ k. option_or (onward-looks sub x.0 x.2 f h i (λ j far. e j (omega arith)) k)
-            (one-looks (cons next subs) x.1 x.3 f h i (λ j far. e j (omega arith)) k)
+        (one-looks (cons next subs) x.1 x.3 f h i (λ j far. e j (omega arith)) k)
 
   -- what takes a byte looks only at later places
   onward-later : (sub : Expression) → is_positive (minimum_len sub) ≡ true → Looks 1 (onward terminator hay end sub)
