@@ -106,6 +106,14 @@ def nestings():
     ]
 
 
+def at_the_limits(rng):
+    """Kinds in which each level has about as many literals as there may be, and as long ones, so that it costs what it may."""
+    words = '|'.join(letters(rng, 90, 90) for _ in range(240))
+    return [
+        ('240 words of 90 letters in N nested groups', 60, lambda n: ['(' * n + words + r'\b)' * n]),
+    ]
+
+
 def lengths(words, text):
     """Kinds that grow in length. Word boundaries leave the literals as they are, so each part counts."""
     head = '(?:%s)' % '|'.join(words[:25])
@@ -133,7 +141,7 @@ def main():
     row(program, 'a literal of 100 KB', [text])
     print('\n| patterns | N | prefixes | 2N / N | by preference | 2N / N | for all | 2N / N | NFA | 2N / N |')
     print('|---' * 10 + '|')
-    for kind in alternations(words, alike, long) + nestings() + lengths(words, text):
+    for kind in alternations(words, alike, long) + nestings() + at_the_limits(rng) + lengths(words, text):
         growth_row(program, *kind)
 
 

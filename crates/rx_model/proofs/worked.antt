@@ -4,3 +4,4 @@ pub mod GroupRows
 pub mod LengthRows
 pub mod LookRows
 pub mod LookSpanRows
+pub mod OnwardRows

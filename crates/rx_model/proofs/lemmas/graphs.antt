@@ -5,3 +5,4 @@ pub mod RefineLemmas
 pub mod GraphLemmas
 pub mod SievedLemmas
 pub mod LocalLemmas
+pub mod RankLemmas

@@ -50,7 +50,7 @@ module _ (terminator : ℕ) (hay : List ℕ) (end : ℕ) (whole : List State) wh
         inl (target next c.place d (successors-in terminator hay end whole c d (state next) (subst (λ q. IsStateOf whole q (state next)) same is) m)));
   }
 
-  Local-then : (first second : Builder) → Local first → Local second → Local (build_then first second)
+  pub Local-then : (first second : Builder) → Local first → Local second → Local (build_then first second)
   Local-then first second a b = record {
     starts = λ next base.
         (let two = second next base in
@@ -193,7 +193,7 @@ module _ (terminator : ℕ) (hay : List ℕ) (end : ℕ) (whole : List State) wh
       (Local-state (slot number) (slot-target terminator hay end whole number))
       (Local-then body (build_state (slot (suc number))) a (Local-state (slot (suc number)) (slot-target terminator hay end whole (suc number))))
 
-  look-target : (kind : Look) (next i : ℕ) (d : Configuration) → Contains (state_step terminator hay end (assertion kind next) i) d → next ≡ d.state
+  pub look-target : (kind : Look) (next i : ℕ) (d : Configuration) → Contains (state_step terminator hay end (assertion kind next) i) d → next ≡ d.state
   look-target kind next i d m =
       by_test (holds terminator hay kind i)
       (λ e. ap (λ (c : Configuration). c.state) (only-among (at next i) d (rw e at m)))

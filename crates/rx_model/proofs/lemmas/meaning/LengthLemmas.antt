@@ -141,12 +141,12 @@ plus-some None b n h = absurd (none-some n h)
 plus-some (Some x) None n h = absurd (none-some n h)
 plus-some (Some x) (Some y) n h = (x, y, refl, refl, same_Some (x + y) n h)
 
-lesser-some : (a b : Option ℕ) (n : ℕ) → lesser a b ≡ Some n → (x y : ℕ) × (a ≡ Some x) × (b ≡ Some y) × (n ≤ x) × (n ≤ y)
+pub lesser-some : (a b : Option ℕ) (n : ℕ) → lesser a b ≡ Some n → (x y : ℕ) × (a ≡ Some x) × (b ≡ Some y) × (n ≤ x) × (n ≤ y)
 lesser-some None b n h = absurd (none-some n h)
 lesser-some (Some x) None n h = absurd (none-some n h)
 lesser-some (Some x) (Some y) n h = let e : min x y ≡ n = same_Some (min x y) n h in (x, y, refl, refl, omega arith, omega arith)
 
-times-some : (o : Option ℕ) (k n : ℕ) → option_map (λ m. m * k) o ≡ Some n → (m : ℕ) × (o ≡ Some m) × (m * k ≡ n)
+pub times-some : (o : Option ℕ) (k n : ℕ) → option_map (λ m. m * k) o ≡ Some n → (m : ℕ) × (o ≡ Some m) × (m * k ≡ n)
 times-some None k n h = absurd (none-some n h)
 times-some (Some m) k n h = (m, refl, same_Some (m * k) n h)
 
