@@ -158,12 +158,14 @@ module _ (terminator : ℕ) (hay : List ℕ) (end : ℕ) (whole : List State) wh
         let one = first two.start (base + length two.states) in
         let long = length-append two.states one.states in
         let x = a.closes (Inside A base (length two.states)) two.start (base + length two.states) (stands-first A first second b next base s) in
-        let to : (y : ℕ) → Inside (Inside A base (length two.states)) (base + length two.states) (length one.states) y → Inside A base (length (two.states ++ one.states)) y
+        let to : (y : ℕ) → Inside (Inside A base (length two.states)) (base + length two.states) (length one.states) y
+        → Inside A base (length (two.states ++ one.states)) y
         = λ y h. elim h [
           | inl h' ↦ elim h' [ inl c ↦ inl c | inr r ↦ inr (r.0, (let up = r.1 in omega arith)) ]
           | inr r ↦ inr ((let low = r.0 in omega arith), (let up = r.1 in omega arith))
         ] in
-        let from : (y : ℕ) → Inside A base (length (two.states ++ one.states)) y → Inside (Inside A base (length two.states)) (base + length two.states) (length one.states) y
+        let from : (y : ℕ) → Inside A base (length (two.states ++ one.states)) y
+        → Inside (Inside A base (length two.states)) (base + length two.states) (length one.states) y
         = λ y h. elim h [
           | inl c ↦ inl (inl c)
           | inr r ↦
@@ -235,7 +237,12 @@ module _ (terminator : ℕ) (hay : List ℕ) (end : ℕ) (whole : List State) wh
       let f = first next base in
       let o = others next (base + length f.states) in
       let long = length-append f.states o.states in
-      record { placed = Placed-front whole base f.states o.states s.placed; closed = s.closed; next_in = s.next_in; apart = λ x a low high. s.apart x a low (omega arith) }
+      record {
+        placed = Placed-front whole base f.states o.states s.placed;
+        closed = s.closed;
+        next_in = s.next_in;
+        apart = λ x a low high. s.apart x a low (omega arith);
+      }
 
   pub beside-others : (A : ℕ → Type 0) (first : Builder) (others : (next base : ℕ) → Parts) (next base : ℕ)
       → Stands A next base (build_beside first others next base).states
@@ -244,19 +251,30 @@ module _ (terminator : ℕ) (hay : List ℕ) (end : ℕ) (whole : List State) wh
       let f = first next base in
       let o = others next (base + length f.states) in
       let long = length-append f.states o.states in
-      record { placed = Placed-back whole base f.states o.states s.placed; closed = s.closed; next_in = s.next_in; apart = λ x a low high. s.apart x a (omega arith) (omega arith) }
+      record {
+        placed = Placed-back whole base f.states o.states s.placed;
+        closed = s.closed;
+        next_in = s.next_in;
+        apart = λ x a low high. s.apart x a (omega arith) (omega arith);
+      }
 
   pub choice-parts : (A : ℕ → Type 0) (parts : (next base : ℕ) → Parts) (next base : ℕ) → Stands A next base (build_choice parts next base).states
       → Stands A next base (parts next base).states
   choice-parts A parts next base s =
       let p = parts next base in
       let long = length-append p.states (choice p.starts ∷ []) in
-      record { placed = Placed-front whole base p.states (choice p.starts ∷ []) s.placed; closed = s.closed; next_in = s.next_in; apart = λ x a low high. s.apart x a low (omega arith) }
+      record {
+        placed = Placed-front whole base p.states (choice p.starts ∷ []) s.placed;
+        closed = s.closed;
+        next_in = s.next_in;
+        apart = λ x a low high. s.apart x a low (omega arith);
+      }
 
   pub choice-is : (A : ℕ → Type 0) (parts : (next base : ℕ) → Parts) (next base : ℕ) → Stands A next base (build_choice parts next base).states
       → IsStateOf whole (base + length (parts next base).states) (choice (parts next base).starts)
   choice-is A parts next base s =
-      let p = parts next base in Placed-first whole (base + length p.states) (choice p.starts) [] (Placed-back whole base p.states (choice p.starts ∷ []) s.placed)
+      let p = parts next base in
+      Placed-first whole (base + length p.states) (choice p.starts) [] (Placed-back whole base p.states (choice p.starts ∷ []) s.placed)
 
   pub starts-past : (qs : List ℕ) (i : ℕ) → end < i → first_some ends (map (λ q. at q i) qs) ≡ None
   starts-past [] i past = refl

@@ -123,7 +123,8 @@ module _ (terminator : ℕ) (hay : List ℕ) (end : ℕ) where
     module _ (falls : Falls) where
       -- what comes after c
       abbrev Below : Configuration → Configuration → Type 0
-      Below c d = (c.place < d.place) ⊎ ((d.place ≡ c.place) × ((0 ≡ d.state) ⊎ (Among 1 falls.n d.state × (falls.ranks.rank d.state < falls.ranks.rank c.state))))
+      Below c d =
+          (c.place < d.place) ⊎ ((d.place ≡ c.place) × ((0 ≡ d.state) ⊎ (Among 1 falls.n d.state × (falls.ranks.rank d.state < falls.ranks.rank c.state))))
 
       below-step : (c d : Configuration) → Among 1 falls.n c.state → Contains ((g terminator hay end whole).successors c) d → Below c d
       below-step c d at_c m =
