@@ -11,12 +11,7 @@ use Rattle.rx_prefilter.specs.Needles.{needle_span, span_at, first_span, NoneLie
 use Rattle.rx_prefilter.specs.Bytes.{single, byte_span, is_one_of, HasTable, marks_at, NoneMarked}
 use Rattle.rx_prefilter.specs.Choices.{greatest_length}
 use Rattle.rx_prefilter.proofs.NeedleLemmas.{span_at-nil, span_at-here, span_at-next, first_span-first, first_span-skip, first_span-here, first_span-end}
-
-or_true : (b : Bool) → (b || true) ≡ true
-or_true b = elim b as (λ t. (t || true) ≡ true) [ true ↦ refl | false ↦ refl ]
-
-or_false : (b : Bool) → (b || false) ≡ b
-or_false b = elim b as (λ t. (t || false) ≡ t) [ true ↦ refl | false ↦ refl ]
+use Rattle.std.proofs.Math.Bool.{or-true, or-false}
 
 pub occurs_at-false : (text needle : List ℕ) (at : ℕ) → ¬ OccursAt text needle at → occurs_at text needle at ≡ false
 occurs_at-false text needle at not = ⊎_elim (λ yes_is. absurd (not (OccursAt-true text needle at yes_is))) (λ no_is. no_is)
@@ -85,9 +80,9 @@ table_more table bytes i b l long is before x fits =
     ⊎_elim
     (λ same. let within : b < length table = omega arith in
     rw same (get_or-set_same table b true false within)
-    ∙ sym (more ∙ ap (λ t. is_one_of (take i bytes) x || t) (eq-eqb b x (sym same)) ∙ or_true (is_one_of (take i bytes) x)))
+    ∙ sym (more ∙ ap (λ t. is_one_of (take i bytes) x || t) (eq-eqb b x (sym same)) ∙ or-true (is_one_of (take i bytes) x)))
     (λ other. get_or-set_other table b x true false other ∙ old
-    ∙ sym (more ∙ ap (λ t. is_one_of (take i bytes) x || t) (ne_eqb b x (λ e. other (sym e))) ∙ or_false (is_one_of (take i bytes) x)))
+    ∙ sym (more ∙ ap (λ t. is_one_of (take i bytes) x || t) (ne_eqb b x (λ e. other (sym e))) ∙ or-false (is_one_of (take i bytes) x)))
     (cases_eq x b)
 
 -- the tests of up to three bytes

@@ -1,7 +1,7 @@
 -- Jumps: bytes that stand at one offset of each needle, and the places at which no needle begins.
 use Rattle.std.proofs.Common.{◌≡◌, ℕ, ◌+◌, ◌-◌, ◌<◌, ◌≤◌, Bool, true, false, ◌||◌, ◌==◌, List, [], ◌∷◌, ◌++◌, Option, None, Some, All, length, drop, slice_index, refl, sym, ap, ◌∙◌, arith, ⊎_elim, length-drop}
 use Rattle.std.specs.Option.{option_map}
-use Rattle.std.proofs.lemmas.Bool.{cases_Bool, cases_lt, eq-eqb, false≢true}
+use Rattle.std.proofs.lemmas.Bool.{cases_Bool, cases_lt, eq-eqb, false≢true, or_left, or_right}
 use Rattle.std.proofs.lemmas.List.{get_or-drop}
 use Rattle.std.proofs.lemmas.List.Elements.{All-head, All-tail, All-push, All-weaker, All-same}
 use Rattle.memchr.specs.Find.{IsFirstByte, Passes}
@@ -16,13 +16,6 @@ or_more : (p q r : Bool) → (p || q) ≡ true → (q ≡ true → r ≡ true) �
 or_more true q r e more = refl
 or_more false q r e more = more e
 
-or_here : (p q : Bool) → p ≡ true → (p || q) ≡ true
-or_here p q e = rw e refl
-
-or_later : (p q : Bool) → q ≡ true → (p || q) ≡ true
-or_later true q e = refl
-or_later false q e = e
-
 pub widens_one : (a b : ℕ) → Widens (a ∷ []) (a ∷ b ∷ [])
 widens_one a b x e = or_more (a == x) false (b == x || false) e (λ f. absurd (false≢true f))
 
@@ -31,10 +24,10 @@ widens_two a b c x e = or_more (a == x) (b == x || false) (b == x || (c == x || 
     (λ f. or_more (b == x) false (c == x || false) f (λ g. absurd (false≢true g)))
 
 pub last_of_two : (a b : ℕ) → is_one_of (a ∷ b ∷ []) b ≡ true
-last_of_two a b = or_later (a == b) (b == b || false) (or_here (b == b) false (eq-eqb b b refl))
+last_of_two a b = or_right (a == b) (b == b || false) (or_left (b == b) false (eq-eqb b b refl))
 
 pub last_of_three : (a b c : ℕ) → is_one_of (a ∷ b ∷ c ∷ []) c ≡ true
-last_of_three a b c = or_later (a == c) (b == c || (c == c || false)) (or_later (b == c) (c == c || false) (or_here (c == c) false (eq-eqb c c refl)))
+last_of_three a b c = or_right (a == c) (b == c || (c == c || false)) (or_right (b == c) (c == c || false) (or_left (c == c) false (eq-eqb c c refl)))
 
 -- the first byte that passes a test passes one that is the same
 pub first_by_same : (p q : ℕ → Bool) (text : List ℕ) → ((x : ℕ) → p x ≡ q x) → (r : Option ℕ) → IsFirstByte p text r → IsFirstByte q text r

@@ -1,6 +1,6 @@
 -- What stands for a list of states before the next byte is known has the first success of the list.
 use Rattle.std.proofs.Common.{◌≡◌, ℕ, zero, suc, ◌≤◌, ◌<◌, List, [], ◌∷◌, ◌++◌, length, refl, sym, ◌∙◌, ap, arith, true≢false, append-nil}
-use Rattle.std.specs.Prelude.{Bool, true, false, ◌||◌, ◌==◌, Option, Some, None, All}
+use Rattle.std.specs.Prelude.{Bool, true, false, ◌==◌, Option, Some, None, All}
 use Rattle.std.specs.Option.{option_or}
 use Rattle.std.proofs.lemmas.List.{append_assoc}
 use Rattle.std.proofs.lemmas.List.Elements.{All-get_or, All-nil, All-head, All-tail, All-append}
@@ -18,6 +18,7 @@ use Rattle.rx_nfa.proofs.lemmas.lists.ListLemmas.{first_told-append}
 use Rattle.rx_nfa.proofs.lemmas.lists.PlaceLemmas.{left_at, left-most, left-less}
 use Rattle.rx_nfa.proofs.lemmas.lists.ClosureLemmas.{resting-epsilon, epsilon_successors-below, close-below, resting-below, first_on-alike, tell-moves, threads-first}
 use Rattle.rx_determinize.specs.Key.{is_look, one_asks, none_known, reached, arrived}
+use Rattle.std.proofs.lemmas.Bool.{or_parts}
 
 -- Where the lists lie.
 
@@ -50,13 +51,9 @@ epsilon-same holding (Capture next pattern slot) h = refl
 epsilon-same holding Fail h = refl
 epsilon-same holding (Match pattern) h = refl
 
-or-parts : (a b : Bool) → (a || b) ≡ false → (a ≡ false) × (b ≡ false)
-or-parts true b h = absurd (true≢false h)
-or-parts false b h = (refl, h)
-
 asks-last : (states : List State) (qs : List ℕ) (q : ℕ) → one_asks states (qs ++ q ∷ []) ≡ false → is_look (state_at states q) ≡ false
-asks-last states [] q h = (or-parts (is_look (state_at states q)) false h).0
-asks-last states (x ∷ xs) q h = asks-last states xs q (or-parts (is_look (state_at states x)) (one_asks states (xs ++ q ∷ [])) h).1
+asks-last states [] q h = (or_parts (is_look (state_at states q)) false h).0
+asks-last states (x ∷ xs) q h = asks-last states xs q (or_parts (is_look (state_at states x)) (one_asks states (xs ++ q ∷ [])) h).1
 
 asks-front : (states : List State) (qs : List ℕ) (q : ℕ) → one_asks states qs ≡ true → one_asks states (qs ++ q ∷ []) ≡ true
 asks-front states [] q h = absurd (true≢false (sym h))

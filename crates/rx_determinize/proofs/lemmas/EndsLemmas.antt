@@ -1,7 +1,6 @@
 -- Where the walks of listed states end.
 use Rattle.std.proofs.Common.{◌≡◌, ℕ, zero, suc, ◌+◌, ◌≤◌, ◌<◌, List, [], ◌∷◌, ◌++◌, length, refl, sym, ◌∙◌, ap, subst, inl, inr, arith, true≢false}
-use Rattle.std.proofs.lemmas.Bool.Decides.{nat_tests}
-use Rattle.std.specs.Prelude.{Bool, true, false, nat_lt, Option, Some, None, option_map, Contains, All, map, is_some, if◌then◌else◌}
+use Rattle.std.specs.Prelude.{Bool, true, Option, Some, None, option_map, Contains, All, map, is_some}
 use Rattle.std.proofs.lemmas.List.Elements.{All-head, All-tail}
 use Rattle.rx_model.specs.Look as model
 use Rattle.rx_model.specs.Runs.{Configuration, PriorityGraph, nowhere, first_past, trace, Leads, last_of}
@@ -10,45 +9,16 @@ use Rattle.rx_model.proofs.lemmas.runs.FirstLemmas.{none-is-some, some-is, tells
 use Rattle.rx_model.proofs.lemmas.runs.MemberLemmas.{first-among, later-among}
 use Rattle.rx_model.proofs.lemmas.runs.RiseLemmas.{run-accepts, trace-end, Leads-rises}
 use Rattle.rx_model.proofs.lemmas.meaning.CutLemmas.{run-Leads}
-use Rattle.rx_search.specs.Look.{kind_of}
-use Rattle.rx_search.specs.declared.look.Look.{Look as LookKind}
 use Rattle.rx_search.specs.Matches.{HalfMatchValue}
-use Rattle.rx_nfa.specs.Automaton.{at, automaton_over, state_at, go_on, NamesBelow, Surroundings, state_step}
+use Rattle.rx_nfa.specs.Automaton.{at, automaton_over, state_at, go_on, NamesBelow, Surroundings}
 use Rattle.rx_nfa.specs.Ordered.{has, AreBelow, HoldsAt, half, tell, first_on, is_resting, resting, epsilon_successors, close, target, with_target, targets, cut}
 use Rattle.rx_nfa.specs.declared.state.State.{State}
 use Rattle.rx_nfa.specs.declared.state.State.TheVariants.{ByteRange, Sparse, Look, Union, Capture, Fail, Match}
 use Rattle.rx_nfa.proofs.lemmas.runs.AutomatonLemmas.{automaton-bounded, automaton-rises, automaton-successors}
-use Rattle.rx_nfa.proofs.lemmas.lists.ClosureLemmas.{resting-epsilon, rests-inside}
+use Rattle.rx_nfa.proofs.lemmas.lists.ClosureLemmas.{resting-epsilon, rests-inside, step-epsilon}
 use Rattle.rx_determinize.specs.Key.{one_asks, none_known, reached, arrived}
 use Rattle.rx_determinize.proofs.lemmas.ArrivedLemmas.{goes_on-below}
-
--- where a thread goes that stays at its place
-step-over : (around : Surroundings) (end : ℕ) (s : State) (i : ℕ) → i < end → is_resting s ≡ true
-    → state_step around end s i ≡ go_on (target s (around.byte i)) (i + 1)
-step-over around end (ByteRange low high next) i lt h = let e : nat_lt i end ≡ true = grind (arith, nat_tests) in rw e refl
-step-over around end (Sparse transitions) i lt h = let e : nat_lt i end ≡ true = grind (arith, nat_tests) in rw e refl
-step-over around end (Look look next) i lt h = absurd (true≢false (sym h))
-step-over around end (Union alternates) i lt h = absurd (true≢false (sym h))
-step-over around end (Capture next pattern slot) i lt h = absurd (true≢false (sym h))
-step-over around end Fail i lt h = absurd (true≢false (sym h))
-step-over around end (Match pattern) i lt h = refl
-
-taken-step : (i next : ℕ) (b : Bool) → (if b then at next i ∷ [] else []) ≡ map (λ q. at q i) (if b then next ∷ [] else [])
-taken-step i next true = refl
-taken-step i next false = refl
-
--- and where one goes that does not
-step-aside : (around : Surroundings) (end : ℕ) (holding : model.Look → Bool) (s : State) (i : ℕ)
-    → ((look : LookKind) (next : ℕ) → s ≡ Look look next → holding (kind_of look) ≡ around.looks (kind_of look) i)
-    → is_resting s ≡ false → state_step around end s i ≡ map (λ q. at q i) (epsilon_successors holding s)
-step-aside around end holding (ByteRange low high next) i holds h = absurd (true≢false h)
-step-aside around end holding (Sparse transitions) i holds h = absurd (true≢false h)
-step-aside around end holding (Look look next) i holds h =
-    ap (λ b. if b then at next i ∷ [] else []) (sym (holds look next refl)) ∙ taken-step i next (holding (kind_of look))
-step-aside around end holding (Union alternates) i holds h = refl
-step-aside around end holding (Capture next pattern slot) i holds h = refl
-step-aside around end holding Fail i holds h = refl
-step-aside around end holding (Match pattern) i holds h = absurd (true≢false h)
+use Rattle.rx_nfa.proofs.lemmas.lists.TargetLemmas.{step-target}
 
 module _ (around : Surroundings) (states : List State) (names : All (NamesBelow (length states)) states) (end : ℕ) (ok : ℕ → Bool) where
   abbrev g : PriorityGraph
@@ -96,7 +66,7 @@ module _ (around : Surroundings) (states : List State) (names : All (NamesBelow 
       (λ rests. subst (EndWell first i) (sym (resting-epsilon holding (state_at states q) rests)) tt)
       (λ moves.
       let goes =
-      automaton-successors around states end q i lt le ∙ step-aside around end holding (state_at states q) i (λ look next is. holds q next look is) moves in
+      automaton-successors around states end q i lt le ∙ step-epsilon around end holding (state_at states q) i (λ look next is. holds q next look is) moves in
       EndWell-members first i (at q i) good (epsilon_successors holding (state_at states q)) (λ d m. subst (λ ds. Contains ds d) (sym goes) m))
 
   EndWell-known : (first i q : ℕ) → q < length states → i ≤ end → EndsWell first (at q i) → EndWell first i (epsilon_successors none_known (state_at states q))
@@ -151,7 +121,7 @@ module _ (around : Surroundings) (states : List State) (names : All (NamesBelow 
       let lt = rests-inside states q rests in
       let le : i ≤ end = omega arith in
       each (target (state_at states q) (around.byte i)) (automaton-successors around states end q i lt le
-      ∙ step-over around end (state_at states q) i less rests)
+      ∙ step-target around end (state_at states q) i less rests)
     where
       each : (o : Option ℕ) → g.successors (at q i) ≡ go_on o (i + 1) → EndWell first (i + 1) (with_target o [])
       each None goes = tt

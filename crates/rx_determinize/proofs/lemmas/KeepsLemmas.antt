@@ -1,7 +1,6 @@
 -- The walks of an NFA whose patterns mean UTF-8 keep characters whole.
 use Rattle.std.proofs.Common.{◌≡◌, ℕ, zero, suc, ◌+◌, ◌≤◌, ◌<◌, List, [], ◌∷◌, length, refl, sym, ◌∙◌, ap, subst, arith, true≢false}
-use Rattle.std.specs.Prelude.{true, ◌||◌, ◌==◌, Option, Some, None, option_map, is_some, slice_get, slice_index, slice_index_or}
-use Rattle.std.specs.Option.{option_or}
+use Rattle.std.specs.Prelude.{true, ◌==◌, Option, Some, None, option_map, is_some, slice_get, slice_index, slice_index_or}
 use Rattle.std.proofs.lemmas.Bool.Decides.{nat_tests, Decides-eqb}
 use Rattle.std.proofs.lemmas.Option.{get_or_from_slice_get, slice_get_within, slice_get-get_or}
 use Rattle.rx_model.specs.Expression.{Expression, empty}
@@ -20,14 +19,11 @@ use Rattle.rx_nfa.specs.Nfa.{Nfa, HasRuns}
 use Rattle.rx_nfa.specs.NextMatch.{start_of}
 use Rattle.rx_nfa.proofs.lemmas.runs.AutomatonLemmas.{automaton-bounded}
 use Rattle.rx_determinize.specs.Permitted.{KeepsCharacters}
+use Rattle.rx_model.proofs.lemmas.runs.OptionLemmas.{some-or}
 
 told-some : (which : WhichCaptures) (o : Option Trace) → is_some (option_map (told which) o) ≡ is_some o
 told-some which None = refl
 told-some which (Some t) = refl
-
-some-or : {A : Type 0} (a b : Option A) → is_some (option_or a b) ≡ (is_some a || is_some b)
-some-or None b = refl
-some-or (Some x) b = refl
 
 -- of the patterns one has a first run
 one-runs : (ok : Sieve) (r : Patterns) (text : List ℕ) (end i p : ℕ) (hs : List Expression) → is_some (first_of_patterns_where ok r text end p hs i) ≡ true

@@ -1,7 +1,7 @@
 -- No state stands twice on a list.
 use Rattle.std.proofs.Common.{◌≡◌, ℕ, zero, suc, List, [], ◌∷◌, ◌++◌, length, refl, sym, ◌∙◌, true≢false}
 use Rattle.std.proofs.lemmas.Bool.Decides.{Decides-eqb}
-use Rattle.std.specs.Prelude.{Bool, true, false, ◌||◌, ◌==◌, Option, Some, is_some}
+use Rattle.std.specs.Prelude.{Bool, false, ◌==◌, Option, Some, is_some}
 use Rattle.rx_model.specs.Look as model
 use Rattle.rx_model.proofs.lemmas.runs.RunLemmas.{by_test}
 use Rattle.rx_search.specs.declared.anchored.MatchKind.{MatchKind}
@@ -10,19 +10,16 @@ use Rattle.rx_nfa.specs.Automaton.{state_at}
 use Rattle.rx_nfa.specs.Ordered.{has, is_resting, epsilon_successors, close, resting, cut, threads_from, targets, begun}
 use Rattle.rx_nfa.specs.declared.state.State.{State}
 use Rattle.rx_determinize.specs.Key.{Key, Sight, AreOnce, accepts_in, one_asks, none_known, reached, arrived, counting, looping, matching, settled, start_key, step_key}
-
-or-parts : (a b : Bool) → (a || b) ≡ false → (a ≡ false) × (b ≡ false)
-or-parts true b h = absurd (true≢false h)
-or-parts false b h = (refl, h)
+use Rattle.std.proofs.lemmas.Bool.{or_parts}
 
 has-push : (xs : List ℕ) (q x : ℕ) → has xs x ≡ false → (q == x) ≡ false → has (xs ++ q ∷ []) x ≡ false
 has-push [] q x h apart = rw apart refl
-has-push (y ∷ ys) q x h apart = let parts = or-parts (y == x) (has ys x) h in rw parts.0 (has-push ys q x parts.1 apart)
+has-push (y ∷ ys) q x h apart = let parts = or_parts (y == x) (has ys x) h in rw parts.0 (has-push ys q x parts.1 apart)
 
 once-push : (xs : List ℕ) (q : ℕ) → AreOnce xs → has xs q ≡ false → AreOnce (xs ++ q ∷ [])
 once-push [] q once new = (refl, tt)
 once-push (x ∷ xs) q once new =
-    let parts = or-parts (x == q) (has xs q) new in
+    let parts = or_parts (x == q) (has xs q) new in
     let apart : (q == x) ≡ false = by_test (q == x) (λ e. absurd (true≢false (sym ((Decides-eqb x q).1 (sym ((Decides-eqb q x).0 e))) ∙ parts.0))) (λ e. e) in
     (has-push xs q x once.0 apart, once-push xs q once.1 parts.1)
 
@@ -39,7 +36,7 @@ close-once states holding (suc room) (q ∷ stack) seen once =
 resting-has : (states : List State) (qs : List ℕ) (q : ℕ) → has qs q ≡ false → has (resting states qs) q ≡ false
 resting-has states [] q h = refl
 resting-has states (x ∷ xs) q h =
-    let parts = or-parts (x == q) (has xs q) h in
+    let parts = or_parts (x == q) (has xs q) h in
     by_test (is_resting (state_at states x)) (λ e. rw e (rw parts.0 (resting-has states xs q parts.1))) (λ e. rw e (resting-has states xs q parts.1))
 
 resting-once : (states : List State) (qs : List ℕ) → AreOnce qs → AreOnce (resting states qs)
@@ -51,7 +48,7 @@ resting-once states (q ∷ qs) once =
 cut-has : (accepts : ℕ → Option ℕ) (qs : List ℕ) (q : ℕ) → has qs q ≡ false → has (cut accepts qs) q ≡ false
 cut-has accepts [] q h = refl
 cut-has accepts (x ∷ xs) q h =
-    let parts = or-parts (x == q) (has xs q) h in
+    let parts = or_parts (x == q) (has xs q) h in
     by_test (is_some (accepts x)) (λ e. rw e (rw parts.0 refl)) (λ e. rw e (rw parts.0 (cut-has accepts xs q parts.1)))
 
 cut-once : (accepts : ℕ → Option ℕ) (qs : List ℕ) → AreOnce qs → AreOnce (cut accepts qs)

@@ -23,10 +23,11 @@ use Rattle.rx_nfa.specs.declared.state.State.TheVariants.{Fail}
 use Rattle.rx_nfa.proofs.lemmas.runs.AutomatonLemmas.{automaton-accepted, automaton-accepted-beyond}
 use Rattle.rx_nfa.proofs.lemmas.lists.ClosureLemmas.{threads-first, close-below, resting-below}
 use Rattle.rx_nfa.proofs.lemmas.lists.TargetLemmas.{targets-below, cut-below, step-first, end-first, cut-first}
-use Rattle.rx_nfa.proofs.lemmas.lists.LaterLemmas.{told_later, told_later-none, seeded-first, begun-below, where_there-none, automaton-steps}
+use Rattle.rx_nfa.proofs.lemmas.lists.LaterLemmas.{told_later, told_later-none, seeded-first, begun-below, where_there-none, automaton-steps, place-parts}
 use Rattle.rx_determinize.specs.Key.{Sight, Sees, accepts_in, listed, arrived, settled, start_key, step_key, end_key}
 use Rattle.rx_determinize.specs.Span.{met, run_keys, run_from, loops_in, answer_of}
 use Rattle.rx_determinize.proofs.lemmas.ArrivedLemmas.{arrived-first, arrived-below}
+use Rattle.std.proofs.Math.Bool.{and-true}
 
 -- what is met of the preferred pattern is its match
 pub met-listed : (accepts : ℕ → Option ℕ) (i : ℕ) (best : Option HalfMatchValue) (qs : List ℕ)
@@ -44,21 +45,6 @@ some-here accepts i qs = each (first_told accepts qs)
     each : (o : Option ℕ) → is_some {T = HalfMatchValue} (option_map (λ p. record { pattern = p; offset = i }) o) ≡ is_some o
     each None = refl
     each (Some p) = refl
-
-and-true : (b : Bool) → (b && true) ≡ b
-and-true true = refl
-and-true false = refl
-
--- One step: what the threads lead to over the byte, what matches here, and what comes later.
-step-parts : (loops : Bool) (reads here later best : Option HalfMatchValue)
-    → option_or (option_or reads (where_there (loops && not (is_some here)) later)) (option_or here best)
-    ≡ option_or (option_or (option_or reads here) (where_there loops later)) best
-step-parts true (Some r) here later best = refl
-step-parts true None (Some h) later best = refl
-step-parts true None None later best = refl
-step-parts false (Some r) here later best = refl
-step-parts false None (Some h) later best = refl
-step-parts false None None later best = refl
 
 -- each place may be a start
 abbrev pub anywhere : ℕ → Bool
@@ -169,7 +155,7 @@ module _ (around : Surroundings) (size : ℕ) (states : List State) (names : All
       (option_or here best))
       ∙ ap (λ o. option_or o (option_or here best)) begins
       ∙ (λ k. option_or (option_or (first (i + 1) (onto xs i)) (where_there (gives_up k) after)) (option_or here best))
-      ∙ step-parts l0 (first (i + 1) (onto xs i)) here after best
+      ∙ place-parts l0 (first (i + 1) (onto xs i)) here after best
       ∙ (λ k. option_or (option_or (reads k) (where_there l0 after)) best)
       ∙ ap (λ o. option_or o best) (settled-first holding i holds le loops after qs below)
 

@@ -7,10 +7,10 @@ use Rattle.std.proofs.lemmas.Bool.Decides.{nat_tests, Decides-eqb}
 use Rattle.std.proofs.lemmas.List.Elements.{All-nil, All-append}
 use Rattle.rx_model.specs.Look as model
 use Rattle.rx_model.specs.Runs.{Configuration, PriorityGraph, Sieve, nowhere, sieved, sifted, for_pattern, first_past, trace, Leads, last_of}
-use Rattle.rx_model.proofs.lemmas.runs.RunLemmas.{by_test}
+use Rattle.rx_model.proofs.lemmas.runs.RunLemmas.{by_test, or-swap, or-absorbs}
 use Rattle.rx_model.proofs.lemmas.runs.FirstLemmas.{none-is-some, some-is, tells, found-is_run, run-is_found}
 use Rattle.rx_model.proofs.lemmas.runs.RiseLemmas.{run-accepts}
-use Rattle.rx_model.proofs.lemmas.runs.OptionLemmas.{or-none_right}
+use Rattle.rx_model.proofs.lemmas.runs.OptionLemmas.{or-none_right, some-or}
 use Rattle.rx_model.proofs.lemmas.meaning.CutLemmas.{Leads-run, run-Leads}
 use Rattle.rx_search.specs.Matches.{HalfMatchValue}
 use Rattle.rx_search.specs.declared.anchored.MatchKind.TheVariants.{All}
@@ -29,6 +29,7 @@ use Rattle.rx_determinize.proofs.lemmas.DeadLemmas.{threads-nil}
 use Rattle.rx_determinize.proofs.lemmas.SeenLemmas.{SeesFrom, all-alive-or-none, sees-here, sees-next, seen-start, stays-dead}
 use Rattle.rx_determinize.proofs.lemmas.ArrivedLemmas.{arrived-first, arrived-below}
 use Rattle.rx_determinize.proofs.lemmas.SpanLemmas.{anywhere, byte-here, accepts-here}
+use Rattle.std.proofs.Math.Bool.{and-false, and-true, or-true}
 
 -- The patterns that a list accepts.
 
@@ -39,17 +40,8 @@ with_pattern-has p (x ∷ xs) y =
     (λ e. rw e refl)
     (λ e.
     by_test (p == x)
-    (λ k. let same : p ≡ x = (Decides-eqb p x).0 k in rw (e, k) (twice (x == y) (has xs y) ∙ ap (λ z. (z == y) || ((x == y) || has xs y)) (sym same)))
-    (λ k. rw (e, k) (ap (λ b. (x == y) || b) (with_pattern-has p xs y) ∙ swap (x == y) (p == y) (has xs y))))
-  where
-    twice : (a b : Bool) → (a || b) ≡ (a || (a || b))
-    twice true b = refl
-    twice false b = refl
-
-    swap : (a b c : Bool) → (a || (b || c)) ≡ (b || (a || c))
-    swap true true c = refl
-    swap true false c = refl
-    swap false b c = refl
+    (λ k. let same : p ≡ x = (Decides-eqb p x).0 k in rw (e, k) (or-absorbs (x == y) (has xs y) ∙ ap (λ z. (z == y) || ((x == y) || has xs y)) (sym same)))
+    (λ k. rw (e, k) (ap (λ b. (x == y) || b) (with_pattern-has p xs y) ∙ or-swap (x == y) (p == y) (has xs y))))
 
 -- each is less than those behind it
 abbrev Ascends : List ℕ → Type 0
@@ -90,10 +82,6 @@ accepted_by-ascends states (q ∷ qs) =
       | inr some ↦ rw some.1 (with_pattern-ascends some.0 (accepted_by states qs) (accepted_by-ascends states qs))
     ]
 
-some-or : {A : Type 0} (a b : Option A) → is_some (option_or a b) ≡ (is_some a || is_some b)
-some-or None b = refl
-some-or (Some x) b = refl
-
 -- One pattern, at one place.
 
 abbrev only : (pattern place : ℕ) → Sieve
@@ -102,10 +90,6 @@ only pattern place = for_pattern pattern (λ i. i == place)
 sifted-none : (ok : Sieve) (i : ℕ) → ((p : ℕ) → ok p i ≡ false) → (o : Option ℕ) → sifted ok i o ≡ None
 sifted-none ok i none None = refl
 sifted-none ok i none (Some p) = rw (none p) refl
-
-and-false : (b : Bool) → (b && false) ≡ false
-and-false true = refl
-and-false false = refl
 
 module _ (states : List State) (p end : ℕ) where
   abbrev accepts_only : ℕ → Option ℕ
@@ -132,10 +116,6 @@ uncut (q ∷ qs) = ap (λ xs. q ∷ xs) (uncut qs)
 
 no-match : (i : ℕ) (qs : List ℕ) → match_here (λ q. None) i qs ≡ None
 no-match i qs = ap (option_map (λ p. record { pattern = p; offset = i })) (first_told-none (λ q. None) qs (λ q. refl))
-
-and-true : (b : Bool) → (b && true) ≡ b
-and-true true = refl
-and-true false = refl
 
 module _ (around : Surroundings) (size : ℕ) (states : List State) (names : Each (NamesBelow (length states)) states) (end start : ℕ)
     (inside : start < length states) (sight : Sight) (short : end ≤ size) (p : ℕ) where
@@ -373,10 +353,6 @@ module _ (around : Surroundings) (size : ℕ) (states : List State) (names : Eac
       (λ e.
       let same : s ≡ i = grind (arith, nat_tests) in
       ap (λ b. b || is_some (later n (i + 1))) (ap (λ k. is_some (first k (start ∷ []))) (sym same) ∙ h))
-    where
-      or-true : (b : Bool) → (b || true) ≡ true
-      or-true true = refl
-      or-true false = refl
 
   -- each pattern that is told has a run that ends there
   pub told-runs : (a : ℕ) (before : Option ℕ) → a ≤ end → (loops : Bool)

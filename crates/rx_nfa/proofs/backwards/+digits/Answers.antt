@@ -1,8 +1,7 @@
-use Rattle.std.proofs.Common.{◌≡◌, ◌<◌, ◌≤◌, ◌+◌, ◌-◌, ◌∙◌, [], ◌∷◌, refl, sym, ap, subst, arith, length, length-append, take, drop, get_or}
-use Rattle.std.specs.Prelude.{All, IfOk, OnOk, map, sum_by}
-use Rattle.std.proofs.lemmas.Result.{on_ok_weaker, IfOk-weaker}
+use Rattle.std.proofs.Common.{◌≡◌, ◌<◌, ◌+◌, ◌-◌, ◌∙◌, [], ◌∷◌, refl, sym, ap, subst, arith, length, length-append, get_or}
+use Rattle.std.specs.Prelude.{All, OnOk, map, sum_by}
 use Rattle.rx_nfa.specs.Built.{Built, AddsParts}
-use Rattle.rx_nfa.specs.Directed.{build_all, build_last, build_behind, build_digits, pieces_in, lasts_of, before_last}
+use Rattle.rx_nfa.specs.Directed.{build_all, build_last, build_behind, build_digits, lasts_of, before_last}
 use Rattle.rx_nfa.specs.Digits.{FitsDigits, IsDigits, IsPiece, joints, ways_of_digits, states_of_digits, states_of_group, states_behind}
 use Rattle.rx_nfa.specs.Draft.{Draft, pushed}
 use Rattle.rx_nfa.specs.declared.state.State.TheVariants.{ByteRange}

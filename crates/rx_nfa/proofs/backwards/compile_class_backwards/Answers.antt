@@ -1,4 +1,4 @@
-use Rattle.std.proofs.Common.{◌≡◌, ◌≤◌, ◌+◌, arith, length}
+use Rattle.std.proofs.Common.{◌≡◌, ◌+◌, arith, length}
 use Rattle.std.proofs.lemmas.Result.{on_ok_weaker, IfOk-weaker}
 use Rattle.rx_nfa.specs.Built.{Built, JoinsAll}
 use Rattle.rx_nfa.specs.Directed.{build_all, build_joined, scalar_digits}

@@ -1,4 +1,4 @@
-use Rattle.std.proofs.Common.{◌++◌, ◌∙◌, sym, ap, subst, arith, length, append-nil, get_or}
+use Rattle.std.proofs.Common.{◌++◌, ◌∙◌, sym, ap, arith, append-nil}
 use Rattle.rx_nfa.proofs.lemmas.parts.LastLemmas.{pieces-more, pieces-past}
 use Rattle.rx_nfa.proofs.backwards.pieces_in.Goals as goal
 

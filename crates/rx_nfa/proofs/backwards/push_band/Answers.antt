@@ -1,10 +1,10 @@
-use Rattle.std.proofs.Common.{◌≡◌, ◌≤◌, ◌+◌, ◌∙◌, sym, ap, subst, arith, length}
+use Rattle.std.proofs.Common.{◌≡◌, ◌+◌, ◌∙◌, sym, ap, subst, arith, length}
 use Rattle.std.specs.Prelude.{All, OnOk}
 use Rattle.std.proofs.lemmas.Result.{on_ok_weaker}
 use Rattle.rx_nfa.specs.Built.{AddsParts}
 use Rattle.rx_nfa.specs.Directed.{build_digits}
 use Rattle.rx_nfa.specs.Digits.{FitsDigits, states_of_digits}
-use Rattle.rx_nfa.specs.Ranges.{clip, cost_of_parts}
+use Rattle.rx_nfa.specs.Ranges.{clip}
 use Rattle.rx_nfa.proofs.lemmas.classes.ClassLemmas.{RisesFrom-clip, StaysBelow-clip}
 use Rattle.rx_nfa.proofs.lemmas.classes.RangesLemmas.{AreScalarRanges-rise}
 use Rattle.rx_nfa.proofs.lemmas.parts.CountLemmas.{digits-accounted}

@@ -1,4 +1,4 @@
-use Rattle.std.proofs.Common.{◌≡◌, ◌<◌, ◌≤◌, ◌+◌, [], ◌∷◌, refl, ap, subst, arith, length, length-append, get_or}
+use Rattle.std.proofs.Common.{◌+◌, [], ◌∷◌, refl, ap, subst, arith, length, length-append, get_or}
 use Rattle.rx_model.specs.Graph.{build_state}
 use Rattle.rx_nfa.specs.Built.{AddsParts}
 use Rattle.rx_nfa.specs.Directed.{byte_between}

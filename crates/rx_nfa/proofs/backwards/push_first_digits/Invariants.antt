@@ -1,4 +1,4 @@
-use Rattle.std.proofs.Common.{◌≡◌, ◌<◌, ◌≤◌, ◌+◌, length, take}
+use Rattle.std.proofs.Common.{◌≡◌, ◌<◌, ◌+◌, length, take}
 use Rattle.std.specs.Prelude.{All, map}
 use Rattle.rx_nfa.specs.Built.{AddsAll}
 use Rattle.rx_nfa.proofs.lemmas.parts.DigitsBuilt.{build_first}

@@ -1,16 +1,11 @@
 use Rattle.std.proofs.Common.{◌≡◌, ℕ, zero, suc, ◌+◌, ◌<◌, ◌∙◌, refl, sym, ap, get_or, take, arith}
-use Rattle.std.specs.Prelude.{Bool, true, false, ◌||◌, if◌then◌else◌}
+use Rattle.std.specs.Prelude.{Bool, false, ◌||◌, if◌then◌else◌}
 use Rattle.std.proofs.lemmas.List.{take_all}
 use Rattle.std.proofs.lemmas.List.Folds.{list_any_more}
 use Rattle.rx_search.specs.ByteClasses.{class_of}
 use Rattle.rx_nfa.specs.ByteClasses.{state_ends, class_ends, AreClassesOf}
 use Rattle.rx_nfa.proofs.byte_classes.classes_of.Goals as goal
-
-or-turned : (a b : Bool) → (a || b) ≡ (b || a)
-or-turned true true = refl
-or-turned true false = refl
-or-turned false true = refl
-or-turned false false = refl
+use Rattle.std.proofs.Math.Bool.{or_comm}
 
 pub loop-state-init : goal.loop-state-init
 loop-state-init c = λ b lt. c.new-set.ensures b
@@ -20,7 +15,7 @@ loop-state-preserved c = λ b lt.
     c.add_state.ensures b lt
     ∙ ap (λ x. state_ends c.args.terminator c.state-item.result b || x) (c.loop-state.invariant b lt)
     ∙ ap (λ s. state_ends c.args.terminator s b || class_ends c.args.terminator (take c.loop-state.state-index c.args.states.now) b) c.state-item.is
-    ∙ or-turned (state_ends c.args.terminator (get_or c.args.states.now c.loop-state.state-index c.state-item.result) b)
+    ∙ or_comm (state_ends c.args.terminator (get_or c.args.states.now c.loop-state.state-index c.state-item.result) b)
     (class_ends c.args.terminator (take c.loop-state.state-index c.args.states.now) b)
     ∙ sym (list_any_more (λ s. state_ends c.args.terminator s b) c.args.states.now c.loop-state.state-index c.state-item.result (omega arith))
 

@@ -70,7 +70,7 @@ taken-step : (i next : ℕ) (b : Bool) → (if b then at next i ∷ [] else []) 
 taken-step i next true = refl
 taken-step i next false = refl
 
-step-epsilon : (around : Surroundings) (end : ℕ) (holding : model.Look → Bool) (s : State) (i : ℕ)
+pub step-epsilon : (around : Surroundings) (end : ℕ) (holding : model.Look → Bool) (s : State) (i : ℕ)
     → ((look : LookKind) (next : ℕ) → s ≡ Look look next → holding (kind_of look) ≡ around.looks (kind_of look) i)
     → is_resting s ≡ false → state_step around end s i ≡ map (λ q. at q i) (epsilon_successors holding s)
 step-epsilon around end holding (ByteRange low high next) i sees h = absurd (true≢false h)

@@ -3,10 +3,9 @@ use Rattle.std.proofs.Common.{◌≡◌, ◌≢◌, ℕ, zero, suc, ◌+◌, ◌
 use Rattle.std.specs.Prelude.{true, false, ◌||◌, ◌==◌}
 use Rattle.std.proofs.lemmas.Bool.Decides.{nat_tests}
 use Rattle.rx_model.specs.Runs.{Configuration, Passed, and_at, same, is_among}
-use Rattle.rx_model.proofs.lemmas.runs.RunLemmas.{by_test, same-true, weight, weight-less}
+use Rattle.rx_model.proofs.lemmas.runs.RunLemmas.{by_test, same-true, weight, weight-less, or-swap}
 use Rattle.rx_nfa.specs.Automaton.{at}
 use Rattle.rx_nfa.specs.Ordered.{has, line, passed_at}
-use Rattle.rx_class.proofs.RangeLemmas.{or-swap}
 
 pub passed_at-has : (items : List ℕ) (i q : ℕ) → passed_at items i (at q i) ≡ has items q
 passed_at-has [] i q = refl

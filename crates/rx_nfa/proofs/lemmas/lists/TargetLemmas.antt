@@ -71,7 +71,7 @@ accepts-reads (Match pattern) p byte h = refl
 
 -- What states do at a byte, and at the end.
 
-step-target : (around : Surroundings) (end : ℕ) (s : State) (i : ℕ) → i < end → is_resting s ≡ true
+pub step-target : (around : Surroundings) (end : ℕ) (s : State) (i : ℕ) → i < end → is_resting s ≡ true
     → state_step around end s i ≡ go_on (target s (around.byte i)) (i + 1)
 step-target around end (ByteRange low high next) i lt h = let e : nat_lt i end ≡ true = grind (arith, nat_tests) in rw e refl
 step-target around end (Sparse transitions) i lt h = let e : nat_lt i end ≡ true = grind (arith, nat_tests) in rw e refl

@@ -1,11 +1,11 @@
 -- Alternatives, added in turn.
-use Rattle.std.proofs.Common.{◌≡◌, ℕ, suc, ◌+◌, ◌≤◌, List, [], ◌∷◌, ◌++◌, refl, sym, ◌∙◌, ap, subst, arith, length, append_assoc}
+use Rattle.std.proofs.Common.{◌≡◌, ℕ, ◌+◌, ◌≤◌, List, [], ◌∷◌, ◌++◌, refl, sym, ◌∙◌, ap, subst, arith, length, append_assoc}
 use Rattle.std.specs.Prelude.{Bool, true, false, ◌&&◌, ◌||◌, Some, None, if◌then◌else◌, nat_le}
 use Rattle.std.specs.List.{AllZip}
 use Rattle.std.proofs.lemmas.Bool.Decides.{nat_tests}
 use Rattle.std.proofs.lemmas.List.{map-append, append-nil}
 use Rattle.rx_model.specs.Graph as graph
-use Rattle.rx_nfa.specs.Built.{IsImage, Rises, Sends, Built, BuiltParts, AddsParts, AddsAll}
+use Rattle.rx_nfa.specs.Built.{IsImage, Sends, Built, BuiltParts, AddsParts, AddsAll}
 use Rattle.rx_nfa.specs.Directed.{PartsBuilder, build_both, build_all, build_one, byte_between}
 use Rattle.rx_nfa.specs.Draft.{Draft, Extends, pushed}
 use Rattle.rx_nfa.specs.Row.{transition_to}

@@ -4,7 +4,6 @@ use Rattle.std.specs.Prelude.{true, false, ◌||◌, Option, Some, None, IfSome,
 use Rattle.std.specs.List.{list_any}
 use Rattle.std.proofs.lemmas.Bool.{eq-eqb}
 use Rattle.std.proofs.lemmas.List.Sums.{sum_by-cons, sum_by-append}
-use Rattle.rx_class.proofs.RangeLemmas.{or-right}
 use Rattle.rx_model.proofs.lemmas.runs.RunLemmas.{by_test}
 use Rattle.rx_model.proofs.lemmas.runs.MemberLemmas.{first-among, later-among}
 use Rattle.rx_nfa.specs.Directed.{whole_from, whole_to, low_piece, middle_piece, high_piece, some_list, pieces_of, pieces_of_range, pieces_in, last_of, before_of, is_range, lasts_from, lasts_of, before_last}
@@ -13,6 +12,7 @@ use Rattle.rx_nfa.specs.Ranges.{is_narrow, cost_of_part, cost_of_parts}
 use Rattle.rx_nfa.specs.declared.backwards.Piece.{Piece}
 use Rattle.rx_nfa.proofs.lemmas.parts.PieceLemmas.{low-one, low-whole, low-part, middle-one, middle-none, middle-some, high-one, high-whole, high-part}
 use Rattle.rx_nfa.proofs.lemmas.parts.LastLemmas.{range-same, range-itself, Distinct, lasts-distinct, before-none, before-here, before-other, before-some}
+use Rattle.std.proofs.Math.Bool.{or-true}
 
 -- Sums.
 
@@ -59,7 +59,7 @@ module _ (w : ℕ × ℕ → ℕ) where
   added-more p last lasts =
       by_test (list_any (is_range (last_of p)) lasts)
       (λ e.
-      let more : list_any (is_range (last_of p)) (last ∷ lasts) ≡ true = ap (λ b. is_range (last_of p) last || b) e ∙ or-right (is_range (last_of p) last) in
+      let more : list_any (is_range (last_of p)) (last ∷ lasts) ≡ true = ap (λ b. is_range (last_of p) last || b) e ∙ or-true (is_range (last_of p) last) in
       let a = added-some p lasts e in
       let b = added-some p (last ∷ lasts) more in
       omega arith)

@@ -1,18 +1,16 @@
 -- The states of numbers that are read from their last digit on, as the compiler adds them.
-use Rattle.std.proofs.Common.{◌≡◌, ℕ, zero, suc, ◌+◌, ◌-◌, ◌/◌, ◌<◌, ◌≤◌, List, [], ◌∷◌, ◌++◌, refl, sym, ◌∙◌, ap, subst, arith, length, get_or, take, drop, drop-cons}
-use Rattle.std.specs.Prelude.{Result, IfOk, OnOk, map, sum_by}
-use Rattle.std.proofs.lemmas.Result.{on_ok_weaker}
+use Rattle.std.proofs.Common.{◌≡◌, ℕ, zero, suc, ◌+◌, ◌-◌, ◌<◌, ◌≤◌, List, [], ◌∷◌, ◌++◌, refl, sym, ◌∙◌, ap, subst, arith, length, get_or, take, drop, drop-cons}
+use Rattle.std.specs.Prelude.{map, sum_by}
 use Rattle.std.proofs.lemmas.List.{map-append, take_more, take_all, drop_all}
 use Rattle.std.proofs.lemmas.List.Sums.{sum_by-cons}
 use Rattle.rx_model.specs.Graph as graph
 use Rattle.rx_nfa.specs.Built.{Built, BuiltParts, AddsParts, AddsAll, JoinsAll}
-use Rattle.rx_nfa.specs.Directed.{PartsBuilder, byte_between, build_one, build_all, build_joined, build_last, build_behind, build_digits, scalar_digits, pieces_in, lasts_of, before_last}
+use Rattle.rx_nfa.specs.Directed.{PartsBuilder, byte_between, build_one, build_all, build_joined, build_last, build_behind, build_digits, scalar_digits, pieces_in, lasts_of}
 use Rattle.rx_nfa.specs.Draft.{Draft, pushed}
 use Rattle.rx_nfa.specs.Ranges.{size_of_block, clip}
 use Rattle.rx_nfa.specs.Digits.{FitsDigits, ways_of_digits, states_of_digits, states_behind}
-use Rattle.rx_nfa.specs.declared.backwards.Piece.{Piece}
 use Rattle.rx_nfa.specs.declared.state.State.TheVariants.{ByteRange}
-use Rattle.rx_nfa.proofs.lemmas.parts.AddsLemmas.{Adds-built, AddsAll-more, AddsAll-built, Built-byte}
+use Rattle.rx_nfa.proofs.lemmas.parts.AddsLemmas.{AddsAll-more, AddsAll-built, Built-byte}
 use Rattle.rx_nfa.proofs.lemmas.parts.BuiltLemmas.{Built-then}
 use Rattle.rx_nfa.proofs.lemmas.parts.ChoiceLemmas.{Built-joined}
 

@@ -1,9 +1,8 @@
 -- The ranges of last digits among pieces, and what stands before them.
 use Rattle.std.proofs.Common.{◌≡◌, ℕ, zero, suc, ◌+◌, ◌-◌, ◌/◌, ◌<◌, ◌≤◌, ◌⊎◌, List, [], ◌∷◌, ◌++◌, refl, sym, ◌∙◌, ap, subst, inl, inr, ⊎_elim, arith, length, get_or, drop, drop-cons, append_assoc, true≢false}
-use Rattle.std.specs.Prelude.{Bool, true, false, ◌&&◌, ◌||◌, not, Option, All, Contains, map, filter, flat_map, if◌then◌else◌, ◌==◌, nat_le}
+use Rattle.std.specs.Prelude.{Bool, true, false, ◌&&◌, ◌||◌, not, Option, All, Contains, if◌then◌else◌, ◌==◌, nat_le}
 use Rattle.std.specs.List.{list_any}
-use Rattle.std.proofs.lemmas.Bool.{and_parts, or_parts, eqb-true, eq-eqb}
-use Rattle.std.proofs.lemmas.Bool.Decides.{nat_tests}
+use Rattle.std.proofs.lemmas.Bool.{and_parts, or_parts, eqb-true, eq-eqb, le-leb, leb-true}
 use Rattle.std.proofs.lemmas.List.{drop_all}
 use Rattle.std.proofs.lemmas.List.Elements.{All-weaker, All-contains, All-contains_itself}
 use Rattle.rx_model.proofs.lemmas.runs.RunLemmas.{by_test}
@@ -193,10 +192,7 @@ before-some ps r m =
 -- The pieces of ranges.
 
 pub pieces-some : (r : ℕ × ℕ) → r.0 ≤ r.1 → pieces_of_range r ≡ pieces_of 64 r.0 r.1
-pieces-some r le = let e = is-le r.0 r.1 le in rw e refl
-  where
-    is-le : (a b : ℕ) → a ≤ b → nat_le a b ≡ true
-    is-le a b le = grind (arith, nat_tests)
+pieces-some r le = let e = le-leb r.0 r.1 le in rw e refl
 
 pub pieces-none : (r : ℕ × ℕ) → nat_le r.0 r.1 ≡ false → pieces_of_range r ≡ []
 pieces-none r e = rw e refl
@@ -214,16 +210,13 @@ piece-in (r ∷ rs) p m =
     (λ here.
     by_test (nat_le r.0 r.1)
     (λ e.
-    let le = le-is r.0 r.1 e in
+    let le = leb-true r.0 r.1 e in
     record { range = r; inside = first-among r rs; ordered = le; is = subst (λ ps. Contains ps p) (pieces-some r le) here })
     (λ e. absurd (none-among p (subst (λ ps. Contains ps p) (pieces-none r e) here))))
     (λ more.
     let x = piece-in rs p more in
     record { range = x.range; inside = later-among r x.range rs x.inside; ordered = x.ordered; is = x.is })
     (either-among (pieces_of_range r) (pieces_in rs) p m)
-  where
-    le-is : (a b : ℕ) → nat_le a b ≡ true → a ≤ b
-    le-is a b e = grind (arith, nat_tests)
 
 pub in-pieces : (rs : List (ℕ × ℕ)) (r : ℕ × ℕ) (p : Piece) → Contains rs r → r.0 ≤ r.1 → Contains (pieces_of 64 r.0 r.1) p → Contains (pieces_in rs) p
 in-pieces [] r p m le h = absurd (none-among r m)

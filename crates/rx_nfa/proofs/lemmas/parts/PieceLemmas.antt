@@ -2,14 +2,14 @@
 use Rattle.std.proofs.Common.{◌≡◌, ℕ, suc, ◌+◌, ◌-◌, ◌*◌, ◌/◌, ◌%◌, ◌≤◌, ◌<◌, ◌⊎◌, [], ◌++◌, refl, sym, ◌∙◌, ap, subst, inl, inr, ⊎_elim, arith}
 use Rattle.std.specs.Prelude.{Bool, true, false, Option, Some, None, Contains, IfSome, if◌then◌else◌, ◌==◌, nat_le}
 use Rattle.std.proofs.Math.Nat.{mul-le-mul_right, div-div-eq-div-mul}
-use Rattle.std.proofs.lemmas.Bool.{cases_lt, eqb-true, eqb-false}
+use Rattle.std.proofs.lemmas.Bool.{cases_lt, eqb-true, eqb-false, lt-leb}
 use Rattle.std.proofs.lemmas.Bool.Decides.{nat_tests}
 use Rattle.std.proofs.lemmas.Option.{none-some, same_Some}
 use Rattle.rx_model.proofs.lemmas.runs.RunLemmas.{by_test}
 use Rattle.rx_model.proofs.lemmas.runs.MemberLemmas.{none-among, split-among, either-among, front-among, back-among}
 use Rattle.rx_nfa.specs.Directed.{low_piece, middle_piece, high_piece, whole_from, whole_to, some_list, pieces_of}
 use Rattle.rx_nfa.specs.Ranges.{size_of_block}
-use Rattle.rx_nfa.specs.Digits.{FitsDigits, IsDigits, IsPiece}
+use Rattle.rx_nfa.specs.Digits.{FitsDigits, IsPiece}
 use Rattle.rx_nfa.specs.declared.backwards.Piece.{Piece}
 use Rattle.rx_nfa.proofs.lemmas.classes.RangesLemmas.{size_of_block-pos, size_of_block-suc}
 
@@ -275,13 +275,10 @@ module _ (size low high : ℕ) (some : 0 < size) (ordered : low ≤ high) where
           to-part : (high % size + 1 == size) ≡ false → c / size < high / size → c / size < whole_to size high
           to-part z lt = subst (λ b. c / size < (if b then high / size + 1 else high / size)) (sym z) lt
 
-          not-le : (a b : ℕ) → b < a → nat_le a b ≡ false
-          not-le a b lt = grind (arith, nat_tests)
-
           middle : (low / size == high / size) ≡ false → (c : ℕ) → whole_from size low ≤ c / size → c / size < whole_to size high
               → (p : Piece) × Contains (pieces_of size low high) p × IsIn p (c / size) (c % size)
           middle e c from to =
-              let order : nat_le (whole_to size high) (whole_from size low) ≡ false = not-le (whole_to size high) (whole_from size low) (omega arith) in (
+              let order : nat_le (whole_to size high) (whole_from size low) ≡ false = lt-leb (whole_to size high) (whole_from size low) (omega arith) in (
                 record { first = whole_from size low; last = whole_to size high - 1; low = 0; high = size - 1 },
                 is-piece size low high _ (inr (inl (middle-some size low high e order))),
                 record { from = from; to = omega arith; least = omega arith; most = omega arith },

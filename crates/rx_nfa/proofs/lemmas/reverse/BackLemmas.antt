@@ -9,6 +9,7 @@ use Rattle.rx_model.specs.Meaning.{Pieces}
 use Rattle.rx_nfa.proofs.lemmas.runs.ChainLemmas.{stands-none, stands-cons}
 use Rattle.rx_nfa.specs.Automaton.{byte_of}
 use Rattle.rx_nfa.proofs.lemmas.reverse.WalkLemmas.{ReadsBytes}
+use Rattle.rx_model.proofs.lemmas.meaning.PieceLemmas.{pieces-rise, last-piece}
 
 -- Places are distances from the end of a text of n bytes: R read so.
 abbrev pub back : (n : ℕ) → (ℕ → ℕ → Type 0) → ℕ → ℕ → Type 0
@@ -19,14 +20,6 @@ module _ (R : ℕ → ℕ → Type 0) where
   Pieces-last : (n i k j : ℕ) → Pieces R n i k → R k j → Pieces R (suc n) i j
   Pieces-last zero i k j e r = (j, subst (λ x. R x j) (sym e) r, refl)
   Pieces-last (suc n) i k j h r = (h.0, h.1, Pieces-last n h.0 k j h.2 r)
-
-  Pieces-first : (n i j : ℕ) → Pieces R (suc n) i j → (k : ℕ) × Pieces R n i k × R k j
-  Pieces-first zero i j h = (i, refl, subst (λ x. R i x) h.2 h.1)
-  Pieces-first (suc n) i j h = let x = Pieces-first n h.0 j h.2 in (x.0, (h.0, h.1, x.1), x.2)
-
-  Pieces-rise : ((i j : ℕ) → R i j → i ≤ j) → (n i j : ℕ) → Pieces R n i j → i ≤ j
-  Pieces-rise rises zero i j e = omega arith
-  Pieces-rise rises (suc n) i j h = let x = rises i h.0 h.1 in let y = Pieces-rise rises n h.0 j h.2 in omega arith
 
   module _ (rises : (i j : ℕ) → R i j → i ≤ j) (len : ℕ) where
     -- pieces that are read backwards
@@ -44,8 +37,8 @@ module _ (R : ℕ → ℕ → Type 0) where
     pub back-Pieces : (n d e : ℕ) → d ≤ e → e ≤ len → Pieces R n (len - e) (len - d) → Pieces (back len R) n d e
     back-Pieces zero d e le fits h = omega arith
     back-Pieces (suc n) d e le fits h =
-        let x = Pieces-first n (len - e) (len - d) h in
-        let first = Pieces-rise rises n (len - e) x.0 x.1 in
+        let x = last-piece R n (len - e) (len - d) h in
+        let first = pieces-rise R rises n (len - e) x.0 x.1 in
         let last = rises x.0 (len - d) x.2 in
         let at : x.0 ≡ len - (len - x.0) = omega arith in (
           len - x.0,

@@ -2,18 +2,18 @@
 use Rattle.std.proofs.Common.{◌≡◌, ℕ, zero, suc, ◌+◌, ◌-◌, ◌*◌, ◌/◌, ◌%◌, ◌≤◌, ◌<◌, List, [], ◌∷◌, refl, sym, ◌∙◌, ap, subst, ⊎_elim, arith, true≢false}
 use Rattle.std.specs.Prelude.{true, false, ◌&&◌, ◌||◌, Contains, nat_le, map}
 use Rattle.std.proofs.lemmas.Bool.Decides.{nat_tests}
-use Rattle.rx_class.proofs.RangeLemmas.{or-right}
 use Rattle.rx_model.specs.Text.{is_member, byte_ranges}
 use Rattle.rx_model.specs.Graph as graph
 use Rattle.rx_model.proofs.lemmas.runs.RunLemmas.{by_test}
 use Rattle.rx_model.proofs.lemmas.runs.MemberLemmas.{none-among, split-among}
 use Rattle.rx_model.proofs.lemmas.meaning.PartLemmas.{Chooses, Spells, SpellsOne, SpellsOne-same, Spells-same, Spells-then}
-use Rattle.rx_nfa.specs.Directed.{PartsBuilder, build_all, build_joined, build_last, build_behind, build_digits, byte_between, pieces_in, last_of, before_of, lasts_of, before_last}
+use Rattle.rx_nfa.specs.Directed.{build_all, build_joined, build_last, build_behind, build_digits, byte_between, pieces_in, last_of, before_of, lasts_of, before_last}
 use Rattle.rx_nfa.specs.declared.backwards.Piece.{Piece}
 use Rattle.rx_nfa.proofs.lemmas.parts.DigitsBuilt.{build_first}
 use Rattle.rx_nfa.proofs.lemmas.parts.PieceLemmas.{piece-sound, piece-complete, digit-of, rest-of, rest-small}
-use Rattle.rx_nfa.proofs.lemmas.parts.LastLemmas.{last-of-piece, piece-of-last, before-of-piece, piece-before, piece-in, in-pieces}
+use Rattle.rx_nfa.proofs.lemmas.parts.LastLemmas.{piece-of-last, before-of-piece, piece-before, piece-in, in-pieces}
 use Rattle.rx_nfa.proofs.lemmas.reverse.PartLemmas.{SpellsOne-one, SpellsOne-all, Spells-joined}
+use Rattle.std.proofs.Math.Bool.{or-true}
 
 -- Members of ranges.
 
@@ -38,7 +38,7 @@ is-ranged (x ∷ rs) r c m le le' =
     let first = ap (λ (y : ℕ × ℕ). y.0) e in
     let last = ap (λ (y : ℕ × ℕ). y.1) e in
     ap (λ b. b || is_member rs c) (both x.0 x.1 c (omega arith) (omega arith)))
-    (λ more. ap (λ b. (nat_le x.0 c && nat_le c x.1) || b) (is-ranged rs r c more le le') ∙ or-right (nat_le x.0 c && nat_le c x.1))
+    (λ more. ap (λ b. (nat_le x.0 c && nat_le c x.1) || b) (is-ranged rs r c more le le') ∙ or-true (nat_le x.0 c && nat_le c x.1))
     (split-among x r rs m)
   where
     both : (low high c : ℕ) → low ≤ c → c ≤ high → (nat_le low c && nat_le c high) ≡ true

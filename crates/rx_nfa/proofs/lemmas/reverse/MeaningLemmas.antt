@@ -1,11 +1,11 @@
 -- The parts of an NFA that reads backwards spell what their expressions mean.
-use Rattle.std.proofs.Common.{◌≡◌, ℕ, suc, ◌+◌, ◌-◌, ◌/◌, ◌≤◌, ◌<◌, ◌⊎◌, List, [], ◌∷◌, ◌++◌, refl, sym, ◌∙◌, ap, subst, inl, inr, ⊎_elim, arith, length, append_assoc, true≢false}
-use Rattle.std.specs.Prelude.{true, false, ◌&&◌, ◌||◌, Option, Some, None, Contains, if◌then◌else◌, map, reverse, nat_le, slice_index}
+use Rattle.std.proofs.Common.{◌≡◌, ℕ, suc, ◌+◌, ◌-◌, ◌≤◌, ◌<◌, ◌⊎◌, List, [], ◌∷◌, ◌++◌, refl, sym, ◌∙◌, ap, subst, inl, inr, ⊎_elim, arith, length, append_assoc}
+use Rattle.std.specs.Prelude.{true, ◌&&◌, Option, Some, None, Contains, if◌then◌else◌, map, reverse, nat_le, slice_index}
 use Rattle.std.specs.List.{AllZip}
 use Rattle.std.specs.Char.{len_utf8}
-use Rattle.std.proofs.lemmas.Bool.{and_parts}
+use Rattle.std.proofs.lemmas.Bool.{and_parts, leb-true}
 use Rattle.std.proofs.lemmas.Bool.Decides.{nat_tests}
-use Rattle.std.proofs.lemmas.List.{map-append, append-nil, reverse-append}
+use Rattle.std.proofs.lemmas.List.{append-nil, reverse-append}
 use Rattle.std.proofs.lemmas.Option.{none-some, same_Some}
 use Rattle.rx_model.specs.Text.{Class, scalar_ranges, byte_ranges, is_member, char_at, stands_at, member_len}
 use Rattle.rx_model.specs.Look as model
@@ -35,16 +35,13 @@ use Rattle.rx_model.proofs.lemmas.meaning.PartLemmas.{Chooses, Spells, SpellsOne
 
 -- Members of ranges.
 
-le-is : (a b : ℕ) → nat_le a b ≡ true → a ≤ b
-le-is a b e = grind (arith, nat_tests)
-
 -- a member within bounds
 module _ (low high : ℕ) (ordered : low ≤ high) (rs : List (ℕ × ℕ)) (c : ℕ) where
   clipped-is : is_member (clip low high rs) c ≡ true → (is_member rs c ≡ true) × (low ≤ c) × (c ≤ high)
   clipped-is e =
       let parts = and_parts (is_member rs c && nat_le low c) (nat_le c high) (sym (member-clip low high ordered rs c) ∙ e) in
       let first = and_parts (is_member rs c) (nat_le low c) parts.0 in
-      (first.0, le-is low c first.1, le-is c high parts.1)
+      (first.0, leb-true low c first.1, leb-true c high parts.1)
 
   is-clipped : is_member rs c ≡ true → low ≤ c → c ≤ high → is_member (clip low high rs) c ≡ true
   is-clipped e above below =

@@ -1,7 +1,7 @@
 -- The runs of an NFA that reads backwards.
 use Rattle.std.proofs.Common.{◌≡◌, ℕ, zero, suc, ◌-◌, ◌≤◌, ◌<◌, List, [], ◌∷◌, refl, sym, ◌∙◌, ap, subst, ⊎_elim, arith, length, get_or}
 use Rattle.std.specs.Prelude.{true, Option, Some, None, Contains, ◌↔◌, option_map, slice_get, slice_index}
-use Rattle.std.proofs.lemmas.Option.{none-some, same_Some}
+use Rattle.std.proofs.lemmas.Option.{same_Some, slice_get_within}
 use Rattle.rx_model.specs.Expression.{Expression, AreOrdered}
 use Rattle.rx_model.specs.Graph as graph
 use Rattle.rx_model.specs.Meaning.{Means}
@@ -132,14 +132,9 @@ module _ (r : Patterns) (nfa : Nfa) (old new : Draft) (e : Extends old new)
   Back state q i j = (n : ℕ) × Leads (automaton_over (backwards r.terminator text) new.states (length text - first)) q (length text - i) n
       (at state (length text - j))
 
-  below : (hs : List Expression) (p : ℕ) (h : Expression) → slice_get hs p ≡ Some h → p < length hs
-  below [] p h is = absurd (none-some h is)
-  below (x ∷ hs) zero h is = omega arith
-  below (x ∷ hs) (suc p) h is = let later = below hs p h is in omega arith
-
   has-part : (p : ℕ) (h : Expression) → slice_get r.expressions p ≡ Some h
       → HasPart new.states (compiled_pattern (whole_slot r.which_captures p) (build_directed true (slot_of r p) h) p) (slice_index nfa.starts p)
-  has-part p h is = HasPart-extends old new (directed_part true r p h) (slice_index nfa.starts p) e (has p h (below r.expressions p h is) is)
+  has-part p h is = HasPart-extends old new (directed_part true r p h) (slice_index nfa.starts p) e (has p h (slice_get_within r.expressions p h is) is)
 
   pub each-means : (p q i j : ℕ) (h : Expression) → i ≤ length text → j ≤ length text → slice_get r.expressions p ≡ Some h
       → Back (slice_index nfa.starts p) q i j → (q ≡ p) × Means r.terminator text h i j
@@ -188,7 +183,7 @@ module _ (r : Patterns) (nfa : Nfa) (old new : Draft) (e : Extends old new)
 
   -- the start of a pattern is one of them
   start-there : (q : ℕ) (h : Expression) → slice_get r.expressions q ≡ Some h → Contains nfa.starts (slice_index nfa.starts q)
-  start-there q h is = let lt = below r.expressions q h is in (q, omega arith, same-default nfa.starts q (omega arith))
+  start-there q h is = let lt = slice_get_within r.expressions q h is in (q, omega arith, same-default nfa.starts q (omega arith))
     where
       same-default : (xs : List ℕ) (k : ℕ) → k < length xs → get_or xs k (slice_index xs k) ≡ slice_index xs k
       same-default [] k lt = absurd (omega arith)

@@ -1,7 +1,6 @@
 -- A chain of byte states reads its bytes.
-use Rattle.std.proofs.Common.{◌≡◌, ℕ, suc, ◌+◌, ◌≤◌, ◌<◌, List, [], ◌∷◌, length, Option, Some, None, slice_index, refl, sym, ◌∙◌, ap, arith, drop-cons}
+use Rattle.std.proofs.Common.{◌≡◌, ℕ, suc, ◌+◌, ◌≤◌, ◌<◌, List, [], ◌∷◌, length, Option, None, slice_index, refl, sym, ◌∙◌, ap, arith, drop-cons}
 use Rattle.std.specs.Prelude.{Bool, true, false, ◌&&◌, if◌then◌else◌, nat_lt, nat_le, nat_eq, option_map}
-use Rattle.std.specs.Option.{option_or}
 use Rattle.std.proofs.lemmas.Bool.Decides.{nat_tests}
 use Rattle.rx_model.specs.Text.{stands_at}
 use Rattle.rx_model.specs.Runs.{Configuration, PriorityGraph, Passed, Sieve, sifted, sieved, and_at, Trace, with_write, found, first_some}

@@ -1,9 +1,9 @@
 -- The patterns of an NFA, and their first runs, wherever acceptance is permitted.
-use Rattle.std.proofs.Common.{◌≡◌, ◌≢◌, ℕ, zero, suc, ◌+◌, ◌≤◌, ◌<◌, ◌⊎◌, List, [], ◌∷◌, refl, sym, ◌∙◌, ap, subst, inl, inr, ⊎_elim, arith, length, ◌++◌, get_or, ◌-◌}
+use Rattle.std.proofs.Common.{◌≡◌, ◌≢◌, ℕ, suc, ◌+◌, ◌≤◌, ◌<◌, ◌⊎◌, List, [], ◌∷◌, refl, sym, ◌∙◌, ap, subst, inl, inr, ⊎_elim, arith, length, ◌++◌, get_or, ◌-◌}
 use Rattle.std.specs.Prelude.{false, Option, Some, None, map, option_map, slice_get, slice_index}
 use Rattle.std.specs.Option.{option_or}
 use Rattle.std.proofs.lemmas.Bool.{cases_lt}
-use Rattle.std.proofs.lemmas.Option.{none-some, same_Some, slice_get-get_or}
+use Rattle.std.proofs.lemmas.Option.{same_Some, slice_get-get_or, slice_get_within}
 use Rattle.std.proofs.lemmas.List.{get_or_append_left, get_or-append_right}
 use Rattle.rx_model.specs.Expression.{Expression}
 use Rattle.rx_model.specs.Graph as graph
@@ -142,12 +142,7 @@ module _ (ok : Sieve) (r : Patterns) (text : List ℕ) (end : ℕ) (inside : end
     has-all : (k : ℕ) (h : Expression) → slice_get r.expressions k ≡ Some h → HasPart old.states (part_of r (0 + k) h) (slice_index starts k)
     has-all k h is =
         let none : k ≡ 0 + k = omega arith in
-        subst (λ n. HasPart old.states (part_of r n h) (slice_index starts k)) none (has k h (slice_get-below r.expressions k h is) is)
-      where
-        slice_get-below : (hs : List Expression) (k : ℕ) (h : Expression) → slice_get hs k ≡ Some h → k < length hs
-        slice_get-below [] k h is = absurd (none-some h is)
-        slice_get-below (x ∷ hs) zero h is = omega arith
-        slice_get-below (x ∷ hs) (suc k) h is = let later = slice_get-below hs k h is in omega arith
+        subst (λ n. HasPart old.states (part_of r n h) (slice_index starts k)) none (has k h (slice_get_within r.expressions k h is) is)
 
     all-found : (q : Passed) (i : ℕ) → IsClear q → IsAhead q i → first_some (found m q) (map (λ s. at s i) starts) ≡ option_map (told r.which_captures)
         (first_of_patterns_where ok r text end 0 r.expressions i)

@@ -9,17 +9,14 @@ use Rattle.std.specs.BTreeSet.{insert_key}
 use Rattle.std.proofs.lemmas.Bool.{cases_lt}
 use Rattle.std.proofs.lemmas.Map.Text.{is_eq-slice_cmp}
 use Rattle.std.proofs.lemmas.Slice.Eq.{bytes_eq-Decides}
-use Rattle.rx_class.proofs.RangeLemmas.{or-swap}
 use Rattle.rx_reader.specs.Reading.{Place}
 use Rattle.rx_reader.proofs.lemmas.places.GivesLemmas.{IsAt}
+use Rattle.rx_model.proofs.lemmas.runs.RunLemmas.{or-absorbs, or-swap}
+use Rattle.std.proofs.Math.Bool.{or-true}
 
 -- a name is among these
 abbrev pub is_in : List ℕ → List (List ℕ) → Bool
 is_in x ns = list_any (bytes_eq x) ns
-
-or-absorbs : (a b : Bool) → (a || b) ≡ (a || (a || b))
-or-absorbs true b = refl
-or-absorbs false b = refl
 
 -- a name more
 pub in-insert : (x name : List ℕ) (ns : List (List ℕ)) → is_in x (insert_key (slice_cmp nat_cmp) ns name) ≡ (bytes_eq x name || is_in x ns)
@@ -36,10 +33,6 @@ in-insert x name (y ∷ ns) = by (slice_cmp nat_cmp name y) refl (in-insert x na
 
 pub kept_in : (x name : List ℕ) (ns : List (List ℕ)) → is_in x ns ≡ true → is_in x (insert_key (slice_cmp nat_cmp) ns name) ≡ true
 kept_in x name ns h = in-insert x name ns ∙ ap (λ (b : Bool). bytes_eq x name || b) h ∙ or-true (bytes_eq x name)
-  where
-    or-true : (a : Bool) → (a || true) ≡ true
-    or-true true = refl
-    or-true false = refl
 
 pub added_in : (name : List ℕ) (ns : List (List ℕ)) → is_in name (insert_key (slice_cmp nat_cmp) ns name) ≡ true
 added_in name ns = in-insert name name ns ∙ ap (λ (b : Bool). b || is_in name ns) ((bytes_eq-Decides name name).1 refl)

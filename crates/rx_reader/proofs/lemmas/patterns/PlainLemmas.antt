@@ -21,6 +21,7 @@ use Rattle.rx_reader.proofs.lemmas.places.PlaceLemmas.{not_at_end}
 use Rattle.rx_reader.proofs.lemmas.printed.TextLemmas.{same-number, differ}
 use Rattle.rx_reader.proofs.lemmas.branches.RepeatLemmas.{repeated_from, repeat_stops}
 use Rattle.rx_reader.proofs.lemmas.tokens.TokenLemmas.{token-some, begins-escape}
+use Rattle.std.proofs.lemmas.Bool.{or_parts}
 
 -- Which character it is.
 
@@ -68,13 +69,9 @@ unfolding blank_len
 blank-none [] h = refl
 blank-none (c ∷ cs) h = by (is_meta c) refl
   where
-    solid : (b d : Bool) → (b || d) ≡ false → b ≡ false
-    solid true d g = g
-    solid false d g = refl
-
     by : (b : Bool) → is_meta c ≡ b → blank_len false ((if b then codes "\\" ++ c ∷ [] else c ∷ []) ++ escaped_text cs) ≡ 0
     by true is = refl
-    by false is = rw (solid (is_whitespace c) (list_any is_whitespace cs) h, apart c 35 is refl) refl
+    by false is = rw ((or_parts (is_whitespace c) (list_any is_whitespace cs) h).0, apart c 35 is refl) refl
 
 skips-nothing : (flags : Flags) (cs : List ℕ) → has_skipped flags cs ≡ false → skipped_len flags (escaped_text cs) ≡ 0
 skips-nothing flags cs h = by flags.ignore_whitespace h

@@ -1,5 +1,5 @@
 -- On the characters that a text spells, and on what they begin with.
-use Rattle.std.proofs.Common.{◌≡◌, ℕ, zero, suc, ◌+◌, ◌<◌, ◌≤◌, Bool, true, false, ◌&&◌, true≢false, List, [], ◌∷◌, length, drop, get_or, cond, None, refl, ◌∙◌, ap, sym, subst, arith}
+use Rattle.std.proofs.Common.{◌≡◌, ℕ, zero, suc, ◌+◌, ◌<◌, ◌≤◌, Bool, true, false, ◌&&◌, List, [], ◌∷◌, length, drop, get_or, cond, None, refl, ◌∙◌, ap, sym, subst, arith}
 use Rattle.std.proofs.lemmas.Bool.Decides.{nat_tests}
 use Rattle.std.proofs.lemmas.List.{drop_all}
 use Rattle.std.proofs.lemmas.Str.{chars-encodes, chars_from_encodes}
@@ -9,12 +9,9 @@ use Rattle.std.specs.Char.{is_whitespace}
 use Rattle.std.specs.List.{prefix_len, starts_with}
 use Rattle.std.specs.Str.{IsUtf8, chars, skip_leading_whitespace, trim_start}
 use Rattle.rx_reader.proofs.lemmas.places.FrontLemmas.{drop_at}
+use Rattle.std.proofs.lemmas.Bool.{and_parts}
 
 -- White space in front is trimmed.
-
-second : (a b : Bool) → (a && b) ≡ true → b ≡ true
-second true b h = h
-second false b h = absurd (true≢false (sym h))
 
 scalars-either : (b : Bool) (rest all : List ℕ) → scalars rest ≡ true → scalars all ≡ true → scalars (cond b rest all) ≡ true
 scalars-either true rest all h k = h
@@ -23,7 +20,7 @@ scalars-either false rest all h k = k
 scalars-skipped : (cs : List ℕ) → scalars cs ≡ true → scalars (skip_leading_whitespace cs) ≡ true
 scalars-skipped [] h = h
 scalars-skipped (c ∷ cs) h =
-    scalars-either (is_whitespace c) (skip_leading_whitespace cs) (c ∷ cs) (scalars-skipped cs (second (scalar c) (scalars cs) h)) h
+    scalars-either (is_whitespace c) (skip_leading_whitespace cs) (c ∷ cs) (scalars-skipped cs (and_parts (scalar c) (scalars cs) h).1) h
 
 dropped-either : (b : Bool) (n c : ℕ) (rest cs : List ℕ) → rest ≡ drop n cs → cond b rest (c ∷ cs) ≡ drop (cond b (1 + n) 0) (c ∷ cs)
 dropped-either true n c rest cs is = let one : suc n ≡ 1 + n = omega arith in is ∙ ap (λ (k : ℕ). drop k (c ∷ cs)) one

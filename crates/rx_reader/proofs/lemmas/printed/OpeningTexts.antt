@@ -1,5 +1,5 @@
 -- The text before a group's body reads as its opening.
-use Rattle.std.proofs.Common.{◌≡◌, ℕ, Bool, true, false, not, ◌&&◌, ◌||◌, ◌==◌, List, [], ◌∷◌, ◌++◌, Ok, refl, ◌∙◌, ap}
+use Rattle.std.proofs.Common.{◌≡◌, ℕ, Bool, true, not, ◌&&◌, ◌||◌, ◌==◌, List, [], ◌∷◌, ◌++◌, Ok, refl, ◌∙◌, ap}
 use Rattle.std.specs.Prelude.{codes, if◌then◌else◌}
 use Rattle.rx_reader.specs.declared.config.Config.{Config}
 use Rattle.rx_reader.specs.declared.flags.Flags.{Flags}
@@ -18,10 +18,7 @@ use Rattle.rx_reader.specs.Printable.{IsUnnamed, bare_kind}
 use Rattle.rx_reader.specs.Printed.{opening_text}
 use Rattle.rx_reader.proofs.lemmas.printed.TextLemmas.{onto, goes-on, here, quiet, no-question}
 use Rattle.rx_reader.proofs.lemmas.tokens.TokenLemmas.{token-some, begins-opens, opens-ok}
-
-and-true : (b : Bool) → b && true ≡ b
-and-true true = refl
-and-true false = refl
+use Rattle.std.proofs.Math.Bool.{and-true}
 
 -- no letter changes no flag
 unchanged : (flags : Flags) → changed [] flags ≡ flags
