@@ -20,6 +20,11 @@ use Rattle.rx_engines.specs.declared.onward.Onward.TheVariants.{Stop, To, Back}
 abbrev pub is_set : List ℕ → ℕ → Bool
 is_set words n = bit_at (slice_index words (n / 64)) (n % 64) == 1
 
+-- how many of the words have a bit
+abbrev pub words_used : List ℕ → ℕ
+words_used [] = 0
+words_used (w ∷ ws) = (if w == 0 then 0 else 1) + words_used ws
+
 -- how many states at places the span has
 abbrev pub extent : Search → ℕ
 extent s = (s.end + 1 - s.first) * length s.states.now

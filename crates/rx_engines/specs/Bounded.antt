@@ -25,12 +25,14 @@ pub record Room : Type 0 where
   pub slots : ℕ
   -- what is accounted for it
   pub memory : ℕ
+  -- how many words of bits, and how many frames, of a search are still in it
+  pub held : ℕ
 
 abbrev pub room_code : Coded Room
 room_code =
-    code_by (ℕ × (ℕ × (ℕ × ℕ))) (coded× coded_ℕ (coded× coded_ℕ (coded× coded_ℕ coded_ℕ)))
-    (λ r. (r.bits, (r.stack, (r.slots, r.memory))))
-    (λ p. record { bits = p.0; stack = p.1.0; slots = p.1.1.0; memory = p.1.1.1 }) (λ _. refl)
+    code_by (ℕ × (ℕ × (ℕ × (ℕ × ℕ)))) (coded× coded_ℕ (coded× coded_ℕ (coded× coded_ℕ (coded× coded_ℕ coded_ℕ))))
+    (λ r. (r.bits, (r.stack, (r.slots, (r.memory, r.held)))))
+    (λ p. record { bits = p.0; stack = p.1.0; slots = p.1.1.0; memory = p.1.1.1.0; held = p.1.1.1.1 }) (λ _. refl)
 
 -- no part has less room than before, and so much is accounted as before
 pub record HasGrown (old new : Room) : Type 0 where

@@ -1,5 +1,5 @@
 -- What a search of the PikeVM writes to, and what fits.
-use Rattle.std.specs.Prelude.{◌≡◌, ℕ, ◌≤◌, List, [], length, if◌then◌else◌}
+use Rattle.std.specs.Prelude.{◌≡◌, ℕ, ◌+◌, ◌≤◌, List, [], length, if◌then◌else◌}
 use Rattle.rx_nfa.specs.declared.state.State.{State}
 use Rattle.rx_engines.specs.Room.{Room}
 use Rattle.rx_engines.specs.Simulation.{frames_of_states}
@@ -44,7 +44,11 @@ pub record AreAlike (b : Buffers) : Type 0 where
   pub slots : b.walk.slots.room ≡ b.best.room
   pub empty : b.walk.stack.items ≡ []
 
+-- how many threads and slots of a search are in the buffers; a row without a thread stands for nothing
+abbrev pub held_by : Buffers → ℕ
+held_by b = length b.even.set.items + (length b.odd.set.items + (length b.walk.slots.items + length b.best.items))
+
 -- the room of a cache of these buffers, for which so much is accounted
 abbrev pub room_for : Buffers → (memory : ℕ) → Room
 room_for b memory =
-    record { states = b.even.set.capacity; cells = b.even.table.cells; stack = b.walk.stack.room; slots = b.best.room; memory = memory }
+    record { states = b.even.set.capacity; cells = b.even.table.cells; stack = b.walk.stack.room; slots = b.best.room; memory = memory; held = held_by b }

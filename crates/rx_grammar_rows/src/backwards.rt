@@ -76,26 +76,58 @@ struct Walk {
     to: PatternID,
 }
 
-/// The places, as digits, at which a match of the pattern starts that ends at `end`.
-fn starts(alloc: Global, nfa: &NFA, walk: Walk, text: &[u8], end: usize) -> Result<String, Memory> {
+/// One step of a walk, from the state that was put last. Answers whether there was one.
+fn step(
+    nfa: &NFA,
+    to: PatternID,
+    text: &[u8],
+    stack: &mut Stack,
+    seen: &mut [bool],
+    hits: &mut [bool],
+) -> Result<bool, Memory> {
+    let Some((id, at)) = stack.pop() else {
+        return Ok(false);
+    };
+    let width = text.len() + 1;
+    if !mark(seen, id.saturating_mul(width).saturating_add(at)) {
+        return Ok(true);
+    }
+    let Some(state) = nfa.states().get(id) else {
+        return Ok(true);
+    };
+    let accepted = go(stack, state, nfa.look_matcher(), text, at)?;
+    if accepted != Some(to) {
+        return Ok(true);
+    }
+    let _fresh = mark(hits, at);
+    Ok(true)
+}
+
+/// Marks the places at which a match of the pattern starts that ends at `end`.
+fn mark_starts(
+    alloc: Global,
+    nfa: &NFA,
+    walk: Walk,
+    text: &[u8],
+    end: usize,
+    hits: &mut [bool],
+) -> Result<(), Memory> {
     let width = text.len() + 1;
     let mut seen = vec![in alloc; false; nfa.states_len().saturating_mul(width)]?;
-    let mut hits = [false; 10];
     let mut stack = Vec::new(alloc);
     stack.push((walk.from.as_usize(), end))?;
     for _step in 0..1_000_000 {
-        let Some((id, at)) = stack.pop() else {
+        if !step(nfa, walk.to, text, &mut stack, &mut seen, hits)? {
             break;
-        };
-        if !mark(&mut seen, id.saturating_mul(width).saturating_add(at)) {
-            continue;
-        }
-        if let Some(state) = nfa.states().get(id) {
-            if go(&mut stack, state, nfa.look_matcher(), text, at)? == Some(walk.to) {
-                let _fresh = mark(&mut hits, at);
-            }
         }
     }
+    Ok(())
+}
+
+/// The places, as digits, at which a match of the pattern starts that ends at `end`.
+fn starts(alloc: Global, nfa: &NFA, walk: Walk, text: &[u8], end: usize) -> Result<String, Memory> {
+    let mut hits = [false; 10];
+    mark_starts(alloc, nfa, walk, text, end, &mut hits)?;
     let mut told = String::new(alloc);
     for (hit, digit) in hits.iter().zip("0123456789".chars()) {
         if *hit {

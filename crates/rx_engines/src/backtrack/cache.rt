@@ -1,10 +1,10 @@
 //! What a search of the backtracker writes to.
-ghost use Rattle.std.specs.Prelude.{◌≡◌, ◌^◌, vec_len, ℕ, ◌*◌, ◌+◌, ◌<◌, ◌≤◌, length, max, min, None, IfOk, OnOk, OnErr, IsOk, IfSome, IfNone, option_map, replicate, nat_lt, slice_index_or, if◌then◌else◌};
+ghost use Rattle.std.specs.Prelude.{◌≡◌, ◌^◌, [], vec_len, ℕ, ◌*◌, ◌+◌, ◌<◌, ◌≤◌, length, max, min, None, IfOk, OnOk, OnErr, IsOk, IfSome, IfNone, option_map, replicate, nat_lt, slice_index_or, if◌then◌else◌};
 ghost use Rattle.rx_model.specs.Search.{slot_value};
 ghost use Rattle.rx_search.specs.Matches.{match_value};
 ghost use Rattle.rx_nfa.specs.Nfa.{Nfa};
 ghost use Rattle.rx_engines.specs.Search.{IsInside, is_offered, next_of};
-ghost use Rattle.rx_engines.specs.Backtrack.{extent, frames_of_span};
+ghost use Rattle.rx_engines.specs.Backtrack.{extent, frames_of_span, words_used};
 ghost use Rattle.rx_engines.specs.Bounded.{Room, room_code, HasGrown, Fits};
 ghost use Rattle.rx_engines.specs.Engine.{accounted_memory};
 
@@ -19,8 +19,9 @@ use rx_search::{Match, Memory, NonMaxUsize};
 use std::alloc::Global;
 use std::marker::Model;
 
+// A search empties it when it ends (DECISIONS: a search leaves nothing in its cache).
 /// What a search writes to. It is made once for an engine, with room for the longest span, and a search takes no
-/// memory.
+/// memory. Between searches it holds no bit and no frame.
 #[derive(Drop)]
 pub struct Cache {
     visited: Visited,
@@ -29,7 +30,7 @@ pub struct Cache {
     memory: usize,
 }
 
-/// For how many bits, frames and slots it has room, and what is accounted for it.
+/// For how many bits, frames and slots it has room, what is accounted for it, and how many words and frames it holds.
 impl Model for Cache {
     ghost Value = { Room };
 
@@ -40,7 +41,10 @@ impl Model for Cache {
       stack = c.stack.room;
       slots = vec_len c.slots;
       memory = c.memory;
+      held = words_used c.visited + length c.stack.items;
     } };
+
+    ghost invariant = { λ c. (words_used c.visited ≡ 0) × (c.stack.items ≡ []) };
 }
 
 impl Cache {
@@ -64,11 +68,13 @@ impl Cache {
         })
     }
 
-    /// Makes the cache one that serves this engine, and keeps each buffer that is large enough. Where there is no memory,
-    /// it serves the engines that it served, with its accounted number as it was.
+    /// Makes the cache one that serves this engine, and keeps each buffer that is large enough: then it takes no memory, and
+    /// the same time whatever was searched. No bit and no frame is left in it. Where there is no memory, it serves the
+    /// engines that it served, with its accounted number as it was.
     pub fn reset(&mut self, alloc: Global, backtracker: &BoundedBacktracker) -> Result<(), Memory>
         ensures fits { OnOk result (Fits backtracker.now.nfa self.new) }
         ensures memory { OnOk result (self.new.memory ≡ accounted_memory backtracker.now.nfa) }
+        ensures cleared { OnOk result (self.new.held ≡ 0) }
         ensures kept { (other : Nfa) → Fits other self.old → Fits other self.new }
         ensures err { OnErr result (self.new.memory ≡ self.old.memory) }
         ensures sure { Fits backtracker.now.nfa self.old → IsOk result }
@@ -157,14 +163,17 @@ impl Cache {
         ensures room { self.new ≡ self.old }
     {
         let width = slots.len().min(search.slots);
-        find_slots(
+        let found = find_slots(
             search,
             width,
             &mut self.visited,
             &mut self.stack,
             &mut self.slots,
             slots,
-        )
+        );
+        self.visited.clear();
+        self.stack.clear();
+        found
     }
 }
 

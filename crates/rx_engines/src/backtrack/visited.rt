@@ -1,6 +1,6 @@
 //! Which states were tried at which places.
-ghost use Rattle.std.specs.Prelude.{◌≡◌, ◌*◌, ◌+◌, ◌<◌, ◌≤◌, ℕ, Bool, false, not, ◌||◌, ◌==◌, length, IfOk, OnOk, IsOk, ◌^◌};
-ghost use Rattle.rx_engines.specs.Backtrack.{is_set};
+ghost use Rattle.std.specs.Prelude.{◌≡◌, ◌*◌, ◌+◌, ◌<◌, ◌≤◌, ℕ, Bool, false, not, ◌||◌, ◌==◌, length, IfOk, OnOk, OnErr, IsOk, ◌^◌};
+ghost use Rattle.rx_engines.specs.Backtrack.{is_set, words_used};
 
 use rx_search::Memory;
 use std::alloc::Global;
@@ -30,7 +30,8 @@ impl Visited {
     /// A set with room for the numbers below `len`.
     pub fn new(alloc: Global, len: usize) -> Result<Visited, Memory>
         requires { len < 2 ^ 63 }
-        ensures { IfOk result (λ v. len ≤ 64 * length v) }
+        ensures room { IfOk result (λ v. len ≤ 64 * length v) }
+        ensures none { IfOk result (λ v. words_used v ≡ 0) }
     {
         Ok(Visited {
             words: vec![in alloc; 0u64; (len + 63) / 64]?,
@@ -40,7 +41,8 @@ impl Visited {
 
     /// An empty set with the same room.
     pub fn same_room(&self, alloc: Global) -> Result<Visited, Memory>
-        ensures { IfOk result (λ v. length v ≡ length self.now) }
+        ensures room { IfOk result (λ v. length v ≡ length self.now) }
+        ensures none { IfOk result (λ v. words_used v ≡ 0) }
     {
         Ok(Visited {
             words: vec![in alloc; 0u64; self.words.len()]?,
@@ -54,6 +56,8 @@ impl Visited {
         requires { len < 2 ^ 63 }
         ensures room { OnOk result (len ≤ 64 * length self.new) }
         ensures more { length self.old ≤ length self.new }
+        ensures none { OnOk result (words_used self.new ≡ 0) }
+        ensures err { OnErr result (self.new ≡ self.old) }
         ensures sure { len ≤ 64 * length self.old → IsOk result }
     {
         if (len + 63) / 64 <= self.words.len() {
@@ -67,6 +71,7 @@ impl Visited {
     /// Empties the set.
     pub fn clear(&mut self)
         ensures empty { (n : ℕ) → is_set self.new n ≡ false }
+        ensures none { words_used self.new ≡ 0 }
         ensures room { length self.new ≡ length self.old }
     {
         for k in 0..self.used {

@@ -1,6 +1,6 @@
 //! What a search of the PikeVM writes to.
 ghost use Rattle.std.specs.Prelude.{◌≡◌, ◌*◌, ◌^◌, ◌<◌, ◌≤◌, [], length, IfOk, None, replicate};
-ghost use Rattle.rx_engines.specs.Buffers.{AreAlike, HasRows, KeepsRoom, curr_of};
+ghost use Rattle.rx_engines.specs.Buffers.{AreAlike, HasRows, KeepsRoom, curr_of, held_by};
 
 use crate::pikevm::row::SlotRow;
 use crate::pikevm::threads::Threads;
@@ -38,6 +38,7 @@ impl Buffers {
         ensures cells { IfOk result (λ b. (b.even.table.cells ≡ cells) × (cells < 2 ^ 63)) }
         ensures stack { IfOk result (λ b. (b.walk.stack.room ≡ frames) × (frames < 2 ^ 63)) }
         ensures slots { IfOk result (λ b. b.best.room ≡ slots) }
+        ensures held { IfOk result (λ b. held_by b ≡ 0) }
     {
         let even = Threads::new(alloc, states, cells)?;
         let odd = Threads::new(alloc, states, cells)?;
@@ -72,6 +73,18 @@ impl Buffers {
         self.turned = false;
         self.walk.slots.reset(width);
         self.best.reset(width);
+    }
+
+    /// No threads and no slots. The stack is as it was.
+    pub fn clear(&mut self)
+        ensures held { held_by self.new ≡ 0 }
+        ensures stack { self.new.walk.stack ≡ self.old.walk.stack }
+        ensures room { KeepsRoom self.old self.new }
+    {
+        self.even.set.clear();
+        self.odd.set.clear();
+        self.walk.slots.reset(0);
+        self.best.reset(0);
     }
 
     /// How many threads there are at the place.

@@ -2,7 +2,7 @@
 ghost use Rattle.std.specs.Prelude.{◌≡◌, ℕ, ◌^◌, ◌*◌, ◌<◌, ◌≤◌, [], length, is_some, Some, None, IfOk, OnOk, OnErr, IsOk, max, IfSome, IfNone, option_map, replicate, nat_lt, slice_index_or, if◌then◌else◌};
 ghost use Rattle.rx_engines.specs.Search.{IsInside, IsAnswered};
 ghost use Rattle.rx_engines.specs.Room.{Room, room_code, HasGrown};
-ghost use Rattle.rx_engines.specs.Buffers.{AreAlike, room_for};
+ghost use Rattle.rx_engines.specs.Buffers.{AreAlike, held_by, room_for};
 ghost use Rattle.rx_engines.specs.Engine.{PikeVMValue, HasRoom, Fits, accounted_memory};
 
 use crate::accounting::memory_of;
@@ -16,15 +16,16 @@ use rx_search::{Match, Memory, NonMaxUsize};
 use std::alloc::Global;
 use std::marker::Model;
 
+// A search empties it when it ends (DECISIONS: a search leaves nothing in its cache).
 /// What a search writes to. It is made once for an engine, serves each engine for which it has room, and a search takes
-/// no memory.
+/// no memory. Between searches it holds no thread and no slot.
 #[derive(Drop)]
 pub struct Cache {
     buffers: Buffers,
     memory: usize,
 }
 
-/// For how many states, slots and frames it has room, and what is accounted for it.
+/// For how many states, slots and frames it has room, what is accounted for it, and how many threads and slots it holds.
 impl Model for Cache {
     ghost Value = { Room };
 
@@ -32,7 +33,7 @@ impl Model for Cache {
 
     ghost view = { λ c. room_for c.buffers c.memory };
 
-    ghost invariant = { λ c. AreAlike c.buffers };
+    ghost invariant = { λ c. AreAlike c.buffers × (held_by c.buffers ≡ 0) };
 }
 
 impl Cache {
@@ -48,11 +49,13 @@ impl Cache {
         Cache::with_room(alloc, states, cells, vm.frames(), slots, memory_of(nfa))
     }
 
-    /// Makes the cache one that serves this engine, and keeps each buffer that is large enough. Where there is no memory,
-    /// it serves the engines that it served, with its accounted number as it was.
+    /// Makes the cache one that serves this engine, and keeps each buffer that is large enough: then it takes no memory, and
+    /// the same time whatever was searched. No thread and no slot is left in it. Where there is no memory, it serves the
+    /// engines that it served, with its accounted number as it was.
     pub fn reset(&mut self, alloc: Global, vm: &PikeVM) -> Result<(), Memory>
         ensures fits { OnOk result (Fits vm.now self.new) }
         ensures memory { OnOk result (self.new.memory ≡ accounted_memory vm.now.nfa) }
+        ensures cleared { OnOk result (self.new.held ≡ 0) }
         ensures kept { (other : PikeVMValue) → Fits other self.old → Fits other self.new }
         ensures err { OnErr result (self.new.memory ≡ self.old.memory) }
         ensures sure { Fits vm.now self.old → IsOk result }
@@ -105,7 +108,7 @@ impl Cache {
     ) -> Result<Cache, Memory>
         requires { states < 2 ^ 32 }
         ensures value { IfOk result (λ c. c
-            ≡ record { states = states; cells = cells; stack = frames; slots = slots; memory = memory }) }
+            ≡ record { states = states; cells = cells; stack = frames; slots = slots; memory = memory; held = 0 }) }
         ensures small { IfOk result (λ _. (cells < 2 ^ 63) × (frames < 2 ^ 63)) }
     {
         let buffers = Buffers::new(alloc, states, cells, frames, slots)?;
@@ -189,6 +192,8 @@ impl Cache {
     {
         let width = slots.len().min(search.slots);
         self.buffers.reset(search.states.len(), width);
-        simulate_slots(search, earliest, &mut self.buffers, slots)
+        let found = simulate_slots(search, earliest, &mut self.buffers, slots);
+        self.buffers.clear();
+        found
     }
 }

@@ -17,7 +17,7 @@ impl Threads {
     /// Room for so many states, and for so many slots of theirs in all.
     pub fn new(alloc: Global, states: usize, cells: usize) -> Result<Threads, Memory>
         requires { states < 2 ^ 32 }
-        ensures set { IfOk result (λ t. t.set.capacity ≡ states) }
+        ensures set { IfOk result (λ t. (t.set.items ≡ []) × (t.set.capacity ≡ states)) }
         ensures table { IfOk result (λ t. t.table.capacity ≡ states) }
         ensures cells { IfOk result (λ t. t.table.cells ≡ cells) }
         ensures small { IfOk result (λ _. cells < 2 ^ 63) }

@@ -13,16 +13,17 @@ use Rattle.rx_model.proofs.lemmas.matches.WithinLemmas.{next-later}
 use Rattle.rx_search.specs.Matches.{match_value, MatchValue}
 use Rattle.rx_search.specs.Input.{InputValue, next_in}
 use Rattle.rx_search.specs.Told.{IsMatchWith, HasSlots, AreWithin}
-use Rattle.rx_nfa.specs.Automaton.{at, automaton}
+use Rattle.rx_nfa.specs.Automaton.{at, automaton, forwards}
 use Rattle.rx_nfa.specs.Nfa.{Nfa, IsInRange, IsNfaOf}
 use Rattle.rx_nfa.specs.NextMatch.{start_of, first_from, next_match_of, next_match_in}
+use Rattle.rx_nfa.proofs.lemmas.runs.AutomatonLemmas.{automaton-bounded, automaton-rises, automaton-accepts-within}
+use Rattle.rx_nfa.proofs.lemmas.lists.StageLemmas.{first_start-none, first_start-more, found-beyond}
 use Rattle.rx_nfa.proofs.lemmas.runs.NextMatchLemmas.{first_start-alike, first_start-from, next_match_of-patterns, next_match_of-slot, next_match_of-within}
 use Rattle.rx_engines.specs.Search.{IsInside, graph_until, may_start, PassesNoRun, next_until, next_of, first_place, stop_of, answer_of}
 use Rattle.rx_engines.specs.declared.search.Search.{Search}
 use Rattle.rx_engines.specs.Walk.{Slots}
 use Rattle.rx_engines.specs.Room.{Room}
 use Rattle.rx_engines.specs.Engine.{PikeVMValue, HasRoom, next_match_by, stop_in, answer_in, last_start, IsSearchOf, HasNoMatch}
-use Rattle.rx_engines.proofs.lemmas.threads.StartLemmas.{first_start-none, first_start-more, found-beyond}
 use Rattle.rx_engines.proofs.lemmas.threads.StageLemmas.{first_place-within, first_place-alike, until-starts}
 use Rattle.rx_engines.proofs.lemmas.answers.PatternLemmas.{next_match_of-pattern}
 use Rattle.rx_engines.proofs.lemmas.answers.SpanLemmas.{next_match_of-places, empty-within}
@@ -64,7 +65,10 @@ module _ (nfa : Nfa) (utf8_empty : Bool) (text : List ℕ) (anchor : Anchor) (en
           (λ a. rw (in_order, a) (let one : start + 1 - start ≡ 1 = omega arith in ap (λ n. first_start (is_permitted utf8_empty text) from_start n start) one))
           (λ a. rw (in_order, a)
           (first_start-more (is_permitted utf8_empty text) from_start (end + 1 - start) (top + 1 - start) start (omega arith)
-          (λ j le. found-beyond nfa.terminator nfa.states text end q j (omega arith))))
+          (λ j le.
+          found-beyond (automaton nfa.terminator nfa.states text end) (automaton-bounded (forwards nfa.terminator text) nfa.states end)
+          (automaton-rises (forwards nfa.terminator text) nfa.states end) end (automaton-accepts-within (forwards nfa.terminator text) nfa.states end) q j
+          (omega arith))))
 
 -- the start is there
 start-inside : (nfa : Nfa) (anchor : Anchor) (q : ℕ) → IsInRange nfa → start_of nfa anchor ≡ Some q → q < length nfa.states

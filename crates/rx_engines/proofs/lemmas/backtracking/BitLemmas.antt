@@ -1,16 +1,16 @@
 -- Bits in words, and the configurations that they stand for.
-use Rattle.std.proofs.Common.{◌≡◌, ◌≢◌, ℕ, zero, suc, ◌+◌, ◌-◌, ◌*◌, ◌/◌, ◌%◌, ◌<◌, ◌≤◌, List, refl, sym, ◌∙◌, ap, subst, arith, get_or, set, length, true≢false}
+use Rattle.std.proofs.Common.{◌≡◌, ◌≢◌, ℕ, zero, suc, ◌+◌, ◌-◌, ◌*◌, ◌/◌, ◌%◌, ◌<◌, ◌≤◌, List, [], ◌∷◌, refl, sym, ◌∙◌, ap, subst, arith, get_or, set, length, true≢false}
 use Rattle.std.proofs.lemmas.List.{get_or-set_same, get_or-set_other}
 use Rattle.std.proofs.lemmas.Nat.{one_shl, pow_pos, same_from_place}
 use Rattle.std.proofs.lemmas.Nat.Bits.{bit_at_set_same, bit_at_set_other, and_pow, bit_at-zero, bit_at-lt}
 use Rattle.std.proofs.lemmas.Bool.Decides.{nat_tests, Decides-eqb}
 use Rattle.std.specs.Int.{bit_at, w64}
 use Rattle.std.specs.Int.Bits.{bit_or, bit_and}
-use Rattle.std.specs.Prelude.{Bool, true, false, not, ◌&&◌, ◌||◌, ◌==◌, ◌^◌, nat_eq, nat_lt, nat_le}
+use Rattle.std.specs.Prelude.{Bool, true, false, not, ◌&&◌, ◌||◌, ◌==◌, ◌^◌, nat_eq, nat_lt, nat_le, replicate}
 use Rattle.rx_model.specs.Runs.{Configuration, same, nowhere, and_at}
 use Rattle.rx_model.proofs.lemmas.runs.RunLemmas.{by_test, same-true, same-self}
 use Rattle.rx_nfa.specs.Automaton.{at}
-use Rattle.rx_engines.specs.Backtrack.{is_set, passed_in}
+use Rattle.rx_engines.specs.Backtrack.{is_set, passed_in, words_used}
 
 -- the word with the bit of n
 abbrev pub with_bit : ℕ → ℕ → ℕ
@@ -115,3 +115,14 @@ passed_in-none n first end words empty j c =
     none : (b : Bool) → (b && is_set words ((c.place - first) * n + c.state)) ≡ false
     none false = refl
     none true = empty ((c.place - first) * n + c.state)
+
+-- words of zero have no bit, so none is used
+pub words_used-none : (words : List ℕ) → ((k : ℕ) → get_or words k 0 ≡ 0) → words_used words ≡ 0
+words_used-none [] zeros = refl
+words_used-none (w ∷ ws) zeros =
+    let here : w ≡ 0 = zeros 0 in
+    rw (here, words_used-none ws (λ k. zeros (suc k))) refl
+
+pub words_used-replicate : (n : ℕ) → words_used (replicate n 0) ≡ 0
+words_used-replicate zero = refl
+words_used-replicate (suc n) = rw (words_used-replicate n) refl

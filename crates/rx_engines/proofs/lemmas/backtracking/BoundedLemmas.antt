@@ -10,6 +10,7 @@ use Rattle.rx_model.specs.Search.{Patterns, told_of, Match, is_permitted, first_
 use Rattle.rx_model.proofs.lemmas.runs.RunLemmas.{by_test}
 use Rattle.rx_model.proofs.lemmas.runs.FirstLemmas.{none-is-some, some-is}
 use Rattle.rx_model.proofs.lemmas.runs.RiseLemmas.{found-end}
+use Rattle.rx_search.specs.Limits.{id_limit}
 use Rattle.rx_search.specs.Input.{InputValue, next_in, span_len}
 use Rattle.rx_search.specs.Matches.{match_value, MatchValue, HalfMatchValue}
 use Rattle.rx_nfa.specs.NextMatch.{next_match_in}
@@ -137,12 +138,12 @@ module _ (nfa : Nfa) (v : InputValue) (s : Search) (of : IsSearchOf nfa v s) (sh
   rows = let end = of.end in let first = of.first in omega arith
 
   -- there are few enough states at places
-  pub extent-small : length nfa.states ≤ 2147483647 → extent s < 2 ^ 63
+  pub extent-small : length nfa.states ≤ id_limit → extent s < 2 ^ 63
   extent-small few =
       let quotient = div-le_self 2097152 (max 1 nfa.accounted) in
       let count = ap length of.states in
       let most = rows in
-      let product = mul-le (s.end + 1 - s.first) (length s.states.now) 2097152 2147483647 (omega arith) (omega arith) in
+      let product = mul-le (s.end + 1 - s.first) (length s.states.now) 2097152 id_limit (omega arith) (omega arith) in
       omega arith
 
   -- and a cache that serves the engine has room for them,

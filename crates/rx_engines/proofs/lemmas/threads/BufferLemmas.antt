@@ -1,6 +1,6 @@
 -- The buffers of a search.
 use Rattle.std.proofs.Common.{◌≡◌, ℕ, [], sym, ◌∙◌, ap}
-use Rattle.rx_engines.specs.Buffers.{KeepsRoom, AreAlike, room_for}
+use Rattle.rx_engines.specs.Buffers.{KeepsRoom, AreAlike, held_by, room_for}
 use Rattle.rx_engines.specs.declared.pikevm.buffers.Buffers.{Buffers}
 
 pub keeps-twice : {a b c : Buffers} → KeepsRoom a b → KeepsRoom b c → KeepsRoom a c
@@ -22,6 +22,6 @@ alike-kept {a} {b} alike x empty = record {
 }
 
 -- and so does the room of a cache
-pub room-kept : {a b : Buffers} (memory : ℕ) → KeepsRoom a b → room_for b memory ≡ room_for a memory
-room-kept {a} {b} memory x =
-    λ j. record { states = (x.even j).0; cells = (x.even j).1.1; stack = x.stack j; slots = x.best j; memory = memory }
+pub room-kept : {a b : Buffers} (memory : ℕ) → KeepsRoom a b → held_by a ≡ 0 → held_by b ≡ 0 → room_for b memory ≡ room_for a memory
+room-kept {a} {b} memory x none none' =
+    λ j. record { states = (x.even j).0; cells = (x.even j).1.1; stack = x.stack j; slots = x.best j; memory = memory; held = (none' ∙ sym none) j }

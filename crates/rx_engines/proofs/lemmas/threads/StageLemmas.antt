@@ -16,7 +16,7 @@ use Rattle.rx_nfa.proofs.lemmas.runs.AutomatonLemmas.{automaton-bounded, automat
 use Rattle.rx_nfa.proofs.lemmas.runs.NextMatchLemmas.{first_start-from}
 use Rattle.rx_engines.specs.Walk.{Slots}
 use Rattle.rx_engines.specs.Threads.{Row}
-use Rattle.rx_engines.specs.Simulation.{Hit, hit_of, best_hit, until, among, from_starts, later_starts, MayPass}
+use Rattle.rx_engines.specs.Simulation.{Hit, hit_of, best_hit, until, among, later_starts, MayPass}
 use Rattle.rx_engines.specs.Search.{graph_until, may_start, next_until, next_of, first_place, answer_of}
 use Rattle.rx_engines.specs.declared.search.Search.{Search}
 use Rattle.rx_engines.specs.declared.pikevm.step.Accepted.{Accepted}
@@ -133,9 +133,8 @@ module _ (offered : ℕ → Bool) (s : Search) (width : ℕ) where
       passed None (q ∷ qs) none empty value = absurd (let e = ap length empty in omega arith)
       passed None [] none empty value =
           let place : i + (k - i) ≡ k = omega arith in
-          ap (λ m. option_map (hit_of width) m)
-          (sym (starts-skip offered s end width (passed_at [] i) (k - i) i (λ j low high. none_offered j low (omega arith))
-          ∙ ap (from_starts offered s end (passed_at [] i)) place)) ∙ value
+          sym (starts-skip offered s end width (passed_at [] i) (k - i) i (λ j low high. none_offered j low (omega arith))
+          ∙ ap (λ j. later_starts offered s end width None j (passed_at [] i)) place) ∙ value
 
   -- and where that leads past the end, there is no match
   pub stage-passed_over : (end : ℕ) (best : Option MatchValue) (slots : Slots) (items : List ℕ) (rows : List Row) (i k : ℕ) → i < k → end < k → {m : Bool}
@@ -152,10 +151,9 @@ module _ (offered : ℕ → Bool) (s : Search) (width : ℕ) where
       passed None [] none empty value =
           let place : i + (k - i) ≡ k = omega arith in
           map-none (hit_of width) (next_until offered s end)
-          (sym (sym (ap (option_map (hit_of width))
-          (starts-skip offered s end width nowhere (k - i) i (λ j low high. none_offered j low (omega arith))
-          ∙ ap (from_starts offered s end nowhere) place
-          ∙ starts-beyond offered s end width k over)) ∙ value))
+          (sym (sym (starts-skip offered s end width nowhere (k - i) i (λ j low high. none_offered j low (omega arith))
+          ∙ ap (λ j. later_starts offered s end width None j nowhere) place
+          ∙ starts-beyond offered s end width k over) ∙ value))
 
   -- no thread is left, and there is a match
   pub stage-matched : (end : ℕ) (best : Option MatchValue) (slots : Slots) (items : List ℕ) (rows : List Row) (i : ℕ) → items ≡ [] → is_some best ≡ true
@@ -208,7 +206,7 @@ module _ (offered : ℕ → Bool) (s : Search) (width : ℕ) where
   stage-silent f slots old items rows i accepts none unmatched value =
       map-none (hit_of width) (next_until offered s i)
       (sym (sym (ap (λ o. option_or o (later_starts offered s i width None (i + 1) nowhere)) (accepts ∙ ap (λ o. best_hit (option_map (until i) o) slots) none)
-      ∙ ap (option_map (hit_of width)) (starts-beyond offered s i width (i + 1) (omega arith)))
+      ∙ starts-beyond offered s i width (i + 1) (omega arith))
       ∙ (rw unmatched at value)))
 
 -- the search stops at the first place by which a match ends

@@ -7,58 +7,33 @@ use Rattle.std.proofs.lemmas.List.{get_or_past}
 use Rattle.std.proofs.lemmas.List.Elements.{All-get_or, All-nil, All-cons, All-append}
 use Rattle.std.proofs.lemmas.Option.{get_or_from_slice_get, slice_get_within}
 use Rattle.rx_model.specs.Look as model
-use Rattle.rx_model.specs.Runs.{Sieve, sieved, PriorityGraph, Passed, nowhere, and_at, Trace, found, NeverFalls}
+use Rattle.rx_model.specs.Runs.{Sieve, sieved, PriorityGraph, nowhere, Trace, found}
 use Rattle.rx_model.specs.Search.{Anchor, free, anchored, anchored_to, is_anchored, is_permitted, first_start, starts}
 use Rattle.rx_model.proofs.lemmas.runs.RunLemmas.{by_test}
 use Rattle.rx_model.proofs.lemmas.runs.FirstLemmas.{some-is}
-use Rattle.rx_model.proofs.lemmas.runs.FoundLemmas.{found-prune, found-forget, option_map-or}
 use Rattle.rx_model.proofs.lemmas.graphs.SieveLemmas.{sieved-bounded, sieved-rises, sieved-none}
 use Rattle.rx_model.proofs.lemmas.runs.OptionLemmas.{or-assoc, or-none_right}
 use Rattle.rx_search.specs.Matches.{HalfMatchValue, half_match_value}
 use Rattle.rx_nfa.specs.Automaton.{at, automaton, automaton_over, state_at, state_accepts, NamesBelow, Surroundings, forwards}
 use Rattle.rx_nfa.specs.Nfa.{Nfa, IsInRange}
 use Rattle.rx_nfa.specs.NextMatch.{start_of, first_from, next_match_of}
-use Rattle.rx_nfa.specs.Ordered.{passed_at, AreBelow, IsStable, half, tell, first_on, threads_from, close, targets, accepts_at, cut, match_here, HasSteps, first_of_starts, where_there, begun, list_search, list_search_of}
+use Rattle.rx_nfa.specs.Ordered.{AreBelow, half, tell, first_on, threads_from, close, targets, accepts_at, cut, match_here, HasSteps, where_there, begun, list_search, list_search_of}
 use Rattle.rx_nfa.specs.declared.state.State.{State}
 use Rattle.rx_nfa.specs.declared.state.State.TheVariants.{Fail}
 use Rattle.rx_nfa.proofs.lemmas.runs.AutomatonLemmas.{automaton-bounded, automaton-rises, automaton-successors, automaton-accepted, automaton-accepted-beyond}
 use Rattle.rx_nfa.proofs.lemmas.lists.ClosureLemmas.{threads-first, close-below, resting-below}
 use Rattle.rx_nfa.proofs.lemmas.lists.ListLemmas.{first_told-append}
-use Rattle.rx_nfa.proofs.lemmas.runs.NextMatchLemmas.{first_start-alike}
-use Rattle.rx_nfa.proofs.lemmas.lists.PlaceLemmas.{passed_at-elsewhere}
+use Rattle.rx_nfa.proofs.lemmas.lists.StageLemmas.{told_next, told_at, told_next-here, told_next-not_here, told_next-none}
 use Rattle.rx_nfa.proofs.lemmas.lists.TargetLemmas.{targets-below, cut-below, step-first, end-first}
 
 -- The starts to come.
 
 module _ (g : PriorityGraph) (may : ℕ → Bool) (start : ℕ) where
-  pub first_of_starts-stable : (n i : ℕ) → IsStable g (first_of_starts g may start n i)
-  first_of_starts-stable n i p x none =
-      first_start-alike may (λ j. found g p (at start j)) (λ j. found g (and_at x p) (at start j)) n i (λ j le. found-prune g p x (at start j) none)
-
-  -- what was passed before a start doesn't matter
-  pub first_of_starts-forget : NeverFalls g → (items : List ℕ) (n i : ℕ) → first_of_starts g may start n (i + 1) (passed_at items i) ≡ first_of_starts g may
-      start n (i + 1) nowhere
-  first_of_starts-forget rises items n i =
-      first_start-alike may (λ j. found g (passed_at items i) (at start j)) (λ j. found g nowhere (at start j)) n (i + 1)
-      (λ j le. found-forget g rises (passed_at items i) nowhere (at start j) (λ d above. passed_at-elsewhere items i d (λ e. omega arith)))
-
-  -- a match may start here
-  pub first_of_starts-here : (n i : ℕ) (p : Passed) → may i ≡ true
-      → first_of_starts g may start (suc n) i p ≡ option_or (option_map (λ t. record { start = i; trace = t }) (found g p (at start i)))
-      (first_of_starts g may start n (i + 1) p)
-  unfolding first_start
-  first_of_starts-here n i p allowed = rw allowed refl
-
-  -- or none may
-  pub first_of_starts-not_here : (n i : ℕ) (p : Passed) → may i ≡ false → first_of_starts g may start (suc n) i p ≡ first_of_starts g may start n (i + 1) p
-  unfolding first_start
-  first_of_starts-not_here n i p forbidden = rw forbidden refl
-
   -- the pattern and the end of the match
   abbrev pub told_later : (n i : ℕ) → Option HalfMatchValue
-  told_later n i = option_map half_match_value (first_of_starts g may start n i nowhere)
+  told_later n i = told_next half_match_value g may start n i nowhere
 
-  half-start : (i : ℕ) (o : Option Trace) → option_map half_match_value (option_map (λ t. record { start = i; trace = t }) o) ≡ option_map half o
+  half-start : (i : ℕ) (o : Option Trace) → told_at half_match_value i o ≡ option_map half o
   half-start i None = refl
   half-start i (Some t) = refl
 
@@ -66,10 +41,8 @@ module _ (g : PriorityGraph) (may : ℕ → Bool) (start : ℕ) where
   begun-first : (n i : ℕ) (b : Bool) → may i ≡ b → option_or (first_on g nowhere i (begun start b)) (told_later n (i + 1)) ≡ told_later (suc n) i
   begun-first n i true allowed =
       (λ k. option_or ((or-none_right (tell g nowhere i start) ∙ sym (half-start i (found g nowhere (at start i)))) k) (told_later n (i + 1)))
-      ∙ sym (ap (option_map half_match_value) (first_of_starts-here n i nowhere allowed)
-      ∙ option_map-or half_match_value (option_map (λ t. record { start = i; trace = t }) (found g nowhere (at start i)))
-      (first_of_starts g may start n (i + 1) nowhere))
-  begun-first n i false forbidden = ap (option_map half_match_value) (sym (first_of_starts-not_here n i nowhere forbidden))
+      ∙ sym (told_next-here half_match_value g may start n i nowhere allowed)
+  begun-first n i false forbidden = sym (told_next-not_here half_match_value g may start n i nowhere forbidden)
 
   -- It stands behind the others on the list.
   pub seeded-first : (n i : ℕ) (loops : Bool) (qs : List ℕ)
@@ -83,8 +56,7 @@ module _ (g : PriorityGraph) (may : ℕ → Bool) (start : ℕ) where
       ap (λ o. option_or o None) (first_told-append (tell g nowhere i) qs [] ∙ or-none_right (first_on g nowhere i qs))
 
   pub told_later-none : (i : ℕ) → told_later zero i ≡ None
-  unfolding first_start
-  told_later-none i = refl
+  told_later-none i = told_next-none half_match_value g may start i nowhere
 
 pub where_there-none : {A : Type 0} (b : Bool) → where_there {A = A} b None ≡ None
 where_there-none true = refl
@@ -95,7 +67,7 @@ begun-below n start true lt = All-cons (λ q. q < n) start [] lt (All-nil (λ q.
 begun-below n start false lt = All-nil (λ q. q < n)
 
 -- One place: what the threads lead to over the byte, what matches here, and what comes later.
-pub place-parts : (loops : Bool) (reads here later best : Option HalfMatchValue)
+place-parts : (loops : Bool) (reads here later best : Option HalfMatchValue)
     → option_or (option_or reads (where_there (loops && not (is_some here)) later)) (option_or here best)
     ≡ option_or (option_or (option_or reads here) (where_there loops later)) best
 place-parts true (Some r) here later best = refl
