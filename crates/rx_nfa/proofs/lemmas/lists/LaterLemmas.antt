@@ -67,7 +67,7 @@ begun-below n start true lt = All-cons (λ q. q < n) start [] lt (All-nil (λ q.
 begun-below n start false lt = All-nil (λ q. q < n)
 
 -- One place: what the threads lead to over the byte, what matches here, and what comes later.
-place-parts : (loops : Bool) (reads here later best : Option HalfMatchValue)
+pub place-parts : (loops : Bool) (reads here later best : Option HalfMatchValue)
     → option_or (option_or reads (where_there (loops && not (is_some here)) later)) (option_or here best)
     ≡ option_or (option_or (option_or reads here) (where_there loops later)) best
 place-parts true (Some r) here later best = refl
