@@ -6,6 +6,8 @@ mod backwards;
 #[cfg(test)]
 mod config;
 #[cfg(test)]
+mod literals;
+#[cfg(test)]
 mod reader;
 #[cfg(test)]
 mod syntax;
