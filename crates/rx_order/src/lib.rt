@@ -1,10 +1,10 @@
-//! When the first confirmed candidate of a search for a literal begins the earliest match.
+//! Whether the first confirmed candidate of a search for a literal begins the earliest match.
 //!
-//! A literal that ends every match, or stands within each, is searched for; where it lies, what is before it is
-//! searched backwards. The first place so confirmed gives the next match only where no other match starts
-//! earlier. specs/Order.antt says this as a relation over what expressions mean, free of any search;
-//! specs/Tests.antt has the tests of an expression that answer yes where it is so. Each function below is a law:
-//! its contract says it, and its body does nothing.
+//! A literal that ends every match, or lies within each, is searched for; where it lies, what is before it is searched
+//! backwards. The first place so confirmed gives the next match only where no other match starts earlier.
+//! specs/Order.antt says this as a relation over what expressions mean, free of any search; specs/Tests.antt has the
+//! tests of an expression that answer yes where it is so. The functions decide these tests, and laws say what they
+//! tell. It stands on rx_hir.
 #![tactic(auto)]
 
 mod consumed;
