@@ -1,0 +1,5 @@
+pub mod Order
+pub mod Tests
+pub mod Strip
+pub mod Inner
+pub mod Places
