@@ -1,2 +1,4 @@
 pub mod MachineLemmas
 pub mod StackLemmas
+pub mod TemplateLemmas
+pub mod InterpolationLemmas

@@ -1,2 +1,4 @@
 pub mod PoolMachine
 pub mod Stack
+pub mod Template
+pub mod Interpolation

@@ -1,0 +1,4 @@
+pub mod Draws
+pub mod DrawSeats
+pub mod Slots
+pub mod SlotSeats
