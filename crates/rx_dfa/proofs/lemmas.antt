@@ -10,3 +10,4 @@ pub mod ListLemmas
 pub mod CloseLemmas
 pub mod ThreadLemmas
 pub mod KeyLemmas
+pub mod AlphabetLemmas

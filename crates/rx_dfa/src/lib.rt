@@ -4,6 +4,7 @@
 //! stand.
 #![tactic(auto)]
 
+pub mod alphabet;
 mod automaton;
 mod beside;
 mod close;
