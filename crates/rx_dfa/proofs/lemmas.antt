@@ -10,3 +10,5 @@ pub mod ListLemmas
 pub mod CloseLemmas
 pub mod ThreadLemmas
 pub mod KeyLemmas
+pub mod KeyRowLemmas
+pub mod ChainLemmas

@@ -5,3 +5,6 @@ pub mod Beside
 pub mod StateKey
 pub mod Scratch
 pub mod Source
+pub mod KeyRow
+pub mod Hash
+pub mod KeySet

@@ -8,6 +8,7 @@ mod automaton;
 mod beside;
 mod close;
 pub mod determinize;
+mod lazy;
 pub mod scratch;
 mod search;
 pub mod state_key;
