@@ -11,3 +11,5 @@ pub mod CloseLemmas
 pub mod ThreadLemmas
 pub mod KeyLemmas
 pub mod AlphabetLemmas
+pub mod KeyRowLemmas
+pub mod ChainLemmas

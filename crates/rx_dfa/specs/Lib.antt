@@ -8,3 +8,6 @@ pub mod Source
 pub mod Alphabet
 pub mod States
 pub mod Table
+pub mod KeyRow
+pub mod Hash
+pub mod KeySet
