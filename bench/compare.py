@@ -8,7 +8,8 @@ Build the program first: `cd crates/rxscan && rt run`. Each input is made from a
 places of the matches of one pattern; Python's `re` prints the places of the matches and their groups. The jobs of an
 input take turns, each five times, and the least processor time of each counts. All print into a file, since `grep` stops
 at the first match where it prints into the null device. A ratio is rxscan's time over the tool's: below 1, rxscan is the
-faster one. The rows of the other programs are compared with rxscan's.
+faster one. The first column of ratios is beside `rxscan scan off:p`, which makes no prefilter. Its rows, and those of the
+other programs, are compared with rxscan's.
 """
 import os
 import random
@@ -89,7 +90,7 @@ def main():
     if not os.path.exists(program):
         sys.exit('build the program first: cd crates/rxscan && rt run')
     others = [os.path.abspath(path) for path in sys.argv[3:]]
-    tools = ['grep -aobE', 'Python re'] + [os.path.basename(path) for path in others]
+    tools = ['off:p', 'grep -aobE', 'Python re'] + [os.path.basename(path) for path in others]
     print('| input | pattern | ns a byte | %s |' % ' | '.join('rxscan / ' + tool for tool in tools))
     print('|---' * (3 + len(tools)) + '|')
     with tempfile.TemporaryDirectory() as folder:
@@ -97,15 +98,16 @@ def main():
             hay, given = os.path.join(folder, 'hay'), os.path.join(folder, 'given')
             open(hay, 'w').write(text)
             open(given, 'w').write(pattern + '\n\n' + text)
-            told = [os.path.join(folder, 'told%d' % number) for number in range(3 + len(others))]
+            told = [os.path.join(folder, 'told%d' % number) for number in range(4 + len(others))]
             jobs = [
                 ([program, 'scan'], given, told[0]),
-                (['grep', '-aobE', pattern, hay], os.devnull, told[1]),
-                ([sys.executable, '-c', PYTHON, pattern, hay], os.devnull, told[2]),
+                ([program, 'scan', 'off:p'], given, told[1]),
+                (['grep', '-aobE', pattern, hay], os.devnull, told[2]),
+                ([sys.executable, '-c', PYTHON, pattern, hay], os.devnull, told[3]),
             ]
-            jobs += [([other, 'scan'], given, path) for other, path in zip(others, told[3:])]
+            jobs += [([other, 'scan'], given, path) for other, path in zip(others, told[4:])]
             ours, *theirs = least_times(jobs)
-            if any(contents(path) != contents(told[0]) for path in told[3:]):
+            if any(contents(path) != contents(told[0]) for path in [told[1], *told[4:]]):
                 sys.exit('%s: the programs print different rows' % name)
             ratios = ' | '.join('%.2f' % (ours / other) for other in theirs)
             figure = '%.2f' % (ours * 1e9 / len(text))

@@ -23,7 +23,7 @@ pub agree : (nfa : Nfa) (v : InputValue) → v.end ≤ length v.haystack → (r 
 agree nfa v within r of = next_match_of-patterns nfa r v.haystack v.end within of.runs nfa.utf8 v.anchor v.start of.utf8
 
 -- where matches are told, each is told whole
-told_of-whole : (w : WhichCaptures) → tells w ≡ true → (m : Match) → told_of w m ≡ m
+pub told_of-whole : (w : WhichCaptures) → tells w ≡ true → (m : Match) → told_of w m ≡ m
 told_of-whole all e m = refl
 told_of-whole implicit e m = refl
 told_of-whole none e m = cc

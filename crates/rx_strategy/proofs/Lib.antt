@@ -1,5 +1,6 @@
 pub mod NeedleLemmas
 pub mod AnswerLemmas
+pub mod SpanLemmas
 pub mod StrategyLemmas
 pub mod ImpossibleLemmas
 pub mod InfoLemmas

@@ -3,5 +3,6 @@ pub mod Impossible
 pub mod Prefilter
 pub mod Core
 pub mod Nofail
+pub mod Span
 pub mod Strategy
 pub mod Cache

@@ -10,6 +10,7 @@ mod found;
 mod info;
 mod laws;
 mod prefilter;
+mod span;
 mod strategy;
 mod threads;
 

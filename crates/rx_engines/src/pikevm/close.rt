@@ -295,7 +295,7 @@ fn enter(
 
 /// As `arrive`, from a state that does not rest. Past states that write slots the thread is led on at once: nothing is left
 /// to come back to, so no old value is kept.
-#[inline(never)]
+#[inline(always)]
 fn lead_on(
     search: &Search<'_>,
     from: StateID,

@@ -100,6 +100,7 @@ pub fn step(search: &Search<'_>, place: usize, buffers: &mut Buffers) -> Option<
 }
 
 /// As `step`, from one list to the other.
+#[inline(always)]
 fn step_over(
     search: &Search<'_>,
     place: usize,

@@ -23,6 +23,7 @@ use crate::cache::Cache;
 use crate::config::{Config, shared};
 use crate::info::RegexInfo;
 use crate::prefilter::memory_usage as accounted;
+use crate::span::leave_span;
 use rx_engines::backtrack::{self, BoundedBacktracker};
 use rx_engines::empty;
 use rx_engines::pikevm::PikeVM;
@@ -226,10 +227,40 @@ impl Core {
         ensures memory { memory_of cache.new ≡ memory_of cache.old }
     {
         if self.tells() {
-            return self.search_nofail(cache, input, slots);
+            return self.search_told(cache, input, slots);
         }
         empty(slots);
         None
+    }
+
+    /// The same, where matches are told. An engine keeps no slots where those that are asked for tell the match's span alone,
+    /// which is known of the match.
+    fn search_told(
+        &self,
+        cache: &mut Cache,
+        input: &Input<'_>,
+        slots: &mut [Option<NonMaxUsize>],
+    ) -> Option<Match>
+        requires fits { FitsCore self.now cache.old }
+        requires spanned { IsSpanned input.now }
+        requires told { tells self.now.which_captures ≡ true }
+        ensures answer { IsAnswer (IsCoreFor self.now) self.now.pre self.now.kind input.now match_value result }
+        ensures slots { AreSlotsOfAnswer (IsCoreFor self.now) self.now.pre self.now.kind input.now match_value slots.new result }
+        ensures within { IfSome result (LiesIn input.now) }
+        ensures in_range { IfSome result (λ m. m.pattern < length self.now.nfa.starts) }
+        ensures none { IfNone result (slots.new ≡ replicate (length slots.old) None) }
+        ensures slots_within { AreWithin input.now slots.new }
+        ensures cache { FitsCore self.now cache.new }
+        ensures memory { memory_of cache.new ≡ memory_of cache.old }
+    {
+        // Two slots a pattern (DECISIONS: where a match's span is asked for alone, an engine keeps no slots).
+        if slots.len() > 2 * self.get_nfa().pattern_len() {
+            return self.search_nofail(cache, input, slots);
+        }
+        let _haystack = input.haystack();
+        let found = self.search_nofail(cache, input, &mut []);
+        leave_span(&found, slots);
+        found
     }
 
     /// Whether matches are told.
