@@ -583,6 +583,22 @@ fn searches_begin_at_candidates(rt: HostRuntime) -> Result<(), Fail> {
     Ok(())
 }
 
+/// The pattern matches wherever a thread begins, so a search answers the candidate that it asked for first. Searches from
+/// behind each of them tell all that are asked for in a haystack: the places at which the needle lies, and no others.
+#[test]
+fn engines_ask_for_candidates(rt: HostRuntime) -> Result<(), Fail> {
+    let alloc = rt.alloc();
+    let text = b"xbxxbb";
+    sought(&rt, alloc, "", b"b", &Input::new(text), "0: 1..1")?;
+    let rest = Input::new(text).range(2..6);
+    sought(&rt, alloc, "", b"b", &rest, "0: 4..4")?;
+    let rest = Input::new(text).range(5..6);
+    sought(&rt, alloc, "", b"b", &rest, "0: 5..5")?;
+    let rest = Input::new(text).range(6..6);
+    sought(&rt, alloc, "", b"b", &rest, "none")?;
+    one(&rt, alloc, "", "xbxxbb", "0: 0..0")
+}
+
 /// While a thread is alive the PikeVM asks no prefilter: a thread starts where a byte can begin a run. A needle that does not
 /// begin each match shows it.
 #[test]

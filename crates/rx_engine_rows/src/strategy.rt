@@ -247,6 +247,34 @@ fn span_in(
     told(found.expect(rt, "memory"))
 }
 
+/// Where a search of the haystack begins under the configuration. The expression matches wherever a thread begins, so the
+/// search answers the candidate that its engine asked for first.
+fn asked_for(
+    rt: &impl Abort,
+    alloc: Global,
+    config: &Config,
+    haystack: &[u8],
+) -> Option<(usize, usize)> {
+    let strategy = strategy_of(rt, alloc, config, Ok(Hir::empty()));
+    let mut cache = cache_of(rt, alloc, &strategy);
+    span_in(rt, &strategy, &mut cache, haystack)
+}
+
+#[test]
+fn a_strategy_asks_for_candidates(rt: HostRuntime) {
+    let alloc = rt.alloc();
+    for backtrack in [true, false] {
+        let given = handing_in(&rt, alloc, b"b", b"c").backtrack(backtrack);
+        let asked = asked_for(&rt, alloc, &given, b"aac");
+        assert_eq!(rt; asked, Some((2, 2)));
+        let asked = asked_for(&rt, alloc, &given, b"aaa");
+        assert_eq!(rt; asked, None);
+        let none = Config::new().backtrack(backtrack);
+        let asked = asked_for(&rt, alloc, &none, b"aac");
+        assert_eq!(rt; asked, Some((0, 0)));
+    }
+}
+
 /// The end of the match in the haystack.
 fn end_in(rt: &impl Abort, strategy: &Strategy, cache: &mut Cache, haystack: &[u8]) -> Option<usize>
     requires { Fits strategy.now cache.old }
