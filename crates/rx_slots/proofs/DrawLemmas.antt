@@ -1,5 +1,5 @@
 -- Each step of `Draws` keeps its rule.
-use Rattle.std.proofs.Common.{◌≡◌, ◌≢◌, ℕ, zero, suc, ◌+◌, ◌-◌, ◌%◌, ◌^◌, ◌<◌, ◌≤◌, ◌==◌, ◌⊎◌, inl, inr, ⊎_elim, Bool, true, false, true≢false, nat_lt, min, List, [], ◌∷◌, ◌++◌, length, length-set, length-append, get_or, get_or-set_same, slice_index, set, sym, refl, ap, ◌∙◌, subst, arith, count_by, if◌then◌else◌}
+use Rattle.std.proofs.Common.{◌≡◌, ℕ, zero, suc, ◌+◌, ◌%◌, ◌^◌, ◌<◌, ◌≤◌, ◌==◌, ⊎_elim, true, false, true≢false, min, List, [], ◌∷◌, ◌++◌, length, length-set, length-append, get_or, get_or-set_same, slice_index, set, sym, refl, ap, ◌∙◌, arith, count_by, if◌then◌else◌}
 use Rattle.std.specs.List.{sum_by}
 use Rattle.std.proofs.Math.Nat.{mod-eq_of_lt}
 use Rattle.std.proofs.lemmas.List.Sums.{sum_by-cons}
@@ -7,7 +7,7 @@ use Rattle.std.proofs.lemmas.Bool.{cases_lt}
 use Rattle.std.proofs.lemmas.Bool.Decides.{nat_tests}
 use mathlib.Core.Option.{some, none, some-injective, some-ne-none}
 use lib.ListN.{get_elem?}
-use Rattle.atomic_table.specs.Table.{State, Me, Step, step, keeps, Allows, Splits, opening, stepped}
+use Rattle.atomic_table.specs.Table.{State, step, keeps, Allows, Splits, opening, stepped}
 use Rattle.atomic_table.proofs.Lists.{at_set, at_snoc}
 use Rattle.rx_slots.specs.declared.draws.Bounds.{Bounds}
 use Rattle.rx_slots.specs.declared.draws.DrawView.{DrawView}

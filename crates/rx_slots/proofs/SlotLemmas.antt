@@ -1,20 +1,18 @@
 -- Each step of a `SlotPool` keeps its rule.
-use Rattle.std.proofs.Common.{◌≡◌, ◌≢◌, ℕ, zero, suc, ◌+◌, ◌-◌, ◌*◌, ◌/◌, ◌%◌, ◌^◌, ◌<◌, ◌≤◌, ◌==◌, ◌⊎◌, inl, inr, ⊎_elim, List, [], ◌∷◌, ◌++◌, map, length, length-set, get_or, get_or-set_same, get_or-set_other, slice_index, slice_set, set, drop, replicate, sym, refl, ap, ◌∙◌, subst, arith, count_by, bit_or, Option, Some, None, if◌then◌else◌}
+use Rattle.std.proofs.Common.{◌≡◌, ◌≢◌, ℕ, zero, suc, ◌+◌, ◌/◌, ◌%◌, ◌<◌, ◌≤◌, ◌==◌, ⊎_elim, List, [], ◌∷◌, ◌++◌, map, length, length-set, get_or-set_same, get_or-set_other, slice_index, slice_set, set, drop, replicate, sym, refl, ap, ◌∙◌, subst, arith, count_by, bit_or, Option, Some, None, if◌then◌else◌}
 use Rattle.std.specs.List.{sum_by}
 use Rattle.std.proofs.lemmas.List.{length-map, length-replicate}
 use Rattle.std.proofs.lemmas.List.Sums.{sum_by-cons}
-use Rattle.std.proofs.lemmas.Bool.{cases_lt}
 use lib.Bits.{or_step, or_zero_r}
-use mathlib.Core.Option as maybe
 use mathlib.Core.Option.{some, none, some-injective, some-ne-none}
 use mathlib.Core.Logic.{dite}
 use native.Mathlib.Decide.{ℕ_discrete}
 use lib.ListN.{get_elem?}
-use Rattle.atomic_table.specs.Table.{State, Me, Act, Step, step, rest, keeps, takes, gives, homes_after, carried_after, Allows, Splits, Joins, opening, stepped}
+use Rattle.atomic_table.specs.Table.{State, Me, Act, step, rest, keeps, takes, gives, homes_after, Allows, Splits, Joins, opening, stepped}
 use Rattle.atomic_table.proofs.Lists.{at_set, at_snoc, set_here, set_else, set_again}
 use Rattle.rx_slots.specs.declared.slot_pool.SlotView.{SlotView}
 use Rattle.rx_slots.specs.Slots.{new_view, taken, refused, put_back, joined, moves_of, holds_of, AreAt, AreNotAbove, IsNotBelow, Turns, Carries, Takes, Puts}
-use Rattle.rx_slots.proofs.Views.{sum_changes, sum_gains, at_get, at_least, times_cons, times_append, firsts_cons, firsts_append, is_one, is_none}
+use Rattle.rx_slots.proofs.Views.{sum_changes, sum_gains, at_least, times_cons, times_append, firsts_cons, firsts_append, is_one, is_none}
 
 -- Numbers
 

@@ -4,7 +4,7 @@ use Rattle.std.proofs.Math.Seq.{drop-cons}
 use Rattle.std.proofs.lemmas.List.{drop_all}
 use Rattle.std.specs.Prelude.{true, false, Option, Some, None, option_map, All, nat_lt}
 use Rattle.std.specs.Option.{option_or}
-use Rattle.rx_model.specs.Runs.{PriorityGraph, Passed, nowhere, and_at, same, Trace, with_write, found, IsBounded, NeverFalls}
+use Rattle.rx_model.specs.Runs.{PriorityGraph, Passed, nowhere, and_at, same, with_write, found, IsBounded, NeverFalls}
 use Rattle.rx_model.proofs.lemmas.runs.RunLemmas.{by_test}
 use Rattle.rx_model.proofs.lemmas.runs.FoundLemmas.{found-accepted, found-prune}
 use Rattle.std.proofs.lemmas.List.Elements.{All-nil, All-cons}

@@ -1,6 +1,6 @@
 -- Threads that add none: from a state that comes, past states that write slots, to one that was passed.
-use Rattle.std.proofs.Common.{◌≡◌, ℕ, ◌≤◌, ◌<◌, List, [], ◌∷◌, length, refl, sym, ◌∙◌, ap}
-use Rattle.std.specs.Prelude.{true, false, Some, None, option_map}
+use Rattle.std.proofs.Common.{◌≡◌, ℕ, ◌≤◌, ◌<◌, List, length, ◌∙◌, ap}
+use Rattle.std.specs.Prelude.{true, false, None, option_map}
 use Rattle.std.specs.Option.{option_or}
 use Rattle.rx_model.specs.Runs.{PriorityGraph, Passed, and_at, first_some, with_write, found}
 use Rattle.rx_model.proofs.lemmas.runs.RunLemmas.{by_test, and_at-self, and_at-kept}

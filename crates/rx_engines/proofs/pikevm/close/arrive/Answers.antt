@@ -1,7 +1,7 @@
-use Rattle.std.proofs.Common.{◌≡◌, ◌<◌, ◌++◌, [], List, length, refl, sym, ◌∙◌, ap, arith}
-use Rattle.std.specs.Prelude.{true, false, map}
+use Rattle.std.proofs.Common.{◌≡◌, [], refl, sym, ◌∙◌, ap}
+use Rattle.std.specs.Prelude.{false, map}
 use Rattle.std.proofs.lemmas.List.{append-nil}
-use Rattle.rx_nfa.specs.Automaton.{at, forwards, state_at}
+use Rattle.rx_nfa.specs.Automaton.{at, forwards}
 use Rattle.rx_nfa.specs.Ordered.{has, is_resting}
 use Rattle.rx_nfa.proofs.lemmas.runs.AutomatonLemmas.{automaton-bounded}
 use Rattle.rx_nfa.proofs.lemmas.runs.StateLemmas.{state-known, names-known}
