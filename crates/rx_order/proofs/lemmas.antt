@@ -16,3 +16,7 @@ pub mod LoopLemmas
 pub mod PartLoopLemmas
 pub mod MemberLemmas
 pub mod PlaceLemmas
+pub mod LeftLemmas
+pub mod LooseLemmas
+pub mod RestLemmas
+pub mod AlternationLemmas

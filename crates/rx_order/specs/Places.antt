@@ -1,6 +1,6 @@
 -- Which part of a concatenation consumes last, or first, and whether it separates.
-use Rattle.std.specs.Prelude.{◌≡◌, ◌≢◌, ℕ, zero, suc, ◌+◌, ◌<◌, ◌&&◌, Bool, true, false, List, length, get_or, take, drop, Option, Some, None}
-use Rattle.rx_model.specs.Expression.{Expression, Expressions, empty}
+use Rattle.std.specs.Prelude.{◌≡◌, ℕ, ◌+◌, ◌<◌, ◌&&◌, Bool, true, false, List, length, get_or, take, drop, Option, Some, None}
+use Rattle.rx_model.specs.Expression.{Expression, empty}
 use Rattle.rx_hir.specs.Length.{maximum_len, sum_of_maximum_len}
 use Rattle.rx_hir.specs.Normal.{is_zero, expressions}
 use Rattle.rx_order.specs.Tests.{all_apart, separator_class, passes, literals_are_apart}
@@ -31,4 +31,4 @@ IsFirstConsuming parts (Some n) = IsConsuming n parts × AreStill (take n parts)
 abbrev pub separates_at : ℕ → List Expression → List (List ℕ) → Bool
 separates_at n parts ls =
     passes (separator_class (part_at n parts))
-        (λ k. (all_apart k (expressions (take n parts)) && all_apart k (expressions (drop (n + 1) parts))) && literals_are_apart k ls)
+    (λ k. (all_apart k (expressions (take n parts)) && all_apart k (expressions (drop (n + 1) parts))) && literals_are_apart k ls)

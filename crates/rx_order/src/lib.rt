@@ -4,16 +4,23 @@
 //! backwards. The first place so confirmed gives the next match only where no other match starts earlier.
 //! specs/Order.antt says this as a relation over what expressions mean, free of any search; specs/Tests.antt has the
 //! tests of an expression that answer yes where it is so. The functions decide these tests, and laws say what they
-//! tell. It stands on rx_hir.
+//! tell. It stands on rx_prefilter.
 #![tactic(auto)]
 
+mod alternation;
 mod consumed;
+mod decision;
+mod inner;
 mod laws;
 mod lengths;
 mod members;
 mod separator;
+mod strip;
 
+pub use alternation::alternation_literals;
 pub use consumed::hir_can_contain_literal;
+pub use decision::{inner_has_no_earlier_match, suffix_has_no_earlier_match};
+pub use inner::InnerPrefilter;
 pub use laws::{
     a_byte_that_is_not_consumed_keeps_the_order, a_first_separator_keeps_the_order,
     a_fixed_length_keeps_the_order, a_last_separator_keeps_the_order,
@@ -24,3 +31,4 @@ pub use laws::{
 };
 pub use lengths::hir_has_fixed_length;
 pub use separator::has_disjoint_class_separator;
+pub use strip::strip_literal_suffix;

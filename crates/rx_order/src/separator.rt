@@ -8,7 +8,8 @@ ghost use Rattle.rx_class.specs.ClassViews.{class_view};
 ghost use Rattle.rx_hir.specs.HirViews.{kind_view};
 ghost use Rattle.rx_hir.specs.Normal.{expressions, is_zero};
 ghost use Rattle.rx_hir.specs.Length.{maximum_len};
-ghost use Rattle.rx_order.specs.Tests.{are_apart, literal_is_apart, is_apart, all_apart, plain_class, separator_class, literals_are_apart, has_last_separator, has_first_separator};
+ghost use Rattle.rx_order.specs.Tests.{are_apart, literal_is_apart, is_apart, all_apart, plain_class, separator_class};
+ghost use Rattle.rx_order.specs.Tests.{literals_are_apart, has_last_separator, has_first_separator};
 ghost use Rattle.rx_order.specs.Places.{IsLastConsuming, IsFirstConsuming, separates_at};
 
 use crate::members::{bytes_are_disjoint, has_no_byte, is_text_without, scalars_are_disjoint};
@@ -33,7 +34,8 @@ pub fn has_disjoint_class_separator(prefix: &Hir, literals: &[Vec<u8>]) -> bool
 }
 
 fn one_separates(parts: &[Hir], literals: &[Vec<u8>]) -> bool
-    ensures { result ≡ (has_last_separator (concat (expressions parts.now)) (map vec_items literals.now) || has_first_separator (concat (expressions parts.now)) (map vec_items literals.now)) }
+    ensures { result ≡ (has_last_separator (concat (expressions parts.now)) (map vec_items literals.now)
+        || has_first_separator (concat (expressions parts.now)) (map vec_items literals.now)) }
 {
     if parts.len() < 2 {
         return false;
@@ -114,7 +116,8 @@ fn separates_at(at: usize, parts: &[Hir], literals: &[Vec<u8>]) -> bool
 }
 
 fn is_apart_from(class: &Class, before: &[Hir], after: &[Hir], literals: &[Vec<u8>]) -> bool
-    ensures { result ≡ ((all_apart (class_view class.now) (expressions before.now) && all_apart (class_view class.now) (expressions after.now)) && literals_are_apart (class_view class.now) (map vec_items literals.now)) }
+    ensures { result ≡ ((all_apart (class_view class.now) (expressions before.now) && all_apart (class_view class.now) (expressions after.now))
+        && literals_are_apart (class_view class.now) (map vec_items literals.now)) }
 {
     if !all_apart(class, before) {
         return false;

@@ -59,7 +59,8 @@ disjoint-not rs (q ∷ qs) c all is =
     ]
 
 module _ (text : List ℕ) where
-  pub scalar-step : (rs : List (ℕ × ℕ)) (i c : ℕ) (b : Bool) → char_at text i ≡ Some c → is_member rs c ≡ b → Step (unit_of text (scalar_ranges rs)) (is_in text (scalar_ranges rs)) b i (i + len_utf8 c)
+  pub scalar-step : (rs : List (ℕ × ℕ)) (i c : ℕ) (b : Bool) → char_at text i ≡ Some c → is_member rs c ≡ b
+      → Step (unit_of text (scalar_ranges rs)) (is_in text (scalar_ranges rs)) b i (i + len_utf8 c)
   scalar-step rs i c b h is = (
     len_utf8 c,
     ap (option_map len_utf8) h,
@@ -67,7 +68,8 @@ module _ (text : List ℕ) where
     refl,
   )
 
-  pub byte-step : (rs : List (ℕ × ℕ)) (i : ℕ) (b : Bool) → i < length text → is_member rs (slice_index text i) ≡ b → Step (unit_of text (byte_ranges rs)) (is_in text (byte_ranges rs)) b i (i + 1)
+  pub byte-step : (rs : List (ℕ × ℕ)) (i : ℕ) (b : Bool) → i < length text → is_member rs (slice_index text i) ≡ b
+      → Step (unit_of text (byte_ranges rs)) (is_in text (byte_ranges rs)) b i (i + 1)
   byte-step rs i b lt is =
       let test : nat_lt i (length text) ≡ true = grind (arith, nat_tests) in (
         1,
@@ -154,7 +156,8 @@ module _ (text : List ℕ) where
   class-out (scalar_ranges rs) (byte_ranges qs) i n apart h = absurd (true≢false (sym apart))
   class-out (byte_ranges rs) (scalar_ranges qs) i n apart h = absurd (true≢false (sym apart))
 
-  bytes-out : (rs : List (ℕ × ℕ)) (bytes rest : List ℕ) (i : ℕ) → drop i text ≡ bytes ++ rest → list_all (λ b. not (is_member rs b)) bytes ≡ true → Row (byte_ranges rs) false i (i + length bytes)
+  bytes-out : (rs : List (ℕ × ℕ)) (bytes rest : List ℕ) (i : ℕ) → drop i text ≡ bytes ++ rest → list_all (λ b. not (is_member rs b)) bytes ≡ true
+      → Row (byte_ranges rs) false i (i + length bytes)
   bytes-out rs [] rest i goes all = row-empty (byte_ranges rs) false i (i + 0) (omega arith)
   bytes-out rs (b ∷ bytes) rest i goes all =
       let both = and_parts (not (is_member rs b)) (list_all (λ c. not (is_member rs c)) bytes) all in
@@ -167,7 +170,8 @@ module _ (text : List ℕ) where
       let ends : i + 1 + length bytes ≡ i + suc (length bytes) = omega arith in
       row-join (byte_ranges rs) false i (i + 1) (i + suc (length bytes)) (row-one (byte_ranges rs) false i (i + 1) step) (subst (Row (byte_ranges rs) false (i + 1)) ends later)
 
-  chars-out : (rs : List (ℕ × ℕ)) (cs rest : List ℕ) (i : ℕ) → all_scalars cs ≡ true → drop i text ≡ encode_utf8_all cs ++ rest → list_all (λ c. not (is_member rs c)) cs ≡ true
+  chars-out : (rs : List (ℕ × ℕ)) (cs rest : List ℕ) (i : ℕ) → all_scalars cs ≡ true → drop i text ≡ encode_utf8_all cs ++ rest
+      → list_all (λ c. not (is_member rs c)) cs ≡ true
       → Row (scalar_ranges rs) false i (i + length (encode_utf8_all cs))
   chars-out rs [] rest i scalars goes all = row-empty (scalar_ranges rs) false i (i + 0) (omega arith)
   chars-out rs (c ∷ cs) rest i scalars goes all =

@@ -12,11 +12,13 @@ two : (c : ℕ) → nat_lt c 128 ≡ false → nat_lt c 2048 ≡ true → encode
 unfolding encode_utf8
 two c e f = rw (e, f) refl
 
-three : (c : ℕ) → nat_lt c 128 ≡ false → nat_lt c 2048 ≡ false → nat_lt c 65536 ≡ true → encode_utf8 c ≡ (224 + c / 4096) ∷ (128 + c / 64 % 64) ∷ (128 + c % 64) ∷ []
+three : (c : ℕ) → nat_lt c 128 ≡ false → nat_lt c 2048 ≡ false → nat_lt c 65536 ≡ true
+    → encode_utf8 c ≡ (224 + c / 4096) ∷ (128 + c / 64 % 64) ∷ (128 + c % 64) ∷ []
 unfolding encode_utf8
 three c e f g = rw (e, f, g) refl
 
-four : (c : ℕ) → nat_lt c 128 ≡ false → nat_lt c 2048 ≡ false → nat_lt c 65536 ≡ false → encode_utf8 c ≡ (240 + c / 262144) ∷ (128 + c / 4096 % 64) ∷ (128 + c / 64 % 64) ∷ (128 + c % 64) ∷ []
+four : (c : ℕ) → nat_lt c 128 ≡ false → nat_lt c 2048 ≡ false → nat_lt c 65536 ≡ false
+    → encode_utf8 c ≡ (240 + c / 262144) ∷ (128 + c / 4096 % 64) ∷ (128 + c / 64 % 64) ∷ (128 + c % 64) ∷ []
 unfolding encode_utf8
 four c e f g = rw (e, f, g) refl
 
@@ -69,8 +71,10 @@ next-byte c q lt =
     of-four (suc (suc (suc q))) lt = absurd (omega arith)
 
 -- a byte of what the text goes on with at i
-pub byte-in : (text : List ℕ) (i : ℕ) (bytes rest : List ℕ) → drop i text ≡ bytes ++ rest → (q : ℕ) → q < length bytes → slice_index text (i + q) ≡ slice_index bytes q
+pub byte-in : (text : List ℕ) (i : ℕ) (bytes rest : List ℕ) → drop i text ≡ bytes ++ rest → (q : ℕ) → q < length bytes
+    → slice_index text (i + q) ≡ slice_index bytes q
 byte-in text i bytes rest e q lt = sym (get_or-drop i text q 0) ∙ ap (λ bs. get_or bs q 0) e ∙ get_or_append_left bytes rest 0 q lt
 
-pub byte-standing : (text : List ℕ) (i : ℕ) (bytes : List ℕ) → stands_at text i bytes ≡ true → (q : ℕ) → q < length bytes → slice_index text (i + q) ≡ slice_index bytes q
+pub byte-standing : (text : List ℕ) (i : ℕ) (bytes : List ℕ) → stands_at text i bytes ≡ true → (q : ℕ) → q < length bytes
+    → slice_index text (i + q) ≡ slice_index bytes q
 byte-standing text i bytes h q lt = byte-in text i bytes (drop (i + length bytes) text) (stands_at_parts text i bytes h) q lt

@@ -117,7 +117,8 @@ first-not x (b ∷ s) e =
     (suc later.0, (let lt = later.1 in omega arith), later.2, before later.0 can later.3))
     (λ not. (0, omega arith, not, λ q lt. absurd (omega arith)))
   where
-    before : (o : ℕ) → can_consume b x ≡ true → ((q : ℕ) → q < o → can_consume (slice_index s q) x ≡ true) → (q : ℕ) → q < suc o → can_consume (slice_index (b ∷ s) q) x ≡ true
+    before : (o : ℕ) → can_consume b x ≡ true → ((q : ℕ) → q < o → can_consume (slice_index s q) x ≡ true) → (q : ℕ) → q < suc o
+        → can_consume (slice_index (b ∷ s) q) x ≡ true
     before o can each zero lt = can
     before o can each (suc q) lt = each q (omega arith)
 

@@ -30,7 +30,8 @@ module _ (t : ℕ) (text : List ℕ) where
     Confirmed c i = IsConfirmedInner t text a b p h ls c i
 
     -- where the candidate at c is not confirmed, p leads to c from nowhere in the span
-    not-confirmed : (c j : ℕ) → (l : List ℕ) × Contains ls l × (stands_at text c l ≡ true) × (c + length l ≤ j) → j ≤ b → ((k : ℕ) → Means t text p k c → Means t text h k j) → ((k : ℕ) → Confirmed c k → ⊥)
+    not-confirmed : (c j : ℕ) → (l : List ℕ) × Contains ls l × (stands_at text c l ≡ true) × (c + length l ≤ j) → j ≤ b
+        → ((k : ℕ) → Means t text p k c → Means t text h k j) → ((k : ℕ) → Confirmed c k → ⊥)
         → (n k : ℕ) → k < n → a ≤ k → Means t text p k c → ⊥
     not-confirmed c j lit le back none zero k lt low m = absurd (omega arith)
     not-confirmed c j lit le back none (suc n) k lt low m =

@@ -35,7 +35,8 @@ splits-suffix h x s is t text i j m =
     let ends = parts.3 in
     (parts.0, parts.1, (s, the-one s, parts.2, omega arith), λ k md. (is t text k j).1 (parts.0, md, parts.2, parts.3))
 
-pub inner-from : (h p q : Expression) (ls : List (List ℕ)) → IsThen h p q → Begins ls q → ((t : ℕ) (text : List ℕ) → IsOrdered t text p ls) → InnerIsNoEarlier h p ls
+pub inner-from : (h p q : Expression) (ls : List (List ℕ)) → IsThen h p q → Begins ls q → ((t : ℕ) (text : List ℕ) → IsOrdered t text p ls)
+    → InnerIsNoEarlier h p ls
 inner-from h p q ls is begins ordered t text a b = inner-no_earlier t text a b h p ls (splits-inner h p q ls is begins t text) (ordered t text)
 
 -- the candidates of a suffix are those of the one literal after the stripped expression

@@ -1,5 +1,5 @@
 -- Tests of the parts of an expression that a loop goes over: what the part at a place adds to those after it.
-use Rattle.std.proofs.Common.{◌≡◌, ℕ, ◌+◌, ◌<◌, ◌≤◌, Bool, true, false, ◌||◌, ◌&&◌, List, length, drop, get_or, ap, ◌∙◌}
+use Rattle.std.proofs.Common.{◌≡◌, ℕ, ◌+◌, ◌<◌, ◌≤◌, true, false, ◌||◌, ◌&&◌, List, length, drop, get_or, ap, ◌∙◌}
 use Rattle.rx_model.specs.Text.{Class}
 use Rattle.rx_model.specs.Expression.{Expression}
 use Rattle.rx_hir.specs.Normal.{expressions}

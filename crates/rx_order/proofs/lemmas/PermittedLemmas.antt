@@ -44,7 +44,8 @@ permitted-byte u text i each =
     (λ f. rw f refl)))
     (λ e. rw e refl)
 
-pub utf8-permitted : (h : Expression) → is_utf8 h ≡ true → ((t : ℕ) (text : List ℕ) (i j : ℕ) → Means t text h i j → i < j) → (r : Patterns) (text : List ℕ) (a b : ℕ) → StartsArePermitted r text a b h
+pub utf8-permitted : (h : Expression) → is_utf8 h ≡ true → ((t : ℕ) (text : List ℕ) (i j : ℕ) → Means t text h i j → i < j)
+    → (r : Patterns) (text : List ℕ) (a b : ℕ) → StartsArePermitted r text a b h
 utf8-permitted h utf8 some r text a b i low m =
     permitted-byte r.utf8_empty text i
     (λ lt big. first-byte text i m.0 (some r.terminator text i m.0 m.2) lt (means-utf8 r.terminator text h utf8 i m.0 m.2) big)
@@ -57,7 +58,8 @@ suffix-some h x s is some t text i j m =
     let ends = parts.3 in
     omega arith
 
-pub inner-some : (h p q : Expression) (ls : List (List ℕ)) → IsThen h p q → Begins ls q → list_all is_not_empty ls ≡ true → (t : ℕ) (text : List ℕ) (i j : ℕ) → Means t text h i j → i < j
+pub inner-some : (h p q : Expression) (ls : List (List ℕ)) → IsThen h p q → Begins ls q → list_all is_not_empty ls ≡ true → (t : ℕ) (text : List ℕ) (i j : ℕ)
+    → Means t text h i j → i < j
 inner-some h p q ls is begins some t text i j m =
     let parts = (is t text i j).0 m in
     let up = means-rises t text p i parts.0 parts.1 in

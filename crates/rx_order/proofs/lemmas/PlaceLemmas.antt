@@ -1,5 +1,5 @@
 -- The part that consumes last, or first, told by its place.
-use Rattle.std.proofs.Common.{◌≡◌, ℕ, zero, suc, ◌+◌, ◌-◌, ◌<◌, ◌≤◌, Bool, true, false, List, [], ◌∷◌, ◌++◌, length, get_or, take, drop, Option, Some, None, refl, sym, ap, subst, ◌∙◌, arith, true≢false}
+use Rattle.std.proofs.Common.{◌≡◌, ℕ, zero, suc, ◌+◌, ◌<◌, ◌≤◌, Bool, true, false, List, [], ◌∷◌, ◌++◌, length, get_or, take, drop, Option, Some, None, refl, sym, ap, subst, ◌∙◌, arith}
 use Rattle.std.specs.Prelude.{◌==◌, ◌&&◌, ◌||◌, ◌^◌, not, nat_le, nat_lt}
 use Rattle.std.proofs.Math.Bool.{and_assoc}
 use Rattle.std.proofs.lemmas.Bool.{and_parts}
@@ -67,7 +67,7 @@ unfolding last_class
 none-last [] still = refl
 none-last (h ∷ hs) still =
     let both = and_parts (is_zero (maximum_len h)) (is_zero (sum_of_maximum_len (expressions hs)))
-        (sym (zero-sum (maximum_len h) (sum_of_maximum_len (expressions hs))) ∙ still) in
+    (sym (zero-sum (maximum_len h) (sum_of_maximum_len (expressions hs))) ∙ still) in
     rw (both.1, both.0) (none-last hs both.1)
 
 first-place : (parts : List Expression) (n : ℕ) → IsConsuming n parts → AreStill (take n parts)
@@ -78,7 +78,7 @@ first-place [] n is still = absurd (let lt = is.0 in omega arith)
 first-place (h ∷ hs) zero is still = (rw is.1 refl, λ k. rw is.1 refl)
 first-place (h ∷ hs) (suc n) is still =
     let both = and_parts (is_zero (maximum_len h)) (is_zero (sum_of_maximum_len (expressions (take n hs))))
-        (sym (zero-sum (maximum_len h) (sum_of_maximum_len (expressions (take n hs)))) ∙ still) in
+    (sym (zero-sum (maximum_len h) (sum_of_maximum_len (expressions (take n hs)))) ∙ still) in
     let later = first-place hs n (let lt = is.0 in (omega arith, is.1)) both.1 in (
       rw both.0 later.0,
       λ k. rw both.0 (ap (λ b. is_apart k h && b) (later.1 k) ∙ sym (and_assoc (is_apart k h) (all_apart k (expressions (take n hs))) (all_apart k (expressions (drop (suc n) hs))))),
@@ -89,7 +89,7 @@ unfolding first_class
 none-first [] still = refl
 none-first (h ∷ hs) still =
     let both = and_parts (is_zero (maximum_len h)) (is_zero (sum_of_maximum_len (expressions hs)))
-        (sym (zero-sum (maximum_len h) (sum_of_maximum_len (expressions hs))) ∙ still) in
+    (sym (zero-sum (maximum_len h) (sum_of_maximum_len (expressions hs))) ∙ still) in
     rw both.0 (none-first hs both.1)
 
 are-two : (parts : List Expression) → 1 < length parts → has_two (expressions parts) ≡ true
@@ -149,7 +149,7 @@ still-on : (xs ys : List Expression) → AreStill xs → AreStill ys → AreStil
 still-on [] ys first later = later
 still-on (x ∷ xs) ys first later =
     let both = and_parts (is_zero (maximum_len x)) (is_zero (sum_of_maximum_len (expressions xs)))
-        (sym (zero-sum (maximum_len x) (sum_of_maximum_len (expressions xs))) ∙ first) in
+    (sym (zero-sum (maximum_len x) (sum_of_maximum_len (expressions xs))) ∙ first) in
     zero-sum (maximum_len x) (sum_of_maximum_len (expressions (xs ++ ys))) ∙ rw (both.0, still-on xs ys both.1 later) refl
 
 -- .. and as one from the left does

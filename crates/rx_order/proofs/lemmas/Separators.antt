@@ -38,7 +38,8 @@ not-empty (b ∷ l) e = omega arith
 
 module _ (t : ℕ) (text : List ℕ) where
   -- where one of the literals stands, there is a unit that is no member
-  literal-unit : (k : Class) (ls : List (List ℕ)) (c : ℕ) → literals_are_apart k ls ≡ true → StandsOne t text ls c → UnitAt (unit_of text k) (is_in text k) false c
+  literal-unit : (k : Class) (ls : List (List ℕ)) (c : ℕ) → literals_are_apart k ls ≡ true → StandsOne t text ls c
+      → UnitAt (unit_of text k) (is_in text k) false c
   literal-unit k ls c apart here =
       let l = here.0 in
       let both = and_parts (is_not_empty l) (literal_is_apart k l) (each-of (λ l. is_not_empty l && literal_is_apart k l) ls l apart here.1) in
@@ -105,7 +106,8 @@ module _ (t : ℕ) (text : List ℕ) where
   abbrev LastParts : Class → ℕ → ℕ → Type 0
   LastParts k i j = (m : ℕ) × (i ≤ m) × Row text k false i m × Block k m j
 
-  last-parts : (hs : Expressions) (k : Class) → last_class hs ≡ Some k → are_apart_but_last k hs ≡ true → (i j : ℕ) → MeansInTurn t text hs i j → LastParts k i j
+  last-parts : (hs : Expressions) (k : Class) → last_class hs ≡ Some k → are_apart_but_last k hs ≡ true → (i j : ℕ) → MeansInTurn t text hs i j
+      → LastParts k i j
   unfolding Means last_class are_apart_but_last
   last-parts nil k e apart i j m = absurd (none-some k e)
   last-parts (cons sub subs) k e apart i j m =
@@ -127,7 +129,8 @@ module _ (t : ℕ) (text : List ℕ) where
 
   -- Of two parts that the same list means: where the blocks end at one place, the start of the second and the end of
   -- the first are a part too.
-  first-parts : (hs : Expressions) (k : Class) → first_class hs ≡ Some k → are_apart_but_first k hs ≡ true → (i j i' j' : ℕ) → MeansInTurn t text hs i j → MeansInTurn t text hs i' j'
+  first-parts : (hs : Expressions) (k : Class) → first_class hs ≡ Some k → are_apart_but_first k hs ≡ true → (i j i' j' : ℕ) → MeansInTurn t text hs i j
+      → MeansInTurn t text hs i' j'
       → (m m' : ℕ) × FirstParts k i m j × FirstParts k i' m' j' × (m' ≡ m → MeansInTurn t text hs i' j)
   unfolding Means first_class are_apart_but_first
   first-parts nil k e apart i j i' j' m m' = absurd (none-some k e)

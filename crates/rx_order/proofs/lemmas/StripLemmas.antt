@@ -32,7 +32,8 @@ stripped-same : (text : List ℕ) (A B X Y : ℕ → ℕ → Type 0) (s rest : L
 stripped-same text A B X Y s rest a x h = (h.0, h.1, ends-same text A B X Y h.0 a x h.2, elim h.3 [ inl e ↦ inl e | inr none ↦ inr (nothing-same X Y x none) ])
 
 -- a part after which others were stripped
-stripped-then : (text : List ℕ) (A B X Y : ℕ → ℕ → Type 0) (s middle rest : List ℕ) → IsStripped text B Y s middle → IsStripped text A X middle rest → IsStripped text (Then A B) (Then X Y) s rest
+stripped-then : (text : List ℕ) (A B X Y : ℕ → ℕ → Type 0) (s middle rest : List ℕ) → IsStripped text B Y s middle → IsStripped text A X middle rest
+    → IsStripped text (Then A B) (Then X Y) s rest
 stripped-then text A B X Y s middle rest later first =
     let took = first.0 ++ later.0 in
     let whole : s ≡ rest ++ took = later.1 ∙ ap (λ bs. bs ++ later.0) first.1 ∙ append_assoc rest first.0 later.0 in
@@ -89,7 +90,8 @@ module _ (t : ℕ) (text : List ℕ) where
   is-whole h = ([], refl, ends-none text (M h), inl refl)
 
   -- an empty suffix takes nothing off
-  by_suffix : (h : Expression) (s : List ℕ) (r : Left) (left : Expression × List ℕ) → ((l : Expression × List ℕ) → r ≡ Some l → Is h s l) → unless_empty s h r ≡ Some left → Is h s left
+  by_suffix : (h : Expression) (s : List ℕ) (r : Left) (left : Expression × List ℕ) → ((l : Expression × List ℕ) → r ≡ Some l → Is h s l)
+      → unless_empty s h r ≡ Some left → Is h s left
   by_suffix h [] r left each e = subst (Is h []) (same_Some {A = Expression × List ℕ} (h, []) left e) (is-whole h)
   by_suffix h (b ∷ s) r left each e = each left e
 
@@ -215,7 +217,8 @@ module _ (t : ℕ) (text : List ℕ) where
       stripped-same text (Then A (M sub)) (M (repetition (suc least) max greedy sub)) (Then (M left.0) (M h)) (M left.0) s left.1 (one-copy least max greedy sub ordered) (then-none (M left.0) (M h) none) here
 
   copies-means : (sub : Expression) (strip_one : List ℕ → Left) → ((s : List ℕ) (left : Expression × List ℕ) → strip_one s ≡ Some left → Is sub s left)
-      → (least : ℕ) (max : Option ℕ) (greedy : Bool) → IfSome max (λ m. least ≤ m) → (s : List ℕ) (left : Expression × List ℕ) → strip_copies strip_one least max greedy sub s ≡ Some left
+      → (least : ℕ) (max : Option ℕ) (greedy : Bool) → IfSome max (λ m. least ≤ m) → (s : List ℕ) (left : Expression × List ℕ)
+      → strip_copies strip_one least max greedy sub s ≡ Some left
       → Is (repetition least max greedy sub) s left
   unfolding strip_copies
   copies-means sub strip_one each zero max greedy ordered s left e = absurd (none-some left e)
@@ -234,7 +237,8 @@ module _ (t : ℕ) (text : List ℕ) where
   unfolding Means
   row-none s = ([], sym (append-nil s), ends-none text (Row []), inr (λ i j. (λ m. m, λ e. e)))
 
-  row-then : (sub : Expression) (subs : Expressions) (s : List ℕ) (later : List Expression × List ℕ) (first : Expression × List ℕ) → IsRow subs s later → Is sub later.1 first → IsRow (cons sub subs) s (first.0 ∷ later.0, first.1)
+  row-then : (sub : Expression) (subs : Expressions) (s : List ℕ) (later : List Expression × List ℕ) (first : Expression × List ℕ) → IsRow subs s later
+      → Is sub later.1 first → IsRow (cons sub subs) s (first.0 ∷ later.0, first.1)
   unfolding Means
   row-then sub subs s later first rest is = stripped-then text (M sub) (MeansInTurn t text subs) (M first.0) (Row later.0) s later.1 first.1 rest is
 
@@ -244,7 +248,8 @@ module _ (t : ℕ) (text : List ℕ) where
       stripped-same text (MeansInTurn t text subs) (M (concat subs)) (Row left.0) (M (concat_of left.0)) s left.1 (same-itself (M (concat subs)))
       (same-back (M (concat_of left.0)) (M (concat (expressions left.0))) (concat-means t text left.0)) is
 
-  capture-whole : (group : ℕ) (name : Option (List ℕ)) (sub : Expression) (s : List ℕ) (left : Expression × List ℕ) → Is sub s left → Is (capture group name sub) s left
+  capture-whole : (group : ℕ) (name : Option (List ℕ)) (sub : Expression) (s : List ℕ) (left : Expression × List ℕ) → Is sub s left
+      → Is (capture group name sub) s left
   unfolding Means
   capture-whole group name sub s left is = is
 
@@ -285,7 +290,9 @@ strip-then h x s ordered e t text i j =
     (λ l f. whole l.0 l.1 (strip-means t text h ordered s l f) (rw f at e))
     (λ none. absurd (none-some x (rw none at e)))
   where
-    whole : (g : Expression) (rest : List ℕ) → IsStripped text (λ i j. Means t text h i j) (λ i j. Means t text g i j) s rest → only_whole (Some (g, rest)) ≡ Some x → (Means t text h i j → ThenLiteral text (λ i j. Means t text x i j) s i j) × (ThenLiteral text (λ i j. Means t text x i j) s i j → Means t text h i j)
+    whole : (g : Expression) (rest : List ℕ) → IsStripped text (λ i j. Means t text h i j) (λ i j. Means t text g i j) s rest
+        → only_whole (Some (g, rest)) ≡ Some x
+        → (Means t text h i j → ThenLiteral text (λ i j. Means t text x i j) s i j) × (ThenLiteral text (λ i j. Means t text x i j) s i j → Means t text h i j)
     whole g [] is e =
         let same : g ≡ x = same_Some g x e in
         let ends : Ends text (λ i j. Means t text h i j) (λ i j. Means t text g i j) s = subst (Ends text (λ i j. Means t text h i j) (λ i j. Means t text g i j)) (sym is.1) is.2 in

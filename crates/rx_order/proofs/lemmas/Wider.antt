@@ -59,7 +59,8 @@ module _ (unit : ℕ → Option ℕ) (is_in : ℕ → Bool) (units : AreUnits un
   units-append zero q i k j h g = (q, subst (λ d. Units q d j) (sym h) g, omega arith)
   units-append (suc p) q i k j h g = let rest = units-append p q h.0 k j h.2 g in let sum = rest.2 in (suc rest.0, (h.0, h.1, rest.1), omega arith)
 
-  convex : ((i n : ℕ) → unit i ≡ Some n → 1 ≤ n) → (p q k c k' c' : ℕ) → Units p k c → Units q k' c' → k < c → k' ≤ k → c ≤ c' → (r : ℕ) × Units r k' c × (p ≤ r) × (r ≤ q)
+  convex : ((i n : ℕ) → unit i ≡ Some n → 1 ≤ n) → (p q k c k' c' : ℕ) → Units p k c → Units q k' c' → k < c → k' ≤ k → c ≤ c'
+      → (r : ℕ) × Units r k' c × (p ≤ r) × (r ≤ q)
   convex long p q k c k' c' h g lt low high =
       let head = chain-head unit is_in true k c (p, h) lt in
       let cut = split-at q k' c' k head.0 g head.1 low (omega arith) in
@@ -172,7 +173,8 @@ module _ (t : ℕ) (text : List ℕ) where
   abbrev LastMix : Expressions → Class → (i j i' j' : ℕ) → Type 0
   LastMix hs k i j i' j' = (sep : Expression) × (separator_class sep ≡ Some k) × ((m m' : ℕ) × (i ≤ m) × M sep m j × Row text k false i' m' × M sep m' j' × (M sep m' j → MeansInTurn t text hs i' j))
 
-  last-mix : (hs : Expressions) (k : Class) → last_class hs ≡ Some k → are_apart_but_last k hs ≡ true → (i j i' j' : ℕ) → MeansInTurn t text hs i j → MeansInTurn t text hs i' j' → LastMix hs k i j i' j'
+  last-mix : (hs : Expressions) (k : Class) → last_class hs ≡ Some k → are_apart_but_last k hs ≡ true → (i j i' j' : ℕ) → MeansInTurn t text hs i j
+      → MeansInTurn t text hs i' j' → LastMix hs k i j i' j'
   unfolding Means last_class are_apart_but_last
   last-mix nil k e apart i j i' j' m m' = absurd (none-some k e)
   last-mix (cons sub subs) k e apart i j i' j' m m' =
@@ -204,7 +206,8 @@ module _ (t : ℕ) (text : List ℕ) where
   abbrev FirstMix : Expressions → Class → (i j i' j' : ℕ) → Type 0
   FirstMix hs k i j i' j' = (sep : Expression) × (separator_class sep ≡ Some k) × ((m m' : ℕ) × M sep i m × (m ≤ j) × M sep i' m' × Row text k false m' j' × (M sep i' m → MeansInTurn t text hs i' j))
 
-  first-mix : (hs : Expressions) (k : Class) → first_class hs ≡ Some k → are_apart_but_first k hs ≡ true → (i j i' j' : ℕ) → MeansInTurn t text hs i j → MeansInTurn t text hs i' j' → FirstMix hs k i j i' j'
+  first-mix : (hs : Expressions) (k : Class) → first_class hs ≡ Some k → are_apart_but_first k hs ≡ true → (i j i' j' : ℕ) → MeansInTurn t text hs i j
+      → MeansInTurn t text hs i' j' → FirstMix hs k i j i' j'
   unfolding Means first_class are_apart_but_first
   first-mix nil k e apart i j i' j' m m' = absurd (none-some k e)
   first-mix (cons sub subs) k e apart i j i' j' m m' =
@@ -232,7 +235,8 @@ module _ (t : ℕ) (text : List ℕ) where
       (sub, rw consuming at e, (m.0, m'.0, m.1, in_turn-rise t text subs m.0 j m.2, m'.1, in_turn-out text t k subs apart' m'.0 j' m'.2, λ f. (m.0, f, m.2))))
 
   -- The last consuming part separates, whatever the literals are.
-  pub last-wider : (subs : Expressions) (k : Class) → last_class subs ≡ Some k → are_apart_but_last k subs ≡ true → (ls : List (List ℕ)) → IsOrdered t text (concat subs) ls
+  pub last-wider : (subs : Expressions) (k : Class) → last_class subs ≡ Some k → are_apart_but_last k subs ≡ true → (ls : List (List ℕ))
+      → IsOrdered t text (concat subs) ls
   unfolding Means
   last-wider subs k e apart ls i c i' c' m here m' there lt later none =
       let x = last-mix subs k e apart i c i' c' m m' in
@@ -246,7 +250,8 @@ module _ (t : ℕ) (text : List ℕ) where
       (λ f. none (z.6 (separator-convex x.0 k x.1 z.0 c z.1 c' z.3 z.5 (grind (arith, nat_tests)) (omega arith))))
 
   -- The first consuming part separates, whatever the literals are.
-  pub first-wider : (subs : Expressions) (k : Class) → first_class subs ≡ Some k → are_apart_but_first k subs ≡ true → (ls : List (List ℕ)) → IsOrdered t text (concat subs) ls
+  pub first-wider : (subs : Expressions) (k : Class) → first_class subs ≡ Some k → are_apart_but_first k subs ≡ true → (ls : List (List ℕ))
+      → IsOrdered t text (concat subs) ls
   unfolding Means
   first-wider subs k e apart ls i c i' c' m here m' there lt later none =
       let x = first-mix subs k e apart i c i' c' m m' in

@@ -1,4 +1,4 @@
-use Rattle.std.proofs.Common.{◌≡◌, arith, ap, sym, ◌∙◌}
+use Rattle.std.proofs.Common.{arith, ap, sym, ◌∙◌}
 use Rattle.std.specs.Prelude.{nat_eq}
 use Rattle.std.specs.List.{list_any}
 use Rattle.rx_hir.specs.HirViews.{kind_view}
@@ -16,13 +16,13 @@ one_can_consume-can_consume-requires t c =
 pub one_can_consume-returns-then-can_consume : goal.one_can_consume-returns-then-can_consume
 one_can_consume-returns-then-can_consume t c =
     let e = one-yes c.args.subs.now c.loop-sub.sub-index c.args.byte c.sub-item.result c.loop-sub-test.true c.sub-item.is
-        (sym c.can_consume.ensures ∙ c.if-can_consume.true) in
+    (sym c.can_consume.ensures ∙ c.if-can_consume.true) in
     sym e ∙ c.loop-sub.invariant
 
 pub one_can_consume-loop-sub-preserved : goal.one_can_consume-loop-sub-preserved
 one_can_consume-loop-sub-preserved t c =
     let e = one-no c.args.subs.now c.loop-sub.sub-index c.args.byte c.sub-item.result c.loop-sub-test.true c.sub-item.is
-        (sym c.can_consume.ensures ∙ c.if-can_consume.false) in
+    (sym c.can_consume.ensures ∙ c.if-can_consume.false) in
     sym e ∙ c.loop-sub.invariant
 
 pub one_can_consume-returns : goal.one_can_consume-returns

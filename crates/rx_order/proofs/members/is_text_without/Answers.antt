@@ -1,4 +1,4 @@
-use Rattle.std.proofs.Common.{◌≡◌, true, false, ap, sym, ◌∙◌}
+use Rattle.std.proofs.Common.{◌≡◌, true, ap, sym, ◌∙◌}
 use Rattle.std.specs.Prelude.{not, chars, ◌&&◌}
 use Rattle.std.specs.List.{list_all}
 use Rattle.std.specs.Str.{is_utf8}

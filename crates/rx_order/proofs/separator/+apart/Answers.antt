@@ -1,4 +1,4 @@
-use Rattle.std.proofs.Common.{◌≡◌, arith, ap, sym, ◌∙◌}
+use Rattle.std.proofs.Common.{arith, ap, sym, ◌∙◌}
 use Rattle.rx_class.specs.ClassViews.{class_view}
 use Rattle.rx_hir.specs.HirViews.{kind_view}
 use Rattle.rx_hir.specs.Normal.{expressions}
@@ -15,13 +15,13 @@ all_apart-is_apart-requires t c =
 pub all_apart-returns-then-not-is_apart : goal.all_apart-returns-then-not-is_apart
 all_apart-returns-then-not-is_apart t c =
     let e = apart-no c.args.subs.now c.loop-sub.sub-index (class_view c.args.class.now) c.sub-item.result c.loop-sub-test.true c.sub-item.is
-        (sym c.is_apart.ensures ∙ c.if-not-is_apart.true) in
+    (sym c.is_apart.ensures ∙ c.if-not-is_apart.true) in
     sym e ∙ c.loop-sub.invariant
 
 pub all_apart-loop-sub-preserved : goal.all_apart-loop-sub-preserved
 all_apart-loop-sub-preserved t c =
     let e = apart-yes c.args.subs.now c.loop-sub.sub-index (class_view c.args.class.now) c.sub-item.result c.loop-sub-test.true c.sub-item.is
-        (sym c.is_apart.ensures ∙ c.if-not-is_apart.false) in
+    (sym c.is_apart.ensures ∙ c.if-not-is_apart.false) in
     sym e ∙ c.loop-sub.invariant
 
 pub all_apart-returns : goal.all_apart-returns

@@ -1,4 +1,4 @@
-use Rattle.std.proofs.Common.{◌≡◌, ap, sym, ◌∙◌}
+use Rattle.std.proofs.Common.{ap, sym, ◌∙◌}
 use Rattle.rx_hir.specs.HirViews.{kind_view}
 use Rattle.rx_order.specs.Tests.{plain_class}
 use Rattle.rx_order.proofs.separator.+plain_class.Goals as goal

@@ -1,4 +1,4 @@
-use Rattle.std.proofs.Common.{◌≡◌, true, false, not, sym, ap, ◌∙◌, arith}
+use Rattle.std.proofs.Common.{sym, ◌∙◌, arith}
 use Rattle.rx_order.proofs.lemmas.PlaceLemmas.{still-more, zero-from}
 use Rattle.rx_order.proofs.separator.first_consuming.Goals as goal
 

@@ -1,4 +1,4 @@
-use Rattle.std.proofs.Common.{◌≡◌, not, ap, sym, ◌∙◌}
+use Rattle.std.proofs.Common.{not, ap, sym, ◌∙◌}
 use Rattle.rx_hir.specs.Length.{maximum_len}
 use Rattle.rx_hir.specs.Normal.{is_zero}
 use Rattle.rx_order.proofs.lemmas.PlaceLemmas.{told-zero, above-zero}

@@ -1,4 +1,4 @@
-use Rattle.std.proofs.Common.{map, ◌∙◌, subst, Some, None, ℕ, Option}
+use Rattle.std.proofs.Common.{map, ◌∙◌, subst, ℕ, Option}
 use Rattle.std.specs.Vec.{vec_items}
 use Rattle.rx_order.specs.Places.{IsLastConsuming}
 use Rattle.rx_order.proofs.lemmas.PlaceLemmas.{last-some, last-none}
