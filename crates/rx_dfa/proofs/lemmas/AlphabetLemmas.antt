@@ -18,7 +18,8 @@ class-small classes are (suc b) le =
     ⊎_elim (λ stays. omega arith) (λ rises. omega arith) (are.steps b (omega arith))
 
 module _ (nfa : Nfa) (byte_classes : Bool) (classes bytes : List ℕ) (own : byte_classes ≡ true → classes ≡ nfa.classes)
-    (single : byte_classes ≡ false → EachIndex classes (λ b. slice_index classes b ≡ b)) (are : AreClasses classes) (stand : AreRepresentatives classes bytes) where
+    (single : byte_classes ≡ false → EachIndex classes (λ b. slice_index classes b ≡ b)) (are : AreClasses classes)
+    (stand : AreRepresentatives classes bytes) where
   finer : (b c : ℕ) → AreOfOneClass classes b c → AreOfOneClass nfa.classes b c
   finer b c of = by_test byte_classes
       (λ e. subst (λ cs. AreOfOneClass cs b c) (own e) of)

@@ -68,7 +68,8 @@ module _ (terminator : ℕ) (hay : List ℕ) (end : ℕ) (whole : List State) (s
   text-first : (h : Expression) (bytes : List ℕ) → h ≡ literal bytes → (A : ℕ → Type 0) (next base : ℕ)
       → Stands terminator hay end whole A next base (build slots h next base).states → (i : ℕ) → F (build slots h next base).start i ≡ one hay bytes (F next) i
   text-first h bytes is = subst
-      (λ x. (A : ℕ → Type 0) (next base : ℕ) → Stands terminator hay end whole A next base (build slots x next base).states → (i : ℕ) → F (build slots x next base).start i ≡ one hay bytes (F next) i)
+      (λ x. (A : ℕ → Type 0) (next base : ℕ) → Stands terminator hay end whole A next base (build slots x next base).states → (i : ℕ)
+      → F (build slots x next base).start i ≡ one hay bytes (F next) i)
       (sym is) (literal-first bytes)
 
   each-first : (subs : Expressions) (ls : List (List ℕ)) → texts_of (list_of subs) ≡ Some ls → (A : ℕ → Type 0) (next base : ℕ)
@@ -79,8 +80,10 @@ module _ (terminator : ℕ) (hay : List ℕ) (end : ℕ) (whole : List State) (s
   each-first (cons sub subs) ls e A next base s i =
       let parts = texts-parts (text_of sub) (texts_of (list_of subs)) ls e in
       let f = build slots sub next base in
-      let here = text-first sub parts.0 (text-is sub parts.0 parts.2) A next base (beside-first terminator hay end whole A (build slots sub) (build_each slots subs) next base s) i in
-      let later = each-first subs parts.1 parts.3 A next (base + length f.states) (beside-others terminator hay end whole A (build slots sub) (build_each slots subs) next base s) i in
+      let here = text-first sub parts.0 (text-is sub parts.0 parts.2) A next base
+      (beside-first terminator hay end whole A (build slots sub) (build_each slots subs) next base s) i in
+      let later = each-first subs parts.1 parts.3 A next (base + length f.states)
+      (beside-others terminator hay end whole A (build slots sub) (build_each slots subs) next base s) i in
       (λ k. option_or (here k) (later k)) ∙ ap (λ ms. first_end hay (F next) i (map exact ms)) parts.4
 
   choice-first : (parts : (next base : ℕ) → Parts) → LocalOne terminator hay end whole parts → (A : ℕ → Type 0) (next base : ℕ)
@@ -100,7 +103,8 @@ module _ (terminator : ℕ) (hay : List ℕ) (end : ℕ) (whole : List State) (s
       let le : i ≤ end = grind (arith, nat_tests) in
       ends-state terminator hay end whole (Inside A base n) closed (base + n) i (choice p.starts) is refl
       (λ h. elim h [ inl c' ↦ s.apart (base + n) c' (omega arith) (omega arith) | inr r ↦ (let up = r.1 in omega arith) ])
-      (λ d m. let y = choice-member p.starts i d m in subst (λ q. Inside A base n q) (ap (λ (z : Configuration). z.state) y.2) (to y.0 (l.starts next base y.0 y.1))) le)
+      (λ d m. let y = choice-member p.starts i d m in
+      subst (λ q. Inside A base n q) (ap (λ (z : Configuration). z.state) y.2) (to y.0 (l.starts next base y.0 y.1))) le)
       (λ e.
       let past : end < i = grind (arith, nat_tests) in
       ends-past terminator hay end whole (at (base + n) i) past ∙ sym (starts-past terminator hay end whole p.starts i past))
@@ -202,7 +206,8 @@ pub texts-past : (hs : List Expression) (i : ℕ) (done : List (List ℕ)) → l
     → option_map (λ later. done ++ later) (texts_of (drop i hs)) ≡ texts_of hs → Some done ≡ texts_of hs
 unfolding texts_of
 texts-past hs i done le so_far =
-    (λ k. Some (sym (append-nil done) k)) ∙ sym (ap (λ (xs : List Expression). option_map (λ (later : List (List ℕ)). done ++ later) (texts_of xs)) (drop_all i hs le)) ∙ so_far
+    (λ k. Some (sym (append-nil done) k)) ∙ sym (ap (λ (xs : List Expression). option_map (λ (later : List (List ℕ)). done ++ later) (texts_of xs))
+    (drop_all i hs le)) ∙ so_far
 
 pub many-few : (fewest : ℕ) (hs : List Expression) → length hs < fewest → None ≡ many_texts fewest hs
 unfolding many_texts

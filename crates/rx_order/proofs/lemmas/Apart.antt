@@ -94,7 +94,8 @@ module _ (text : List ℕ) where
       let size' = length-encode d.0 in
       let byte = byte-in text i (encode_utf8 c.0) (drop (i + len_utf8 c.0) text) first (suc q) (omega arith) in
       let byte' = byte-in text k (encode_utf8 d.0) (drop (k + len_utf8 d.0) text) other 0 (omega arith) in
-      let equal : slice_index (encode_utf8 c.0) (suc q) ≡ slice_index (encode_utf8 d.0) 0 = sym byte ∙ ap (slice_index text) (let e : i + suc q ≡ k + 0 = omega arith in e) ∙ byte' in
+      let equal : slice_index (encode_utf8 c.0) (suc q) ≡ slice_index (encode_utf8 d.0) 0 =
+      sym byte ∙ ap (slice_index text) (let e : i + suc q ≡ k + 0 = omega arith in e) ∙ byte' in
       let next = next-byte c.0 q lt in
       let above = next.0 in
       let below = next.1 in
@@ -168,7 +169,8 @@ module _ (text : List ℕ) where
       let goes' : drop (i + 1) text ≡ bytes ++ rest = sym (drop-drop 1 i text) ∙ ap (drop 1) goes in
       let later = bytes-out rs bytes rest (i + 1) goes' both.1 in
       let ends : i + 1 + length bytes ≡ i + suc (length bytes) = omega arith in
-      row-join (byte_ranges rs) false i (i + 1) (i + suc (length bytes)) (row-one (byte_ranges rs) false i (i + 1) step) (subst (Row (byte_ranges rs) false (i + 1)) ends later)
+      row-join (byte_ranges rs) false i (i + 1) (i + suc (length bytes)) (row-one (byte_ranges rs) false i (i + 1) step)
+      (subst (Row (byte_ranges rs) false (i + 1)) ends later)
 
   chars-out : (rs : List (ℕ × ℕ)) (cs rest : List ℕ) (i : ℕ) → all_scalars cs ≡ true → drop i text ≡ encode_utf8_all cs ++ rest
       → list_all (λ c. not (is_member rs c)) cs ≡ true
@@ -194,7 +196,8 @@ module _ (text : List ℕ) where
       let utf8 = IsUtf8-from_is_utf8 bytes both.0 in
       let same = encodes-chars bytes utf8 in
       let goes = stands_at_parts text i bytes h ∙ ap (λ bs. bs ++ drop (i + length bytes) text) (sym same) in
-      subst (λ bs. Row (scalar_ranges rs) false i (i + length bs)) same (chars-out rs (chars bytes) (drop (i + length bytes) text) i (scalars-chars bytes utf8) goes both.1)
+      subst (λ bs. Row (scalar_ranges rs) false i (i + length bs)) same (chars-out rs (chars bytes) (drop (i + length bytes) text) i
+      (scalars-chars bytes utf8) goes both.1)
   literal-out (byte_ranges rs) bytes i apart h = bytes-out rs bytes (drop (i + length bytes) text) i (stands_at_parts text i bytes h) apart
 
   module _ (t : ℕ) (k : Class) where
@@ -207,7 +210,8 @@ module _ (text : List ℕ) where
       means-out (literal bytes) apart i j m = subst (Row k false i) m.1 (literal-out k bytes i apart m.0)
       means-out (class members) apart i j m = subst (Row k false i) m.2 (class-out k members i m.0 apart m.1)
       means-out (look kind) apart i j m = row-empty k false i j m.1
-      means-out (repetition least greatest greedy sub) apart i j m = row-pieces k false (Means t text sub) (λ x y piece. means-out sub apart x y piece) m.0 i j m.2
+      means-out (repetition least greatest greedy sub) apart i j m =
+          row-pieces k false (Means t text sub) (λ x y piece. means-out sub apart x y piece) m.0 i j m.2
       means-out (capture group name sub) apart i j m = means-out sub apart i j m
       means-out (concat subs) apart i j m = in_turn-out subs apart i j m
       means-out (alternation subs) apart i j m = one-out subs apart i j m

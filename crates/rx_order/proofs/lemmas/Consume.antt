@@ -59,7 +59,8 @@ module _ (text : List ℕ) (b : ℕ) where
       let both = neither (nat_le 0x80 b) (is_member rs b) none in
       let m = member_len-is text rs i n h in
       let goes : drop i text ≡ encode_utf8 m.0 ++ drop n (drop i text) = sym (take-append-drop n (drop i text)) ∙ ap (λ bs. bs ++ drop n (drop i text)) m.4 in
-      subst (λ (k : ℕ). HasNone i (i + k)) (sym m.3) (encoding-none m.0 i (drop n (drop i text)) both.0 (λ e. true≢false (sym m.2 ∙ ap (is_member rs) e ∙ both.1)) goes)
+      subst (λ (k : ℕ). HasNone i (i + k)) (sym m.3) (encoding-none m.0 i (drop n (drop i text)) both.0
+      (λ e. true≢false (sym m.2 ∙ ap (is_member rs) e ∙ both.1)) goes)
   class-none (byte_ranges rs) i n none h = λ k low high is.
       let m = byte_len-is text rs i n h in
       let one = m.0 in

@@ -23,7 +23,8 @@ module _ (t : ℕ) (text : List ℕ) where
   -- a match leads over a place where a literal stands, and from wherever p leads to that place there is a match
   abbrev pub Splits : Expression → Expression → List (List ℕ) → Type 0
   Splits h p ls = (i j : ℕ) → Means t text h i j
-      → (c : ℕ) × Means t text p i c × ((l : List ℕ) × Contains ls l × (stands_at text c l ≡ true) × (c + length l ≤ j)) × ((k : ℕ) → Means t text p k c → Means t text h k j)
+      → (c : ℕ) × Means t text p i c × ((l : List ℕ) × Contains ls l × (stands_at text c l ≡ true) × (c + length l ≤ j))
+      × ((k : ℕ) → Means t text p k c → Means t text h k j)
 
   module _ (a b : ℕ) (h p : Expression) (ls : List (List ℕ)) where
     abbrev Confirmed : (c i : ℕ) → Type 0
@@ -42,7 +43,8 @@ module _ (t : ℕ) (text : List ℕ) where
           start = record {
             inside = low;
             has = m;
-            least = λ d above md. by_test (nat_le k d) (λ e. grind (arith, nat_tests)) (λ e. absurd (not-confirmed c j lit le back none n d (grind (arith, nat_tests)) above md));
+            least = λ d above md. by_test (nat_le k d) (λ e. grind (arith, nat_tests))
+                (λ e. absurd (not-confirmed c j lit le back none n d (grind (arith, nat_tests)) above md));
           };
           match_start = (j, le, back k m);
         })

@@ -30,7 +30,8 @@ module _ (text : List ℕ) where
   pub stands-join : (c : ℕ) (r s : List ℕ) → stands_at text c r ≡ true → stands_at text (c + length r) s ≡ true → stands_at text c (r ++ s) ≡ true
   stands-join c r s first later =
       let rest = drop (c + length r + length s) text in
-      stands_at_from text c (r ++ s) rest (stands_at_parts text c r first ∙ ap (λ bs. r ++ bs) (stands_at_parts text (c + length r) s later) ∙ sym (append_assoc r s rest))
+      stands_at_from text c (r ++ s) rest (stands_at_parts text c r first ∙ ap (λ bs. r ++ bs) (stands_at_parts text (c + length r) s later)
+      ∙ sym (append_assoc r s rest))
 
   pub stands-split : (c : ℕ) (r s : List ℕ) → stands_at text c (r ++ s) ≡ true → (stands_at text c r ≡ true) × (stands_at text (c + length r) s ≡ true)
   stands-split c r s whole =

@@ -116,7 +116,8 @@ row-none s (h ∷ hs) (suc i) e =
 module _ (parts : List Expression) (s : List ℕ) where
   pub row-start : strip_row (expressions (drop (length parts) parts)) s ≡ Some (reverse [], take (length s) s)
   unfolding strip
-  row-start = ap (λ hs. strip_row (expressions hs) s) (drop-past parts (length parts) (omega arith)) ∙ (λ i. Some ([], sym (take_all (length s) s (omega arith)) i))
+  row-start =
+      ap (λ hs. strip_row (expressions hs) s) (drop-past parts (length parts) (omega arith)) ∙ (λ i. Some ([], sym (take_all (length s) s (omega arith)) i))
 
   row-at : (i : ℕ) (h : Expression) → i < length parts → h ≡ get_or parts i h → (later : List Expression) (rest : List ℕ)
       → strip_row (expressions (drop (i + 1) parts)) s ≡ Some (later, rest)
@@ -163,7 +164,8 @@ told-some s left None is t e = absurd (none-some t e)
 told-some s left (Some u) is t e = subst (λ (v : Told). (left ≡ Some (v.rest, take v.count s)) × (v.count ≤ length s)) (same_Some u t e) (sym is.0, is.1)
 
 -- One turn of the loop over copies: of what `front` is left, which are the first bytes of the suffix.
-module _ (s : List ℕ) (sub h : Expression) (same : h ≡ sub) (greedy : Bool) (least : ℕ) (most : Option ℕ) (count : ℕ) (front : List ℕ) (at : front ≡ take count s) (all_left : Left)
+module _ (s : List ℕ) (sub h : Expression) (same : h ≡ sub) (greedy : Bool) (least : ℕ) (most : Option ℕ) (count : ℕ) (front : List ℕ)
+    (at : front ≡ take count s) (all_left : Left)
     (so_far : strip_copies (strip sub) least most greedy sub (take count s) ≡ all_left) (some : 0 < least) where
   turn : strip sub (take count s) ≡ strip h front
   turn = λ i. strip (sym same i) (sym at i)
@@ -190,7 +192,8 @@ module _ (s : List ℕ) (sub h : Expression) (same : h ≡ sub) (greedy : Bool) 
       (sym (copies-on (strip sub) greedy sub least most (take count s) t.rest (take t.count s) some left size) ∙ so_far, omega arith)
 
 -- One turn of the loop over parts.
-module _ (parts : List Expression) (s : List ℕ) (i : ℕ) (lt : i < length parts) (h : Expression) (is_at : h ≡ get_or parts i h) (later : List Expression) (count : ℕ) (le : count ≤ length s)
+module _ (parts : List Expression) (s : List ℕ) (i : ℕ) (lt : i < length parts) (h : Expression) (is_at : h ≡ get_or parts i h) (later : List Expression)
+    (count : ℕ) (le : count ≤ length s)
     (so_far : strip_row (expressions (drop (i + 1) parts)) s ≡ Some (reverse later, take count s)) (front : List ℕ) (at : front ≡ take count s) where
   part-turn : strip h (take count s) ≡ strip h front
   part-turn = λ i. strip h (sym at i)

@@ -31,7 +31,8 @@ preferred-loose : (earlier ls : List Literal) → preferred (map loose earlier) 
 unfolding preferred
 preferred-loose earlier [] = refl
 preferred-loose earlier (l ∷ ls) =
-    (λ i. if any-loose (λ bytes. starts_with nat_eq (bytes_of l) bytes) earlier i then preferred-loose (l ∷ earlier) ls i else loose l ∷ preferred-loose (l ∷ earlier) ls i)
+    (λ i. if any-loose (λ bytes. starts_with nat_eq (bytes_of l) bytes) earlier i then preferred-loose (l ∷ earlier) ls i
+    else loose l ∷ preferred-loose (l ∷ earlier) ls i)
     ∙ if-loose (has_prefix_in earlier l) l (preferred (l ∷ earlier) ls)
 
 cut-loose : (n : ℕ) (l : Literal) → cut front n (loose l) ≡ loose (cut front n l)
@@ -82,7 +83,8 @@ unfolding few
 few-loose ls =
     let size = length-map ls loose in
     let short = preferred [] (map (cut front 3) ls) in
-    let short' : preferred [] (map (cut front 3) (map loose ls)) ≡ map loose short = ap (preferred []) (cut-all-loose 3 ls) ∙ preferred-loose [] (map (cut front 3) ls) in
+    let short' : preferred [] (map (cut front 3) (map loose ls)) ≡ map loose short =
+    ap (preferred []) (cut-all-loose 3 ls) ∙ preferred-loose [] (map (cut front 3) ls) in
     let short_size = length-map short loose in
     by_test (nat_le (length ls) 64)
     (λ e. rw (size, e) (fast-same (map loose ls) ls (bytes-loose ls)))

@@ -34,7 +34,8 @@ zero-sum (Some m) (Some n) = sum-test m n
 -- a list with a consuming part consumes
 consuming-sum : (parts : List Expression) (n : ℕ) → IsConsuming n parts → is_zero (sum_of_maximum_len (expressions parts)) ≡ false
 consuming-sum [] n is = absurd (let lt = is.0 in omega arith)
-consuming-sum (h ∷ hs) zero is = zero-sum (maximum_len h) (sum_of_maximum_len (expressions hs)) ∙ ap (λ b. b && is_zero (sum_of_maximum_len (expressions hs))) is.1
+consuming-sum (h ∷ hs) zero is =
+    zero-sum (maximum_len h) (sum_of_maximum_len (expressions hs)) ∙ ap (λ b. b && is_zero (sum_of_maximum_len (expressions hs))) is.1
 consuming-sum (h ∷ hs) (suc n) is =
     zero-sum (maximum_len h) (sum_of_maximum_len (expressions hs))
     ∙ ap (λ b. is_zero (maximum_len h) && b) (consuming-sum hs n (let lt = is.0 in (omega arith, is.1))) ∙ no-and (is_zero (maximum_len h))
@@ -59,7 +60,8 @@ last-place (h ∷ hs) (suc n) is still =
     let more = not-last h hs n (let lt = is.0 in (omega arith, is.1)) in
     let later = last-place hs n (let lt = is.0 in (omega arith, is.1)) still in (
       rw more later.0,
-      λ k. rw more (ap (λ b. is_apart k h && b) (later.1 k) ∙ sym (and_assoc (is_apart k h) (all_apart k (expressions (take n hs))) (all_apart k (expressions (drop (suc n) hs))))),
+      λ k. rw more (ap (λ b. is_apart k h && b) (later.1 k)
+          ∙ sym (and_assoc (is_apart k h) (all_apart k (expressions (take n hs))) (all_apart k (expressions (drop (suc n) hs))))),
     )
 
 none-last : (parts : List Expression) → AreStill parts → last_class (expressions parts) ≡ None
@@ -81,7 +83,8 @@ first-place (h ∷ hs) (suc n) is still =
     (sym (zero-sum (maximum_len h) (sum_of_maximum_len (expressions (take n hs)))) ∙ still) in
     let later = first-place hs n (let lt = is.0 in (omega arith, is.1)) both.1 in (
       rw both.0 later.0,
-      λ k. rw both.0 (ap (λ b. is_apart k h && b) (later.1 k) ∙ sym (and_assoc (is_apart k h) (all_apart k (expressions (take n hs))) (all_apart k (expressions (drop (suc n) hs))))),
+      λ k. rw both.0 (ap (λ b. is_apart k h && b) (later.1 k)
+          ∙ sym (and_assoc (is_apart k h) (all_apart k (expressions (take n hs))) (all_apart k (expressions (drop (suc n) hs))))),
     )
 
 none-first : (parts : List Expression) → AreStill parts → first_class (expressions parts) ≡ None
@@ -110,7 +113,8 @@ module _ (parts : List Expression) (ls : List (List ℕ)) where
       let place = last-place parts n is.0 (subst (λ m. AreStill (drop m parts)) e is.1) in
       sym (ap (λ b. b && passes (last_class (expressions parts)) (λ k. are_apart_but_last k (expressions parts) && literals_are_apart k ls)) (are-two parts two)
       ∙ (λ i. passes (place.0 i) (λ k. place.1 k i && literals_are_apart k ls))
-      ∙ (λ i. passes (separator_class (part_at n parts)) (λ k. (all_apart k (expressions (take n parts)) && all_apart k (expressions (drop (sym e i) parts))) && literals_are_apart k ls)))
+      ∙ (λ i. passes (separator_class (part_at n parts)) (λ k. (all_apart k (expressions (take n parts)) && all_apart k (expressions (drop (sym e i) parts)))
+      && literals_are_apart k ls)))
 
   pub last-none : 1 < length parts → IsLastConsuming parts None → false ≡ has_last_separator (concat (expressions parts)) ls
   unfolding has_last_separator
@@ -123,14 +127,17 @@ module _ (parts : List Expression) (ls : List (List ℕ)) where
   first-some n two is =
       let e : n + 1 ≡ suc n = omega arith in
       let place = first-place parts n is.0 is.1 in
-      sym (ap (λ b. b && passes (first_class (expressions parts)) (λ k. are_apart_but_first k (expressions parts) && literals_are_apart k ls)) (are-two parts two)
+      sym (ap (λ b. b && passes (first_class (expressions parts)) (λ k. are_apart_but_first k (expressions parts) && literals_are_apart k ls))
+      (are-two parts two)
       ∙ (λ i. passes (place.0 i) (λ k. place.1 k i && literals_are_apart k ls))
-      ∙ (λ i. passes (separator_class (part_at n parts)) (λ k. (all_apart k (expressions (take n parts)) && all_apart k (expressions (drop (sym e i) parts))) && literals_are_apart k ls)))
+      ∙ (λ i. passes (separator_class (part_at n parts)) (λ k. (all_apart k (expressions (take n parts)) && all_apart k (expressions (drop (sym e i) parts)))
+      && literals_are_apart k ls)))
 
   pub first-none : 1 < length parts → IsFirstConsuming parts None → false ≡ has_first_separator (concat (expressions parts)) ls
   unfolding has_first_separator
   first-none two still =
-      sym (ap (λ b. b && passes (first_class (expressions parts)) (λ k. are_apart_but_first k (expressions parts) && literals_are_apart k ls)) (are-two parts two)
+      sym (ap (λ b. b && passes (first_class (expressions parts)) (λ k. are_apart_but_first k (expressions parts) && literals_are_apart k ls))
+      (are-two parts two)
       ∙ ap (λ o. passes o (λ k. are_apart_but_first k (expressions parts) && literals_are_apart k ls)) (none-first parts still))
 
   -- of fewer than two parts none separates

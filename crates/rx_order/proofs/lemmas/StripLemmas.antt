@@ -45,7 +45,8 @@ stripped-then text A B X Y s middle rest later first =
             took,
             whole,
             subst (λ r. Ends text (Then A B) (Then X Y) (r ++ later.0)) (sym parts.1)
-                (ends-same text (Then A B) (Then A B) (Then A Y) (Then X Y) later.0 (same-itself (Then A B)) (then-same A X Y same) (ends-last text A B Y later.0 later.2)),
+                (ends-same text (Then A B) (Then A B) (Then A Y) (Then X Y) later.0 (same-itself (Then A B)) (then-same A X Y same)
+                (ends-last text A B Y later.0 later.2)),
             inl parts.0,
           )
       | inr none ↦ (
@@ -110,7 +111,8 @@ module _ (t : ℕ) (text : List ℕ) where
 
   literal-whole : (bytes : List ℕ) → Ends text (M (literal bytes)) (M empty) bytes
   unfolding Means
-  literal-whole bytes i j = (λ m. (i, refl, m.0, m.1), λ m. (subst (λ d. stands_at text d bytes ≡ true) (sym m.1) m.2, (let e = m.1 in let f = m.3 in omega arith)))
+  literal-whole bytes i j =
+      (λ m. (i, refl, m.0, m.1), λ m. (subst (λ d. stands_at text d bytes ≡ true) (sym m.1) m.2, (let e = m.1 in let f = m.3 in omega arith)))
 
   empty-nothing : IsNothing (M empty)
   unfolding Means
@@ -206,15 +208,18 @@ module _ (t : ℕ) (text : List ℕ) where
       let same : Same A B = same-back B A (repetition-means t text least (one_less max) greedy sub (fewer max least ordered)) in
       subst (Is (repetition (suc least) max greedy sub) s)
       (same_Some {A = Expression × List ℕ} (concat_of (repetition_of least (one_less max) greedy sub ∷ h ∷ []), []) left e)
-      (stripped-same text (Then A (M sub)) (M (repetition (suc least) max greedy sub)) (Then A (M h)) (M (concat_of (repetition_of least (one_less max) greedy sub ∷ h ∷ []))) s []
+      (stripped-same text (Then A (M sub)) (M (repetition (suc least) max greedy sub)) (Then A (M h))
+      (M (concat_of (repetition_of least (one_less max) greedy sub ∷ h ∷ []))) s []
       (one-copy least max greedy sub ordered)
-      (same-then (Then A (M h)) (Then B (M h)) (M (concat_of (repetition_of least (one_less max) greedy sub ∷ h ∷ []))) (then-left A B (M h) same) (two-parts (repetition_of least (one_less max) greedy sub) h))
+      (same-then (Then A (M h)) (Then B (M h)) (M (concat_of (repetition_of least (one_less max) greedy sub ∷ h ∷ []))) (then-left A B (M h) same)
+      (two-parts (repetition_of least (one_less max) greedy sub) h))
       here)
   last-copy sub least max greedy ordered s left again each h (b ∷ rest) is e =
       let A = M (repetition least (one_less max) greedy sub) in
       let none : IsNothing (M h) = elim is.3 [ inl e ↦ absurd (let n : suc (length rest) ≡ 0 = ap length e in omega arith) | inr none ↦ none ] in
       let here = stripped-then text A (M sub) (M left.0) (M h) s (b ∷ rest) left.1 is (each (b ∷ rest) e) in
-      stripped-same text (Then A (M sub)) (M (repetition (suc least) max greedy sub)) (Then (M left.0) (M h)) (M left.0) s left.1 (one-copy least max greedy sub ordered) (then-none (M left.0) (M h) none) here
+      stripped-same text (Then A (M sub)) (M (repetition (suc least) max greedy sub)) (Then (M left.0) (M h)) (M left.0) s left.1
+      (one-copy least max greedy sub ordered) (then-none (M left.0) (M h) none) here
 
   copies-means : (sub : Expression) (strip_one : List ℕ → Left) → ((s : List ℕ) (left : Expression × List ℕ) → strip_one s ≡ Some left → Is sub s left)
       → (least : ℕ) (max : Option ℕ) (greedy : Bool) → IfSome max (λ m. least ≤ m) → (s : List ℕ) (left : Expression × List ℕ)
@@ -269,7 +274,8 @@ module _ (t : ℕ) (text : List ℕ) where
     strip-means (concat subs) ordered s left e =
         by_suffix (concat subs) s (option_map (λ left. (concat_of left.0, left.1)) (strip_row subs s)) left
         (λ l f. by_some (strip_row subs s)
-        (λ q g. subst (Is (concat subs) s) (same_Some {A = Expression × List ℕ} (concat_of q.0, q.1) l (rw g at f)) (row-whole subs s q (strip-row-means subs ordered s q g)))
+        (λ q g. subst (Is (concat subs) s) (same_Some {A = Expression × List ℕ} (concat_of q.0, q.1) l (rw g at f))
+        (row-whole subs s q (strip-row-means subs ordered s q g)))
         (λ none. absurd (none-some l (rw none at f)))) e
     strip-means (alternation subs) ordered s left e = by_suffix (alternation subs) s None left (refused (alternation subs) s) e
 
@@ -295,6 +301,8 @@ strip-then h x s ordered e t text i j =
         → (Means t text h i j → ThenLiteral text (λ i j. Means t text x i j) s i j) × (ThenLiteral text (λ i j. Means t text x i j) s i j → Means t text h i j)
     whole g [] is e =
         let same : g ≡ x = same_Some g x e in
-        let ends : Ends text (λ i j. Means t text h i j) (λ i j. Means t text g i j) s = subst (Ends text (λ i j. Means t text h i j) (λ i j. Means t text g i j)) (sym is.1) is.2 in
-        subst (λ d. (Means t text h i j → ThenLiteral text (λ i j. Means t text d i j) s i j) × (ThenLiteral text (λ i j. Means t text d i j) s i j → Means t text h i j)) same (ends i j)
+        let ends : Ends text (λ i j. Means t text h i j) (λ i j. Means t text g i j) s =
+        subst (Ends text (λ i j. Means t text h i j) (λ i j. Means t text g i j)) (sym is.1) is.2 in
+        subst (λ d. (Means t text h i j → ThenLiteral text (λ i j. Means t text d i j) s i j)
+        × (ThenLiteral text (λ i j. Means t text d i j) s i j → Means t text h i j)) same (ends i j)
     whole g (b ∷ rest) is e = absurd (none-some x e)

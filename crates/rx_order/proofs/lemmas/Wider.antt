@@ -37,7 +37,8 @@ module _ (unit : ℕ → Option ℕ) (is_in : ℕ → Bool) (units : AreUnits un
       let ends = h.1.3 in
       by_test (nat_lt k h.0)
       (λ f. absurd (units i h.1.0 k m h.1.1 u (grind (arith, nat_tests)) (grind (arith, nat_tests))))
-      (λ f. let rest = split-at count h.0 j k m h.2 u (grind (arith, nat_tests)) high in let sum = rest.4 in (suc rest.0, rest.1, (h.0, h.1, rest.2), rest.3, omega arith)))
+      (λ f. let rest = split-at count h.0 j k m h.2 u (grind (arith, nat_tests)) high in let sum = rest.4 in
+      (suc rest.0, rest.1, (h.0, h.1, rest.2), rest.3, omega arith)))
 
   -- of two rows from one place the one that ends no later has no more units
   prefix-fewer : ((i n : ℕ) → unit i ≡ Some n → 1 ≤ n) → (p q k c d : ℕ) → Units p k c → Units q k d → c ≤ d → p ≤ q
@@ -106,7 +107,8 @@ module _ (t : ℕ) (text : List ℕ) where
   unfolding Means plain_class
   plain-step (class members) k e i j m =
       let same = same_Some members k e in
-      subst (λ d. Step (unit_of text k) (is_in text k) true i d) m.2 (subst (λ q. Step (unit_of text q) (is_in text q) true i (i + m.0)) same (class-step text members i m.0 m.1))
+      subst (λ d. Step (unit_of text k) (is_in text k) true i d) m.2 (subst (λ q. Step (unit_of text q) (is_in text q) true i (i + m.0)) same
+      (class-step text members i m.0 m.1))
   plain-step (capture group name sub) k e i j m = plain-step sub k e i j m
   plain-step empty k e i j m = absurd (none-some k e)
   plain-step (literal bytes) k e i j m = absurd (none-some k e)
@@ -158,8 +160,11 @@ module _ (t : ℕ) (text : List ℕ) where
       let q = each-piece (M sub) (Step (unit_of text k) (is_in text k) true) (λ x y z. plain-step sub k plain x y z) m'.0 i' j' m'.2 in
       let c = convex (unit_of text k) (is_in text k) (units text k) (λ x n u. unit-long text k x n u) m.0 m'.0 i j i' j' p q lt low high in
       let enough = m.1.0 in
-      let more = c.2 in
-      (c.0, (omega arith, between greatest c.0 m'.0 c.3 m'.1.1), each-piece (Step (unit_of text k) (is_in text k) true) (M sub) (λ x y z. step-plain sub k plain x y z) c.0 i' j c.1))
+      let more = c.2 in (
+        c.0,
+        (omega arith, between greatest c.0 m'.0 c.3 m'.1.1),
+        each-piece (Step (unit_of text k) (is_in text k) true) (M sub) (λ x y z. step-plain sub k plain x y z) c.0 i' j c.1,
+      ))
       (λ none. absurd (none-some k (rw none at e)))
   separator-convex (capture group name sub) k e i j i' j' m m' low high = separator-convex sub k e i j i' j' m m' low high
   separator-convex empty k e i j i' j' m m' low high = absurd (none-some k e)
@@ -171,7 +176,8 @@ module _ (t : ℕ) (text : List ℕ) where
   -- Of two parts that the same list means: their blocks, and that the second's start goes with the first's end where
   -- the separator leads there.
   abbrev LastMix : Expressions → Class → (i j i' j' : ℕ) → Type 0
-  LastMix hs k i j i' j' = (sep : Expression) × (separator_class sep ≡ Some k) × ((m m' : ℕ) × (i ≤ m) × M sep m j × Row text k false i' m' × M sep m' j' × (M sep m' j → MeansInTurn t text hs i' j))
+  LastMix hs k i j i' j' = (sep : Expression) × (separator_class sep ≡ Some k)
+      × ((m m' : ℕ) × (i ≤ m) × M sep m j × Row text k false i' m' × M sep m' j' × (M sep m' j → MeansInTurn t text hs i' j))
 
   last-mix : (hs : Expressions) (k : Class) → last_class hs ≡ Some k → are_apart_but_last k hs ≡ true → (i j i' j' : ℕ) → MeansInTurn t text hs i j
       → MeansInTurn t text hs i' j' → LastMix hs k i j i' j'
@@ -200,11 +206,23 @@ module _ (t : ℕ) (text : List ℕ) where
       let later = last-mix subs k (rw more at e) both.1 m.0 j m'.0 j' m.2 m'.2 in
       let up = means-rises t text sub i m.0 m.1 in
       let z = later.2 in
-      let low = z.2 in
-      (later.0, later.1, (z.0, z.1, omega arith, z.3, row-join text k false i' m'.0 z.1 (means-out text t k sub both.0 i' m'.0 m'.1) z.4, z.5, λ f. (m'.0, m'.1, z.6 f))))
+      let low = z.2 in (
+        later.0,
+        later.1,
+        (
+          z.0,
+          z.1,
+          omega arith,
+          z.3,
+          row-join text k false i' m'.0 z.1 (means-out text t k sub both.0 i' m'.0 m'.1) z.4,
+          z.5,
+          λ f. (m'.0, m'.1, z.6 f),
+        ),
+      ))
 
   abbrev FirstMix : Expressions → Class → (i j i' j' : ℕ) → Type 0
-  FirstMix hs k i j i' j' = (sep : Expression) × (separator_class sep ≡ Some k) × ((m m' : ℕ) × M sep i m × (m ≤ j) × M sep i' m' × Row text k false m' j' × (M sep i' m → MeansInTurn t text hs i' j))
+  FirstMix hs k i j i' j' = (sep : Expression) × (separator_class sep ≡ Some k)
+      × ((m m' : ℕ) × M sep i m × (m ≤ j) × M sep i' m' × Row text k false m' j' × (M sep i' m → MeansInTurn t text hs i' j))
 
   first-mix : (hs : Expressions) (k : Class) → first_class hs ≡ Some k → are_apart_but_first k hs ≡ true → (i j i' j' : ℕ) → MeansInTurn t text hs i j
       → MeansInTurn t text hs i' j' → FirstMix hs k i j i' j'
@@ -246,7 +264,8 @@ module _ (t : ℕ) (text : List ℕ) where
       let head = chain-head (unit_of text k) (is_in text k) true z.0 c block.1 block.0 in
       let short = block.0 in
       by_test (nat_lt z.0 z.1)
-      (λ f. true≢false (sym head.2 ∙ locate (unit_of text k) (is_in text k) (units text k) false i' z.1 z.0 head.0 z.4 head.1 (omega arith) (grind (arith, nat_tests))))
+      (λ f. true≢false (sym head.2 ∙ locate (unit_of text k) (is_in text k) (units text k) false i' z.1 z.0 head.0 z.4 head.1 (omega arith)
+      (grind (arith, nat_tests))))
       (λ f. none (z.6 (separator-convex x.0 k x.1 z.0 c z.1 c' z.3 z.5 (grind (arith, nat_tests)) (omega arith))))
 
   -- The first consuming part separates, whatever the literals are.
@@ -264,9 +283,11 @@ module _ (t : ℕ) (text : List ℕ) where
       (λ f. by_test (nat_lt z.1 z.0)
       (λ g.
       let end = chain-head (unit_of text k) (is_in text k) false z.1 c' z.5 (grind (arith, nat_tests)) in
-      true≢false (sym (locate (unit_of text k) (is_in text k) (units text k) true i z.0 z.1 end.0 block.1 end.1 (grind (arith, nat_tests)) (grind (arith, nat_tests))) ∙ end.2))
+      true≢false (sym (locate (unit_of text k) (is_in text k) (units text k) true i z.0 z.1 end.0 block.1 end.1 (grind (arith, nat_tests))
+      (grind (arith, nat_tests))) ∙ end.2))
       (λ g. none (z.6 (separator-convex x.0 k x.1 i z.0 i' z.1 z.2 z.4 (omega arith) (grind (arith, nat_tests))))))
-      (λ f. true≢false (sym head.2 ∙ locate (unit_of text k) (is_in text k) (units text k) false z.1 c' i head.0 z.5 head.1 (grind (arith, nat_tests)) (omega arith)))
+      (λ f. true≢false (sym head.2 ∙ locate (unit_of text k) (is_in text k) (units text k) false z.1 c' i head.0 z.5 head.1 (grind (arith, nat_tests))
+      (omega arith)))
 
   -- a block alone
   block-wider : (h : Expression) (k : Class) → separator_class h ≡ Some k → (ls : List (List ℕ)) → IsOrdered t text h ls

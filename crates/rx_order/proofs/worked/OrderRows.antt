@@ -75,7 +75,8 @@ dot_or_earlier holds =
   where
     starts : (k : ℕ) → Means 10 (codes "xabb") dot_or k 3 → 2 ≤ k
     starts k m = elim m [
-      | inl long ↦ let e = long.2.1.1 in let f = long.2.2 in let g = long.1.2 in let some = class-long (codes "xabb") dots k long.1.0 long.1.1 in absurd (omega arith)
+      | inl long ↦ let e =
+          long.2.1.1 in let f = long.2.2 in let g = long.1.2 in let some = class-long (codes "xabb") dots k long.1.0 long.1.1 in absurd (omega arith)
       | inr more ↦ elim more [ inl b ↦ let e = b.1 in omega arith | inr none ↦ absurd none ]
     ]
 
@@ -87,7 +88,8 @@ dot_or_earlier holds =
 -- `a(?:zaby)?b` on `azabyb`: the class `a` stands first, but another part has an `a`. The `b` at 3 is confirmed, with
 -- the start 2; a match is 0..6.
 abbrev unchecked : Expression
-unchecked = concat (cons (class (byte_ranges ((0x61, 0x61) ∷ []))) (cons (repetition 0 (Some 1) true (literal (codes "zaby"))) (cons (literal (codes "b")) nil)))
+unchecked =
+    concat (cons (class (byte_ranges ((0x61, 0x61) ∷ []))) (cons (repetition 0 (Some 1) true (literal (codes "zaby"))) (cons (literal (codes "b")) nil)))
 
 unchecked_earlier : SuffixIsNoEarlier unchecked (codes "b") → ⊥
 unfolding Means stands_at member_len
@@ -95,7 +97,11 @@ unchecked_earlier holds =
     refute unchecked (codes "b") (codes "azabyb") 3 2 0 holds
     (record {
       candidate = (omega arith, refl, omega arith);
-      start = record { inside = omega arith; has = (3, (1, refl, refl), (3, (0, (omega arith, omega arith), refl), (4, (refl, refl), refl))); least = λ k low m. starts k m };
+      start = record {
+        inside = omega arith;
+        has = (3, (1, refl, refl), (3, (0, (omega arith, omega arith), refl), (4, (refl, refl), refl)));
+        least = λ k low m. starts k m;
+      };
     })
     before (6, omega arith, (1, (1, refl, refl), (5, (1, (omega arith, omega arith), (5, (refl, refl), refl)), (6, (refl, refl), refl)))) (omega arith)
   where
@@ -135,9 +141,21 @@ left_out_earlier holds =
     refute left_out (codes "b") (codes "xbyb") 1 1 0 holds
     (record {
       candidate = (omega arith, refl, omega arith);
-      start = record { inside = omega arith; has = (1, (0, (omega arith, omega arith), refl), (1, (0, (omega arith, tt), refl), (2, (refl, refl), refl))); least = λ k low m. starts k m };
+      start = record {
+        inside = omega arith;
+        has = (1, (0, (omega arith, omega arith), refl), (1, (0, (omega arith, tt), refl), (2, (refl, refl), refl)));
+        least = λ k low m. starts k m;
+      };
     })
-    before (4, omega arith, (3, (1, (omega arith, omega arith), (3, (refl, refl), refl)), (3, (0, (omega arith, tt), refl), (4, (refl, refl), refl)))) (omega arith)
+    before (
+      4,
+      omega arith,
+      (
+        3,
+        (1, (omega arith, omega arith), (3, (refl, refl), refl)),
+        (3, (0, (omega arith, tt), refl), (4, (refl, refl), refl)),
+      ),
+    ) (omega arith)
   where
     before : (d : ℕ) → d < 1 → stands_at (codes "xbyb") d (codes "b") ≡ false
     before zero lt = refl
@@ -168,7 +186,8 @@ abbrev accent : List (ℕ × ℕ)
 accent = (0xE9, 0xE9) ∷ []
 
 abbrev zeb : Expression
-zeb = concat (cons (literal (codes "z")) (cons (class (byte_ranges ((0xC3, 0xC3) ∷ []))) (cons (class (byte_ranges ((0xA9, 0xA9) ∷ []))) (cons (literal (codes "b")) nil))))
+zeb = concat (cons (literal (codes "z")) (cons (class (byte_ranges ((0xC3, 0xC3) ∷ [])))
+    (cons (class (byte_ranges ((0xA9, 0xA9) ∷ []))) (cons (literal (codes "b")) nil))))
 
 abbrev mixed : Expression
 mixed = concat (cons (repetition 0 (Some 1) true zeb) (cons (class (scalar_ranges accent)) (cons (literal (codes "b")) nil)))
@@ -182,10 +201,21 @@ mixed_earlier holds =
     refute mixed (codes "b") accents 3 1 0 holds
     (record {
       candidate = (omega arith, refl, omega arith);
-      start = record { inside = omega arith; has = (1, (0, (omega arith, omega arith), refl), (3, (2, refl, refl), (4, (refl, refl), refl))); least = λ k low m. starts k m };
+      start = record {
+        inside = omega arith;
+        has = (1, (0, (omega arith, omega arith), refl), (3, (2, refl, refl), (4, (refl, refl), refl)));
+        least = λ k low m. starts k m;
+      };
     })
-    before
-    (7, omega arith, (4, (1, (omega arith, omega arith), (4, (1, (refl, refl), (2, (1, refl, refl), (3, (1, refl, refl), (4, (refl, refl), refl)))), refl)), (6, (2, refl, refl), (7, (refl, refl), refl)))) (omega arith)
+    before (
+      7,
+      omega arith,
+      (
+        4,
+        (1, (omega arith, omega arith), (4, (1, (refl, refl), (2, (1, refl, refl), (3, (1, refl, refl), (4, (refl, refl), refl)))), refl)),
+        (6, (2, refl, refl), (7, (refl, refl), refl)),
+      ),
+    ) (omega arith)
   where
     before : (d : ℕ) → d < 3 → stands_at accents d (codes "b") ≡ false
     before zero lt = refl
@@ -197,7 +227,8 @@ mixed_earlier holds =
     copies zero j le h = inl h
     copies (suc zero) j le h = inr (let c3 = byte_len-is accents ((0xC3, 0xC3) ∷ []) h.1.0 h.1.2.1.0 h.1.2.1.1 in
         let a9 = byte_len-is accents ((0xA9, 0xA9) ∷ []) h.1.2.0 h.1.2.2.1.0 h.1.2.2.1.1 in
-        let w = h.1.1.1 in let x = c3.0 in let y = a9.0 in let u = h.1.2.1.2 in let v = h.1.2.2.1.2 in let z = h.1.2.2.2.1.1 in let q = h.1.2.2.2.2 in let e = h.2 in omega arith)
+        let w = h.1.1.1 in let x = c3.0 in let y = a9.0 in let u = h.1.2.1.2 in let v = h.1.2.2.1.2 in let z = h.1.2.2.2.1.1 in let q = h.1.2.2.2.2 in
+        let e = h.2 in omega arith)
     copies (suc (suc n)) j le h = absurd (omega arith)
 
     starts : (k : ℕ) → Means 10 accents mixed k 4 → 1 ≤ k

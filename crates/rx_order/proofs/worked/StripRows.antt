@@ -22,7 +22,8 @@ abbrev spaces : Expression
 spaces = repetition 1 None true (class (scalar_ranges ((0x20, 0x20) ∷ [])))
 
 -- `[a-z]+xyz` without `yz` is `[a-z]+x`
-part_of_literal : strip_literal_suffix (concat (cons letters (cons (literal (codes "xyz")) nil))) (codes "yz") ≡ Some (concat (cons letters (cons (literal (codes "x")) nil)))
+part_of_literal : strip_literal_suffix (concat (cons letters (cons (literal (codes "xyz")) nil))) (codes "yz")
+    ≡ Some (concat (cons letters (cons (literal (codes "x")) nil)))
 unfolding strip strip_copies
 part_of_literal = refl
 

@@ -10,7 +10,8 @@ unfolding texts_in
 returns-in-Alternation c =
     let e = sym c.kind.ensures.value ∙ ap kind_view c.in-Alternation.is in
     IfOk-weaker c.many_texts.result _ _
-    (λ literals p. p ∙ ap (many_texts 3000) (c.deref.ensures.value ∙ sym (list_of-expressions c.in-Alternation.subs.items)) ∙ sym (ap texts_in e)) c.many_texts.ensures
+    (λ literals p. p ∙ ap (many_texts 3000) (c.deref.ensures.value ∙ sym (list_of-expressions c.in-Alternation.subs.items)) ∙ sym (ap texts_in e))
+    c.many_texts.ensures
 
 pub returns-in-Empty : goal.returns-in-Empty
 unfolding texts_in

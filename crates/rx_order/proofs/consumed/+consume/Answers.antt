@@ -48,12 +48,14 @@ kind_can_consume-returns-in-Look t c = sym (ap (λ k. can_consume c.args.byte (k
 pub kind_can_consume-returns-in-Repetition : goal.kind_can_consume-returns-in-Repetition
 unfolding can_consume
 kind_can_consume-returns-in-Repetition t c =
-    c.can_consume.ensures ∙ ap (can_consume c.args.byte) c.deref-in-Repetition.ensures ∙ sym (ap (λ k. can_consume c.args.byte (kind_view k)) c.in-Repetition.is)
+    c.can_consume.ensures ∙ ap (can_consume c.args.byte) c.deref-in-Repetition.ensures
+    ∙ sym (ap (λ k. can_consume c.args.byte (kind_view k)) c.in-Repetition.is)
 
 pub kind_can_consume-returns-in-Capture : goal.kind_can_consume-returns-in-Capture
 unfolding can_consume
 kind_can_consume-returns-in-Capture t c =
-    c.can_consume-in-Capture.ensures ∙ ap (can_consume c.args.byte) c.deref-in-Capture.ensures ∙ sym (ap (λ k. can_consume c.args.byte (kind_view k)) c.in-Capture.is)
+    c.can_consume-in-Capture.ensures ∙ ap (can_consume c.args.byte) c.deref-in-Capture.ensures
+    ∙ sym (ap (λ k. can_consume c.args.byte (kind_view k)) c.in-Capture.is)
 
 pub kind_can_consume-returns-in-Concat : goal.kind_can_consume-returns-in-Concat
 unfolding can_consume

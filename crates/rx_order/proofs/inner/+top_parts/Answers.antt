@@ -16,7 +16,8 @@ unfolding top_parts
 returns-in-Concat t c =
     let e = sym c.kind.ensures.value ∙ ap kind_view c.in-Concat.is in
     IfOk-weaker c.row_parts.result _ _
-    (λ parts p. p ∙ ap (λ ys. parts_in (concat_of (all_uncaptured (expressions ys)))) c.deref-in-Concat.ensures.value ∙ sym (ap top_parts e)) c.row_parts.ensures
+    (λ parts p. p ∙ ap (λ ys. parts_in (concat_of (all_uncaptured (expressions ys)))) c.deref-in-Concat.ensures.value ∙ sym (ap top_parts e))
+    c.row_parts.ensures
 
 pub returns-in-Empty : goal.returns-in-Empty
 unfolding top_parts

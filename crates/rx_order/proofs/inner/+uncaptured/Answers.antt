@@ -67,11 +67,13 @@ unfolding uncaptured
 uncaptured-returns-in_ok-concat-in-Concat t c =
     let e = sym c.kind.ensures.value ∙ ap kind_view c.in-Concat.is in
     c.in_ok-concat-in-Concat.ensures
-    ∙ ap concat_of (c.in_ok-all_uncaptured-in-Concat.ensures ∙ ap (λ ys. all_uncaptured (expressions ys)) c.deref-in-Concat.ensures.value) ∙ sym (ap uncaptured e)
+    ∙ ap concat_of (c.in_ok-all_uncaptured-in-Concat.ensures ∙ ap (λ ys. all_uncaptured (expressions ys)) c.deref-in-Concat.ensures.value)
+    ∙ sym (ap uncaptured e)
 
 pub uncaptured-returns-in_ok-alternation-in-Alternation : goal.uncaptured-returns-in_ok-alternation-in-Alternation
 unfolding uncaptured
 uncaptured-returns-in_ok-alternation-in-Alternation t c =
     let e = sym c.kind.ensures.value ∙ ap kind_view c.in-Alternation.is in
     c.in_ok-alternation-in-Alternation.ensures
-    ∙ ap alternation_of (c.in_ok-all_uncaptured-in-Alternation.ensures ∙ ap (λ ys. all_uncaptured (expressions ys)) c.deref-in-Alternation.ensures.value) ∙ sym (ap uncaptured e)
+    ∙ ap alternation_of (c.in_ok-all_uncaptured-in-Alternation.ensures ∙ ap (λ ys. all_uncaptured (expressions ys)) c.deref-in-Alternation.ensures.value)
+    ∙ sym (ap uncaptured e)

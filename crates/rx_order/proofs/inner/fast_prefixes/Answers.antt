@@ -16,4 +16,5 @@ returns-in-Some-clause-value c =
 pub returns-clause-value : goal.returns-clause-value
 returns-clause-value c =
     let trimmed = c.in_ok-seq.ensures ∙ ap trimmed_by_preference c.in_ok-found.ensures in
-    fast-none-is c.args.hir.now c.in_ok-seq.seq (option_map (λ r. r.now) c.literals.result) c.literals.ensures trimmed (ap (option_map (λ r. r.now)) c.in-None.is)
+    fast-none-is c.args.hir.now c.in_ok-seq.seq (option_map (λ r. r.now) c.literals.result) c.literals.ensures trimmed
+    (ap (option_map (λ r. r.now)) c.in-None.is)

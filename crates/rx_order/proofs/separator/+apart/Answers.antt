@@ -33,7 +33,8 @@ kind_is_apart-returns-in-Empty t c = sym (ap (λ k. is_apart (class_view c.args.
 
 pub kind_is_apart-returns-in-Literal : goal.kind_is_apart-returns-in-Literal
 unfolding is_apart
-kind_is_apart-returns-in-Literal t c = c.literal_is_apart.ensures ∙ ap (literal_is_apart (class_view c.args.class.now)) c.deref.ensures.value ∙ sym (ap (λ k. is_apart (class_view c.args.class.now) (kind_view k)) c.in-Literal.is)
+kind_is_apart-returns-in-Literal t c = c.literal_is_apart.ensures ∙ ap (literal_is_apart (class_view c.args.class.now)) c.deref.ensures.value
+    ∙ sym (ap (λ k. is_apart (class_view c.args.class.now) (kind_view k)) c.in-Literal.is)
 
 pub kind_is_apart-returns-in-Class : goal.kind_is_apart-returns-in-Class
 unfolding is_apart
@@ -45,16 +46,21 @@ kind_is_apart-returns-in-Look t c = sym (ap (λ k. is_apart (class_view c.args.c
 
 pub kind_is_apart-returns-in-Repetition : goal.kind_is_apart-returns-in-Repetition
 unfolding is_apart
-kind_is_apart-returns-in-Repetition t c = c.is_apart.ensures ∙ ap (is_apart (class_view c.args.class.now)) c.deref-in-Repetition.ensures ∙ sym (ap (λ k. is_apart (class_view c.args.class.now) (kind_view k)) c.in-Repetition.is)
+kind_is_apart-returns-in-Repetition t c = c.is_apart.ensures ∙ ap (is_apart (class_view c.args.class.now)) c.deref-in-Repetition.ensures
+    ∙ sym (ap (λ k. is_apart (class_view c.args.class.now) (kind_view k)) c.in-Repetition.is)
 
 pub kind_is_apart-returns-in-Capture : goal.kind_is_apart-returns-in-Capture
 unfolding is_apart
-kind_is_apart-returns-in-Capture t c = c.is_apart-in-Capture.ensures ∙ ap (is_apart (class_view c.args.class.now)) c.deref-in-Capture.ensures ∙ sym (ap (λ k. is_apart (class_view c.args.class.now) (kind_view k)) c.in-Capture.is)
+kind_is_apart-returns-in-Capture t c = c.is_apart-in-Capture.ensures ∙ ap (is_apart (class_view c.args.class.now)) c.deref-in-Capture.ensures
+    ∙ sym (ap (λ k. is_apart (class_view c.args.class.now) (kind_view k)) c.in-Capture.is)
 
 pub kind_is_apart-returns-in-Concat : goal.kind_is_apart-returns-in-Concat
 unfolding is_apart
-kind_is_apart-returns-in-Concat t c = c.all_apart.ensures ∙ ap (λ ys. all_apart (class_view c.args.class.now) (expressions ys)) c.deref-in-Concat.ensures.value ∙ sym (ap (λ k. is_apart (class_view c.args.class.now) (kind_view k)) c.in-Concat.is)
+kind_is_apart-returns-in-Concat t c = c.all_apart.ensures ∙ ap (λ ys. all_apart (class_view c.args.class.now) (expressions ys)) c.deref-in-Concat.ensures.value
+    ∙ sym (ap (λ k. is_apart (class_view c.args.class.now) (kind_view k)) c.in-Concat.is)
 
 pub kind_is_apart-returns-in-Alternation : goal.kind_is_apart-returns-in-Alternation
 unfolding is_apart
-kind_is_apart-returns-in-Alternation t c = c.all_apart-in-Alternation.ensures ∙ ap (λ ys. all_apart (class_view c.args.class.now) (expressions ys)) c.deref-in-Alternation.ensures.value ∙ sym (ap (λ k. is_apart (class_view c.args.class.now) (kind_view k)) c.in-Alternation.is)
+kind_is_apart-returns-in-Alternation t c = c.all_apart-in-Alternation.ensures
+    ∙ ap (λ ys. all_apart (class_view c.args.class.now) (expressions ys)) c.deref-in-Alternation.ensures.value
+    ∙ sym (ap (λ k. is_apart (class_view c.args.class.now) (kind_view k)) c.in-Alternation.is)

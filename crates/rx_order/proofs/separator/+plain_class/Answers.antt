@@ -9,7 +9,8 @@ returns-in-Class t c = sym (ap (λ k. plain_class (kind_view k)) c.in-Class.is) 
 
 pub returns-in-Capture : goal.returns-in-Capture
 unfolding plain_class
-returns-in-Capture t c = c.plain_class.ensures ∙ ap plain_class c.deref.ensures ∙ sym (ap (λ k. plain_class (kind_view k)) c.in-Capture.is) ∙ ap plain_class c.kind.ensures.value
+returns-in-Capture t c =
+    c.plain_class.ensures ∙ ap plain_class c.deref.ensures ∙ sym (ap (λ k. plain_class (kind_view k)) c.in-Capture.is) ∙ ap plain_class c.kind.ensures.value
 
 pub returns-in-Empty : goal.returns-in-Empty
 unfolding plain_class

@@ -6,11 +6,16 @@ use Rattle.rx_order.proofs.separator.+separator_class.Goals as goal
 
 pub returns-then-copies-eq0 : goal.returns-then-copies-eq0
 unfolding separator_class
-returns-then-copies-eq0 t c = copies-none c.in-Repetition.copies.min c.in-Repetition.copies.max c.in-Repetition.copies.greedy c.in-Repetition.copies.sub.value (let z : c.in-Repetition.copies.min ≡ 0 = omega arith in z) ∙ sym (ap (λ k. separator_class (kind_view k)) c.in-Repetition.is) ∙ ap separator_class c.kind.ensures.value
+returns-then-copies-eq0 t c = copies-none c.in-Repetition.copies.min c.in-Repetition.copies.max c.in-Repetition.copies.greedy c.in-Repetition.copies.sub.value
+    (let z : c.in-Repetition.copies.min ≡ 0 = omega arith in z) ∙ sym (ap (λ k. separator_class (kind_view k)) c.in-Repetition.is)
+    ∙ ap separator_class c.kind.ensures.value
 
 pub returns-else-copies-eq0 : goal.returns-else-copies-eq0
 unfolding separator_class
-returns-else-copies-eq0 t c = c.plain_class.ensures ∙ ap plain_class c.deref.ensures ∙ copies-some c.in-Repetition.copies.min c.in-Repetition.copies.max c.in-Repetition.copies.greedy c.in-Repetition.copies.sub.value (let z : 1 ≤ c.in-Repetition.copies.min = omega arith in z) ∙ sym (ap (λ k. separator_class (kind_view k)) c.in-Repetition.is) ∙ ap separator_class c.kind.ensures.value
+returns-else-copies-eq0 t c = c.plain_class.ensures ∙ ap plain_class c.deref.ensures
+    ∙ copies-some c.in-Repetition.copies.min c.in-Repetition.copies.max c.in-Repetition.copies.greedy c.in-Repetition.copies.sub.value
+    (let z : 1 ≤ c.in-Repetition.copies.min = omega arith in z) ∙ sym (ap (λ k. separator_class (kind_view k)) c.in-Repetition.is)
+    ∙ ap separator_class c.kind.ensures.value
 
 pub returns-in-Class : goal.returns-in-Class
 unfolding separator_class
@@ -18,7 +23,8 @@ returns-in-Class t c = sym (ap (λ k. separator_class (kind_view k)) c.in-Class.
 
 pub returns-in-Capture : goal.returns-in-Capture
 unfolding separator_class
-returns-in-Capture t c = c.separator_class.ensures ∙ ap separator_class c.deref-in-Capture.ensures ∙ sym (ap (λ k. separator_class (kind_view k)) c.in-Capture.is) ∙ ap separator_class c.kind.ensures.value
+returns-in-Capture t c = c.separator_class.ensures ∙ ap separator_class c.deref-in-Capture.ensures
+    ∙ sym (ap (λ k. separator_class (kind_view k)) c.in-Capture.is) ∙ ap separator_class c.kind.ensures.value
 
 pub returns-in-Empty : goal.returns-in-Empty
 unfolding separator_class

@@ -20,30 +20,35 @@ pub strip_kind-returns-in-Look : goal.strip_kind-returns-in-Look
 strip_kind-returns-in-Look t c = (off-look _ c.args.suffix.now c.requires.some ∙ sym (ap (λ k. strip (kind_view k) c.args.suffix.now) c.in-Look.is), tt)
 
 pub strip_kind-returns-in-Alternation : goal.strip_kind-returns-in-Alternation
-strip_kind-returns-in-Alternation t c = (off-alternation _ c.args.suffix.now c.requires.some ∙ sym (ap (λ k. strip (kind_view k) c.args.suffix.now) c.in-Alternation.is), tt)
+strip_kind-returns-in-Alternation t c =
+    (off-alternation _ c.args.suffix.now c.requires.some ∙ sym (ap (λ k. strip (kind_view k) c.args.suffix.now) c.in-Alternation.is), tt)
 
 pub strip_kind-returns-in-Literal : goal.strip_kind-returns-in-Literal
 strip_kind-returns-in-Literal t c =
     let s = c.args.suffix.now in
-    let e = ap (λ bytes. strip_bytes bytes s) c.deref.ensures.value ∙ off-literal c.in-Literal.bytes.items s c.requires.some ∙ sym (ap (λ k. strip (kind_view k) c.args.suffix.now) c.in-Literal.is) in
+    let e = ap (λ bytes. strip_bytes bytes s) c.deref.ensures.value ∙ off-literal c.in-Literal.bytes.items s c.requires.some
+    ∙ sym (ap (λ k. strip (kind_view k) c.args.suffix.now) c.in-Literal.is) in
     subst (λ left. IfOk c.strip_bytes.result (IsLeft s left)) e c.strip_bytes.ensures
 
 pub strip_kind-returns-in-Repetition : goal.strip_kind-returns-in-Repetition
 strip_kind-returns-in-Repetition t c =
     let s = c.args.suffix.now in
-    let e = off-copies c.in-Repetition.copies.min c.in-Repetition.copies.max c.in-Repetition.copies.greedy c.in-Repetition.copies.sub.value s c.requires.some ∙ sym (ap (λ k. strip (kind_view k) c.args.suffix.now) c.in-Repetition.is) in
+    let e = off-copies c.in-Repetition.copies.min c.in-Repetition.copies.max c.in-Repetition.copies.greedy c.in-Repetition.copies.sub.value s c.requires.some
+    ∙ sym (ap (λ k. strip (kind_view k) c.args.suffix.now) c.in-Repetition.is) in
     subst (λ left. IfOk c.strip_copies.result (IsLeft s left)) e c.strip_copies.ensures
 
 pub strip_kind-returns-in-Capture : goal.strip_kind-returns-in-Capture
 strip_kind-returns-in-Capture t c =
     let s = c.args.suffix.now in
-    let e = ap (λ h. strip h s) c.deref-in-Capture.ensures ∙ off-capture _ _ c.in-Capture.capture.sub.value s c.requires.some ∙ sym (ap (λ k. strip (kind_view k) c.args.suffix.now) c.in-Capture.is) in
+    let e = ap (λ h. strip h s) c.deref-in-Capture.ensures ∙ off-capture _ _ c.in-Capture.capture.sub.value s c.requires.some
+    ∙ sym (ap (λ k. strip (kind_view k) c.args.suffix.now) c.in-Capture.is) in
     subst (λ left. IfOk c.strip.result (IsLeft s left)) e c.strip.ensures
 
 pub strip_kind-returns-in-Concat : goal.strip_kind-returns-in-Concat
 strip_kind-returns-in-Concat t c =
     let s = c.args.suffix.now in
-    let e = ap (λ ys. option_map (λ left. (concat_of left.0, left.1)) (strip_row (expressions ys) s)) c.deref-in-Concat.ensures.value ∙ off-row _ s c.requires.some ∙ sym (ap (λ k. strip (kind_view k) c.args.suffix.now) c.in-Concat.is) in
+    let e = ap (λ ys. option_map (λ left. (concat_of left.0, left.1)) (strip_row (expressions ys) s)) c.deref-in-Concat.ensures.value
+    ∙ off-row _ s c.requires.some ∙ sym (ap (λ k. strip (kind_view k) c.args.suffix.now) c.in-Concat.is) in
     subst (λ left. IfOk c.strip_row.result (IsLeft s left)) e c.strip_row.ensures
 
 pub strip-returns-then-is_empty : goal.strip-returns-then-is_empty
@@ -58,7 +63,8 @@ strip_copies-returns-in_default t c =
     let l = c.loop-min in
     let s = c.args.suffix.now in (
       copies-default s r.sub.value c.deref.result.now c.deref.ensures r.greedy l.min l.max l.count (take l.count s) refl
-          (strip_copies (strip r.sub.value) r.min r.max r.greedy r.sub.value s) l.invariant.same (omega arith) c.in_ok-stripped.stripped c.in_ok-stripped.ensures c.in_default.is,
+          (strip_copies (strip r.sub.value) r.min r.max r.greedy r.sub.value s) l.invariant.same (omega arith) c.in_ok-stripped.stripped
+          c.in_ok-stripped.ensures c.in_default.is,
       tt,
     )
 
@@ -70,7 +76,8 @@ strip_copies-returns-then-last-eq0 t c =
     let last = c.in-Some.last in
     let none : last.count ≡ 0 = omega arith in
     let e = copies-end s r.sub.value c.deref.result.now c.deref.ensures r.greedy l.min l.max l.count (take l.count s) refl
-    (strip_copies (strip r.sub.value) r.min r.max r.greedy r.sub.value s) l.invariant.same (omega arith) c.in_ok-stripped.stripped c.in_ok-stripped.ensures last c.in-Some.is none in
+    (strip_copies (strip r.sub.value) r.min r.max r.greedy r.sub.value s) l.invariant.same (omega arith) c.in_ok-stripped.stripped c.in_ok-stripped.ensures last
+    c.in-Some.is none in
     IfOk-weaker c.fewer_copies.result _ _
     (λ o is. fewer-left s (concat_of (repetition_of (l.min - 1) c.one_less-max.result r.greedy r.sub.value ∷ last.rest ∷ [])) _ o is
     ((λ i. Some (concat_of (repetition_of (l.min - 1) (c.one_less-max.ensures i) r.greedy r.sub.value ∷ last.rest ∷ []), [])) ∙ e)) c.fewer_copies.ensures
@@ -83,12 +90,14 @@ strip_copies-loop-min-preserved t c =
     let last = c.in-Some.last in
     let more : 0 < last.count = omega arith in
     let next = copies-next s r.sub.value c.deref.result.now c.deref.ensures r.greedy l.min l.max l.count (take l.count s) refl
-    (strip_copies (strip r.sub.value) r.min r.max r.greedy r.sub.value s) l.invariant.same (omega arith) c.in_ok-stripped.stripped c.in_ok-stripped.ensures last c.in-Some.is more l.invariant.within in
+    (strip_copies (strip r.sub.value) r.min r.max r.greedy r.sub.value s) l.invariant.same (omega arith) c.in_ok-stripped.stripped c.in_ok-stripped.ensures last
+    c.in-Some.is more l.invariant.within in
     record {
       within = omega (arith, c.count_left-count.ensures, next.1);
       some = omega (arith, c.count_left-count.ensures, more);
       ordered = subst (λ o. IfSome o (λ m. l.min - 1 ≤ m)) (sym c.one_less-max.ensures) (ordered-less l.min l.max l.invariant.ordered);
-      same = (λ i. strip_copies (strip r.sub.value) (l.min - 1) (c.one_less-max.ensures i) r.greedy r.sub.value (take (c.count_left-count.ensures i) s)) ∙ next.0;
+      same = (λ i. strip_copies (strip r.sub.value) (l.min - 1) (c.one_less-max.ensures i) r.greedy r.sub.value
+          (take (c.count_left-count.ensures i) s)) ∙ next.0;
     }
 
 pub strip_copies-returns : goal.strip_copies-returns
@@ -121,7 +130,8 @@ strip_row-returns-in_default t c =
     let within : l.i - 1 < length parts = omega (arith, l.invariant.within, c.loop-i-test.true) in
     let back : l.i ≡ l.i - 1 + 1 = omega arith in
     let so_far = subst (λ k. strip_row (expressions (drop k parts)) s ≡ Some (reverse l.left.items, take l.count s)) back l.invariant.so_far in
-    let none = part-default parts s (l.i - 1) within c.index-parts-i.result c.index-parts-i.is l.left.items l.count l.invariant.count so_far (take l.count s) refl
+    let none =
+    part-default parts s (l.i - 1) within c.index-parts-i.result c.index-parts-i.is l.left.items l.count l.invariant.count so_far (take l.count s) refl
     c.in_ok-stripped.stripped c.in_ok-stripped.ensures c.in_default.is in
     (sym (ap (option_map (λ left. (concat_of left.0, left.1))) none), tt)
 

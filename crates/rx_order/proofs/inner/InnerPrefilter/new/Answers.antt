@@ -16,4 +16,5 @@ returns-in-Some-clause-rest c = λ h one.
     let is' : y ≡ h = c.index-hirs-0-2.is ∙ ap (λ hs. get_or hs 0 y) one in
     let ordered = subst AreOrdered is (IsSound-ordered x c.kind-kind.ensures.sound) in
     let tops : top_parts h ≡ Some c.in-Some.parts.items = ap top_parts (sym is') ∙ sym c.in_ok-parts.ensures ∙ ap (option_map vec_items) c.in-Some.is in
-    IfOk-weaker c.in_parts.result _ _ (λ made e. made-rest (λ i. (i.prefix, map vec_items i.literals.items)) h ordered c.in-Some.parts.items tops made e) c.in_parts.ensures.value
+    IfOk-weaker c.in_parts.result _ _ (λ made e. made-rest (λ i. (i.prefix, map vec_items i.literals.items)) h ordered c.in-Some.parts.items tops made e)
+    c.in_parts.ensures.value

@@ -16,7 +16,8 @@ invariant_of-self-2 c =
     let at : b ≡ bucket_of (length s.heads.items) k = c.bucket_of-bucket.ensures.value ∙ ap (λ n. bucket_of n k) width in
     let within : b < length s.heads.items = omega (arith, c.bucket_of-bucket.ensures.within) in
     let keys : c.push.new.self ≡ s.keys ++ k ∷ [] = c.in_ok-push.ensures.ok in
-    let buckets : c.push_reserved.new.self.items ≡ s.buckets.items ++ b ∷ [] = c.push_reserved.ensures.items ∙ ap (λ xs. xs ++ b ∷ []) c.in_ok-reserve.ensures.items in
+    let buckets : c.push_reserved.new.self.items ≡ s.buckets.items ++ b ∷ [] =
+    c.push_reserved.ensures.items ∙ ap (λ xs. xs ++ b ∷ []) c.in_ok-reserve.ensures.items in
     let head : c.index.result.now ≡ get_or s.heads.items b 0 = get_or_read s.heads.items b c.index.result.now within c.index.ensures 0 in
     let links : c.push_reserved-2.new.self.items ≡ s.links.items ++ get_or s.heads.items b 0 ∷ [] =
     c.push_reserved-2.ensures.items ∙ (λ j. c.in_ok-reserve-2.ensures.items j ++ head j ∷ []) in
