@@ -10,5 +10,9 @@ pub mod ListLemmas
 pub mod CloseLemmas
 pub mod ThreadLemmas
 pub mod KeyLemmas
+pub mod AlphabetLemmas
 pub mod KeyRowLemmas
 pub mod ChainLemmas
+pub mod LazyLemmas
+pub mod RowsLemmas
+pub mod HeldLemmas

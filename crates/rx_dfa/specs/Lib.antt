@@ -8,3 +8,7 @@ pub mod Source
 pub mod KeyRow
 pub mod Hash
 pub mod KeySet
+pub mod Alphabet
+pub mod Lazy
+pub mod LazyCache
+pub mod LazyBuild

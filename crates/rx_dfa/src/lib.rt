@@ -4,11 +4,12 @@
 //! stand.
 #![tactic(auto)]
 
+mod alphabet;
 mod automaton;
 mod beside;
 mod close;
 pub mod determinize;
-mod lazy;
+pub mod lazy;
 pub mod scratch;
 mod search;
 pub mod state_key;

@@ -1,0 +1,91 @@
+//! The bytes as a DFA tells them apart.
+ghost use Rattle.std.specs.Prelude.{◌≡◌, ◌↔◌, true, false, IfOk, IsTrue, EachIndex, slice_index, if◌then◌else◌};
+ghost use Rattle.rx_search.specs.ByteClasses.{AreClasses};
+ghost use Rattle.rx_model.specs.Look.{Look};
+ghost use Rattle.rx_model.specs.Beside.{is_unicode_word};
+ghost use Rattle.rx_search.specs.LookSet.{has};
+ghost use Rattle.rx_dfa.specs.Alphabet.{IsAlphabetOf, reads};
+
+use rx_nfa::NFA;
+use rx_search::{ByteClasses, Look as LookKind, LookSet, Memory};
+use std::alloc::Global;
+
+/// The bytes as a DFA tells them apart.
+#[derive(Drop)]
+pub struct Alphabet {
+    /// The class of each byte.
+    pub classes: ByteClasses,
+    /// The least byte of each class, which stands for it.
+    pub bytes: Vec<u8>,
+    /// The class of the last byte is kept, since the NFA asks for look-around.
+    pub keeps: bool,
+    /// The NFA asks for words of Unicode, so that no byte above 7F is read.
+    pub words: bool,
+}
+
+impl Alphabet {
+    /// For this NFA: the bytes that it does not tell apart share a class, or each byte has a class of its own.
+    pub fn new(alloc: Global, nfa: &NFA, byte_classes: bool) -> Result<Alphabet, Memory>
+        ensures { IfOk result (IsAlphabetOf nfa.now byte_classes) }
+    {
+        let classes = classes_of(nfa, byte_classes);
+        let bytes = classes.representatives(alloc)?;
+        let looks = nfa.look_set_any();
+        let keeps = !looks.is_empty();
+        let words = asks_for_words(looks);
+        Ok(Alphabet {
+            classes,
+            bytes,
+            keeps,
+            words,
+        })
+    }
+
+    /// What is kept of the byte that stands for a class.
+    pub fn kept(&self, byte: u8) -> Option<u8>
+        ensures { result ≡ (if self.now.keeps then Some byte else None) }
+    {
+        if self.keeps { Some(byte) } else { None }
+    }
+
+    /// Whether the byte is read.
+    pub fn reads(&self, byte: u8) -> bool
+        ensures { result ≡ reads self.now.words byte }
+    {
+        !self.words || byte < 0x80
+    }
+}
+
+/// The classes of the NFA, or one for each byte.
+fn classes_of(nfa: &NFA, byte_classes: bool) -> ByteClasses
+    ensures own { byte_classes ≡ true → result ≡ nfa.now.classes }
+    ensures single { byte_classes ≡ false → EachIndex result (λ b. slice_index result b ≡ b) }
+    ensures classes { AreClasses result }
+{
+    if byte_classes {
+        return *nfa.byte_classes();
+    }
+    ByteClasses::singletons()
+}
+
+/// Whether one of the kinds asks for words of Unicode.
+fn asks_for_words(looks: LookSet) -> bool
+    ensures { IsTrue result ↔ ((kind : Look) × (has looks kind ≡ true) × IsTrue (is_unicode_word kind)) }
+{
+    if looks.contains(LookKind::WordUnicode) {
+        return true;
+    }
+    if looks.contains(LookKind::WordUnicodeNegate) {
+        return true;
+    }
+    if looks.contains(LookKind::WordStartUnicode) {
+        return true;
+    }
+    if looks.contains(LookKind::WordEndUnicode) {
+        return true;
+    }
+    if looks.contains(LookKind::WordStartHalfUnicode) {
+        return true;
+    }
+    looks.contains(LookKind::WordEndHalfUnicode)
+}
