@@ -13,3 +13,6 @@ pub mod KeyLemmas
 pub mod AlphabetLemmas
 pub mod KeyRowLemmas
 pub mod ChainLemmas
+pub mod LazyLemmas
+pub mod RowsLemmas
+pub mod HeldLemmas

@@ -11,3 +11,6 @@ pub mod Table
 pub mod KeyRow
 pub mod Hash
 pub mod KeySet
+pub mod Lazy
+pub mod LazyCache
+pub mod LazyBuild

@@ -9,7 +9,7 @@ mod automaton;
 mod beside;
 mod close;
 pub mod determinize;
-mod lazy;
+pub mod lazy;
 pub mod scratch;
 mod search;
 pub mod state_key;

@@ -1,0 +1,12 @@
+use Rattle.std.proofs.Common.{◌≡◌, ◌∙◌, subst}
+use Rattle.std.specs.Prelude.{OnOk}
+use Rattle.rx_model.specs.Look.{byte_before}
+use Rattle.rx_dfa.specs.Automaton.{IsReadable}
+use Rattle.rx_dfa.proofs.lazy.automaton.LazyAutomaton.start_forward.Goals as goal
+
+pub returns-clause-readable : goal.returns-clause-readable
+returns-clause-readable c =
+    let v = c.args.input.now in
+    let is : c.byte_before-before.result ≡ byte_before v.haystack v.start =
+    c.byte_before-before.ensures ∙ (λ j. byte_before (c.haystack-haystack.ensures.value j) (c.start-start.ensures.value j)) in
+    subst (λ o. OnOk c.start_at.result (IsReadable c.args.self.now.dfa.nfa o)) is c.start_at.ensures.readable

@@ -1,0 +1,84 @@
+use Rattle.std.proofs.Common.{◌≡◌, ◌<◌, List, [], ◌∷◌, ◌++◌, length, sym, ◌∙◌, ap, subst}
+use Rattle.std.proofs.lemmas.Option.{same_Some, slice_get_within}
+use Rattle.std.specs.Prelude.{All, Some, false, is_err, slice_get}
+use Rattle.rx_determinize.specs.Key.{Key, is_dead}
+use Rattle.rx_dfa.specs.Lazy.{StandsFor, IsNext, IsLive, key_after}
+use Rattle.rx_dfa.specs.StateKey.{key_of}
+use Rattle.rx_dfa.specs.declared.lazy.rows.Rows.{Rows}
+use Rattle.rx_dfa.proofs.lemmas.ChainLemmas.{got-old}
+use Rattle.rx_dfa.proofs.lemmas.LazyLemmas.{next-of, live-after}
+use Rattle.rx_dfa.proofs.lemmas.RowsLemmas.{ok-then}
+use Rattle.rx_dfa.proofs.lazy.lazy_dfa.Lazy.make_step.Goals as goal
+
+pub set-requires-clause-next : goal.set-requires-clause-next
+set-requires-clause-next c k got =
+    let l = c.args.self.now in
+    let new = c.make_key.new.cache in
+    let next = c.in-Some.next in
+    let ok : is_err c.make_key.result ≡ false = sym c.is_err.ensures.value ∙ c.if-is_err.false in
+    let from : slice_get new.rows.keys c.args.row ≡ Some (key_of new.from) = ok-then c.make_key.result _ ok c.make_key.ensures.from in
+    let into : key_of new.into ≡ key_after l.dfa (key_of new.from) c.args.byte = ok-then c.make_key.result _ ok c.make_key.ensures.into in
+    let same : key_of new.from ≡ k = same_Some (key_of new.from) k (sym from ∙ got) in
+    let stands : StandsFor l.stride new.rows.keys next (key_after l.dfa k c.args.byte) =
+    subst (StandsFor l.stride new.rows.keys next) (into ∙ ap (λ (x : Key). key_after l.dfa x c.args.byte) same) c.in-Some.ensures in
+    subst (λ column. IsNext l new.rows.keys k column next) (sym c.column-column.ensures.value)
+    (next-of l c.column-column.ensures.sound.dfa new.rows.keys k (c.make_key.ensures.fits.rows.keys c.args.row k got) c.args.byte c.requires.small
+    c.requires.readable next stands)
+
+pub returns-in-Some-clause-next : goal.returns-in-Some-clause-next
+returns-in-Some-clause-next c key old =
+    let l = c.args.self.now in
+    let new = c.make_key.new.cache in
+    let next = c.in-Some.next in
+    let ok : is_err c.make_key.result ≡ false = sym c.is_err.ensures.value ∙ c.if-is_err.false in
+    let got : slice_get new.rows.keys c.args.row ≡ Some key = ap (λ (r : Rows). slice_get r.keys c.args.row) c.make_key.ensures.rows ∙ old in
+    let from : slice_get new.rows.keys c.args.row ≡ Some (key_of new.from) = ok-then c.make_key.result _ ok c.make_key.ensures.from in
+    let into : key_of new.into ≡ key_after l.dfa (key_of new.from) c.args.byte = ok-then c.make_key.result _ ok c.make_key.ensures.into in
+    let same : key_of new.from ≡ key = same_Some (key_of new.from) key (sym from ∙ got) in
+    let stands : StandsFor l.stride new.rows.keys next (key_after l.dfa key c.args.byte) =
+    subst (StandsFor l.stride new.rows.keys next) (into ∙ ap (λ (x : Key). key_after l.dfa x c.args.byte) same) c.in-Some.ensures in
+    subst (λ (ks : List Key). StandsFor l.stride ks next (key_after l.dfa key c.args.byte)) (sym c.set.ensures.keys) stands
+
+pub make_room-requires-clause-from : goal.make_room-requires-clause-from
+make_room-requires-clause-from c =
+    let ok : is_err c.make_key.result ≡ false = sym c.is_err.ensures.value ∙ c.if-is_err.false in
+    ok-then c.make_key.result _ ok c.make_key.ensures.from
+
+pub add-requires-clause-live : goal.add-requires-clause-live
+add-requires-clause-live c =
+    let l = c.args.self.now in
+    let new = c.make_key.new.cache in
+    let ok : is_err c.make_key.result ≡ false = sym c.is_err.ensures.value ∙ c.if-is_err.false in
+    let into : key_of new.into ≡ key_after l.dfa (key_of new.from) c.args.byte = ok-then c.make_key.result _ ok c.make_key.ensures.into in
+    let below : All (λ q. q < length l.dfa.nfa.states) (key_of new.into).threads = ok-then c.make_key.result _ ok c.make_key.ensures.below in
+    subst (IsLive l.dfa) (sym into)
+    (live-after l.dfa c.column-column.ensures.sound.dfa (key_of new.from) c.args.byte c.requires.small c.requires.readable
+    (ap is_dead (sym into) ∙ c.in_default.ensures.0)
+    (subst (λ (x : Key). All (λ q. q < length l.dfa.nfa.states) x.threads) into below))
+
+pub set-requires-in-Ok-add-clause-row : goal.set-requires-in-Ok-add-clause-row
+set-requires-in-Ok-add-clause-row c =
+    let keys = c.make_room.new.self.keys in
+    let into = key_of c.make_key.new.cache.into in
+    subst (λ (ks : List Key). c.in-Ok.kept < length ks) (sym c.in-Ok-add.ensures.ok)
+    (slice_get_within (keys ++ into ∷ []) c.in-Ok.kept (key_of c.make_key.new.cache.from)
+    (got-old keys (into ∷ []) (key_of c.make_key.new.cache.from) c.in-Ok.kept c.in-Ok.ensures.from))
+
+pub set-requires-in-Ok-add-clause-next : goal.set-requires-in-Ok-add-clause-next
+set-requires-in-Ok-add-clause-next c k got =
+    let l = c.args.self.now in
+    let new = c.make_key.new.cache in
+    let keys = c.make_room.new.self.keys in
+    let next = c.in-Ok-add.next in
+    let ok : is_err c.make_key.result ≡ false = sym c.is_err.ensures.value ∙ c.if-is_err.false in
+    let into : key_of new.into ≡ key_after l.dfa (key_of new.from) c.args.byte = ok-then c.make_key.result _ ok c.make_key.ensures.into in
+    let from : slice_get (keys ++ key_of new.into ∷ []) c.in-Ok.kept ≡ Some (key_of new.from) =
+    got-old keys (key_of new.into ∷ []) (key_of new.from) c.in-Ok.kept c.in-Ok.ensures.from in
+    let there : slice_get (keys ++ key_of new.into ∷ []) c.in-Ok.kept ≡ Some k =
+    sym (ap (λ (ks : List Key). slice_get ks c.in-Ok.kept) c.in-Ok-add.ensures.ok) ∙ got in
+    let same : key_of new.from ≡ k = same_Some (key_of new.from) k (sym from ∙ there) in
+    let stands : StandsFor l.stride c.add.new.self.keys next (key_after l.dfa k c.args.byte) =
+    subst (StandsFor l.stride c.add.new.self.keys next) (into ∙ ap (λ (x : Key). key_after l.dfa x c.args.byte) same) c.in-Ok-add.ensures.state in
+    subst (λ column. IsNext l c.add.new.self.keys k column next) (sym c.column-column.ensures.value)
+    (next-of l c.column-column.ensures.sound.dfa c.add.new.self.keys k (c.in-Ok-add.ensures.rows.keys c.in-Ok.kept k got) c.args.byte c.requires.small
+    c.requires.readable next stands)
