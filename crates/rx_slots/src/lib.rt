@@ -12,3 +12,6 @@ mod threads;
 
 pub use draws::{DrawSeat, Draws};
 pub use slot_pool::{SlotPool, SlotSeat};
+
+#[cfg(test)]
+mod tests;

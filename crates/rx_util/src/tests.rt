@@ -1,10 +1,12 @@
-//! Tests of lazy values and pools.
+//! Tests of lazy values, pools and templates.
 
 use super::*;
 use rx_search::Memory;
 use std::alloc::Global;
 use std::sync::Wait;
+use std::sync::atomic::{AtomicBool, Ordering};
 use std::test::Fail;
+use std::thread::{join, yield_now};
 
 #[test]
 fn numbers_of_a_stack(rt: HostRuntime) -> Result<(), Fail> {
@@ -90,5 +92,100 @@ fn a_dropped_guard_keeps_its_number(rt: HostRuntime) -> Result<(), Fail> {
     let again = pool.get(&rt)?;
     assert_eq!(rt; again.number(), 1);
     PoolGuard::put(again, &rt);
+    Ok(())
+}
+
+/// How often a caller yields until it has seen the other's guard.
+const YIELDS: u32 = 1_000_000;
+
+/// Takes a value, says so, and holds it until the other caller said the same; whether it did.
+fn holds_until_seen<R: Wait>(
+    rt: &R,
+    pool: &Pool<String, Letters>,
+    mine: &AtomicBool,
+    others: &AtomicBool,
+) -> Result<bool, Memory> {
+    let guard = pool.get(rt)?;
+    mine.store(true, Ordering::SeqCst);
+    let mut seen = false;
+    for _ in 0..YIELDS {
+        if others.load(Ordering::SeqCst) {
+            seen = true;
+            break;
+        }
+        yield_now();
+    }
+    PoolGuard::put(guard, rt);
+    Ok(seen)
+}
+
+#[test]
+fn two_callers_hold_guards_at_once(rt: HostRuntime) -> Result<(), Fail> {
+    let alloc = rt.alloc();
+    let pool = Pool::with_capacity(alloc, 1, Letters { alloc })?;
+    let one = AtomicBool::new(false);
+    let two = AtomicBool::new(false);
+    let (first, second) = join(
+        &rt,
+        || holds_until_seen(&rt, &pool, &one, &two),
+        || holds_until_seen(&rt, &pool, &two, &one),
+    );
+    let first = first?;
+    let second = second?;
+    assert_eq!(rt; (first, second), (true, true));
+    Ok(())
+}
+
+/// The number of a name.
+fn index_of(name: &str) -> Option<usize> {
+    match name {
+        "42a" => Some(1),
+        "+1" => Some(2),
+        "bar" => Some(3),
+        _ => None,
+    }
+}
+
+/// The template with `<n>` for group n, as a text and as bytes.
+fn filled_in(alloc: Global, template: &str) -> Result<(String, Vec<u8>), Memory> {
+    let mut text = String::new(alloc);
+    let group = |number: usize, dst: &mut String| -> Result<(), Memory> {
+        let piece = format!(in alloc; "<{number}>")?;
+        dst.push_str(piece.as_str())?;
+        Ok(())
+    };
+    interpolate::string(template, group, |name: &str| index_of(name), &mut text)?;
+    let mut bytes = Vec::new(alloc);
+    let group = |number: usize, dst: &mut Vec<u8>| -> Result<(), Memory> {
+        let piece = format!(in alloc; "<{number}>")?;
+        dst.extend_from_slice(piece.as_bytes())?;
+        Ok(())
+    };
+    interpolate::bytes(
+        template.as_bytes(),
+        group,
+        |name: &str| index_of(name),
+        &mut bytes,
+    )?;
+    Ok((text, bytes))
+}
+
+#[test]
+fn templates_are_filled_in(rt: HostRuntime) -> Result<(), Fail> {
+    let rows = [
+        ("$42a", "<1>"),
+        ("${42}a", "<42>a"),
+        ("${+1}", "<2>"),
+        ("test $bar$bar", "test <3><3>"),
+        ("test ${wat $bar ok", "test ${wat <3> ok"),
+        ("$$1$", "$1$"),
+        ("a${}b$18446744073709551616c", "ab"),
+        ("é$1é", "é<1>é"),
+    ];
+    for (template, wanted) in rows {
+        let (text, bytes) = filled_in(rt.alloc(), template)?;
+        assert_eq!(rt; text.as_str(), wanted);
+        assert_eq!(rt; bytes.as_slice(), wanted.as_bytes());
+    }
     Ok(())
 }
