@@ -1,7 +1,7 @@
 #!/usr/bin/env python3
-"""Times resets of a cache that fits, after searches of texts of 10 to 1000000 bytes.
+"""Times resets of a cache that fits, after searches of texts of 10 to 10000 bytes.
 
-It makes a program of bench/resets.txt in a copy of the repository, and runs it by `rt try`. Prints for each length the least
+It makes a program of bench/resets.txt in a copy of the repository, and runs it by `rt try`, which interprets it. Prints for each length the least
 times of the search and of the reset behind it, in nanoseconds. Ends with status 1 where the reset behind the longest search
 takes more than ten times as long as the one behind the shortest, and more than a microsecond.
 """
@@ -35,7 +35,7 @@ def main():
         done = subprocess.run(['rt', 'try'], cwd=copy_to(folder), stdout=subprocess.PIPE, stderr=subprocess.STDOUT)
     rows = [line.split() for line in done.stdout.decode(errors='replace').splitlines()]
     rows = [[int(word) for word in row] for row in rows if len(row) == 3 and all(word.isdigit() for word in row)]
-    if len(rows) != 6:
+    if len(rows) != 4:
         sys.exit('no figures\n' + done.stdout.decode(errors='replace'))
     for length, search, reset in rows:
         print('%8d bytes: search %9d ns, reset %6d ns' % (length, search, reset))
