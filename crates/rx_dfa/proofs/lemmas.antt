@@ -10,3 +10,14 @@ pub mod ListLemmas
 pub mod CloseLemmas
 pub mod ThreadLemmas
 pub mod KeyLemmas
+pub mod StateLemmas
+pub mod TableLemmas
+pub mod AlphabetLemmas
+pub mod FoundLemmas
+pub mod FindLemmas
+pub mod KeySetLemmas
+pub mod ReachLemmas
+pub mod CellLemmas
+pub mod RowLemmas
+pub mod SettleLemmas
+pub mod BuildLemmas

@@ -13,24 +13,24 @@ use Rattle.rx_dfa.specs.declared.dense.error.BuildError.TheVariants.{TooBig, Mem
 
 -- The DFA is of this NFA. Its classes of bytes are those of the NFA, or one for each byte, and it keeps them if the NFA asks for
 -- look-around.
-pub record IsDfaOf (nfa : Nfa) (kind : MatchKind) (byte_classes : Bool) (d : Dfa) : Type 0 where
+pub record IsDfaOf (own_nfa : Nfa) (own_kind : MatchKind) (byte_classes : Bool) (d : Dfa) : Type 0 where
   pub sound : IsSound d
-  pub nfa : d.nfa ≡ nfa
-  pub kind : d.kind ≡ kind
-  pub own : byte_classes ≡ true → d.classes ≡ nfa.classes
+  pub nfa : d.nfa ≡ own_nfa
+  pub kind : d.kind ≡ own_kind
+  pub own : byte_classes ≡ true → d.classes ≡ own_nfa.classes
   pub single : byte_classes ≡ false → EachIndex d.classes (λ b. slice_index d.classes b ≡ b)
-  pub keeps : d.keeps ≡ false → (kind : Look) → has nfa.looks kind ≡ false
+  pub keeps : d.keeps ≡ false → (look : Look) → has own_nfa.looks look ≡ false
 
 -- the bytes that are accounted for a table with these states, where one more is that in which it quits
 abbrev pub size_of : (stride states : ℕ) → ℕ
 size_of stride states = 4 * ((states + 1) * stride)
 
 -- The automaton has as many states as this size accounts, and it is above the limit.
-pub record IsTooBig (d : Dfa) (stride limit size : ℕ) : Type 0 where
+pub record IsTooBig (d : Dfa) (stride limit given : ℕ) : Type 0 where
   pub states : List Key
   pub are : AreStates d states
-  pub size : size ≡ size_of stride (length states)
-  pub above : limit < size
+  pub size : given ≡ size_of stride (length states)
+  pub above : limit < given
 
 -- why there is no table, where a row has so many cells
 abbrev pub IsRefused : Dfa → (stride : ℕ) → Option ℕ → BuildError → Type 0

@@ -11,3 +11,6 @@ pub mod Table
 pub mod Dense
 pub mod Found
 pub mod DenseView
+pub mod Numbers
+pub mod Job
+pub mod Work

@@ -33,12 +33,18 @@ pub record AreRows (d : Dfa) (stride : ℕ) (IsNumber : ℕ → Key → Type 0) 
       → IsNumber (slice_index cells (row * stride + length d.bytes)) (last_key d k)
 
 -- How many classes there are of what stands beside a start: those of the bytes, and that of no byte; or one where none is kept.
-abbrev pub context_count : Dfa → ℕ
-context_count d = if d.keeps then length d.bytes + 1 else 1
+abbrev pub context_count : (keeps : Bool) → (bytes : List ℕ) → ℕ
+context_count keeps bytes = if keeps then length bytes + 1 else 1
 
 -- what is kept of what stands beside a start, by its class
-abbrev pub context : Dfa → (class : ℕ) → Option ℕ
-context d class = if d.keeps then slice_get d.bytes class else None
+abbrev pub context : (keeps : Bool) → (bytes : List ℕ) → (class : ℕ) → Option ℕ
+context keeps bytes class = if keeps then slice_get bytes class else None
+
+-- the class of what stands beside a start
+abbrev pub context_of : (keeps : Bool) → (classes bytes : List ℕ) → Option ℕ → ℕ
+context_of false classes bytes beside = 0
+context_of true classes bytes None = length bytes
+context_of true classes bytes (Some byte) = slice_index classes byte
 
 -- the place of a mode's starts among those of all modes
 abbrev pub mode_of : Anchor → ℕ
@@ -48,10 +54,11 @@ mode_of (anchored_to p) = p + 2
 
 -- Of each mode there is the start for each class of what stands beside it.
 pub record AreStarts (d : Dfa) (IsNumber : ℕ → Key → Type 0) (starts : List ℕ) : Type 0 where
-  pub len : length starts ≡ (length d.nfa.starts + 2) * context_count d
-  pub each : (anchor : Anchor) (start class : ℕ) → start_of d.nfa anchor ≡ Some start → class < context_count d → IsRead d.nfa (context d class)
-      → IsNumber (slice_index starts (mode_of anchor * context_count d + class))
-      (start_key d.kind d.nfa.states start (loops_in anchor) (context d class))
+  pub len : length starts ≡ (length d.nfa.starts + 2) * context_count d.keeps d.bytes
+  pub each : (anchor : Anchor) (start class : ℕ) → start_of d.nfa anchor ≡ Some start → class < context_count d.keeps d.bytes
+      → IsRead d.nfa (context d.keeps d.bytes class)
+      → IsNumber (slice_index starts (mode_of anchor * context_count d.keeps d.bytes + class))
+      (start_key d.kind d.nfa.states start (loops_in anchor) (context d.keeps d.bytes class))
 
 -- A full DFA, as a contract sees it.
 pub record DenseValue : Type 0 where

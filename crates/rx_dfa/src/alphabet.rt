@@ -1,11 +1,11 @@
 //! The bytes as a DFA tells them apart.
-ghost use Rattle.std.specs.Prelude.{◌≡◌, ◌↔◌, true, IfOk, IsTrue};
+ghost use Rattle.std.specs.Prelude.{◌≡◌, ◌↔◌, ◌+◌, ◌≤◌, true, false, length, Some, IfOk, IfSome, IfNone, IsTrue, EachIndex, slice_index, if◌then◌else◌};
+ghost use Rattle.rx_search.specs.ByteClasses.{AreClasses};
 ghost use Rattle.rx_model.specs.Look.{Look};
 ghost use Rattle.rx_model.specs.Beside.{is_unicode_word};
 ghost use Rattle.rx_search.specs.LookSet.{has};
-ghost use Rattle.rx_dfa.specs.Automaton.{AsksForWords};
 ghost use Rattle.rx_dfa.specs.Alphabet.{IsAlphabetOf, reads};
-ghost use Rattle.rx_determinize.specs.Sight.{class_beside, class_kept};
+ghost use Rattle.rx_dfa.specs.Table.{context_count, context, context_of};
 
 use rx_nfa::NFA;
 use rx_search::{ByteClasses, Look as LookKind, LookSet, Memory};
@@ -43,7 +43,9 @@ impl Alphabet {
     }
 
     /// What is kept of the byte that stands for a class.
-    pub fn kept(&self, byte: u8) -> Option<u8> {
+    pub fn kept(&self, byte: u8) -> Option<u8>
+        ensures { result ≡ (if self.now.keeps then Some byte else None) }
+    {
         if self.keeps { Some(byte) } else { None }
     }
 
@@ -54,14 +56,32 @@ impl Alphabet {
         !self.words || byte < 0x80
     }
 
+    /// The byte, where there is one that is not read.
+    pub fn unread(&self, byte: Option<u8>) -> Option<u8>
+        ensures some { IfSome result (λ b. (byte ≡ Some b) × (reads self.now.words b ≡ false)) }
+        ensures none { IfNone result (IfSome byte (λ b. reads self.now.words b ≡ true)) }
+    {
+        let Some(here) = byte else {
+            return None;
+        };
+        if self.reads(here) {
+            return None;
+        }
+        Some(here)
+    }
+
     /// How many classes there are of what stands beside a start: those of the bytes and that of no byte, or a single one where
     /// no class is kept.
-    pub fn contexts(&self) -> usize {
+    pub fn contexts(&self) -> usize
+        ensures { result ≡ context_count self.now.keeps self.now.bytes.items }
+    {
         if self.keeps { self.bytes.len() + 1 } else { 1 }
     }
 
     /// What is kept of what stands beside a start, by its class.
-    pub fn context(&self, class: usize) -> Option<u8> {
+    pub fn context(&self, class: usize) -> Option<u8>
+        ensures { result ≡ context self.now.keeps self.now.bytes.items class }
+    {
         if self.keeps {
             return self.bytes.get(class).copied();
         }
@@ -69,7 +89,10 @@ impl Alphabet {
     }
 
     /// The class of what stands beside a start.
-    pub fn context_of(&self, beside: Option<u8>) -> usize {
+    pub fn context_of(&self, beside: Option<u8>) -> usize
+        ensures value { result ≡ context_of self.now.keeps self.now.classes self.now.bytes.items beside }
+        ensures small { result ≤ 255 + length self.now.bytes.items }
+    {
         if !self.keeps {
             return 0;
         }
@@ -81,7 +104,11 @@ impl Alphabet {
 }
 
 /// The classes of the NFA, or one for each byte.
-fn classes_of(nfa: &NFA, byte_classes: bool) -> ByteClasses {
+fn classes_of(nfa: &NFA, byte_classes: bool) -> ByteClasses
+    ensures own { byte_classes ≡ true → result ≡ nfa.now.classes }
+    ensures single { byte_classes ≡ false → EachIndex result (λ b. slice_index result b ≡ b) }
+    ensures classes { AreClasses result }
+{
     if byte_classes {
         return *nfa.byte_classes();
     }

@@ -1,9 +1,12 @@
 //! The full DFA: its whole table is made when it is built.
+ghost use Rattle.std.specs.Prelude.{◌≡◌, ◌^◌, length};
+ghost use Rattle.rx_dfa.specs.Dense.{size_of};
 
 mod automaton;
 mod build;
 mod error;
 mod found;
+mod job;
 mod numbers;
 mod rows;
 mod starts;
@@ -55,7 +58,9 @@ impl Model for Dense {
 
 impl Dense {
     /// The bytes that are accounted for the table: 4 for each cell of a row, of each state and of the state in which it quits.
-    pub fn memory_usage(&self) -> usize {
+    pub fn memory_usage(&self) -> usize
+        ensures { result ≡ size_of (2 ^ self.now.stride2) (length self.now.keys) }
+    {
         4 * (self.table.len() + (1 << self.stride2))
     }
 }

@@ -1,4 +1,9 @@
 //! The full DFA as the searches see it.
+ghost use Rattle.std.specs.Prelude.{ℕ, IfOk, OnOk};
+ghost use Rattle.std.specs.Result.{IfErr};
+ghost use Rattle.rx_search.specs.Anchored.{anchor_of};
+ghost use Rattle.rx_dfa.specs.Automaton.{first_key, IsReadable, IsSound, StartFails};
+ghost use Rattle.rx_dfa.specs.Table.{Holds};
 
 use crate::automaton::Automaton;
 use crate::dense::Dense;
@@ -27,13 +32,14 @@ impl Automaton for Dense {
     fn start_forward(&self, _cache: &mut (), input: &Input<'_>) -> Result<StateID, MatchError> {
         let start = input.start();
         let before = byte_before(input.haystack(), start);
-        self.start(input.get_anchored(), before, place_before(start))
+        let place = place_before(start);
+        self.start_beside(input.get_anchored(), before, place)
     }
 
     fn start_reverse(&self, _cache: &mut (), input: &Input<'_>) -> Result<StateID, MatchError> {
         let end = input.end();
         let after = byte_after(input.haystack(), end);
-        self.start(input.get_anchored(), after, end)
+        self.start_beside(input.get_anchored(), after, end)
     }
 
     #[inline(always)]
@@ -68,7 +74,7 @@ impl Automaton for Dense {
 
     #[inline(always)]
     fn is_match(&self, _cache: &(), state: StateID) -> bool {
-        state > self.dead
+        self.dead < state
     }
 
     #[inline(always)]
@@ -78,7 +84,7 @@ impl Automaton for Dense {
 
     #[inline(always)]
     fn is_special(&self, _cache: &(), state: StateID) -> bool {
-        state >= self.dead
+        !(state < self.dead)
     }
 
     fn match_pattern(&self, _cache: &(), state: StateID, index: usize) -> Option<PatternID> {
@@ -86,7 +92,7 @@ impl Automaton for Dense {
             return None;
         }
         let row = (state.as_usize() - self.dead.as_usize()) >> self.stride2;
-        let patterns = self.matches.get(row)?;
+        let patterns = &self.matches[row];
         patterns.get(index).copied()
     }
 
@@ -97,25 +103,36 @@ impl Automaton for Dense {
 
 impl Dense {
     /// The state at a start of this mode, where this byte stands beside it, at this place.
-    fn start(
+    fn start_beside(
         &self,
         mode: Anchored,
         beside: Option<u8>,
         place: usize,
-    ) -> Result<StateID, MatchError> {
-        if let Some(byte) = beside {
-            if !self.alphabet.reads(byte) {
-                return Err(MatchError::Quit {
-                    byte,
-                    offset: place,
-                });
-            }
+    ) -> Result<StateID, MatchError>
+        ensures start { IfOk result (λ state. Holds self.now state (first_key self.now.dfa (anchor_of mode) beside)) }
+        ensures readable { OnOk result (IsReadable self.now.dfa.nfa beside) }
+        ensures err { (at : ℕ) → IfErr result (StartFails self.now.dfa.nfa beside place at ⊥ ⊥) }
+        ensures sound { IsSound self.now.dfa }
+    {
+        if let Some(byte) = self.alphabet.unread(beside) {
+            return Err(MatchError::Quit {
+                byte,
+                offset: place,
+            });
         }
+        Ok(self.start_of(mode, beside))
+    }
+
+    /// The state at a start of this mode, where this byte stands beside it, which is read.
+    fn start_of(&self, mode: Anchored, beside: Option<u8>) -> StateID
+        requires { IsReadable self.now.dfa.nfa beside }
+        ensures { Holds self.now result (first_key self.now.dfa (anchor_of mode) beside) }
+    {
         let class = self.alphabet.context_of(beside);
         let index = mode_of(mode) * self.alphabet.contexts() + class;
         match self.starts.get(index) {
-            Some(state) => Ok(*state),
-            None => Ok(self.dead),
+            Some(state) => *state,
+            None => self.dead,
         }
     }
 }

@@ -91,7 +91,6 @@ pub(crate) fn last_state<A: Automaton, L: Ledger>(
 
 /// The byte before the place, if there is one.
 pub(crate) fn byte_before(haystack: &[u8], place: usize) -> Option<u8>
-    requires { place ≤ length haystack.now }
     ensures { result ≡ byte_before haystack.now place }
 {
     if place == 0 {
