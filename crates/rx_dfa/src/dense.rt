@@ -11,10 +11,9 @@ mod numbers;
 mod rows;
 mod starts;
 
-pub use error::BuildError;
-
 use crate::alphabet::Alphabet;
 use crate::dense::found::Found;
+pub use error::BuildError;
 use rx_nfa::NFA;
 use rx_search::{MatchKind, PatternID, StateID};
 use std::marker::Model;

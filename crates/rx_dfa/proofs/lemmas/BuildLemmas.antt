@@ -29,7 +29,6 @@ module _ (nfa : Nfa) (range : IsInRange nfa) (kind : MatchKind) (byte_classes : 
     (begins : AreStarts (dfa_of nfa kind a) (IsRow f.stride (all_keys f) 0) starts)
     (dead_is : dead ≡ length (plain_keys f) * 2 ^ stride2)
     (matches_are : matches ≡ map (λ (k : StateKey). k.matches.items) f.special.keys) where
-
   abbrev d : Dfa
   d = dfa_of nfa kind a
 

@@ -1,6 +1,6 @@
 -- What is found of a key, by the sort of its state.
 use Rattle.std.proofs.Common.{◌≡◌, ℕ, zero, suc, ◌+◌, ◌*◌, ◌<◌, ◌≤◌, ◌⊎◌, inl, inr, List, [], ◌∷◌, ◌++◌, map, length, refl, sym, ◌∙◌, ap, subst, arith, true≢false}
-use Rattle.std.specs.Prelude.{Bool, true, false, ◌||◌, not, Option, Some, None, slice_get, Result, IfOk, IfErr}
+use Rattle.std.specs.Prelude.{Bool, true, false, ◌||◌, not, ◌==◌, Option, Some, None, slice_get, Result, IfOk, IfErr}
 use Rattle.std.proofs.lemmas.List.{length-append}
 use Rattle.std.proofs.lemmas.Result.{IfOk-weaker, IfErr-weaker}
 use Rattle.rx_determinize.specs.Key.{Key, is_dead, is_empty}
@@ -14,6 +14,7 @@ use Rattle.rx_dfa.specs.declared.dense.error.BuildError.{BuildError}
 use Rattle.rx_dfa.specs.declared.dense.error.BuildError.TheVariants.{TooBig, Memory}
 use Rattle.rx_dfa.specs.declared.dense.found.Found.{Found}
 use Rattle.rx_dfa.proofs.lemmas.StateLemmas.{canonical-dead, canonical-live}
+use Rattle.rx_dfa.proofs.lemmas.TableLemmas.{same-from, other-from}
 use Rattle.rx_dfa.proofs.lemmas.FoundLemmas.{stays-same, added-stays, states-push, states-added, sort-added, states-append, pushed, appended}
 
 pub over-refused : (d : Dfa) (stride : ℕ) (given : Option ℕ) (states : List Key) (n : ℕ) → AreStates d states → n ≡ length states → (e : BuildError)
@@ -114,3 +115,11 @@ something-special k some = ap (λ (b : Bool). is_dead k || not b) some ∙ or-tr
     or-true : (b : Bool) → (b || true) ≡ true
     or-true true = refl
     or-true false = refl
+
+pub none-there : (xs : List ℕ) (len : ℕ) → len ≡ length xs → (len == 0) ≡ true → xs ≡ []
+none-there [] len is e = refl
+none-there (x ∷ xs) len is e = absurd (let none = same-from len 0 e in omega arith)
+
+pub some-there : (xs : List ℕ) (len : ℕ) → len ≡ length xs → (len == 0) ≡ false → is_empty xs ≡ false
+some-there [] len is e = absurd (other-from len 0 e is)
+some-there (x ∷ xs) len is e = refl

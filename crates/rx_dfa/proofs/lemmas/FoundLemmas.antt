@@ -50,13 +50,13 @@ states-push d keys k are state new = record {
   ];
   once = λ row other x is at. elim (pushed keys k row x is) [
     | inl there ↦ elim (pushed keys k other x at) [
-        | inl there' ↦ are.once row other x there there'
-        | inr last' ↦ absurd (new row (there ∙ ap Some last'.1))
-      ]
+      | inl there' ↦ are.once row other x there there'
+      | inr last' ↦ absurd (new row (there ∙ ap Some last'.1))
+    ]
     | inr last ↦ elim (pushed keys k other x at) [
-        | inl there' ↦ absurd (new other (there' ∙ ap Some last.1))
-        | inr last' ↦ last.0 ∙ sym last'.0
-      ]
+      | inl there' ↦ absurd (new other (there' ∙ ap Some last.1))
+      | inr last' ↦ last.0 ∙ sym last'.0
+    ]
   ];
 }
 
@@ -128,16 +128,16 @@ states-append d xs ys are also apart = record {
   ];
   once = λ row other k is at. elim (appended xs ys row k is) [
     | inl there ↦ elim (appended xs ys other k at) [
-        | inl there' ↦ are.once row other k there there'
-        | inr later' ↦ absurd (apart row later'.0 k there later'.1)
-      ]
+      | inl there' ↦ are.once row other k there there'
+      | inr later' ↦ absurd (apart row later'.0 k there later'.1)
+    ]
     | inr later ↦ elim (appended xs ys other k at) [
-        | inl there' ↦ absurd (apart other later.0 k there' later.1)
-        | inr later' ↦
-            let same = also.once later.0 later'.0 k later.1 later'.1 in
-            let e = later.2 in
-            let e' = later'.2 in
-            omega arith
-      ]
+      | inl there' ↦ absurd (apart other later.0 k there' later.1)
+      | inr later' ↦
+          let same = also.once later.0 later'.0 k later.1 later'.1 in
+          let e = later.2 in
+          let e' = later'.2 in
+          omega arith
+    ]
   ];
 }

@@ -2,7 +2,7 @@
 use Rattle.std.proofs.Common.{◌≡◌, ℕ, List, [], ◌∷◌, ◌++◌, map, refl, sym, ◌∙◌, ap, subst, true≢false}
 use Rattle.std.specs.Prelude.{Bool, true, false, ◌&&◌, ◌==◌, nat_eq, Option, Some, None, is_some, IfSome, IfNone, Decides, position, slice_get, if◌then◌else◌}
 use Rattle.std.specs.List.{list_any}
-use Rattle.std.specs.Option.{option_map}
+use Rattle.std.specs.Option.{option_map, option_eq}
 use Rattle.std.specs.Cmp.{booleans_Decides}
 use Rattle.std.specs.Cmp.Lexicographic.{pointwise}
 use Rattle.std.proofs.lemmas.Bool.Decides.{Decides-eqb}
@@ -39,8 +39,7 @@ same-key a b =
     let d = and-decides (pointwise nat_eq a.threads.items b.threads.items) _ (ids-decide a.threads.items b.threads.items)
     (and-decides _ _ (booleans_Decides a.loops b.loops)
     (and-decides (pointwise nat_eq a.matches.items b.matches.items) _ (ids-decide a.matches.items b.matches.items)
-    (byte-decides a.before b.before _ refl (λ y. refl) (λ x. refl) (λ x y. refl)))) in
-    (
+    (byte-decides a.before b.before (option_eq nat_eq) refl (λ y. refl) (λ x. refl) (λ x y. refl)))) in (
       λ e. let p = d.0 e in λ j. record { threads = p.0 j; loops = p.1.0 j; matches = p.1.1.0 j; before = p.1.1.1 j },
       λ e. d.1 (ap (λ (k : Key). k.threads) e, (ap (λ (k : Key). k.loops) e, (ap (λ (k : Key). k.matches) e, ap (λ (k : Key). k.before) e))),
     )

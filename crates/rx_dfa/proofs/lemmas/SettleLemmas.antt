@@ -102,13 +102,13 @@ module _ (f : Found) where
         let len' = of_special.len in
         let table = map (settled first) plain ++ map (settled first) special in
         let early : (row class : ℕ) → row < length (plain_keys f) → class < f.stride
-            → slice_index table (row * f.stride + class) ≡ settled first (slice_index plain (row * f.stride + class)) =
+        → slice_index table (row * f.stride + class) ≡ settled first (slice_index plain (row * f.stride + class)) =
         λ row class lt small.
         let inside = mul-add-lt row f.stride class (length (plain_keys f)) lt small in
         get_or_append_left (map (settled first) plain) (map (settled first) special) 0 (row * f.stride + class) (omega arith)
         ∙ read-map (settled first) plain (row * f.stride + class) (omega arith) in
         let late : (row other class : ℕ) → row ≡ length (plain_keys f) + other → other < length (special_keys f) → class < f.stride
-            → slice_index table (row * f.stride + class) ≡ settled first (slice_index special (other * f.stride + class)) =
+        → slice_index table (row * f.stride + class) ≡ settled first (slice_index special (other * f.stride + class)) =
         λ row other class at lt small.
         let inside = mul-add-lt other f.stride class (length (special_keys f)) lt small in
         let scaled = ap (λ r. r * f.stride) at in

@@ -118,11 +118,7 @@ fn draw(
 }
 
 /// Appends the states with the numbers that they have at the end.
-fn push_settled(
-    states: &[StateID],
-    first: usize,
-    into: &mut Vec<StateID>,
-) -> Result<(), BuildError>
+fn push_settled(states: &[StateID], first: usize, into: &mut Vec<StateID>) -> Result<(), BuildError>
     requires { first < 2 ^ 63 }
     ensures settled { OnOk result (into.new.items ≡ into.old.items ++ map (settled first) states.now) }
     ensures err { IfErr result (λ e. e ≡ BuildError.Memory) }

@@ -152,11 +152,7 @@ fn step_cell(
 }
 
 /// The state after the end of input.
-fn end_cell(
-    job: &Job<'_>,
-    desk: &mut Desk,
-    found: &mut Found,
-) -> Result<StateID, BuildError>
+fn end_cell(job: &Job<'_>, desk: &mut Desk, found: &mut Found) -> Result<StateID, BuildError>
     requires job { IsJob job.now }
     requires room { room_of desk.old.scratch ≡ length job.now.source.states.now }
     requires found { AreFound (dfa_in job.now) found.old }

@@ -171,11 +171,7 @@ fn position(keys: &IndexSet<StateKey>, key: &StateKey) -> Option<usize>
 }
 
 /// Appends the key, which is not there.
-fn append(
-    alloc: Global,
-    keys: &mut IndexSet<StateKey>,
-    key: &StateKey,
-) -> Result<usize, BuildError>
+fn append(alloc: Global, keys: &mut IndexSet<StateKey>, key: &StateKey) -> Result<usize, BuildError>
     requires { IsNew (keys_in keys.old.keys) (key_of key.now) }
     ensures row { IfOk result (λ row. slice_get (keys_in keys.new.keys) row ≡ Some (key_of key.now)) }
     ensures keys { OnOk result (keys_in keys.new.keys ≡ keys_in keys.old.keys ++ key_of key.now ∷ []) }

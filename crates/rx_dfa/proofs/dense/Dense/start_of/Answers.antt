@@ -23,20 +23,20 @@ overflow_add-index c =
     let product = mul-le-mul_left c.mode_of.result le in
     omega arith
 
-pub returns-in-Some-get : goal.returns-in-Some-get
-returns-in-Some-get c =
+pub returns-in-Some : goal.returns-in-Some
+returns-in-Some c =
     let v = c.args.self.now in
     let are : IsDense v = subst IsDense c.self.view_is c.self.invariant in
-    let e = c.in-Some-get.ensures.lookup in
+    let e = c.in-Some.ensures.lookup in
     let starts : c.deref.result.now ≡ v.starts = c.deref.ensures.value ∙ ap (λ (x : DenseValue). x.starts) c.self.view_is in
     let count : c.contexts.result ≡ context_count v.dfa.keeps v.dfa.bytes =
     c.contexts.ensures ∙ ap (λ (x : DenseValue). context_count x.dfa.keeps x.dfa.bytes) c.self.view_is in
     let class : c.context_of-class.result ≡ context_of v.dfa.keeps v.dfa.classes v.dfa.bytes c.args.beside =
     c.context_of-class.ensures.value ∙ ap (λ (x : DenseValue). context_of x.dfa.keeps x.dfa.classes x.dfa.bytes c.args.beside) c.self.view_is in
     let index = c.mode_of.result * c.contexts.result + c.context_of-class.result in
-    let there : slice_get c.deref.result.now index ≡ Some c.in-Some-get.state.now =
-    slice_get_read c.deref.result.now (length c.deref.result.now) index c.in-Some-get.state.now refl e.3.0 e.1 in
-    started v are (anchor_of c.args.mode) c.args.beside c.in-Some-get.state.now c.requires
+    let there : slice_get c.deref.result.now index ≡ Some c.in-Some.state.now =
+    slice_get_read c.deref.result.now (length c.deref.result.now) index c.in-Some.state.now refl e.3.0 e.1 in
+    started v are (anchor_of c.args.mode) c.args.beside c.in-Some.state.now c.requires
     (sym (λ j. slice_get (starts j) (c.mode_of.ensures.value j * count j + class j)) ∙ there)
 
 pub returns-in-None : goal.returns-in-None

@@ -79,9 +79,11 @@ returns-then-eq-clause-err g c =
     let lt = inside v are c.args.state c.requires.held.0 class c.requires.held.1 (omega arith) in
     let at : c.index.result.now ≡ slice_index v.table (c.args.state + class) =
     table-cell c.self.inside.table.items v.table (c.as_usize.result + c.get-class.result) (c.args.state + class) c.index.result.now table (omega arith)
-    (omega arith) c.index.ensures in
-    (refl, quits-there v are c.args.state c.requires.held.0 c.args.byte c.requires.held.1 small
-    (sym at ∙ same-from c.index.result.now quit (sym c.eq.ensures ∙ c.if-eq.true)))
+    (omega arith) c.index.ensures in (
+      refl,
+      quits-there v are c.args.state c.requires.held.0 c.args.byte c.requires.held.1 small
+          (sym at ∙ same-from c.index.result.now quit (sym c.eq.ensures ∙ c.if-eq.true)),
+    )
 
 pub returns-clause-next : goal.returns-clause-next
 returns-clause-next g c key h =
