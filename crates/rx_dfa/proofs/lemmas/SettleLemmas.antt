@@ -54,12 +54,12 @@ module _ (f : Found) where
 
   -- the number of a key at the end
   pub settled-number : (first : ℕ) → first ≡ length (plain_keys f) * f.stride → (n : ℕ) (k : Key)
-      → length (plain_keys f) * f.stride < second → length (special_keys f) * f.stride < second → 0 < f.stride
+      → length (plain_keys f) * f.stride < second → length (special_keys f) * f.stride < second → 1 < f.stride
       → IsNumber f n k → IsRow f.stride all_keys 0 (settled first n) k
   settled-number first is n k room more some (inl r) =
       let at = r.is in
       let lt = slice_get_within (plain_keys f) r.row (canonical k) r.there in
-      let below = mul-add-lt r.row f.stride 0 (length (plain_keys f)) lt some in
+      let below = mul-add-lt r.row f.stride (f.stride - 1) (length (plain_keys f)) lt (omega arith) in
       record {
         row = r.row;
         there = stays-push (plain_keys f) (special_keys f) r.row (canonical k) r.there;
@@ -68,7 +68,7 @@ module _ (f : Found) where
   settled-number first is n k room more some (inr r) =
       let at = r.is in
       let lt = slice_get_within (special_keys f) r.row (canonical k) r.there in
-      let below = mul-add-lt r.row f.stride 0 (length (special_keys f)) lt some in
+      let below = mul-add-lt r.row f.stride (f.stride - 1) (length (special_keys f)) lt (omega arith) in
       record {
         row = length (plain_keys f) + r.row;
         there = append-there (plain_keys f) (special_keys f) r.row (canonical k) r.there;
@@ -76,7 +76,7 @@ module _ (f : Found) where
       }
 
   module _ (d : Dfa) (first : ℕ) (is_first : first ≡ length (plain_keys f) * f.stride) (room : length (plain_keys f) * f.stride < second)
-      (more : length (special_keys f) * f.stride < second) (some : 0 < f.stride) where
+      (more : length (special_keys f) * f.stride < second) (some : 1 < f.stride) where
     abbrev IsAtEnd : ℕ → Key → Type 0
     IsAtEnd n k = IsRow f.stride all_keys 0 n k
 
@@ -95,6 +95,7 @@ module _ (f : Found) where
         → AreRows d f.stride IsAtEnd all_keys (length all_keys) (map (settled first) plain ++ map (settled first) special)
     rows-settled plain special wide of_plain of_special =
         let all = length-append (plain_keys f) (special_keys f) in
+        let scaled_all = ap (λ (n : ℕ). n * f.stride) all in
         let cells = length-append (map (settled first) plain) (map (settled first) special) in
         let mapped = length-map plain (settled first) in
         let mapped' = length-map special (settled first) in

@@ -1,5 +1,5 @@
 //! The full DFA as the searches see it.
-ghost use Rattle.std.specs.Prelude.{ℕ, IfOk, OnOk};
+ghost use Rattle.std.specs.Prelude.{◌≡◌, ℕ, IfOk, OnOk, slice_get};
 ghost use Rattle.std.specs.Result.{IfErr};
 ghost use Rattle.rx_search.specs.Anchored.{anchor_of};
 ghost use Rattle.rx_dfa.specs.Automaton.{first_key, IsReadable, IsSound, StartFails};
@@ -93,12 +93,19 @@ impl Automaton for Dense {
         }
         let row = (state.as_usize() - self.dead.as_usize()) >> self.stride2;
         let patterns = &self.matches[row];
-        patterns.get(index).copied()
+        pattern_at(patterns.as_slice(), index)
     }
 
     fn is_utf8(&self) -> bool {
         self.nfa.is_utf8()
     }
+}
+
+/// The pattern of this index, if there is one.
+fn pattern_at(patterns: &[PatternID], index: usize) -> Option<PatternID>
+    ensures { result ≡ slice_get patterns.now index }
+{
+    patterns.get(index).copied()
 }
 
 impl Dense {

@@ -50,5 +50,4 @@ returns c key h =
     let list : c.index-patterns.result.now.items ≡ key.matches =
     some-is (sym (slice_get-map vec_items c.self.inside.matches.items index ∙ ap (option_map vec_items) at)
     ∙ (λ j. slice_get ((c.self.view_is j).matches) (place j)) ∙ there) in
-    let read : c.copied.result ≡ slice_get c.deref.result.now c.args.index = search rules in
-    read ∙ ap (λ (ms : List ℕ). slice_get ms c.args.index) (c.deref.ensures.value ∙ list)
+    c.pattern_at.ensures ∙ ap (λ (ms : List ℕ). slice_get ms c.args.index) (c.as_slice.ensures.value ∙ list)
