@@ -3,6 +3,7 @@ use Rattle.std.proofs.Common.{◌≡◌, ℕ, zero, suc, ◌+◌, ◌*◌, ◌<�
 use Rattle.std.specs.Prelude.{Bool, true, false, ◌||◌, not, ◌==◌, Option, Some, None, slice_get, Result, IfOk, IfErr}
 use Rattle.std.proofs.lemmas.List.{length-append}
 use Rattle.std.proofs.lemmas.Result.{IfOk-weaker, IfErr-weaker}
+use Rattle.rx_model.proofs.lemmas.runs.FirstLemmas.{none-is-some}
 use Rattle.rx_determinize.specs.Key.{Key, is_dead, is_empty}
 use Rattle.rx_dfa.specs.Automaton.{Dfa, no_key}
 use Rattle.rx_dfa.specs.States.{canonical, is_special, IsState, AreStates}
@@ -123,3 +124,9 @@ none-there (x ∷ xs) len is e = absurd (let none = same-from len 0 e in omega a
 pub some-there : (xs : List ℕ) (len : ℕ) → len ≡ length xs → (len == 0) ≡ false → is_empty xs ≡ false
 some-there [] len is e = absurd (other-from len 0 e is)
 some-there (x ∷ xs) len is e = refl
+
+none-are : (d : Dfa) → AreStates d []
+none-are d = record { each = λ row k is. none-is-some is; once = λ row other k is at. none-is-some is }
+
+pub lone : (d : Dfa) (k : Key) → IsState d k → AreStates d (k ∷ [])
+lone d k state = states-push d [] k (none-are d) state (λ row is. none-is-some is)

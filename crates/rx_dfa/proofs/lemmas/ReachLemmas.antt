@@ -1,9 +1,11 @@
 -- What a start or a step leads to is a state.
 use Rattle.std.proofs.Common.{◌≡◌, ℕ, ◌<◌, List, [], ◌∷◌, length, refl, sym, ◌∙◌, ap, subst, arith, true≢false}
 use Rattle.std.specs.Prelude.{Bool, true, false, All, Option, Some, None, IfSome, if◌then◌else◌, slice_index}
-use Rattle.std.proofs.lemmas.List.Elements.{All-nil, All-cons}
+use Rattle.std.proofs.lemmas.List.Elements.{All-nil, All-cons, All-get_or}
+use Rattle.std.proofs.lemmas.Option.{get_or_from_slice_get, slice_get_within}
 use Rattle.rx_model.proofs.lemmas.runs.RunLemmas.{by_test}
-use Rattle.rx_model.specs.Search.{Anchor}
+use Rattle.rx_model.specs.Search.{Anchor, free, anchored, anchored_to}
+use Rattle.rx_model.proofs.lemmas.runs.FirstLemmas.{some-is}
 use Rattle.rx_search.specs.ByteClasses.{AreRepresentatives}
 use Rattle.rx_nfa.specs.NextMatch.{start_of}
 use Rattle.rx_nfa.specs.Ordered.{AreBelow}
@@ -115,3 +117,15 @@ first-state d start loops before begins context read below live =
 
 pub dead-state : (d : Dfa) → AreBelow (length d.nfa.states) [] → IsReached d (no_key None) → IsState d (no_key None)
 dead-state d below reached = record { dead = λ e. refl; reached = λ e. reached; below = below; before = read-none d }
+
+-- runs of a mode start at a state that is there
+pub start-inside : (d : Dfa) → IsSound d → (start : ℕ) (loops : Bool) → IsStart d start loops → start < length d.nfa.states
+start-inside d sound start loops begins = of_mode begins.0 begins.1
+  where
+    of_mode : (anchor : Anchor) → start_of d.nfa anchor ≡ Some start → start < length d.nfa.states
+    of_mode free is = let same : d.nfa.start_anchored ≡ start = some-is is in let lt = sound.in_range.start_anchored in omega arith
+    of_mode anchored is = let same : d.nfa.start_anchored ≡ start = some-is is in let lt = sound.in_range.start_anchored in omega arith
+    of_mode (anchored_to p) is =
+        let same = get_or_from_slice_get d.nfa.starts p start 0 is in
+        let lt = All-get_or (λ q. q < length d.nfa.states) d.nfa.starts p 0 (slice_get_within d.nfa.starts p start is) sound.in_range.starts in
+        omega arith
