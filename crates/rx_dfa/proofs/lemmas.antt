@@ -26,3 +26,5 @@ pub mod CellLemmas
 pub mod RowLemmas
 pub mod SettleLemmas
 pub mod BuildLemmas
+pub mod StartLemmas
+pub mod FilledLemmas

@@ -1,5 +1,5 @@
 -- What the build of a full DFA answers.
-use Rattle.std.specs.Prelude.{◌≡◌, ℕ, ◌+◌, ◌*◌, ◌^◌, ◌<◌, Bool, true, false, List, length, Option, Some, EachIndex, slice_index}
+use Rattle.std.specs.Prelude.{◌≡◌, ℕ, ◌+◌, ◌*◌, ◌^◌, ◌<◌, Bool, true, false, List, length, Option, Some, EachIndex, slice_get, slice_index}
 use Rattle.rx_model.specs.Look.{Look}
 use Rattle.rx_search.specs.ByteClasses.{alphabet_len, IsLeastPower}
 use Rattle.rx_search.specs.LookSet.{has}
@@ -7,7 +7,7 @@ use Rattle.rx_search.specs.declared.anchored.MatchKind.{MatchKind}
 use Rattle.rx_nfa.specs.Nfa.{Nfa}
 use Rattle.rx_determinize.specs.Key.{Key}
 use Rattle.rx_dfa.specs.Automaton.{Dfa, IsSound}
-use Rattle.rx_dfa.specs.States.{AreStates}
+use Rattle.rx_dfa.specs.States.{IsState, AreStates}
 use Rattle.rx_dfa.specs.declared.dense.error.BuildError.{BuildError}
 use Rattle.rx_dfa.specs.declared.dense.error.BuildError.TheVariants.{TooBig, Memory}
 
@@ -37,8 +37,21 @@ abbrev pub IsRefused : Dfa → (stride : ℕ) → Option ℕ → BuildError → 
 IsRefused d stride given (TooBig limit size) = (given ≡ Some limit) × IsTooBig d stride limit size
 IsRefused d stride given Memory = Unit {0}
 
--- the same, where a row has as many cells as the classes need
-pub record IsNoTable (d : Dfa) (given : Option ℕ) (e : BuildError) : Type 0 where
+-- each state of the DFA is among these
+abbrev pub HasAll : Dfa → List Key → Type 0
+HasAll d keys = (k : Key) → IsState d k → (row : ℕ) × (slice_get keys row ≡ Some k)
+
+-- A row has as many cells as the classes of the NFA's DFA need. Some of its states make a table of this size, which is above the
+-- limit, and so is the size of the whole table.
+pub record IsAbove (nfa : Nfa) (kind : MatchKind) (byte_classes : Bool) (limit size : ℕ) : Type 0 where
+  pub dfa : Dfa
+  pub of : IsDfaOf nfa kind byte_classes dfa
   pub stride2 : ℕ
-  pub power : IsLeastPower (alphabet_len d.classes) stride2
-  pub cause : IsRefused d (2 ^ stride2) given e
+  pub power : IsLeastPower (alphabet_len dfa.classes) stride2
+  pub big : IsTooBig dfa (2 ^ stride2) limit size
+  pub whole : (all : List Key) → HasAll dfa all → limit < size_of (2 ^ stride2) (length all)
+
+-- why there is no full DFA of this NFA
+abbrev pub IsNoTable : Nfa → MatchKind → (byte_classes : Bool) → Option ℕ → BuildError → Type 0
+IsNoTable nfa kind byte_classes given (TooBig limit size) = (given ≡ Some limit) × IsAbove nfa kind byte_classes limit size
+IsNoTable nfa kind byte_classes given Memory = Unit {0}

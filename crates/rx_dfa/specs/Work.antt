@@ -1,5 +1,5 @@
 -- What the rows of a table are made with, and how far they are made.
-use Rattle.std.specs.Prelude.{◌≡◌, ℕ, ◌+◌, ◌<◌, ◌≤◌, Bool, List, length, slice_index, Option, Some}
+use Rattle.std.specs.Prelude.{◌≡◌, ℕ, ◌+◌, ◌*◌, ◌<◌, ◌≤◌, Bool, List, ◌++◌, length, slice_index, Option, Some}
 use Rattle.rx_model.specs.Search.{Anchor}
 use Rattle.rx_nfa.specs.NextMatch.{start_of}
 use Rattle.rx_determinize.specs.Sight.{class_beside}
@@ -7,7 +7,7 @@ use Rattle.rx_determinize.specs.Span.{loops_in}
 use Rattle.rx_determinize.specs.Key.{Key, start_key}
 use Rattle.rx_dfa.specs.Automaton.{Dfa, last_key}
 use Rattle.rx_dfa.specs.States.{IsRead}
-use Rattle.rx_dfa.specs.Table.{IsCell, AreRows, context_count, context}
+use Rattle.rx_dfa.specs.Table.{IsRow, IsCell, AreRows, context_count, context, mode_of, AreStarts}
 use Rattle.rx_dfa.specs.Found.{IsNumber, plain_keys, special_keys}
 use Rattle.rx_dfa.specs.declared.dense.found.Found.{Found}
 use Rattle.rx_dfa.specs.declared.dense.rows.Cells.{Cells}
@@ -39,6 +39,20 @@ pub record AreBegun (d : Dfa) (IsNumberOf : ℕ → Key → Type 0) (start : ℕ
   pub stays : (i : ℕ) → i < length old → slice_index new i ≡ slice_index old i
   pub each : (class : ℕ) → class < n → IsRead d.nfa (context d.keeps d.bytes class)
       → IsNumberOf (slice_index new (length old + class)) (start_key d.kind d.nfa.states start loops (context d.keeps d.bytes class))
+
+-- The starts of the first n modes were appended.
+pub record AreStarted (d : Dfa) (IsNumberOf : ℕ → Key → Type 0) (n : ℕ) (starts : List ℕ) : Type 0 where
+  pub len : length starts ≡ n * context_count d.keeps d.bytes
+  pub each : (anchor : Anchor) (start class : ℕ) → mode_of anchor < n → start_of d.nfa anchor ≡ Some start → class < context_count d.keeps d.bytes
+      → IsRead d.nfa (context d.keeps d.bytes class)
+      → IsNumberOf (slice_index starts (mode_of anchor * context_count d.keeps d.bytes + class))
+      (start_key d.kind d.nfa.states start (loops_in anchor) (context d.keeps d.bytes class))
+
+-- The table and the starts, with the numbers that states have at the end.
+pub record AreDrawn (d : Dfa) (f : Found) (table starts : List ℕ) : Type 0 where
+  pub rows : AreRows d f.stride (IsRow f.stride (plain_keys f ++ special_keys f) 0) (plain_keys f ++ special_keys f)
+      (length (plain_keys f ++ special_keys f)) table
+  pub starts : AreStarts d (IsRow f.stride (plain_keys f ++ special_keys f) 0) starts
 
 -- runs of some mode of a search start at this state, with the loop or without
 abbrev pub IsStart : Dfa → (start : ℕ) → (loops : Bool) → Type 0

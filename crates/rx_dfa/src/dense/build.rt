@@ -7,6 +7,8 @@ ghost use Rattle.rx_dfa.specs.Alphabet.{IsAlphabetOf, dfa_of};
 ghost use Rattle.rx_dfa.specs.Numbers.{settled};
 ghost use Rattle.rx_dfa.specs.Table.{IsRow, AreRows, AreStarts};
 ghost use Rattle.rx_dfa.specs.Found.{AreFound, Grows, IsMade, keys_in, plain_keys, special_keys};
+ghost use Rattle.rx_dfa.specs.Job.{dfa_in, IsServed, IsJob};
+ghost use Rattle.rx_dfa.specs.Work.{AreDrawn};
 ghost use Rattle.rx_dfa.specs.Dense.{IsDfaOf, IsNoTable};
 
 use crate::alphabet::Alphabet;
@@ -41,7 +43,7 @@ impl Dense {
         limit: Option<usize>,
     ) -> Result<Dense, BuildError>
         ensures dfa { IfOk result (λ d. IsDfaOf nfa kind byte_classes d.dfa) }
-        ensures err { IfErr result (λ e. (d : Dfa) × IsDfaOf nfa kind byte_classes d × IsNoTable d limit e) }
+        ensures err { IfErr result (IsNoTable nfa kind byte_classes limit) }
     {
         let alphabet = Alphabet::new(alloc, &nfa, byte_classes)?;
         let stride2 = alphabet.classes.stride2();
@@ -49,7 +51,7 @@ impl Dense {
         let drawn = draw(alloc, &nfa, kind, &alphabet, &mut found)?;
         let Drawn { table, starts } = drawn;
         let matches = matches_of(alloc, found.special.as_slice())?;
-        let Some(dead) = StateID::new(found.plain.len() << stride2) else {
+        let Some(dead) = StateID::new(found.plain.len() * found.stride) else {
             return Err(BuildError::Memory);
         };
         Ok(Dense {
@@ -73,14 +75,21 @@ struct Drawn {
     starts: Vec<StateID>,
 }
 
-/// The table and the starts.
+/// The table and the starts of this NFA's DFA.
 fn draw(
     alloc: Global,
     nfa: &NFA,
     kind: MatchKind,
     alphabet: &Alphabet,
     found: &mut Found,
-) -> Result<Drawn, BuildError> {
+) -> Result<Drawn, BuildError>
+    requires served { IsServed (dfa_of nfa.now kind alphabet.now) alphabet.now.words }
+    requires wide { length alphabet.now.bytes.items < found.old.stride }
+    requires found { AreFound (dfa_of nfa.now kind alphabet.now) found.old }
+    ensures grows { Grows found.old found.new }
+    ensures made { IsMade (dfa_of nfa.now kind alphabet.now) found.old found.new
+        (λ drawn. AreDrawn (dfa_of nfa.now kind alphabet.now) found.new drawn.table.items drawn.starts.items) result }
+{
     let job = Job {
         nfa,
         source: Source {
@@ -92,8 +101,19 @@ fn draw(
         },
         alphabet,
     };
+    draw_all(alloc, &job, found)
+}
+
+/// The table and the starts, with all states that they lead to.
+fn draw_all(alloc: Global, job: &Job<'_>, found: &mut Found) -> Result<Drawn, BuildError>
+    requires job { IsJob job.now }
+    requires wide { length job.now.alphabet.now.bytes.items < found.old.stride }
+    requires found { AreFound (dfa_in job.now) found.old }
+    ensures grows { Grows found.old found.new }
+    ensures made { IsMade (dfa_in job.now) found.old found.new (λ drawn. AreDrawn (dfa_in job.now) found.new drawn.table.items drawn.starts.items) result }
+{
     let mut desk = Desk {
-        scratch: Scratch::new(alloc, nfa.states_len())?,
+        scratch: Scratch::new(alloc, job.source.states.len())?,
         row: make::empty(alloc),
         next: make::empty(alloc),
     };
@@ -103,14 +123,23 @@ fn draw(
         plain_rows: 0,
         special_rows: 0,
     };
-    let starts = starts_of(alloc, &job, &mut desk, found)?;
-    fill(&job, &mut desk, found, &mut cells)?;
+    let starts = starts_of(alloc, job, &mut desk, found)?;
+    fill(job, &mut desk, found, &mut cells)?;
+    settle_all(alloc, starts.as_slice(), &cells)
+}
+
+/// The table of these cells and the starts, with the numbers that states have at the end.
+fn settle_all(alloc: Global, starts: &[StateID], cells: &Cells) -> Result<Drawn, BuildError>
+    ensures table { IfOk result (λ drawn. drawn.table.items ≡ map (settled (length cells.now.plain.items)) cells.now.plain.items ++ map (settled (length cells.now.plain.items)) cells.now.special.items) }
+    ensures starts { IfOk result (λ drawn. drawn.starts.items ≡ map (settled (length cells.now.plain.items)) starts.now) }
+    ensures err { IfErr result (λ e. e ≡ BuildError.Memory) }
+{
     let first = cells.plain.len();
     let mut table = Vec::new(alloc);
     push_settled(cells.plain.as_slice(), first, &mut table)?;
     push_settled(cells.special.as_slice(), first, &mut table)?;
     let mut settled = Vec::new(alloc);
-    push_settled(starts.as_slice(), first, &mut settled)?;
+    push_settled(starts, first, &mut settled)?;
     Ok(Drawn {
         table,
         starts: settled,

@@ -111,15 +111,14 @@ fn push_row(
     ensures made { IsMade (dfa_in job.now) found.old found.new
         (λ done. IsAppended (dfa_in job.now) found.old.stride (IsNumber found.new) (key_of desk.old.row) cells.old.items cells.new.items) result }
 {
+    let end = cells.len() + found.stride;
     for class in 0..job.alphabet.bytes.len() {
         let cell = step_cell(job, class, desk, found)?;
         cells.push(cell)?;
     }
     let last = end_cell(job, desk, found)?;
     cells.push(last)?;
-    for _ in job.alphabet.bytes.len() + 1..found.stride {
-        cells.push(QUIT)?;
-    }
+    cells.resize(end, QUIT)?;
     Ok(())
 }
 

@@ -46,7 +46,8 @@ pub fn starts_of(
     let mut starts = Vec::new(alloc);
     push_starts(job, job.source.start, true, desk, found, &mut starts)?;
     push_starts(job, job.source.start, false, desk, found, &mut starts)?;
-    for start in job.nfa.starts() {
+    let patterns = job.nfa.starts();
+    for start in patterns {
         push_starts(job, *start, false, desk, found, &mut starts)?;
     }
     Ok(starts)
