@@ -28,3 +28,6 @@ pub mod SettleLemmas
 pub mod BuildLemmas
 pub mod StartLemmas
 pub mod FilledLemmas
+pub mod ErrorLemmas
+pub mod DrawLemmas
+pub mod CountLemmas

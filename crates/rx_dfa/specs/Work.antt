@@ -49,10 +49,10 @@ pub record AreStarted (d : Dfa) (IsNumberOf : ℕ → Key → Type 0) (n : ℕ) 
       (start_key d.kind d.nfa.states start (loops_in anchor) (context d.keeps d.bytes class))
 
 -- The table and the starts, with the numbers that states have at the end.
-pub record AreDrawn (d : Dfa) (f : Found) (table starts : List ℕ) : Type 0 where
+pub record AreDrawn (d : Dfa) (f : Found) (table begins : List ℕ) : Type 0 where
   pub rows : AreRows d f.stride (IsRow f.stride (plain_keys f ++ special_keys f) 0) (plain_keys f ++ special_keys f)
       (length (plain_keys f ++ special_keys f)) table
-  pub starts : AreStarts d (IsRow f.stride (plain_keys f ++ special_keys f) 0) starts
+  pub starts : AreStarts d (IsRow f.stride (plain_keys f ++ special_keys f) 0) begins
 
 -- runs of some mode of a search start at this state, with the loop or without
 abbrev pub IsStart : Dfa → (start : ℕ) → (loops : Bool) → Type 0

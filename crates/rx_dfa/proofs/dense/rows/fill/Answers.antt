@@ -8,7 +8,7 @@ returns-in_err-fill_next-clause-grows c = grows-on _ _ _ c.rows.invariant.grows 
 
 pub rows-smaller : goal.rows-smaller
 rows-smaller c =
-    let more = c.in_ok-fill_next.ensures.more c.rows-test.true in
+    let more = c.in_ok-fill_next.ensures.more c.if-branch.true in
     let few = few-rows c.fill_next.new.found c.fill_next.new.cells c.in_ok-fill_next.ensures.within in
     omega arith
 

@@ -1,5 +1,6 @@
 use Rattle.std.proofs.Common.{◌≡◌, ℕ, List, ◌+◌, ◌++◌, ◌∷◌, [], length, refl, sym, ◌∙◌, ap, subst, arith}
 use Rattle.std.specs.Prelude.{slice_index}
+use Rattle.std.proofs.lemmas.Result.{err_from_is_err_and}
 use Rattle.rx_dfa.specs.Automaton.{last_key}
 use Rattle.rx_dfa.specs.StateKey.{key_of}
 use Rattle.rx_dfa.specs.Job.{dfa_in}
@@ -8,6 +9,7 @@ use Rattle.rx_dfa.specs.Found.{IsNumber}
 use Rattle.rx_dfa.specs.Work.{IsPart}
 use Rattle.rx_dfa.specs.declared.state_key.StateKey.{StateKey}
 use Rattle.rx_dfa.proofs.lemmas.RowLemmas.{number-grows, grows-same, grows-on, part-none, part-push}
+use Rattle.rx_dfa.proofs.lemmas.FindLemmas.{memory-refused}
 use Rattle.rx_dfa.proofs.lemmas.FilledLemmas.{row-made}
 use Rattle.rx_dfa.proofs.dense.rows.push_row.Goals as goal
 
@@ -53,6 +55,15 @@ returns-in_err-push-2-clause-grows c = grows-on _ _ _ c.loop-class.invariant.gro
 pub returns-in_err-resize-clause-grows : goal.returns-in_err-resize-clause-grows
 returns-in_err-resize-clause-grows c = grows-on _ _ _ c.loop-class.invariant.grows c.in_ok-last.ensures.grows
 
+pub returns-in_err-resize-clause-made : goal.returns-in_err-resize-clause-made
+returns-in_err-resize-clause-made c =
+    let e = err_from_is_err_and c.from_residual-in_err-resize.result c.from_residual-in_err-resize.ensures.1 in
+    record {
+      found = c.in_ok-last.ensures.made.found;
+      ok = rw (e.1) tt;
+      err = rw (e.1) (memory-refused (dfa_in c.args.job.now) c.args.found.now.stride c.args.found.now.limit e.0 e.2);
+    }
+
 pub returns-clause-grows : goal.returns-clause-grows
 returns-clause-grows c = grows-on _ _ _ c.loop-class.invariant.grows c.in_ok-last.ensures.grows
 
@@ -64,11 +75,12 @@ returns-clause-made c =
     let here : c.push-2.new.self.items ≡ c.loop-class.cells.items ++ last ∷ [] = c.in_ok-push-2.ensures.items in
     let is = c.in_ok-last.ensures.made.ok in
     let part = c.loop-class.invariant.part in
-    let all : c.loop-class.class ≡ length d.bytes = ? in
+    let all : c.loop-class.class ≡ length d.bytes =
+    omega (arith, c.args.job.now.alphabet.now.bytes.ok.0, c.loop-class-test.false, c.loop-class.auto.class-end) in
     record {
       found = c.in_ok-last.ensures.made.found;
       ok = row-made d (IsNumber c.loop-class.found) (IsNumber c.end_cell.new.found) (number-grows _ _ c.in_ok-last.ensures.grows) k c.args.found.now.stride
-          c.args.cells.now.items c.loop-class.cells.items c.push-2.new.self.items c.resize.new.self.items last (c.args.cells.now.len + c.args.found.now.stride)
+          c.args.cells.now.items c.loop-class.cells.items c.push-2.new.self.items c.resize.new.self.items last (c.len.result + c.args.found.now.stride)
           c.push-2.new.self.len quit c.requires.wide
           (subst (λ (n : ℕ). IsPart d (IsNumber c.loop-class.found) k n c.args.cells.now.items c.loop-class.cells.items) all part)
           (subst (λ (r : StateKey). IsNumber c.end_cell.new.found last (last_key d (key_of r))) c.loop-class.invariant.row is) here
