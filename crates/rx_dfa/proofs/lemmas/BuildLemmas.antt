@@ -4,7 +4,7 @@ use Rattle.std.specs.Prelude.{Bool, true, false, Option, Some, None, slice_get, 
 use Rattle.std.specs.Option.{option_map}
 use Rattle.std.proofs.lemmas.List.{length-append, length-map}
 use Rattle.std.proofs.lemmas.Option.{slice_get-map, slice_get_within}
-use Rattle.rx_search.specs.ByteClasses.{alphabet_len, IsLeastPower}
+use Rattle.rx_search.specs.ByteClasses.{alphabet_len, AreRepresentatives, IsLeastPower}
 use Rattle.rx_search.specs.declared.anchored.MatchKind.{MatchKind}
 use Rattle.rx_nfa.specs.Nfa.{Nfa, IsInRange}
 use Rattle.rx_determinize.specs.Key.{Key}
@@ -21,6 +21,10 @@ use Rattle.rx_dfa.specs.declared.dense.found.Found.{Found}
 use Rattle.rx_dfa.proofs.lemmas.AlphabetLemmas.{class-small}
 use Rattle.rx_dfa.proofs.lemmas.FoundLemmas.{appended, append-there, states-append, at-mapped}
 use Rattle.rx_dfa.proofs.lemmas.SettleLemmas.{all_keys}
+
+-- a row has a cell for each class, and one for the end of input
+pub least-wide : (classes bytes : List ℕ) → AreRepresentatives classes bytes → (k : ℕ) → IsLeastPower (alphabet_len classes) k → length bytes < 2 ^ k
+least-wide classes bytes stand k power = let each = stand.each in let enough = power.enough in omega arith
 
 module _ (nfa : Nfa) (range : IsInRange nfa) (kind : MatchKind) (byte_classes : Bool) (a : Alphabet) (of : IsAlphabetOf nfa byte_classes a)
     (stride2 : ℕ) (power : IsLeastPower (alphabet_len a.classes) stride2) (f : Found) (wide : f.stride ≡ 2 ^ stride2)

@@ -1,7 +1,7 @@
 //! How the full DFA is built.
 ghost use Rattle.std.specs.Prelude.{◌≡◌, ◌+◌, ◌*◌, ◌++◌, ◌<◌, ◌≤◌, ◌^◌, length, map, IfOk, IfErr, OnOk};
 ghost use Rattle.std.specs.Vec.{vec_items};
-ghost use Rattle.rx_search.specs.Limits.{id_limit};
+ghost use Rattle.rx_search.specs.ByteClasses.{alphabet_len, IsLeastPower};
 ghost use Rattle.rx_dfa.specs.Automaton.{Dfa};
 ghost use Rattle.rx_dfa.specs.Alphabet.{IsAlphabetOf, dfa_of};
 ghost use Rattle.rx_dfa.specs.Numbers.{settled};
@@ -20,10 +20,9 @@ use crate::dense::numbers::settle;
 use crate::dense::rows::{Cells, Desk, fill};
 use crate::dense::starts::starts_of;
 use crate::determinize::Source;
-use crate::scratch::Scratch;
-use crate::state_key::{StateKey, make};
+use crate::state_key::StateKey;
 use rx_nfa::NFA;
-use rx_search::{MatchKind, Memory, PatternID, StateID};
+use rx_search::{ByteClasses, MatchKind, Memory, PatternID, StateID};
 use std::alloc::Global;
 use std::snapshot::Snapshot;
 
@@ -46,12 +45,15 @@ impl Dense {
         ensures err { IfErr result (IsNoTable nfa kind byte_classes limit) }
     {
         let alphabet = Alphabet::new(alloc, &nfa, byte_classes)?;
-        let stride2 = alphabet.classes.stride2();
-        let mut found = Found::new(alloc, 1 << stride2, limit)?;
+        let _states = nfa.states_len();
+        let stride2 = stride2_of(&alphabet.classes);
+        let stride = stride_of(stride2);
+        let mut found = Found::new(alloc, stride, limit)?;
         let drawn = draw(alloc, &nfa, kind, &alphabet, &mut found)?;
         let Drawn { table, starts } = drawn;
         let matches = matches_of(alloc, found.special.as_slice())?;
-        let Some(dead) = StateID::new(found.plain.len() * found.stride) else {
+        let plain = found.plain.len();
+        let Some(dead) = StateID::new(plain * found.stride) else {
             return Err(BuildError::Memory);
         };
         Ok(Dense {
@@ -66,6 +68,25 @@ impl Dense {
             found: Snapshot::of(&found),
         })
     }
+}
+
+/// How many cells a row has: 2 to this power.
+fn stride2_of(classes: &ByteClasses) -> usize
+    ensures power { IsLeastPower (alphabet_len classes.now) result }
+    ensures small { result ≤ 9 }
+{
+    let _len = classes.alphabet_len();
+    classes.stride2()
+}
+
+/// How many cells a row has.
+fn stride_of(stride2: usize) -> usize
+    requires { stride2 ≤ 9 }
+    ensures power { result ≡ 2 ^ stride2 }
+    ensures some { 0 < result }
+    ensures narrow { result ≤ 512 }
+{
+    1 << stride2
 }
 
 /// The table and the starts.
@@ -112,17 +133,8 @@ fn draw_all(alloc: Global, job: &Job<'_>, found: &mut Found) -> Result<Drawn, Bu
     ensures grows { Grows found.old found.new }
     ensures made { IsMade (dfa_in job.now) found.old found.new (λ drawn. AreDrawn (dfa_in job.now) found.new drawn.table.items drawn.starts.items) result }
 {
-    let mut desk = Desk {
-        scratch: Scratch::new(alloc, job.source.states.len())?,
-        row: make::empty(alloc),
-        next: make::empty(alloc),
-    };
-    let mut cells = Cells {
-        plain: Vec::new(alloc),
-        special: Vec::new(alloc),
-        plain_rows: 0,
-        special_rows: 0,
-    };
+    let mut desk = Desk::new(alloc, job.source.states.len())?;
+    let mut cells = Cells::new(alloc);
     let starts = starts_of(alloc, job, &mut desk, found)?;
     fill(job, &mut desk, found, &mut cells)?;
     settle_all(alloc, starts.as_slice(), &cells)

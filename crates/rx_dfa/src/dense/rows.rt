@@ -1,6 +1,6 @@
 //! The rows of the table.
 ghost use Rattle.std.specs.Prelude.{◌≡◌, ◌+◌, ◌<◌, true, false, length, slice_index, IfOk, OnOk};
-ghost use Rattle.rx_dfa.specs.Automaton.{last_key};
+ghost use Rattle.rx_dfa.specs.Automaton.{Dfa, last_key};
 ghost use Rattle.rx_dfa.specs.StateKey.{key_of};
 ghost use Rattle.rx_dfa.specs.Scratch.{room_of};
 ghost use Rattle.rx_dfa.specs.States.{IsState};
@@ -15,7 +15,8 @@ use crate::dense::job::Job;
 use crate::dense::numbers::QUIT;
 use crate::scratch::Scratch;
 use crate::state_key::{StateKey, make};
-use rx_search::StateID;
+use rx_search::{Memory, StateID};
+use std::alloc::Global;
 
 /// What keys are made in.
 #[derive(Drop)]
@@ -35,6 +36,37 @@ pub struct Cells {
     /// How many rows there are of each sort.
     pub plain_rows: usize,
     pub special_rows: usize,
+}
+
+impl Desk {
+    /// For an NFA of so many states.
+    pub fn new(alloc: Global, states: usize) -> Result<Desk, Memory>
+        ensures { IfOk result (λ d. room_of d.scratch ≡ states) }
+    {
+        let scratch = Scratch::new(alloc, states)?;
+        Ok(Desk {
+            scratch,
+            row: make::empty(alloc),
+            next: make::empty(alloc),
+        })
+    }
+}
+
+impl Cells {
+    /// No rows.
+    pub fn new(alloc: Global) -> Cells
+        ensures within { (f : Found) → AreWithin f result }
+        ensures filled { (d : Dfa) (f : Found) → AreFilled d f result }
+    {
+        let plain = Vec::new(alloc);
+        let special = Vec::new(alloc);
+        Cells {
+            plain,
+            special,
+            plain_rows: 0,
+            special_rows: 0,
+        }
+    }
 }
 
 /// Makes the rows of all states, also of those that are found on the way.
