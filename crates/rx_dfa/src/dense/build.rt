@@ -45,6 +45,7 @@ impl Dense {
         ensures err { IfErr result (IsNoTable nfa kind byte_classes limit) }
     {
         let alphabet = Alphabet::new(alloc, &nfa, byte_classes)?;
+        // That its parts fit together is what this call ensures.
         let _states = nfa.states_len();
         let stride2 = stride2_of(&alphabet.classes);
         let stride = stride_of(stride2);
@@ -75,6 +76,7 @@ fn stride2_of(classes: &ByteClasses) -> usize
     ensures power { IsLeastPower (alphabet_len classes.now) result }
     ensures small { result ≤ 9 }
 {
+    // That there are at most 257 is what this call ensures.
     let _len = classes.alphabet_len();
     classes.stride2()
 }
