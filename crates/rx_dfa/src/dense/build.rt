@@ -32,8 +32,8 @@ impl Dense {
     ///
     /// # Errors
     ///
-    /// `TooBig` exactly where the table has a size above the limit; it has that of the states that were made so far. `Memory`
-    /// also where there are more states than numbers of states.
+    /// `TooBig` once the states that were made so far have a size above the limit: it has that size, and that of the whole table is
+    /// above the limit too. `Memory` also where there are more states than numbers of states.
     pub fn build_from_nfa(
         alloc: Global,
         nfa: NFA,
