@@ -126,7 +126,9 @@ impl Dfas {
         match self {
             Dfas::Absent => 0,
             Dfas::Full { forward, backward } => {
-                forward.memory_usage().saturating_add(backward.memory_usage())
+                forward
+                    .memory_usage()
+                    .saturating_add(backward.memory_usage())
             }
             Dfas::Lazy { .. } => 0,
         }

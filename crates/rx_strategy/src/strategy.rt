@@ -52,9 +52,7 @@ impl Strategy {
         let reverse = compiled_backwards(alloc, config, exprs)?;
         let info = RegexInfo::new(alloc, exprs)?;
         let pre = choose(alloc, config, exprs, &info)?;
-        Ok(Strategy::Core(Core::new(
-            alloc, config, nfa, reverse, info, pre,
-        )?))
+        Ok(Strategy::Core(Core::new(alloc, config, nfa, reverse, info, pre)?))
     }
 
     /// The next match in the input's span. With `earliest` it is some match, and there is one exactly where there is a next

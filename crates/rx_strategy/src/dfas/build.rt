@@ -9,9 +9,8 @@ ghost use Rattle.rx_dfa.specs.LazyBuild.{IsLazyOf};
 use crate::config::Config;
 use crate::dfas::Dfas;
 use crate::lazies::Lazies;
-use rx_dfa::Dense;
-use rx_dfa::dense;
 use rx_dfa::lazy::{self, Lazy};
+use rx_dfa::{Dense, dense};
 use rx_nfa::NFA;
 use rx_search::{MatchKind, Memory};
 use std::alloc::Global;
@@ -48,7 +47,11 @@ impl Dfas {
 
     /// Makes any caches some that serve these DFAs, and lets go of all states. Where there are no lazy DFAs, what is there stays without
     /// a state.
-    pub(crate) fn reset_cache(&self, alloc: Global, lazies: &mut Option<Lazies>) -> Result<(), Memory>
+    pub(crate) fn reset_cache(
+        &self,
+        alloc: Global,
+        lazies: &mut Option<Lazies>,
+    ) -> Result<(), Memory>
         ensures fits { OnOk result (FitsLazies self.now lazies.new) }
         ensures empty { OnOk result (IfSome lazies.new HoldNoStates) }
         ensures err { OnErr result (lazies.new ≡ lazies.old) }
@@ -80,12 +83,7 @@ fn forget(lazies: &mut Option<Lazies>)
 }
 
 /// The full DFAs, where they may be built and each table is within its limit.
-fn full(
-    alloc: Global,
-    config: &Config,
-    nfa: &NFA,
-    reverse: &NFA,
-) -> Result<Option<Dfas>, Memory>
+fn full(alloc: Global, config: &Config, nfa: &NFA, reverse: &NFA) -> Result<Option<Dfas>, Memory>
     ensures { IfOk result (λ made. MatchOption made (HasNoFull config.now nfa.now reverse.now) (AreDfasOf config.now nfa.now reverse.now)) }
 {
     if !config.may_be_full(nfa) {
