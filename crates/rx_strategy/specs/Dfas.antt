@@ -1,5 +1,5 @@
 -- What a core's DFAs are to its searches, and what their caches hold.
-use Rattle.std.specs.Prelude.{◌≡◌, ℕ, ◌+◌, ◌<◌, true, false, [], length, Option, Some, None, IfSome, IsSomeAnd, slice_get}
+use Rattle.std.specs.Prelude.{◌≡◌, ℕ, ◌+◌, ◌<◌, true, false, List, [], length, Option, Some, None, IfSome, IsSomeAnd, slice_get}
 use Rattle.rx_model.specs.Expression.{Expression, AreOrdered}
 use Rattle.rx_model.specs.Search.{Patterns}
 use Rattle.rx_search.specs.Input.{InputValue}
@@ -42,12 +42,13 @@ pub record ServeNfa (nfa : Nfa) (kind : MatchKind) (reverse : Option Nfa) (dfas 
   pub paired : ArePaired dfas
   pub are : IfSome (pair_of dfas) (IsPairOf nfa kind reverse)
 
--- what the clauses of a search of both DFAs speak of, for these patterns
-pub record SearchFor (dfas : Dfas) (r : Patterns) (v : InputValue) : Type 0 where
+-- What the clauses of a search of both DFAs speak of, for these patterns, of which each match begins with one of the needles, if there
+-- are needles.
+pub record SearchFor (dfas : Dfas) (needles : Option (List (List ℕ))) (r : Patterns) (v : InputValue) : Type 0 where
   pub forward : Dfa
   pub backward : Dfa
   pub are : pair_of dfas ≡ Some (forward, backward)
-  pub premises : Premises (IsNfaOf forward.nfa r) None r v
+  pub premises : Premises (IsNfaOf forward.nfa r) needles r v
   pub reverse_runs : HasReverseRuns backward.nfa r
   pub ordered : (p : ℕ) (h : Expression) → slice_get r.expressions p ≡ Some h → AreOrdered h
   pub leftmost : forward.kind ≡ LeftmostFirst

@@ -1,5 +1,5 @@
 //! The part of an input in which a match was found.
-ghost use Rattle.std.specs.Prelude.{◌≡◌, ◌+◌, ◌-◌, ◌≤◌};
+ghost use Rattle.std.specs.Prelude.{◌≡◌, ◌-◌, ◌≤◌, max};
 ghost use Rattle.rx_search.specs.Told.{LiesIn, HalfLiesIn};
 ghost use Rattle.rx_strategy.specs.Narrow.{narrowed};
 
@@ -20,15 +20,16 @@ pub(crate) fn narrowed<'h>(input: &Input<'h>, found: &Match) -> Input<'h>
     part
 }
 
-/// The match of this length that ends there.
-pub(crate) fn match_of_len(end: HalfMatch, len: usize) -> Match
-    requires { len ≤ end.offset }
-    ensures { result ≡ record { pattern = end.pattern; start = end.offset - len; end = end.offset } }
+/// The match of this length that ends there. It begins in the span, also where no match of this length would.
+pub(crate) fn match_of_len(input: &Input<'_>, end: HalfMatch, len: usize) -> Match
+    requires { HalfLiesIn input.now end }
+    ensures { result ≡ record { pattern = end.pattern; start = max input.now.start (end.offset - len); end = end.offset } }
 {
+    let start = end.offset().saturating_sub(len).max(input.start());
     Match::new(
         end.pattern(),
         Span {
-            start: end.offset() - len,
+            start,
             end: end.offset(),
         },
     )

@@ -87,6 +87,12 @@ impl Automaton for Dense {
         !(state < self.dead)
     }
 
+    fn is_start(&self, _cache: &(), state: StateID) -> bool {
+        let starts = self.starts.as_slice();
+        let free = self.alphabet.contexts().min(starts.len());
+        starts[..free].contains(&state)
+    }
+
     fn match_pattern(&self, _cache: &(), state: StateID, index: usize) -> Option<PatternID> {
         if state < self.dead {
             return None;

@@ -1,5 +1,5 @@
 //! The strategy that runs DFAs and engines over an NFA.
-ghost use Rattle.std.specs.Prelude.{◌≡◌, ◌≤◌, ◌<◌, ◌+◌, ◌-◌, ◌*◌, ◌^◌, min, List, true, false, length, None, replicate, is_some};
+ghost use Rattle.std.specs.Prelude.{◌≡◌, ◌≤◌, ◌<◌, List, option_copied, true, false, length, None, replicate, is_some};
 ghost use Rattle.std.specs.Prelude.{IfOk, OnOk, OnErr, IsOk, IfNone, IfSome, IsSomeAnd, IsTrue, MatchOption};
 ghost use Rattle.rx_model.specs.Expression.{Expression, alternation};
 ghost use Rattle.rx_model.specs.Search.{Patterns};
@@ -16,7 +16,7 @@ ghost use Rattle.rx_search.specs.Answer.{IsAnswer, AreSlotsOfAnswer, TellsWhethe
 ghost use Rattle.rx_strategy.specs.Cache.{FitsCore, FitsBacktracker, FitsAsBefore, StillFits, backtrack_memory, AccountsAlikeIn, memory_of, accounted_backtrack, accounted_core};
 ghost use Rattle.rx_strategy.specs.Availability.{AreDfasBeside};
 ghost use Rattle.rx_strategy.specs.Config.{kind_of, captures_of, has_backtracker};
-ghost use Rattle.rx_strategy.specs.Core.{CoreValue, IsCoreFor, AreKnownOf, IsSearched, core_memory, reverse_memory};
+ghost use Rattle.rx_strategy.specs.Core.{CoreValue, IsCoreFor, AreKnownOf, IsSearched, core_memory, reverse_memory, needles_for};
 ghost use Rattle.rx_strategy.specs.Impossible.{is_impossible};
 ghost use Rattle.rx_strategy.specs.Nofail.{IsAskedFor};
 
@@ -33,7 +33,7 @@ use rx_engines::empty;
 use rx_engines::pikevm::PikeVM;
 use rx_nfa::{NFA, WhichCaptures};
 use rx_prefilter::Prefilter;
-use rx_search::{HalfMatch, Input, Match, Memory, NonMaxUsize};
+use rx_search::{HalfMatch, Input, Match, MatchKind, Memory, NonMaxUsize};
 use std::alloc::Global;
 use std::marker::Model;
 
@@ -43,6 +43,7 @@ use std::marker::Model;
 #[derive(Drop)]
 pub struct Core {
     pikevm: PikeVM,
+    kind: MatchKind,
     backtrack: Option<BoundedBacktracker>,
     which_captures: WhichCaptures,
     pre: Option<Prefilter>,
@@ -73,7 +74,8 @@ impl Model for Core {
     } };
 
     ghost invariant = { λ c. IfSome c.backtrack (λ b. (b.nfa ≡ c.pikevm.nfa) × (b.pre ≡ c.pre) × (c.pikevm.kind ≡ LeftmostFirst))
-        × AreKnownOf c.info.properties c.pikevm.nfa × (c.pikevm.pre ≡ c.pre) × ServeNfa c.pikevm.nfa c.pikevm.kind c.reverse c.dfas };
+        × AreKnownOf c.info.properties c.pikevm.nfa × (c.pikevm.pre ≡ c.pre) × ServeNfa c.pikevm.nfa c.pikevm.kind c.reverse c.dfas
+        × (c.kind ≡ c.pikevm.kind) };
 }
 
 /// An engine that answers each search that it is asked for.
@@ -112,6 +114,7 @@ impl Core {
         let own = shared(pre.as_ref())?;
         Ok(Core {
             pikevm: PikeVM::build_from_nfa(nfa, config.get_match_kind(), own),
+            kind: config.get_match_kind(),
             backtrack,
             which_captures: config.get_which_captures(),
             pre,
@@ -231,7 +234,10 @@ impl Core {
         ensures cache { FitsCore self.now cache.new }
         ensures memory { AccountsAlikeIn self.now cache.old cache.new }
     {
-        match self.dfas.try_is_match(&mut cache.lazies, input) {
+        match self
+            .dfas
+            .try_is_match(&mut cache.lazies, self.dfa_needles(), input)
+        {
             Ok(there) => there,
             // It can stop at the first match (DECISIONS: `is_match` always asks the `PikeVM`).
             Err(_) => self.pikevm.is_match(&mut cache.pikevm, input),
@@ -251,7 +257,10 @@ impl Core {
         if !self.tells() {
             return None;
         }
-        match self.dfas.try_search_half(&mut cache.lazies, input) {
+        match self
+            .dfas
+            .try_search_half(&mut cache.lazies, self.dfa_needles(), input)
+        {
             Ok(found) => found,
             Err(_) => half_match(self.search_nofail(cache, input, &mut [])),
         }
@@ -361,12 +370,27 @@ impl Core {
         ensures memory { AccountsAlikeIn self.now cache.old cache.new }
     {
         let Some(len) = self.info.fixed_len() else {
-            return self.dfas.try_search(&mut cache.lazies, input);
+            return self
+                .dfas
+                .try_search(&mut cache.lazies, self.dfa_needles(), input);
         };
-        match self.dfas.try_search_half(&mut cache.lazies, input) {
-            Ok(Some(end)) => Ok(Some(match_of_len(end, len))),
+        match self
+            .dfas
+            .try_search_half(&mut cache.lazies, self.dfa_needles(), input)
+        {
+            Ok(Some(end)) => Ok(Some(match_of_len(input, end, len))),
             Ok(None) => Ok(None),
             Err(error) => Err(error),
+        }
+    }
+
+    /// The prefilter that the DFAs ask: under `All` none, since the last end is sought.
+    fn dfa_needles(&self) -> Option<&Prefilter>
+        ensures { option_copied result ≡ needles_for self.now }
+    {
+        match self.kind {
+            MatchKind::LeftmostFirst => self.pre.as_ref(),
+            MatchKind::All => None,
         }
     }
 

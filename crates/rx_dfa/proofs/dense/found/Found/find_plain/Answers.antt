@@ -40,8 +40,8 @@ returns-in_err-row-clause-made c d are state live plain =
       found = found-plain d c.args.self.now _ (key_of c.args.key.now) are state plain refl c.in_err-row.ensures.added;
       ok = rw (e.1) tt;
       err = rw (e.1, e.2)
-        (refused-more d c.args.self.now (key_of c.args.key.now) (length c.args.self.now.plain.keys) c.len-others.result are state c.in_err-row.ensures.absent
-        (new-special d c.args.self.now (key_of c.args.key.now) are plain) (sym (length-map c.args.self.now.plain.keys key_of))
-        (c.len-others.ensures.len ∙ sym (length-map c.args.self.now.special.keys key_of))
-        (length c.args.self.now.plain.keys + c.len-others.result + 1) (omega arith) _ c.in_err-row.ensures.err);
+          (refused-more d c.args.self.now (key_of c.args.key.now) (length c.args.self.now.plain.keys) c.len-others.result are state c.in_err-row.ensures.absent
+          (new-special d c.args.self.now (key_of c.args.key.now) are plain) (sym (length-map c.args.self.now.plain.keys key_of))
+          (c.len-others.ensures.len ∙ sym (length-map c.args.self.now.special.keys key_of))
+          (length c.args.self.now.plain.keys + c.len-others.result + 1) (omega arith) _ c.in_err-row.ensures.err);
     }

@@ -40,8 +40,8 @@ returns-in_err-row-clause-made c d are state live special =
       found = found-special d c.args.self.now _ (key_of c.args.key.now) are state special refl c.in_err-row.ensures.added;
       ok = rw (e.1) tt;
       err = rw (e.1, e.2)
-        (refused-more d c.args.self.now (key_of c.args.key.now) c.len-others.result (length c.args.self.now.special.keys) are state
-        (new-plain d c.args.self.now (key_of c.args.key.now) are special) c.in_err-row.ensures.absent
-        (c.len-others.ensures.len ∙ sym (length-map c.args.self.now.plain.keys key_of)) (sym (length-map c.args.self.now.special.keys key_of))
-        (length c.args.self.now.special.keys + c.len-others.result + 1) (omega arith) _ c.in_err-row.ensures.err);
+          (refused-more d c.args.self.now (key_of c.args.key.now) c.len-others.result (length c.args.self.now.special.keys) are state
+          (new-plain d c.args.self.now (key_of c.args.key.now) are special) c.in_err-row.ensures.absent
+          (c.len-others.ensures.len ∙ sym (length-map c.args.self.now.plain.keys key_of)) (sym (length-map c.args.self.now.special.keys key_of))
+          (length c.args.self.now.special.keys + c.len-others.result + 1) (omega arith) _ c.in_err-row.ensures.err);
     }
