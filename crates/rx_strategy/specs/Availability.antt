@@ -9,7 +9,7 @@ use Rattle.rx_dfa.specs.Dense.{IsDfaOf, IsTooBig, size_of}
 use Rattle.rx_dfa.specs.Lazy.{LazyValue, minimum}
 use Rattle.rx_dfa.specs.LazyBuild.{IsLazyOf}
 use Rattle.rx_dfa.specs.Table.{DenseValue}
-use Rattle.rx_strategy.specs.Config.{kind_of, dfa_of, hybrid_of, asks_for_dfas, capacity_of, dfa_size_limit_of, dfa_state_limit_of, byte_classes_of}
+use Rattle.rx_strategy.specs.Config.{kind_of, dfa_of, hybrid_of, capacity_of, dfa_size_limit_of, dfa_state_limit_of, byte_classes_of}
 use Rattle.rx_strategy.specs.declared.config.Config.{Config}
 use Rattle.rx_strategy.specs.declared.dfas.Dfas.{Dfas}
 use Rattle.rx_strategy.specs.declared.dfas.Dfas.TheVariants.{Absent, Full, Lazy}
@@ -65,7 +65,7 @@ AreDfasOf c nfa reverse (Lazy forward backward) =
     HasNoFull c nfa reverse × ((may_be_lazy c nfa ≡ true)
     × (IsLazyOf nfa (kind_of c) (byte_classes_of c) (capacity_of c) forward × IsLazyOf reverse All (byte_classes_of c) (capacity_of c) backward))
 
--- The NFA that reads backwards is there exactly where DFAs are asked for. Without it there are none.
+-- Without the NFA that reads backwards there are none.
 abbrev pub AreDfasBeside : Config → (nfa : Nfa) → (reverse : Option Nfa) → Dfas → Type 0
-AreDfasBeside c nfa None dfas = (asks_for_dfas c ≡ false) × (dfas ≡ Absent)
-AreDfasBeside c nfa (Some reverse) dfas = (asks_for_dfas c ≡ true) × AreDfasOf c nfa reverse dfas
+AreDfasBeside c nfa None dfas = dfas ≡ Absent
+AreDfasBeside c nfa (Some reverse) dfas = AreDfasOf c nfa reverse dfas

@@ -17,7 +17,7 @@ use Rattle.rx_nfa.specs.NextMatch.{next_match_in}
 use Rattle.rx_engines.specs.Bounded.{BacktrackerValue, max_len}
 use Rattle.rx_engines.specs.Engine.{PikeVMValue}
 use Rattle.rx_strategy.specs.Availability.{AreDfasBeside}
-use Rattle.rx_strategy.specs.Config.{kind_of, captures_of, compiler_of, reverse_compiler_of, has_backtracker, is_leftmost}
+use Rattle.rx_strategy.specs.Config.{kind_of, captures_of, compiler_of, reverse_compiler_of, asks_for_dfas, has_backtracker, is_leftmost}
 use Rattle.rx_strategy.specs.Impossible.{is_impossible}
 use Rattle.rx_strategy.specs.Dfas.{tables_memory}
 use Rattle.rx_strategy.specs.Prefilter.{prefilter_for, prefilter_memory}
@@ -83,7 +83,8 @@ pub record IsCoreOf (config : Config) (hs : List Expression) (c : CoreValue) : T
   pub pre : c.pre ≡ prefilter_for config hs
   -- its properties are those of the expressions together, so that it is known where no match is possible
   pub properties : AreOf (alternation (expressions hs)) c.properties
-  -- the NFA that reads backwards is compiled of them too
+  -- the NFA that reads backwards is there exactly where DFAs are asked for, and compiled of them too
+  pub asked : is_some c.reverse ≡ asks_for_dfas config
   pub reverse : IfSome c.reverse (IsCompiled (reverse_compiler_of config) hs)
   -- which DFAs are there
   pub dfas : AreDfasBeside config c.nfa c.reverse c.dfas

@@ -1,12 +1,15 @@
 //! The search for the end of a match that begins with one of several needles.
-ghost use Rattle.std.specs.Prelude.{◌≡◌, ◌≤◌, ◌<◌, false, IfOk, IfSome, MatchOption, length, Some};
+ghost use Rattle.std.specs.Prelude.{◌≡◌, ◌≤◌, ◌<◌, ℕ, false, IfOk, IfSome, IfNone, length, Some};
 ghost use Rattle.std.specs.Result.{IfErr};
 ghost use Rattle.rx_model.specs.Search.{Patterns, is_anchored};
-ghost use Rattle.rx_search.specs.Input.{IsSpanned, from_place};
 ghost use Rattle.rx_search.specs.Promise.{Premises};
 ghost use Rattle.rx_search.specs.Told.{HalfLiesIn};
 ghost use Rattle.rx_search.specs.declared.anchored.MatchKind.TheVariants.{LeftmostFirst};
 ghost use Rattle.rx_nfa.specs.Nfa.{IsNfaOf};
+ghost use Rattle.rx_search.specs.Needles.{OneBegins};
+ghost use Rattle.rx_model.specs.Look.{byte_before};
+ghost use Rattle.rx_dfa.specs.Automaton.{IsSound, first_key};
+ghost use Rattle.rx_dfa.specs.Candidates.{IsMetBy, IsCandidate};
 ghost use Rattle.rx_dfa.specs.Search.{SearchFails, IsForwardAnswer};
 
 use crate::automaton::Automaton;
@@ -97,6 +100,8 @@ fn next_candidate(pre: &Prefilter, input: &Input<'_>, from: usize) -> Option<usi
     requires low { input.now.start ≤ from }
     requires high { from ≤ input.now.end }
     ensures within { IfSome result (λ place. (from ≤ place) × (place ≤ input.now.end)) }
+    ensures some { IfSome result (IsCandidate pre.now input.now from) }
+    ensures none { IfNone result ((i : ℕ) → from ≤ i → OneBegins input.now.haystack i input.now.end pre.now → ⊥) }
 {
     let part = Span {
         start: from,
@@ -118,6 +123,8 @@ fn start_from<A: Automaton>(
     requires fits { A.fits dfa.now cache.old }
     requires low { input.now.start ≤ place }
     requires high { place ≤ input.now.end }
+    ensures start { IfOk result (λ state. A.holds dfa.now cache.new state
+        (first_key (A.dfa dfa.now) input.now.anchor (byte_before input.now.haystack place))) }
     ensures err { IfErr result (SearchFails (A.dfa dfa.now).nfa input.now (A.gives_up dfa.now cache.new) (A.wants dfa.now)) }
     ensures fits { A.fits dfa.now cache.new }
 {
@@ -140,6 +147,11 @@ fn run_by<A: Automaton, L: Ledger>(
     requires low { input.now.start ≤ candidate }
     requires high { candidate ≤ input.now.end }
     requires forward { (A.dfa dfa.now).nfa.reverse ≡ false }
+    requires free { is_anchored input.now.anchor ≡ false }
+    requires leftmost { (A.dfa dfa.now).kind ≡ LeftmostFirst }
+    requires first { IsCandidate pre.now input.now input.now.start candidate }
+    ensures sound { IsSound (A.dfa dfa.now) }
+    ensures met { (r : Patterns) → Premises (IsNfaOf (A.dfa dfa.now).nfa r) (Some pre.now) r input.now → IfOk result (IsMetBy (A.dfa dfa.now) input.now) }
     ensures err { IfErr result (SearchFails (A.dfa dfa.now).nfa input.now (A.gives_up dfa.now cache.new) (A.wants dfa.now)) }
     ensures fits { A.fits dfa.now cache.new }
 {

@@ -23,6 +23,7 @@ impl Dfas {
         nfa: &NFA,
         reverse: Option<&NFA>,
     ) -> Result<Dfas, Memory>
+        requires { IfSome (option_copied reverse.entry) (λ back. back.accounted ≡ nfa.now.accounted) }
         ensures { IfOk result (AreDfasBeside config.now nfa.now (option_copied reverse.entry)) }
     {
         let Some(reverse) = reverse else {
@@ -118,7 +119,8 @@ fn table(
 
 /// The lazy DFAs, where they may be built.
 fn lazies(alloc: Global, config: &Config, nfa: &NFA, reverse: &NFA) -> Result<Dfas, Memory>
-    requires { HasNoFull config.now nfa.now reverse.now }
+    requires no_full { HasNoFull config.now nfa.now reverse.now }
+    requires same { reverse.now.accounted ≡ nfa.now.accounted }
     ensures { IfOk result (AreDfasOf config.now nfa.now reverse.now) }
 {
     if !config.get_hybrid() {

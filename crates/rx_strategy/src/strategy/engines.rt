@@ -96,7 +96,7 @@ impl Core {
         pre: Option<Prefilter>,
     ) -> Result<Core, Memory>
         requires known { AreKnownOf info.properties nfa }
-        requires reads { (nfa.reverse ≡ false) × IfSome reverse (λ back. (back.reverse ≡ true) × (back.utf8 ≡ nfa.utf8)) }
+        requires reads { (nfa.reverse ≡ false) × IfSome reverse (λ back. (back.reverse ≡ true) × (back.utf8 ≡ nfa.utf8) × (back.accounted ≡ nfa.accounted)) }
         ensures core { IfOk result (λ core. core ≡ record {
           nfa = nfa;
           kind = kind_of config.now;
@@ -239,7 +239,7 @@ impl Core {
             .try_is_match(&mut cache.lazies, self.dfa_needles(), input)
         {
             Ok(there) => there,
-            // It can stop at the first match (DECISIONS: `is_match` always asks the `PikeVM`).
+            // It can stop at the first match (DECISIONS: of the engines that always answer).
             Err(_) => self.pikevm.is_match(&mut cache.pikevm, input),
         }
     }
