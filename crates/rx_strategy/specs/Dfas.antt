@@ -1,5 +1,5 @@
 -- What a core's DFAs are to its searches, and what their caches hold.
-use Rattle.std.specs.Prelude.{◌≡◌, ℕ, ◌+◌, ◌<◌, true, false, List, [], length, Option, Some, None, IfSome, IsSomeAnd, slice_get}
+use Rattle.std.specs.Prelude.{◌≡◌, ℕ, ◌+◌, ◌<◌, true, false, List, length, Option, Some, None, IfSome, IsSomeAnd, slice_get}
 use Rattle.rx_model.specs.Expression.{Expression, AreOrdered}
 use Rattle.rx_model.specs.Search.{Patterns}
 use Rattle.rx_search.specs.Input.{InputValue}
@@ -8,7 +8,7 @@ use Rattle.rx_search.specs.declared.anchored.MatchKind.{MatchKind}
 use Rattle.rx_search.specs.declared.anchored.MatchKind.TheVariants.{All, LeftmostFirst}
 use Rattle.rx_nfa.specs.Nfa.{Nfa, IsNfaOf, HasReverseRuns}
 use Rattle.rx_dfa.specs.Automaton.{Dfa}
-use Rattle.rx_dfa.specs.LazyCache.{IsCacheOf}
+use Rattle.rx_dfa.specs.LazyCache.{IsCacheOf, HoldsNone}
 use Rattle.rx_strategy.specs.Availability.{table_memory}
 use Rattle.rx_strategy.specs.declared.dfas.Dfas.{Dfas}
 use Rattle.rx_strategy.specs.declared.dfas.Dfas.TheVariants.{Absent, Full, Lazy}
@@ -70,7 +70,7 @@ states_memory (Some both) = both.forward.rows.size + both.backward.rows.size
 
 -- neither cache holds a state
 abbrev pub HoldNoStates : Lazies → Type 0
-HoldNoStates both = (both.forward.rows.keys ≡ []) × (both.backward.rows.keys ≡ [])
+HoldNoStates both = HoldsNone both.forward × HoldsNone both.backward
 
 -- what is accounted for the tables of full DFAs, if there are some
 abbrev pub tables_memory : Dfas → ℕ

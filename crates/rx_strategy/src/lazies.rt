@@ -1,7 +1,8 @@
 //! The caches of the lazy DFAs of a core.
-ghost use Rattle.std.specs.Prelude.{◌≡◌, ◌+◌, ◌-◌, ◌^◌, min, [], IfOk, OnOk, OnErr, IsOk};
+ghost use Rattle.std.specs.Prelude.{◌≡◌, ◌+◌, ◌-◌, ◌^◌, min, IfOk, OnOk, OnErr, IsOk};
 ghost use Rattle.rx_dfa.specs.Lazy.{LazyValue};
 ghost use Rattle.rx_dfa.specs.LazyCache.{IsCacheOf};
+ghost use Rattle.rx_strategy.specs.Dfas.{HoldNoStates};
 
 use rx_dfa::lazy::{Lazy, LazyCache};
 use rx_search::Memory;
@@ -18,7 +19,7 @@ impl Lazies {
     /// Caches for these, without a state.
     pub(crate) fn new(alloc: Global, forward: &Lazy, backward: &Lazy) -> Result<Lazies, Memory>
         ensures fits { IfOk result (λ both. IsCacheOf forward.now both.forward × IsCacheOf backward.now both.backward) }
-        ensures empty { IfOk result (λ both. (both.forward.rows.keys ≡ []) × (both.backward.rows.keys ≡ [])) }
+        ensures empty { IfOk result HoldNoStates }
     {
         Ok(Lazies {
             forward: LazyCache::new(alloc, forward)?,
@@ -34,7 +35,7 @@ impl Lazies {
         backward: &Lazy,
     ) -> Result<(), Memory>
         ensures fits { OnOk result (IsCacheOf forward.now self.new.forward × IsCacheOf backward.now self.new.backward) }
-        ensures empty { OnOk result ((self.new.forward.rows.keys ≡ []) × (self.new.backward.rows.keys ≡ [])) }
+        ensures empty { OnOk result (HoldNoStates self.new) }
         ensures err { OnErr result (self.new ≡ self.old) }
         ensures sure { IsCacheOf forward.now self.old.forward × IsCacheOf backward.now self.old.backward → IsOk result }
         ensures kept { IsCacheOf forward.now self.old.forward × IsCacheOf backward.now self.old.backward → (one other : LazyValue)
@@ -50,7 +51,7 @@ impl Lazies {
 
     /// Lets go of all states.
     pub(crate) fn clear(&mut self)
-        ensures empty { (self.new.forward.rows.keys ≡ []) × (self.new.backward.rows.keys ≡ []) }
+        ensures empty { HoldNoStates self.new }
         ensures kept { (one other : LazyValue) → IsCacheOf one self.old.forward × IsCacheOf other self.old.backward
             → IsCacheOf one self.new.forward × IsCacheOf other self.new.backward }
     {
@@ -62,7 +63,7 @@ impl Lazies {
     pub(crate) fn clone(&self, alloc: Global) -> Result<Lazies, Memory>
         ensures fits { IfOk result (λ both. (one other : LazyValue) → IsCacheOf one self.now.forward × IsCacheOf other self.now.backward
             → IsCacheOf one both.forward × IsCacheOf other both.backward) }
-        ensures empty { IfOk result (λ both. (both.forward.rows.keys ≡ []) × (both.backward.rows.keys ≡ [])) }
+        ensures empty { IfOk result HoldNoStates }
     {
         Ok(Lazies {
             forward: self.forward.clone(alloc)?,

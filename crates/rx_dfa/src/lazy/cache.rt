@@ -1,7 +1,7 @@
 //! How a cache is made and reset.
-ghost use Rattle.std.specs.Prelude.{◌≡◌, [], None, length, IfOk, OnOk, OnErr, IsOk};
+ghost use Rattle.std.specs.Prelude.{◌≡◌, None, length, IfOk, OnOk, OnErr, IsOk};
 ghost use Rattle.rx_dfa.specs.Lazy.{LazyValue, accounted};
-ghost use Rattle.rx_dfa.specs.LazyCache.{IsCacheOf};
+ghost use Rattle.rx_dfa.specs.LazyCache.{IsCacheOf, HoldsNone};
 ghost use Rattle.rx_dfa.specs.Scratch.{room_of, room_with};
 
 use crate::lazy::lazy_cache::LazyCache;
@@ -19,7 +19,7 @@ impl LazyCache {
     /// A cache for the automaton, without a state.
     pub fn new(alloc: Global, lazy: &Lazy) -> Result<LazyCache, Memory>
         ensures fits { IfOk result (IsCacheOf lazy.now) }
-        ensures empty { IfOk result (λ c. c.rows.keys ≡ []) }
+        ensures empty { IfOk result HoldsNone }
     {
         let buckets = lazy.capacity() / (4 * lazy.stride() + 16);
         Ok(LazyCache {
@@ -34,7 +34,7 @@ impl LazyCache {
     /// room is that of the automaton, it takes none.
     pub fn reset(&mut self, alloc: Global, lazy: &Lazy) -> Result<(), Memory>
         ensures fits { OnOk result (IsCacheOf lazy.now self.new) }
-        ensures empty { OnOk result (self.new.rows.keys ≡ []) }
+        ensures empty { OnOk result (HoldsNone self.new) }
         ensures clears { OnOk result (self.new.rows.clears ≡ 0) }
         ensures err { OnErr result (self.new ≡ self.old) }
         ensures sure { room_of self.old.scratch ≡ length lazy.now.dfa.nfa.states → IsOk result }
@@ -60,7 +60,7 @@ impl LazyCache {
     /// Lets go of all states, and has this room in place of its own, if one is given.
     pub fn renew(&mut self, room: Option<Scratch>)
         ensures fits { (l : LazyValue) → room_with room self.old.scratch ≡ length l.dfa.nfa.states → IsCacheOf l self.new }
-        ensures empty { self.new.rows.keys ≡ [] }
+        ensures empty { HoldsNone self.new }
         ensures clears { self.new.rows.clears ≡ 0 }
     {
         if let Some(room) = room {
@@ -74,7 +74,7 @@ impl LazyCache {
     /// A cache of its own with the same room, without a state.
     pub fn clone(&self, alloc: Global) -> Result<LazyCache, Memory>
         ensures fits { IfOk result (λ c. (l : LazyValue) → IsCacheOf l self.now → IsCacheOf l c) }
-        ensures empty { IfOk result (λ c. c.rows.keys ≡ []) }
+        ensures empty { IfOk result HoldsNone }
     {
         Ok(LazyCache {
             rows: Rows::new(alloc, self.rows.keys.buckets())?,

@@ -187,7 +187,7 @@ impl Core {
         ensures memory { OnOk result (memory_of cache.new ≡ accounted_core self.now) }
         ensures err { OnErr result (FitsAsBefore cache.old cache.new) }
         ensures sure { FitsCore self.now cache.old → IsOk result }
-        ensures kept { StillFits cache.old cache.new }
+        ensures kept { FitsCore self.now cache.old → StillFits cache.old cache.new }
     {
         cache.pikevm.reset(alloc, &self.pikevm)?;
         let backtrack = self.reset_backtrack(alloc, &mut cache.backtrack)?;
