@@ -6,5 +6,7 @@ pub mod Regex
 pub mod Cache
 pub mod Search
 pub mod Finder
+pub mod Captures
+pub mod Iterators
 pub mod Build
 pub mod Impossible
