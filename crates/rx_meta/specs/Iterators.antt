@@ -7,9 +7,10 @@ use Rattle.rx_search.specs.Gaps.{gaps_from, gaps_up_to}
 use Rattle.rx_search.specs.Input.{InputValue}
 use Rattle.rx_search.specs.Matches.{MatchValue, match_value}
 use Rattle.rx_search.specs.Searcher as searcher
-use Rattle.rx_search.specs.Searcher.{SearcherValue, fresh, places_left, AtEachPlace, IsAnsweredBy}
+use Rattle.rx_search.specs.Searcher.{SearcherValue, fresh, moved_past, places_left, AtEachPlace, IsAnsweredBy}
+use Rattle.rx_search.specs.Told.{LiesIn}
 use Rattle.rx_search.specs.declared.span.Span.{Span}
-use Rattle.rx_meta.specs.Captures.{AreOfMatch}
+use Rattle.rx_meta.specs.Captures.{AreOfMatch, IsToldWith}
 use Rattle.rx_meta.specs.Finder.{PromisesFor}
 use Rattle.rx_meta.specs.Regex.{RegexValue, pattern_count, searches}
 use Rattle.rx_meta.specs.Search.{IsAnswer}
@@ -55,10 +56,21 @@ IsReported m given = given ≡ match_value m
 abbrev pub IsSpan : Span → Span → Type 0
 IsSpan span given = given ≡ span
 
+-- What a search of the input answers, promised or not.
+pub record IsFoundIn (regex : RegexValue) (v : InputValue) (found : Option MatchValue) : Type 0 where
+  pub answer : IsAnswer regex v match_value found
+  pub in_range : IfSome found (λ m. m.pattern < pattern_count regex)
+
 -- What holds of each match that an iterator gives, promised or not.
-pub record IsGiven (it : MatchesValue) (given : MatchValue) : Type 0 where
-  pub answer : IsAnsweredBy (λ v found. IsAnswer it.regex v match_value found) it.searcher (Some given)
-  pub in_range : given.pattern < pattern_count it.regex
+abbrev pub IsGiven : MatchesValue → MatchValue → Type 0
+IsGiven it given = IsAnsweredBy (IsFoundIn it.regex) it.searcher (Some given)
+
+-- What holds of the captures that an iterator gives, promised or not: they are told of a match, after which the next search
+-- begins.
+abbrev pub AreGiven : (old new : MatchesValue) → CapturesValue → Type 0
+AreGiven old new given =
+    (m : MatchValue) × (new.searcher ≡ moved_past m old.searcher) × LiesIn old.searcher.input m
+    × IsAnsweredBy (λ v found. IsToldWith old.regex v given found) old.searcher (Some m)
 
 -- It is at its end after an error, and where nothing was given; and a further call gives nothing.
 abbrev pub IsEndedAfter : {T E : Type 0} → Option (Result T E) → (ended : Bool) → Type 0

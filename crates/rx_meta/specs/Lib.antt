@@ -8,5 +8,6 @@ pub mod Search
 pub mod Finder
 pub mod Captures
 pub mod Iterators
+pub mod Sets
 pub mod Build
 pub mod Impossible

@@ -24,7 +24,7 @@ use rx_search::{GroupInfo, HalfMatch, Input, Match, Memory, NonMaxUsize, Pattern
 use rx_strategy::{Config, Strategy};
 use std::alloc::Global;
 use std::marker::Model;
-use std::sync::Wait;
+use std::sync::{Arc, Wait};
 
 /// The bytes that are accounted for the properties of a pattern.
 const PROPERTIES_SIZE: usize = 64;
@@ -38,19 +38,20 @@ const PROPERTIES_SIZE: usize = 64;
 ///
 /// A call that takes `rt` makes a cache for itself, and fails where there is no memory for it. A call that ends in `_with`
 /// is given one that serves this regex; it may fail where there is no memory for the search. Where it is known beforehand
-/// that there is no match in the span, no search is made, no cache is made, and no call fails.
+/// that there is no match in the span, no search is made, no cache is made, and no call fails. Clones share the strategy.
 #[derive(Drop)]
 pub struct Regex {
     config: Config,
-    pub(crate) strategy: Strategy,
+    pub(crate) strategy: Arc<Strategy, Global>,
 }
 
 impl Model for Regex {
+    ghost use Rattle.std.specs.Arc.{arc_value};
     ghost use Rattle.rx_meta.specs.Regex.{RegexValue};
 
     ghost Value = { RegexValue };
 
-    ghost view = { λ r. record { config = r.config; strategy = r.strategy } };
+    ghost view = { λ r. record { config = r.config; strategy = arc_value r.strategy } };
 }
 
 impl Regex {
@@ -103,10 +104,31 @@ impl Regex {
     }
 
     /// A regex that searches by this strategy, which was made under the configuration.
-    pub(crate) fn from_parts(config: Config, strategy: Strategy) -> Regex
-        ensures { result ≡ record { config = config; strategy = strategy } }
+    pub(crate) fn from_parts(
+        alloc: Global,
+        config: Config,
+        strategy: Strategy,
+    ) -> Result<Regex, Memory>
+        ensures { IfOk result (λ regex. regex ≡ record { config = config; strategy = strategy }) }
     {
-        Regex { config, strategy }
+        Ok(Regex {
+            config,
+            strategy: Arc::new(alloc, strategy)?,
+        })
+    }
+
+    /// The same regex once more. It shares the strategy.
+    ///
+    /// # Errors
+    ///
+    /// `Memory`, where there was no memory for it.
+    pub fn clone(&self) -> Result<Regex, Memory>
+        ensures { IfOk result (λ copy. copy ≡ self.now) }
+    {
+        Ok(Regex {
+            config: self.config.clone()?,
+            strategy: Arc::try_clone(&self.strategy)?,
+        })
     }
 
     /// Whether there is a match in the input's span, under every configuration.
