@@ -9,5 +9,6 @@ pub mod Finder
 pub mod Captures
 pub mod Iterators
 pub mod Sets
+pub mod Laws
 pub mod Build
 pub mod Impossible
