@@ -65,6 +65,15 @@ pub record IsFoundIn (regex : RegexValue) (v : InputValue) (found : Option Match
 abbrev pub IsGiven : MatchesValue → MatchValue → Type 0
 IsGiven it given = IsAnsweredBy (IsFoundIn it.regex) it.searcher (Some given)
 
+-- Where the searches have come to after a call: past the match that was given, and else where they were.
+abbrev pub IsMovedBy : {E : Type 0} → (old new : SearcherValue) → Result MatchValue E → Type 0
+IsMovedBy old new (Ok m) = new ≡ moved_past m old
+IsMovedBy old new (Err e) = new ≡ old
+
+abbrev pub IsMoved : {E : Type 0} → (old new : SearcherValue) → Option (Result MatchValue E) → Type 0
+IsMoved old new None = new ≡ old
+IsMoved old new (Some item) = IsMovedBy old new item
+
 -- What holds of the captures that an iterator gives, promised or not: they are told of a match, after which the next search
 -- begins.
 abbrev pub AreGiven : (old new : MatchesValue) → CapturesValue → Type 0

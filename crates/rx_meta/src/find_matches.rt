@@ -1,8 +1,7 @@
 //! The matches in an input, one after another.
 ghost use Rattle.std.specs.Prelude.{◌≡◌, ◌<◌, true, length, None, IfOk, IfSome};
-ghost use Rattle.rx_search.specs.Searcher.{moved_past};
 ghost use Rattle.rx_search.specs.Told.{LiesIn};
-ghost use Rattle.rx_meta.specs.Iterators.{begun, matches_to_come, PromisesEach, most_left, GivesNext, IsReported, IsGiven, IsEndedAfter};
+ghost use Rattle.rx_meta.specs.Iterators.{begun, matches_to_come, PromisesEach, most_left, GivesNext, IsReported, IsGiven, IsMoved, IsEndedAfter};
 
 use crate::match_finder::MatchFinder;
 use crate::regex::Regex;
@@ -58,7 +57,7 @@ impl<'r, 'h> FindMatches<'r, 'h> {
         ensures goes_on { PromisesEach self.old → PromisesEach self.new }
         ensures within { IfSome result (λ item. IfOk item (LiesIn self.old.searcher.input)) }
         ensures any { IfSome result (λ item. IfOk item (IsGiven self.old)) }
-        ensures moved { IfSome result (λ item. IfOk item (λ m. self.new.searcher ≡ moved_past m self.old.searcher)) }
+        ensures moved { IsMoved self.old.searcher self.new.searcher result }
         ensures ended { IsEndedAfter result self.new.ended }
         ensures none { self.old.ended ≡ true → result ≡ None }
         ensures fewer_left { IfSome result (λ _. most_left self.new < most_left self.old) }

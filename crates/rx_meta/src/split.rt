@@ -63,6 +63,7 @@ impl<'r, 'h> Split<'r, 'h> {
         ensures haystack { self.new.matches.searcher.input.haystack ≡ self.old.matches.searcher.input.haystack }
     {
         let start = self.rest?;
+        self.rest = None;
         match self.matches.next() {
             Some(Ok(found)) => {
                 self.rest = Some(found.end());
@@ -71,20 +72,15 @@ impl<'r, 'h> Split<'r, 'h> {
                     end: found.start(),
                 }))
             }
-            Some(Err(error)) => {
-                self.rest = None;
-                Some(Err(error))
-            }
-            None => Some(Ok(self.take_rest(start))),
+            Some(Err(error)) => Some(Err(error)),
+            None => Some(Ok(self.rest_from(start))),
         }
     }
 
-    /// All from the place on to the end of the haystack. No gap comes after it.
-    fn take_rest(&mut self, start: usize) -> Span
-        ensures span { result ≡ span_between (start, text_len self.old) }
-        ensures none { self.new ≡ record self.old { rest = None } }
+    /// All from the place on to the end of the haystack.
+    fn rest_from(&self, start: usize) -> Span
+        ensures { result ≡ span_between (start, text_len self.now) }
     {
-        self.rest = None;
         Span {
             start,
             end: self.input().haystack().len(),
@@ -157,7 +153,8 @@ impl<'r, 'h> SplitN<'r, 'h> {
             return self.splits.next();
         }
         let start = self.splits.rest?;
-        Some(Ok(self.splits.take_rest(start)))
+        self.splits.rest = None;
+        Some(Ok(self.splits.rest_from(start)))
     }
 
     /// At least how many pieces are still to come, of which nothing is known, and at most how many: those that the limit

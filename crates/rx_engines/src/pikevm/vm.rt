@@ -125,13 +125,14 @@ impl PikeVM {
         let Some(search) = Search::of(&self.nfa, &self.candidates, input) else {
             return;
         };
-        // One match tells the rest (DECISIONS: a search of a set looks for each pattern under `All` alone).
-        if self.kind == MatchKind::LeftmostFirst || input.get_earliest() {
-            let found = cache.find(&search, input.get_earliest(), &mut []);
-            add(found, set);
-            return;
+        // One match tells the rest (DECISIONS: a set is filled by one match under leftmost-first, and with `earliest`).
+        match self.kind {
+            MatchKind::All if !input.get_earliest() => cache.fill(&search, set),
+            MatchKind::All | MatchKind::LeftmostFirst => {
+                let found = cache.find(&search, input.get_earliest(), &mut []);
+                add(found, set);
+            }
         }
-        cache.fill(&search, set);
     }
 
     /// The next match in the input's span. With `earliest` the search stops at the first place by which a match
