@@ -8,9 +8,8 @@ use Rattle.rx_search.specs.Input.{InputValue}
 use Rattle.rx_search.specs.declared.span.Span.{Span}
 
 -- the second match starts after the first one, and not before its end
-pub record IsBehind (m n : Match) : Type 0 where
-  pub later : m.start < n.start
-  pub apart : m.trace.end ≤ n.start
+abbrev pub IsBehind : (m n : Match) → Type 0
+IsBehind m n = (m.start < n.start) × (m.trace.end ≤ n.start)
 
 -- The spans lie end to end from i to j: the first one starts at i, each other one where the one before it ends, and the last
 -- one ends at j.

@@ -67,6 +67,8 @@ impl<'r, 'h> CapturesMatches<'r, 'h> {
         if self.is_ended {
             return None;
         }
+        // What it answers lies in the haystack, by the input's own promise.
+        let _haystack = self.searcher.input().haystack();
         match self.searcher.advance(&mut self.finder) {
             Ok(Some(_)) => Some(self.give()),
             Ok(None) => {
