@@ -75,7 +75,7 @@ impl Regex {
         ensures err { OnErr result (captures.new ≡ emptied captures.old) }
         ensures sure { IsKnownImpossible self.now input.now → IsOk result }
     {
-        if self.strategy.is_impossible(input) {
+        if self.strategy().is_impossible(input) {
             captures.clear();
             return Ok(());
         }
@@ -137,7 +137,7 @@ impl Regex {
     pub fn captures_len(&self) -> usize
         ensures { result ≡ min (2 ^ 64 - 1) ((properties_in self.now).explicit_captures_len + pattern_count self.now) }
     {
-        let explicit = self.strategy.properties().explicit_captures_len();
+        let explicit = self.strategy().properties().explicit_captures_len();
         explicit.saturating_add(self.pattern_len())
     }
 
@@ -146,7 +146,7 @@ impl Regex {
     pub fn static_captures_len(&self) -> Option<usize>
         ensures { result ≡ option_map (λ n. min (2 ^ 64 - 1) (n + 1)) (properties_in self.now).static_explicit_captures_len }
     {
-        let explicit = self.strategy.properties().static_explicit_captures_len()?;
+        let explicit = self.strategy().properties().static_explicit_captures_len()?;
         Some(explicit.saturating_add(1))
     }
 }

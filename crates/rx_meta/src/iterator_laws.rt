@@ -1,15 +1,13 @@
 //! Laws of the searches of a regex, of its iterators and of the sets that it fills.
-ghost use Rattle.std.specs.Prelude.{◌≡◌, ◌≤◌, ◌↔◌, ℕ, suc, slice_get, Some, Bool, true, false, List, length, map, Option, option_map, is_some, All, AllPairs};
-ghost use Rattle.rx_model.specs.Expression.{Expression, AreOrdered};
+ghost use Rattle.std.specs.Prelude.{◌≡◌, ◌≤◌, ◌↔◌, ℕ, suc, Bool, true, false, List, length, map, Option, option_map, is_some, All, AllPairs};
 ghost use Rattle.rx_model.specs.Search.{Patterns, Match, matches};
 ghost use Rattle.rx_search.specs.Answer.{half_of};
 ghost use Rattle.rx_search.specs.Gaps.{gaps_from, gaps_up_to, span_of_match};
-ghost use Rattle.rx_search.specs.Input.{InputValue, from_place};
+ghost use Rattle.rx_search.specs.Input.{InputValue};
 ghost use Rattle.rx_search.specs.Matches.{MatchValue, HalfMatchValue, match_value, half_match_value};
 ghost use Rattle.rx_search.specs.PatternSet.{has};
 ghost use Rattle.rx_search.specs.Promise.{Premises, Promised};
 ghost use Rattle.rx_search.specs.Told.{matched_pattern};
-ghost use Rattle.rx_search.specs.declared.anchored.MatchKind.{MatchKind};
 ghost use Rattle.rx_search.specs.declared.anchored.MatchKind.TheVariants.{All as AllMatches};
 ghost use Rattle.rx_meta.specs.Iterators.{begun, matches_to_come, PromisesEach};
 ghost use Rattle.rx_meta.specs.Laws.{IsBehind, LeadFrom, in_turn, MeansInSpan, HasNoEmptyMatch};
@@ -67,7 +65,6 @@ pub fn gaps_and_matches_cover_the_haystack()
 pub fn a_set_gains_what_means_a_part_of_the_span()
     ensures { (regex : RegexValue) (r : Patterns) (v : InputValue) (old new : List Bool) → v.end ≤ length v.haystack
         → Premises (Serves regex r) (given_needles regex) r v → kind_in regex ≡ AllMatches → v.earliest ≡ false
-        → ((p : ℕ) (h : Expression) → slice_get r.expressions p ≡ Some h → AreOrdered h)
         → HasNoEmptyMatch r v → AddsMatching regex v old new → IsFilled regex v old new
         → (p : ℕ) → has old p ≡ false → (has new p ≡ true) ↔ MeansInSpan r v p }
 {}

@@ -44,7 +44,7 @@ impl Regex {
         ensures filled { OnOk result (IsFilled self.now input.now set.old set.new) }
         ensures sure { IsKnownImpossible self.now input.now → IsOk result }
     {
-        if self.strategy.is_impossible(input) {
+        if self.strategy().is_impossible(input) {
             return Ok(());
         }
         let mut cache = self.create_cache(alloc)?;
@@ -71,7 +71,7 @@ impl Regex {
         ensures memory { memory_of cache.new ≡ memory_of cache.old }
         ensures sure { IsKnownImpossible self.now input.now → IsOk result }
     {
-        self.strategy
+        self.strategy()
             .which_overlapping_matches(&mut cache.rooms, input, set)
     }
 }

@@ -42,7 +42,7 @@ const PROPERTIES_SIZE: usize = 64;
 #[derive(Drop)]
 pub struct Regex {
     config: Config,
-    pub(crate) strategy: Arc<Strategy, Global>,
+    strategy: Arc<Strategy, Global>,
 }
 
 impl Model for Regex {
@@ -117,6 +117,13 @@ impl Regex {
         })
     }
 
+    /// How its searches are answered.
+    pub(crate) fn strategy(&self) -> &Strategy
+        ensures { result.now ≡ self.now.strategy }
+    {
+        &self.strategy
+    }
+
     /// The same regex once more. It shares the strategy.
     ///
     /// # Errors
@@ -146,11 +153,11 @@ impl Regex {
         ensures sure { IsKnownImpossible self.now input.now → IsOk result }
     {
         // It is a few comparisons (DECISIONS: searches that can have no match run no engine).
-        if self.strategy.is_impossible(input) {
+        if self.strategy().is_impossible(input) {
             return Ok(false);
         }
         let mut cache = self.create_cache(alloc)?;
-        self.strategy.is_match(&mut cache.rooms, input)
+        self.strategy().is_match(&mut cache.rooms, input)
     }
 
     /// As `search`.
@@ -199,11 +206,11 @@ impl Regex {
         ensures sure { IsKnownImpossible self.now input.now → IsOk result }
     {
         // The input first, so that the answer needs no memory there (DECISIONS: a call that makes a cache reads the input first).
-        if self.strategy.is_impossible(input) {
+        if self.strategy().is_impossible(input) {
             return Ok(None);
         }
         let mut cache = self.create_cache(alloc)?;
-        self.strategy.search(&mut cache.rooms, input)
+        self.strategy().search(&mut cache.rooms, input)
     }
 
     /// The pattern and the end of the match that `search` answers.
@@ -222,11 +229,11 @@ impl Regex {
         ensures in_range { IfOk result (λ o. IfSome o (λ half. half.pattern < pattern_count self.now)) }
         ensures sure { IsKnownImpossible self.now input.now → IsOk result }
     {
-        if self.strategy.is_impossible(input) {
+        if self.strategy().is_impossible(input) {
             return Ok(None);
         }
         let mut cache = self.create_cache(alloc)?;
-        self.strategy.search_half(&mut cache.rooms, input)
+        self.strategy().search_half(&mut cache.rooms, input)
     }
 
     /// The pattern of the match that `search` answers. Each slot gets the place that the match leaves in it, and None where
@@ -263,7 +270,7 @@ impl Regex {
         ensures err { OnErr result (slots.new ≡ replicate (length slots.old) None) }
         ensures sure { IsKnownImpossible self.now input.now → IsOk result }
     {
-        if self.strategy.is_impossible(input) {
+        if self.strategy().is_impossible(input) {
             empty(slots);
             return Ok(None);
         }
@@ -289,7 +296,7 @@ impl Regex {
         ensures sure { IsKnownImpossible self.now input.now → IsOk result }
     {
         // An engine to come may take memory (DECISIONS: the calls that end in `_with` take no allocator).
-        self.strategy.search(&mut cache.rooms, input)
+        self.strategy().search(&mut cache.rooms, input)
     }
 
     /// As `search_half`, with a cache that serves this regex.
@@ -310,7 +317,7 @@ impl Regex {
         ensures memory { memory_of cache.new ≡ memory_of cache.old }
         ensures sure { IsKnownImpossible self.now input.now → IsOk result }
     {
-        self.strategy.search_half(&mut cache.rooms, input)
+        self.strategy().search_half(&mut cache.rooms, input)
     }
 
     /// As `search_slots`, with a cache that serves this regex.
@@ -363,7 +370,7 @@ impl Regex {
         ensures spanned { IsSpanned input.now }
         ensures sure { IsKnownImpossible self.now input.now → IsOk result }
     {
-        self.strategy.search_slots(&mut cache.rooms, input, slots)
+        self.strategy().search_slots(&mut cache.rooms, input, slots)
     }
 
     /// A cache that serves this regex.
@@ -385,7 +392,7 @@ impl Regex {
         ensures memory { IfOk result (λ c. memory_of c ≡ accounted_for self.now) }
     {
         Ok(Cache {
-            rooms: self.strategy.create_cache(alloc)?,
+            rooms: self.strategy().create_cache(alloc)?,
         })
     }
 
@@ -396,7 +403,7 @@ impl Regex {
         ensures patterns { (r : Patterns) → Serves self.now r → result ≡ length r.expressions }
         ensures few { result ≤ id_limit }
     {
-        self.strategy.pattern_len()
+        self.strategy().pattern_len()
     }
 
     /// The bytes that are accounted for the regex: 64 for the properties of each pattern and for those of all of them
@@ -405,9 +412,9 @@ impl Regex {
     pub fn memory_usage(&self) -> usize
         ensures { result ≡ regex_memory self.now }
     {
-        let properties = PROPERTIES_SIZE * (self.strategy.pattern_len() + 1);
+        let properties = PROPERTIES_SIZE * (self.strategy().pattern_len() + 1);
         // Needles may be of any length (DECISIONS: what is accounted for a regex stops at the greatest number of 64 bits).
-        properties.saturating_add(self.strategy.memory_usage())
+        properties.saturating_add(self.strategy().memory_usage())
     }
 
     /// The groups of each pattern. A group that the configuration leaves out has slots too, which stay empty.
@@ -415,7 +422,7 @@ impl Regex {
     pub fn group_info(&self) -> &GroupInfo
         ensures { result.now ≡ groups_in self.now }
     {
-        self.strategy.group_info()
+        self.strategy().group_info()
     }
 
     /// The configuration that it was built under.

@@ -219,6 +219,7 @@ impl Core {
     )
         requires fits { FitsCore self.now cache.old }
         requires room { length self.now.nfa.starts ≤ length set.old }
+        requires spanned { IsSpanned input.now }
         ensures kept { KeepsMembers set.old set.new }
         ensures matching { AddsMatching (IsCoreFor self.now) self.now.pre input.now set.old set.new }
         ensures filled { IsFilled (IsCoreFor self.now) self.now.pre input.now set.old set.new self.now.kind }
