@@ -226,8 +226,8 @@ impl Core {
         ensures cache { FitsCore self.now cache.new }
         ensures memory { memory_of cache.new ≡ memory_of cache.old }
     {
-        self.pikevm
-            .which_overlapping_matches(&mut cache.pikevm, input, set);
+        let threads = &mut cache.pikevm;
+        self.pikevm.which_overlapping_matches(threads, input, set);
     }
 
     /// The properties of the patterns together.
