@@ -1,21 +1,24 @@
 -- What an iterator gives, by what a searcher does.
 use Rattle.std.proofs.Common.{◌≡◌, ℕ, zero, suc, ◌+◌, ◌≤◌, ◌<◌, List, [], ◌∷◌, length, map, refl, sym, ap, subst, ◌∙◌, arith, get_or}
-use Rattle.std.specs.Prelude.{Option, Some, None, option_map, is_some, true, All, AllPairs}
+use Rattle.std.specs.Prelude.{Option, Some, None, option_map, is_some, true, All, AllPairs, Result, Ok, Err, IfOk, OnOk, OnErr, IfSome, IfNone, replicate}
 use Rattle.rx_model.specs.Search.{Patterns, Match, matches}
 use Rattle.rx_model.proofs.lemmas.matches.MatchLemmas.{next-within}
 use Rattle.rx_model.proofs.lemmas.matches.SuccessionLemmas.{matches-rise, matches-within}
 use Rattle.rx_search.specs.Answer.{half_of}
+use Rattle.rx_search.specs.Captures.{CapturesValue}
 use Rattle.rx_search.specs.Gaps.{gaps_from, span_of_match}
 use Rattle.rx_search.specs.Input.{InputValue, from_place, next_in}
 use Rattle.rx_search.specs.Matches.{MatchValue, match_value, half_match_value}
 use Rattle.rx_search.specs.Promise.{Promised}
 use Rattle.rx_search.specs.Searcher.{AtEachPlace, AnswersWithin}
-use Rattle.rx_search.specs.Told.{matched_pattern}
+use Rattle.rx_search.specs.Told.{matched_pattern, HasSlots}
 use Rattle.rx_search.proofs.SearcherLemmas.{successive-matches}
 use Rattle.rx_meta.specs.Finder.{PromisesFor}
-use Rattle.rx_meta.specs.Iterators.{begun, matches_to_come, PromisesEach}
+use Rattle.rx_meta.specs.Captures.{emptied, AreOf, AreTold, HaveRoomOf, IsToldWith}
+use Rattle.rx_meta.specs.Iterators.{begun, matches_to_come, PromisesEach, IsFoundIn}
 use Rattle.rx_meta.specs.Laws.{IsBehind, LeadFrom, in_turn}
-use Rattle.rx_meta.specs.Regex.{RegexValue, Serves, searches, given_needles, kind_in}
+use Rattle.rx_meta.specs.Regex.{RegexValue, Serves, searches, given_needles, kind_in, pattern_count}
+use Rattle.rx_meta.specs.Search.{IsAnswer}
 use Rattle.rx_meta.proofs.FinderLemmas.{searches-next}
 
 module _ (regex : RegexValue) (v : InputValue) where
@@ -83,3 +86,41 @@ module _ (len : ℕ) where
       , here.0
       , gaps-lead m.trace.end ms here.1 (λ k d lt. (rise 0 (suc k) d (omega arith) (omega arith)).1)
         (λ a b d lt small. rise (suc a) (suc b) d (omega arith) (omega arith)) (λ k d lt. lie (suc k) d (omega arith)) )
+
+-- what is said of an answer, in one record
+pub found-by : {E : Type 0} (regex : RegexValue) (v : InputValue) (result : Result (Option MatchValue) E)
+    → IfOk result (IsAnswer regex v match_value) → IfOk result (λ found. IfSome found (λ m. m.pattern < pattern_count regex))
+    → IfOk result (IsFoundIn regex v)
+found-by regex v (Ok found) answer in_range = record { answer = answer; in_range = in_range }
+found-by regex v (Err e) answer in_range = tt
+
+-- captures that are emptied hold nothing, and so do those that were emptied with as many slots
+emptied-again : (old new : CapturesValue) → HaveRoomOf old new → new ≡ emptied old → new ≡ emptied new
+emptied-again old new room is =
+    is ∙ (λ i. record { groups = sym room.groups i; pattern = None; slots = replicate (sym room.slots i) None })
+
+-- the captures of a search are those of the match that is searched for, where that is promised
+module _ (regex : RegexValue) (v : InputValue) where
+  module _ (r : Patterns) (p : Promised (Serves regex r) (given_needles regex) (kind_in regex) r v) (c : CapturesValue) where
+    of-next : (o : Option Match) → next_in r v ≡ o → AreTold regex v c → AreOf c o
+    of-next None is told = told.none (told.pattern.value r p ∙ ap (option_map matched_pattern) is)
+    of-next (Some m) is told = record {
+      pattern = told.pattern.value r p ∙ ap (option_map matched_pattern) is;
+      slots = subst (λ (o : Option Match). IfSome o (HasSlots c.slots)) is (told.slots.value r p);
+    }
+
+    pub captures-told : {E : Type 0} → searches regex v ≡ next_in r v → (result : Result (Option MatchValue) E) → IfOk result (IsToldWith regex v c)
+        → OnOk result (AreOf c (searches regex v))
+    captures-told searched (Ok found) told = of-next (searches regex v) (sym searched) told.told
+    captures-told searched (Err e) told = tt
+
+  pub captures-none : {E : Type 0} (c : CapturesValue) (result : Result (Option MatchValue) E) → IfOk result (IsToldWith regex v c)
+      → IfOk result (λ found. IfNone found (AreOf c None))
+  captures-none c (Ok None) told = told.told.none told.pattern
+  captures-none c (Ok (Some m)) told = tt
+  captures-none c (Err e) told = tt
+
+pub captures-silent : {T E : Type 0} (old new : CapturesValue) (result : Result T E) → HaveRoomOf old new → OnErr result (new ≡ emptied old)
+    → OnErr result (AreOf new None)
+captures-silent old new (Ok x) room is = tt
+captures-silent old new (Err e) room is = emptied-again old new room is

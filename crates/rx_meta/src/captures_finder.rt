@@ -56,6 +56,8 @@ impl Finder for CapturesFinder<'_> {
     ghost keeps = { λ a b. b.regex.now ≡ a.regex.now };
 
     fn find(&mut self, input: &Input<'_>) -> Result<Option<Match>, Memory> {
+        // What is found lies in the haystack, by the input's own promise.
+        let _haystack = input.haystack();
         self.regex
             .find_captures_with(&mut self.cache, input, &mut self.captures)
     }

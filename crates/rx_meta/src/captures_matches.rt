@@ -70,7 +70,11 @@ impl<'r, 'h> CapturesMatches<'r, 'h> {
         // What it answers lies in the haystack, by the input's own promise.
         let _haystack = self.searcher.input().haystack();
         match self.searcher.advance(&mut self.finder) {
-            Ok(Some(_)) => Some(self.give()),
+            Ok(Some(_)) => {
+                let given = self.finder.captures.clone();
+                self.is_ended = given.is_err();
+                Some(given)
+            }
             Ok(None) => {
                 self.is_ended = true;
                 None
@@ -80,13 +84,6 @@ impl<'r, 'h> CapturesMatches<'r, 'h> {
                 Some(Err(error))
             }
         }
-    }
-
-    /// The captures of the last match once more. Where there is no memory for them, the iterator is at its end.
-    fn give(&mut self) -> Result<Captures, Memory> {
-        let given = self.finder.captures.clone();
-        self.is_ended = given.is_err();
-        given
     }
 
     /// The regex that is searched with.

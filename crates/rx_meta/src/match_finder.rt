@@ -43,6 +43,8 @@ impl Finder for MatchFinder<'_> {
     ghost keeps = { λ a b. b.regex.now ≡ a.regex.now };
 
     fn find(&mut self, input: &Input<'_>) -> Result<Option<Match>, Memory> {
+        // What is found lies in the haystack, by the input's own promise.
+        let _haystack = input.haystack();
         self.regex.search_with(&mut self.cache, input)
     }
 }
