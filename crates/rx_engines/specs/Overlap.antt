@@ -1,12 +1,14 @@
 -- Searching for each pattern at once.
-use Rattle.std.specs.Prelude.{◌≡◌, ℕ, ◌+◌, ◌-◌, ◌<◌, Bool, true, ◌||◌, List, [], length, All, is_some}
-use Rattle.rx_model.specs.Runs.{PriorityGraph, first_trace, for_pattern, sieved}
+use Rattle.std.specs.Prelude.{◌≡◌, ◌⊎◌, ℕ, ◌+◌, ◌-◌, ◌<◌, Bool, true, ◌||◌, List, length, All, Option, is_some}
+use Rattle.rx_model.specs.Runs.{PriorityGraph, Passed, first_trace, for_pattern, sieved}
 use Rattle.rx_model.specs.Search.{first_start}
 use Rattle.rx_search.specs.PatternSet.{has}
 use Rattle.rx_nfa.specs.Automaton.{at}
 use Rattle.rx_nfa.specs.declared.state.State.{State}
 use Rattle.rx_nfa.specs.declared.state.State.TheVariants.{ByteRange, Sparse, Look, Union, Capture, Fail, Match as Accepts}
 use Rattle.rx_engines.specs.Search.{graph_until, may_start, OffersAll}
+use Rattle.rx_engines.specs.Simulation.{Hit, Closed}
+use Rattle.rx_engines.specs.Threads.{Row}
 use Rattle.rx_engines.specs.declared.search.Search.{Search}
 
 -- the pattern that the state accepts, if it accepts one, is below the number
@@ -38,3 +40,10 @@ pub record IsFilledBy (s : Search) (old new : List Bool) : Type 0 where
   pub offered : ℕ → Bool
   pub offers : OffersAll s offered
   pub value : (p : ℕ) → p < length old → has new p ≡ (has old p || has_run offered s p)
+
+-- What a step of all threads leaves of a pattern, whose runs are those of g: a thread accepted it, and it is in the set; or it is
+-- there as before, and what was to come is to come from the next place on.
+abbrev pub SteppedFor : (p : ℕ) → (old new : List Bool) → List State → (g : PriorityGraph) → (i : ℕ) → (later : Passed → Option Hit)
+    → (items : List ℕ) → List Row → (goal : Option Hit) → Type 0
+SteppedFor p old new states g i later items rows goal =
+    ((has new p ≡ true) × (is_some goal ≡ true)) ⊎ ((has new p ≡ has old p) × Closed states g (i + 1) later items rows goal)

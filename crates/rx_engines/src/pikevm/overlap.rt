@@ -1,9 +1,12 @@
 //! The search for each pattern at once, place by place.
-ghost use Rattle.std.specs.Prelude.{◌≡◌, ◌≤◌, [], length};
-ghost use Rattle.rx_engines.specs.Buffers.{IsReady, KeepsRoom, curr_of};
-ghost use Rattle.rx_engines.specs.Overlap.{NamesPatternsBelow, IsFilledBy};
+ghost use Rattle.std.specs.Prelude.{◌≡◌, ℕ, ◌<◌, ◌≤◌, [], length, Option};
+ghost use Rattle.std.specs.Option.{option_or};
+ghost use Rattle.rx_model.specs.Runs.{Passed, nowhere};
+ghost use Rattle.rx_nfa.specs.Ordered.{IsStable};
+ghost use Rattle.rx_engines.specs.Buffers.{IsReady, KeepsRoom, curr_of, room_of};
+ghost use Rattle.rx_engines.specs.Overlap.{NamesPatternsBelow, IsFilledBy, SteppedFor, graph_of_pattern};
 ghost use Rattle.rx_engines.specs.Search.{IsInside};
-ghost use Rattle.rx_engines.specs.Simulation.{frames_of_states};
+ghost use Rattle.rx_engines.specs.Simulation.{frames_of_states, Hit, among};
 
 use crate::onward::Onward;
 use crate::pikevm::buffers::Buffers;
@@ -55,6 +58,13 @@ fn step_all(search: &Search<'_>, place: usize, buffers: &mut Buffers, set: &mut 
     requires named { NamesPatternsBelow (length set.old) search.now.states.now }
     requires place { place ≤ search.now.end }
     requires ready { IsReady search.now.states.now 0 buffers.old }
+    ensures stepped { (p : ℕ) (later : Passed → Option Hit) (goal : Option Hit)
+        → p < length set.old
+        → IsStable (graph_of_pattern search.now search.now.end p) later
+        → option_or (among search.now.states.now (graph_of_pattern search.now search.now.end p) nowhere place
+        (curr_of buffers.old).table.items (curr_of buffers.old).set.items) (later nowhere) ≡ goal
+        → SteppedFor p set.old set.new search.now.states.now (graph_of_pattern search.now search.now.end p) place later
+        (curr_of buffers.new).set.items (curr_of buffers.new).table.items goal }
     ensures ready { IsReady search.now.states.now 0 buffers.new }
     ensures room { KeepsRoom buffers.old buffers.new }
     ensures same { length set.new ≡ length set.old }
@@ -100,7 +110,21 @@ fn step_all_over(
     requires width { (curr.now.table.width ≡ 0) × (next.old.table.width ≡ 0) × (length walk.old.slots.items ≡ 0) }
     requires empty { walk.old.stack.items ≡ [] }
     requires stack { frames_of_states search.now.states.now (length search.now.states.now) ≤ walk.old.stack.room }
-    ensures same { length set.new ≡ length set.old }
+    ensures stepped { (p : ℕ) (later : Passed → Option Hit) (goal : Option Hit)
+        → p < length set.old
+        → IsStable (graph_of_pattern search.now search.now.end p) later
+        → option_or (among search.now.states.now (graph_of_pattern search.now search.now.end p) nowhere place
+        curr.now.table.items curr.now.set.items) (later nowhere) ≡ goal
+        → SteppedFor p set.old set.new search.now.states.now (graph_of_pattern search.now search.now.end p) place later
+        next.new.set.items next.new.table.items goal }
+    ensures members { length set.new ≡ length set.old }
+    ensures set { next.new.set.room ≡ next.old.set.room }
+    ensures table { length next.new.table.items ≡ length next.old.table.items }
+    ensures width { next.new.table.width ≡ next.old.table.width }
+    ensures capacity { room_of next.new ≡ room_of next.old }
+    ensures slots { (length walk.new.slots.items ≡ length walk.old.slots.items) × (walk.new.slots.room ≡ walk.old.slots.room) }
+    ensures empty { walk.new.stack.items ≡ [] }
+    ensures stack { walk.new.stack.room ≡ walk.old.stack.room }
 {
     next.set.clear();
     let states = search.states;
