@@ -6,7 +6,7 @@ use Rattle.rx_search.specs.Captures.{CapturesValue}
 use Rattle.rx_search.specs.Gaps.{gaps_from, gaps_up_to}
 use Rattle.rx_search.specs.Input.{InputValue}
 use Rattle.rx_search.specs.Matches.{MatchValue, match_value}
-use Rattle.rx_search.specs.Searcher as searcher
+use Rattle.rx_search.specs.Searcher as successive
 use Rattle.rx_search.specs.Searcher.{SearcherValue, fresh, moved_past, places_left, AtEachPlace, IsAnsweredBy}
 use Rattle.rx_search.specs.Told.{LiesIn}
 use Rattle.rx_search.specs.declared.span.Span.{Span}
@@ -27,7 +27,7 @@ begun regex v = record { regex = regex; searcher = fresh v; ended = false }
 
 -- the matches that are still to come
 abbrev pub matches_to_come : MatchesValue → List Match
-matches_to_come it = if it.ended then [] else searcher.to_come (searches it.regex) it.searcher
+matches_to_come it = if it.ended then [] else successive.to_come (searches it.regex) it.searcher
 
 -- each search that it may make promises its answer
 abbrev pub PromisesEach : MatchesValue → Type 0
