@@ -79,13 +79,14 @@ module _ (len : ℕ) where
       → AllPairs IsBehind ms → All Lies ms → LeadFrom i len (in_turn (gaps_from len i ms) (map span_of_match ms))
   gaps-lead i [] le after rise lie = (refl, le, refl)
   gaps-lead i (m ∷ ms) le after rise lie =
-      let here = lie 0 m (omega arith) in
-      ( refl
-      , after 0 m (omega arith)
-      , refl
-      , here.0
-      , gaps-lead m.trace.end ms here.1 (λ k d lt. (rise 0 (suc k) d (omega arith) (omega arith)).1)
-        (λ a b d lt small. rise (suc a) (suc b) d (omega arith) (omega arith)) (λ k d lt. lie (suc k) d (omega arith)) )
+      let here = lie 0 m (omega arith) in (
+        refl,
+        after 0 m (omega arith),
+        refl,
+        here.0,
+        gaps-lead m.trace.end ms here.1 (λ k d lt. (rise 0 (suc k) d (omega arith) (omega arith)).1)
+            (λ a b d lt small. rise (suc a) (suc b) d (omega arith) (omega arith)) (λ k d lt. lie (suc k) d (omega arith)),
+      )
 
 -- what is said of an answer, in one record
 pub found-by : {E : Type 0} (regex : RegexValue) (v : InputValue) (result : Result (Option MatchValue) E)

@@ -36,7 +36,7 @@ pub use iterator_laws::{
 };
 pub use laws::a_search_is_for_its_patterns;
 pub use regex::Regex;
-pub use split::{Split, SplitN};
 pub use rx_nfa::WhichCaptures;
 pub use rx_prefilter::{Choice, Prefilter};
 pub use rx_strategy::{Config, impossible_inputs_have_no_match};
+pub use split::{Split, SplitN};

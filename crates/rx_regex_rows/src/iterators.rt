@@ -179,9 +179,11 @@ fn tells_next(
 ) -> Result<bool, Fail> {
     let item = matches.next().ok_or("no match")?;
     let captures = item?;
-    Ok(captures.pattern() == PatternID::new(pattern)
-        && has_text(&captures, "key", key)
-        && has_text(&captures, "val", value))
+    Ok(
+        captures.pattern() == PatternID::new(pattern)
+            && has_text(&captures, "key", key)
+            && has_text(&captures, "val", value),
+    )
 }
 
 #[test]

@@ -42,9 +42,27 @@ fn are_in<R: Wait + Abort>(
 fn each_pattern_that_matches_is_added(rt: HostRuntime) -> Result<(), Fail> {
     let alloc = rt.alloc();
     let regex = all_of(alloc, WhichCaptures::All, &["a", "ab", "c"])?;
-    are_in(&rt, alloc, &regex, &Input::new(b"xab"), &[true, true, false])?;
-    are_in(&rt, alloc, &regex, &Input::new(b"x"), &[false, false, false])?;
-    are_in(&rt, alloc, &regex, &Input::new(b"cxab"), &[true, true, true])?;
+    are_in(
+        &rt,
+        alloc,
+        &regex,
+        &Input::new(b"xab"),
+        &[true, true, false],
+    )?;
+    are_in(
+        &rt,
+        alloc,
+        &regex,
+        &Input::new(b"x"),
+        &[false, false, false],
+    )?;
+    are_in(
+        &rt,
+        alloc,
+        &regex,
+        &Input::new(b"cxab"),
+        &[true, true, true],
+    )?;
     let mut input = Input::new(b"xab");
     input.set_anchored(Anchored::Yes);
     are_in(&rt, alloc, &regex, &input, &[false, false, false])?;
@@ -76,7 +94,13 @@ fn empty_matches_are_added_where_one_may_begin(rt: HostRuntime) -> Result<(), Fa
     let alloc = rt.alloc();
     let regex = all_of(alloc, WhichCaptures::All, &["b*", "^b", "b$"])?;
     are_in(&rt, alloc, &regex, &Input::new(b""), &[true, false, false])?;
-    are_in(&rt, alloc, &regex, &Input::new(b"abbb"), &[true, false, true])?;
+    are_in(
+        &rt,
+        alloc,
+        &regex,
+        &Input::new(b"abbb"),
+        &[true, false, true],
+    )?;
     are_in(&rt, alloc, &regex, &Input::new(b"ba"), &[true, true, false])
 }
 

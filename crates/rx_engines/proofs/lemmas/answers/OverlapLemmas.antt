@@ -42,9 +42,11 @@ module _ (r : Patterns) (v : InputValue) where
   run-matches p run =
       let i = run.0 in
       let t = run.1 in
-      let first = run.3 in
-      (record { start = i; trace = t }, run-is_match r v.haystack v.anchor v.end v.start i p t run.2 first,
-      first-pattern r v.haystack v.end p first.1.0 i t first.1.2)
+      let first = run.3 in (
+        record { start = i; trace = t },
+        run-is_match r v.haystack v.anchor v.end v.start i p t run.2 first,
+        first-pattern r v.haystack v.end p first.1.0 i t first.1.2,
+      )
 
   pub matches-run : (p : ℕ) → MatchesIn r v p → HasRun p
   matches-run p m =
