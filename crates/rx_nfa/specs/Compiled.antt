@@ -13,7 +13,7 @@ pub use Rattle.rx_search.specs.PatternGroups.{pattern_groups as groups_of}
 pub use Rattle.rx_hir.specs.Cost.{nfa_states, slots_of}
 use Rattle.rx_nfa.specs.Automaton.{state_writes}
 use Rattle.rx_nfa.specs.declared.state.State.{State}
-use Rattle.rx_nfa.specs.Config.{utf8_of, reverse_of, size_limit_of, terminator_of, captures_of}
+use Rattle.rx_nfa.specs.Config.{utf8_of, reverse_of, size_limit_of, terminator_of, captures_of, written_in}
 use Rattle.rx_nfa.specs.declared.compiler.config.Config.{Config}
 use Rattle.rx_nfa.specs.Nfa.{Nfa, IsInRange, HasRuns, HasReverseRuns}
 use Rattle.rx_nfa.specs.declared.error.BuildError.{BuildError}
@@ -56,6 +56,7 @@ pub record IsCompiled (config : Config) (hs : List Expression) (nfa : Nfa) : Typ
   pub few : length nfa.states ≤ nfa_states hs
   pub accounted : nfa.accounted ≡ nfa_states hs
   pub slots : nfa.slots ≡ slots_of hs
+  pub told : nfa.told ≡ slots_written (written_in (reverse_of config) (captures_of config)) hs
   pub groups : nfa.groups ≡ groups_of hs
   pub utf8 : nfa.utf8 ≡ utf8_of config
   pub terminator : nfa.terminator ≡ terminator_of config

@@ -8,6 +8,7 @@ nfa_of i = record {
   start_anchored = i.start_anchored;
   starts = i.starts.items;
   slots = i.slot_len;
+  told = i.told_len;
   groups = i.group_info;
   utf8 = i.utf8;
   reverse = i.reverse;

@@ -18,3 +18,4 @@ pub mod Repeated
 pub mod Room
 pub mod Compiled
 pub mod Ordered
+pub mod EpsilonWalks

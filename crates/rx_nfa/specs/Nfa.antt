@@ -9,7 +9,7 @@ use Rattle.rx_model.specs.Search.{Patterns, told, first, first_where, first_of_p
 use Rattle.rx_search.specs.GroupInfo.{slot_count}
 use Rattle.rx_search.specs.LookSet.{has}
 use Rattle.rx_search.specs.Limits.{id_limit}
-use Rattle.rx_nfa.specs.Automaton.{at, automaton, automaton_over, backwards, asks_for, NamesBelow, IsWithin}
+use Rattle.rx_nfa.specs.Automaton.{at, state_at, state_accepts, automaton, automaton_over, backwards, asks_for, NamesBelow, IsWithin}
 use Rattle.rx_nfa.specs.ByteClasses.{AreClassesOf}
 use Rattle.rx_nfa.specs.Row.{HasSortedTransitions}
 use Rattle.rx_nfa.specs.Slots.{WritesOwnSlots}
@@ -23,6 +23,8 @@ pub record Nfa : Type 0 where
   pub starts : List ℕ
   -- how many slots there are
   pub slots : ℕ
+  -- how many of the first of them are told: the states write no other
+  pub told : ℕ
   -- the groups of each pattern, by their names
   pub groups : List (List (Option (List ℕ)))
   -- no match is to start inside a character
@@ -50,6 +52,10 @@ pub record IsInRange (nfa : Nfa) : Type 0 where
   pub starts : All (λ q. q < length nfa.states) nfa.starts
   pub names : All (NamesBelow (length nfa.states)) nfa.states
   pub within : All (IsWithin (length nfa.starts) nfa.slots) nfa.states
+  pub told : nfa.told ≤ nfa.slots
+  pub told_within : All (IsWithin (length nfa.starts) nfa.told) nfa.states
+  -- one state alone accepts a pattern
+  pub once : (p q r : ℕ) → state_accepts (state_at nfa.states q) ≡ Some p → state_accepts (state_at nfa.states r) ≡ Some p → q ≡ r
   pub slots : nfa.slots ≡ slot_count nfa.groups
   pub own : All (WritesOwnSlots nfa.groups) nfa.states
   pub sorted : All HasSortedTransitions nfa.states

@@ -203,6 +203,7 @@ impl Builder {
           start_anchored = start_anchored;
           starts = starts.items;
           slots = slot_count self.groups;
+          told = self.slots;
           groups = self.groups;
           utf8 = facts.utf8;
           reverse = facts.reverse;
@@ -226,6 +227,7 @@ impl Builder {
                 start_anchored,
                 starts,
                 slot_len,
+                told_len: self.written_len,
                 group_info: self.group_info,
                 utf8: facts.utf8,
                 reverse: facts.reverse,

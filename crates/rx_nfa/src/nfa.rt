@@ -128,6 +128,15 @@ impl NFA {
         self.inner.slot_len
     }
 
+    /// How many of the first slots are told: those of the whole matches alone where the configuration leaves out the groups
+    /// that the patterns name, and none where it leaves out all. The states write no other.
+    pub fn told_slot_len(&self) -> usize
+        ensures value { result ≡ self.now.told }
+        ensures in_range { IsInRange self.now }
+    {
+        self.inner.told_len
+    }
+
     /// The groups of the patterns, with their names. Those that the configuration leaves out have slots that stay empty.
     pub fn group_info(&self) -> &GroupInfo
         ensures value { result.now ≡ self.now.groups }

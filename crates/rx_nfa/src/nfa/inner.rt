@@ -10,6 +10,7 @@ pub struct Inner {
     pub start_anchored: StateID,
     pub starts: Vec<StateID>,
     pub slot_len: usize,
+    pub told_len: usize,
     pub group_info: GroupInfo,
     pub utf8: bool,
     pub reverse: bool,

@@ -1,0 +1,9 @@
+pub mod Config
+pub mod Words
+pub mod Entry
+pub mod Table
+pub mod Search
+pub mod Cache
+pub mod Draft
+pub mod Build
+pub mod Error

@@ -1,0 +1,7 @@
+//! The one-pass DFA.
+#![tactic(auto)]
+
+/// One.
+pub fn one() -> usize {
+    1
+}
