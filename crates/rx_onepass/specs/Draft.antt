@@ -6,7 +6,7 @@ use Rattle.rx_nfa.specs.EpsilonWalks.{WalksTo, IsPreferred, written_on, asked_on
 use Rattle.rx_nfa.specs.Nfa.{Nfa}
 use Rattle.rx_onepass.specs.Entry.{Going, Goes, Accepts, IsEntry, IsClear, AreDistinct, explicit_in}
 use Rattle.rx_onepass.specs.Table.{IsRow, IsRowOf, AreSlots, AreLooks, cell_at, rows_of, state_limit}
-use Rattle.rx_onepass.specs.Words.{Step, step_of, Final, final_of, dead, Epsilons, epsilons_of}
+use Rattle.rx_onepass.specs.Words.{Step, step_of, Final, final_of, dead, EpsilonsValue, epsilons_of}
 
 -- the number of each state of the NFA: that of its row, and 0 where it has none
 pub record AreNumbers (nfa : Nfa) (entries numbers : List ℕ) : Type 0 where
@@ -29,7 +29,7 @@ pub record IsDraft (nfa : Nfa) (classes : List ℕ) (stride : ℕ) (entries tabl
   pub fresh : AreFresh classes stride table done (rows_of entries)
 
 -- A frame stands for a walk from the entry: to its state, with what is told on the way.
-pub record IsWay (nfa : Nfa) (entry : ℕ) (way : List ℕ) (state : ℕ) (e : Epsilons) : Type 0 where
+pub record IsWay (nfa : Nfa) (entry : ℕ) (way : List ℕ) (state : ℕ) (e : EpsilonsValue) : Type 0 where
   pub leads : WalksTo nfa.states entry way state
   pub slots : AreSlots nfa e.slots (explicit_in nfa (written_on nfa.states entry way))
   pub looks : AreLooks e.looks (asked_on nfa.states entry way)

@@ -7,3 +7,4 @@ pub mod Cache
 pub mod Draft
 pub mod Build
 pub mod Error
+pub mod Patterns

@@ -4,10 +4,11 @@ use Rattle.std.specs.Int.{bit_at}
 use Rattle.std.specs.List.{list_all}
 use Rattle.std.specs.Option.{option_or}
 use Rattle.rx_model.specs.Look.{Look, holds}
-use Rattle.rx_model.specs.Runs.{Trace, Sieve, sieved, sifted, ending_at, first_trace, last_write}
+use Rattle.rx_model.specs.Runs.{Trace, Sieve, sieved, sifted, everywhere, ending_at, first_trace, last_write}
 use Rattle.rx_model.specs.Search.{Anchor, free, anchored, anchored_to, Match, is_anchored, is_permitted, slot_value}
 use Rattle.rx_search.specs.Input.{InputValue}
 use Rattle.rx_search.specs.LookSet.{kinds_in}
+use Rattle.rx_search.specs.Matches.{HalfMatchValue}
 use Rattle.rx_search.specs.declared.anchored.MatchKind.{MatchKind}
 use Rattle.rx_search.specs.declared.anchored.MatchKind.TheVariants.{All, LeftmostFirst}
 use Rattle.rx_search.specs.declared.match_error.MatchError.{MatchError}
@@ -15,6 +16,7 @@ use Rattle.rx_search.specs.declared.match_error.MatchError.TheVariants.{Quit, Ga
 use Rattle.rx_search.specs.Anchored.{anchor_of}
 use Rattle.rx_nfa.specs.Automaton.{at, automaton}
 use Rattle.rx_nfa.specs.Nfa.{Nfa}
+use Rattle.rx_nfa.specs.Ordered.{half}
 use Rattle.rx_nfa.specs.NextMatch.{start_of, next_match_of}
 use Rattle.rx_onepass.specs.Config.{kind_of, each_of}
 use Rattle.rx_onepass.specs.Entry.{explicit_start}
@@ -144,3 +146,19 @@ BothTellSame nfa None None = Unit {0}
 BothTellSame nfa None (Some t) = ⊥
 BothTellSame nfa (Some t) None = ⊥
 BothTellSame nfa (Some t) (Some u) = TellSame nfa t u
+
+-- what the walk tells of a match of this kind
+abbrev pub walk_of : MatchKind → Dfa → List ℕ → (n place row : ℕ) → Option Trace
+walk_of LeftmostFirst d text n place row = walk d everywhere text n place row
+walk_of All d text n place row = farthest (λ e. walk d (ending_at e) text n place row) (n + 1) place
+
+-- what the walk of an input's span from this row tells
+abbrev pub walked : Dfa → InputValue → (row : ℕ) → Option Trace
+walked d v row = walk_of (kind_of d.config) d v.haystack (v.end - v.start) v.start row
+
+-- What a walk answers: the match of the definition, with its explicit slots; with `earliest` some match, exactly where there is one.
+pub record IsWalked (d : Dfa) (v : InputValue) (row : ℕ) (result : Option HalfMatchValue) (out : List (Option ℕ)) : Type 0 where
+  pub value : v.earliest ≡ false → result ≡ option_map half (walked d v row)
+  pub any : is_some result ≡ is_some (walked d v row)
+  pub slots : v.earliest ≡ false → IfSome (walked d v row)
+      (λ t. (k : ℕ) → k < length out → slice_index_or out k None ≡ last_write t.writes (explicit_start d.nfa + k))

@@ -2,22 +2,22 @@
 use Rattle.std.specs.Prelude.{◌≡◌, ℕ, ◌+◌, ◌*◌, ◌/◌, ◌%◌, ◌^◌, ◌<◌, ◌≤◌, Bool, ◌==◌, Option, Some, None, if◌then◌else◌}
 
 -- What a walk tells: explicit slots, and kinds of look-around, each as a set. Slot k is bit k, and a kind is the bit of its number.
-pub record Epsilons : Type 0 where
+pub record EpsilonsValue : Type 0 where
   pub slots : ℕ
   pub looks : ℕ
 
-abbrev pub no_epsilons : Epsilons
+abbrev pub no_epsilons : EpsilonsValue
 no_epsilons = record { slots = 0; looks = 0 }
 
 -- kinds in bits 0 to 9, slots in bits 10 to 41
-abbrev pub epsilons_of : ℕ → Epsilons
+abbrev pub epsilons_of : ℕ → EpsilonsValue
 epsilons_of word = record { slots = word / 2 ^ 10 % 2 ^ 32; looks = word % 2 ^ 10 }
 
-abbrev pub word_of_epsilons : Epsilons → ℕ
+abbrev pub word_of_epsilons : EpsilonsValue → ℕ
 word_of_epsilons e = e.slots * 2 ^ 10 + e.looks
 
 -- each has its bits
-pub record FitEpsilons (e : Epsilons) : Type 0 where
+pub record FitEpsilons (e : EpsilonsValue) : Type 0 where
   pub slots : e.slots < 2 ^ 32
   pub looks : e.looks < 2 ^ 10
 

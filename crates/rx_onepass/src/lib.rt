@@ -1,7 +1,28 @@
-//! The one-pass DFA.
+//! A DFA that resolves groups: where an expression leaves at most one way on, one look into a table for each byte tells the
+//! slots too. It stands on rx_nfa, and takes patterns by rx_thompson.
+//!
+//! Its contract is the next match of an anchored search, with slots. A build refuses an NFA that is not one-pass, and names what
+//! is ambiguous.
 #![tactic(auto)]
 
-/// One.
-pub fn one() -> usize {
-    1
-}
+mod build_error;
+mod builder;
+mod cache;
+mod closure;
+mod config;
+mod dfa;
+mod draft;
+mod epsilons;
+mod patterns;
+mod pattern_epsilons;
+mod search;
+mod settle;
+mod threads;
+mod transition;
+mod walk;
+
+pub use build_error::{BuildError, NotOnePass};
+pub use builder::Builder;
+pub use cache::Cache;
+pub use config::Config;
+pub use dfa::DFA;

@@ -1,5 +1,5 @@
 //! Sets of kinds of look-around.
-ghost use Rattle.std.specs.Prelude.{◌≡◌, ◌||◌, ◌&&◌, not, false, ◌↔◌, IsTrue};
+ghost use Rattle.std.specs.Prelude.{◌≡◌, ◌<◌, ◌^◌, ◌||◌, ◌&&◌, not, false, ◌↔◌, IsTrue};
 ghost use Rattle.std.specs.Iterator.{YieldsFirstBy, item_count};
 ghost use Rattle.rx_model.specs.Look as model;
 ghost use Rattle.rx_search.specs.Look.{kind_of, is_same_kind};
@@ -32,6 +32,22 @@ impl LookSet {
         ensures { (kind : model.Look) → has result kind ≡ false }
     {
         LookSet { bits: 0 }
+    }
+
+    /// The set whose kinds are those of these bits: bit n is that of the kind of number n.
+    pub fn from_bits(bits: u32) -> LookSet
+        requires { bits < 2 ^ 18 }
+        ensures { result ≡ bits }
+    {
+        LookSet { bits }
+    }
+
+    /// The bits of the kinds in the set.
+    pub fn bits(self) -> u32
+        ensures value { result ≡ self }
+        ensures limit { result < 2 ^ 18 }
+    {
+        self.bits
     }
 
     /// The set with this kind too.

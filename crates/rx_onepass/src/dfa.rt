@@ -1,0 +1,230 @@
+//! The one-pass DFA: its table, and what it tells of itself.
+ghost use Rattle.std.specs.Prelude.{◌≡◌, ◌+◌, ◌*◌, ◌-◌, ◌^◌, ◌<◌, ◌/◌, length, [], ◌∷◌, None, replicate, IfOk, OnOk, OnErr, IfErr, IsOk};
+ghost use Rattle.rx_model.specs.Expression.{empty};
+ghost use Rattle.rx_nfa.specs.Compiled.{IsCompiled};
+ghost use Rattle.rx_nfa.specs.Config.{nothing_set};
+ghost use Rattle.rx_search.specs.ByteClasses.{class_count};
+ghost use Rattle.rx_search.specs.GroupInfo.{slot_count};
+ghost use Rattle.rx_onepass.specs.Build.{IsBuiltOf, IsRefusalOf};
+ghost use Rattle.rx_onepass.specs.Cache.{explicit_slots, Fits};
+ghost use Rattle.rx_onepass.specs.Config as configs;
+ghost use Rattle.rx_onepass.specs.Table.{Dfa, IsSound, stride_of, size_of};
+
+use crate::build_error::BuildError;
+use crate::builder::Builder;
+use crate::cache::Cache;
+use crate::config::Config;
+use crate::draft::size_of;
+use rx_nfa::NFA;
+use rx_search::{ByteClasses, Captures, Memory};
+use std::alloc::Global;
+use std::marker::Model;
+
+/// A DFA that resolves groups in one pass: each byte leads one way, and its transition tells which slots are written there and
+/// which look-arounds must hold.
+///
+/// It searches from where a span starts, and tells the slots of the match. It takes a `Cache`, which serves it whatever was
+/// searched before. There is one for an NFA that is one-pass: from each state at which a byte was read, or a search begins, each
+/// state is come to by one way alone, a byte leads one way, and one pattern at most matches.
+#[derive(Drop)]
+pub struct DFA {
+    pub(crate) config: Config,
+    pub(crate) nfa: NFA,
+    pub(crate) classes: ByteClasses,
+    /// A row has 2 to this power cells.
+    pub(crate) stride2: usize,
+    /// The cells, row by row: a transition for each class of bytes, and then what is told of a match.
+    pub(crate) table: Vec<u64>,
+    /// The row of each start, as `start_row` counts them.
+    pub(crate) starts: Vec<rx_search::StateID>,
+    /// The first row that tells a match. Those behind it do too.
+    pub(crate) least_match: usize,
+}
+
+impl Model for DFA {
+    ghost use Rattle.rx_onepass.specs.Table.{Dfa, IsSound};
+
+    ghost Value = { Dfa };
+
+    ghost view = { λ d. record {
+      nfa = d.nfa;
+      config = d.config;
+      classes = d.classes;
+      stride2 = d.stride2;
+      table = d.table.items;
+      starts = d.starts.items;
+      least_match = d.least_match;
+    } };
+
+    ghost invariant = { λ d. IsSound (record {
+      nfa = d.nfa;
+      config = d.config;
+      classes = d.classes;
+      stride2 = d.stride2;
+      table = d.table.items;
+      starts = d.starts.items;
+      least_match = d.least_match;
+    }) };
+}
+
+impl DFA {
+    /// The one-pass DFA of this NFA, by the default configuration. It is refused as by `Builder::build_from_nfa`.
+    ///
+    /// # Errors
+    ///
+    /// As by `Builder::build_from_nfa`.
+    pub fn new_from_nfa(alloc: Global, nfa: NFA) -> Result<DFA, BuildError>
+        ensures built { IfOk result (IsBuiltOf configs.nothing_set nfa) }
+        ensures refused { IfErr result (IsRefusalOf configs.nothing_set nfa) }
+    {
+        Builder::new().build_from_nfa(alloc, nfa)
+    }
+
+    /// The one that matches the empty string everywhere.
+    ///
+    /// # Errors
+    ///
+    /// Only want of memory.
+    pub fn always_match(alloc: Global) -> Result<DFA, BuildError>
+        ensures { IfOk result (λ d. IsCompiled nothing_set (empty ∷ []) d.nfa) }
+    {
+        let nfa = NFA::always_match(alloc)?;
+        DFA::new_from_nfa(alloc, nfa)
+    }
+
+    /// The one that matches nowhere.
+    ///
+    /// # Errors
+    ///
+    /// Only want of memory.
+    pub fn never_match(alloc: Global) -> Result<DFA, BuildError>
+        ensures { IfOk result (λ d. IsCompiled nothing_set [] d.nfa) }
+    {
+        let nfa = NFA::never_match(alloc)?;
+        DFA::new_from_nfa(alloc, nfa)
+    }
+
+    /// A configuration with nothing set.
+    pub fn config() -> Config
+        ensures { result ≡ configs.nothing_set }
+    {
+        Config::new()
+    }
+
+    /// A builder with the default configurations.
+    pub fn builder() -> Builder
+        ensures { result.config ≡ configs.nothing_set }
+    {
+        Builder::new()
+    }
+
+    /// Captures with room for all groups of the patterns.
+    ///
+    /// # Errors
+    ///
+    /// Only want of memory.
+    pub fn create_captures(&self, alloc: Global) -> Result<Captures, Memory>
+        ensures { IfOk result (λ c. c
+            ≡ record { groups = self.now.nfa.groups; pattern = None; slots = replicate (slot_count self.now.nfa.groups) None }) }
+    {
+        Captures::all(alloc, self.nfa.group_info())
+    }
+
+    /// A cache that serves searches of this automaton.
+    ///
+    /// # Errors
+    ///
+    /// Only want of memory.
+    pub fn create_cache(&self, alloc: Global) -> Result<Cache, Memory>
+        ensures { IfOk result (λ c. c ≡ explicit_slots self.now.nfa) }
+    {
+        Cache::new(alloc, self)
+    }
+
+    /// Makes the cache one that serves searches of this automaton.
+    ///
+    /// # Errors
+    ///
+    /// Only want of memory; then the cache stays as it was.
+    pub fn reset_cache(&self, cache: &mut Cache) -> Result<(), Memory>
+        ensures ok { OnOk result (cache.new ≡ explicit_slots self.now.nfa) }
+        ensures err { OnErr result (cache.new ≡ cache.old) }
+    {
+        cache.reset(self)
+    }
+
+    /// How it was built.
+    pub fn get_config(&self) -> &Config
+        ensures { result.now ≡ self.now.config }
+    {
+        &self.config
+    }
+
+    /// The NFA.
+    pub fn get_nfa(&self) -> &NFA
+        ensures { result.now ≡ self.now.nfa }
+    {
+        &self.nfa
+    }
+
+    /// How many patterns there are.
+    pub fn pattern_len(&self) -> usize
+        ensures { result ≡ length self.now.nfa.starts }
+    {
+        self.nfa.pattern_len()
+    }
+
+    /// How many states there are, the dead one among them.
+    pub fn state_len(&self) -> usize
+        ensures { length self.now.table ≡ result * stride_of self.now }
+    {
+        self.table.len() >> self.stride2
+    }
+
+    /// How many classes of bytes there are.
+    pub fn alphabet_len(&self) -> usize
+        ensures { result ≡ class_count self.now.classes }
+    {
+        self.classes.alphabet_len() - 1
+    }
+
+    /// The exponent of `stride`.
+    pub fn stride2(&self) -> usize
+        ensures { result ≡ self.now.stride2 }
+    {
+        self.stride2
+    }
+
+    /// How many cells a row of the table has: the least power of 2 that has room for a cell of each class, and one of a match.
+    pub fn stride(&self) -> usize
+        ensures { result ≡ stride_of self.now }
+    {
+        1 << self.stride2
+    }
+
+    /// The bytes that are accounted for the table: 8 for each cell, and 4 for each start.
+    pub fn memory_usage(&self) -> usize
+        ensures { result ≡ 8 * length self.now.table + 4 * length self.now.starts }
+    {
+        size_of(self.table.len(), self.starts.len())
+    }
+
+    /// The same automaton once more. The NFA is shared.
+    ///
+    /// # Errors
+    ///
+    /// Only want of memory.
+    pub fn clone(&self) -> Result<DFA, Memory>
+        ensures { IfOk result (λ d. d ≡ self.now) }
+    {
+        Ok(DFA {
+            config: self.config,
+            nfa: self.nfa.clone()?,
+            classes: self.classes,
+            stride2: self.stride2,
+            table: self.table.clone()?,
+            starts: self.starts.clone()?,
+            least_match: self.least_match,
+        })
+    }
+}

@@ -1,0 +1,241 @@
+//! The searches of a one-pass DFA.
+ghost use Rattle.std.specs.Prelude.{◌≡◌, ◌↔◌, ◌≤◌, ◌<◌, ◌*◌, ℕ, true, false, length, replicate, is_some, Some, None, IfOk, IfErr, IfSome, IfNone, IsTrue, OnOk, option_map, slice_get};
+ghost use Rattle.rx_model.specs.Search.{Patterns, Anchor, anchored_to, free, anchored, told_of};
+ghost use Rattle.rx_search.specs.Input.{InputValue};
+ghost use Rattle.rx_search.specs.Anchored.{anchor_of};
+ghost use Rattle.rx_search.specs.Matches.{match_value};
+ghost use Rattle.rx_search.specs.Told.{AreWithin, LiesIn, IsMatchWith, matched_pattern};
+ghost use Rattle.rx_nfa.specs.Nfa.{IsNfaOf};
+ghost use Rattle.rx_onepass.specs.Cache.{Fits};
+ghost use Rattle.rx_onepass.specs.Config.{each_of, kind_of};
+ghost use Rattle.rx_onepass.specs.Search.{answer_in, HasPlaces, IsRefusal, IsDone, IsUnsupported};
+
+use crate::cache::Cache;
+use crate::dfa::DFA;
+use rx_search::{Anchored, Captures, Input, Match, MatchError, NonMaxUsize, PatternID, Span, StateID};
+
+impl DFA {
+    /// Whether there is a match that starts where the input's span does. An input that is not anchored is taken as one that is.
+    /// It stops as soon as it knows.
+    ///
+    /// An input that is anchored to a pattern asks for an automaton with starts for each pattern.
+    pub fn is_match(&self, cache: &mut Cache, input: &Input<'_>) -> bool
+        requires fits { Fits self.now.nfa cache.old }
+        requires forward { self.now.nfa.reverse ≡ false }
+        requires each { (p : ℕ) → input.now.anchor ≡ anchored_to p → each_of self.now.config ≡ true }
+        ensures value { result ≡ is_some (answer_in self.now input.now) }
+        ensures cache { cache.new ≡ cache.old }
+    {
+        let mut input = anchored(input);
+        input.set_earliest(true);
+        match self.try_find_slots(cache, &input, &mut []) {
+            Ok(found) => found.is_some(),
+            Err(_) => false,
+        }
+    }
+
+    /// The match that starts where the input's span does. An input that is not anchored is taken as one that is.
+    ///
+    /// An input that is anchored to a pattern asks for an automaton with starts for each pattern.
+    pub fn find(&self, cache: &mut Cache, input: &Input<'_>) -> Option<Match>
+        requires fits { Fits self.now.nfa cache.old }
+        requires forward { self.now.nfa.reverse ≡ false }
+        requires each { (p : ℕ) → input.now.anchor ≡ anchored_to p → each_of self.now.config ≡ true }
+        ensures value { input.now.earliest ≡ false → result ≡ option_map match_value (answer_in self.now input.now) }
+        ensures any { is_some result ≡ is_some (answer_in self.now input.now) }
+        ensures within { IfSome result (LiesIn input.now) }
+        ensures cache { cache.new ≡ cache.old }
+    {
+        match self.try_find_slots(cache, &anchored(input), &mut []) {
+            Ok(found) => found,
+            Err(_) => None,
+        }
+    }
+
+    /// Puts the match that starts where the input's span does into the captures, with its slots; where there is none, they have no
+    /// pattern, and no slot has a place. An input that is not anchored is taken as one that is.
+    ///
+    /// An input that is anchored to a pattern asks for an automaton with starts for each pattern.
+    pub fn captures(&self, cache: &mut Cache, input: &Input<'_>, captures: &mut Captures)
+        requires fits { Fits self.now.nfa cache.old }
+        requires forward { self.now.nfa.reverse ≡ false }
+        requires each { (p : ℕ) → input.now.anchor ≡ anchored_to p → each_of self.now.config ≡ true }
+        requires groups { captures.old.groups ≡ self.now.nfa.groups }
+        ensures pattern { input.now.earliest ≡ false → captures.new.pattern ≡ option_map matched_pattern (answer_in self.now input.now) }
+        ensures slots { input.now.earliest ≡ false → IfSome (answer_in self.now input.now) (HasPlaces captures.new.slots) }
+        ensures any { is_some captures.new.pattern ≡ is_some (answer_in self.now input.now) }
+        ensures none { IfNone captures.new.pattern (captures.new.slots ≡ replicate (length captures.old.slots) None) }
+        ensures groups { captures.new.groups ≡ captures.old.groups }
+        ensures cache { cache.new ≡ cache.old }
+    {
+        captures.set_pattern(None);
+        match self.try_search_slots(cache, &anchored(input), captures.slots_mut()) {
+            Ok(pattern) => captures.set_pattern(pattern),
+            Err(_) => {}
+        }
+    }
+
+    /// As `captures`, or the error: no input is taken as another one. After an error the captures have no pattern, and no slot has
+    /// a place.
+    ///
+    /// # Errors
+    ///
+    /// As by `try_search_slots`.
+    pub fn try_search(
+        &self,
+        cache: &mut Cache,
+        input: &Input<'_>,
+        captures: &mut Captures,
+    ) -> Result<(), MatchError>
+        requires fits { Fits self.now.nfa cache.old }
+        requires forward { self.now.nfa.reverse ≡ false }
+        requires groups { captures.old.groups ≡ self.now.nfa.groups }
+        ensures pattern { input.now.earliest ≡ false
+            → OnOk result (captures.new.pattern ≡ option_map matched_pattern (answer_in self.now input.now)) }
+        ensures slots { input.now.earliest ≡ false
+            → OnOk result (IfSome (answer_in self.now input.now) (HasPlaces captures.new.slots)) }
+        ensures any { OnOk result (is_some captures.new.pattern ≡ is_some (answer_in self.now input.now)) }
+        ensures none { IfNone captures.new.pattern (captures.new.slots ≡ replicate (length captures.old.slots) None) }
+        ensures err { IfErr result (λ e. IsRefusal self.now input.now e × (captures.new.pattern ≡ None)) }
+        ensures served { OnOk result ((IsUnsupported self.now input.now.anchor) → IsDone input.now) }
+        ensures groups { captures.new.groups ≡ captures.old.groups }
+        ensures cache { cache.new ≡ cache.old }
+    {
+        captures.set_pattern(None);
+        let pattern = self.try_search_slots(cache, input, captures.slots_mut())?;
+        captures.set_pattern(pattern);
+        Ok(())
+    }
+
+    /// The pattern of the match that starts where the input's span does: under `LeftmostFirst` the next match, and under `All` that
+    /// of the farthest end. Each slot gets the place that the match leaves in it, and None where there is no match, no such slot
+    /// or an error. With `earliest` it stops at the first match that it meets.
+    ///
+    /// A pattern that is not there has no match. The search takes no memory.
+    ///
+    /// # Errors
+    ///
+    /// `UnsupportedAnchored` exactly where the span has a place left, and the input is not anchored while a match may start behind
+    /// the haystack's start, or it is anchored to a pattern and there are no starts for each pattern.
+    pub fn try_search_slots(
+        &self,
+        cache: &mut Cache,
+        input: &Input<'_>,
+        slots: &mut [Option<NonMaxUsize>],
+    ) -> Result<Option<PatternID>, MatchError>
+        requires fits { Fits self.now.nfa cache.old }
+        requires forward { self.now.nfa.reverse ≡ false }
+        ensures value { input.now.earliest ≡ false
+            → IfOk result (λ r. r ≡ option_map matched_pattern (answer_in self.now input.now)) }
+        ensures any { IfOk result (λ r. is_some r ≡ is_some (answer_in self.now input.now)) }
+        ensures slots { input.now.earliest ≡ false → OnOk result (IfSome (answer_in self.now input.now) (HasPlaces slots.new)) }
+        ensures none { IfOk result (λ r. IfNone r (slots.new ≡ replicate (length slots.old) None)) }
+        ensures err { IfErr result (λ e. IsRefusal self.now input.now e × (slots.new ≡ replicate (length slots.old) None)) }
+        ensures served { OnOk result ((IsUnsupported self.now input.now.anchor) → IsDone input.now) }
+        ensures in_range { IfOk result (λ r. IfSome r (λ p. p < length self.now.nfa.starts)) }
+        ensures slots_within { AreWithin input.now slots.new }
+        ensures cache { cache.new ≡ cache.old }
+    {
+        match self.try_find_slots(cache, input, slots) {
+            Ok(Some(found)) => Ok(Some(found.pattern())),
+            Ok(None) => Ok(None),
+            Err(error) => Err(error),
+        }
+    }
+
+    /// As `try_search_slots`, with the whole match.
+    ///
+    /// # Errors
+    ///
+    /// As by `try_search_slots`.
+    pub fn try_find_slots(
+        &self,
+        cache: &mut Cache,
+        input: &Input<'_>,
+        slots: &mut [Option<NonMaxUsize>],
+    ) -> Result<Option<Match>, MatchError>
+        requires fits { Fits self.now.nfa cache.old }
+        requires forward { self.now.nfa.reverse ≡ false }
+        ensures value { input.now.earliest ≡ false → IfOk result (λ r. r ≡ option_map match_value (answer_in self.now input.now)) }
+        ensures any { IfOk result (λ r. is_some r ≡ is_some (answer_in self.now input.now)) }
+        ensures slots { input.now.earliest ≡ false → OnOk result (IfSome (answer_in self.now input.now) (HasPlaces slots.new)) }
+        ensures none { IfOk result (λ r. IfNone r (slots.new ≡ replicate (length slots.old) None)) }
+        ensures err { IfErr result (λ e. IsRefusal self.now input.now e × (slots.new ≡ replicate (length slots.old) None)) }
+        ensures served { OnOk result ((IsUnsupported self.now input.now.anchor) → IsDone input.now) }
+        ensures within { IfOk result (λ r. IfSome r (LiesIn input.now)) }
+        ensures cache { cache.new ≡ cache.old }
+    {
+        empty(slots);
+        if input.is_done() {
+            return Ok(None);
+        }
+        let Some(row) = self.start_row(input.get_anchored())? else {
+            return Ok(None);
+        };
+        // So the answer stands without a premise on the haystack (DECISIONS: a search that starts inside a character has no match).
+        if self.nfa.is_utf8() && !input.is_char_boundary(input.start()) {
+            return Ok(None);
+        }
+        let first = self.nfa.group_info().implicit_slot_len().min(slots.len());
+        let Some(half) = self.walk(cache, input, row.as_usize(), &mut slots[first..]) else {
+            return Ok(None);
+        };
+        let span = Span {
+            start: input.start(),
+            end: half.offset(),
+        };
+        tell_span(slots, half.pattern(), span);
+        Ok(Some(Match::new(half.pattern(), span)))
+    }
+
+    /// The row in which a search of this mode starts; None where the pattern is not there.
+    fn start_row(&self, mode: Anchored) -> Result<Option<StateID>, MatchError> {
+        match mode {
+            Anchored::Yes => Ok(self.starts.get(0).copied()),
+            Anchored::No => {
+                if !self.nfa.is_always_start_anchored() {
+                    return Err(MatchError::UnsupportedAnchored { mode });
+                }
+                Ok(self.starts.get(0).copied())
+            }
+            Anchored::Pattern(pattern) => {
+                if !self.config.get_starts_for_each_pattern() {
+                    return Err(MatchError::UnsupportedAnchored { mode });
+                }
+                Ok(self.starts.get(1 + pattern.as_usize()).copied())
+            }
+        }
+    }
+}
+
+/// The input, anchored where it is not.
+fn anchored<'h>(input: &Input<'h>) -> Input<'h> {
+    let mut input = input.clone();
+    if input.get_anchored() == Anchored::No {
+        input.set_anchored(Anchored::Yes);
+    }
+    input
+}
+
+/// Leaves None in each slot.
+fn empty(slots: &mut [Option<NonMaxUsize>])
+    ensures { slots.new ≡ replicate (length slots.old) None }
+{
+    for i in 0..slots.len() {
+        slots[i] = None;
+    }
+}
+
+/// Puts the span of the whole match into the slots of its pattern, as far as there is room.
+fn tell_span(slots: &mut [Option<NonMaxUsize>], pattern: PatternID, span: Span) {
+    let first = 2 * pattern.as_usize();
+    write(slots, first, span.start);
+    write(slots, first + 1, span.end);
+}
+
+/// Writes the place into the slot, if there is room for it.
+fn write(slots: &mut [Option<NonMaxUsize>], slot: usize, at: usize) {
+    if slot < slots.len() {
+        slots[slot] = NonMaxUsize::new(at);
+    }
+}
