@@ -5,6 +5,7 @@ pub mod Table
 pub mod Search
 pub mod Cache
 pub mod Draft
+pub mod Closure
 pub mod Build
 pub mod Error
 pub mod Patterns

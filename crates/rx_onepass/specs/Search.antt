@@ -20,7 +20,7 @@ use Rattle.rx_nfa.specs.Ordered.{half}
 use Rattle.rx_nfa.specs.NextMatch.{start_of, next_match_of}
 use Rattle.rx_onepass.specs.Config.{kind_of, each_of}
 use Rattle.rx_onepass.specs.Entry.{explicit_start}
-use Rattle.rx_onepass.specs.Table.{Dfa, cell_at, stride_of, explicit_limit}
+use Rattle.rx_onepass.specs.Table.{Dfa, IsTable, IsRowOf, cell_at, stride_of, explicit_limit}
 use Rattle.rx_onepass.specs.Words.{Step, step_of, Final, final_of}
 use Rattle.rx_search.specs.ByteClasses.{class_count}
 
@@ -82,6 +82,11 @@ IsUnsupported d free = d.nfa.always_start_anchored ≡ false
 IsUnsupported d anchored = ⊥
 IsUnsupported d (anchored_to p) = each_of d.config ≡ false
 
+-- The row in which a search of this mode starts: that of the state at which the runs of the NFA start, where there is one.
+pub record IsStartRow (d : Dfa) (anchor : Anchor) (row : Option ℕ) : Type 0 where
+  pub none : row ≡ None → start_of d.nfa (taken_as anchor) ≡ None
+  pub some : IfSome row (λ r. (q : ℕ) × (entries : List ℕ) × (start_of d.nfa (taken_as anchor) ≡ Some q) × IsTable entries d × IsRowOf entries r q)
+
 -- why a search gives no answer
 abbrev pub IsRefusal : Dfa → InputValue → MatchError → Type 0
 IsRefusal d v (Quit byte offset) = ⊥
@@ -124,12 +129,23 @@ abbrev pub preferred : (wins : Bool) → (here later : Option Trace) → Option 
 preferred true here later = option_or here later
 preferred false here later = option_or later here
 
+-- where a byte leads from a row, and what the row tells of a match
+abbrev pub step_in : Dfa → (row byte : ℕ) → Step
+step_in d row byte = step_of (cell_at (stride_of d) d.table row (slice_index d.classes byte))
+
+abbrev pub final_in : Dfa → (row : ℕ) → Final
+final_in d row = final_of (cell_at (stride_of d) d.table row (class_count d.classes))
+
+-- the pattern that a row tells at the place, where the look-arounds on the way to its match hold
+abbrev pub told_pattern : Dfa → List ℕ → (row place : ℕ) → Option ℕ
+told_pattern d text row place = if all_hold d.nfa.terminator text (final_in d row).looks place then (final_in d row).pattern else None
+
 -- The walk over the n bytes from a place on, where the patterns may be accepted so.
 unfoldable pub walk : Dfa → Sieve → List ℕ → (n place row : ℕ) → Option Trace
-walk d ok text zero place row = told_here d.nfa ok text (final_of (cell_at (stride_of d) d.table row (class_count d.classes))) place
+walk d ok text zero place row = told_here d.nfa ok text (final_in d row) place
 walk d ok text (suc n) place row =
-    let s = step_of (cell_at (stride_of d) d.table row (slice_index d.classes (slice_index text place))) in
-    let here = told_here d.nfa ok text (final_of (cell_at (stride_of d) d.table row (class_count d.classes))) place in
+    let s = step_in d row (slice_index text place) in
+    let here = told_here d.nfa ok text (final_in d row) place in
     let goes = not (s.target == 0) && all_hold d.nfa.terminator text s.looks place in
     let later = if goes then with_writes (written_at d.nfa s.slots place) (walk d ok text n (place + 1) s.target) else None in
     preferred s.wins here later

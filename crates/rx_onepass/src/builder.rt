@@ -83,15 +83,19 @@ impl Builder {
     {
         admit(&nfa)?;
         let classes = classes_of(&nfa, self.config.get_byte_classes());
-        let settled = draw(alloc, &nfa, &classes, &self.config)?;
+        let Settled {
+            table,
+            starts,
+            least_match,
+        } = draw(alloc, &nfa, &classes, &self.config)?;
         Ok(DFA {
             config: self.config,
             nfa,
             stride2: classes.stride2(),
             classes,
-            table: settled.table,
-            starts: settled.starts,
-            least_match: settled.least_match,
+            table,
+            starts,
+            least_match,
         })
     }
 }

@@ -14,7 +14,7 @@ const SLOT_SIZE: usize = 8;
 /// number of slots.
 #[derive(Drop)]
 pub struct Cache {
-    slots: Vec<Option<NonMaxUsize>>,
+    pub(crate) slots: Vec<Option<NonMaxUsize>>,
 }
 
 impl Model for Cache {
@@ -72,10 +72,5 @@ impl Cache {
         Ok(Cache {
             slots: self.slots.clone()?,
         })
-    }
-
-    /// The slots.
-    pub(crate) fn slots_mut(&mut self) -> &mut [Option<NonMaxUsize>] {
-        self.slots.as_mut_slice()
     }
 }

@@ -1,6 +1,8 @@
 //! What an entry leads to: the walk that fills its row.
-ghost use Rattle.std.specs.Prelude.{◌≡◌, ◌<◌, length};
-ghost use Rattle.rx_onepass.specs.Draft.{IsWay, IsExploring};
+ghost use Rattle.std.specs.Prelude.{◌≡◌, ◌<◌, ℕ, length, drop, All, OnOk, IfErr};
+ghost use Rattle.rx_onepass.specs.Closure.{IsReady, IsMetFrom, IsRowRefusal, IsWalkOf};
+ghost use Rattle.rx_onepass.specs.Draft.{IsDraft, IsFresh, IsFilled, GrowsBeside};
+ghost use Rattle.rx_onepass.specs.Table.{IsRowOf};
 
 use crate::build_error::{BuildError, NotOnePass};
 use crate::draft::Draft;
@@ -65,7 +67,19 @@ impl<'a> Closure<'a> {
         draft: &mut Draft,
         row: StateID,
         entry: StateID,
-    ) -> Result<(), BuildError> {
+    ) -> Result<(), BuildError>
+        requires draft { IsDraft draft.old }
+        requires entry { IsRowOf draft.old.entries.items row entry }
+        requires fresh { IsFresh draft.old row }
+        requires unreached { IsReady self.old row }
+        ensures draft { OnOk result (IsDraft draft.new) }
+        ensures filled { OnOk result (IsFilled self.old.nfa.now self.old.classes.now draft.new row entry) }
+        ensures beside { OnOk result (GrowsBeside row draft.old draft.new) }
+        ensures met { OnOk result (All (IsMetFrom self.old.nfa.now entry) (drop (length draft.old.entries.items) draft.new.entries.items)) }
+        ensures err { IfErr result (IsRowRefusal self.old.nfa.now entry) }
+        ensures ready { OnOk result ((next : ℕ) → row < next → IsReady self.new next) }
+        ensures same { OnOk result (IsWalkOf self.old self.new) }
+    {
         self.row = row;
         self.entry = entry;
         self.matched = None;

@@ -16,7 +16,7 @@ use crate::cache::Cache;
 use crate::config::Config;
 use crate::draft::size_of;
 use rx_nfa::NFA;
-use rx_search::{ByteClasses, Captures, Memory};
+use rx_search::{ByteClasses, Captures, Memory, StateID};
 use std::alloc::Global;
 use std::marker::Model;
 
@@ -36,7 +36,7 @@ pub struct DFA {
     /// The cells, row by row: a transition for each class of bytes, and then what is told of a match.
     pub(crate) table: Vec<u64>,
     /// The row of each start, as `start_row` counts them.
-    pub(crate) starts: Vec<rx_search::StateID>,
+    pub(crate) starts: Vec<StateID>,
     /// The first row that tells a match. Those behind it do too.
     pub(crate) least_match: usize,
 }

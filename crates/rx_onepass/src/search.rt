@@ -1,5 +1,5 @@
 //! The searches of a one-pass DFA.
-ghost use Rattle.std.specs.Prelude.{◌≡◌, ◌↔◌, ◌≤◌, ◌<◌, ◌*◌, ℕ, true, false, length, replicate, is_some, Some, None, IfOk, IfErr, IfSome, IfNone, IsTrue, OnOk, option_map, slice_get};
+ghost use Rattle.std.specs.Prelude.{◌≡◌, ◌↔◌, ◌≤◌, ◌<◌, ◌*◌, ℕ, true, false, length, replicate, is_some, Some, None, IfOk, IfErr, IfSome, IfNone, IsTrue, OnOk, option_map, slice_set, ◌+◌, ⊥};
 ghost use Rattle.rx_model.specs.Search.{Patterns, Anchor, anchored_to, free, anchored, told_of};
 ghost use Rattle.rx_search.specs.Input.{InputValue};
 ghost use Rattle.rx_search.specs.Anchored.{anchor_of};
@@ -8,11 +8,14 @@ ghost use Rattle.rx_search.specs.Told.{AreWithin, LiesIn, IsMatchWith, matched_p
 ghost use Rattle.rx_nfa.specs.Nfa.{IsNfaOf};
 ghost use Rattle.rx_onepass.specs.Cache.{Fits};
 ghost use Rattle.rx_onepass.specs.Config.{each_of, kind_of};
-ghost use Rattle.rx_onepass.specs.Search.{answer_in, HasPlaces, IsRefusal, IsDone, IsUnsupported};
+ghost use Rattle.rx_onepass.specs.Search.{answer_in, HasPlaces, IsRefusal, IsDone, IsUnsupported, IsStartRow, taken_as};
+ghost use Rattle.rx_search.specs.declared.match_error.MatchError.TheVariants as MatchError;
 
 use crate::cache::Cache;
 use crate::dfa::DFA;
-use rx_search::{Anchored, Captures, Input, Match, MatchError, NonMaxUsize, PatternID, Span, StateID};
+use rx_search::{
+    Anchored, Captures, Input, Match, MatchError, NonMaxUsize, PatternID, Span, StateID,
+};
 
 impl DFA {
     /// Whether there is a match that starts where the input's span does. An input that is not anchored is taken as one that is.
@@ -189,7 +192,11 @@ impl DFA {
     }
 
     /// The row in which a search of this mode starts; None where the pattern is not there.
-    fn start_row(&self, mode: Anchored) -> Result<Option<StateID>, MatchError> {
+    fn start_row(&self, mode: Anchored) -> Result<Option<StateID>, MatchError>
+        ensures row { IfOk result (λ r. IsStartRow self.now (anchor_of mode) r) }
+        ensures served { OnOk result (IsUnsupported self.now (anchor_of mode) → ⊥) }
+        ensures err { IfErr result (λ e. (e ≡ MatchError.UnsupportedAnchored mode) × IsUnsupported self.now (anchor_of mode)) }
+    {
         match mode {
             Anchored::Yes => Ok(self.starts.get(0).copied()),
             Anchored::No => {
@@ -209,7 +216,9 @@ impl DFA {
 }
 
 /// The input, anchored where it is not.
-fn anchored<'h>(input: &Input<'h>) -> Input<'h> {
+fn anchored<'h>(input: &Input<'h>) -> Input<'h>
+    ensures { result ≡ record input.now { anchor = taken_as input.now.anchor } }
+{
     let mut input = input.clone();
     if input.get_anchored() == Anchored::No {
         input.set_anchored(Anchored::Yes);
@@ -227,14 +236,21 @@ fn empty(slots: &mut [Option<NonMaxUsize>])
 }
 
 /// Puts the span of the whole match into the slots of its pattern, as far as there is room.
-fn tell_span(slots: &mut [Option<NonMaxUsize>], pattern: PatternID, span: Span) {
+fn tell_span(slots: &mut [Option<NonMaxUsize>], pattern: PatternID, span: Span)
+    requires { span.end < usize.MAX }
+    requires start { span.start < usize.MAX }
+    ensures { slots.new ≡ slice_set (slice_set slots.old (2 * pattern) (Some span.start)) (2 * pattern + 1) (Some span.end) }
+{
     let first = 2 * pattern.as_usize();
     write(slots, first, span.start);
     write(slots, first + 1, span.end);
 }
 
 /// Writes the place into the slot, if there is room for it.
-fn write(slots: &mut [Option<NonMaxUsize>], slot: usize, at: usize) {
+fn write(slots: &mut [Option<NonMaxUsize>], slot: usize, at: usize)
+    requires { at < usize.MAX }
+    ensures { slots.new ≡ slice_set slots.old slot (Some at) }
+{
     if slot < slots.len() {
         slots[slot] = NonMaxUsize::new(at);
     }

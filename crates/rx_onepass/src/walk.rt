@@ -1,7 +1,10 @@
 //! The walk of a search along the rows of the table.
-ghost use Rattle.std.specs.Prelude.{◌≡◌, ◌≤◌, ◌<◌, length};
+ghost use Rattle.std.specs.Prelude.{◌≡◌, ◌≤◌, ◌<◌, ◌+◌, ◌*◌, ◌^◌, ◌↔◌, length, replicate, None, Some, IfSome, IfNone, IsTrue, min, ℕ, if◌then◌else◌, ◌==◌, nat_lt, slice_index_or};
+ghost use Rattle.std.specs.Int.{bit_at};
+ghost use Rattle.rx_onepass.specs.Entry.{told_explicit};
+ghost use Rattle.rx_onepass.specs.Table.{stride_of};
 ghost use Rattle.rx_onepass.specs.Cache.{Fits};
-ghost use Rattle.rx_onepass.specs.Search.{IsWalked};
+ghost use Rattle.rx_onepass.specs.Search.{IsWalked, all_hold, step_in, final_in, told_pattern};
 
 use crate::cache::Cache;
 use crate::dfa::DFA;
@@ -21,14 +24,36 @@ impl DFA {
         out: &mut [Option<NonMaxUsize>],
     ) -> Option<HalfMatch>
         requires fits { Fits self.now.nfa cache.old }
+        requires in_order { input.now.start ≤ input.now.end }
+        requires row { start * stride_of self.now < length self.now.table }
         ensures { IsWalked self.now input.now start result out.new }
         ensures cache { cache.new ≡ cache.old }
     {
+        let width = out.len().min(cache.slots.len());
+        self.pass(input, start, &mut cache.slots[..width], out)
+    }
+
+    /// The same, with these places to write explicit slots to. What stands there is forgotten.
+    fn pass(
+        &self,
+        input: &Input<'_>,
+        start: usize,
+        places: &mut [Option<NonMaxUsize>],
+        out: &mut [Option<NonMaxUsize>],
+    ) -> Option<HalfMatch>
+        requires in_order { input.now.start ≤ input.now.end }
+        requires row { start * stride_of self.now < length self.now.table }
+        requires width { length places.old ≤ length out.old }
+        requires room { min (length out.old) (told_explicit self.now.nfa) ≤ length places.old }
+        ensures { IsWalked self.now input.now start result out.new }
+        ensures places { length places.new ≡ length places.old }
+        ensures out { length out.new ≡ length out.old }
+    {
+        forget(places);
         let text = input.haystack();
         let end = input.end();
         let earliest = input.get_earliest();
         let leftmost = self.config.get_match_kind() == MatchKind::LeftmostFirst;
-        let places = begin(cache, out.len());
         let mut row = start;
         let mut best = None;
         for at in input.start()..end {
@@ -65,7 +90,16 @@ impl DFA {
         at: usize,
         places: &[Option<NonMaxUsize>],
         out: &mut [Option<NonMaxUsize>],
-    ) -> Option<PatternID> {
+    ) -> Option<PatternID>
+        requires row { row * stride_of self.now < length self.now.table }
+        requires at { at ≤ length text.now }
+        requires width { length places.now ≤ length out.old }
+        ensures pattern { result ≡ told_pattern self.now text.now row at }
+        ensures out { IfSome result (λ _. (k : ℕ) → k < length out.new → slice_index_or out.new k None
+            ≡ (if bit_at (final_in self.now row).slots k == 1 then Some at
+            else if nat_lt k (length places.now) then slice_index_or places.now k None else slice_index_or out.old k None)) }
+        ensures none { IfNone result (out.new ≡ out.old) }
+    {
         let told = self.pattern_epsilons(row);
         let pattern = told.pattern()?;
         let epsilons = told.epsilons();
@@ -81,7 +115,10 @@ impl DFA {
 
     /// Whether each look-around that a walk asks for holds at the place.
     #[inline(always)]
-    fn holds(&self, epsilons: Epsilons, text: &[u8], at: usize) -> bool {
+    fn holds(&self, epsilons: Epsilons, text: &[u8], at: usize) -> bool
+        requires { at ≤ length text.now }
+        ensures { result ≡ all_hold self.now.nfa.terminator text.now epsilons.looks at }
+    {
         !epsilons.asks()
             || self
                 .nfa
@@ -91,26 +128,31 @@ impl DFA {
 
     /// The transition of a row on a byte.
     #[inline(always)]
-    fn transition(&self, row: usize, byte: u8) -> Transition {
+    fn transition(&self, row: usize, byte: u8) -> Transition
+        requires { row * stride_of self.now < length self.now.table }
+        ensures { result ≡ step_in self.now row byte }
+        ensures row { result.target * stride_of self.now < length self.now.table }
+    {
         let class = self.classes.get(byte) as usize;
         Transition::of_word(self.table[(row << self.stride2) + class])
     }
 
     /// What a row tells of a match.
     #[inline(always)]
-    fn pattern_epsilons(&self, row: usize) -> PatternEpsilons {
+    fn pattern_epsilons(&self, row: usize) -> PatternEpsilons
+        requires { row * stride_of self.now < length self.now.table }
+        ensures { result ≡ final_in self.now row }
+    {
         let column = self.alphabet_len();
         PatternEpsilons::of_word(self.table[(row << self.stride2) + column])
     }
 }
 
-/// The slots of the cache, as many as are asked for, or all. No place stands in them.
-fn begin(cache: &mut Cache, asked: usize) -> &mut [Option<NonMaxUsize>] {
-    let slots = cache.slots_mut();
-    let width = asked.min(slots.len());
-    let places = &mut slots[..width];
+/// Leaves None in each place.
+fn forget(places: &mut [Option<NonMaxUsize>])
+    ensures { places.new ≡ replicate (length places.old) None }
+{
     for k in 0..places.len() {
         places[k] = None;
     }
-    places
 }

@@ -57,7 +57,12 @@ fn a_refused_search_leaves_nothing(rt: HostRuntime) -> Result<(), Fail> {
 fn which_modes_are_searched(rt: HostRuntime) -> Result<(), Fail> {
     let alloc = rt.alloc();
     let plain = dfa(&rt, alloc, Config::new(), &["a", "b"]);
-    let each = dfa(&rt, alloc, Config::new().starts_for_each_pattern(true), &["a", "b"]);
+    let each = dfa(
+        &rt,
+        alloc,
+        Config::new().starts_for_each_pattern(true),
+        &["a", "b"],
+    );
     let start = dfa(&rt, alloc, Config::new(), &["^a"]);
     let mut cache = plain.create_cache(alloc)?;
     let second = PatternID::new(1).expect(&rt, "a number");
@@ -70,7 +75,9 @@ fn which_modes_are_searched(rt: HostRuntime) -> Result<(), Fail> {
     assert!(rt; each.try_search_slots(&mut cache, &input, &mut []) == Ok(Some(second)));
     let input = Input::new(b"b").anchored(Anchored::Pattern(PatternID::MAX));
     assert!(rt; each.try_search_slots(&mut cache, &input, &mut []) == Ok(None));
-    assert!(rt; start.try_search_slots(&mut cache, &Input::new(b"a"), &mut []) == Ok(Some(PatternID::ZERO)));
+    assert!(rt;
+        start.try_search_slots(&mut cache, &Input::new(b"a"), &mut []) == Ok(Some(PatternID::ZERO))
+    );
     let done = Input::new(b"a").span(Span { start: 1, end: 0 });
     assert!(rt; plain.try_search_slots(&mut cache, &done, &mut []) == Ok(None));
     Ok(())

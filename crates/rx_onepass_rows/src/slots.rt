@@ -66,7 +66,9 @@ fn simulated(alloc: Global, nfa: NFA, input: &Input<'_>) -> Result<String, Fail>
 fn passed(rt: &impl Abort, alloc: Global, nfa: NFA, input: &Input<'_>) -> Result<String, Fail> {
     let none = None;
     let mut slots = vec![in alloc; none; nfa.slot_len()]?;
-    let dfa = DFA::new_from_nfa(alloc, nfa).ok().expect(rt, "a one-pass NFA");
+    let dfa = DFA::new_from_nfa(alloc, nfa)
+        .ok()
+        .expect(rt, "a one-pass NFA");
     let mut cache = dfa.create_cache(alloc)?;
     let found = dfa.try_find_slots(&mut cache, input, &mut slots);
     told(alloc, found.ok().expect(rt, "an anchored search"), &slots)
@@ -88,13 +90,25 @@ fn searched(
 }
 
 /// The same of a whole haystack and one pattern.
-fn one(rt: &impl Abort, alloc: Global, pattern: &str, haystack: &str, want: &str) -> Result<(), Fail> {
+fn one(
+    rt: &impl Abort,
+    alloc: Global,
+    pattern: &str,
+    haystack: &str,
+    want: &str,
+) -> Result<(), Fail> {
     let input = Input::new(haystack.as_bytes()).anchored(Anchored::Yes);
     searched(rt, alloc, &[pattern], &input, want)
 }
 
 /// The same of a whole haystack and several patterns.
-fn many(rt: &impl Abort, alloc: Global, patterns: &[&str], haystack: &str, want: &str) -> Result<(), Fail> {
+fn many(
+    rt: &impl Abort,
+    alloc: Global,
+    patterns: &[&str],
+    haystack: &str,
+    want: &str,
+) -> Result<(), Fail> {
     let input = Input::new(haystack.as_bytes()).anchored(Anchored::Yes);
     searched(rt, alloc, patterns, &input, want)
 }
@@ -122,7 +136,13 @@ fn groups(rt: HostRuntime) -> Result<(), Fail> {
     one(&rt, alloc, "(a)|(b)", "b", "0: 0..1 - 0..1")?;
     one(&rt, alloc, "(((a)))", "a", "0: 0..1 0..1 0..1 0..1")?;
     one(&rt, alloc, "(a(b(c)))d", "abcd", "0: 0..4 0..3 1..3 2..3")?;
-    one(&rt, alloc, "([a-z]+)=([0-9]+)?", "ab=12 c=", "0: 0..5 0..2 3..5")?;
+    one(
+        &rt,
+        alloc,
+        "([a-z]+)=([0-9]+)?",
+        "ab=12 c=",
+        "0: 0..5 0..2 3..5",
+    )?;
     one(&rt, alloc, "([a-z]+)=([0-9]+)?", "c=", "0: 0..2 0..1 -")?;
     Ok(())
 }
@@ -158,12 +178,33 @@ fn look_arounds(rt: HostRuntime) -> Result<(), Fail> {
 #[test]
 fn spans(rt: HostRuntime) -> Result<(), Fail> {
     let alloc = rt.alloc();
-    within(&rt, alloc, "a(b)?", "xab", Span { start: 1, end: 3 }, "0: 1..3 2..3")?;
-    within(&rt, alloc, "a(b)?", "xab", Span { start: 1, end: 2 }, "0: 1..2 -")?;
+    within(
+        &rt,
+        alloc,
+        "a(b)?",
+        "xab",
+        Span { start: 1, end: 3 },
+        "0: 1..3 2..3",
+    )?;
+    within(
+        &rt,
+        alloc,
+        "a(b)?",
+        "xab",
+        Span { start: 1, end: 2 },
+        "0: 1..2 -",
+    )?;
     within(&rt, alloc, "^a", "xa", Span { start: 1, end: 2 }, "none")?;
     within(&rt, alloc, "a$", "ab", Span { start: 0, end: 1 }, "none")?;
     within(&rt, alloc, "(?:)", "☃", Span { start: 1, end: 3 }, "none")?;
-    within(&rt, alloc, "(?:)", "☃", Span { start: 3, end: 3 }, "0: 3..3")?;
+    within(
+        &rt,
+        alloc,
+        "(?:)",
+        "☃",
+        Span { start: 3, end: 3 },
+        "0: 3..3",
+    )?;
     within(&rt, alloc, "a", "a", Span { start: 1, end: 0 }, "none")?;
     one(&rt, alloc, "(.)(.)", "é☃", "0: 0..5 0..2 2..5")?;
     Ok(())
