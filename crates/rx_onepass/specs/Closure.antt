@@ -1,5 +1,5 @@
 -- The walk that fills a row, from outside.
-use Rattle.std.specs.Prelude.{◌≡◌, ℕ, ◌<◌, ⊥, ◌⊎◌, List, [], length, All}
+use Rattle.std.specs.Prelude.{◌≡◌, ℕ, ◌<◌, ⊥, ◌⊎◌, List, [], length, All, Contains}
 use Rattle.rx_nfa.specs.EpsilonWalks.{ReachesTwice}
 use Rattle.rx_nfa.specs.Nfa.{Nfa}
 use Rattle.rx_onepass.specs.Entry.{Going, Goes, AcceptsBoth, Conflicts}
@@ -45,3 +45,7 @@ pub record IsWalkOf (old new : Closure) : Type 0 where
   pub nfa : new.nfa.now ≡ old.nfa.now
   pub classes : new.classes.now ≡ old.classes.now
   pub bytes : new.bytes.now ≡ old.bytes.now
+
+-- a state that a byte leads to from one of the entries is one of them
+abbrev pub IsClosed : Nfa → (entries : List ℕ) → Type 0
+IsClosed nfa entries = (entry byte : ℕ) (g : Going) → Contains entries entry → Goes nfa entry byte g → Contains entries g.target

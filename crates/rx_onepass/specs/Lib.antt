@@ -6,6 +6,7 @@ pub mod Search
 pub mod Cache
 pub mod Draft
 pub mod Closure
+pub mod Settled
 pub mod Build
 pub mod Error
 pub mod Patterns

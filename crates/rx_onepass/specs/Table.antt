@@ -101,6 +101,12 @@ pub record AreClassesFor (nfa : Nfa) (shares : Bool) (classes : List ℕ) : Type
   pub own : shares ≡ true → classes ≡ nfa.classes
   pub single : shares ≡ false → EachIndex classes (λ b. slice_index classes b ≡ b)
 
+-- the rows of the starts: that of all patterns, and that of each, if these are asked for
+pub record AreStarts (nfa : Nfa) (each : Bool) (entries starts : List ℕ) : Type 0 where
+  pub len : length starts ≡ start_count nfa each
+  pub common : IsRowOf entries (slice_index starts 0) nfa.start_anchored
+  pub one : each ≡ true → (p q : ℕ) → slice_get nfa.starts p ≡ Some q → IsRowOf entries (slice_index starts (1 + p)) q
+
 -- The rows are those of the entries, each once, and all entries that are reached have one. Rows that tell a match come last.
 pub record IsTable (entries : List ℕ) (d : Dfa) : Type 0 where
   pub classes : AreClassesFor d.nfa (shares_of d.config) d.classes
@@ -111,9 +117,7 @@ pub record IsTable (entries : List ℕ) (d : Dfa) : Type 0 where
   pub are : All (IsEntry d.nfa (each_of d.config)) entries
   pub dead_row : IsDeadRow d.classes (stride_of d) d.table
   pub rows : (row entry : ℕ) → IsRowOf entries row entry → IsRow d.nfa d.classes (stride_of d) entries d.table row entry
-  pub common : IsRowOf entries (slice_index d.starts 0) d.nfa.start_anchored
-  pub starts : each_of d.config ≡ true → (p q : ℕ) → slice_get d.nfa.starts p ≡ Some q → IsRowOf entries (slice_index d.starts (1 + p)) q
-  pub start_len : length d.starts ≡ start_count d.nfa (each_of d.config)
+  pub starts : AreStarts d.nfa (each_of d.config) entries d.starts
   pub last : (row : ℕ) → row < rows_of entries
       → (d.least_match ≤ row) ↔ ((p : ℕ) × ((final_of (cell_at (stride_of d) d.table row (class_count d.classes))).pattern ≡ Some p))
   pub matches : (row p : ℕ) → row < rows_of entries → (final_of (cell_at (stride_of d) d.table row (class_count d.classes))).pattern ≡ Some p

@@ -1,13 +1,17 @@
 //! How a one-pass DFA is built.
-ghost use Rattle.std.specs.Prelude.{◌≡◌, ◌-◌, ◌≤◌, length, IfOk, IfErr, IfSome, IfNone, OnOk, ◌<◌, ◌↔◌, IsTrue};
+ghost use Rattle.std.specs.Prelude.{◌≡◌, ◌-◌, ◌≤◌, length, IfOk, IfErr, IfSome, IfNone, OnOk, ◌<◌, ◌↔◌, IsTrue, ℕ, Bool, [], All};
 ghost use Rattle.rx_model.specs.Look.{look_number};
 ghost use Rattle.rx_reader.specs.Config.{default};
+ghost use Rattle.rx_search.specs.ByteClasses.{alphabet_len, IsLeastPower};
 ghost use Rattle.rx_search.specs.Look.{kind_of};
 ghost use Rattle.rx_nfa.specs.Config as nfa_configs;
 ghost use Rattle.rx_onepass.specs.Build.{IsBuiltOf, IsRefusalOf, IsAdmitted, HasFewLooks, IsFirstUnsupported};
-ghost use Rattle.rx_onepass.specs.Config.{overwritten, nothing_set};
-ghost use Rattle.rx_onepass.specs.Entry.{told_explicit, few_looks};
-ghost use Rattle.rx_onepass.specs.Table.{AreClassesFor, explicit_limit};
+ghost use Rattle.rx_onepass.specs.Config.{overwritten, nothing_set, shares_of};
+ghost use Rattle.rx_onepass.specs.Entry.{told_explicit, few_looks, IsEntry};
+ghost use Rattle.rx_onepass.specs.Table.{AreClassesFor, IsSound, AreStarts, start_count, rows_of, explicit_limit};
+ghost use Rattle.rx_onepass.specs.Closure.{IsReady, IsClosed};
+ghost use Rattle.rx_onepass.specs.Draft.{IsDraft, IsFresh, AreFilled};
+ghost use Rattle.rx_onepass.specs.Settled.{dfa_of};
 
 use crate::build_error::{BuildError, NotOnePass};
 use crate::closure::Closure;
@@ -176,7 +180,13 @@ fn draw(
     nfa: &NFA,
     classes: &ByteClasses,
     config: &Config,
-) -> Result<Settled, BuildError> {
+) -> Result<Settled, BuildError>
+    requires admitted { IsAdmitted nfa.now }
+    requires classes { AreClassesFor nfa.now (shares_of config.now) classes.now }
+    ensures sound { IfOk result (λ s. (stride2 : ℕ) → IsLeastPower (alphabet_len classes.now) stride2
+        → IsSound (dfa_of nfa.now config.now classes.now stride2 s)) }
+    ensures refused { IfErr result (IsRefusalOf config.now nfa.now) }
+{
     let each = config.get_starts_for_each_pattern();
     let layout = Layout {
         stride2: classes.stride2(),
@@ -194,7 +204,9 @@ fn draw(
 }
 
 /// How many starts there are: that of all patterns, and that of each, if these are asked for.
-fn start_count(nfa: &NFA, each: bool) -> usize {
+fn start_count(nfa: &NFA, each: bool) -> usize
+    ensures { result ≡ start_count nfa.now each }
+{
     if each { 1 + nfa.pattern_len() } else { 1 }
 }
 
@@ -204,7 +216,15 @@ fn starts_of(
     nfa: &NFA,
     each: bool,
     draft: &mut Draft,
-) -> Result<Vec<StateID>, BuildError> {
+) -> Result<Vec<StateID>, BuildError>
+    requires draft { IsDraft draft.old }
+    requires none { draft.old.entries.items ≡ [] }
+    requires states { length draft.old.rows.items ≡ length nfa.now.states }
+    ensures draft { OnOk result (IsDraft draft.new) }
+    ensures starts { IfOk result (λ starts. AreStarts nfa.now each draft.new.entries.items starts.items) }
+    ensures entries { OnOk result (All (IsEntry nfa.now each) draft.new.entries.items) }
+    ensures fresh { OnOk result ((row : ℕ) → row < rows_of draft.new.entries.items → IsFresh draft.new row) }
+{
     let mut starts = Vec::new(alloc);
     starts.push(draft.row_of(nfa.start_anchored())?)?;
     if each {
@@ -216,7 +236,16 @@ fn starts_of(
 }
 
 /// Fills the rows, one after another, until each entry that was met has its row filled.
-fn fill(draft: &mut Draft, closure: &mut Closure<'_>) -> Result<(), BuildError> {
+fn fill(draft: &mut Draft, closure: &mut Closure<'_>) -> Result<(), BuildError>
+    requires draft { IsDraft draft.old }
+    requires ready { IsReady closure.old 1 }
+    requires fresh { (row : ℕ) → row < rows_of draft.old.entries.items → IsFresh draft.old row }
+    ensures draft { OnOk result (IsDraft draft.new) }
+    ensures filled { OnOk result (AreFilled closure.old.nfa.now closure.old.classes.now draft.new (length draft.new.entries.items)) }
+    ensures entries { OnOk result ((each : Bool) → All (IsEntry closure.old.nfa.now each) draft.old.entries.items
+        → All (IsEntry closure.old.nfa.now each) draft.new.entries.items) }
+    ensures closed { OnOk result (IsClosed closure.old.nfa.now draft.new.entries.items) }
+{
     let mut done = 0;
     while done < draft.entries.len() {
         let entry = draft.entries[done];

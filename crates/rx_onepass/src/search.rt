@@ -1,6 +1,6 @@
 //! The searches of a one-pass DFA.
 ghost use Rattle.std.specs.Prelude.{◌≡◌, ◌↔◌, ◌≤◌, ◌<◌, ◌*◌, ℕ, true, false, length, replicate, is_some, Some, None, IfOk, IfErr, IfSome, IfNone, IsTrue, OnOk, option_map, slice_set, ◌+◌, ⊥};
-ghost use Rattle.rx_model.specs.Search.{Patterns, Anchor, anchored_to, free, anchored, told_of};
+ghost use Rattle.rx_model.specs.Search.{anchored_to};
 ghost use Rattle.rx_search.specs.Input.{InputValue};
 ghost use Rattle.rx_search.specs.Anchored.{anchor_of};
 ghost use Rattle.rx_search.specs.Matches.{match_value};
@@ -9,7 +9,6 @@ ghost use Rattle.rx_nfa.specs.Nfa.{IsNfaOf};
 ghost use Rattle.rx_onepass.specs.Cache.{Fits};
 ghost use Rattle.rx_onepass.specs.Config.{each_of, kind_of};
 ghost use Rattle.rx_onepass.specs.Search.{answer_in, HasPlaces, IsRefusal, IsDone, IsUnsupported, IsStartRow, taken_as};
-ghost use Rattle.rx_search.specs.declared.match_error.MatchError.TheVariants as MatchError;
 
 use crate::cache::Cache;
 use crate::dfa::DFA;
@@ -175,7 +174,7 @@ impl DFA {
         let Some(row) = self.start_row(input.get_anchored())? else {
             return Ok(None);
         };
-        // So the answer stands without a premise on the haystack (DECISIONS: a search that starts inside a character has no match).
+        // An anchored search has no other start, so the answer stands without a premise on the haystack.
         if self.nfa.is_utf8() && !input.is_char_boundary(input.start()) {
             return Ok(None);
         }

@@ -1,5 +1,8 @@
 //! The order of the rows in the end: those that tell a match come last.
-ghost use Rattle.std.specs.Prelude.{◌≡◌, ◌<◌, length, IfOk};
+ghost use Rattle.std.specs.Prelude.{◌≡◌, ◌<◌, ◌^◌, length, All, IfOk, slice_index};
+ghost use Rattle.rx_onepass.specs.Draft.{IsDraft};
+ghost use Rattle.rx_onepass.specs.Settled.{IsSettled};
+ghost use Rattle.rx_onepass.specs.Table.{rows_of};
 
 use crate::draft::Draft;
 use crate::transition::Transition;
@@ -16,7 +19,11 @@ pub struct Settled {
 }
 
 /// The rows of the draft in their order in the end, with the starts by their numbers there.
-pub fn settle(alloc: Global, draft: &Draft, starts: &[StateID]) -> Result<Settled, Memory> {
+pub fn settle(alloc: Global, draft: &Draft, starts: &[StateID]) -> Result<Settled, Memory>
+    requires draft { IsDraft draft.now }
+    requires starts { All (λ row. row < rows_of draft.now.entries.items) starts.now }
+    ensures { IfOk result (IsSettled draft.now starts.now) }
+{
     let mut order = Vec::new(alloc);
     push_rows(draft, false, &mut order)?;
     let least_match = order.len();
@@ -82,6 +89,10 @@ fn push_settled(
 }
 
 /// The transition to the same row, by these numbers.
-fn renumbered(transition: Transition, numbers: &[StateID]) -> Transition {
+fn renumbered(transition: Transition, numbers: &[StateID]) -> Transition
+    requires { transition.target < length numbers.now }
+    requires small { All (λ n. n < 2 ^ 21) numbers.now }
+    ensures { result ≡ record transition { target = slice_index numbers.now transition.target } }
+{
     transition.with_target(numbers[transition.target()])
 }

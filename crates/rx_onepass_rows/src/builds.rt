@@ -55,7 +55,7 @@ fn patterns_that_are_one_pass(rt: HostRuntime) -> Result<(), Fail> {
         "a$",
         "\\bfoo\\b",
     ];
-    for pattern in patterns.iter() {
+    for pattern in patterns {
         builds(&rt, alloc, pattern, "yes")?;
     }
     Ok(())
@@ -78,11 +78,11 @@ fn patterns_that_are_not(rt: HostRuntime) -> Result<(), Fail> {
         "a*?a",
         "(a)*(a)",
     ];
-    for pattern in transition.iter() {
+    for pattern in transition {
         builds(&rt, alloc, pattern, "transition")?;
     }
     let state = ["(^|$)a", "(a*)*", "(?:|a)+", "\\b|\\B", "(?:|)", "(a*)+"];
-    for pattern in state.iter() {
+    for pattern in state {
         builds(&rt, alloc, pattern, "state")?;
     }
     builds(&rt, alloc, "\\b{start}a", "look")?;

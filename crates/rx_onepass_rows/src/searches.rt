@@ -1,7 +1,6 @@
 //! The calls of a one-pass DFA.
 
 use crate::slots::told;
-use rx_nfa::NFA;
 use rx_onepass::{Builder, Config, DFA};
 use rx_search::{Anchored, Input, MatchError, MatchKind, PatternID, Span};
 use std::alloc::Global;
