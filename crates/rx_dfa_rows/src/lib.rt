@@ -8,6 +8,8 @@ mod forward;
 #[cfg(test)]
 mod last;
 #[cfg(test)]
+mod loops;
+#[cfg(test)]
 mod reverse;
 #[cfg(test)]
 mod sizes;
