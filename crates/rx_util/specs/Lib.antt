@@ -1,4 +1,5 @@
 pub mod PoolMachine
 pub mod Stack
 pub mod Template
+pub mod GuardLends
 pub mod Interpolation

@@ -1,5 +1,7 @@
 //! Pools of values that many threads use in turn.
 ghost use Rattle.std.specs.Prelude.{◌≡◌, ◌<◌, vec_len};
+ghost use Rattle.std.specs.Borrow.{sem};
+ghost use Rattle.rx_util.specs.GuardLends.{LendsValue};
 
 use crate::maker::Maker;
 use crate::stack::Stack;
@@ -112,7 +114,8 @@ impl<'p, T: Drop> PoolGuard<'p, T> {
 
     /// The value, to be changed.
     pub fn value_mut(&mut self) -> &mut T
-        ensures { result.now ≡ self.old.value }
+        ensures* writes_back { sem 𝓛 (LendsValue T.row self.entry result) }
+        ensures value { result.now ≡ self.old.value }
     {
         &mut self.value
     }
