@@ -5,3 +5,9 @@ pub mod Beside
 pub mod StateKey
 pub mod Scratch
 pub mod Source
+pub mod Alphabet
+pub mod States
+pub mod Table
+pub mod Dense
+pub mod Found
+pub mod DenseView

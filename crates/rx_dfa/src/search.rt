@@ -2,7 +2,7 @@
 
 mod both;
 mod forward;
-mod parts;
+pub(crate) mod parts;
 mod progress;
 mod reverse;
 
