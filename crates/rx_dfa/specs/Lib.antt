@@ -14,3 +14,9 @@ pub mod KeySet
 pub mod Lazy
 pub mod LazyCache
 pub mod LazyBuild
+pub mod Dense
+pub mod Found
+pub mod DenseView
+pub mod Numbers
+pub mod Job
+pub mod Work
