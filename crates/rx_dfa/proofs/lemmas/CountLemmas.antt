@@ -57,7 +57,8 @@ whole-above d stride limit given big all has =
     omega arith
 
 pub no-table : (nfa : Nfa) (kind : MatchKind) (byte_classes : Bool) (d : Dfa) (stride2 stride : ℕ) (given : Option ℕ) → IsDfaOf nfa kind byte_classes d
-    → IsLeastPower (alphabet_len d.classes) stride2 → stride ≡ 2 ^ stride2 → (e : BuildError) → IsRefused d stride given e → IsNoTable nfa kind byte_classes given e
+    → IsLeastPower (alphabet_len d.classes) stride2 → stride ≡ 2 ^ stride2 → (e : BuildError) → IsRefused d stride given e
+    → IsNoTable nfa kind byte_classes given e
 no-table nfa kind byte_classes d stride2 stride given of power is (TooBig limit size) refused =
     let big = subst (λ s. IsTooBig d s limit size) is refused.1 in
     (refused.0, record { dfa = d; of = of; stride2 = stride2; power = power; big = big; whole = whole-above d (2 ^ stride2) limit size big })

@@ -9,7 +9,7 @@ use Rattle.rx_dfa.specs.Automaton.{Dfa, no_key}
 use Rattle.rx_dfa.specs.States.{canonical, is_special, IsState, AreStates}
 use Rattle.rx_dfa.specs.Table.{IsRow}
 use Rattle.rx_dfa.specs.Numbers.{second}
-use Rattle.rx_dfa.specs.Dense.{size_of, IsTooBig, IsRefused}
+use Rattle.rx_dfa.specs.Dense.{size_of, IsTooBig, IsWithin, IsRefused}
 use Rattle.rx_dfa.specs.Found.{plain_keys, special_keys, IsNumber, AreFound, Stays, Grows, IsNew, IsAdded, IsOver, IsMade}
 use Rattle.rx_dfa.specs.declared.dense.error.BuildError.{BuildError}
 use Rattle.rx_dfa.specs.declared.dense.error.BuildError.TheVariants.{TooBig, Memory}
@@ -50,23 +50,25 @@ pub count-more : (xs ys : List Key) (k : Key) → length xs + length ys + 1 ≡ 
 count-more xs ys k = let a = length-append (xs ++ ys) (k ∷ []) in let b = length-append xs ys in omega arith
 
 pub found-plain : (d : Dfa) (old new : Found) (k : Key) → AreFound d old → IsState d k → is_special k ≡ false → special_keys new ≡ special_keys old
-    → IsAdded (plain_keys old) k (plain_keys new) → AreFound d new
-found-plain d old new k are state plain same added = record {
+    → IsAdded (plain_keys old) k (plain_keys new) → IsWithin new.stride new.limit (length new.plain.keys + length new.special.keys) → AreFound d new
+found-plain d old new k are state plain same added within = record {
   plain_states = states-added d (plain_keys old) k (plain_keys new) added are.plain_states state;
   special_states = subst (AreStates d) (sym same) are.special_states;
   plain = sort-added false (plain_keys old) k (plain_keys new) added are.plain plain;
   special = λ row x is. are.special row x (ap (λ (ks : List Key). slice_get ks row) (sym same) ∙ is);
   dead = ap (λ (ks : List Key). slice_get ks 0) same ∙ are.dead;
+  within = within;
 }
 
 pub found-special : (d : Dfa) (old new : Found) (k : Key) → AreFound d old → IsState d k → is_special k ≡ true → plain_keys new ≡ plain_keys old
-    → IsAdded (special_keys old) k (special_keys new) → AreFound d new
-found-special d old new k are state special same added = record {
+    → IsAdded (special_keys old) k (special_keys new) → IsWithin new.stride new.limit (length new.plain.keys + length new.special.keys) → AreFound d new
+found-special d old new k are state special same added within = record {
   plain_states = subst (AreStates d) (sym same) are.plain_states;
   special_states = states-added d (special_keys old) k (special_keys new) added are.special_states state;
   plain = λ row x is. are.plain row x (ap (λ (ks : List Key). slice_get ks row) (sym same) ∙ is);
   special = sort-added true (special_keys old) k (special_keys new) added are.special special;
   dead = added-stays (special_keys old) k (special_keys new) added 0 (no_key None) are.dead;
+  within = within;
 }
 
 -- the refusal of one state more, which is not there yet

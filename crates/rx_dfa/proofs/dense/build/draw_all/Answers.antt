@@ -37,5 +37,6 @@ returns-clause-made c =
     drawn-made d c.args.found.now f (map (settled first) cells.plain.items ++ map (settled first) cells.special.items) (map (settled first) begun)
     c.settle_all.result c.in_ok-fill.ensures.made.found c.settle_all.ensures.table c.settle_all.ensures.starts c.settle_all.ensures.err
     (λ table of_starts is_table is_starts.
-    drawn d c.requires.job.sound f cells begun table of_starts wide c.in_ok-fill.ensures.made.ok c.in_ok-fill.ensures.all.0 c.in_ok-fill.ensures.all.1 starts is_table
+    drawn d c.requires.job.sound f cells begun table of_starts wide c.in_ok-fill.ensures.made.ok c.in_ok-fill.ensures.all.0 c.in_ok-fill.ensures.all.1 starts
+    is_table
     is_starts)

@@ -41,9 +41,11 @@ loop-class-preserved c =
       grows = grows-on _ _ _ c.loop-class.invariant.grows c.in_ok-cell.ensures.grows;
       found = c.in_ok-cell.ensures.made.found;
       part = subst (IsPart d (IsNumber c.step_cell.new.found) (key_of c.args.desk.now.row) (class + 1) c.args.cells.now.items) (sym items)
-          (part-push d (IsNumber c.loop-class.found) (IsNumber c.step_cell.new.found) (number-grows _ _ c.in_ok-cell.ensures.grows) (key_of c.args.desk.now.row) class
+          (part-push d (IsNumber c.loop-class.found) (IsNumber c.step_cell.new.found) (number-grows _ _ c.in_ok-cell.ensures.grows)
+          (key_of c.args.desk.now.row) class
           c.args.cells.now.items c.loop-class.cells.items cell c.loop-class.invariant.part
-          (λ lt. subst (λ (r : StateKey). IsCell d (IsNumber c.step_cell.new.found) (slice_index d.bytes class) (key_of r) cell) c.loop-class.invariant.row is));
+          (λ lt. subst (λ (r : StateKey). IsCell d (IsNumber c.step_cell.new.found) (slice_index d.bytes class) (key_of r) cell) c.loop-class.invariant.row
+          is));
     }
 
 pub returns-in_err-last-clause-grows : goal.returns-in_err-last-clause-grows

@@ -40,7 +40,8 @@ loop-class-preserved c =
       grows = grows-on _ _ _ c.loop-class.invariant.grows c.in_ok-state.ensures.grows;
       found = c.in_ok-state.ensures.made.found;
       begun = subst (AreBegun d (IsNumber c.start_cell.new.found) c.args.start c.args.loops (class + 1) c.args.starts.now.items) (sym items)
-          (begun-push d (IsNumber c.loop-class.found) (IsNumber c.start_cell.new.found) (number-grows _ _ c.in_ok-state.ensures.grows) c.args.start c.args.loops class
+          (begun-push d (IsNumber c.loop-class.found) (IsNumber c.start_cell.new.found) (number-grows _ _ c.in_ok-state.ensures.grows) c.args.start
+          c.args.loops class
           c.args.starts.now.items c.loop-class.starts.items state c.loop-class.invariant.begun
           (rw (sym before) is));
     }

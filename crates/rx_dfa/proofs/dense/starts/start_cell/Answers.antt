@@ -14,7 +14,8 @@ pub returns-in-Some-clause-made : goal.returns-in-Some-clause-made
 returns-in-Some-clause-made c =
     let j = c.args.job.now in
     let e = c.in-Some.ensures.some in
-    first-quits (dfa_in j) j.alphabet.now.words c.requires.job c.args.start c.args.loops c.args.before c.in-Some.field-0 c.args.found.now c.requires.found e.0 e.1
+    first-quits (dfa_in j) j.alphabet.now.words c.requires.job c.args.start c.args.loops c.args.before c.in-Some.field-0 c.args.found.now c.requires.found e.0
+    e.1
 
 pub returns-in_err-start-clause-made : goal.returns-in_err-start-clause-made
 returns-in_err-start-clause-made c = record { found = c.requires.found; ok = search rules; err = search rules }
