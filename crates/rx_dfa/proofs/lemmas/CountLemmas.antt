@@ -25,6 +25,7 @@ module _ (d : Dfa) (keys all : List Key) (are : AreStates d keys) (has : HasAll 
   place_of row (Some k) is = (has k (are.each row k is)).0
 
   at-place : (row : ℕ) (o : Option Key) (is : slice_get keys row ≡ o) (k : Key) → o ≡ Some k → slice_get all (place_of row o is) ≡ Some k
+  unfolding place_of
   at-place row None is k same = none-is-some same
   at-place row (Some own) is k same = (has own (are.each row own is)).1 ∙ same
 
@@ -35,6 +36,7 @@ module _ (d : Dfa) (keys all : List Key) (are : AreStates d keys) (has : HasAll 
   there row lt = slice_get-get_or keys row (no_key None) lt
 
   in-all : (row : ℕ) → row < length keys → slice_get all (place row) ≡ Some (get_or keys row (no_key None))
+  unfolding place place_of
   in-all row lt = at-place row (slice_get keys row) refl (get_or keys row (no_key None)) (there row lt)
 
   -- states, no two alike, are no more than all states are

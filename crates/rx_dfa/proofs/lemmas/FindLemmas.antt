@@ -1,11 +1,12 @@
 -- What is found of a key, by the sort of its state.
 use Rattle.std.proofs.Common.{◌≡◌, ℕ, zero, suc, ◌+◌, ◌*◌, ◌<◌, ◌≤◌, ◌⊎◌, inl, inr, List, [], ◌∷◌, ◌++◌, map, length, refl, sym, ◌∙◌, ap, subst, arith, true≢false}
 use Rattle.std.specs.Prelude.{Bool, true, false, ◌||◌, not, ◌==◌, Option, Some, None, slice_get, Result, IfOk, IfErr}
-use Rattle.std.proofs.lemmas.List.{length-append}
+use Rattle.std.proofs.lemmas.List.{length-append, length-map}
 use Rattle.std.proofs.lemmas.Result.{IfOk-weaker, IfErr-weaker}
 use Rattle.rx_model.proofs.lemmas.runs.FirstLemmas.{none-is-some}
 use Rattle.rx_determinize.specs.Key.{Key, is_dead, is_empty}
 use Rattle.rx_dfa.specs.Automaton.{Dfa, no_key}
+use Rattle.rx_dfa.specs.StateKey.{key_of}
 use Rattle.rx_dfa.specs.States.{canonical, is_special, IsState, AreStates}
 use Rattle.rx_dfa.specs.Table.{IsRow}
 use Rattle.rx_dfa.specs.Numbers.{second}
@@ -132,3 +133,23 @@ none-are d = record { each = λ row k is. none-is-some is; once = λ row other k
 
 pub lone : (d : Dfa) (k : Key) → IsState d k → AreStates d (k ∷ [])
 lone d k state = states-push d [] k (none-are d) state (λ row is. none-is-some is)
+
+-- the dead state alone
+pub found-lone : (d : Dfa) (f : Found) → IsState d (no_key None) → plain_keys f ≡ [] → special_keys f ≡ no_key None ∷ [] → IsWithin f.stride f.limit 1
+    → AreFound d f
+found-lone d f state none one within =
+    let short : length (plain_keys f) ≡ 0 = ap (λ (ks : List Key). length ks) none in
+    let long : length (special_keys f) ≡ 1 = ap (λ (ks : List Key). length ks) one in
+    let mapped = length-map f.plain.keys key_of in
+    let mapped' = length-map f.special.keys key_of in
+    record {
+      plain_states = subst (AreStates d) (sym none) (none-are d);
+      special_states = subst (AreStates d) (sym one) (lone d (no_key None) state);
+      plain = λ row k is. none-is-some (ap (λ (ks : List Key). slice_get ks row) (sym none) ∙ is);
+      special = λ row k is. elim (pushed [] (no_key None) row k (ap (λ (ks : List Key). slice_get ks row) (sym one) ∙ is)) [
+        | inl there ↦ none-is-some there
+        | inr last ↦ ap is_special last.1
+      ];
+      dead = ap (λ (ks : List Key). slice_get ks 0) one;
+      within = subst (IsWithin f.stride f.limit) (let e : 1 ≡ length f.plain.keys + length f.special.keys = omega arith in e) within;
+    }

@@ -28,8 +28,9 @@ impl Found {
         admit(1, stride, limit)?;
         let mut special = IndexSet::new(alloc);
         append(alloc, &mut special, &make::empty(alloc))?;
+        let plain = IndexSet::new(alloc);
         Ok(Found {
-            plain: IndexSet::new(alloc),
+            plain,
             special,
             stride,
             limit,

@@ -89,3 +89,8 @@ returns-in-Some-get_index-clause-made c =
           c.requires.filled k c.requires.wide there c.in_ok-push_row-2.ensures.made.ok refl refl refl;
       err = tt;
     }
+
+pub overflow_add-cells : goal.overflow_add-cells
+overflow_add-cells c =
+    let few = few-rows c.args.found.now c.args.cells.now c.requires.within in
+    omega arith
