@@ -13,4 +13,6 @@ pub mod Hash
 pub mod KeySet
 pub mod Lazy
 pub mod LazyCache
+pub mod LazyProps
+pub mod Clearing
 pub mod LazyBuild

@@ -16,6 +16,7 @@ pub mod state_key;
 mod state_list;
 mod step_error;
 mod step_parts;
+mod threads;
 
 pub use automaton::Automaton;
 pub use search::{try_search, try_search_half_fwd, try_search_half_rev};

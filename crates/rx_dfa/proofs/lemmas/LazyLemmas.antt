@@ -16,11 +16,13 @@ use Rattle.rx_nfa.specs.Nfa.{Nfa}
 use Rattle.rx_nfa.proofs.lemmas.classes.ApartLemmas.{one-class-looks}
 use Rattle.rx_determinize.specs.Key.{Key, is_empty, is_dead, step_key, end_key, start_key}
 use Rattle.rx_determinize.specs.Sight.{class_kept, class_beside, stands_for}
+use Rattle.rx_determinize.proofs.lemmas.OnceLemmas.{start-once, step-once}
 use Rattle.rx_determinize.proofs.lemmas.SightLemmas.{class-steps}
 use Rattle.rx_dfa.specs.Alphabet.{reads}
-use Rattle.rx_dfa.specs.Automaton.{Dfa, IsSound, AsksForWords, MakesQuit, IsReadable, next_key, last_key}
-use Rattle.rx_dfa.specs.Lazy.{LazyValue, IsLazySound, StandsFor, IsRowOf, IsDeadState, IsNext, AreCells, IsLive, number_of, offsets, dead_state, unknown, key_after, column_of}
+use Rattle.rx_dfa.specs.Automaton.{Dfa, IsSound, AsksForWords, MakesQuit, IsReadable, sight_of, next_key, last_key}
+use Rattle.rx_dfa.specs.Lazy.{LazyValue, IsLazySound, StandsFor, IsRowOf, row_of, IsDeadState, IsNext, AreCells, IsLive, number_of, offsets, dead_state, unknown, key_after, column_of}
 use Rattle.rx_dfa.proofs.lemmas.ChainLemmas.{got-push, got-old, got-new}
+use Rattle.rx_dfa.proofs.lemmas.FitLemmas.{once-within}
 
 -- Lists.
 
@@ -56,7 +58,8 @@ replicated cells n u i x past got =
 
 pub stands-grow : (stride : ℕ) (keys more : List Key) (state : ℕ) (k : Key) → StandsFor stride keys state k → StandsFor stride (keys ++ more) state k
 stands-grow stride keys more state k (inl d) = inl d
-stands-grow stride keys more state k (inr r) = inr (record { row = r.row; alive = r.alive; key = got-old keys more k r.row r.key; small = r.small; is = r.is })
+stands-grow stride keys more state k (inr r) =
+    inr (record { alive = r.alive; key = got-old keys more k (row_of stride state) r.key; small = r.small; is = r.is })
 
 next-grows : (l : LazyValue) (keys more : List Key) (k : Key) (column state : ℕ) → IsNext l keys k column state → IsNext l (keys ++ more) k column state
 next-grows l keys more k column state n = record {
@@ -160,19 +163,32 @@ unfolding step_key
 live-next d sound k byte lt readable alive below = record {
   alive = alive;
   below = below;
+  few = once-within (length d.nfa.states) (next_key d k byte).threads (step-once d.kind d.nfa.states d.nfa.start_anchored (sight_of d) k byte) below;
   byte = kept-small d sound byte lt;
   readable = kept-readable d sound byte lt readable;
 }
 
 pub live-last : (d : Dfa) (k : Key) → is_dead (last_key d k) ≡ false → All (λ q. q < length d.nfa.states) (last_key d k).threads → IsLive d (last_key d k)
 unfolding end_key
-live-last d k alive below = record { alive = alive; below = below; byte = tt; readable = λ kind asked word. tt }
+live-last d k alive below = record {
+  alive = alive;
+  below = below;
+  few = omega arith;
+  byte = tt;
+  readable = λ kind asked word. tt;
+}
 
 pub live-start : (d : Dfa) (start : ℕ) (loops : Bool) (before : Option ℕ) → is_dead (start_key d.kind d.nfa.states start loops before) ≡ false
     → All (λ q. q < length d.nfa.states) (start_key d.kind d.nfa.states start loops before).threads → IfSome before (λ b. b < 256) → IsReadable d.nfa before
     → IsLive d (start_key d.kind d.nfa.states start loops before)
 unfolding start_key
-live-start d start loops before alive below byte readable = record { alive = alive; below = below; byte = byte; readable = readable }
+live-start d start loops before alive below byte readable = record {
+  alive = alive;
+  below = below;
+  few = once-within (length d.nfa.states) (start_key d.kind d.nfa.states start loops before).threads (start-once d.kind d.nfa.states start loops before) below;
+  byte = byte;
+  readable = readable;
+}
 
 -- what a row may note of its column
 pub next-of : (l : LazyValue) → IsSound l.dfa → (keys : List Key) (k : Key) → IsLive l.dfa k → (byte : Option ℕ) → IfSome byte (λ b. b < 256)

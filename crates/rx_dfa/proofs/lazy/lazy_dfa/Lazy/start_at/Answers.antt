@@ -10,3 +10,7 @@ start-requires-clause-readable c =
     let small : IfSome c.args.beside (λ b. b < 256) = search rules in
     subst (IsReadable d.nfa) (sym c.kept_beside-before.ensures)
     (beside-readable d c.refused.ensures.sound.dfa c.args.beside small c.in_default.ensures.none)
+
+pub returns-in-Some-clause-grown : goal.returns-in-Some-clause-grown
+returns-in-Some-clause-grown c =
+    grown-kept c.args.self.now [] (first_key c.args.self.now.dfa (anchor_of c.args.mode) c.args.beside) None _ c.args.cache.now.rows _ refl refl
