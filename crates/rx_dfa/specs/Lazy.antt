@@ -39,15 +39,15 @@ accounted stride keys = sum_by (state_size stride) keys
 -- Numbers of states. A plain one is the place of its row in the table; that of a state that tells a match is greater by this. No
 -- table has more cells.
 abbrev pub offsets : ℕ
-offsets = 134217728
+offsets = 536870912
 
 -- the dead state, which has no row
 abbrev pub dead_state : ℕ
-dead_state = 268435456
+dead_state = 1073741824
 
 -- what a cell holds whose state was not asked for yet
 abbrev pub unknown : ℕ
-unknown = 402653184
+unknown = 1610612736
 
 -- the number of the state of this row and key
 abbrev pub number_of : (stride row : ℕ) → Key → ℕ

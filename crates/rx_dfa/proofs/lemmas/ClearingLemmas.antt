@@ -3,10 +3,15 @@ use Rattle.std.proofs.Common.{◌≡◌, ℕ, ◌<◌, ◌≤◌, ◌+◌, ◌^�
 use Rattle.std.proofs.Math.Nat.{min-eq_left}
 use Rattle.std.proofs.lemmas.Bool.{cases_lt}
 use Rattle.std.proofs.lemmas.Option.{none-some}
-use Rattle.std.specs.Prelude.{Option, Some, Result, Ok, Err, OnOk, OnErr, IsTrue, ◌↔◌, Bool, true, false, slice_get}
+use Rattle.std.specs.Prelude.{Option, Some, None, Result, Ok, Err, OnOk, OnErr, IsTrue, ◌↔◌, Bool, true, false, slice_get}
+use Rattle.rx_model.specs.Search.{Anchor}
+use Rattle.rx_nfa.specs.NextMatch.{start_of}
 use Rattle.rx_determinize.specs.Key.{Key}
+use Rattle.rx_determinize.specs.Sight.{class_beside}
+use Rattle.rx_determinize.specs.Span.{loops_in}
+use Rattle.rx_dfa.specs.Automaton.{key_from, first_key}
 use Rattle.rx_dfa.specs.Clearing.{counts_of, one_more, told_of, IsKept, IsFull, IsCleared, IsGrown, IsMade, AreCounted, CountsWhereGaveUp}
-use Rattle.rx_dfa.specs.Lazy.{LazyValue, IsNew, state_size}
+use Rattle.rx_dfa.specs.Lazy.{LazyValue, IsNew, begun_key, state_size}
 use Rattle.rx_dfa.specs.declared.lazy.rows.Rows.{Rows}
 use Rattle.rx_dfa.specs.declared.step_error.StepError.{StepError}
 use Rattle.rx_dfa.specs.declared.step_error.StepError.TheVariants.{Quit as QuitsAt, GaveUp as GivesUp, Memory as WantsMemory}
@@ -15,11 +20,11 @@ use Rattle.rx_dfa.proofs.lemmas.ChainLemmas.{got-push}
 -- no room for a state that is not there
 pub full-from : (l : LazyValue) (into : Key) (r : Rows) (b : Bool) → IsNew r.keys into
     → (IsTrue b ↔ r.size + state_size l.stride into ≤ l.capacity) → b ≡ false → IsFull l into r
-full-from l into r b fresh room no = record {
+full-from l into r b fresh room lacks = record {
   is_new = fresh;
   above = elim (cases_lt l.capacity (r.size + state_size l.stride into)) [
     | inl lt ↦ lt
-    | inr le ↦ absurd (true≢false (sym (room.1 le) ∙ no))
+    | inr le ↦ absurd (true≢false (sym (room.1 le) ∙ lacks))
   ];
 }
 
@@ -97,6 +102,16 @@ made-add l from into taken old made new (inl (keys, counts)) more same =
     inl (record { keys = inr (more ∙ ap (λ (ks : List Key). ks ++ into ∷ []) keys); counts = same ∙ counts })
 made-add l from into taken old made new (inr (full, keys, counts)) more same =
     inr (record { full = full; held = 2; keys = more ∙ ap (λ (ks : List Key). ks ++ into ∷ []) keys; counts = same ∙ counts })
+
+-- the same where a search of this mode begins, which forgets what was noted
+pub grown-first : (l : LazyValue) (anchor : Anchor) (beside : Option ℕ) (start : ℕ) (loops : Bool) (before : Option ℕ) (old other new : Rows)
+    → Some start ≡ start_of l.dfa.nfa anchor → loops ≡ loops_in anchor → before ≡ class_beside l.dfa.keeps l.dfa.classes l.dfa.bytes beside
+    → other.keys ≡ old.keys → other.size ≡ old.size → other.clears ≡ old.clears → other.since ≡ None
+    → IsGrown l [] (begun_key l.dfa start loops before) other.since None other new → IsGrown l [] (first_key l.dfa anchor beside) None None old new
+grown-first l anchor beside start loops before old other new begins mode kept keys size clears forgot h =
+    let is : begun_key l.dfa start loops before ≡ first_key l.dfa anchor beside = (λ j. key_from l.dfa.kind l.dfa.nfa.states (mode j) (kept j) (begins j)) in
+    grown-same l [] (first_key l.dfa anchor beside) None None other old new new keys size clears refl refl
+    (subst (λ k. IsGrown l [] k None None other new) is (subst (λ o. IsGrown l [] (begun_key l.dfa start loops before) o None other new) forgot h))
 
 -- Steps that are told as far as a `u64` counts.
 

@@ -7,7 +7,7 @@ use Rattle.std.proofs.lemmas.List.Elements.{All-head, All-tail}
 use Rattle.std.proofs.lemmas.List.Sums.{sum_by_push}
 use Rattle.std.proofs.lemmas.Map.Steps.{length-le_from_distinct_below}
 use Rattle.std.specs.List.{IsDistinct, AllByRecursion, list_any}
-use Rattle.std.specs.Prelude.{Bool, true, false, ◌==◌, All, if◌then◌else◌}
+use Rattle.std.specs.Prelude.{Bool, true, false, ◌||◌, ◌==◌, All, if◌then◌else◌}
 use Rattle.rx_model.proofs.lemmas.runs.RunLemmas.{by_test}
 use Rattle.rx_nfa.specs.Ordered.{has}
 use Rattle.rx_determinize.specs.Key.{Key, AreOnce}
@@ -38,7 +38,7 @@ below-any n (x ∷ xs) below q h =
     (λ e. below-any n xs (All-tail (λ m. m < n) x xs below) q (rest e))
   where
     rest : eqb q x ≡ false → list_any (eqb q) xs ≡ true
-    rest e = rw e at h in h
+    rest e = sym (ap (λ b. b || list_any (eqb q) xs) e) ∙ h
 
 pub once-within : (n : ℕ) (xs : List ℕ) → AreOnce xs → All (λ q. q < n) xs → length xs ≤ n
 once-within n xs once below = length-le_from_distinct_below xs n (once-distinct xs once) (below-any n xs below)

@@ -10,4 +10,4 @@ returns-clause-rows c l = rows-same l c.empty.new.self _ (c.empty.ensures.rows l
 pub returns-clause-counts : goal.returns-clause-counts
 returns-clause-counts c =
     let same : c.empty.new.self.clears ≡ c.args.self.now.clears = ap (λ (p : ℕ × Option ℕ). p.0) c.empty.ensures.counts in
-    ap (λ (n : ℕ). (n, c.args.taken)) (c.saturating_add.ensures ∙ ap one_more same)
+    ap (λ (n : ℕ). (n, c.args.taken)) (c.saturating_add-self.ensures ∙ ap one_more same)

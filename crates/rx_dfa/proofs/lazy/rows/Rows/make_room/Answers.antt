@@ -1,6 +1,6 @@
-use Rattle.std.proofs.Common.{◌≡◌, ◌<◌, ◌+◌, inl, inr, [], ◌∷◌, ◌++◌, refl, sym, ◌∙◌, ap, subst}
+use Rattle.std.proofs.Common.{◌≡◌, ◌<◌, ◌+◌, inl, inr, List, [], ◌∷◌, ◌++◌, refl, sym, ◌∙◌, ap, subst}
 use Rattle.std.specs.Prelude.{Some, slice_get}
-use Rattle.rx_dfa.specs.Clearing.{counts_of}
+use Rattle.rx_dfa.specs.Clearing.{counts_of, one_more}
 use Rattle.rx_dfa.specs.Lazy.{state_size}
 use Rattle.rx_dfa.specs.LazyCache.{AreRowsOf}
 use Rattle.rx_dfa.specs.StateKey.{key_of}
@@ -67,7 +67,7 @@ returns-then-is_err-clause-grown c =
       full = full-from l into c.args.self.now c.has_room.result c.requires.into c.has_room.ensures.room c.if-has_room.false;
       held = 0;
       keys = keys ∙ c.clear.ensures.empty;
-      counts = c.add.ensures.counts ∙ c.clear.ensures.counts;
+      counts = c.add.ensures.counts ∙ c.clear.ensures.counts ∙ ap (λ (r : Rows). (one_more r.clears, Some c.args.taken)) c.is_to_give_up.ensures.same;
     })
 
 pub returns-clause-from : goal.returns-clause-from
@@ -101,5 +101,5 @@ returns-clause-made c =
     inr (
       full-from l into c.args.self.now c.has_room.result c.requires.into c.has_room.ensures.room c.if-has_room.false,
       keys ∙ ap (λ (ks : List Key). ks ++ from ∷ []) c.clear.ensures.empty,
-      c.add.ensures.counts ∙ c.clear.ensures.counts,
+      c.add.ensures.counts ∙ c.clear.ensures.counts ∙ ap (λ (r : Rows). (one_more r.clears, Some c.args.taken)) c.is_to_give_up.ensures.same,
     )
