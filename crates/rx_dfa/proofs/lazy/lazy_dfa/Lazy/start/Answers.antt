@@ -1,5 +1,5 @@
 use Rattle.std.proofs.Common.{◌≡◌, ◌<◌, List, [], length, refl, sym, ◌∙◌, ap, subst}
-use Rattle.std.specs.Prelude.{All}
+use Rattle.std.specs.Prelude.{All, None}
 use Rattle.rx_nfa.specs.declared.state.State.{State}
 use Rattle.rx_determinize.specs.Key.{Key, is_dead, start_key}
 use Rattle.rx_dfa.specs.Clearing.{IsGrown}
@@ -39,7 +39,8 @@ returns-in_err-state-clause-grown c =
     let d = c.args.self.now.dfa in
     let is : key_of c.start.new.into ≡ start_key d.kind d.nfa.states c.args.start c.args.loops c.args.before =
     c.in_ok-start.ensures.key ∙ (λ j. start_key (c.source.ensures.kind j) (c.source.ensures.states j) c.args.start c.args.loops c.args.before) in
-    subst (λ (x : Key). IsGrown c.args.self.now [] x _ _ _ _) is c.enter.ensures.grown
+    let r = c.args.cache.now.rows in
+    subst (λ (x : Key). IsGrown c.args.self.now [] x r.since None r c.enter.new.cache.rows) is c.enter.ensures.grown
 
 pub returns-in_err-note_start-clause-grown : goal.returns-in_err-note_start-clause-grown
 returns-in_err-note_start-clause-grown c =
@@ -47,9 +48,9 @@ returns-in_err-note_start-clause-grown c =
     let r = c.args.cache.now.rows in
     let is : key_of c.start.new.into ≡ start_key d.kind d.nfa.states c.args.start c.args.loops c.args.before =
     c.in_ok-start.ensures.key ∙ (λ j. start_key (c.source.ensures.kind j) (c.source.ensures.states j) c.args.start c.args.loops c.args.before) in
-    grown-same c.args.self.now [] (begun_key d c.args.start c.args.loops c.args.before) r.since _ r r c.enter.new.cache.rows c.note_start.new.self refl
+    grown-same c.args.self.now [] (begun_key d c.args.start c.args.loops c.args.before) r.since None r r c.enter.new.cache.rows c.note_start.new.self refl
     refl refl c.note_start.ensures.keys c.note_start.ensures.counts
-    (subst (λ (x : Key). IsGrown c.args.self.now [] x r.since _ r c.enter.new.cache.rows) is c.enter.ensures.grown)
+    (subst (λ (x : Key). IsGrown c.args.self.now [] x r.since None r c.enter.new.cache.rows) is c.enter.ensures.grown)
 
 pub returns-clause-grown : goal.returns-clause-grown
 returns-clause-grown c =
@@ -57,6 +58,6 @@ returns-clause-grown c =
     let r = c.args.cache.now.rows in
     let is : key_of c.start.new.into ≡ start_key d.kind d.nfa.states c.args.start c.args.loops c.args.before =
     c.in_ok-start.ensures.key ∙ (λ j. start_key (c.source.ensures.kind j) (c.source.ensures.states j) c.args.start c.args.loops c.args.before) in
-    grown-same c.args.self.now [] (begun_key d c.args.start c.args.loops c.args.before) r.since _ r r c.enter.new.cache.rows c.note_start.new.self refl
+    grown-same c.args.self.now [] (begun_key d c.args.start c.args.loops c.args.before) r.since None r r c.enter.new.cache.rows c.note_start.new.self refl
     refl refl c.note_start.ensures.keys c.note_start.ensures.counts
-    (subst (λ (x : Key). IsGrown c.args.self.now [] x r.since _ r c.enter.new.cache.rows) is c.enter.ensures.grown)
+    (subst (λ (x : Key). IsGrown c.args.self.now [] x r.since None r c.enter.new.cache.rows) is c.enter.ensures.grown)

@@ -21,15 +21,15 @@ returns-in-Some-clause-grown c =
 pub returns-in-Ok-clause-grown : goal.returns-in-Ok-clause-grown
 returns-in-Ok-clause-grown c =
     let d = c.args.self.now.dfa in
-    let begins : Some c.in-Some.start ≡ start_of d.nfa (anchor_of c.args.mode) = c.in-Some.ensures.value in
-    grown-first c.args.self.now (anchor_of c.args.mode) c.args.beside c.in-Some.start (not c.is_anchored.result) c.kept_beside-before.result
+    let begins : Some c.in-Some-start_of.start ≡ start_of d.nfa (anchor_of c.args.mode) = c.in-Some-start_of.ensures.value in
+    grown-first c.args.self.now (anchor_of c.args.mode) c.args.beside c.in-Some-start_of.start (not c.is_anchored.result) c.kept_beside-before.result
     c.args.cache.now.rows (record c.args.cache.now.rows { since = None }) c.start.new.cache.rows begins (ap not c.is_anchored.ensures)
     c.kept_beside-before.ensures refl refl refl refl c.start.ensures.grown
 
 pub returns-in-Err-clause-grown : goal.returns-in-Err-clause-grown
 returns-in-Err-clause-grown c =
     let d = c.args.self.now.dfa in
-    let begins : Some c.in-Some.start ≡ start_of d.nfa (anchor_of c.args.mode) = c.in-Some.ensures.value in
-    grown-first c.args.self.now (anchor_of c.args.mode) c.args.beside c.in-Some.start (not c.is_anchored.result) c.kept_beside-before.result
+    let begins : Some c.in-Some-start_of.start ≡ start_of d.nfa (anchor_of c.args.mode) = c.in-Some-start_of.ensures.value in
+    grown-first c.args.self.now (anchor_of c.args.mode) c.args.beside c.in-Some-start_of.start (not c.is_anchored.result) c.kept_beside-before.result
     c.args.cache.now.rows (record c.args.cache.now.rows { since = None }) c.start.new.cache.rows begins (ap not c.is_anchored.ensures)
     c.kept_beside-before.ensures refl refl refl refl c.start.ensures.grown
