@@ -1,11 +1,11 @@
 -- What a lazy DFA is to a contract, and what its cache holds.
-use Rattle.std.specs.Prelude.{◌≡◌, ◌≢◌, ◌⊎◌, ℕ, ◌+◌, ◌*◌, ◌^◌, ◌/◌, ◌%◌, ◌<◌, ◌≤◌, Bool, true, false, List, [], length, Option, Some, None, IfSome, if◌then◌else◌, slice_get, slice_index}
+use Rattle.std.specs.Prelude.{◌≡◌, ◌≢◌, ◌⊎◌, ℕ, ◌+◌, ◌*◌, ◌^◌, ◌/◌, ◌%◌, ◌<◌, ◌≤◌, Bool, true, false, List, length, Option, Some, None, IfSome, if◌then◌else◌, slice_get, slice_index}
 use Rattle.std.specs.List.{sum_by}
 use Rattle.rx_search.specs.ByteClasses.{alphabet_len}
 use Rattle.rx_nfa.specs.Nfa.{Nfa}
 use Rattle.rx_nfa.specs.Ordered.{AreBelow}
 use Rattle.rx_determinize.specs.Key.{Key, is_empty, is_dead, start_key}
-use Rattle.rx_dfa.specs.Automaton.{Dfa, IsSound, AsksForWords, IsReadable, next_key, last_key}
+use Rattle.rx_dfa.specs.Automaton.{Dfa, IsSound, IsReadable, next_key, last_key}
 
 pub record LazyValue : Type 0 where
   pub dfa : Dfa

@@ -1,5 +1,5 @@
 -- What the cache of a lazy DFA holds.
-use Rattle.std.specs.Prelude.{◌≡◌, ◌≢◌, ℕ, ◌+◌, ◌*◌, ◌<◌, ◌≤◌, List, [], length, Option, Some, None, slice_get}
+use Rattle.std.specs.Prelude.{◌≡◌, ℕ, ◌+◌, ◌*◌, ◌<◌, ◌≤◌, [], length, Some, None, slice_get}
 use Rattle.rx_determinize.specs.Key.{Key}
 use Rattle.rx_dfa.specs.Scratch.{room_of}
 use Rattle.rx_dfa.specs.Lazy.{LazyValue, StandsFor, begun_key, AreCells, IsLive, state_size, accounted, offsets}

@@ -1,5 +1,5 @@
 -- That a cache fits an automaton has one proof at most, so that a struct may keep it.
-use Rattle.std.specs.Prelude.{◌≡◌, ◌⊎◌, ℕ, List, Option, Some, None}
+use Rattle.std.specs.Prelude.{ℕ, List, Option, Some, None}
 use Rattle.std.proofs.Common.{inl, inr, sym, ◌∙◌, ap, true≢false}
 use Rattle.std.proofs.Props.{props}
 use Rattle.rx_model.specs.Beside.{IsAsciiOrNone}

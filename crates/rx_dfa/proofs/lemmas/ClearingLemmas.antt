@@ -1,16 +1,16 @@
 -- What a call does to the states that a cache holds.
-use Rattle.std.proofs.Common.{◌≡◌, ℕ, ◌<◌, ◌≤◌, ◌+◌, ◌^◌, ◌-◌, inl, inr, List, [], ◌∷◌, ◌++◌, refl, sym, ◌∙◌, ap, subst, min, arith, true≢false}
+use Rattle.std.proofs.Common.{◌≡◌, ℕ, ◌<◌, ◌≤◌, ◌+◌, ◌^◌, ◌-◌, inl, inr, List, [], ◌∷◌, ◌++◌, refl, sym, ◌∙◌, ap, subst, arith, true≢false}
 use Rattle.std.proofs.Math.Nat.{min-eq_left}
 use Rattle.std.proofs.lemmas.Bool.{cases_lt}
 use Rattle.std.proofs.lemmas.Option.{none-some}
-use Rattle.std.specs.Prelude.{Option, Some, None, Result, Ok, Err, OnOk, OnErr, IsTrue, ◌↔◌, Bool, true, false, slice_get}
+use Rattle.std.specs.Prelude.{Option, Some, None, Result, Ok, Err, OnOk, OnErr, IsTrue, ◌↔◌, Bool, false, slice_get}
 use Rattle.rx_model.specs.Search.{Anchor}
 use Rattle.rx_nfa.specs.NextMatch.{start_of}
 use Rattle.rx_determinize.specs.Key.{Key}
 use Rattle.rx_determinize.specs.Sight.{class_beside}
 use Rattle.rx_determinize.specs.Span.{loops_in}
 use Rattle.rx_dfa.specs.Automaton.{key_from, first_key}
-use Rattle.rx_dfa.specs.Clearing.{counts_of, one_more, told_of, IsKept, IsFull, IsCleared, IsGrown, IsMade, AreCounted, CountsWhereGaveUp}
+use Rattle.rx_dfa.specs.Clearing.{counts_of, one_more, told_of, IsFull, IsGrown, IsMade, AreCounted, CountsWhereGaveUp}
 use Rattle.rx_dfa.specs.Lazy.{LazyValue, IsNew, begun_key, state_size}
 use Rattle.rx_dfa.specs.declared.lazy.rows.Rows.{Rows}
 use Rattle.rx_dfa.specs.declared.step_error.StepError.{StepError}

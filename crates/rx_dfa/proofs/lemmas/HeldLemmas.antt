@@ -1,5 +1,5 @@
 -- The states of a cache by their numbers.
-use Rattle.std.proofs.Common.{◌≡◌, ◌≢◌, ℕ, ◌+◌, ◌*◌, ◌%◌, ◌/◌, ◌≤◌, ◌<◌, inl, inr, List, [], ◌∷◌, length, refl, sym, ◌∙◌, ap, subst, arith, true≢false}
+use Rattle.std.proofs.Common.{◌≡◌, ◌≢◌, ℕ, ◌+◌, ◌*◌, ◌%◌, ◌/◌, ◌≤◌, ◌<◌, inl, inr, List, [], length, refl, sym, ◌∙◌, ap, subst, arith, true≢false}
 use Rattle.std.proofs.lemmas.Nat.{div-mul-add, mod-mul-add}
 use Rattle.std.proofs.lemmas.Option.{slice_get_within}
 use Rattle.std.proofs.lemmas.Bool.Decides.{Decides-eqb, nat_tests}
@@ -9,9 +9,9 @@ use Rattle.rx_search.specs.declared.anchored.MatchKind.{MatchKind}
 use Rattle.rx_search.specs.declared.anchored.MatchKind.TheVariants.{All, LeftmostFirst}
 use Rattle.rx_nfa.specs.Ordered.{threads_from}
 use Rattle.rx_nfa.specs.declared.state.State.{State}
-use Rattle.rx_determinize.specs.Key.{Key, is_empty, is_dead, step_key, end_key, matching}
+use Rattle.rx_determinize.specs.Key.{Key, is_empty, is_dead, end_key, matching}
 use Rattle.rx_determinize.proofs.lemmas.DeadLemmas.{no-thread, threads-nil}
-use Rattle.rx_dfa.specs.Automaton.{Dfa, IsReadable, sight_of, next_key, last_key}
+use Rattle.rx_dfa.specs.Automaton.{Dfa, IsReadable, sight_of}
 use Rattle.rx_dfa.specs.Lazy.{LazyValue, IsLazySound, StandsFor, IsRowOf, IsNext, row_of, number_of, offsets, dead_state, unknown, key_after, column_of}
 use Rattle.rx_dfa.specs.LazyCache.{AreRowsOf}
 use Rattle.rx_dfa.specs.declared.lazy.rows.Rows.{Rows}
@@ -155,15 +155,17 @@ cell-of l sound r h state k stands apart byte small column at narrow place is =
     let row = row_of l.stride state in
     let below : row < length r.keys = slice_get_within r.keys row k held.0 in
     let begins : place ≡ row * l.stride = is ∙ held.2 in
-    let index : place + column ≡ row * l.stride + column_of l.dfa byte = (λ j. begins j + at j) in
-    (subst (λ n. n + column < length r.cells.items) (sym begins) (inside (length r.keys) l.stride row column (length r.cells.items) h.len below narrow),
+    let index : place + column ≡ row * l.stride + column_of l.dfa byte = (λ j. begins j + at j) in (
+      subst (λ n. n + column < length r.cells.items) (sym begins) (inside (length r.keys) l.stride row column (length r.cells.items) h.len below narrow),
       λ known got asked. cell-told l r h row k held.0 byte small (subst (λ n. n < l.stride) at narrow) known (ap (slice_get r.cells.items) (sym index) ∙ got)
-          asked)
+          asked,
+    )
 
 -- a state whose row is there still stands for its key
 pub stands-still : (l : LazyValue) → IsLazySound l → (r : Rows) → AreRowsOf l r → (row : ℕ) (k : Key) → slice_get r.keys row ≡ Some k
     → (number : ℕ) × StandsFor l.stride r.keys number k
-stands-still l sound r h row k got =
-    (number_of l.stride row k,
-      stands-row l.stride (wide l sound) r.keys row k (h.keys row k got).alive got (row-small l sound r h row (slice_get_within r.keys row k got))
-          (number_of l.stride row k) refl)
+stands-still l sound r h row k got = (
+  number_of l.stride row k,
+  stands-row l.stride (wide l sound) r.keys row k (h.keys row k got).alive got (row-small l sound r h row (slice_get_within r.keys row k got))
+      (number_of l.stride row k) refl,
+)

@@ -1,27 +1,26 @@
 -- What the cells of a lazy DFA hold.
-use Rattle.std.proofs.Common.{◌≡◌, ◌≢◌, ℕ, zero, suc, ◌+◌, ◌-◌, ◌*◌, ◌%◌, ◌/◌, ◌≤◌, ◌<◌, ◌⊎◌, inl, inr, List, [], ◌∷◌, ◌++◌, length, set, get_or, replicate, refl, sym, ◌∙◌, ap, subst, arith, true≢false}
+use Rattle.std.proofs.Common.{◌≡◌, ◌≢◌, ℕ, zero, suc, ◌+◌, ◌-◌, ◌*◌, ◌%◌, ◌/◌, ◌≤◌, ◌<◌, inl, inr, List, [], ◌∷◌, ◌++◌, length, set, get_or, replicate, refl, sym, ◌∙◌, ap, subst, arith, true≢false}
 use Rattle.std.proofs.lemmas.Bool.{cases_lt, cases_eq}
-use Rattle.std.proofs.lemmas.List.{length_push, length-append, length-replicate, get_or-append_right}
-use Rattle.std.proofs.lemmas.Nat.{mod_below, div_below, div-mul-add, mod-mul-add}
-use Rattle.std.proofs.lemmas.Option.{same_Some, none-some, slice_get_within, get_or_from_slice_get}
-use Rattle.std.specs.Prelude.{Bool, true, false, Option, Some, None, All, IfSome, IsTrue, slice_get, slice_index, nat_lt, if◌then◌else◌}
+use Rattle.std.proofs.lemmas.List.{get_or-append_right}
+use Rattle.std.proofs.lemmas.Nat.{div_below, div-mul-add, mod-mul-add}
+use Rattle.std.proofs.lemmas.Option.{same_Some, get_or_from_slice_get}
+use Rattle.std.specs.Prelude.{Bool, true, false, Option, Some, None, All, IfSome, IsTrue, slice_get, slice_index, nat_lt}
 use Rattle.std.proofs.lemmas.Bool.Decides.{nat_tests}
 use Rattle.rx_model.proofs.lemmas.runs.RunLemmas.{by_test}
 use Rattle.rx_model.specs.Look as model
 use Rattle.rx_model.specs.Look.{start_text, end_text, start_lf, end_lf, start_crlf, end_crlf, word_ascii, word_ascii_negate, word_unicode, word_unicode_negate, word_start_ascii, word_end_ascii, word_start_unicode, word_end_unicode, word_start_half_ascii, word_end_half_ascii, word_start_half_unicode, word_end_half_unicode}
-use Rattle.rx_model.specs.Beside.{is_unicode_word, AreAlike, IsAsciiOrNone}
-use Rattle.rx_search.specs.LookSet.{has}
+use Rattle.rx_model.specs.Beside.{is_unicode_word, AreAlike}
 use Rattle.rx_nfa.specs.ByteClasses.{AreOfOneClass}
 use Rattle.rx_nfa.specs.Nfa.{Nfa}
 use Rattle.rx_nfa.proofs.lemmas.classes.ApartLemmas.{one-class-looks}
-use Rattle.rx_determinize.specs.Key.{Key, is_empty, is_dead, step_key, end_key, start_key}
+use Rattle.rx_determinize.specs.Key.{Key, is_dead, step_key, end_key, start_key}
 use Rattle.rx_determinize.specs.Sight.{class_kept, class_beside, stands_for}
 use Rattle.rx_determinize.proofs.lemmas.OnceLemmas.{start-once, step-once}
 use Rattle.rx_determinize.proofs.lemmas.SightLemmas.{class-steps}
 use Rattle.rx_dfa.specs.Alphabet.{reads}
 use Rattle.rx_dfa.specs.Automaton.{Dfa, IsSound, AsksForWords, MakesQuit, IsReadable, sight_of, next_key, last_key}
-use Rattle.rx_dfa.specs.Lazy.{LazyValue, IsLazySound, StandsFor, IsRowOf, row_of, IsDeadState, IsNext, AreCells, IsLive, number_of, offsets, dead_state, unknown, key_after, column_of}
-use Rattle.rx_dfa.proofs.lemmas.ChainLemmas.{got-push, got-old, got-new}
+use Rattle.rx_dfa.specs.Lazy.{LazyValue, StandsFor, row_of, IsNext, AreCells, IsLive, unknown, key_after, column_of}
+use Rattle.rx_dfa.proofs.lemmas.ChainLemmas.{got-old}
 use Rattle.rx_dfa.proofs.lemmas.FitLemmas.{once-within}
 
 -- Lists.

@@ -32,11 +32,7 @@ impl Automaton for Lazy {
 
     ghost wants = { λ l. Unit {0} };
 
-    fn start_forward(
-        &self,
-        cache: &mut LazyCache,
-        input: &Input<'_>,
-    ) -> Result<StateID, MatchError>
+    fn start_forward(&self, cache: &mut LazyCache, input: &Input<'_>) -> Result<StateID, MatchError>
         requires { IsCacheOf self.now cache.old }
         ensures sound { IsSound self.now.dfa }
         ensures start { IfOk result (λ state. StandsFor self.now.stride cache.new.rows.keys state
@@ -54,11 +50,7 @@ impl Automaton for Lazy {
         self.start_at(cache, input.get_anchored(), before, place_before(start))
     }
 
-    fn start_reverse(
-        &self,
-        cache: &mut LazyCache,
-        input: &Input<'_>,
-    ) -> Result<StateID, MatchError>
+    fn start_reverse(&self, cache: &mut LazyCache, input: &Input<'_>) -> Result<StateID, MatchError>
         requires { IsCacheOf self.now cache.old }
         ensures sound { IsSound self.now.dfa }
         ensures start { IfOk result (λ state. StandsFor self.now.stride cache.new.rows.keys state

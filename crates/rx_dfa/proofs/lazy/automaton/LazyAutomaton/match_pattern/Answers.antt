@@ -1,7 +1,7 @@
 use Rattle.std.proofs.Common.{◌≡◌, ◌<◌, ◌/◌, length, sym, ◌∙◌, ap, subst}
 use Rattle.std.proofs.lemmas.Bool.Decides.{Decides-eqb}
 use Rattle.std.proofs.lemmas.Option.{slice_get_within}
-use Rattle.std.specs.Prelude.{Some, slice_get}
+use Rattle.std.specs.Prelude.{slice_get}
 use Rattle.rx_dfa.specs.Lazy.{dead_state, row_of}
 use Rattle.rx_dfa.proofs.lemmas.CourseLemmas.{dead-matches}
 use Rattle.rx_dfa.proofs.lemmas.HeldLemmas.{alive-apart, held-dead, held-row}

@@ -1,5 +1,5 @@
-use Rattle.std.proofs.Common.{◌≡◌, ℕ, refl, sym, ◌∙◌, ap, rules}
-use Rattle.std.specs.Prelude.{Option, Some, None}
+use Rattle.std.proofs.Common.{◌≡◌, refl, sym, ◌∙◌, ap, rules}
+use Rattle.std.specs.Prelude.{Some, None}
 use Rattle.rx_dfa.specs.Scratch.{room_with}
 use Rattle.rx_dfa.proofs.lemmas.RowsLemmas.{rows-same}
 use Rattle.rx_dfa.proofs.lazy.lazy_cache.LazyCache.renew.Goals as goal
