@@ -13,6 +13,8 @@ pub mod KeyLemmas
 pub mod AlphabetLemmas
 pub mod KeyRowLemmas
 pub mod ChainLemmas
+pub mod FitLemmas
+pub mod ClearingLemmas
 pub mod LazyLemmas
 pub mod RowsLemmas
 pub mod HeldLemmas

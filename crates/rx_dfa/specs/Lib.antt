@@ -13,6 +13,8 @@ pub mod Hash
 pub mod KeySet
 pub mod Lazy
 pub mod LazyCache
+pub mod LazyProps
+pub mod Clearing
 pub mod LazyBuild
 pub mod Dense
 pub mod Found

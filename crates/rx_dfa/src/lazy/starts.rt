@@ -1,5 +1,6 @@
 //! The starts that a cache knows.
 ghost use Rattle.std.specs.Prelude.{◌≡◌, ◌↔◌, IsTrue, IfSome};
+ghost use Rattle.rx_dfa.specs.Clearing.{counts_of};
 ghost use Rattle.rx_dfa.specs.Lazy.{LazyValue, StandsFor, begun_key};
 ghost use Rattle.rx_dfa.specs.LazyCache.{AreRowsOf};
 
@@ -31,6 +32,7 @@ impl Rows {
         requires state { StandsFor lazy.now.stride self.old.keys start.state (begun_key lazy.now.dfa start.start start.loops start.before) }
         ensures rows { AreRowsOf lazy.now self.new }
         ensures keys { self.new.keys ≡ self.old.keys }
+        ensures counts { counts_of self.new ≡ counts_of self.old }
     {
         let is_full = self.starts.len() >= STARTS;
         if is_full {
