@@ -1,10 +1,10 @@
 -- The states that were found while a table is made.
-use Rattle.std.specs.Prelude.{◌≡◌, ◌⊎◌, ℕ, ◌+◌, ◌<◌, Bool, true, false, List, ◌∷◌, ◌++◌, [], map, length, Option, Some, None, slice_get}
+use Rattle.std.specs.Prelude.{◌≡◌, ◌⊎◌, ℕ, ◌+◌, ◌<◌, true, false, List, ◌∷◌, ◌++◌, [], map, length, Option, Some, None, slice_get}
 use Rattle.std.specs.Prelude.{Result, IfOk, IfErr}
-use Rattle.rx_determinize.specs.Key.{Key, is_dead}
+use Rattle.rx_determinize.specs.Key.{Key}
 use Rattle.rx_dfa.specs.Automaton.{Dfa, no_key}
 use Rattle.rx_dfa.specs.StateKey.{key_of}
-use Rattle.rx_dfa.specs.States.{is_special, IsState, AreStates}
+use Rattle.rx_dfa.specs.States.{is_special, AreStates}
 use Rattle.rx_dfa.specs.Table.{IsRow}
 use Rattle.rx_dfa.specs.Numbers.{second}
 use Rattle.rx_dfa.specs.Dense.{size_of, IsWithin, IsRefused}

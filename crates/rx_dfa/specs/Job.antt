@@ -1,5 +1,5 @@
 -- What a table is made of.
-use Rattle.std.specs.Prelude.{◌≡◌, ℕ, Bool, true, false}
+use Rattle.std.specs.Prelude.{◌≡◌, Bool, true, false}
 use Rattle.rx_dfa.specs.Automaton.{Dfa, IsSound, AsksForWords}
 use Rattle.rx_dfa.specs.declared.dense.job.Job.{Job}
 

@@ -1,6 +1,6 @@
 -- What is built is a full DFA.
-use Rattle.std.proofs.Common.{◌≡◌, ℕ, ◌+◌, ◌*◌, ◌^◌, ◌<◌, ◌≤◌, inl, inr, List, [], ◌++◌, map, length, refl, sym, ◌∙◌, ap, subst, arith, true≢false}
-use Rattle.std.specs.Prelude.{Bool, true, false, Option, Some, None, slice_get, slice_index}
+use Rattle.std.proofs.Common.{◌≡◌, ℕ, ◌+◌, ◌*◌, ◌^◌, ◌<◌, ◌≤◌, inl, inr, List, map, length, sym, ◌∙◌, ap, subst, arith, true≢false}
+use Rattle.std.specs.Prelude.{Bool, true, false, Option, Some, None, slice_get}
 use Rattle.std.specs.Option.{option_map}
 use Rattle.std.proofs.lemmas.List.{length-append, length-map}
 use Rattle.std.proofs.lemmas.Option.{slice_get-map, slice_get_within}
@@ -12,7 +12,7 @@ use Rattle.rx_dfa.specs.Automaton.{Dfa, no_key}
 use Rattle.rx_dfa.specs.Alphabet.{IsAlphabetOf, dfa_of}
 use Rattle.rx_dfa.specs.StateKey.{key_of}
 use Rattle.rx_dfa.specs.States.{is_special, AreStates}
-use Rattle.rx_dfa.specs.Table.{quit, IsRow, AreRows, AreStarts, Holds, IsDense}
+use Rattle.rx_dfa.specs.Table.{quit, IsRow, AreRows, AreStarts, IsDense}
 use Rattle.rx_dfa.specs.Found.{plain_keys, special_keys, AreFound}
 use Rattle.rx_dfa.specs.DenseView.{value_of}
 use Rattle.rx_dfa.specs.Dense.{IsWithin, IsFullTable}

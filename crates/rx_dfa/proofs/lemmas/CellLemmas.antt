@@ -1,15 +1,14 @@
 -- What is made of a cell, and how far an error of a part is one of the whole.
-use Rattle.std.proofs.Common.{◌≡◌, ℕ, ◌+◌, ◌<◌, List, length, refl, sym, ◌∙◌, ap, subst, arith}
-use Rattle.std.specs.Prelude.{Bool, true, false, Option, Some, None, Result, Ok, Err, IfOk, IfErr, slice_index}
-use Rattle.std.proofs.lemmas.Result.{IfOk-weaker, IfErr-weaker}
+use Rattle.std.proofs.Common.{◌≡◌, ℕ, ◌<◌, length, refl, sym, ◌∙◌, ap, subst}
+use Rattle.std.specs.Prelude.{Bool, true, false, Option, Result, Ok, slice_index}
+use Rattle.std.proofs.lemmas.Result.{IfOk-weaker}
 use Rattle.rx_nfa.specs.Ordered.{AreBelow}
 use Rattle.rx_determinize.specs.Key.{Key, is_dead, start_key}
 use Rattle.rx_dfa.specs.Automaton.{Dfa, next_key, last_key}
 use Rattle.rx_dfa.specs.Alphabet.{reads}
 use Rattle.rx_dfa.specs.States.{IsRead, IsState}
 use Rattle.rx_dfa.specs.Table.{quit, IsCell}
-use Rattle.rx_dfa.specs.Dense.{IsRefused}
-use Rattle.rx_dfa.specs.Found.{IsNumber, AreFound, Grows, IsMade}
+use Rattle.rx_dfa.specs.Found.{IsNumber, AreFound, IsMade}
 use Rattle.rx_dfa.specs.Job.{IsServed}
 use Rattle.rx_dfa.specs.Work.{IsStart, IsContext}
 use Rattle.rx_dfa.specs.declared.dense.error.BuildError.{BuildError}

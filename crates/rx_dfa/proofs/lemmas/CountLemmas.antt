@@ -1,6 +1,6 @@
 -- Why a build refuses: the states of a table are no more than all states are.
-use Rattle.std.proofs.Common.{◌≡◌, ℕ, ◌+◌, ◌*◌, ◌^◌, ◌<◌, ◌≤◌, List, [], ◌∷◌, length, get_or, refl, sym, ◌∙◌, ap, subst, arith, true≢false}
-use Rattle.std.specs.Prelude.{Bool, true, false, Option, Some, None, slice_get}
+use Rattle.std.proofs.Common.{◌≡◌, ℕ, ◌+◌, ◌^◌, ◌<◌, ◌≤◌, List, length, get_or, refl, sym, ◌∙◌, ap, subst, arith, true≢false}
+use Rattle.std.specs.Prelude.{Bool, Option, Some, None, slice_get}
 use Rattle.std.proofs.lemmas.List.Elements.{All-nil}
 use Rattle.std.proofs.lemmas.Option.{slice_get-get_or, slice_get_within}
 use Rattle.std.proofs.Math.Nat.{mul-le-mul_left}
@@ -10,11 +10,11 @@ use Rattle.rx_search.specs.ByteClasses.{alphabet_len, IsLeastPower}
 use Rattle.rx_search.specs.declared.anchored.MatchKind.{MatchKind}
 use Rattle.rx_nfa.specs.Nfa.{Nfa, IsInRange}
 use Rattle.rx_determinize.specs.Key.{Key}
-use Rattle.rx_dfa.specs.Automaton.{Dfa, IsSound, no_key}
+use Rattle.rx_dfa.specs.Automaton.{Dfa, no_key}
 use Rattle.rx_dfa.specs.Alphabet.{IsAlphabetOf, dfa_of}
 use Rattle.rx_dfa.specs.States.{IsState, AreStates}
 use Rattle.rx_dfa.specs.Job.{IsServed}
-use Rattle.rx_dfa.specs.Dense.{IsDfaOf, size_of, IsTooBig, IsRefused, HasAll, IsAbove, IsNoTable}
+use Rattle.rx_dfa.specs.Dense.{IsDfaOf, size_of, IsTooBig, IsRefused, HasAll, IsNoTable}
 use Rattle.rx_dfa.specs.declared.alphabet.Alphabet.{Alphabet}
 use Rattle.rx_dfa.specs.declared.dense.error.BuildError.{BuildError}
 use Rattle.rx_dfa.specs.declared.dense.error.BuildError.TheVariants.{TooBig, Memory}

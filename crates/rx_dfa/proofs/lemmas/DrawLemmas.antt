@@ -1,6 +1,6 @@
 -- The table that is made of all rows, where none stands at first.
-use Rattle.std.proofs.Common.{◌≡◌, ℕ, ◌+◌, ◌*◌, ◌<◌, ◌≤◌, List, [], ◌∷◌, ◌++◌, length, refl, sym, ◌∙◌, ap, subst, arith}
-use Rattle.std.specs.Prelude.{Bool, Option, Result, Ok, Err, IfOk, IfErr, slice_get}
+use Rattle.std.proofs.Common.{◌≡◌, ℕ, List, [], sym, subst, arith}
+use Rattle.std.specs.Prelude.{Bool, Result, Ok, Err, IfOk, IfErr}
 use Rattle.rx_search.specs.declared.anchored.MatchKind.{MatchKind}
 use Rattle.rx_nfa.specs.Nfa.{Nfa}
 use Rattle.rx_nfa.specs.declared.state.State.{State}
@@ -8,9 +8,8 @@ use Rattle.rx_determinize.specs.Key.{Key}
 use Rattle.rx_dfa.specs.Automaton.{Dfa}
 use Rattle.rx_dfa.specs.Alphabet.{dfa_of}
 use Rattle.rx_dfa.specs.Table.{AreRows}
-use Rattle.rx_dfa.specs.Dense.{IsRefused}
 use Rattle.rx_dfa.specs.Found.{plain_keys, special_keys, IsNumber, AreFound, IsMade}
-use Rattle.rx_dfa.specs.Work.{AreFilled, AreWithin, AreDrawn}
+use Rattle.rx_dfa.specs.Work.{AreFilled, AreDrawn}
 use Rattle.rx_dfa.specs.declared.alphabet.Alphabet.{Alphabet}
 use Rattle.rx_dfa.specs.declared.dense.build.Drawn.{Drawn}
 use Rattle.rx_dfa.specs.declared.dense.error.BuildError.{BuildError}

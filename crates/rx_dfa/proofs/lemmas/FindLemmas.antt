@@ -1,5 +1,5 @@
 -- What is found of a key, by the sort of its state.
-use Rattle.std.proofs.Common.{◌≡◌, ℕ, zero, suc, ◌+◌, ◌*◌, ◌<◌, ◌≤◌, ◌⊎◌, inl, inr, List, [], ◌∷◌, ◌++◌, map, length, refl, sym, ◌∙◌, ap, subst, arith, true≢false}
+use Rattle.std.proofs.Common.{◌≡◌, ℕ, ◌+◌, ◌*◌, inl, inr, List, [], ◌∷◌, ◌++◌, length, refl, sym, ◌∙◌, ap, subst, arith, true≢false}
 use Rattle.std.specs.Prelude.{Bool, true, false, ◌||◌, not, ◌==◌, Option, Some, None, slice_get, Result, IfOk, IfErr}
 use Rattle.std.proofs.lemmas.List.{length-append, length-map}
 use Rattle.std.proofs.lemmas.Result.{IfOk-weaker, IfErr-weaker}
@@ -7,17 +7,15 @@ use Rattle.rx_model.proofs.lemmas.runs.FirstLemmas.{none-is-some}
 use Rattle.rx_determinize.specs.Key.{Key, is_dead, is_empty}
 use Rattle.rx_dfa.specs.Automaton.{Dfa, no_key}
 use Rattle.rx_dfa.specs.StateKey.{key_of}
-use Rattle.rx_dfa.specs.States.{canonical, is_special, IsState, AreStates}
-use Rattle.rx_dfa.specs.Table.{IsRow}
-use Rattle.rx_dfa.specs.Numbers.{second}
-use Rattle.rx_dfa.specs.Dense.{size_of, IsTooBig, IsWithin, IsRefused}
-use Rattle.rx_dfa.specs.Found.{plain_keys, special_keys, IsNumber, AreFound, Stays, Grows, IsNew, IsAdded, IsOver, IsMade}
+use Rattle.rx_dfa.specs.States.{is_special, IsState, AreStates}
+use Rattle.rx_dfa.specs.Dense.{size_of, IsWithin, IsRefused}
+use Rattle.rx_dfa.specs.Found.{plain_keys, special_keys, IsNumber, AreFound, IsNew, IsAdded, IsOver, IsMade}
 use Rattle.rx_dfa.specs.declared.dense.error.BuildError.{BuildError}
 use Rattle.rx_dfa.specs.declared.dense.error.BuildError.TheVariants.{TooBig, Memory}
 use Rattle.rx_dfa.specs.declared.dense.found.Found.{Found}
 use Rattle.rx_dfa.proofs.lemmas.StateLemmas.{canonical-dead, canonical-live}
 use Rattle.rx_dfa.proofs.lemmas.TableLemmas.{same-from, other-from}
-use Rattle.rx_dfa.proofs.lemmas.FoundLemmas.{stays-same, added-stays, states-push, states-added, sort-added, states-append, pushed, appended}
+use Rattle.rx_dfa.proofs.lemmas.FoundLemmas.{added-stays, states-push, states-added, sort-added, states-append, pushed, appended}
 
 pub over-refused : (d : Dfa) (stride : ℕ) (given : Option ℕ) (states : List Key) (n : ℕ) → AreStates d states → n ≡ length states → (e : BuildError)
     → IsOver stride given n e → IsRefused d stride given e

@@ -1,6 +1,6 @@
 -- Keys that are appended to a list, each once.
-use Rattle.std.proofs.Common.{◌≡◌, ℕ, zero, suc, ◌+◌, ◌*◌, ◌<◌, ◌≤◌, ◌⊎◌, inl, inr, ⊎_elim, List, [], ◌∷◌, ◌++◌, map, length, refl, sym, ◌∙◌, ap, subst, arith, true≢false}
-use Rattle.std.specs.Prelude.{Bool, true, false, ◌||◌, not, Option, Some, None, slice_get, Decides, position}
+use Rattle.std.proofs.Common.{◌≡◌, ℕ, zero, suc, ◌+◌, ◌⊎◌, inl, inr, List, [], ◌∷◌, ◌++◌, map, length, refl, sym, ◌∙◌, ap, subst, arith, true≢false}
+use Rattle.std.specs.Prelude.{Bool, true, false, ◌||◌, Some, slice_get, Decides, position}
 use Rattle.std.specs.List.{list_any}
 use Rattle.std.specs.Option.{option_map}
 use Rattle.std.proofs.lemmas.Option.{slice_get-map, slice_get-get_or, slice_get_within, get_or_from_slice_get}
@@ -8,12 +8,10 @@ use Rattle.std.proofs.lemmas.List.Folds.{list_any_at}
 use Rattle.std.proofs.lemmas.List.Quantifiers.{position-Some}
 use Rattle.rx_model.proofs.lemmas.runs.RunLemmas.{by_test}
 use Rattle.rx_model.proofs.lemmas.runs.FirstLemmas.{none-is-some, some-is}
-use Rattle.rx_determinize.specs.Key.{Key, is_dead, is_empty}
-use Rattle.rx_dfa.specs.Automaton.{Dfa, no_key}
-use Rattle.rx_dfa.specs.States.{canonical, is_special, IsState, AreStates}
-use Rattle.rx_dfa.specs.Table.{IsRow}
+use Rattle.rx_determinize.specs.Key.{Key}
+use Rattle.rx_dfa.specs.Automaton.{Dfa}
+use Rattle.rx_dfa.specs.States.{is_special, IsState, AreStates}
 use Rattle.rx_dfa.specs.Found.{Stays, IsNew, IsAdded}
-use Rattle.rx_dfa.proofs.lemmas.StateLemmas.{canonical-dead, canonical-live}
 
 pub stays-same : (keys : List Key) → Stays keys keys
 stays-same keys = λ row k is. is

@@ -1,19 +1,17 @@
 -- What a start or a step leads to is a state.
-use Rattle.std.proofs.Common.{◌≡◌, ℕ, ◌<◌, List, [], ◌∷◌, length, refl, sym, ◌∙◌, ap, subst, arith, true≢false}
-use Rattle.std.specs.Prelude.{Bool, true, false, All, Option, Some, None, IfSome, if◌then◌else◌, slice_index}
+use Rattle.std.proofs.Common.{◌≡◌, ℕ, ◌<◌, [], ◌∷◌, length, refl, sym, ◌∙◌, ap, subst, arith, true≢false}
+use Rattle.std.specs.Prelude.{Bool, true, false, Option, Some, None, if◌then◌else◌, slice_index}
 use Rattle.std.proofs.lemmas.List.Elements.{All-nil, All-cons, All-get_or}
 use Rattle.std.proofs.lemmas.Option.{get_or_from_slice_get, slice_get_within}
 use Rattle.rx_model.proofs.lemmas.runs.RunLemmas.{by_test}
 use Rattle.rx_model.specs.Search.{Anchor, free, anchored, anchored_to}
 use Rattle.rx_model.proofs.lemmas.runs.FirstLemmas.{some-is}
-use Rattle.rx_search.specs.ByteClasses.{AreRepresentatives}
 use Rattle.rx_nfa.specs.NextMatch.{start_of}
 use Rattle.rx_nfa.specs.Ordered.{AreBelow}
-use Rattle.rx_determinize.specs.Key.{Key, Sight, is_dead, start_key, step_key, end_key}
-use Rattle.rx_determinize.specs.Sight.{class_kept, class_beside}
-use Rattle.rx_determinize.specs.Span.{loops_in}
-use Rattle.rx_dfa.specs.Automaton.{Dfa, IsSound, IsReadable, MakesQuit, no_key, key_from, first_key, next_key, last_key}
-use Rattle.rx_dfa.specs.States.{canonical, IsRead, key_after, IsReached, IsState}
+use Rattle.rx_determinize.specs.Key.{Key, is_dead, start_key, step_key, end_key}
+use Rattle.rx_determinize.specs.Sight.{class_kept}
+use Rattle.rx_dfa.specs.Automaton.{Dfa, IsSound, IsReadable, no_key, key_from, first_key, next_key, last_key}
+use Rattle.rx_dfa.specs.States.{IsRead, key_after, IsReached, IsState}
 use Rattle.rx_dfa.specs.Work.{IsStart, IsContext}
 use Rattle.rx_dfa.proofs.lemmas.StateLemmas.{next-dead, last-dead}
 

@@ -1,13 +1,13 @@
 -- Rows that are appended to a table, while more states are found.
 use Rattle.std.proofs.Common.{◌≡◌, ℕ, zero, suc, ◌+◌, ◌-◌, ◌*◌, ◌<◌, ◌≤◌, inl, inr, ⊎_elim, List, [], ◌∷◌, ◌++◌, length, get_or, refl, sym, ◌∙◌, ap, subst, arith}
-use Rattle.std.specs.Prelude.{Option, Some, None, slice_get, slice_index}
+use Rattle.std.specs.Prelude.{Some, slice_get, slice_index}
 use Rattle.std.proofs.lemmas.Bool.{cases_lt}
 use Rattle.std.proofs.lemmas.List.{length-append, get_or_append_left, get_or-append_right}
 use Rattle.std.proofs.lemmas.Nat.{mul-add-lt}
-use Rattle.rx_model.proofs.lemmas.runs.FirstLemmas.{none-is-some, some-is}
+use Rattle.rx_model.proofs.lemmas.runs.FirstLemmas.{some-is}
 use Rattle.rx_determinize.specs.Key.{Key}
 use Rattle.rx_dfa.specs.Automaton.{Dfa, last_key}
-use Rattle.rx_dfa.specs.Table.{IsRow, IsCell, AreRows}
+use Rattle.rx_dfa.specs.Table.{IsCell, AreRows}
 use Rattle.rx_dfa.specs.Found.{IsNumber, Stays, Grows}
 use Rattle.rx_dfa.specs.Work.{IsPart, IsAppended}
 use Rattle.rx_dfa.specs.declared.dense.found.Found.{Found}

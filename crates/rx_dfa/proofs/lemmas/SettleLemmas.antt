@@ -1,12 +1,10 @@
 -- The numbers that states have at the end.
-use Rattle.std.proofs.Common.{◌≡◌, ℕ, zero, suc, ◌+◌, ◌-◌, ◌*◌, ◌<◌, ◌≤◌, inl, inr, ⊎_elim, List, [], ◌∷◌, ◌++◌, map, length, get_or, refl, sym, ◌∙◌, ap, subst, arith}
-use Rattle.std.specs.Prelude.{Bool, true, false, ◌==◌, nat_lt, nat_eq, Option, Some, None, if◌then◌else◌, slice_get, slice_index}
-use Rattle.std.proofs.lemmas.Bool.{cases_lt}
+use Rattle.std.proofs.Common.{◌≡◌, ℕ, zero, suc, ◌+◌, ◌-◌, ◌*◌, ◌<◌, ◌≤◌, inl, inr, List, [], ◌∷◌, ◌++◌, map, length, refl, sym, ◌∙◌, ap, subst, arith}
+use Rattle.std.specs.Prelude.{Bool, ◌==◌, nat_lt, Some, if◌then◌else◌, slice_index}
 use Rattle.std.proofs.lemmas.List.{length-append, length-map, get_or_append_left}
 use Rattle.std.proofs.lemmas.Nat.{mul-add-lt}
 use Rattle.std.proofs.lemmas.Option.{slice_get_within}
 use Rattle.rx_model.proofs.lemmas.runs.RunLemmas.{by_test}
-use Rattle.rx_model.proofs.lemmas.runs.FirstLemmas.{none-is-some, some-is}
 use Rattle.rx_determinize.specs.Key.{Key, start_key}
 use Rattle.rx_dfa.specs.Automaton.{Dfa, last_key}
 use Rattle.rx_dfa.specs.States.{canonical}
@@ -17,7 +15,7 @@ use Rattle.rx_determinize.specs.Span.{loops_in}
 use Rattle.rx_dfa.specs.Table.{quit, IsRow, IsCell, AreRows, context_count, context, mode_of, AreStarts}
 use Rattle.rx_dfa.specs.Found.{plain_keys, special_keys, IsNumber}
 use Rattle.rx_dfa.specs.declared.dense.found.Found.{Found}
-use Rattle.rx_dfa.proofs.lemmas.TableLemmas.{lt-from, ge-from, other-from, same-from}
+use Rattle.rx_dfa.proofs.lemmas.TableLemmas.{lt-from, ge-from, same-from}
 use Rattle.rx_dfa.proofs.lemmas.FoundLemmas.{stays-push, append-there, appended}
 
 settled-first : (first n : ℕ) → n < second → settled first n ≡ n

@@ -1,6 +1,6 @@
 -- The rows of a full DFA.
 use Rattle.std.proofs.Common.{◌≡◌, ℕ, ◌+◌, ◌-◌, ◌*◌, ◌^◌, ◌/◌, ◌<◌, ◌≤◌, ⊎_elim, List, [], ◌∷◌, length, refl, sym, ◌∙◌, ap, subst, arith, true≢false, get_or}
-use Rattle.std.specs.Prelude.{Bool, true, false, not, ◌||◌, Option, Some, None, IsTrue, nat_lt, nat_eq, ◌==◌, if◌then◌else◌, slice_get, slice_index}
+use Rattle.std.specs.Prelude.{Bool, true, false, not, ◌||◌, Option, Some, None, nat_lt, nat_eq, if◌then◌else◌, slice_get, slice_index}
 use Rattle.std.proofs.lemmas.Bool.{cases_lt}
 use Rattle.std.proofs.lemmas.Bool.Decides.{nat_tests}
 use Rattle.std.specs.Ordering.{nat_cmp, is_lt}
@@ -16,10 +16,10 @@ use Rattle.rx_nfa.specs.NextMatch.{start_of}
 use Rattle.rx_determinize.specs.Key.{Key, is_dead, is_empty, start_key}
 use Rattle.rx_determinize.specs.Sight.{class_beside}
 use Rattle.rx_determinize.specs.Span.{loops_in}
-use Rattle.rx_dfa.specs.Automaton.{Dfa, IsSound, IsReadable, MakesQuit, no_key, key_from, first_key, next_key, last_key}
+use Rattle.rx_dfa.specs.Automaton.{IsReadable, MakesQuit, no_key, key_from, first_key, next_key, last_key}
 use Rattle.rx_dfa.specs.Alphabet.{reads}
 use Rattle.rx_dfa.specs.States.{canonical, is_special, IsRead}
-use Rattle.rx_dfa.specs.Table.{quit, IsRow, IsCell, context_count, context, context_of, mode_of, DenseValue, Holds, IsDense}
+use Rattle.rx_dfa.specs.Table.{quit, IsCell, context_count, context, context_of, mode_of, DenseValue, Holds, IsDense}
 use Rattle.rx_dfa.specs.Job.{IsServed}
 use Rattle.rx_dfa.proofs.lemmas.AlphabetLemmas.{class-small}
 use Rattle.rx_dfa.proofs.lemmas.StateLemmas.{dead-parts, canonical-dead, dead-canonical, special-canonical, matches-canonical, canonical-next, canonical-last, reads-readable, unread-quits, stand, class-inside, stand-readable, stand-quits, quits-stand, stand-next}

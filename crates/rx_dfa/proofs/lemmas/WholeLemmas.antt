@@ -1,12 +1,12 @@
 -- The rows of a full DFA are those of all its states.
 use Rattle.std.proofs.Common.{◌≡◌, ℕ, ◌+◌, ◌*◌, List, [], ◌∷◌, refl, sym, ◌∙◌, ap}
-use Rattle.std.specs.Prelude.{true, false, All, Option, Some, None, slice_get}
+use Rattle.std.specs.Prelude.{All, Option, Some, None, slice_get}
 use Rattle.std.proofs.lemmas.List.Elements.{All-head, All-tail}
 use Rattle.rx_model.specs.Search.{Anchor}
 use Rattle.rx_model.proofs.lemmas.runs.RunLemmas.{by_test}
 use Rattle.rx_determinize.specs.Key.{Key, is_dead}
 use Rattle.rx_dfa.specs.Automaton.{IsReadable, first_key}
-use Rattle.rx_dfa.specs.States.{canonical, IsRead, key_after, IsState}
+use Rattle.rx_dfa.specs.States.{canonical, IsRead, key_after}
 use Rattle.rx_dfa.specs.Table.{context_count, context_of, mode_of, DenseValue, Holds, IsDense}
 use Rattle.rx_dfa.specs.Dense.{HasAll}
 use Rattle.rx_dfa.proofs.lemmas.StateLemmas.{canonical-live}

@@ -1,4 +1,4 @@
-use Rattle.std.proofs.Common.{◌≡◌, ◌+◌, ◌*◌, ◌^◌, ◌%◌, ◌<◌, ◌≤◌, length, ◌∙◌, ap, subst, arith}
+use Rattle.std.proofs.Common.{◌^◌, ◌≤◌, length, ◌∙◌, ap, subst, arith}
 use Rattle.std.proofs.lemmas.Nat.{one_shl}
 use Rattle.rx_dfa.specs.Table.{DenseValue, IsDense}
 use Rattle.rx_dfa.proofs.lemmas.RowsLemmas.{pow-narrow}

@@ -1,10 +1,10 @@
-use Rattle.std.proofs.Common.{◌≡◌, ◌+◌, ◌*◌, ◌<◌, ◌≤◌, ℕ, List, length, refl, sym, ◌∙◌, ap, subst, arith}
+use Rattle.std.proofs.Common.{◌≡◌, ◌+◌, ◌*◌, ◌≤◌, length, refl, sym, ◌∙◌, ap, subst, arith}
 use Rattle.std.specs.Prelude.{None, Some, slice_get}
 use Rattle.std.proofs.Math.Nat.{mul-le-mul_left}
 use Rattle.std.proofs.lemmas.Option.{slice_get_read, slice_get_past}
 use Rattle.rx_search.specs.Anchored.{anchor_of}
 use Rattle.rx_dfa.specs.Automaton.{first_key}
-use Rattle.rx_dfa.specs.Table.{context_count, context_of, mode_of, DenseValue, Holds, IsDense}
+use Rattle.rx_dfa.specs.Table.{context_count, context_of, DenseValue, Holds, IsDense}
 use Rattle.rx_dfa.proofs.lemmas.TableLemmas.{few-bytes, few-contexts, started, not-started}
 use Rattle.rx_dfa.proofs.dense.Dense.start_of.Goals as goal
 

@@ -1,6 +1,5 @@
-use Rattle.std.proofs.Common.{◌≡◌, refl, sym, ◌∙◌, subst}
+use Rattle.std.proofs.Common.{sym, subst}
 use Rattle.rx_dfa.specs.Automaton.{Dfa}
-use Rattle.rx_dfa.specs.Alphabet.{dfa_of}
 use Rattle.rx_dfa.specs.Job.{IsServed}
 use Rattle.rx_dfa.specs.Found.{AreFound, IsMade}
 use Rattle.rx_dfa.specs.Work.{AreDrawn}

@@ -1,4 +1,4 @@
-use Rattle.std.proofs.Common.{◌≡◌, ◌≤◌, ◌<◌, ◌^◌, sym, subst, arith}
+use Rattle.std.proofs.Common.{◌≤◌, ◌<◌, sym, subst, arith}
 use Rattle.std.proofs.lemmas.Nat.{one_shl, pow_pos}
 use Rattle.rx_dfa.proofs.lemmas.RowsLemmas.{pow-narrow}
 use Rattle.rx_dfa.proofs.dense.build.stride_of.Goals as goal

@@ -1,5 +1,5 @@
-use Rattle.std.proofs.Common.{◌≡◌, ◌+◌, ◌-◌, ◌<◌, refl, sym, ◌∙◌, arith}
-use Rattle.rx_dfa.proofs.lemmas.RowLemmas.{grows-same, grows-on}
+use Rattle.std.proofs.Common.{arith}
+use Rattle.rx_dfa.proofs.lemmas.RowLemmas.{grows-on}
 use Rattle.rx_dfa.proofs.lemmas.FilledLemmas.{few-rows}
 use Rattle.rx_dfa.proofs.dense.rows.fill.Goals as goal
 

@@ -1,4 +1,4 @@
-use Rattle.std.proofs.Common.{◌≡◌, ◌+◌, ◌-◌, ◌<◌, length}
+use Rattle.std.proofs.Common.{◌≡◌, ◌+◌, ◌-◌, length}
 use Rattle.rx_dfa.specs.Scratch.{room_of}
 use Rattle.rx_dfa.specs.Found.{AreFound, Grows}
 use Rattle.rx_dfa.specs.Job.{dfa_in}

@@ -1,9 +1,9 @@
-use Rattle.std.proofs.Common.{◌≡◌, ◌+◌, length}
+use Rattle.std.proofs.Common.{◌≡◌, length}
 use Rattle.rx_dfa.specs.StateKey.{key_of}
 use Rattle.rx_dfa.specs.Scratch.{room_of}
 use Rattle.rx_dfa.specs.Found.{IsNumber, AreFound, Grows}
 use Rattle.rx_dfa.specs.Job.{dfa_in}
-use Rattle.rx_dfa.specs.Work.{IsPart, IsAppended}
+use Rattle.rx_dfa.specs.Work.{IsPart}
 use Rattle.rx_dfa.proofs.dense.rows.push_row.Given as goal
 
 abbrev pub invariant-loop-class : goal.invariant-loop-class

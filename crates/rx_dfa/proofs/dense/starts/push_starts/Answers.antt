@@ -1,10 +1,8 @@
-use Rattle.std.proofs.Common.{◌≡◌, ◌+◌, ◌++◌, ◌∷◌, [], List, ℕ, refl, sym, ◌∙◌, ap, subst}
-use Rattle.std.specs.Prelude.{Option}
+use Rattle.std.proofs.Common.{◌≡◌, ◌+◌, ◌++◌, ◌∷◌, [], sym, subst}
 use Rattle.std.proofs.lemmas.Result.{err_from_is_err_and}
 use Rattle.rx_dfa.specs.Job.{dfa_in}
 use Rattle.rx_dfa.specs.Found.{IsNumber}
 use Rattle.rx_dfa.specs.Work.{AreBegun, IsContext}
-use Rattle.rx_dfa.specs.States.{IsRead}
 use Rattle.rx_dfa.proofs.lemmas.ErrorLemmas.{refused-before}
 use Rattle.rx_dfa.proofs.lemmas.FindLemmas.{memory-refused}
 use Rattle.rx_dfa.proofs.lemmas.RowLemmas.{number-grows, grows-same, grows-on}

@@ -1,11 +1,11 @@
-use Rattle.std.proofs.Common.{◌≡◌, ◌-◌, ◌/◌, ◌^◌, ◌<◌, ◌≤◌, ℕ, List, [], map, length, rules, refl, sym, ◌∙◌, ap, subst, arith}
-use Rattle.std.specs.Prelude.{None, Some, slice_get}
+use Rattle.std.proofs.Common.{◌≡◌, ◌-◌, ◌/◌, ◌^◌, ℕ, List, length, refl, sym, ◌∙◌, ap, subst, arith}
+use Rattle.std.specs.Prelude.{Some, slice_get}
 use Rattle.std.specs.Option.{option_map}
 use Rattle.std.specs.Vec.{vec_items}
 use Rattle.std.proofs.lemmas.List.{length-map}
 use Rattle.std.proofs.lemmas.Option.{slice_get_within, slice_get_read, slice_get-map}
 use Rattle.rx_model.proofs.lemmas.runs.FirstLemmas.{some-is}
-use Rattle.rx_dfa.specs.Table.{DenseValue, Holds, IsDense}
+use Rattle.rx_dfa.specs.Table.{DenseValue, IsDense}
 use Rattle.rx_dfa.proofs.lemmas.TableLemmas.{lt-cmp, lt-from, ge-from, plain-tells, patterns-at}
 use Rattle.rx_dfa.proofs.dense.automaton.DenseAutomaton.match_pattern.Goals as goal
 

@@ -1,4 +1,4 @@
-use Rattle.std.proofs.Common.{◌≡◌, ◌-◌, ℕ, sym, ◌∙◌, ap, subst}
+use Rattle.std.proofs.Common.{◌≡◌, ◌-◌, ℕ, ◌∙◌, ap, subst}
 use Rattle.std.specs.Prelude.{Option, IfOk, OnOk}
 use Rattle.std.specs.Result.{IfErr}
 use Rattle.rx_model.specs.Look.{byte_before}

@@ -1,6 +1,4 @@
-use Rattle.std.proofs.Common.{◌≡◌, List, [], length, sym, ◌∙◌, ap, subst, arith}
-use Rattle.std.specs.Prelude.{true, false}
-use Rattle.rx_determinize.specs.Key.{is_empty}
+use Rattle.std.proofs.Common.{sym, ◌∙◌}
 use Rattle.rx_dfa.specs.StateKey.{key_of}
 use Rattle.rx_dfa.proofs.lemmas.FindLemmas.{dead-made, nothing-plain, something-special, none-there, some-there}
 use Rattle.rx_dfa.proofs.dense.found.Found.find.Goals as goal

@@ -1,11 +1,10 @@
-use Rattle.std.proofs.Common.{◌≡◌, ◌+◌, ◌*◌, ◌<◌, ◌≤◌, length, refl, sym, ◌∙◌, ap, subst, arith, inl, inr}
-use Rattle.std.specs.Prelude.{true, false, Err}
+use Rattle.std.proofs.Common.{◌+◌, ◌≤◌, length, refl, sym, ◌∙◌, arith}
 use Rattle.std.proofs.lemmas.List.{length-map}
 use Rattle.std.proofs.lemmas.Option.{slice_get_within}
 use Rattle.std.proofs.lemmas.Result.{err_from_is_err_and}
 use Rattle.std.proofs.Math.Nat.{mul-le-mul_left}
 use Rattle.rx_dfa.specs.StateKey.{key_of}
-use Rattle.rx_dfa.specs.Found.{keys_in, IsMade}
+use Rattle.rx_dfa.specs.Found.{keys_in}
 use Rattle.rx_dfa.proofs.lemmas.FoundLemmas.{added-stays}
 use Rattle.rx_dfa.proofs.lemmas.WithinLemmas.{within-more}
 use Rattle.rx_dfa.proofs.lemmas.FindLemmas.{found-plain, plain-made, refused-more, new-special}

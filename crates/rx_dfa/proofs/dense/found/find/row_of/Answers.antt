@@ -1,4 +1,4 @@
-use Rattle.std.proofs.Common.{◌≡◌, ◌+◌, length, arith}
+use Rattle.std.proofs.Common.{◌+◌, arith}
 use Rattle.rx_dfa.specs.StateKey.{key_of}
 use Rattle.rx_dfa.proofs.lemmas.WithinLemmas.{within-appended}
 use Rattle.rx_dfa.proofs.dense.found.find.row_of.Goals as goal

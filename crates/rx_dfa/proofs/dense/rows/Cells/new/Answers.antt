@@ -1,4 +1,4 @@
-use Rattle.std.proofs.Common.{◌≡◌, ◌≤◌, refl, arith}
+use Rattle.std.proofs.Common.{refl, arith}
 use Rattle.rx_dfa.proofs.lemmas.DrawLemmas.{none-filled}
 use Rattle.rx_dfa.proofs.dense.rows.Cells.new.Goals as goal
 
