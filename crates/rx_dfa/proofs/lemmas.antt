@@ -5,7 +5,13 @@ pub mod LastLemmas
 pub mod ForwardLemmas
 pub mod BackwardLemmas
 pub mod PatternLemmas
+pub mod WalkLemmas
+pub mod AnswerLemmas
+pub mod AnewLemmas
 pub mod BothLemmas
+pub mod BackLemmas
+pub mod NeedleLemmas
+pub mod CandidateLemmas
 pub mod ListLemmas
 pub mod CloseLemmas
 pub mod ThreadLemmas
@@ -16,3 +22,4 @@ pub mod ChainLemmas
 pub mod LazyLemmas
 pub mod RowsLemmas
 pub mod HeldLemmas
+pub mod SameLemmas

@@ -18,5 +18,7 @@ mod step_error;
 mod step_parts;
 
 pub use automaton::Automaton;
-pub use search::{try_search, try_search_half_fwd, try_search_half_rev};
+pub use search::{
+    try_search, try_search_half_fwd, try_search_half_fwd_by, try_search_half_rev, try_search_start,
+};
 pub use step_error::StepError;
