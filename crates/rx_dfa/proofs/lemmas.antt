@@ -5,7 +5,13 @@ pub mod LastLemmas
 pub mod ForwardLemmas
 pub mod BackwardLemmas
 pub mod PatternLemmas
+pub mod WalkLemmas
+pub mod AnswerLemmas
+pub mod AnewLemmas
 pub mod BothLemmas
+pub mod BackLemmas
+pub mod NeedleLemmas
+pub mod CandidateLemmas
 pub mod ListLemmas
 pub mod CloseLemmas
 pub mod ThreadLemmas
@@ -35,3 +41,4 @@ pub mod FilledLemmas
 pub mod ErrorLemmas
 pub mod DrawLemmas
 pub mod CountLemmas
+pub mod SameLemmas

@@ -1,6 +1,7 @@
 pub mod Automaton
 pub mod Course
 pub mod Search
+pub mod Candidates
 pub mod Beside
 pub mod StateKey
 pub mod Scratch

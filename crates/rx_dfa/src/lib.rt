@@ -21,5 +21,7 @@ mod threads;
 
 pub use automaton::Automaton;
 pub use dense::Dense;
-pub use search::{try_search, try_search_half_fwd, try_search_half_rev};
+pub use search::{
+    try_search, try_search_half_fwd, try_search_half_fwd_by, try_search_half_rev, try_search_start,
+};
 pub use step_error::StepError;

@@ -87,6 +87,10 @@ impl Automaton for Dense {
         !(state < self.dead)
     }
 
+    fn is_start(&self, _cache: &(), _state: StateID) -> bool {
+        false
+    }
+
     fn match_pattern(&self, _cache: &(), state: StateID, index: usize) -> Option<PatternID> {
         if state < self.dead {
             return None;

@@ -143,6 +143,17 @@ impl Automaton for Lazy {
         !is_plain(state)
     }
 
+    fn is_start(&self, cache: &LazyCache, state: StateID) -> bool {
+        // The rows are at least one cell wide.
+        let _stride = self.stride();
+        if is_dead_state(state) {
+            return false;
+        }
+        cache
+            .rows
+            .is_start_of(self, self.nfa.start_anchored(), state)
+    }
+
     fn match_pattern(&self, cache: &LazyCache, state: StateID, index: usize) -> Option<PatternID> {
         if is_dead_state(state) {
             return None;
