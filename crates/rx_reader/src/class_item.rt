@@ -60,8 +60,10 @@ impl ClassItems {
     pub(crate) fn new(alloc: Global, items: Vec<ClassItem>) -> Result<ClassItems, AllocError>
         ensures { IfOk result (λ c. c ≡ items.items) }
     {
-        let mut items = items;
-        items.shrink_to_fit();
+        // Moved, and not shrunk (DECISIONS: a class's items are moved into a list of their number).
+        let mut gathered = items;
+        let mut items = Vec::with_capacity(alloc, gathered.len())?;
+        items.append(&mut gathered)?;
         Ok(ClassItems {
             items: Box::new(alloc, items)?,
         })
