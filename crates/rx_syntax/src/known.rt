@@ -76,9 +76,9 @@ impl KnownSets {
     fn find_bytes(&self, key: ByteKey) -> Option<&ClassBytes>
         ensures { IfSome result (λ class. class.now ≡ bytes_of key) }
     {
-        for known in &self.byte_sets {
-            if known.key.is(key) {
-                return Some(&known.bytes);
+        for set in &self.byte_sets {
+            if set.key.is(key) {
+                return Some(&set.bytes);
             }
         }
         None

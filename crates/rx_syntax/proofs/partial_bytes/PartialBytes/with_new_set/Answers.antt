@@ -12,7 +12,7 @@ returns c ranges is =
     let before = c.args.self.ranges.items in
     record {
       members = c.in_ok-ranges.ensures ∙ ap (fewest next_byte) (c.in_ok-extend_from_slice.ensures.items
-          ∙ ap (λ (ys : List (ℕ × ℕ)). before ++ ys) (c.ranges.ensures.value ∙ c.in_ok-bytes.ensures))
+          ∙ ap (λ (ys : List (ℕ × ℕ)). before ++ ys) (c.ranges-2.ensures.value ∙ c.in_ok-bytes.ensures))
           ∙ with-more before ranges own is.members;
       sets = subst (All (HoldsBytes (ranges ++ own))) (sym c.in_ok-push.ensures.items) (byte_set-held ranges c.args.key c.args.self.sets.items is.sets);
     }
