@@ -18,21 +18,8 @@ use rx_search::{Memory, NonMaxUsize};
 pub fn push_number(text: &mut Vec<u8>, n: usize) -> Result<(), Memory>
     ensures { OnOk result (text.new.items ≡ text.old.items ++ decimal n) }
 {
-    // So the numbers of lines, patterns and groups need no buffer (DECISIONS: a number of one digit is pushed as it is).
-    if n < 10 {
-        return push_digit(text, n);
-    }
     let mut buffer = Buffer::new();
     text.extend_from_slice(buffer.format(n).as_bytes())?;
-    Ok(())
-}
-
-/// Appends a number of one digit.
-fn push_digit(text: &mut Vec<u8>, digit: usize) -> Result<(), Memory>
-    requires { digit < 10 }
-    ensures { OnOk result (text.new.items ≡ text.old.items ++ decimal digit) }
-{
-    text.push(b'0' + digit as u8)?;
     Ok(())
 }
 

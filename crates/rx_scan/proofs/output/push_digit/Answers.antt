@@ -1,6 +1,0 @@
-use Rattle.std.proofs.Common.{◌++◌, ◌∙◌, ap, sym}
-use Rattle.std.proofs.lemmas.Fmt.{decimal_digit}
-use Rattle.rx_scan.proofs.output.push_digit.Goals as goal
-
-pub returns : goal.returns
-returns c = c.in_ok-push.ensures.items ∙ ap (λ ds. c.args.text.now.items ++ ds) (sym (decimal_digit c.args.digit c.requires))
