@@ -94,7 +94,11 @@ impl PartialBytes {
     }
 
     /// With what an item adds.
-    pub(crate) fn with(self, added: AddedBytes, known: &mut KnownSets) -> Result<PartialBytes, Memory>
+    pub(crate) fn with(
+        self,
+        added: AddedBytes,
+        known: &mut KnownSets,
+    ) -> Result<PartialBytes, Memory>
         ensures { (ranges : List (ℕ × ℕ)) → IsOfBytes self ranges
             → IfOk result (λ class. IsOfBytes class (ranges ++ ranges_of_bytes added)) }
     {
