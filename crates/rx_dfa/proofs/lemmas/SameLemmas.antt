@@ -8,4 +8,4 @@ use Rattle.rx_dfa.proofs.lemmas.HeldLemmas.{held-row}
 pub held-same : (stride : ℕ) → 0 < stride → (keys : List Key) (state : ℕ) (k other : Key) → StandsFor stride keys state k → StandsFor stride keys state other
     → state ≢ dead_state → k ≡ other
 held-same stride some keys state k other h g apart =
-    some-is (sym (held-row stride some keys state k h apart).0 ∙ (held-row stride some keys state other g apart).0)
+    some-is (sym (held-row stride keys state k h apart).0 ∙ (held-row stride keys state other g apart).0)
