@@ -15,7 +15,8 @@ use Rattle.rx_syntax.specs.declared.partial_bytes.AddedBytes.{AddedBytes}
 use Rattle.rx_syntax.specs.declared.partial_bytes.PartialBytes.{PartialBytes}
 use Rattle.rx_syntax.proofs.lemmas.translation.GatherLemmas.{before-none, gathered-step, gathered-refused, gathered-end}
 
-pub bytes-begun : (flags : Flags) (piece : Piece) (items : List ClassItem) (class : PartialBytes) → IsOfBytes class [] → IsOfFirstBytes flags piece items 0 class
+pub bytes-begun : (flags : Flags) (piece : Piece) (items : List ClassItem) (class : PartialBytes) → IsOfBytes class []
+    → IsOfFirstBytes flags piece items 0 class
 bytes-begun flags piece items class is = record { ranges = []; whole = before-none (all_bytes flags piece items); is = is }
 
 pub bytes-more : (flags : Flags) (piece : Piece) (items : List ClassItem) (k : ℕ) (item : ClassItem) (class next : PartialBytes) (added : AddedBytes)
