@@ -383,3 +383,46 @@ fn a_strategy_crosses_threads(rt: HostRuntime) {
     crosses_threads(&strategy);
     goes_to_threads(&cache_of(&rt, alloc, &strategy));
 }
+
+/// The limits and sizes of the DFAs, and how many stacks a pool has.
+fn numbers(config: &Config) -> (Option<usize>, Option<usize>, Option<usize>, usize, usize) {
+    (
+        config.get_onepass_size_limit(),
+        config.get_dfa_size_limit(),
+        config.get_dfa_state_limit(),
+        config.get_hybrid_cache_capacity(),
+        config.get_pool_capacity(),
+    )
+}
+
+/// Which engines may be used beside the PikeVM and the backtracker, and whether they tell classes of bytes alone apart.
+fn choices(config: &Config) -> (bool, bool, bool, bool) {
+    (
+        config.get_onepass(),
+        config.get_hybrid(),
+        config.get_dfa(),
+        config.get_byte_classes(),
+    )
+}
+
+#[test]
+fn a_configuration_has_numbers_and_choices(rt: HostRuntime) {
+    let none = Config::new();
+    assert!(rt; numbers(&none) == (Some(1048576), Some(40960), Some(30), 2097152, 8));
+    assert!(rt; choices(&none) == (true, true, true, true));
+    let old = Config::new()
+        .onepass_size_limit(None)
+        .dfa_size_limit(Some(1))
+        .dfa_state_limit(Some(2))
+        .hybrid_cache_capacity(3)
+        .pool_capacity(4)
+        .onepass(false)
+        .hybrid(false)
+        .dfa(false)
+        .byte_classes(false);
+    assert!(rt; numbers(&old) == (None, Some(1), Some(2), 3, 4));
+    assert!(rt; choices(&old) == (false, false, false, false));
+    let both = old.overwrite(Config::new().dfa(true).pool_capacity(5));
+    assert!(rt; numbers(&both) == (None, Some(1), Some(2), 3, 5));
+    assert!(rt; choices(&both) == (false, false, true, false));
+}

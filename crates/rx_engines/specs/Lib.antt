@@ -3,6 +3,7 @@ pub mod Walk
 pub mod Onward
 pub mod Threads
 pub mod Simulation
+pub mod Overlap
 pub mod Search
 pub mod Room
 pub mod Buffers

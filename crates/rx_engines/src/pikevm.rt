@@ -4,6 +4,7 @@
 mod buffers;
 mod cache;
 mod close;
+mod overlap;
 mod row;
 mod seed;
 mod set;

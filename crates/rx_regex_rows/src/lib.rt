@@ -2,4 +2,8 @@
 #![tactic(auto)]
 
 #[cfg(test)]
+mod iterators;
+#[cfg(test)]
 mod regex;
+#[cfg(test)]
+mod sets;

@@ -1,4 +1,5 @@
 pub mod SearcherLemmas
+pub mod GapLemmas
 pub mod CharacterLemmas
 pub mod LookSetLemmas
 pub mod GroupLemmas

@@ -1,8 +1,9 @@
 //! The PikeVM.
-ghost use Rattle.std.specs.Prelude.{◌≡◌, ◌<◌, ◌-◌, ◌^◌, min, length, None, replicate, is_some, IfOk, IfNone, IfSome, option_map};
+ghost use Rattle.std.specs.Prelude.{◌≡◌, ◌<◌, ◌-◌, ◌^◌, min, length, None, replicate, is_some, IfOk, IfNone, IfSome, MatchOption, ◌≤◌, true, slice_set, option_map};
 ghost use Rattle.rx_model.specs.Search.{Patterns, told_of};
 ghost use Rattle.rx_search.specs.Input.{next_in};
 ghost use Rattle.rx_search.specs.Matches.{match_value};
+ghost use Rattle.rx_search.specs.Sets.{KeepsMembers, GainsMatching, IsFilledFor};
 ghost use Rattle.rx_search.specs.Told.{IsMatchWith, HasSlots, AreWithin, LiesIn, matched_pattern};
 ghost use Rattle.rx_nfa.specs.Nfa.{IsNfaOf};
 ghost use Rattle.rx_nfa.specs.NextMatch.{next_match_in};
@@ -17,7 +18,7 @@ use crate::search::Search;
 use crate::slots::empty;
 use rx_nfa::NFA;
 use rx_prefilter::Prefilter;
-use rx_search::{Input, Match, MatchKind, Memory, NonMaxUsize, PatternID};
+use rx_search::{Input, Match, MatchKind, Memory, NonMaxUsize, PatternID, PatternSet};
 use std::alloc::Global;
 use std::marker::Model;
 
@@ -102,6 +103,38 @@ impl PikeVM {
         cache.find(&search, true, &mut []).is_some()
     }
 
+    /// Adds patterns that have a match in the input's span to the set, which must have room for all patterns. Under `All`
+    /// each pattern that has one is added, under `LeftmostFirst` that of the next match, and with `earliest` that of the
+    /// match that `find` answers.
+    pub fn which_overlapping_matches(
+        &self,
+        cache: &mut Cache,
+        input: &Input<'_>,
+        set: &mut PatternSet,
+    )
+        requires fits { Fits self.now cache.old }
+        requires room { length self.now.nfa.starts ≤ length set.old }
+        ensures kept { KeepsMembers set.old set.new }
+        ensures matching { (r : Patterns) → IsNfaOf self.now.nfa r → BeginsEachRun self.now.pre self.now.nfa input.now
+            → GainsMatching r input.now set.old set.new }
+        ensures filled { (r : Patterns) → IsNfaOf self.now.nfa r → BeginsEachRun self.now.pre self.now.nfa input.now
+            → IsFilledFor r input.now set.old set.new self.now.kind }
+        ensures cache { Fits self.now cache.new }
+        ensures memory { cache.new.memory ≡ cache.old.memory }
+    {
+        let Some(search) = Search::of(&self.nfa, &self.candidates, input) else {
+            return;
+        };
+        // One match tells the rest (DECISIONS: a set is filled by one match under leftmost-first, and with `earliest`).
+        match self.kind {
+            MatchKind::All if !input.get_earliest() => cache.fill(&search, set),
+            MatchKind::All | MatchKind::LeftmostFirst => {
+                let found = cache.find(&search, input.get_earliest(), &mut []);
+                add(found, set);
+            }
+        }
+    }
+
     /// The next match in the input's span. With `earliest` the search stops at the first place by which a match
     /// ends, and answers the next match up to there. Under `All` it answers the same match as under
     /// `LeftmostFirst`.
@@ -184,5 +217,15 @@ impl PikeVM {
             return None;
         };
         cache.find(&search, input.get_earliest(), slots)
+    }
+}
+
+/// Adds the pattern of the match to the set.
+fn add(found: Option<Match>, set: &mut PatternSet)
+    requires { IfSome found (λ m. m.pattern < length set.old) }
+    ensures { MatchOption found (set.new ≡ set.old) (λ m. set.new ≡ slice_set set.old m.pattern true) }
+{
+    if let Some(found) = found {
+        set.insert(found.pattern());
     }
 }
