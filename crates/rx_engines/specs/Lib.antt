@@ -3,6 +3,7 @@ pub mod Walk
 pub mod Onward
 pub mod Threads
 pub mod Simulation
+pub mod Sets
 pub mod Overlap
 pub mod Search
 pub mod Room

@@ -4,7 +4,6 @@
 mod buffers;
 mod cache;
 mod close;
-mod overlap;
 mod row;
 mod seed;
 mod set;

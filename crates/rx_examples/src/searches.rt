@@ -87,9 +87,16 @@ fn match_after_match(rt: HostRuntime) -> Result<(), Fail> {
         spans.push(found?.span())?;
     }
     assert_eq!(rt; spans.len(), 2);
+    Ok(())
+}
+
+#[test]
+fn matches_counted(rt: HostRuntime) -> Result<(), Fail> {
+    let alloc = rt.alloc();
     let words = Regex::new(alloc, "[a-z]+")?;
     let matches = words.find_iter(&rt, alloc, &Input::new(b"one two"))?;
-    assert_eq!(rt; matches.count(&rt)?, 2);
+    let count = matches.count(&rt)?;
+    assert_eq!(rt; count, 2);
     Ok(())
 }
 

@@ -6,7 +6,7 @@ use Rattle.rx_model.proofs.lemmas.matches.MatchLemmas.{next-within}
 use Rattle.rx_model.proofs.lemmas.matches.SuccessionLemmas.{matches-rise, matches-within}
 use Rattle.rx_search.specs.Answer.{half_of}
 use Rattle.rx_search.specs.Captures.{CapturesValue}
-use Rattle.rx_search.specs.Gaps.{gaps_from, span_of_match}
+use Rattle.rx_meta.specs.Gaps.{gaps_from, span_of_match}
 use Rattle.rx_search.specs.Input.{InputValue, from_place, next_in}
 use Rattle.rx_search.specs.Matches.{MatchValue, match_value, half_match_value}
 use Rattle.rx_search.specs.Promise.{Promised}

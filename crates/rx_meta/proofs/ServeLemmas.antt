@@ -5,7 +5,7 @@ use Rattle.rx_model.specs.Search.{Patterns, Match}
 use Rattle.rx_search.specs.Answer as answer
 use Rattle.rx_search.specs.Input.{InputValue, next_in}
 use Rattle.rx_search.specs.Promise.{Premises, Promised}
-use Rattle.rx_search.specs.Sets as sets
+use Rattle.rx_engines.specs.Sets as sets
 use Rattle.rx_search.specs.Told.{told_in, HasSlots}
 use Rattle.rx_strategy.specs.Strategy as strategy
 use Rattle.rx_strategy.specs.declared.strategy.Strategy.{Strategy}

@@ -3,7 +3,7 @@
 use Rattle.std.specs.Prelude.{◌≡◌, ℕ, ◌+◌, ◌-◌, ◌*◌, ◌≤◌, ◌<◌, Bool, true, false, not, is_ok, List, [], ◌∷◌, length, Option, Some, None, Result, Ok, Err, IfSome, if◌then◌else◌}
 use Rattle.rx_model.specs.Search.{Match}
 use Rattle.rx_search.specs.Captures.{CapturesValue}
-use Rattle.rx_search.specs.Gaps.{gaps_from, gaps_up_to}
+use Rattle.rx_meta.specs.Gaps.{gaps_from, gaps_up_to}
 use Rattle.rx_search.specs.Input.{InputValue}
 use Rattle.rx_search.specs.Matches.{MatchValue, match_value}
 use Rattle.rx_search.specs.Searcher as successive

@@ -7,6 +7,7 @@ pub mod Cache
 pub mod Search
 pub mod Finder
 pub mod Captures
+pub mod Gaps
 pub mod Iterators
 pub mod Sets
 pub mod Laws

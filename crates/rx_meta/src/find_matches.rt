@@ -107,7 +107,8 @@ impl<'r, 'h> FindMatches<'r, 'h> {
     /// ```
     /// let words = Regex::new(alloc, "[a-z]+")?;
     /// let matches = words.find_iter(&rt, alloc, &Input::new(b"one two"))?;
-    /// assert_eq!(rt; matches.count(&rt)?, 2);
+    /// let count = matches.count(&rt)?;
+    /// assert_eq!(rt; count, 2);
     /// ```
     pub fn count<R: Wait>(self, _rt: &R) -> Result<usize, Memory>
         ensures value { PromisesEach self.entry → IfOk result (λ n. n ≡ length (matches_to_come self.entry)) }

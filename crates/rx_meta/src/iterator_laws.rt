@@ -2,7 +2,7 @@
 ghost use Rattle.std.specs.Prelude.{◌≡◌, ◌≤◌, ◌↔◌, ℕ, suc, Bool, true, false, List, length, map, Option, option_map, is_some, All, AllPairs};
 ghost use Rattle.rx_model.specs.Search.{Patterns, Match, matches};
 ghost use Rattle.rx_search.specs.Answer.{half_of};
-ghost use Rattle.rx_search.specs.Gaps.{gaps_from, gaps_up_to, span_of_match};
+ghost use Rattle.rx_meta.specs.Gaps.{gaps_from, gaps_up_to, span_of_match};
 ghost use Rattle.rx_search.specs.Input.{InputValue};
 ghost use Rattle.rx_search.specs.Matches.{MatchValue, HalfMatchValue, match_value, half_match_value};
 ghost use Rattle.rx_search.specs.PatternSet.{has};

@@ -1,10 +1,9 @@
 //! The searches that fill a set of patterns.
 ghost use Rattle.std.specs.Prelude.{◌≤◌, length, OnOk, IsOk};
-ghost use Rattle.rx_search.specs.Sets.{KeepsMembers};
 ghost use Rattle.rx_meta.specs.Cache.{Fits, memory_of};
 ghost use Rattle.rx_meta.specs.Impossible.{IsKnownImpossible};
 ghost use Rattle.rx_meta.specs.Regex.{pattern_count};
-ghost use Rattle.rx_meta.specs.Sets.{AddsMatching, IsFilled};
+ghost use Rattle.rx_meta.specs.Sets.{KeepsMembers, AddsMatching, IsFilled};
 
 use crate::cache::Cache;
 use crate::regex::Regex;

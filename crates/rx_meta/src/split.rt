@@ -1,6 +1,6 @@
 //! What lies between the matches in a text.
 ghost use Rattle.std.specs.Prelude.{◌≡◌, ◌≤◌, ◌-◌, ◌<◌, length, Some, None, IsOk, IfOk, IfSome};
-ghost use Rattle.rx_search.specs.Gaps.{span_between};
+ghost use Rattle.rx_meta.specs.Gaps.{span_between};
 ghost use Rattle.rx_meta.specs.Iterators.{split_begun, gaps_to_come, pieces_to_come, PromisesEach, most_gaps_left, GivesNext, IsSpan, IsPieceOf, text_len};
 
 use crate::find_matches::FindMatches;

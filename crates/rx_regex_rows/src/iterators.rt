@@ -40,103 +40,161 @@ fn next_piece(pieces: &mut SplitN<'_, '_>) -> Result<Option<(usize, usize)>, Fai
     }
 }
 
+/// The spans of the matches that are to come are these.
+fn gives(
+    matches: &mut FindMatches<'_, '_>,
+    expected: &[(usize, usize)],
+) -> Result<bool, Fail> {
+    for span in expected {
+        if next_span(matches)? != Some(*span) {
+            return Ok(false);
+        }
+    }
+    Ok(next_span(matches)?.is_none())
+}
+
+/// The gaps that are to come are these.
+fn leaves(gaps: &mut Split<'_, '_>, expected: &[(usize, usize)]) -> Result<bool, Fail> {
+    for span in expected {
+        if next_gap(gaps)? != Some(*span) {
+            return Ok(false);
+        }
+    }
+    Ok(next_gap(gaps)?.is_none())
+}
+
+/// The pieces that are to come are these.
+fn splits_into(pieces: &mut SplitN<'_, '_>, expected: &[(usize, usize)]) -> Result<bool, Fail> {
+    for span in expected {
+        if next_piece(pieces)? != Some(*span) {
+            return Ok(false);
+        }
+    }
+    Ok(next_piece(pieces)?.is_none())
+}
+
 #[test]
-fn matches_are_given_and_counted(rt: HostRuntime) -> Result<(), Fail> {
+fn matches_are_given(rt: HostRuntime) -> Result<(), Fail> {
     let alloc = rt.alloc();
     let regex = Regex::new(alloc, "[a-zA-Z]+ing")?;
-    let input = Input::new(b"tingling");
-    let mut matches = regex.find_iter(&rt, alloc, &input)?;
+    let mut matches = regex.find_iter(&rt, alloc, &Input::new(b"tingling"))?;
     assert_eq!(rt; matches.regex().pattern_len(), 1);
     assert_eq!(rt; matches.input().start(), 0);
-    assert_eq!(rt; next_span(&mut matches)?, Some((0, 8)));
+    let given = gives(&mut matches, &[(0, 8)])?;
+    assert!(rt; given);
     assert_eq!(rt; matches.input().start(), 8);
-    assert_eq!(rt; next_span(&mut matches)?, None);
-    assert_eq!(rt; next_span(&mut matches)?, None);
+    // After None it gives nothing.
+    let ended = gives(&mut matches, &[])?;
+    assert!(rt; ended);
     matches.finish(&rt);
-    assert_eq!(rt; regex.find_iter(&rt, alloc, &input)?.count(&rt)?, 1);
-    let mut matches = regex.find_iter(&rt, alloc, &input)?;
-    assert_eq!(rt; next_span(&mut matches)?, Some((0, 8)));
-    assert_eq!(rt; matches.count(&rt)?, 0);
     Ok(())
 }
 
-/// The matches of `a*` in the haystack are these two.
-fn are_two<R: Wait + std::process::Abort>(
+#[test]
+fn matches_are_counted(rt: HostRuntime) -> Result<(), Fail> {
+    let alloc = rt.alloc();
+    let regex = Regex::new(alloc, "[a-z]")?;
+    let mut matches = regex.find_iter(&rt, alloc, &Input::new(b"a-b-c"))?;
+    let first = next_span(&mut matches)?;
+    assert_eq!(rt; first, Some((0, 1)));
+    let left = matches.count(&rt)?;
+    assert_eq!(rt; left, 2);
+    Ok(())
+}
+
+/// The matches of `a*` in the haystack are these.
+fn are_matches<R: Wait>(
     rt: &R,
     alloc: Global,
     haystack: &[u8],
-    first: (usize, usize),
-    second: (usize, usize),
-) -> Result<(), Fail> {
+    expected: &[(usize, usize)],
+) -> Result<bool, Fail> {
     let regex = Regex::new(alloc, "a*")?;
     let mut matches = regex.find_iter(rt, alloc, &Input::new(haystack))?;
-    assert_eq!(rt; next_span(&mut matches)?, Some(first));
-    assert_eq!(rt; next_span(&mut matches)?, Some(second));
-    assert_eq!(rt; next_span(&mut matches)?, None);
-    Ok(())
+    gives(&mut matches, expected)
 }
 
 #[test]
 fn an_empty_match_at_the_last_end_is_passed_over(rt: HostRuntime) -> Result<(), Fail> {
     let alloc = rt.alloc();
-    are_two(&rt, alloc, b"ba", (0, 0), (1, 2))?;
-    are_two(&rt, alloc, b"aab", (0, 2), (3, 3))?;
-    are_two(&rt, alloc, "☃".as_bytes(), (0, 0), (3, 3))?;
-    are_two(&rt, alloc, b"b", (0, 0), (1, 1))
+    let all = are_matches(&rt, alloc, b"ba", &[(0, 0), (1, 2)])?
+        && are_matches(&rt, alloc, b"aab", &[(0, 2), (3, 3)])?
+        && are_matches(&rt, alloc, "☃".as_bytes(), &[(0, 0), (3, 3)])?
+        && are_matches(&rt, alloc, b"b", &[(0, 0), (1, 1)])?;
+    assert!(rt; all);
+    Ok(())
+}
+
+/// The gaps between commas in the span of the haystack are these.
+fn are_gaps<R: Wait>(
+    rt: &R,
+    alloc: Global,
+    input: &Input<'_>,
+    expected: &[(usize, usize)],
+) -> Result<bool, Fail> {
+    let comma = Regex::new(alloc, ",")?;
+    let mut gaps = comma.split(rt, alloc, input)?;
+    leaves(&mut gaps, expected)
 }
 
 #[test]
 fn gaps_reach_over_the_whole_haystack(rt: HostRuntime) -> Result<(), Fail> {
     let alloc = rt.alloc();
-    let comma = Regex::new(alloc, ",")?;
-    let mut gaps = comma.split(&rt, alloc, &Input::new(b"a,b,c"))?;
-    assert_eq!(rt; next_gap(&mut gaps)?, Some((0, 1)));
-    assert_eq!(rt; next_gap(&mut gaps)?, Some((2, 3)));
-    assert_eq!(rt; gaps.input().start(), 4);
-    assert_eq!(rt; next_gap(&mut gaps)?, Some((4, 5)));
-    assert_eq!(rt; next_gap(&mut gaps)?, None);
-    assert_eq!(rt; next_gap(&mut gaps)?, None);
-    gaps.finish(&rt);
-    let mut input = Input::new(b"a,b");
-    input.set_span(Span { start: 1, end: 2 });
-    let mut gaps = comma.split(&rt, alloc, &input)?;
-    assert_eq!(rt; next_gap(&mut gaps)?, Some((0, 1)));
-    assert_eq!(rt; next_gap(&mut gaps)?, Some((2, 3)));
-    assert_eq!(rt; next_gap(&mut gaps)?, None);
-    let mut gaps = comma.split(&rt, alloc, &Input::new(b","))?;
-    assert_eq!(rt; next_gap(&mut gaps)?, Some((0, 0)));
-    assert_eq!(rt; next_gap(&mut gaps)?, Some((1, 1)));
-    assert_eq!(rt; next_gap(&mut gaps)?, None);
-    let mut gaps = comma.split(&rt, alloc, &Input::new(b""))?;
-    assert_eq!(rt; next_gap(&mut gaps)?, Some((0, 0)));
-    assert_eq!(rt; next_gap(&mut gaps)?, None);
+    let narrow = Input::new(b"a,b").range(1..2);
+    let all = are_gaps(&rt, alloc, &Input::new(b"a,b,c"), &[(0, 1), (2, 3), (4, 5)])?
+        && are_gaps(&rt, alloc, &narrow, &[(0, 1), (2, 3)])?
+        && are_gaps(&rt, alloc, &Input::new(b","), &[(0, 0), (1, 1)])?
+        && are_gaps(&rt, alloc, &Input::new(b""), &[(0, 0)])?;
+    assert!(rt; all);
     Ok(())
+}
+
+#[test]
+fn a_gap_is_followed_by_a_match(rt: HostRuntime) -> Result<(), Fail> {
+    let alloc = rt.alloc();
+    let comma = Regex::new(alloc, ",")?;
+    let mut gaps = comma.split(&rt, alloc, &Input::new(b"a,b"))?;
+    let first = next_gap(&mut gaps)?;
+    assert_eq!(rt; first, Some((0, 1)));
+    assert_eq!(rt; gaps.input().start(), 2);
+    gaps.finish(&rt);
+    Ok(())
+}
+
+/// So many pieces between commas are these.
+fn are_pieces<R: Wait>(
+    rt: &R,
+    alloc: Global,
+    limit: usize,
+    expected: &[(usize, usize)],
+) -> Result<bool, Fail> {
+    let comma = Regex::new(alloc, ",")?;
+    let mut pieces = comma.splitn(rt, alloc, &Input::new(b"a,b,c"), limit)?;
+    splits_into(&mut pieces, expected)
 }
 
 #[test]
 fn the_last_permitted_piece_is_the_rest(rt: HostRuntime) -> Result<(), Fail> {
     let alloc = rt.alloc();
+    let all = are_pieces(&rt, alloc, 0, &[])?
+        && are_pieces(&rt, alloc, 1, &[(0, 5)])?
+        && are_pieces(&rt, alloc, 2, &[(0, 1), (2, 5)])?
+        && are_pieces(&rt, alloc, 9, &[(0, 1), (2, 3), (4, 5)])?;
+    assert!(rt; all);
+    Ok(())
+}
+
+#[test]
+fn a_piece_lowers_the_limit(rt: HostRuntime) -> Result<(), Fail> {
+    let alloc = rt.alloc();
     let comma = Regex::new(alloc, ",")?;
-    let input = Input::new(b"a,b,c");
-    let mut two = comma.splitn(&rt, alloc, &input, 2)?;
+    let mut two = comma.splitn(&rt, alloc, &Input::new(b"a,b,c"), 2)?;
     assert!(rt; two.size_hint() == (0, Some(2)));
-    assert_eq!(rt; next_piece(&mut two)?, Some((0, 1)));
+    let first = next_piece(&mut two)?;
+    assert_eq!(rt; first, Some((0, 1)));
+    assert!(rt; two.size_hint() == (0, Some(1)));
     assert_eq!(rt; two.input().start(), 2);
-    assert_eq!(rt; next_piece(&mut two)?, Some((2, 5)));
-    assert!(rt; two.size_hint() == (0, Some(0)));
-    assert_eq!(rt; next_piece(&mut two)?, None);
     two.finish(&rt);
-    let mut one = comma.splitn(&rt, alloc, &input, 1)?;
-    assert_eq!(rt; next_piece(&mut one)?, Some((0, 5)));
-    assert_eq!(rt; next_piece(&mut one)?, None);
-    let mut none = comma.splitn(&rt, alloc, &input, 0)?;
-    assert_eq!(rt; next_piece(&mut none)?, None);
-    let mut many = comma.splitn(&rt, alloc, &input, 9)?;
-    assert_eq!(rt; next_piece(&mut many)?, Some((0, 1)));
-    assert_eq!(rt; next_piece(&mut many)?, Some((2, 3)));
-    assert_eq!(rt; next_piece(&mut many)?, Some((4, 5)));
-    assert_eq!(rt; next_piece(&mut many)?, None);
-    assert!(rt; many.size_hint() == (0, Some(5)));
     Ok(())
 }
 
@@ -190,18 +248,27 @@ fn tells_next(
 fn groups_are_told_by_their_names(rt: HostRuntime) -> Result<(), Fail> {
     let alloc = rt.alloc();
     let regex = settings(alloc)?;
-    let input = Input::new(SETTINGS);
-    let mut all = regex.captures_iter(&rt, alloc, &input)?;
+    let mut all = regex.captures_iter(&rt, alloc, &Input::new(SETTINGS))?;
     assert_eq!(rt; all.regex().pattern_len(), 4);
-    assert!(rt; tells_next(&mut all, 1, b"best_album", b"Blow Your Face Out")?);
     let quote = b"\"then as it was, then again it will be\"";
-    assert!(rt; tells_next(&mut all, 2, b"best_quote", quote)?);
-    assert!(rt; tells_next(&mut all, 0, b"best_year", b"1973")?);
-    assert!(rt; tells_next(&mut all, 3, b"best_simpsons_episode", b"HOMR")?);
+    let told = tells_next(&mut all, 1, b"best_album", b"Blow Your Face Out")?
+        && tells_next(&mut all, 2, b"best_quote", quote)?
+        && tells_next(&mut all, 0, b"best_year", b"1973")?
+        && tells_next(&mut all, 3, b"best_simpsons_episode", b"HOMR")?;
+    assert!(rt; told);
     assert_eq!(rt; all.input().start(), SETTINGS.len());
     assert!(rt; all.next().is_none());
     all.finish(&rt);
-    assert_eq!(rt; regex.captures_iter(&rt, alloc, &input)?.count(&rt)?, 4);
+    Ok(())
+}
+
+#[test]
+fn matches_with_groups_are_counted(rt: HostRuntime) -> Result<(), Fail> {
+    let alloc = rt.alloc();
+    let regex = settings(alloc)?;
+    let all = regex.captures_iter(&rt, alloc, &Input::new(SETTINGS))?;
+    let count = all.count(&rt)?;
+    assert_eq!(rt; count, 4);
     Ok(())
 }
 
@@ -213,7 +280,7 @@ fn used<R: Wait>(rt: &R, alloc: Global, regex: &Regex) -> Result<Captures, Fail>
 }
 
 #[test]
-fn captures_are_filled_and_emptied(rt: HostRuntime) -> Result<(), Fail> {
+fn captures_are_filled(rt: HostRuntime) -> Result<(), Fail> {
     let alloc = rt.alloc();
     let regex = Regex::new(alloc, "a(b)?")?;
     let mut captures = used(&rt, alloc, &regex)?;
@@ -222,10 +289,17 @@ fn captures_are_filled_and_emptied(rt: HostRuntime) -> Result<(), Fail> {
     assert_eq!(rt; captures.pattern(), Some(PatternID::ZERO));
     assert_eq!(rt; captures.get_group(0), Some(Span { start: 1, end: 2 }));
     assert_eq!(rt; captures.get_group(1), None);
+    Ok(())
+}
+
+#[test]
+fn captures_are_emptied(rt: HostRuntime) -> Result<(), Fail> {
+    let alloc = rt.alloc();
+    let regex = Regex::new(alloc, "a(b)?")?;
     let mut captures = used(&rt, alloc, &regex)?;
     regex.search_captures(&rt, alloc, &Input::new(b"x"), &mut captures)?;
     assert!(rt; !captures.is_match());
-    assert_eq!(rt; captures.slots().len(), 4);
+    assert_eq!(rt; captures.get_group(0), None);
     Ok(())
 }
 
@@ -233,20 +307,30 @@ fn captures_are_filled_and_emptied(rt: HostRuntime) -> Result<(), Fail> {
 fn a_clone_searches_alike(rt: HostRuntime) -> Result<(), Fail> {
     let alloc = rt.alloc();
     let regex = Regex::new(alloc, "a(b)?")?;
-    assert_eq!(rt; regex.captures_len(), 2);
-    assert_eq!(rt; regex.static_captures_len(), None);
     let copy = regex.clone()?;
-    assert_eq!(rt; copy.captures_len(), 2);
     let mut cache = Cache::new(alloc, &copy)?;
     let mut captures = copy.create_captures(alloc)?;
     copy.search_captures_with(&mut cache, &Input::new(b"xab"), &mut captures)?;
     assert_eq!(rt; captures.get_group(0), Some(Span { start: 1, end: 3 }));
     assert_eq!(rt; captures.get_group(1), Some(Span { start: 2, end: 3 }));
-    let fixed = Regex::new_many(alloc, &["(a)(b)", "(c)|d(e)", "(f)(g)"])?;
-    assert_eq!(rt; fixed.captures_len(), 9);
-    assert_eq!(rt; fixed.static_captures_len(), None);
-    let fixed = Regex::new_many(alloc, &["(a)(b)", "(f)(g)"])?;
-    assert_eq!(rt; fixed.static_captures_len(), Some(3));
+    Ok(())
+}
+
+/// How many groups the patterns have, and how many take part in each match.
+fn counts(alloc: Global, patterns: &[&str]) -> Result<(usize, Option<usize>), Fail> {
+    let regex = Regex::new_many(alloc, patterns)?;
+    Ok((regex.captures_len(), regex.static_captures_len()))
+}
+
+#[test]
+fn groups_are_counted(rt: HostRuntime) -> Result<(), Fail> {
+    let alloc = rt.alloc();
+    let one = counts(alloc, &["a(b)?"])?;
+    assert!(rt; one == (2, None));
+    let differing = counts(alloc, &["(a)(b)", "(c)|d(e)", "(f)(g)"])?;
+    assert!(rt; differing == (9, None));
+    let fixed = counts(alloc, &["(a)(b)", "(f)(g)"])?;
+    assert!(rt; fixed == (6, Some(3)));
     Ok(())
 }
 
@@ -254,11 +338,9 @@ fn a_clone_searches_alike(rt: HostRuntime) -> Result<(), Fail> {
 fn an_anchored_iterator_stops_where_no_match_begins(rt: HostRuntime) -> Result<(), Fail> {
     let alloc = rt.alloc();
     let regex = Regex::new(alloc, "ab")?;
-    let mut input = Input::new(b"ababxab");
-    input.set_anchored(Anchored::Yes);
+    let input = Input::new(b"ababxab").anchored(Anchored::Yes);
     let mut matches = regex.find_iter(&rt, alloc, &input)?;
-    assert_eq!(rt; next_span(&mut matches)?, Some((0, 2)));
-    assert_eq!(rt; next_span(&mut matches)?, Some((2, 4)));
-    assert_eq!(rt; next_span(&mut matches)?, None);
+    let given = gives(&mut matches, &[(0, 2), (2, 4)])?;
+    assert!(rt; given);
     Ok(())
 }

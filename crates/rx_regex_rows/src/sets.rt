@@ -3,7 +3,6 @@
 use rx_meta::{Builder, Cache, Config, Regex, WhichCaptures};
 use rx_search::{Anchored, Input, MatchKind, PatternID, PatternSet};
 use std::alloc::Global;
-use std::process::Abort;
 use std::sync::Wait;
 use std::test::Fail;
 
@@ -17,65 +16,58 @@ fn all_of(alloc: Global, which: WhichCaptures, patterns: &[&str]) -> Result<Rege
     Ok(builder.build_many(alloc, patterns)?)
 }
 
-/// The patterns that match are these, of three.
-fn are_in<R: Wait + Abort>(
+/// Whether the pattern of this number is in the set.
+fn is_in(set: &PatternSet, number: usize) -> bool {
+    match PatternID::new(number) {
+        Some(pattern) => set.contains(pattern),
+        None => false,
+    }
+}
+
+/// The patterns that match are these.
+fn are_in<R: Wait>(
     rt: &R,
     alloc: Global,
     regex: &Regex,
     input: &Input<'_>,
     expected: &[bool],
-) -> Result<(), Fail> {
+) -> Result<bool, Fail> {
     let mut set = PatternSet::new(alloc, regex.pattern_len())?;
     regex.which_overlapping_matches(rt, alloc, input, &mut set)?;
-    let mut with = PatternSet::new(alloc, regex.pattern_len())?;
-    let mut cache = Cache::new(alloc, regex)?;
-    regex.which_overlapping_matches_with(&mut cache, input, &mut with)?;
-    for (number, is_there) in expected.iter().enumerate() {
-        let pattern = PatternID::new(number).ok_or("a pattern")?;
-        assert_eq!(rt; set.contains(pattern), *is_there);
-        assert_eq!(rt; with.contains(pattern), *is_there);
+    for number in 0..expected.len() {
+        if is_in(&set, number) != expected[number] {
+            return Ok(false);
+        }
     }
-    Ok(())
+    Ok(true)
 }
 
 #[test]
 fn each_pattern_that_matches_is_added(rt: HostRuntime) -> Result<(), Fail> {
     let alloc = rt.alloc();
     let regex = all_of(alloc, WhichCaptures::All, &["a", "ab", "c"])?;
-    are_in(
-        &rt,
-        alloc,
-        &regex,
-        &Input::new(b"xab"),
-        &[true, true, false],
-    )?;
-    are_in(
-        &rt,
-        alloc,
-        &regex,
-        &Input::new(b"x"),
-        &[false, false, false],
-    )?;
-    are_in(
-        &rt,
-        alloc,
-        &regex,
-        &Input::new(b"cxab"),
-        &[true, true, true],
-    )?;
-    let mut input = Input::new(b"xab");
-    input.set_anchored(Anchored::Yes);
-    are_in(&rt, alloc, &regex, &input, &[false, false, false])?;
-    input.set_start(1);
-    are_in(&rt, alloc, &regex, &input, &[true, true, false])?;
-    input.set_end(2);
-    are_in(&rt, alloc, &regex, &input, &[true, false, false])?;
-    let mut input = Input::new(b"xab");
-    input.set_anchored(Anchored::No);
+    let all = are_in(&rt, alloc, &regex, &Input::new(b"xab"), &[true, true, false])?
+        && are_in(&rt, alloc, &regex, &Input::new(b"x"), &[false, false, false])?
+        && are_in(&rt, alloc, &regex, &Input::new(b"cxab"), &[true, true, true])?;
+    assert!(rt; all);
+    Ok(())
+}
+
+#[test]
+fn an_anchored_set_search_looks_at_the_start_alone(rt: HostRuntime) -> Result<(), Fail> {
+    let alloc = rt.alloc();
+    let regex = all_of(alloc, WhichCaptures::All, &["a", "ab", "c"])?;
+    let from_start = Input::new(b"xab").anchored(Anchored::Yes);
+    let later = Input::new(b"xab").range(1..3).anchored(Anchored::Yes);
+    let short = Input::new(b"xab").range(1..2).anchored(Anchored::Yes);
     let one = PatternID::new(1).ok_or("a pattern")?;
-    input.set_start(1);
-    input.set_anchored(Anchored::Pattern(one));
-    are_in(&rt, alloc, &regex, &input, &[false, true, false])
+    let second = Input::new(b"xab").range(1..3).anchored(Anchored::Pattern(one));
+    let all = are_in(&rt, alloc, &regex, &from_start, &[false, false, false])?
+        && are_in(&rt, alloc, &regex, &later, &[true, true, false])?
+        && are_in(&rt, alloc, &regex, &short, &[true, false, false])?
+        && are_in(&rt, alloc, &regex, &second, &[false, true, false])?;
+    assert!(rt; all);
+    Ok(())
 }
 
 #[test]
@@ -83,9 +75,10 @@ fn a_set_is_filled_without_captures(rt: HostRuntime) -> Result<(), Fail> {
     let alloc = rt.alloc();
     let regex = all_of(alloc, WhichCaptures::None, &["a", "ab", "c"])?;
     let input = Input::new(b"xab");
-    are_in(&rt, alloc, &regex, &input, &[true, true, false])?;
-    assert!(rt; regex.search(&rt, alloc, &input)?.is_none());
-    assert!(rt; regex.is_match(&rt, alloc, &input)?);
+    let filled = are_in(&rt, alloc, &regex, &input, &[true, true, false])?;
+    assert!(rt; filled);
+    let found = regex.search(&rt, alloc, &input)?;
+    assert!(rt; found.is_none());
     Ok(())
 }
 
@@ -93,27 +86,24 @@ fn a_set_is_filled_without_captures(rt: HostRuntime) -> Result<(), Fail> {
 fn empty_matches_are_added_where_one_may_begin(rt: HostRuntime) -> Result<(), Fail> {
     let alloc = rt.alloc();
     let regex = all_of(alloc, WhichCaptures::All, &["b*", "^b", "b$"])?;
-    are_in(&rt, alloc, &regex, &Input::new(b""), &[true, false, false])?;
-    are_in(
-        &rt,
-        alloc,
-        &regex,
-        &Input::new(b"abbb"),
-        &[true, false, true],
-    )?;
-    are_in(&rt, alloc, &regex, &Input::new(b"ba"), &[true, true, false])
+    let all = are_in(&rt, alloc, &regex, &Input::new(b""), &[true, false, false])?
+        && are_in(&rt, alloc, &regex, &Input::new(b"abbb"), &[true, false, true])?
+        && are_in(&rt, alloc, &regex, &Input::new(b"ba"), &[true, true, false])?;
+    assert!(rt; all);
+    Ok(())
 }
 
 #[test]
 fn members_stay_in_the_set(rt: HostRuntime) -> Result<(), Fail> {
     let alloc = rt.alloc();
     let regex = all_of(alloc, WhichCaptures::All, &["a", "b"])?;
-    let mut set = PatternSet::new(alloc, 2)?;
-    regex.which_overlapping_matches(&rt, alloc, &Input::new(b"b"), &mut set)?;
+    let mut cache = Cache::new(alloc, &regex)?;
+    let mut set = PatternSet::new(alloc, regex.pattern_len())?;
+    regex.which_overlapping_matches_with(&mut cache, &Input::new(b"b"), &mut set)?;
     assert_eq!(rt; set.len(), 1);
-    regex.which_overlapping_matches(&rt, alloc, &Input::new(b"x"), &mut set)?;
+    regex.which_overlapping_matches_with(&mut cache, &Input::new(b"x"), &mut set)?;
     assert_eq!(rt; set.len(), 1);
-    regex.which_overlapping_matches(&rt, alloc, &Input::new(b"a"), &mut set)?;
+    regex.which_overlapping_matches_with(&mut cache, &Input::new(b"a"), &mut set)?;
     assert!(rt; set.is_full());
     Ok(())
 }
@@ -122,15 +112,8 @@ fn members_stay_in_the_set(rt: HostRuntime) -> Result<(), Fail> {
 fn the_next_match_tells_its_pattern(rt: HostRuntime) -> Result<(), Fail> {
     let alloc = rt.alloc();
     let regex = Regex::new_many(alloc, &["b", "ab", "a"])?;
-    let mut set = PatternSet::new(alloc, 3)?;
-    regex.which_overlapping_matches(&rt, alloc, &Input::new(b"xab"), &mut set)?;
-    let one = PatternID::new(1).ok_or("a pattern")?;
-    assert!(rt; set.contains(one));
-    let mut input = Input::new(b"xab");
-    input.set_earliest(true);
-    let mut set = PatternSet::new(alloc, 3)?;
-    regex.which_overlapping_matches(&rt, alloc, &input, &mut set)?;
-    assert!(rt; !set.is_empty());
+    let filled = are_in(&rt, alloc, &regex, &Input::new(b"xab"), &[false, true, false])?;
+    assert!(rt; filled);
     Ok(())
 }
 
@@ -138,12 +121,9 @@ fn the_next_match_tells_its_pattern(rt: HostRuntime) -> Result<(), Fail> {
 fn an_unknown_pattern_is_not_found(rt: HostRuntime) -> Result<(), Fail> {
     let alloc = rt.alloc();
     let regex = Regex::new(alloc, "a")?;
-    let mut input = Input::new(b"a");
     let seven = PatternID::new(7).ok_or("a pattern")?;
-    input.set_anchored(Anchored::Pattern(seven));
-    assert!(rt; regex.search(&rt, alloc, &input)?.is_none());
-    let mut set = PatternSet::new(alloc, 1)?;
-    regex.which_overlapping_matches(&rt, alloc, &input, &mut set)?;
-    assert!(rt; set.is_empty());
+    let input = Input::new(b"a").anchored(Anchored::Pattern(seven));
+    let empty = are_in(&rt, alloc, &regex, &input, &[false])?;
+    assert!(rt; empty);
     Ok(())
 }

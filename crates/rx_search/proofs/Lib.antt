@@ -1,5 +1,4 @@
 pub mod SearcherLemmas
-pub mod GapLemmas
 pub mod CharacterLemmas
 pub mod LookSetLemmas
 pub mod GroupLemmas

@@ -2,7 +2,6 @@ pub mod Matches
 pub mod Anchored
 pub mod Input
 pub mod Searcher
-pub mod Gaps
 pub mod Look
 pub mod LookSet
 pub mod Limits
@@ -15,6 +14,5 @@ pub mod Promise
 pub mod Answer
 pub mod ByteClasses
 pub mod PatternSet
-pub mod Sets
 pub mod Captures
 pub mod CapturesLends

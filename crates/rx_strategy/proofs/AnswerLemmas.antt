@@ -8,7 +8,7 @@ use Rattle.rx_search.specs.Input.{InputValue, next_in}
 use Rattle.rx_search.specs.Matches.{MatchValue, match_value}
 use Rattle.rx_search.specs.PatternSet.{has}
 use Rattle.rx_search.specs.Promise.{Premises}
-use Rattle.rx_search.specs.Sets.{MatchesIn, GainsMatching, AddsMatching, IsFilledFor, IsFilled}
+use Rattle.rx_engines.specs.Sets.{MatchesIn, GainsMatching, AddsMatching, IsFilledFor, IsFilled}
 use Rattle.rx_search.specs.Told.{tells, told_in, IsMatchWith, HasSlots}
 use Rattle.rx_search.specs.declared.anchored.MatchKind.{MatchKind}
 use Rattle.rx_nfa.specs.Nfa.{Nfa, IsNfaOf}

@@ -4,7 +4,7 @@ ghost use Rattle.rx_model.specs.Expression.{Expression, alternation};
 ghost use Rattle.rx_model.specs.Search.{Patterns};
 ghost use Rattle.rx_search.specs.Input.{IsSpanned, next_in};
 ghost use Rattle.rx_search.specs.Matches.{match_value, half_match_value};
-ghost use Rattle.rx_search.specs.Sets.{KeepsMembers, AddsMatching, IsFilled};
+ghost use Rattle.rx_engines.specs.Sets.{KeepsMembers, AddsMatching, IsFilled};
 ghost use Rattle.rx_search.specs.Told.{AreWithin, LiesIn, HalfLiesIn};
 ghost use Rattle.rx_search.specs.declared.anchored.MatchKind.TheVariants.{All};
 ghost use Rattle.rx_hir.specs.Normal.{expressions};

@@ -1,20 +1,18 @@
 //! What a search of the PikeVM writes to.
 ghost use Rattle.std.specs.Prelude.{◌≡◌, ℕ, ◌^◌, ◌*◌, ◌<◌, ◌≤◌, [], length, is_some, Some, None, IfOk, OnOk, OnErr, IsOk, max, IfSome, IfNone, option_map, replicate, nat_lt, slice_index_or, if◌then◌else◌};
 ghost use Rattle.rx_engines.specs.Search.{IsInside, IsAnswered};
-ghost use Rattle.rx_engines.specs.Overlap.{NamesPatternsBelow, IsFilledBy};
 ghost use Rattle.rx_engines.specs.Room.{Room, room_code, HasGrown};
 ghost use Rattle.rx_engines.specs.Buffers.{AreAlike, held_by, room_for};
 ghost use Rattle.rx_engines.specs.Engine.{PikeVMValue, HasRoom, Fits, accounted_memory};
 
 use crate::accounting::memory_of;
 use crate::pikevm::buffers::Buffers;
-use crate::pikevm::overlap::fill_set;
 use crate::pikevm::row::SlotRow;
 use crate::pikevm::simulate::simulate_slots;
 use crate::pikevm::threads::Threads;
 use crate::pikevm::vm::PikeVM;
 use crate::search::Search;
-use rx_search::{Match, Memory, NonMaxUsize, PatternSet};
+use rx_search::{Match, Memory, NonMaxUsize};
 use std::alloc::Global;
 use std::marker::Model;
 
@@ -197,19 +195,5 @@ impl Cache {
         let found = simulate_slots(search, earliest, &mut self.buffers, slots);
         self.buffers.clear();
         found
-    }
-
-    /// Adds each pattern that has a match in the span to the set.
-    pub(crate) fn fill(&mut self, search: &Search<'_>, set: &mut PatternSet)
-        requires search { IsInside search.now }
-        requires named { NamesPatternsBelow (length set.old) search.now.states.now }
-        requires room { HasRoom search.now.states.now search.now.slots self.old }
-        ensures filled { IsFilledBy search.now set.old set.new }
-        ensures same { length set.new ≡ length set.old }
-        ensures room { self.new ≡ self.old }
-    {
-        self.buffers.reset(search.states.len(), 0);
-        fill_set(search, &mut self.buffers, set);
-        self.buffers.clear();
     }
 }

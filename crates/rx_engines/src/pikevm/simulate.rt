@@ -75,7 +75,7 @@ fn simulate(search: &Search<'_>, earliest: bool, buffers: &mut Buffers) -> Optio
 
 /// Where the search goes on from the place: there, while there is a match or a thread is alive, and else where a match may
 /// begin next. None where there is no such place.
-pub fn goes_on_at(search: &Search<'_>, place: usize, matched: bool, threads: usize) -> Option<usize>
+fn goes_on_at(search: &Search<'_>, place: usize, matched: bool, threads: usize) -> Option<usize>
     requires { (place ≤ search.now.end) × (search.now.end ≤ length search.now.text.now) }
     ensures { GoesOn search.now matched threads place result }
 {

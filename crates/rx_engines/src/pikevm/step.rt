@@ -40,7 +40,7 @@ impl Accepted {
 }
 
 /// What the state does where this byte stands, None at the end, and `after` is the place after it.
-pub fn act(state: &State, byte: Option<u8>, after: usize) -> Onward<PatternID>
+fn act(state: &State, byte: Option<u8>, after: usize) -> Onward<PatternID>
     ensures { result ≡ act_of state.now byte after }
 {
     match state {

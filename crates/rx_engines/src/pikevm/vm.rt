@@ -1,9 +1,11 @@
 //! The PikeVM.
-ghost use Rattle.std.specs.Prelude.{◌≡◌, ◌<◌, ◌-◌, ◌^◌, min, length, None, replicate, is_some, IfOk, IfNone, IfSome, MatchOption, ◌≤◌, true, slice_set, option_map};
+ghost use Rattle.std.specs.Prelude.{◌≡◌, ℕ, ◌<◌, ◌-◌, ◌^◌, min, length, None, replicate, is_some, IfOk, IfNone, IfSome, IsTrue, MatchOption, ◌≤◌, ◌↔◌, true, slice_set, not, option_map};
 ghost use Rattle.rx_model.specs.Search.{Patterns, told_of};
 ghost use Rattle.rx_search.specs.Input.{next_in};
 ghost use Rattle.rx_search.specs.Matches.{match_value};
-ghost use Rattle.rx_search.specs.Sets.{KeepsMembers, GainsMatching, IsFilledFor};
+ghost use Rattle.rx_search.specs.PatternSet.{has};
+ghost use Rattle.rx_search.specs.declared.anchored.MatchKind.TheVariants.{All};
+ghost use Rattle.rx_engines.specs.Sets.{MatchesIn, KeepsMembers, GainsMatching, IsFilledFor};
 ghost use Rattle.rx_search.specs.Told.{IsMatchWith, HasSlots, AreWithin, LiesIn, matched_pattern};
 ghost use Rattle.rx_nfa.specs.Nfa.{IsNfaOf};
 ghost use Rattle.rx_nfa.specs.NextMatch.{next_match_in};
@@ -122,17 +124,76 @@ impl PikeVM {
         ensures cache { Fits self.now cache.new }
         ensures memory { cache.new.memory ≡ cache.old.memory }
     {
-        let Some(search) = Search::of(&self.nfa, &self.candidates, input) else {
+        if is_for_all(self.kind, input.get_earliest()) {
+            self.fill(cache, input, set);
             return;
-        };
-        // One match tells the rest (DECISIONS: a set is filled by one match under leftmost-first, and with `earliest`).
-        match self.kind {
-            MatchKind::All if !input.get_earliest() => cache.fill(&search, set),
-            MatchKind::All | MatchKind::LeftmostFirst => {
-                let found = cache.find(&search, input.get_earliest(), &mut []);
-                add(found, set);
-            }
         }
+        // One match tells the rest (DECISIONS: a set is filled by one match under leftmost-first, and with `earliest`).
+        let found = self.find(cache, input);
+        add(found, set);
+    }
+
+    // The searches of the patterns share no state (DECISIONS: under `All` a set is filled pattern by pattern).
+    /// Adds each pattern that has a match in the input's span to the set, one after another.
+    fn fill(&self, cache: &mut Cache, input: &Input<'_>, set: &mut PatternSet)
+        requires fits { Fits self.now cache.old }
+        requires room { length self.now.nfa.starts ≤ length set.old }
+        ensures kept { KeepsMembers set.old set.new }
+        ensures matching { (r : Patterns) → IsNfaOf self.now.nfa r → BeginsEachRun self.now.pre self.now.nfa input.now
+            → GainsMatching r input.now set.old set.new }
+        ensures each { (r : Patterns) → IsNfaOf self.now.nfa r → BeginsEachRun self.now.pre self.now.nfa input.now
+            → (p : ℕ) → MatchesIn r input.now p → has set.new p ≡ true }
+        ensures cache { Fits self.now cache.new }
+        ensures memory { cache.new.memory ≡ cache.old.memory }
+    {
+        let count = self.nfa.pattern_len();
+        for k in 0..count {
+            let pattern = PatternID::new(k).unwrap();
+            self.try_pattern(cache, input, pattern, set);
+        }
+    }
+
+    /// Adds the pattern to the set if it has a match in the input's span.
+    fn try_pattern(
+        &self,
+        cache: &mut Cache,
+        input: &Input<'_>,
+        pattern: PatternID,
+        set: &mut PatternSet,
+    )
+        requires fits { Fits self.now cache.old }
+        requires is_there { pattern < length self.now.nfa.starts }
+        requires room { pattern < length set.old }
+        ensures kept { KeepsMembers set.old set.new }
+        ensures matching { (r : Patterns) → IsNfaOf self.now.nfa r → BeginsEachRun self.now.pre self.now.nfa input.now
+            → GainsMatching r input.now set.old set.new }
+        ensures tried { (r : Patterns) → IsNfaOf self.now.nfa r → BeginsEachRun self.now.pre self.now.nfa input.now
+            → MatchesIn r input.now pattern → has set.new pattern ≡ true }
+        ensures cache { Fits self.now cache.new }
+        ensures memory { cache.new.memory ≡ cache.old.memory }
+    {
+        if set.contains(pattern) {
+            return;
+        }
+        if !self.has_match(cache, input, pattern) {
+            return;
+        }
+        set.insert(pattern);
+    }
+
+    /// Whether the pattern has a match in the input's span.
+    fn has_match(&self, cache: &mut Cache, input: &Input<'_>, pattern: PatternID) -> bool
+        requires fits { Fits self.now cache.old }
+        requires is_there { pattern < length self.now.nfa.starts }
+        ensures value { (r : Patterns) → IsNfaOf self.now.nfa r → BeginsEachRun self.now.pre self.now.nfa input.now
+            → IsTrue result ↔ MatchesIn r input.now pattern }
+        ensures cache { Fits self.now cache.new }
+        ensures memory { cache.new.memory ≡ cache.old.memory }
+    {
+        let Some(search) = Search::of_pattern(&self.nfa, &self.candidates, input, pattern) else {
+            return false;
+        };
+        cache.find(&search, true, &mut []).is_some()
     }
 
     /// The next match in the input's span. With `earliest` the search stops at the first place by which a match
@@ -217,6 +278,16 @@ impl PikeVM {
             return None;
         };
         cache.find(&search, input.get_earliest(), slots)
+    }
+}
+
+/// Whether a set gets each pattern that has a match.
+fn is_for_all(kind: MatchKind, earliest: bool) -> bool
+    ensures { kind ≡ All → result ≡ not earliest }
+{
+    match kind {
+        MatchKind::All => !earliest,
+        MatchKind::LeftmostFirst => false,
     }
 }
 

@@ -5,7 +5,7 @@ ghost use Rattle.rx_model.specs.Expression.{Expression, alternation};
 ghost use Rattle.rx_model.specs.Search.{Patterns};
 ghost use Rattle.rx_search.specs.Input.{IsSpanned, next_in, span_len};
 ghost use Rattle.rx_search.specs.Matches.{match_value};
-ghost use Rattle.rx_search.specs.Sets.{KeepsMembers, AddsMatching, IsFilled};
+ghost use Rattle.rx_engines.specs.Sets.{KeepsMembers, AddsMatching, IsFilled};
 ghost use Rattle.rx_search.specs.Told.{tells, AreWithin, LiesIn};
 ghost use Rattle.rx_hir.specs.Cost.{state_size};
 ghost use Rattle.rx_hir.specs.Normal.{expressions};

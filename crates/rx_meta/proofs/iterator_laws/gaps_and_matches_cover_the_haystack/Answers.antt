@@ -1,6 +1,6 @@
 use Rattle.std.proofs.Common.{length, arith, subst, sym}
 use Rattle.std.specs.Prelude.{All, AllPairs}
-use Rattle.rx_search.proofs.GapLemmas.{gaps-length, pieces-limited, pieces-all}
+use Rattle.rx_meta.proofs.GapLemmas.{gaps-length, pieces-limited, pieces-all}
 use Rattle.rx_meta.specs.Laws.{IsBehind}
 use Rattle.rx_meta.proofs.IteratorLemmas.{iterator-rises, iterator-within, gaps-lead}
 use Rattle.rx_meta.proofs.iterator_laws.gaps_and_matches_cover_the_haystack.Goals as goal

@@ -1,7 +1,7 @@
 -- What lies between matches.
 use Rattle.std.proofs.Common.{◌≡◌, ℕ, zero, suc, ◌+◌, ◌≤◌, ◌<◌, List, [], ◌∷◌, ◌++◌, length, map, take, refl, ap, sym, ◌∙◌, arith}
 use Rattle.rx_model.specs.Search.{Match}
-use Rattle.rx_search.specs.Gaps.{span_between, gaps_from, gaps_up_to}
+use Rattle.rx_meta.specs.Gaps.{span_between, gaps_from, gaps_up_to}
 use Rattle.rx_search.specs.declared.span.Span.{Span}
 
 -- the first gap is the one before the first match
