@@ -6,12 +6,13 @@ use Rattle.rx_model.proofs.lemmas.matches.MatchLemmas.{next-within}
 use Rattle.rx_model.proofs.lemmas.matches.SuccessionLemmas.{matches-rise, matches-within}
 use Rattle.rx_search.specs.Answer.{half_of}
 use Rattle.rx_search.specs.Captures.{CapturesValue}
-use Rattle.rx_meta.specs.Gaps.{gaps_from, span_of_match}
+use Rattle.rx_meta.specs.Gaps.{span_between, gaps_from, gaps_up_to, span_of_match}
 use Rattle.rx_search.specs.Input.{InputValue, from_place, next_in}
 use Rattle.rx_search.specs.Matches.{MatchValue, match_value, half_match_value}
 use Rattle.rx_search.specs.Promise.{Promised}
 use Rattle.rx_search.specs.Searcher.{AtEachPlace, AnswersWithin}
 use Rattle.rx_search.specs.Told.{matched_pattern, HasSlots}
+use Rattle.rx_search.specs.declared.span.Span.{Span}
 use Rattle.rx_search.proofs.SearcherLemmas.{successive-matches}
 use Rattle.rx_meta.specs.Finder.{PromisesFor}
 use Rattle.rx_meta.specs.Captures.{emptied, AreOf, AreTold, HaveRoomOf, IsToldWith}
@@ -125,3 +126,34 @@ pub captures-silent : {T E : Type 0} (old new : CapturesValue) (result : Result 
     → OnErr result (AreOf new None)
 captures-silent old new (Ok x) room is = tt
 captures-silent old new (Err e) room is = emptied-again old new room is
+
+-- The gap before a match comes first, and then those after it, also where so many at most are to come.
+module _ (len i : ℕ) (old new : List Match) (given : MatchValue) (span : Span) (starts : span ≡ record { start = i; end = given.start }) where
+  pub gap-given : (first : Match) × (given ≡ match_value first) × (old ≡ first ∷ new)
+      → (gap : Span) × (span ≡ gap) × (gaps_from len i old ≡ gap ∷ gaps_from len given.end new)
+  gap-given x =
+      let m = x.0 in
+      let ends : m.trace.end ≡ given.end = ap (λ (f : MatchValue). f.end) (sym x.1) in (
+        span_between (i, m.start),
+        starts ∙ (λ k. record { start = i; end = (x.1 k).start }),
+        ap (gaps_from len i) x.2 ∙ (λ k. span_between (i, m.start) ∷ gaps_from len (ends k) new),
+      )
+
+  pub piece-given : (n : ℕ) → (first : Match) × (given ≡ match_value first) × (old ≡ first ∷ new)
+      → (gap : Span) × (span ≡ gap) × (gaps_up_to (suc (suc n)) len i old ≡ gap ∷ gaps_up_to (suc n) len given.end new)
+  piece-given n x =
+      let m = x.0 in
+      let ends : m.trace.end ≡ given.end = ap (λ (f : MatchValue). f.end) (sym x.1) in (
+        span_between (i, m.start),
+        starts ∙ (λ k. record { start = i; end = (x.1 k).start }),
+        ap (gaps_up_to (suc (suc n)) len i) x.2 ∙ (λ k. span_between (i, m.start) ∷ gaps_up_to (suc n) len (ends k) new),
+      )
+
+-- and where no match was to come all the rest does
+pub rest-given : (len i : ℕ) (old : List Match) (span : Span) → span ≡ span_between (i, len) → old ≡ []
+    → (gap : Span) × (span ≡ gap) × (gaps_from len i old ≡ gap ∷ [])
+rest-given len i old span is none = (span_between (i, len), is, ap (gaps_from len i) none)
+
+pub rest-piece : (n len i : ℕ) (old : List Match) (span : Span) → span ≡ span_between (i, len) → old ≡ []
+    → (gap : Span) × (span ≡ gap) × (gaps_up_to (suc (suc n)) len i old ≡ gap ∷ [])
+rest-piece n len i old span is none = (span_between (i, len), is, ap (gaps_up_to (suc (suc n)) len i) none)

@@ -4,4 +4,5 @@ pub mod ServeLemmas
 pub mod FinderLemmas
 pub mod GapLemmas
 pub mod SetLemmas
+pub mod CapturingLemmas
 pub mod IteratorLemmas

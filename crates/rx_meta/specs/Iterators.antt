@@ -108,6 +108,15 @@ gaps_to_come_from s (Some i) = gaps_from (text_len s) i (matches_to_come s.match
 abbrev pub gaps_to_come : SplitValue → List Span
 gaps_to_come s = gaps_to_come_from s s.rest
 
+-- from where the next piece begins, if one is to come
+abbrev pub pieces_from : (limit : ℕ) → SplitValue → Option ℕ → List Span
+pieces_from limit s None = []
+pieces_from limit s (Some i) = gaps_up_to limit (text_len s) i (matches_to_come s.matches)
+
+-- so many of the gaps that are still to come, of which the last one is all the rest
+abbrev pub pieces_up_to : (limit : ℕ) → SplitValue → List Span
+pieces_up_to limit s = pieces_from limit s s.rest
+
 -- the gap that comes next begins in the text, and not after the place from which the next match is searched
 abbrev pub RestsWithin : InputValue → Option ℕ → Type 0
 RestsWithin v None = Unit {0}
@@ -128,13 +137,9 @@ pub record SplitNValue : Type 0 where
   -- how many pieces may still come
   pub limit : ℕ
 
-abbrev pub pieces_to_come_from : SplitNValue → Option ℕ → List Span
-pieces_to_come_from s None = []
-pieces_to_come_from s (Some i) = gaps_up_to s.limit (text_len s.splits) i (matches_to_come s.splits.matches)
-
 -- the pieces that are still to come
 abbrev pub pieces_to_come : SplitNValue → List Span
-pieces_to_come s = pieces_to_come_from s s.splits.rest
+pieces_to_come s = pieces_up_to s.limit s.splits
 
 -- a piece of a text of this length
 pub record IsPieceOf (len : ℕ) (span : Span) : Type 0 where

@@ -1,7 +1,7 @@
 //! What lies between the matches in a text.
-ghost use Rattle.std.specs.Prelude.{◌≡◌, ◌≤◌, ◌-◌, ◌<◌, length, Some, None, IsOk, IfOk, IfSome};
+ghost use Rattle.std.specs.Prelude.{◌≡◌, ℕ, suc, ◌≤◌, ◌-◌, ◌<◌, length, Some, None, IsOk, IfOk, IfSome};
 ghost use Rattle.rx_meta.specs.Gaps.{span_between};
-ghost use Rattle.rx_meta.specs.Iterators.{split_begun, gaps_to_come, pieces_to_come, PromisesEach, most_gaps_left, GivesNext, IsSpan, IsPieceOf, text_len};
+ghost use Rattle.rx_meta.specs.Iterators.{split_begun, gaps_to_come, pieces_up_to, pieces_to_come, PromisesEach, most_gaps_left, GivesNext, IsSpan, IsPieceOf, text_len};
 
 use crate::find_matches::FindMatches;
 use crate::regex::Regex;
@@ -55,6 +55,8 @@ impl<'r, 'h> Split<'r, 'h> {
     /// `Memory`, where there was no memory for a search. It is the last item.
     pub fn next(&mut self) -> Option<Result<Span, Memory>>
         ensures gives { PromisesEach self.old.matches → GivesNext IsSpan (gaps_to_come self.old) (gaps_to_come self.new) result }
+        ensures pieces { (n : ℕ) → PromisesEach self.old.matches
+            → GivesNext IsSpan (pieces_up_to (suc (suc n)) self.old) (pieces_up_to (suc n) self.new) result }
         ensures goes_on { PromisesEach self.old.matches → PromisesEach self.new.matches }
         ensures piece { IfSome result (λ item. IfOk item (IsPieceOf (text_len self.old))) }
         ensures from { IfSome result (λ item. IfOk item (λ span. self.old.rest ≡ Some span.start)) }

@@ -41,10 +41,7 @@ fn next_piece(pieces: &mut SplitN<'_, '_>) -> Result<Option<(usize, usize)>, Fai
 }
 
 /// The spans of the matches that are to come are these.
-fn gives(
-    matches: &mut FindMatches<'_, '_>,
-    expected: &[(usize, usize)],
-) -> Result<bool, Fail> {
+fn gives(matches: &mut FindMatches<'_, '_>, expected: &[(usize, usize)]) -> Result<bool, Fail> {
     for span in expected {
         if next_span(matches)? != Some(*span) {
             return Ok(false);

@@ -46,9 +46,25 @@ fn are_in<R: Wait>(
 fn each_pattern_that_matches_is_added(rt: HostRuntime) -> Result<(), Fail> {
     let alloc = rt.alloc();
     let regex = all_of(alloc, WhichCaptures::All, &["a", "ab", "c"])?;
-    let all = are_in(&rt, alloc, &regex, &Input::new(b"xab"), &[true, true, false])?
-        && are_in(&rt, alloc, &regex, &Input::new(b"x"), &[false, false, false])?
-        && are_in(&rt, alloc, &regex, &Input::new(b"cxab"), &[true, true, true])?;
+    let all = are_in(
+        &rt,
+        alloc,
+        &regex,
+        &Input::new(b"xab"),
+        &[true, true, false],
+    )? && are_in(
+        &rt,
+        alloc,
+        &regex,
+        &Input::new(b"x"),
+        &[false, false, false],
+    )? && are_in(
+        &rt,
+        alloc,
+        &regex,
+        &Input::new(b"cxab"),
+        &[true, true, true],
+    )?;
     assert!(rt; all);
     Ok(())
 }
@@ -61,7 +77,9 @@ fn an_anchored_set_search_looks_at_the_start_alone(rt: HostRuntime) -> Result<()
     let later = Input::new(b"xab").range(1..3).anchored(Anchored::Yes);
     let short = Input::new(b"xab").range(1..2).anchored(Anchored::Yes);
     let one = PatternID::new(1).ok_or("a pattern")?;
-    let second = Input::new(b"xab").range(1..3).anchored(Anchored::Pattern(one));
+    let second = Input::new(b"xab")
+        .range(1..3)
+        .anchored(Anchored::Pattern(one));
     let all = are_in(&rt, alloc, &regex, &from_start, &[false, false, false])?
         && are_in(&rt, alloc, &regex, &later, &[true, true, false])?
         && are_in(&rt, alloc, &regex, &short, &[true, false, false])?
@@ -87,7 +105,13 @@ fn empty_matches_are_added_where_one_may_begin(rt: HostRuntime) -> Result<(), Fa
     let alloc = rt.alloc();
     let regex = all_of(alloc, WhichCaptures::All, &["b*", "^b", "b$"])?;
     let all = are_in(&rt, alloc, &regex, &Input::new(b""), &[true, false, false])?
-        && are_in(&rt, alloc, &regex, &Input::new(b"abbb"), &[true, false, true])?
+        && are_in(
+            &rt,
+            alloc,
+            &regex,
+            &Input::new(b"abbb"),
+            &[true, false, true],
+        )?
         && are_in(&rt, alloc, &regex, &Input::new(b"ba"), &[true, true, false])?;
     assert!(rt; all);
     Ok(())
@@ -112,7 +136,13 @@ fn members_stay_in_the_set(rt: HostRuntime) -> Result<(), Fail> {
 fn the_next_match_tells_its_pattern(rt: HostRuntime) -> Result<(), Fail> {
     let alloc = rt.alloc();
     let regex = Regex::new_many(alloc, &["b", "ab", "a"])?;
-    let filled = are_in(&rt, alloc, &regex, &Input::new(b"xab"), &[false, true, false])?;
+    let filled = are_in(
+        &rt,
+        alloc,
+        &regex,
+        &Input::new(b"xab"),
+        &[false, true, false],
+    )?;
     assert!(rt; filled);
     Ok(())
 }
