@@ -89,14 +89,27 @@ impl<'a> Search<'a> {
         ensures spanned { IsSpanned input.now }
         ensures in_range { IsInRange nfa.now }
     {
-        let found = Search::of(nfa, candidates, input);
+        let text = input.haystack();
         if !is_sought(input.get_anchored(), pattern) {
             return None;
         }
-        let mut search = found?;
+        if input.is_done() {
+            return None;
+        }
         let starts = nfa.starts();
-        search.start = starts[pattern.as_usize()];
-        Some(search)
+        Some(Search {
+            states: nfa.states(),
+            start: starts[pattern.as_usize()],
+            text,
+            matcher: *nfa.look_matcher(),
+            utf8: nfa.is_utf8(),
+            candidates,
+            free: !input.get_anchored().is_anchored(),
+            first: input.start(),
+            last: latest_start(input),
+            end: input.end(),
+            slots: nfa.slot_len(),
+        })
     }
 
     /// Whether a match may begin at the place, by one look at the byte there.

@@ -1,7 +1,8 @@
 -- What an iterator gives, by what a searcher does.
 use Rattle.std.proofs.Common.{◌≡◌, ℕ, zero, suc, ◌+◌, ◌≤◌, ◌<◌, List, [], ◌∷◌, length, map, refl, sym, ap, subst, ◌∙◌, arith, get_or}
-use Rattle.std.specs.Prelude.{Option, Some, None, option_map, is_some, true, All, AllPairs, Result, Ok, Err, IfOk, OnOk, OnErr, IfSome, IfNone, replicate}
-use Rattle.rx_model.specs.Search.{Patterns, Match, matches}
+use Rattle.std.specs.Prelude.{Bool, false, Option, Some, None, option_map, is_some, true, All, AllPairs, Result, Ok, Err, is_err, IfOk, OnOk, OnErr, IfSome, IfNone, replicate}
+use Rattle.rx_model.specs.Search.{Patterns, Match, matches, matches_from}
+use Rattle.rx_model.proofs.lemmas.runs.FirstLemmas.{none-is-some}
 use Rattle.rx_model.proofs.lemmas.matches.MatchLemmas.{next-within}
 use Rattle.rx_model.proofs.lemmas.matches.SuccessionLemmas.{matches-rise, matches-within}
 use Rattle.rx_search.specs.Answer.{half_of}
@@ -10,13 +11,13 @@ use Rattle.rx_meta.specs.Gaps.{span_between, gaps_from, gaps_up_to, span_of_matc
 use Rattle.rx_search.specs.Input.{InputValue, from_place, next_in}
 use Rattle.rx_search.specs.Matches.{MatchValue, match_value, half_match_value}
 use Rattle.rx_search.specs.Promise.{Promised}
-use Rattle.rx_search.specs.Searcher.{AtEachPlace, AnswersWithin}
+use Rattle.rx_search.specs.Searcher.{SearcherValue, AtEachPlace, AnswersWithin, Gives, search_from, places_left, upcoming, to_come}
 use Rattle.rx_search.specs.Told.{matched_pattern, HasSlots}
 use Rattle.rx_search.specs.declared.span.Span.{Span}
 use Rattle.rx_search.proofs.SearcherLemmas.{successive-matches}
 use Rattle.rx_meta.specs.Finder.{PromisesFor}
-use Rattle.rx_meta.specs.Captures.{emptied, AreOf, AreTold, HaveRoomOf, IsToldWith}
-use Rattle.rx_meta.specs.Iterators.{begun, matches_to_come, PromisesEach, IsFoundIn}
+use Rattle.rx_meta.specs.Captures.{emptied, AreOf, AreOfMatch, AreTold, HaveRoomOf, IsToldWith}
+use Rattle.rx_meta.specs.Iterators.{begun, matches_to_come, PromisesEach, GivesFirst, IsFoundIn}
 use Rattle.rx_meta.specs.Laws.{IsBehind, LeadFrom, in_turn}
 use Rattle.rx_meta.specs.Regex.{RegexValue, Serves, searches, given_needles, kind_in, pattern_count}
 use Rattle.rx_meta.specs.Search.{IsAnswer}
@@ -56,6 +57,22 @@ module _ (regex : RegexValue) (v : InputValue) where
       iterator-within =
           subst (All (λ (m : Match). (v.start ≤ m.start) × (m.start ≤ m.trace.end) × (m.trace.end ≤ v.end))) (sym iterator-matches)
           (matches-within r v.haystack v.anchor v.end v.start)
+
+-- the first match that is to come is the one that comes next
+head_of : List Match → Option Match
+head_of [] = None
+head_of (m ∷ ms) = Some m
+
+from-first : (search : ℕ → Option Match) (n : ℕ) (o : Option Match) (x : Match) (xs : List Match) → matches_from search n o ≡ x ∷ xs → o ≡ Some x
+unfolding matches_from
+from-first search zero o x xs e = none-is-some (ap head_of e)
+from-first search (suc n) None x xs e = none-is-some (ap head_of e)
+from-first search (suc n) (Some m) x xs e = ap head_of e
+
+to_come-first : (searches : InputValue → Option Match) (s : SearcherValue) (x : Match) (xs : List Match) → to_come searches s ≡ x ∷ xs
+    → upcoming searches s ≡ Some x
+unfolding to_come
+to_come-first searches s x xs e = from-first (search_from searches s.input) (places_left s) (upcoming searches s) x xs e
 
 -- answers to searches of one input
 pub half-agrees : (o : Option Match) (found : Option MatchValue) → found ≡ option_map match_value o → option_map half_match_value o ≡ option_map half_of found
@@ -157,3 +174,38 @@ rest-given len i old span is none = (span_between (i, len), is, ap (gaps_from le
 pub rest-piece : (n len i : ℕ) (old : List Match) (span : Span) → span ≡ span_between (i, len) → old ≡ []
     → (gap : Span) × (span ≡ gap) × (gaps_up_to (suc (suc n)) len i old ≡ gap ∷ [])
 rest-piece n len i old span is none = (span_between (i, len), is, ap (gaps_up_to (suc (suc n)) len i) none)
+
+-- What an iterator gives is what its searcher gave. The second regex is that of the finder afterwards.
+module _ (regex regex' : RegexValue) (same : regex' ≡ regex) (s t : SearcherValue) (ended : Bool) (going : ended ≡ false) where
+  before : List Match
+  before = matches_to_come (record { regex = regex; searcher = s; ended = ended })
+
+  after : Bool → List Match
+  after over = matches_to_come (record { regex = regex'; searcher = t; ended = over })
+
+  to_come-after : (over : Bool) → over ≡ false → after over ≡ to_come (searches regex) t
+  to_come-after over e = rw e (ap (λ (r : RegexValue). to_come (searches r) t) same)
+
+  to_come-before : before ≡ to_come (searches regex) s
+  to_come-before = rw going refl
+
+  pub next-given : (over : Bool) → over ≡ false → (found : MatchValue) → Gives (searches regex) s (Some found) t
+      → (first : Match) × (found ≡ match_value first) × (before ≡ first ∷ after over)
+  next-given over e found g = (g.0, sym g.1, to_come-before ∙ g.2 ∙ ap (λ ms. g.0 ∷ ms) (sym (to_come-after over e)))
+
+  pub next-none : Gives (searches regex) s None t → (before ≡ []) × (after true ≡ [])
+  next-none g = (to_come-before ∙ g, refl)
+
+  -- captures that were copied are those of the match that was given
+  pub captures-given : {E : Type 0} (captures : CapturesValue) (found : MatchValue) (given : Result CapturesValue E) (over : Bool)
+      → IfOk given (λ c. c ≡ captures) → over ≡ is_err given → Gives (searches regex) s (Some found) t → AreOf captures (upcoming (searches regex) s)
+      → GivesFirst AreOfMatch before (after over) given
+  captures-given captures found (Ok c) over copy e g told =
+      let first = g.0 in
+      let is : upcoming (searches regex) s ≡ Some first = to_come-first (searches regex) s first _ g.2 in
+      (
+        first,
+        subst (λ (o : CapturesValue). AreOfMatch first o) (sym copy) (subst (AreOf captures) is told),
+        to_come-before ∙ g.2 ∙ ap (λ ms. first ∷ ms) (sym (to_come-after over e)),
+      )
+  captures-given captures found (Err x) over copy e g told = rw e refl

@@ -35,6 +35,7 @@ use Rattle.rx_engines.specs.Sets.{MatchesIn, KeepsMembers, GainsMatching, IsFill
 use Rattle.rx_engines.specs.declared.candidates.Candidates.{Candidates}
 use Rattle.rx_engines.specs.declared.search.Search.{Search}
 use Rattle.rx_engines.proofs.lemmas.candidates.CandidateLemmas.{passes-no_run}
+use Rattle.rx_engines.proofs.lemmas.answers.EngineLemmas.{patterns-agree}
 
 -- a first run from where a match may start is a match
 pub run-is_match : (r : Patterns) (hay : List ℕ) (anchor : Anchor) (b a i p : ℕ) (t : Trace) → MayStart r hay anchor b a i
@@ -252,6 +253,9 @@ set-kept old p q lt there =
     (λ e. let same : q ≡ p = grind (arith, nat_tests) in ap (has (set old p true)) same ∙ get_or-set_same old p true false lt)
     (λ e. let differ : q ≢ p = λ same. absurd (grind (arith, nat_tests)) in get_or-set_other old p q true false differ ∙ there)
 
+pub set-there : (old : List Bool) (p : ℕ) → p < length old → has (set old p true) p ≡ true
+set-there old p lt = get_or-set_same old p true false lt
+
 pub set-gains : (old : List Bool) (p q : ℕ) → has old q ≡ false → has (set old p true) q ≡ true → q ≡ p
 set-gains old p q missing there =
     by_test (q == p)
@@ -355,3 +359,27 @@ module _ (old new : List Bool) where
       next = λ leftmost not_any. added-next found same lt (next_in r v) (whole not_any);
       some = λ any. added-some found same lt is (there ∙ any);
     }
+
+-- what `find` answers, where not just any match will do and where any will
+pub in-room : (n k : ℕ) (found : Option MatchValue) → n ≤ k → IfSome found (λ m. m.pattern < n) → IfSome found (λ m. m.pattern < k)
+in-room n k None le lt = tt
+in-room n k (Some m) le lt = omega arith
+
+pub whole-answer : (vm : PikeVMValue) (v : InputValue) → v.earliest ≡ false → answer_in vm v ≡ next_match_in vm.nfa v
+whole-answer vm v e = rw e refl
+
+pub some-told : (which : WhichCaptures) (o : Option Match) → is_some (option_map (told_of which) o) ≡ is_some o
+some-told which None = refl
+some-told which (Some m) = refl
+
+-- a pattern for which there is nothing to search has no match
+pub unsought : (vm : PikeVMValue) (r : Patterns) → IsNfaOf vm.nfa r → (v : InputValue) → v.end ≤ length v.haystack → (p : ℕ)
+    → (IsSought v.anchor p → HasNoMatch vm.nfa v) → IsTrue false ↔ MatchesIn r v p
+unsought vm r is v spanned p none = (
+  λ no. absurd (true≢false (sym no)),
+  λ m.
+      let gone = none (sought-matches r v p m) v.end (omega arith) in
+      let nothing : next_in r v ≡ None =
+      map-none (told_of r.which_captures) (next_in r v) (sym (patterns-agree vm v spanned r is) ∙ gone) in
+      absurd (none-matches r v p nothing m),
+)

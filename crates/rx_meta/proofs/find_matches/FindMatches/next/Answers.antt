@@ -1,0 +1,19 @@
+use Rattle.std.proofs.Common.{refl}
+use Rattle.rx_meta.proofs.IteratorLemmas.{answers-within, next-given, next-none}
+use Rattle.rx_meta.proofs.find_matches.FindMatches.next.Goals as goal
+
+pub returns-in-Ok-Some-clause-gives : goal.returns-in-Ok-Some-clause-gives
+returns-in-Ok-Some-clause-gives c promised =
+    let it = c.args.self.now in
+    let called = c.in-Ok-Some in
+    let within = answers-within it.regex it.searcher.input c.haystack-_haystack.ensures.spanned.end promised in
+    next-given it.regex _ (c.advance.ensures.stays _ refl) it.searcher c.advance.new.self it.ended c.if-is_ended.false it.ended c.if-is_ended.false
+    called.found (rw called.field-0-is at (called.ensures.gives promised within))
+
+pub returns-in-Ok-None-clause-gives : goal.returns-in-Ok-None-clause-gives
+returns-in-Ok-None-clause-gives c promised =
+    let it = c.args.self.now in
+    let called = c.in-Ok-None in
+    let within = answers-within it.regex it.searcher.input c.haystack-_haystack.ensures.spanned.end promised in
+    next-none it.regex _ (c.advance.ensures.stays _ refl) it.searcher c.advance.new.self it.ended c.if-is_ended.false
+    (rw called.field-0-is at (called.ensures.gives promised within))
