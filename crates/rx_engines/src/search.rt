@@ -89,14 +89,15 @@ impl<'a> Search<'a> {
         ensures spanned { IsSpanned input.now }
         ensures in_range { IsInRange nfa.now }
     {
+        let starts = nfa.starts();
         let text = input.haystack();
-        if !is_sought(input.get_anchored(), pattern) {
+        let anchored = input.get_anchored();
+        if !is_sought(anchored, pattern) {
             return None;
         }
         if input.is_done() {
             return None;
         }
-        let starts = nfa.starts();
         Some(Search {
             states: nfa.states(),
             start: starts[pattern.as_usize()],
@@ -104,7 +105,7 @@ impl<'a> Search<'a> {
             matcher: *nfa.look_matcher(),
             utf8: nfa.is_utf8(),
             candidates,
-            free: !input.get_anchored().is_anchored(),
+            free: !anchored.is_anchored(),
             first: input.start(),
             last: latest_start(input),
             end: input.end(),

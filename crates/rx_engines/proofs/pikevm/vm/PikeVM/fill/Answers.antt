@@ -19,20 +19,20 @@ loop-k-init c = record {
 
 pub loop-k-preserved : goal.loop-k-preserved
 loop-k-preserved c = record {
-  kept = keeps-twice _ _ _ c.invariant.kept c.try_pattern.ensures.kept;
-  matching = λ r is begins. gains-twice r _ _ _ _ (c.invariant.matching r is begins) (c.try_pattern.ensures.matching r is begins);
-  each = λ r is begins p lt m. by_test (nat_lt p c.k)
-      (λ e. c.try_pattern.ensures.kept.kept p (c.invariant.each r is begins p (grind (arith, nat_tests)) m))
+  kept = keeps-twice _ _ _ c.loop-k.invariant.kept c.try_pattern.ensures.kept;
+  matching = λ r is begins. gains-twice r _ _ _ _ (c.loop-k.invariant.matching r is begins) (c.try_pattern.ensures.matching r is begins);
+  each = λ r is begins p lt m. by_test (nat_lt p c.loop-k.k)
+      (λ e. c.try_pattern.ensures.kept.kept p (c.loop-k.invariant.each r is begins p (grind (arith, nat_tests)) m))
       (λ e.
       let same : p ≡ c.unwrap-pattern.result = grind (arith, nat_tests) in
       subst (λ q. has c.try_pattern.new.set q ≡ true) (sym same)
       (c.try_pattern.ensures.tried r is begins (subst (MatchesIn r c.args.input.now) same m)));
   fits = c.try_pattern.ensures.cache;
-  memory = c.try_pattern.ensures.memory ∙ c.invariant.memory;
+  memory = c.try_pattern.ensures.memory ∙ c.loop-k.invariant.memory;
 }
 
 pub returns-clause-each : goal.returns-clause-each
 returns-clause-each c r is begins p m =
     let lt = matches-there r c.args.input.now p m in
     let same = is.runs.patterns in
-    c.invariant.each r is begins p (omega arith) m
+    c.loop-k.invariant.each r is begins p (omega arith) m

@@ -1,8 +1,8 @@
 use Rattle.std.proofs.Common.{◌≡◌, length, sym, ◌∙◌, ap, subst, true≢false}
-use Rattle.std.specs.Prelude.{true, List, Bool, slice_set}
+use Rattle.std.specs.Prelude.{true, not, List, Bool, slice_set}
 use Rattle.rx_search.specs.PatternSet.{has}
 use Rattle.rx_engines.specs.Sets.{KeepsMembers, GainsMatching}
-use Rattle.rx_engines.proofs.lemmas.answers.OverlapLemmas.{keeps-same, keeps-set, gains-same, gains-set, set-there}
+use Rattle.rx_engines.proofs.lemmas.answers.OverlapLemmas.{keeps-same, keeps-set, gains-same, gains-set, set-there, from-not}
 use Rattle.rx_engines.proofs.pikevm.vm.PikeVM.try_pattern.Goals as goal
 
 pub returns-then-contains-clause-kept : goal.returns-then-contains-clause-kept
@@ -14,15 +14,15 @@ returns-then-contains-clause-matching c r is begins = gains-same r c.args.input.
 pub returns-then-contains-clause-tried : goal.returns-then-contains-clause-tried
 returns-then-contains-clause-tried c r is begins m = sym c.contains.ensures ∙ c.if-contains.true
 
-pub returns-then-has_match-clause-kept : goal.returns-then-has_match-clause-kept
-returns-then-has_match-clause-kept c = keeps-same c.args.set.now
+pub returns-then-not-has_match-clause-kept : goal.returns-then-not-has_match-clause-kept
+returns-then-not-has_match-clause-kept c = keeps-same c.args.set.now
 
-pub returns-then-has_match-clause-matching : goal.returns-then-has_match-clause-matching
-returns-then-has_match-clause-matching c r is begins = gains-same r c.args.input.now c.args.set.now
+pub returns-then-not-has_match-clause-matching : goal.returns-then-not-has_match-clause-matching
+returns-then-not-has_match-clause-matching c r is begins = gains-same r c.args.input.now c.args.set.now
 
-pub returns-then-has_match-clause-tried : goal.returns-then-has_match-clause-tried
-returns-then-has_match-clause-tried c r is begins m =
-    absurd (true≢false (sym ((c.has_match.ensures.value r is begins).1 m) ∙ c.if-has_match.false))
+pub returns-then-not-has_match-clause-tried : goal.returns-then-not-has_match-clause-tried
+returns-then-not-has_match-clause-tried c r is begins m =
+    absurd (true≢false (sym c.if-not-has_match.true ∙ ap not ((c.has_match.ensures.value r is begins).1 m)))
 
 pub returns-clause-kept : goal.returns-clause-kept
 returns-clause-kept c = subst (KeepsMembers c.args.set.now) (sym c.insert.ensures.set) (keeps-set c.args.set.now c.args.pattern c.requires.room)
@@ -30,7 +30,7 @@ returns-clause-kept c = subst (KeepsMembers c.args.set.now) (sym c.insert.ensure
 pub returns-clause-matching : goal.returns-clause-matching
 returns-clause-matching c r is begins =
     subst (GainsMatching r c.args.input.now c.args.set.now) (sym c.insert.ensures.set)
-    (gains-set r c.args.input.now c.args.set.now c.args.pattern ((c.has_match.ensures.value r is begins).0 c.if-has_match.true))
+    (gains-set r c.args.input.now c.args.set.now c.args.pattern ((c.has_match.ensures.value r is begins).0 (from-not c.has_match.result c.if-not-has_match.false)))
 
 pub returns-clause-tried : goal.returns-clause-tried
 returns-clause-tried c r is begins m =
