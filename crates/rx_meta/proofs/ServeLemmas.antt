@@ -1,25 +1,18 @@
 -- From what a strategy answers to what its regex does.
 use Rattle.std.proofs.Common.{List, ◌≡◌, refl, sym, ap, subst}
-use Rattle.std.specs.Prelude.{ℕ, Bool, true, false, Option, None, Result, Ok, Err, IfOk, OnOk, IfSome, is_some, option_map, if◌then◌else◌}
+use Rattle.std.specs.Prelude.{ℕ, Bool, true, false, Option, None, Result, Ok, Err, IfOk, IfSome, is_some, option_map, if◌then◌else◌}
 use Rattle.rx_model.specs.Search.{Patterns, Match}
 use Rattle.rx_search.specs.Answer as answer
 use Rattle.rx_search.specs.Input.{InputValue, next_in}
 use Rattle.rx_search.specs.Promise.{Premises, Promised}
-use Rattle.rx_engines.specs.Sets as sets
 use Rattle.rx_search.specs.Told.{told_in, HasSlots}
 use Rattle.rx_strategy.specs.Strategy as strategy
-use Rattle.rx_strategy.specs.declared.strategy.Strategy.{Strategy}
 use Rattle.rx_meta.specs.Regex.{RegexValue, Serves, given_needles, kind_in}
 use Rattle.rx_meta.specs.Search.{IsAnswer, AreSlotsOfAnswer, TellsWhether}
-use Rattle.rx_meta.specs.Sets.{AddsMatching, IsFilled}
 
 told-none : (b : Bool) (next : Option Match) → next ≡ None → false ≡ is_some (if b then next else None)
 told-none true next none = sym (ap is_some none)
 told-none false next none = refl
-
--- the regex with a strategy that is its own
-pub with_strategy : (regex : RegexValue) {s : Strategy} → s ≡ regex.strategy → record { config = regex.config; strategy = s } ≡ regex
-with_strategy regex is = ap (λ (s : Strategy). record { config = regex.config; strategy = s }) is
 
 module _ (regex : RegexValue) (v : InputValue) where
   premises-of : (r : Patterns) → Premises (Serves regex r) (given_needles regex) r v
@@ -70,20 +63,6 @@ module _ (regex : RegexValue) (v : InputValue) where
       → IfOk result (TellsWhether regex v)
   whether-of (Ok there) a = λ r p. a r (premises-of r p)
   whether-of (Err e) a = tt
-
-  -- what is added to a set
-  pub adds-of : (old new : List Bool)
-      → sets.AddsMatching (λ r. strategy.IsFor regex.strategy r) (strategy.prefilter_in regex.strategy) v old new
-      → AddsMatching regex v old new
-  adds-of old new a = λ r p. a r (premises-of r p)
-
-  pub filled-of : {T E : Type 0} (old new : List Bool) (result : Result T E)
-      → OnOk result (sets.IsFilled (λ r. strategy.IsFor regex.strategy r) (strategy.prefilter_in regex.strategy) v old new
-      (strategy.kind_in regex.strategy))
-      → OnOk result (IsFilled regex v old new)
-  unfolding kind_in
-  filled-of old new (Ok x) a = λ r p. a r (premises-of r p)
-  filled-of old new (Err e) a = tt
 
   -- what is answered where it is known that no pattern has a match
   module _ (none : (r : Patterns) → strategy.IsFor regex.strategy r → next_in r v ≡ None) where

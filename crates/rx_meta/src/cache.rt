@@ -53,7 +53,7 @@ impl Cache {
         ensures kept { Fits regex.now self.old → StillFits self.old self.new }
     {
         // What it served before counts only if it served this regex too (DECISIONS: after a `reset` a cache is promised to serve).
-        self.rooms.reset(alloc, regex.strategy())
+        self.rooms.reset(alloc, &regex.strategy)
     }
 
     /// The bytes that are accounted for the caches of its engines, or the greatest `usize` where they are more. The number

@@ -24,7 +24,7 @@ use rx_search::{GroupInfo, HalfMatch, Input, Match, Memory, NonMaxUsize, Pattern
 use rx_strategy::{Config, Strategy};
 use std::alloc::Global;
 use std::marker::Model;
-use std::sync::{Arc, Wait};
+use std::sync::Wait;
 
 /// The bytes that are accounted for the properties of a pattern.
 const PROPERTIES_SIZE: usize = 64;
@@ -38,20 +38,19 @@ const PROPERTIES_SIZE: usize = 64;
 ///
 /// A call that takes `rt` makes a cache for itself, and fails where there is no memory for it. A call that ends in `_with`
 /// is given one that serves this regex; it may fail where there is no memory for the search. Where it is known beforehand
-/// that there is no match in the span, no search is made, no cache is made, and no call fails. Clones share the strategy.
+/// that there is no match in the span, no search is made, no cache is made, and no call fails.
 #[derive(Drop)]
 pub struct Regex {
     config: Config,
-    strategy: Arc<Strategy, Global>,
+    pub(crate) strategy: Strategy,
 }
 
 impl Model for Regex {
-    ghost use Rattle.std.specs.Arc.{arc_value};
     ghost use Rattle.rx_meta.specs.Regex.{RegexValue};
 
     ghost Value = { RegexValue };
 
-    ghost view = { λ r. record { config = r.config; strategy = arc_value r.strategy } };
+    ghost view = { λ r. record { config = r.config; strategy = r.strategy } };
 }
 
 impl Regex {
@@ -104,38 +103,10 @@ impl Regex {
     }
 
     /// A regex that searches by this strategy, which was made under the configuration.
-    pub(crate) fn from_parts(
-        alloc: Global,
-        config: Config,
-        strategy: Strategy,
-    ) -> Result<Regex, Memory>
-        ensures { IfOk result (λ regex. regex ≡ record { config = config; strategy = strategy }) }
+    pub(crate) fn from_parts(config: Config, strategy: Strategy) -> Regex
+        ensures { result ≡ record { config = config; strategy = strategy } }
     {
-        Ok(Regex {
-            config,
-            strategy: Arc::new(alloc, strategy)?,
-        })
-    }
-
-    /// How its searches are answered.
-    pub(crate) fn strategy(&self) -> &Strategy
-        ensures { result.now ≡ self.now.strategy }
-    {
-        &self.strategy
-    }
-
-    /// The same regex once more. It shares the strategy.
-    ///
-    /// # Errors
-    ///
-    /// `Memory`, where there was no memory for it.
-    pub fn clone(&self) -> Result<Regex, Memory>
-        ensures { IfOk result (λ copy. copy ≡ self.now) }
-    {
-        Ok(Regex {
-            config: self.config.clone()?,
-            strategy: Arc::try_clone(&self.strategy)?,
-        })
+        Regex { config, strategy }
     }
 
     /// Whether there is a match in the input's span, under every configuration.
@@ -153,11 +124,11 @@ impl Regex {
         ensures sure { IsKnownImpossible self.now input.now → IsOk result }
     {
         // It is a few comparisons (DECISIONS: searches that can have no match run no engine).
-        if self.strategy().is_impossible(input) {
+        if self.strategy.is_impossible(input) {
             return Ok(false);
         }
         let mut cache = self.create_cache(alloc)?;
-        self.strategy().is_match(&mut cache.rooms, input)
+        self.strategy.is_match(&mut cache.rooms, input)
     }
 
     /// As `search`.
@@ -206,11 +177,11 @@ impl Regex {
         ensures sure { IsKnownImpossible self.now input.now → IsOk result }
     {
         // The input first, so that the answer needs no memory there (DECISIONS: a call that makes a cache reads the input first).
-        if self.strategy().is_impossible(input) {
+        if self.strategy.is_impossible(input) {
             return Ok(None);
         }
         let mut cache = self.create_cache(alloc)?;
-        self.strategy().search(&mut cache.rooms, input)
+        self.strategy.search(&mut cache.rooms, input)
     }
 
     /// The pattern and the end of the match that `search` answers.
@@ -229,11 +200,11 @@ impl Regex {
         ensures in_range { IfOk result (λ o. IfSome o (λ half. half.pattern < pattern_count self.now)) }
         ensures sure { IsKnownImpossible self.now input.now → IsOk result }
     {
-        if self.strategy().is_impossible(input) {
+        if self.strategy.is_impossible(input) {
             return Ok(None);
         }
         let mut cache = self.create_cache(alloc)?;
-        self.strategy().search_half(&mut cache.rooms, input)
+        self.strategy.search_half(&mut cache.rooms, input)
     }
 
     /// The pattern of the match that `search` answers. Each slot gets the place that the match leaves in it, and None where
@@ -270,7 +241,7 @@ impl Regex {
         ensures err { OnErr result (slots.new ≡ replicate (length slots.old) None) }
         ensures sure { IsKnownImpossible self.now input.now → IsOk result }
     {
-        if self.strategy().is_impossible(input) {
+        if self.strategy.is_impossible(input) {
             empty(slots);
             return Ok(None);
         }
@@ -296,7 +267,7 @@ impl Regex {
         ensures sure { IsKnownImpossible self.now input.now → IsOk result }
     {
         // An engine to come may take memory (DECISIONS: the calls that end in `_with` take no allocator).
-        self.strategy().search(&mut cache.rooms, input)
+        self.strategy.search(&mut cache.rooms, input)
     }
 
     /// As `search_half`, with a cache that serves this regex.
@@ -317,7 +288,7 @@ impl Regex {
         ensures memory { memory_of cache.new ≡ memory_of cache.old }
         ensures sure { IsKnownImpossible self.now input.now → IsOk result }
     {
-        self.strategy().search_half(&mut cache.rooms, input)
+        self.strategy.search_half(&mut cache.rooms, input)
     }
 
     /// As `search_slots`, with a cache that serves this regex.
@@ -370,7 +341,7 @@ impl Regex {
         ensures spanned { IsSpanned input.now }
         ensures sure { IsKnownImpossible self.now input.now → IsOk result }
     {
-        self.strategy().search_slots(&mut cache.rooms, input, slots)
+        self.strategy.search_slots(&mut cache.rooms, input, slots)
     }
 
     /// A cache that serves this regex.
@@ -392,7 +363,7 @@ impl Regex {
         ensures memory { IfOk result (λ c. memory_of c ≡ accounted_for self.now) }
     {
         Ok(Cache {
-            rooms: self.strategy().create_cache(alloc)?,
+            rooms: self.strategy.create_cache(alloc)?,
         })
     }
 
@@ -403,7 +374,7 @@ impl Regex {
         ensures patterns { (r : Patterns) → Serves self.now r → result ≡ length r.expressions }
         ensures few { result ≤ id_limit }
     {
-        self.strategy().pattern_len()
+        self.strategy.pattern_len()
     }
 
     /// The bytes that are accounted for the regex: 64 for the properties of each pattern and for those of all of them
@@ -412,9 +383,9 @@ impl Regex {
     pub fn memory_usage(&self) -> usize
         ensures { result ≡ regex_memory self.now }
     {
-        let properties = PROPERTIES_SIZE * (self.strategy().pattern_len() + 1);
+        let properties = PROPERTIES_SIZE * (self.strategy.pattern_len() + 1);
         // Needles may be of any length (DECISIONS: what is accounted for a regex stops at the greatest number of 64 bits).
-        properties.saturating_add(self.strategy().memory_usage())
+        properties.saturating_add(self.strategy.memory_usage())
     }
 
     /// The groups of each pattern. A group that the configuration leaves out has slots too, which stay empty.
@@ -422,7 +393,7 @@ impl Regex {
     pub fn group_info(&self) -> &GroupInfo
         ensures { result.now ≡ groups_in self.now }
     {
-        self.strategy().group_info()
+        self.strategy.group_info()
     }
 
     /// The configuration that it was built under.

@@ -2,8 +2,4 @@
 #![tactic(auto)]
 
 #[cfg(test)]
-mod iterators;
-#[cfg(test)]
 mod regex;
-#[cfg(test)]
-mod sets;
