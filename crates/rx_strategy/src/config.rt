@@ -1,6 +1,8 @@
 //! The configuration of a regex.
 ghost use Rattle.std.specs.Prelude.{◌≡◌, Some, IfOk, option_copied};
 ghost use Rattle.rx_strategy.specs.Config.{kind_of, utf8_of, auto_prefilter_of, prefilter_of, which_of, size_limit_of, terminator_of};
+ghost use Rattle.rx_strategy.specs.Config.{onepass_size_limit_of, hybrid_cache_capacity_of, dfa_size_limit_of, dfa_state_limit_of};
+ghost use Rattle.rx_strategy.specs.Config.{byte_classes_of, pool_capacity_of, hybrid_of, dfa_of, onepass_of};
 ghost use Rattle.rx_strategy.specs.Config.{backtrack_of, compiler_of, has_backtracker, nothing_set, overwritten};
 
 use rx_nfa::WhichCaptures;
@@ -10,6 +12,21 @@ use std::default::Default;
 
 /// The bytes that the NFA may have where no other limit is set, by what is accounted for it.
 const NFA_SIZE_LIMIT: usize = 10485760;
+
+/// The bytes that a one-pass DFA may have where no other limit is set.
+const ONEPASS_SIZE_LIMIT: usize = 1048576;
+
+/// The bytes that the cache of a lazy DFA may have where no other number is set.
+const HYBRID_CACHE_CAPACITY: usize = 2097152;
+
+/// The bytes that the tables of the full DFAs may have where no other limit is set.
+const DFA_SIZE_LIMIT: usize = 40960;
+
+/// The accounted states for which a full DFA is made where no other limit is set.
+const DFA_STATE_LIMIT: usize = 30;
+
+/// The stacks of the pool where no other number is set.
+const POOL_CAPACITY: usize = 8;
 
 // What is left open keeps what was set before (DECISIONS: a configuration's fields are optional).
 /// How a regex is built, and how it searches. What is not set has its default.
@@ -21,7 +38,16 @@ pub struct Config {
     prefilter: Option<Option<Prefilter>>,
     which_captures: Option<WhichCaptures>,
     nfa_size_limit: Option<Option<usize>>,
+    onepass_size_limit: Option<Option<usize>>,
+    hybrid_cache_capacity: Option<usize>,
+    dfa_size_limit: Option<Option<usize>>,
+    dfa_state_limit: Option<Option<usize>>,
+    byte_classes: Option<bool>,
     line_terminator: Option<u8>,
+    pool_capacity: Option<usize>,
+    hybrid: Option<bool>,
+    dfa: Option<bool>,
+    onepass: Option<bool>,
     backtrack: Option<bool>,
 }
 
@@ -37,7 +63,16 @@ impl Config {
             prefilter: None,
             which_captures: None,
             nfa_size_limit: None,
+            onepass_size_limit: None,
+            hybrid_cache_capacity: None,
+            dfa_size_limit: None,
+            dfa_state_limit: None,
+            byte_classes: None,
             line_terminator: None,
+            pool_capacity: None,
+            hybrid: None,
+            dfa: None,
+            onepass: None,
             backtrack: None,
         }
     }
@@ -98,12 +133,96 @@ impl Config {
         config
     }
 
+    /// Sets the most bytes that a one-pass DFA may have. None: there is no limit. It changes no answer that is
+    /// promised.
+    pub fn onepass_size_limit(self, limit: Option<usize>) -> Config
+        ensures { result ≡ record self { onepass_size_limit = Some limit } }
+    {
+        let mut config = self;
+        config.onepass_size_limit = Some(limit);
+        config
+    }
+
+    /// Sets how many bytes the cache of a lazy DFA may have. It changes no answer that is promised.
+    pub fn hybrid_cache_capacity(self, number: usize) -> Config
+        ensures { result ≡ record self { hybrid_cache_capacity = Some number } }
+    {
+        let mut config = self;
+        config.hybrid_cache_capacity = Some(number);
+        config
+    }
+
+    /// Sets the most bytes that the tables of the full DFAs may have. None: there is no limit. It changes no answer
+    /// that is promised.
+    pub fn dfa_size_limit(self, limit: Option<usize>) -> Config
+        ensures { result ≡ record self { dfa_size_limit = Some limit } }
+    {
+        let mut config = self;
+        config.dfa_size_limit = Some(limit);
+        config
+    }
+
+    /// Sets the most accounted states of an NFA for which a full DFA is made. None: there is no limit. It changes no
+    /// answer that is promised.
+    pub fn dfa_state_limit(self, limit: Option<usize>) -> Config
+        ensures { result ≡ record self { dfa_state_limit = Some limit } }
+    {
+        let mut config = self;
+        config.dfa_state_limit = Some(limit);
+        config
+    }
+
+    /// Sets whether bytes that the patterns do not tell apart are one to a DFA. It changes no answer that is promised.
+    pub fn byte_classes(self, yes: bool) -> Config
+        ensures { result ≡ record self { byte_classes = Some yes } }
+    {
+        let mut config = self;
+        config.byte_classes = Some(yes);
+        config
+    }
+
     /// Sets the byte that ends a line, for anchors at lines.
     pub fn line_terminator(self, byte: u8) -> Config
         ensures { result ≡ record self { line_terminator = Some byte } }
     {
         let mut config = self;
         config.line_terminator = Some(byte);
+        config
+    }
+
+    /// Sets among how many stacks the pool of caches is spread. It changes no answer that is promised.
+    pub fn pool_capacity(self, number: usize) -> Config
+        ensures { result ≡ record self { pool_capacity = Some number } }
+    {
+        let mut config = self;
+        config.pool_capacity = Some(number);
+        config
+    }
+
+    /// Sets whether lazy DFAs may be used. It changes no answer that is promised.
+    pub fn hybrid(self, yes: bool) -> Config
+        ensures { result ≡ record self { hybrid = Some yes } }
+    {
+        let mut config = self;
+        config.hybrid = Some(yes);
+        config
+    }
+
+    /// Sets whether full DFAs may be used. It changes no answer that is promised.
+    pub fn dfa(self, yes: bool) -> Config
+        ensures { result ≡ record self { dfa = Some yes } }
+    {
+        let mut config = self;
+        config.dfa = Some(yes);
+        config
+    }
+
+    /// Sets whether a one-pass DFA may be used. It changes no answer that is promised.
+    pub fn onepass(self, yes: bool) -> Config
+        ensures { result ≡ record self { onepass = Some yes } }
+    {
+        let mut config = self;
+        config.onepass = Some(yes);
         config
     }
 
@@ -161,11 +280,74 @@ impl Config {
         self.nfa_size_limit.unwrap_or(Some(NFA_SIZE_LIMIT))
     }
 
+    /// The most bytes that a one-pass DFA may have; by default 1048576.
+    pub fn get_onepass_size_limit(&self) -> Option<usize>
+        ensures { result ≡ onepass_size_limit_of self.now }
+    {
+        self.onepass_size_limit.unwrap_or(Some(ONEPASS_SIZE_LIMIT))
+    }
+
+    /// How many bytes the cache of a lazy DFA may have; by default 2097152.
+    pub fn get_hybrid_cache_capacity(&self) -> usize
+        ensures { result ≡ hybrid_cache_capacity_of self.now }
+    {
+        self.hybrid_cache_capacity.unwrap_or(HYBRID_CACHE_CAPACITY)
+    }
+
+    /// The most bytes that the tables of the full DFAs may have; by default 40960.
+    pub fn get_dfa_size_limit(&self) -> Option<usize>
+        ensures { result ≡ dfa_size_limit_of self.now }
+    {
+        self.dfa_size_limit.unwrap_or(Some(DFA_SIZE_LIMIT))
+    }
+
+    /// The most accounted states of an NFA for which a full DFA is made; by default 30.
+    pub fn get_dfa_state_limit(&self) -> Option<usize>
+        ensures { result ≡ dfa_state_limit_of self.now }
+    {
+        self.dfa_state_limit.unwrap_or(Some(DFA_STATE_LIMIT))
+    }
+
+    /// Whether bytes that the patterns do not tell apart are one to a DFA; by default so.
+    pub fn get_byte_classes(&self) -> bool
+        ensures { result ≡ byte_classes_of self.now }
+    {
+        self.byte_classes.unwrap_or(true)
+    }
+
     /// The byte that ends a line; by default `\n`.
     pub fn get_line_terminator(&self) -> u8
         ensures { result ≡ terminator_of self.now }
     {
         self.line_terminator.unwrap_or(b'\n')
+    }
+
+    /// Among how many stacks the pool of caches is spread; by default 8.
+    pub fn get_pool_capacity(&self) -> usize
+        ensures { result ≡ pool_capacity_of self.now }
+    {
+        self.pool_capacity.unwrap_or(POOL_CAPACITY)
+    }
+
+    /// Whether lazy DFAs may be used; by default so.
+    pub fn get_hybrid(&self) -> bool
+        ensures { result ≡ hybrid_of self.now }
+    {
+        self.hybrid.unwrap_or(true)
+    }
+
+    /// Whether full DFAs may be used; by default so.
+    pub fn get_dfa(&self) -> bool
+        ensures { result ≡ dfa_of self.now }
+    {
+        self.dfa.unwrap_or(true)
+    }
+
+    /// Whether a one-pass DFA may be used; by default so.
+    pub fn get_onepass(&self) -> bool
+        ensures { result ≡ onepass_of self.now }
+    {
+        self.onepass.unwrap_or(true)
     }
 
     /// Whether the bounded backtracker may be used; by default so.
@@ -214,7 +396,16 @@ impl Config {
             prefilter,
             which_captures: self.which_captures,
             nfa_size_limit: self.nfa_size_limit,
+            onepass_size_limit: self.onepass_size_limit,
+            hybrid_cache_capacity: self.hybrid_cache_capacity,
+            dfa_size_limit: self.dfa_size_limit,
+            dfa_state_limit: self.dfa_state_limit,
+            byte_classes: self.byte_classes,
             line_terminator: self.line_terminator,
+            pool_capacity: self.pool_capacity,
+            hybrid: self.hybrid,
+            dfa: self.dfa,
+            onepass: self.onepass,
             backtrack: self.backtrack,
         })
     }
@@ -240,7 +431,16 @@ impl Config {
             prefilter: other.prefilter.or(self.prefilter),
             which_captures: other.which_captures.or(self.which_captures),
             nfa_size_limit: other.nfa_size_limit.or(self.nfa_size_limit),
+            onepass_size_limit: other.onepass_size_limit.or(self.onepass_size_limit),
+            hybrid_cache_capacity: other.hybrid_cache_capacity.or(self.hybrid_cache_capacity),
+            dfa_size_limit: other.dfa_size_limit.or(self.dfa_size_limit),
+            dfa_state_limit: other.dfa_state_limit.or(self.dfa_state_limit),
+            byte_classes: other.byte_classes.or(self.byte_classes),
             line_terminator: other.line_terminator.or(self.line_terminator),
+            pool_capacity: other.pool_capacity.or(self.pool_capacity),
+            hybrid: other.hybrid.or(self.hybrid),
+            dfa: other.dfa.or(self.dfa),
+            onepass: other.onepass.or(self.onepass),
             backtrack: other.backtrack.or(self.backtrack),
         }
     }
