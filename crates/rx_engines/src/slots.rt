@@ -78,15 +78,22 @@ pub fn clear(slots: &mut [Slot])
     }
 }
 
-/// Copies the slots over as many others. Where there are none, nothing is done.
+/// Copies the slots over as many others.
+#[inline(always)]
 pub fn copy(from: &[Slot], to: &mut [Slot])
     requires { length from.now ≡ length to.old }
     ensures { to.new ≡ from.now }
 {
-    if from.len() == 0 {
-        return;
+    // Rows are short. A loop of one slot a turn is made a call of `memcpy`, which takes longer than they do; this one is not.
+    let mut k = 0;
+    while from.len() - k > 1 {
+        to[k] = from[k];
+        to[k + 1] = from[k + 1];
+        k += 2;
     }
-    to.copy_from_slice(from);
+    if k < from.len() {
+        to[k] = from[k];
+    }
 }
 
 // Callers see the type of the original (DECISIONS: slots are `Option<NonMaxUsize>`).

@@ -2,7 +2,7 @@
 ghost use Rattle.std.specs.Prelude.{◌≡◌, ◌+◌, ◌*◌, ◌^◌, ◌<◌, ◌≤◌, length, take, IfOk, slice_set};
 ghost use Rattle.rx_engines.specs.Threads.{Rows, rows_code, rows_of, row_at};
 
-use crate::slots::Slot;
+use crate::slots::{Slot, copy};
 use rx_search::{Memory, StateID};
 use std::alloc::Global;
 use std::marker::Model;
@@ -88,7 +88,7 @@ impl Table {
         &self.cells[from..from + self.width]
     }
 
-    /// The state gets this row. Where rows have no slots, none are copied.
+    /// The state gets this row.
     pub fn set(&mut self, state: StateID, start: usize, slots: &[Slot])
         requires state { state < length self.old.items }
         requires width { length slots.now ≡ self.old.width }
@@ -97,10 +97,7 @@ impl Table {
         } }
     {
         self.starts[state.as_usize()] = start;
-        if self.width == 0 {
-            return;
-        }
         let from = state.as_usize() * self.width;
-        self.cells[from..from + self.width].copy_from_slice(slots);
+        copy(slots, &mut self.cells[from..from + self.width]);
     }
 }

@@ -1,5 +1,5 @@
 -- A row for each start, in a flat table of cells.
-use Rattle.std.proofs.Common.{◌≡◌, ℕ, zero, suc, ◌+◌, ◌*◌, ◌<◌, ◌≤◌, List, [], ◌∷◌, ◌++◌, length, take, drop, get_or, set, refl, sym, ◌∙◌, ap, ap₂, arith, drop-drop, length-append, length-drop}
+use Rattle.std.proofs.Common.{◌≡◌, ℕ, zero, suc, ◌+◌, ◌*◌, ◌<◌, ◌≤◌, List, [], ◌∷◌, ◌++◌, length, take, drop, get_or, set, refl, ◌∙◌, ap, ap₂, arith, drop-drop, length-append, length-drop}
 use Rattle.std.proofs.lemmas.List.{take_at, drop_at, take-take, length-take, get_or-take, take-append-le, drop-append-le, drop-take}
 use Rattle.std.proofs.lemmas.Nat.{row_fits}
 use Rattle.rx_engines.specs.Walk.{Slots}
@@ -81,14 +81,3 @@ module _ (rows width : ℕ) (starts : List ℕ) (cells : Slots) (fewer : rows �
       let long = length-take-le rows starts fewer in
       ap (λ ss. rows_of width ss (take (k * width) cells ++ (row ++ drop width (drop (k * width) cells)))) (take-set rows starts k s)
       ∙ row-set width (take rows starts) cells row k s (omega arith) (rw long room) wide
-
-  -- a row of no slots writes no cell
-  pub used-set-none : (row : Slots) (k s : ℕ) → k < rows → width ≡ 0 → length row ≡ width
-      → rows_of width (take rows (set starts k s)) cells ≡ set (rows_of width (take rows starts) cells) k (s, row)
-  used-set-none row k s lt none wide =
-      ap (rows_of width (take rows (set starts k s))) (sym (nothing_put width none row wide))
-      ∙ used-set row k s lt (let e : rows * width ≡ 0 = rw none (omega arith) in omega arith) wide
-    where
-      nothing_put : (w : ℕ) → w ≡ 0 → (row : Slots) → length row ≡ w → take (k * w) cells ++ (row ++ drop w (drop (k * w) cells)) ≡ cells
-      nothing_put w none (x ∷ row) wide = absurd (omega arith)
-      nothing_put w none [] wide = rw none (let e : k * 0 ≡ 0 = omega arith in rw e refl)

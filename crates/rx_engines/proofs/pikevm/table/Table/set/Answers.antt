@@ -2,7 +2,7 @@ use Rattle.std.proofs.Common.{◌≡◌, ◌+◌, ◌*◌, ◌-◌, length, ap, 
 use Rattle.std.proofs.lemmas.Nat.{row_fits}
 use Rattle.std.proofs.lemmas.List.{take_at}
 use Rattle.rx_engines.specs.Threads.{Rows}
-use Rattle.rx_engines.proofs.lemmas.threads.TableLemmas.{length-used, used-set, used-set-none, length-row_put}
+use Rattle.rx_engines.proofs.lemmas.threads.TableLemmas.{length-used, used-set, length-row_put}
 use Rattle.rx_engines.proofs.pikevm.table.Table.set.Goals as goal
 
 pub overflow_mul-from : goal.overflow_mul-from
@@ -26,8 +26,8 @@ offset_bounds-deref_mut-from c =
     let fits = row_fits c.args.state c.self.inside.width c.self.inside.rows c.self.inside.width (omega arith) (omega arith) in
     search rules
 
-pub slice_bounds-copy_from_slice-end : goal.slice_bounds-copy_from_slice-end
-slice_bounds-copy_from_slice-end c =
+pub slice_bounds-copy-end : goal.slice_bounds-copy-end
+slice_bounds-copy-end c =
     let n = length-used c.self.inside.rows c.self.inside.width c.self.inside.starts.items c.self.inside.cells.items c.self.invariant.0 in
     let same = ap (λ (r : Rows). length r.items) c.self.view_is in
     let fits = row_fits c.args.state c.self.inside.width c.self.inside.rows c.self.inside.width (omega arith) (omega arith) in
@@ -60,7 +60,7 @@ returns c =
       c.as_usize-2.ensures.value,
       wide,
       c.deref_mut.ensures.value,
-      c.copy_from_slice.ensures.after,
+      c.copy.ensures,
       ← c.self.view_is,
       whole,
       sized,
@@ -68,17 +68,3 @@ returns c =
     )
     (ap (λ items. record { items = items; width = w; capacity = length starts; cells = length cells })
     (used-set rows w starts cells c.self.invariant.0 c.args.slots.now c.args.state c.args.start (omega arith) fit (omega arith)))
-
-pub returns-then-self-eq0 : goal.returns-then-self-eq0
-returns-then-self-eq0 c =
-    let n = length-used c.self.inside.rows c.self.inside.width c.self.inside.starts.items c.self.inside.cells.items c.self.invariant.0 in
-    let same = ap (λ (r : Rows). length r.items) c.self.view_is in
-    let width = ap (λ (r : Rows). r.width) c.self.view_is in
-    let starts = c.self.inside.starts.items in
-    let cells = c.self.inside.cells.items in
-    let rows = c.self.inside.rows in
-    let w = c.self.inside.width in
-    let sized = length-set starts c.args.state c.args.start in
-    rw (c.as_usize.ensures.value, ← c.self.view_is, sized)
-    (ap (λ items. record { items = items; width = w; capacity = length starts; cells = length cells })
-    (used-set-none rows w starts cells c.self.invariant.0 c.args.slots.now c.args.state c.args.start (omega arith) c.if-self-eq0.true (omega arith)))
