@@ -1,6 +1,6 @@
 -- The rows of a full DFA.
 use Rattle.std.proofs.Common.{◌≡◌, ℕ, ◌+◌, ◌-◌, ◌*◌, ◌^◌, ◌/◌, ◌<◌, ◌≤◌, ⊎_elim, List, [], ◌∷◌, length, refl, sym, ◌∙◌, ap, subst, arith, true≢false, get_or}
-use Rattle.std.specs.Prelude.{Bool, true, false, not, ◌||◌, Option, Some, None, nat_lt, nat_eq, if◌then◌else◌, slice_get, slice_index}
+use Rattle.std.specs.Prelude.{Bool, true, false, not, ◌||◌, Option, Some, None, IfSome, nat_lt, nat_eq, if◌then◌else◌, slice_get, slice_index}
 use Rattle.std.proofs.lemmas.Bool.{cases_lt}
 use Rattle.std.proofs.lemmas.Bool.Decides.{nat_tests}
 use Rattle.std.specs.Ordering.{nat_cmp, is_lt}
@@ -22,7 +22,8 @@ use Rattle.rx_dfa.specs.States.{canonical, is_special, IsRead}
 use Rattle.rx_dfa.specs.Table.{quit, IsCell, context_count, context, context_of, mode_of, DenseValue, Holds, IsDense}
 use Rattle.rx_dfa.specs.Job.{IsServed}
 use Rattle.rx_dfa.proofs.lemmas.AlphabetLemmas.{class-small}
-use Rattle.rx_dfa.proofs.lemmas.StateLemmas.{dead-parts, canonical-dead, dead-canonical, special-canonical, matches-canonical, canonical-next, canonical-last, reads-readable, unread-quits, stand, class-inside, stand-readable, stand-quits, quits-stand, stand-next}
+use Rattle.rx_dfa.proofs.lemmas.StartLemmas.{context-is as beside-is, context-read}
+use Rattle.rx_dfa.proofs.lemmas.StateLemmas.{dead-parts, canonical-dead, canonical-live, dead-canonical, special-canonical, matches-canonical, canonical-next, canonical-last, reads-readable, unread-quits, stand, class-inside, stand-readable, stand-quits, quits-stand, stand-next}
 
 pub not-false : (b : Bool) → not b ≡ false → b ≡ true
 not-false true e = refl
@@ -194,6 +195,16 @@ module _ (v : DenseValue) (are : IsDense v) where
   -- the number of a key that is not there as such, but dead
   pub dead-holds : (k : Key) → is_dead k ≡ true → Holds v v.dead k
   dead-holds k e = record { row = v.plain; there = are.dead_key ∙ ap Some (sym (canonical-dead k e)); is = let dead = are.dead in omega arith }
+
+  -- a state that is not dead stands for one key
+  pub same-key : (n : ℕ) (k other : Key) → Holds v n k → Holds v n other → is_dead k ≡ false → k ≡ other
+  same-key n k other h g live =
+      let is = h.is in
+      let is_other = g.is in
+      let row = row-same h.row g.row stride some-stride (omega arith) in
+      let same : canonical k ≡ canonical other = some-is (sym h.there ∙ ap (slice_get v.keys) row ∙ g.there) in
+      let live_other = sym (dead-canonical other) ∙ ap is_dead (sym same) ∙ dead-canonical k ∙ live in
+      sym (canonical-live k live) ∙ same ∙ canonical-live other live_other
 
   tells : (dead empty : Bool) → (dead || not empty) ≡ true → dead ≡ false → not empty ≡ true
   tells false empty e f = e
@@ -371,3 +382,19 @@ module _ (v : DenseValue) (are : IsDense v) where
       counted : (keeps : Bool) → length v.dfa.bytes ≤ 256 → context_count keeps v.dfa.bytes ≤ 257
       counted false le = omega arith
       counted true le = omega arith
+
+  -- the starts of a search that is not anchored stand before the others
+  pub begun-inside : (class : ℕ) → class < context_count v.dfa.keeps v.dfa.bytes → class < length v.starts
+  begun-inside class lt =
+      let len = are.starts.len in
+      omega (arith, index-within 0 (context_count v.dfa.keeps v.dfa.bytes) class (length v.dfa.nfa.starts + 2) (omega arith) lt)
+
+  pub begun : (class state : ℕ) → class < context_count v.dfa.keeps v.dfa.bytes → IfSome (context v.dfa.keeps v.dfa.bytes class) (λ b. reads v.words b ≡ true)
+      → slice_index v.starts class ≡ state
+      → Holds v state (start_key v.dfa.kind v.dfa.nfa.states v.dfa.nfa.start_anchored true (context v.dfa.keeps v.dfa.bytes class))
+  begun class state lt read there =
+      let before = context v.dfa.keeps v.dfa.bytes class in
+      let place : mode_of free * context_count v.dfa.keeps v.dfa.bytes + class ≡ class = omega arith in
+      subst (λ n. Holds v n (start_key v.dfa.kind v.dfa.nfa.states v.dfa.nfa.start_anchored true before)) (ap (slice_index v.starts) place ∙ there)
+      (are.starts.each free v.dfa.nfa.start_anchored class refl lt
+      (context-read v.dfa v.words served before (beside-is v.dfa are.sound class) read))

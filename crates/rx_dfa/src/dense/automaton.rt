@@ -1,9 +1,10 @@
 //! The full DFA as the searches see it.
-ghost use Rattle.std.specs.Prelude.{◌≡◌, ℕ, IfOk, OnOk, slice_get};
+ghost use Rattle.std.specs.Prelude.{◌≡◌, ◌<◌, ℕ, Option, true, IfOk, OnOk, slice_get};
 ghost use Rattle.std.specs.Result.{IfErr};
 ghost use Rattle.rx_search.specs.Anchored.{anchor_of};
+ghost use Rattle.rx_determinize.specs.Key.{start_key};
 ghost use Rattle.rx_dfa.specs.Automaton.{first_key, IsReadable, IsSound, StartFails};
-ghost use Rattle.rx_dfa.specs.Table.{Holds};
+ghost use Rattle.rx_dfa.specs.Table.{Holds, context_count, context};
 
 use crate::automaton::Automaton;
 use crate::dense::Dense;
@@ -87,8 +88,12 @@ impl Automaton for Dense {
         !(state < self.dead)
     }
 
-    fn is_start(&self, _cache: &(), _state: StateID) -> bool {
-        false
+    fn is_start(&self, _cache: &(), state: StateID) -> bool {
+        // The dead state stands for many keys.
+        if state == self.dead {
+            return false;
+        }
+        self.begins_at(state)
     }
 
     fn match_pattern(&self, _cache: &(), state: StateID, index: usize) -> Option<PatternID> {
@@ -145,5 +150,35 @@ impl Dense {
             Some(state) => *state,
             None => self.dead,
         }
+    }
+
+    /// Whether a search that is not anchored starts at this state, whatever stands beside that place.
+    fn begins_at(&self, state: StateID) -> bool
+        ensures { result ≡ true → (beside : Option ℕ) × Holds self.now state
+            (start_key self.now.dfa.kind self.now.dfa.nfa.states self.now.dfa.nfa.start_anchored true beside) }
+    {
+        for class in 0..self.alphabet.contexts() {
+            if self.is_begun(class, state) {
+                return true;
+            }
+        }
+        false
+    }
+
+    /// Whether it is the state at which a search that is not anchored starts, where what stands beside that place is of this
+    /// class, and is read.
+    fn is_begun(&self, class: usize, state: StateID) -> bool
+        requires { class < context_count self.now.dfa.keeps self.now.dfa.bytes }
+        ensures { result ≡ true → Holds self.now state (start_key self.now.dfa.kind self.now.dfa.nfa.states self.now.dfa.nfa.start_anchored true
+            (context self.now.dfa.keeps self.now.dfa.bytes class)) }
+    {
+        // These starts stand before those of the other modes.
+        if self.starts[class] != state {
+            return false;
+        }
+        if let Some(_) = self.alphabet.unread(self.alphabet.context(class)) {
+            return false;
+        }
+        true
     }
 }
