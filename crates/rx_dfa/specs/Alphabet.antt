@@ -14,13 +14,15 @@ use Rattle.rx_dfa.specs.declared.alphabet.Alphabet.{Alphabet}
 abbrev pub reads : (words : Bool) → (byte : ℕ) → Bool
 reads words byte = not words || nat_lt byte 128
 
--- The classes are those of the NFA, or one for each byte. They serve it, and it is known whether it asks for words of Unicode.
+-- The classes are those of the NFA, or one for each byte. They serve it, and that of the last byte is kept exactly where the NFA
+-- asks for look-around. It is known whether it asks for words of Unicode.
 pub record IsAlphabetOf (nfa : Nfa) (byte_classes : Bool) (a : Alphabet) : Type 0 where
   pub own : byte_classes ≡ true → a.classes ≡ nfa.classes
   pub single : byte_classes ≡ false → EachIndex a.classes (λ b. slice_index a.classes b ≡ b)
   pub classes : AreClasses a.classes
   pub serve : AreClassesFor nfa a.keeps a.classes a.bytes.items
   pub keeps : a.keeps ≡ false → (kind : Look) → has nfa.looks kind ≡ false
+  pub asks : a.keeps ≡ true → (kind : Look) × (has nfa.looks kind ≡ true)
   pub words : a.words ≡ true → AsksForWords nfa
   pub no_words : a.words ≡ false → AsksForWords nfa → ⊥
 

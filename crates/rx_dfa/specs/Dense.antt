@@ -12,8 +12,8 @@ use Rattle.rx_dfa.specs.Table.{DenseValue}
 use Rattle.rx_dfa.specs.declared.dense.error.BuildError.{BuildError}
 use Rattle.rx_dfa.specs.declared.dense.error.BuildError.TheVariants.{TooBig, Memory}
 
--- The DFA is of this NFA. Its classes of bytes are those of the NFA, or one for each byte, and it keeps them if the NFA asks for
--- look-around.
+-- The DFA is of this NFA. Its classes of bytes are those of the NFA, or one for each byte, and it keeps that of the last byte
+-- exactly where the NFA asks for look-around.
 pub record IsDfaOf (own_nfa : Nfa) (own_kind : MatchKind) (byte_classes : Bool) (d : Dfa) : Type 0 where
   pub sound : IsSound d
   pub nfa : d.nfa ≡ own_nfa
@@ -21,6 +21,7 @@ pub record IsDfaOf (own_nfa : Nfa) (own_kind : MatchKind) (byte_classes : Bool) 
   pub own : byte_classes ≡ true → d.classes ≡ own_nfa.classes
   pub single : byte_classes ≡ false → EachIndex d.classes (λ b. slice_index d.classes b ≡ b)
   pub keeps : d.keeps ≡ false → (look : Look) → has own_nfa.looks look ≡ false
+  pub asks : d.keeps ≡ true → (look : Look) × (has own_nfa.looks look ≡ true)
 
 -- the bytes that are accounted for a table with these states, where one more is that in which it quits
 abbrev pub size_of : (stride states : ℕ) → ℕ

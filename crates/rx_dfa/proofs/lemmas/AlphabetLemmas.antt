@@ -1,11 +1,12 @@
 -- The classes of a DFA serve its NFA.
-use Rattle.std.proofs.Common.{◌≡◌, ℕ, ◌<◌, ◌≤◌, zero, suc, add-one, ⊎_elim, List, length, refl, sym, ◌∙◌, ap, subst, arith, true≢false}
+use Rattle.std.proofs.Common.{◌≡◌, ℕ, ◌<◌, ◌≤◌, zero, suc, add-one, ⊎_elim, ◌⊎◌, inl, inr, List, [], ◌∷◌, length, refl, sym, ◌∙◌, ap, subst, arith, true≢false}
 use Rattle.std.specs.Prelude.{Bool, true, false, not, IsTrue, EachIndex, slice_index}
 use Rattle.rx_model.specs.Look.{Look}
 use Rattle.rx_model.proofs.lemmas.runs.RunLemmas.{by_test}
 use Rattle.rx_search.specs.ByteClasses.{AreClasses, AreRepresentatives}
-use Rattle.rx_search.specs.LookSet.{has}
+use Rattle.rx_search.specs.LookSet.{has, kinds_in}
 use Rattle.rx_search.proofs.ByteClassLemmas.{classes-rise}
+use Rattle.rx_search.proofs.LookSetLemmas.{Each, each-kind, kind-of-each}
 use Rattle.rx_nfa.specs.ByteClasses.{AreOfOneClass}
 use Rattle.rx_nfa.specs.Nfa.{Nfa}
 use Rattle.rx_determinize.specs.Sight.{AreClassesFor}
@@ -52,3 +53,21 @@ pub kept-none : (looks : ℕ) (nfa : Nfa) (empty : Bool) → (IsTrue empty → (
     → ((kind : Look) → has looks kind ≡ has nfa.looks kind) → not empty ≡ false → (kind : Look) → has nfa.looks kind ≡ false
 kept-none looks nfa true none same e kind = sym (same kind) ∙ none refl kind
 kept-none looks nfa false none same e kind = absurd (true≢false e)
+
+-- a set has no kind, or there is one that it has
+none-or-one : (set : ℕ) (ks : List Look) → kinds_in set ≡ ks → Each (has set) ks
+    → ((kind : Look) → has set kind ≡ false) ⊎ ((kind : Look) × (has set kind ≡ true))
+none-or-one set [] is each =
+    let no_test : Look → Bool = λ kind. false in
+    let none : Each no_test (kinds_in set) = subst (Each no_test) (sym is) tt in
+    inl (λ kind. by_test (has set kind) (λ e. absurd (true≢false (sym (kind-of-each set no_test none kind e)))) (λ e. e))
+none-or-one set (kind ∷ ks) is each = inr (kind, each.0)
+
+-- a set that is said to be kept has a kind
+pub kept-some : (looks : ℕ) (nfa : Nfa) (empty : Bool) → (((kind : Look) → has looks kind ≡ false) → IsTrue empty)
+    → ((kind : Look) → has looks kind ≡ has nfa.looks kind) → not empty ≡ true → (kind : Look) × (has nfa.looks kind ≡ true)
+kept-some looks nfa empty clear same e =
+    elim (none-or-one looks (kinds_in looks) refl (each-kind looks (has looks) (λ kind h. h))) [
+      | inl none ↦ absurd (true≢false (sym e ∙ ap not (clear none)))
+      | inr one ↦ (one.0, sym (same one.0) ∙ one.1)
+    ]

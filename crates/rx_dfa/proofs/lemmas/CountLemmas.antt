@@ -75,6 +75,7 @@ dfa-is nfa kind byte_classes a range of = record {
   own = of.own;
   single = of.single;
   keeps = of.keeps;
+  asks = of.asks;
 }
 
 pub dfa-served : (nfa : Nfa) (kind : MatchKind) (byte_classes : Bool) (a : Alphabet) → IsInRange nfa → IsAlphabetOf nfa byte_classes a

@@ -40,4 +40,6 @@ returns-clause-ok c =
       enough = room;
       own = a.own;
       single = a.single;
+      keeps = a.keeps;
+      asks = a.asks;
     }
