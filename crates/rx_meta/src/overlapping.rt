@@ -1,5 +1,5 @@
 //! The searches that fill a set of patterns.
-ghost use Rattle.std.specs.Prelude.{◌≤◌, length, OnOk, IsOk};
+ghost use Rattle.std.specs.Prelude.{◌≡◌, ◌≤◌, length, OnOk, IsOk};
 ghost use Rattle.rx_meta.specs.Cache.{Fits, memory_of};
 ghost use Rattle.rx_meta.specs.Impossible.{IsKnownImpossible};
 ghost use Rattle.rx_meta.specs.Regex.{pattern_count};
