@@ -2,3 +2,4 @@ pub mod ReadingLemmas
 pub mod BuildLemmas
 pub mod ServeLemmas
 pub mod FinderLemmas
+pub mod SetLemmas

@@ -1,14 +1,17 @@
 -- From what a strategy answers to what its regex does.
 use Rattle.std.proofs.Common.{List, ◌≡◌, refl, sym, ap, subst}
-use Rattle.std.specs.Prelude.{ℕ, Bool, true, false, Option, None, Result, Ok, Err, IfOk, IfSome, is_some, option_map, if◌then◌else◌}
+use Rattle.std.specs.Prelude.{ℕ, Bool, true, false, Option, None, Result, Ok, Err, IfOk, OnOk, IfSome, is_some, option_map, if◌then◌else◌}
 use Rattle.rx_model.specs.Search.{Patterns, Match}
 use Rattle.rx_search.specs.Answer as answer
 use Rattle.rx_search.specs.Input.{InputValue, next_in}
 use Rattle.rx_search.specs.Promise.{Premises, Promised}
 use Rattle.rx_search.specs.Told.{told_in, HasSlots}
 use Rattle.rx_strategy.specs.Strategy as strategy
+use Rattle.rx_strategy.proofs.AnswerLemmas as lower
 use Rattle.rx_meta.specs.Regex.{RegexValue, Serves, given_needles, kind_in}
 use Rattle.rx_meta.specs.Search.{IsAnswer, AreSlotsOfAnswer, TellsWhether}
+use Rattle.rx_meta.specs.Sets.{AddsMatching, IsFilled}
+use Rattle.rx_engines.specs.Sets as sets
 
 told-none : (b : Bool) (next : Option Match) → next ≡ None → false ≡ is_some (if b then next else None)
 told-none true next none = sym (ap is_some none)
@@ -64,6 +67,20 @@ module _ (regex : RegexValue) (v : InputValue) where
   whether-of (Ok there) a = λ r p. a r (premises-of r p)
   whether-of (Err e) a = tt
 
+  -- what is added to a set
+  pub adds-of : (old new : List Bool)
+      → sets.AddsMatching (λ r. strategy.IsFor regex.strategy r) (strategy.prefilter_in regex.strategy) v old new
+      → AddsMatching regex v old new
+  adds-of old new a = λ r p. a r (premises-of r p)
+
+  pub filled-of : {T E : Type 0} (old new : List Bool) (result : Result T E)
+      → OnOk result (sets.IsFilled (λ r. strategy.IsFor regex.strategy r) (strategy.prefilter_in regex.strategy) v old new
+      (strategy.kind_in regex.strategy))
+      → OnOk result (IsFilled regex v old new)
+  unfolding kind_in
+  filled-of old new (Ok x) a = λ r p. a r (premises-of r p)
+  filled-of old new (Err e) a = tt
+
   -- what is answered where it is known that no pattern has a match
   module _ (none : (r : Patterns) → strategy.IsFor regex.strategy r → next_in r v ≡ None) where
     none-of : (r : Patterns) → Serves regex r → next_in r v ≡ None
@@ -85,3 +102,11 @@ module _ (regex : RegexValue) (v : InputValue) where
 
     pub none-there : TellsWhether regex v false
     none-there = λ r p. sym (ap is_some (none-of r p.is_for))
+
+    pub none-adds : (set : List Bool) → AddsMatching regex v set set
+    none-adds set = adds-of set set (lower.none-adds (λ r. strategy.IsFor regex.strategy r) (strategy.prefilter_in regex.strategy) v set none)
+
+    pub none-fills : (set : List Bool) → IsFilled regex v set set
+    unfolding kind_in
+    none-fills set r p =
+        lower.none-fills (λ r. strategy.IsFor regex.strategy r) (strategy.prefilter_in regex.strategy) v set none (strategy.kind_in regex.strategy) r (premises-of r p)

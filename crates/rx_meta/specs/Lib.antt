@@ -6,5 +6,7 @@ pub mod Regex
 pub mod Cache
 pub mod Search
 pub mod Finder
+pub mod Sets
+pub mod Laws
 pub mod Build
 pub mod Impossible

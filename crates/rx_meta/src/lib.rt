@@ -11,8 +11,10 @@ mod error;
 mod finder;
 mod found;
 mod laws;
+mod overlapping;
 mod reading;
 mod regex;
+mod set_laws;
 mod threads;
 
 pub use builder::Builder;
@@ -24,3 +26,4 @@ pub use regex::Regex;
 pub use rx_nfa::WhichCaptures;
 pub use rx_prefilter::{Choice, Prefilter};
 pub use rx_strategy::{Config, impossible_inputs_have_no_match};
+pub use set_laws::a_set_gains_what_means_a_part_of_the_span;
