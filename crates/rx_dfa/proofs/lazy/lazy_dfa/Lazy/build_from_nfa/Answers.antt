@@ -40,4 +40,7 @@ returns-clause-ok c =
       enough = room;
       own = a.own;
       single = a.single;
+      stride2 = c.stride_of-stride.ensures.power.0;
+      power = c.stride_of-stride.ensures.power.1;
+      stride_is = c.stride_of-stride.ensures.power.2;
     }
