@@ -61,3 +61,9 @@ abbrev pub CountsWhereGaveUp : (old new : Rows) → (steps : ℕ) → StepError 
 CountsWhereGaveUp old new steps (QuitsAt byte) = Unit {0}
 CountsWhereGaveUp old new steps GivesUp = AreCounted old new steps
 CountsWhereGaveUp old new steps WantsMemory = Unit {0}
+
+-- where it gave up: the state that was asked for, of the key `into`, has no room, and all stays but the count of steps that are told
+abbrev pub RowsWhereGaveUp : LazyValue → (into : Key) → (old new : Rows) → StepError → Type 0
+RowsWhereGaveUp l into old new (QuitsAt byte) = Unit {0}
+RowsWhereGaveUp l into old new GivesUp = IsFull l into old × (new ≡ record old { calls = new.calls })
+RowsWhereGaveUp l into old new WantsMemory = Unit {0}

@@ -2,7 +2,7 @@
 use Rattle.std.specs.Prelude.{◌≡◌, ℕ, ◌+◌, ◌*◌, ◌<◌, ◌≤◌, [], length, Some, None, slice_get}
 use Rattle.rx_determinize.specs.Key.{Key}
 use Rattle.rx_dfa.specs.Scratch.{room_of}
-use Rattle.rx_dfa.specs.Lazy.{LazyValue, StandsFor, begun_key, AreCells, IsLive, state_size, accounted, offsets}
+use Rattle.rx_dfa.specs.Lazy.{LazyValue, StandsFor, begun_key, AreCells, IsLive, IsNew, state_size, accounted, offsets}
 use Rattle.rx_dfa.specs.declared.lazy.start.Start.{Start}
 use Rattle.rx_dfa.specs.declared.lazy.rows.Rows.{Rows}
 use Rattle.rx_dfa.specs.declared.lazy.lazy_cache.LazyCache.{LazyCache}
@@ -31,10 +31,12 @@ pub record HoldsNone (c : LazyCache) : Type 0 where
   pub clears : c.rows.clears ≡ 0
   pub since : c.rows.since ≡ None
 
--- Why it gave up: a state more would not fit, it was cleared at least three times since it was new or reset, and fewer than ten steps
+-- Why it gave up: a state of a key that has none would not fit, it was cleared at least three times since it was new or reset, and fewer than ten steps
 -- were taken for each of its states since the last time.
 pub record GaveUpOn (l : LazyValue) (r : Rows) : Type 0 where
   pub key : Key
+  pub is_new : IsNew r.keys key
+  pub live : IsLive l.dfa key
   pub full : l.capacity < r.size + state_size l.stride key
   pub cleared : 3 ≤ r.clears
   pub few : r.calls < 10 * length r.keys

@@ -10,7 +10,7 @@ use Rattle.rx_determinize.specs.Key.{Key}
 use Rattle.rx_determinize.specs.Sight.{class_beside}
 use Rattle.rx_determinize.specs.Span.{loops_in}
 use Rattle.rx_dfa.specs.Automaton.{key_from, first_key}
-use Rattle.rx_dfa.specs.Clearing.{counts_of, one_more, told_of, IsFull, IsGrown, IsMade, AreCounted, CountsWhereGaveUp}
+use Rattle.rx_dfa.specs.Clearing.{counts_of, one_more, told_of, IsFull, IsGrown, IsMade, AreCounted, CountsWhereGaveUp, RowsWhereGaveUp}
 use Rattle.rx_dfa.specs.Lazy.{LazyValue, IsNew, begun_key, state_size}
 use Rattle.rx_dfa.specs.declared.lazy.rows.Rows.{Rows}
 use Rattle.rx_dfa.specs.declared.step_error.StepError.{StepError}
@@ -88,6 +88,12 @@ grown-keys l from key into next old other new taken standing asked rows h =
     subst (λ (r : Rows). IsGrown l (key ∷ []) next r.since (Some taken) r new) rows
     (subst (λ x. IsGrown l (key ∷ []) x old.since (Some taken) old new) asked
     (subst (λ x. IsGrown l (x ∷ []) into old.since (Some taken) old new) standing h))
+
+-- the same of what it leaves where it gives up
+pub full-keys : (l : LazyValue) (into next : Key) (old other new : Rows) (e : StepError) → into ≡ next → old ≡ other
+    → RowsWhereGaveUp l into old new e → RowsWhereGaveUp l next other new e
+full-keys l into next old other new e asked rows h =
+    subst (λ (r : Rows). RowsWhereGaveUp l next r new e) rows (subst (λ (k : Key). RowsWhereGaveUp l k old new e) asked h)
 
 -- there was room, or it was made
 pub made-grown : (l : LazyValue) (from into : Key) (taken : ℕ) (old new : Rows) → IsMade l from into taken old new

@@ -6,7 +6,7 @@ ghost use Rattle.rx_model.specs.Look.{byte_before, byte_after};
 ghost use Rattle.rx_nfa.specs.NextMatch.{start_of};
 ghost use Rattle.rx_determinize.specs.Key.{Key, is_dead};
 ghost use Rattle.rx_dfa.specs.Automaton.{IsSound, IsReadable, StartFails, StepFails, first_key, next_key, last_key};
-ghost use Rattle.rx_dfa.specs.Clearing.{IsGrown, CountsWhereGaveUp, told_of};
+ghost use Rattle.rx_dfa.specs.Clearing.{IsGrown, CountsWhereGaveUp, RowsWhereGaveUp, told_of};
 ghost use Rattle.rx_dfa.specs.Lazy.{StandsFor};
 ghost use Rattle.rx_dfa.specs.LazyCache.{IsCacheOf, GaveUpOn};
 
@@ -40,6 +40,8 @@ impl Automaton for Lazy {
         ensures readable { OnOk result (IsReadable self.now.dfa.nfa (byte_before input.now.haystack input.now.start)) }
         ensures err { IfErr result (StartFails self.now.dfa.nfa (byte_before input.now.haystack input.now.start) (input.now.start - 1)
             input.now.start (GaveUpOn self.now cache.new.rows) (Unit {0})) }
+        ensures goes_on { IfErr result (StartFails self.now.dfa.nfa (byte_before input.now.haystack input.now.start) (input.now.start - 1)
+            input.now.start ⊥ (Unit {0})) }
         ensures fits { IsCacheOf self.now cache.new }
         ensures grown { IsGrown self.now [] (first_key self.now.dfa input.now.anchor (byte_before input.now.haystack input.now.start)) None None
             cache.old.rows cache.new.rows }
@@ -58,6 +60,8 @@ impl Automaton for Lazy {
         ensures readable { OnOk result (IsReadable self.now.dfa.nfa (byte_after input.now.haystack input.now.end)) }
         ensures err { IfErr result (StartFails self.now.dfa.nfa (byte_after input.now.haystack input.now.end) input.now.end
             input.now.end (GaveUpOn self.now cache.new.rows) (Unit {0})) }
+        ensures goes_on { IfErr result (StartFails self.now.dfa.nfa (byte_after input.now.haystack input.now.end) input.now.end
+            input.now.end ⊥ (Unit {0})) }
         ensures fits { IsCacheOf self.now cache.new }
         ensures grown { IsGrown self.now [] (first_key self.now.dfa input.now.anchor (byte_after input.now.haystack input.now.end)) None None
             cache.old.rows cache.new.rows }
@@ -90,6 +94,8 @@ impl Automaton for Lazy {
         ensures grown { (key : Key) → StandsFor self.now.stride cache.old.rows.keys state key → IsGrown self.now (key ∷ []) (next_key self.now.dfa key byte)
             cache.old.rows.since (Some (told_of steps.new)) cache.old.rows cache.new.rows }
         ensures counted { IfErr result (CountsWhereGaveUp cache.old.rows cache.new.rows steps.new) }
+        ensures full { (key : Key) → StandsFor self.now.stride cache.old.rows.keys state key
+            → IfErr result (RowsWhereGaveUp self.now (next_key self.now.dfa key byte) cache.old.rows cache.new.rows) }
     {
         steps.tick();
         if is_plain(state) {
@@ -120,6 +126,8 @@ impl Automaton for Lazy {
         ensures grown { (key : Key) → StandsFor self.now.stride cache.old.rows.keys state key → IsGrown self.now (key ∷ []) (last_key self.now.dfa key)
             cache.old.rows.since (Some (told_of steps.new)) cache.old.rows cache.new.rows }
         ensures counted { IfErr result (CountsWhereGaveUp cache.old.rows cache.new.rows steps.new) }
+        ensures full { (key : Key) → StandsFor self.now.stride cache.old.rows.keys state key
+            → IfErr result (RowsWhereGaveUp self.now (last_key self.now.dfa key) cache.old.rows cache.new.rows) }
     {
         steps.tick();
         self.step(cache, state, None, steps.taken())

@@ -1,7 +1,7 @@
 //! How a lazy DFA is built.
-ghost use Rattle.std.specs.Prelude.{◌≤◌, IfOk};
+ghost use Rattle.std.specs.Prelude.{◌≡◌, ◌^◌, ◌≤◌, ℕ, IfOk};
 ghost use Rattle.std.specs.Result.{IfErr};
-ghost use Rattle.rx_search.specs.ByteClasses.{alphabet_len};
+ghost use Rattle.rx_search.specs.ByteClasses.{alphabet_len, IsLeastPower};
 ghost use Rattle.rx_dfa.specs.LazyBuild.{IsLazyOf, LazyFails};
 
 use crate::alphabet::Alphabet;
@@ -60,6 +60,7 @@ impl Lazy {
 fn stride_of(classes: &ByteClasses) -> usize
     ensures wide { alphabet_len classes.now ≤ result }
     ensures narrow { result ≤ 512 }
+    ensures power { (k : ℕ) × IsLeastPower (alphabet_len classes.now) k × (result ≡ 2 ^ k) }
 {
     let _len = classes.alphabet_len();
     1 << classes.stride2()

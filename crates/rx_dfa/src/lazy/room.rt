@@ -1,7 +1,7 @@
 //! Room for a state more.
 ghost use Rattle.std.specs.Prelude.{◌≡◌, ◌+◌, ◌*◌, ◌<◌, ◌≤◌, ℕ, Some, None, [], ◌∷◌, true, length, IfOk, OnOk, OnErr, slice_get};
 ghost use Rattle.std.specs.Result.{IfErr};
-ghost use Rattle.rx_dfa.specs.Clearing.{IsGrown, IsMade, AreCounted, CountsWhereGaveUp, counts_of, one_more};
+ghost use Rattle.rx_dfa.specs.Clearing.{IsGrown, IsMade, AreCounted, CountsWhereGaveUp, RowsWhereGaveUp, counts_of, one_more};
 ghost use Rattle.rx_dfa.specs.StateKey.{key_of};
 ghost use Rattle.rx_dfa.specs.Lazy.{LazyValue, IsLive, IsNew, StandsFor, state_size};
 ghost use Rattle.rx_dfa.specs.LazyCache.{AreRowsOf, RoomFails};
@@ -75,6 +75,7 @@ impl Rows {
         ensures made { OnOk result (IsMade lazy.now (key_of from.now) (key_of into.now) taken self.old self.new) }
         ensures grown { OnErr result (IsGrown lazy.now (key_of from.now ∷ []) (key_of into.now) self.old.since (Some taken) self.old self.new) }
         ensures counted { IfErr result (CountsWhereGaveUp self.old self.new taken) }
+        ensures full { IfErr result (RowsWhereGaveUp lazy.now (key_of into.now) self.old self.new) }
         ensures err { IfErr result (RoomFails lazy.now self.new) }
     {
         if self.has_room(lazy, into) {

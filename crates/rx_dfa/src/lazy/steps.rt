@@ -3,7 +3,7 @@ ghost use Rattle.std.specs.Prelude.{◌≡◌, ◌<◌, ℕ, Some, None, [], ◌
 ghost use Rattle.std.specs.Result.{IfErr};
 ghost use Rattle.rx_determinize.specs.Key.{Key, is_dead};
 ghost use Rattle.rx_dfa.specs.Automaton.{IsReadable, StepFails};
-ghost use Rattle.rx_dfa.specs.Clearing.{IsGrown, CountsWhereGaveUp};
+ghost use Rattle.rx_dfa.specs.Clearing.{IsGrown, CountsWhereGaveUp, RowsWhereGaveUp};
 ghost use Rattle.rx_dfa.specs.StateKey.{key_of, StandsBelow};
 ghost use Rattle.rx_dfa.specs.Lazy.{StandsFor, IsLive, begun_key, key_after};
 ghost use Rattle.rx_dfa.specs.LazyCache.{IsCacheOf, GaveUpOn, RoomFails};
@@ -33,6 +33,8 @@ impl Lazy {
         ensures readable { (key : Key) → StandsFor self.now.stride cache.old.rows.keys state key → is_dead key ≡ false
             → OnOk result (IsReadable self.now.dfa.nfa byte) }
         ensures err { IfErr result (StepFails self.now.dfa.nfa byte (GaveUpOn self.now cache.new.rows) (Unit {0})) }
+        ensures full { (key : Key) → StandsFor self.now.stride cache.old.rows.keys state key
+            → IfErr result (RowsWhereGaveUp self.now (key_after self.now.dfa key byte) cache.old.rows cache.new.rows) }
         ensures stays { (key : Key) → StandsFor self.now.stride cache.old.rows.keys state key
             → OnOk result ((number : ℕ) × StandsFor self.now.stride cache.new.rows.keys number key) }
         ensures grown { (key : Key) → StandsFor self.now.stride cache.old.rows.keys state key
@@ -70,6 +72,8 @@ impl Lazy {
         ensures next { (key : Key) → slice_get cache.old.rows.keys row ≡ Some key
             → IfOk result (λ next. StandsFor self.now.stride cache.new.rows.keys next (key_after self.now.dfa key byte)) }
         ensures err { IfErr result (RoomFails self.now cache.new.rows) }
+        ensures full { (key : Key) → slice_get cache.old.rows.keys row ≡ Some key
+            → IfErr result (RowsWhereGaveUp self.now (key_after self.now.dfa key byte) cache.old.rows cache.new.rows) }
         ensures stays { (key : Key) → slice_get cache.old.rows.keys row ≡ Some key
             → OnOk result ((kept : ℕ) × (slice_get cache.new.rows.keys kept ≡ Some key)) }
         ensures grown { (key : Key) → slice_get cache.old.rows.keys row ≡ Some key

@@ -23,3 +23,10 @@ returns-clause-narrow c =
     let low : c.stride2.result ≤ 9 = c.stride2.ensures.least 9 few in
     let lt : c.stride2.result < 64 = omega arith in
     subst (λ n. n ≤ 512) (sym (one_shl c.stride2.result 64 lt)) (pow-narrow c.stride2.result low)
+
+pub returns-clause-power : goal.returns-clause-power
+returns-clause-power c =
+    let few : alphabet_len c.args.classes.now ≤ 2 ^ 9 = omega arith in
+    let low : c.stride2.result ≤ 9 = c.stride2.ensures.least 9 few in
+    let lt : c.stride2.result < 64 = omega arith in
+    (c.stride2.result, c.stride2.ensures, one_shl c.stride2.result 64 lt)

@@ -7,7 +7,7 @@ use Rattle.rx_dfa.specs.Lazy.{StandsFor, IsNext, IsLive, key_after}
 use Rattle.rx_dfa.specs.StateKey.{key_of}
 use Rattle.rx_dfa.specs.declared.lazy.rows.Rows.{Rows}
 use Rattle.rx_dfa.proofs.lemmas.ChainLemmas.{got-old}
-use Rattle.rx_dfa.proofs.lemmas.ClearingLemmas.{grown-kept, grown-same, grown-keys, made-grown, made-add}
+use Rattle.rx_dfa.proofs.lemmas.ClearingLemmas.{grown-kept, grown-same, grown-keys, full-keys, made-grown, made-add}
 use Rattle.rx_dfa.proofs.lemmas.LazyLemmas.{next-of, live-after}
 use Rattle.rx_dfa.proofs.lemmas.RowsLemmas.{ok-then}
 use Rattle.rx_dfa.proofs.lazy.lazy_dfa.Lazy.make_step.Goals as goal
@@ -127,6 +127,18 @@ returns-in-Err-clause-grown c key old =
     let same : key_of new.from ≡ key = same_Some (key_of new.from) key (sym from ∙ got) in
     grown-keys l (key_of new.from) key (key_of new.into) (key_after l.dfa key c.args.byte) new.rows c.args.cache.now.rows c.make_room.new.self c.args.taken same
     (into ∙ ap (λ (x : Key). key_after l.dfa x c.args.byte) same) c.make_key.ensures.rows c.in-Err.ensures.grown
+
+pub returns-in-Err-clause-full : goal.returns-in-Err-clause-full
+returns-in-Err-clause-full c key old =
+    let l = c.args.self.now in
+    let new = c.make_key.new.cache in
+    let ok : is_err c.make_key.result ≡ false = sym c.is_err.ensures.value ∙ c.if-is_err.false in
+    let got : slice_get new.rows.keys c.args.row ≡ Some key = ap (λ (r : Rows). slice_get r.keys c.args.row) c.make_key.ensures.rows ∙ old in
+    let from : slice_get new.rows.keys c.args.row ≡ Some (key_of new.from) = ok-then c.make_key.result _ ok c.make_key.ensures.from in
+    let into : key_of new.into ≡ key_after l.dfa (key_of new.from) c.args.byte = ok-then c.make_key.result _ ok c.make_key.ensures.into in
+    let same : key_of new.from ≡ key = same_Some (key_of new.from) key (sym from ∙ got) in
+    full-keys l (key_of new.into) (key_after l.dfa key c.args.byte) new.rows c.args.cache.now.rows c.make_room.new.self c.in-Err.error
+    (into ∙ ap (λ (x : Key). key_after l.dfa x c.args.byte) same) c.make_key.ensures.rows c.in-Err.ensures.full
 
 pub returns-in-Ok-add-clause-stays : goal.returns-in-Ok-add-clause-stays
 returns-in-Ok-add-clause-stays c key old =

@@ -118,3 +118,13 @@ returns-clause-grown c key h =
     let held = held-row l.stride r.keys state key h apart in
     let row : c.place_of-place.result / c.stride.result ≡ row_of l.stride state = λ j. c.place_of-place.ensures j / c.stride.ensures.value j in
     c.make_step.ensures.grown key (ap (slice_get r.keys) row ∙ held.0)
+
+pub returns-clause-full : goal.returns-clause-full
+returns-clause-full c key h =
+    let l = c.args.self.now in
+    let r = c.args.cache.now.rows in
+    let state = c.args.state in
+    let apart = alive-apart state (sym c.is_dead_state.ensures ∙ c.if-is_dead_state.false) in
+    let held = held-row l.stride r.keys state key h apart in
+    let row : c.place_of-place.result / c.stride.result ≡ row_of l.stride state = λ j. c.place_of-place.ensures j / c.stride.ensures.value j in
+    c.make_step.ensures.full key (ap (slice_get r.keys) row ∙ held.0)

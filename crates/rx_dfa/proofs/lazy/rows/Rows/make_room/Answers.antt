@@ -1,7 +1,7 @@
 use Rattle.std.proofs.Common.{◌≡◌, ◌<◌, ◌+◌, inl, inr, List, [], ◌∷◌, ◌++◌, refl, sym, ◌∙◌, ap, subst}
 use Rattle.std.specs.Prelude.{Some, slice_get}
 use Rattle.rx_dfa.specs.Clearing.{counts_of, one_more}
-use Rattle.rx_dfa.specs.Lazy.{state_size}
+use Rattle.rx_dfa.specs.Lazy.{IsNew, state_size}
 use Rattle.rx_dfa.specs.LazyCache.{AreRowsOf}
 use Rattle.rx_dfa.specs.StateKey.{key_of}
 use Rattle.rx_dfa.specs.declared.lazy.rows.Rows.{Rows}
@@ -37,10 +37,18 @@ returns-then-is_to_give_up-clause-err c =
     let same : c.is_to_give_up.new.self.size ≡ r.size = ap (λ (x : Rows). x.size) c.is_to_give_up.ensures.same in
     record {
       key = into;
+      is_new = subst (λ (ks : List Key). IsNew ks into) (sym (ap (λ (x : Rows). x.keys) c.is_to_give_up.ensures.same)) c.requires.into;
+      live = c.requires.live;
       full = subst (λ n. l.capacity < n + state_size l.stride into) (sym same) full.above;
       cleared = c.is_to_give_up.ensures.cleared c.if-is_to_give_up.true;
       few = c.is_to_give_up.ensures.few c.if-is_to_give_up.true;
     }
+
+pub returns-then-is_to_give_up-clause-full : goal.returns-then-is_to_give_up-clause-full
+returns-then-is_to_give_up-clause-full c = (
+  full-from c.args.lazy.now (key_of c.args.into.now) c.args.self.now c.has_room.result c.requires.into c.has_room.ensures.room c.if-has_room.false,
+  c.is_to_give_up.ensures.same,
+)
 
 pub add-requires-clause-rows : goal.add-requires-clause-rows
 add-requires-clause-rows c = c.clear.ensures.rows c.args.lazy.now
