@@ -40,12 +40,9 @@ returns-clause-ok c =
       enough = room;
       own = a.own;
       single = a.single;
-<<<<<<< HEAD
       keeps = a.keeps;
       asks = a.asks;
-=======
       stride2 = c.stride_of-stride.ensures.power.0;
       power = c.stride_of-stride.ensures.power.1;
       stride_is = c.stride_of-stride.ensures.power.2;
->>>>>>> lazyb/work
     }
