@@ -109,4 +109,5 @@ module _ (regex : RegexValue) (v : InputValue) where
     pub none-fills : (set : List Bool) → IsFilled regex v set set
     unfolding kind_in
     none-fills set r p =
-        lower.none-fills (λ r. strategy.IsFor regex.strategy r) (strategy.prefilter_in regex.strategy) v set none (strategy.kind_in regex.strategy) r (premises-of r p)
+        lower.none-fills (λ r. strategy.IsFor regex.strategy r) (strategy.prefilter_in regex.strategy) v set none (strategy.kind_in regex.strategy) r
+        (premises-of r p)
