@@ -52,12 +52,17 @@ fn strategy_of(
     made.ok().expect(rt, "a strategy")
 }
 
-/// The strategy of `a`, without a backtracker.
+/// A configuration without DFAs.
+fn without_dfas() -> Config {
+    Config::new().dfa(false).hybrid(false)
+}
+
+/// The strategy of `a`, without a backtracker and without DFAs.
 fn of_a(rt: &impl Abort, alloc: Global) -> Strategy {
     strategy_of(
         rt,
         alloc,
-        &Config::new().backtrack(false),
+        &without_dfas().backtrack(false),
         text(alloc, b"a"),
     )
 }
@@ -221,13 +226,16 @@ fn memory_of(
 fn a_prefilter_is_chosen(rt: HostRuntime) {
     let alloc = rt.alloc();
     // 4 states, 2 and 3 of the pattern, with 32 for each; and the lengths of the needles
-    let none = Config::new().auto_prefilter(false);
+    let none = without_dfas().auto_prefilter(false);
     assert_eq!(rt; memory_of(&rt, alloc, &none, text(alloc, b"ab")), 288);
     assert_eq!(rt;
-        memory_of(&rt, alloc, &Config::new(), text(alloc, b"ab")),
+        memory_of(&rt, alloc, &without_dfas(), text(alloc, b"ab")),
         290
     );
-    let given = handing_in(&rt, alloc, b"ab", b"xyz").auto_prefilter(true);
+    let given = handing_in(&rt, alloc, b"ab", b"xyz")
+        .auto_prefilter(true)
+        .dfa(false)
+        .hybrid(false);
     assert_eq!(rt; memory_of(&rt, alloc, &given, text(alloc, b"ab")), 293);
     // each match begins at the start, so there is no prefilter
     assert_eq!(rt; memory_of(&rt, alloc, &given, ab_at_the_start(alloc)), 320);

@@ -1,14 +1,10 @@
 -- What the searches of a regex write to. What is in it is the strategy's own: a contract sees it by these definitions alone.
-use Rattle.std.specs.Prelude.{◌≡◌, ℕ, refl}
-use Rattle.std.specs.Coded.{Coded, code_by}
+use Rattle.std.specs.Prelude.{◌≡◌, ℕ}
 use Rattle.rx_strategy.specs.Cache as strategy
 use Rattle.rx_meta.specs.Regex.{RegexValue}
 
 pub record CacheValue : Type 0 where
   pub rooms : strategy.CacheValue
-
-abbrev pub cache_code : Coded CacheValue
-cache_code = code_by strategy.CacheValue strategy.cache_code (λ c. c.rooms) (λ rooms. record { rooms = rooms }) (λ _. refl)
 
 -- the cache serves the regex
 unfoldable pub Fits : RegexValue → CacheValue → Type 0
@@ -35,3 +31,7 @@ StillFits old new = (regex : RegexValue) → Fits regex old → Fits regex new
 pub record FitsAsBefore (old new : CacheValue) : Type 0 where
   pub fits : StillFits old new
   pub memory : memory_of new ≡ memory_of old
+
+-- A search changes what is accounted for the states of lazy DFAs alone.
+unfoldable pub AccountsAlike : RegexValue → (old new : CacheValue) → Type 0
+AccountsAlike regex old new = strategy.AccountsAlike regex.strategy old.rooms new.rooms

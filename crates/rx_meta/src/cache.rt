@@ -16,11 +16,9 @@ pub struct Cache {
 }
 
 impl Model for Cache {
-    ghost use Rattle.rx_meta.specs.Cache.{CacheValue, cache_code};
+    ghost use Rattle.rx_meta.specs.Cache.{CacheValue};
 
     ghost Value = { CacheValue };
-
-    ghost coded = { cache_code };
 
     ghost view = { λ c. record { rooms = c.rooms } };
 }
@@ -56,8 +54,8 @@ impl Cache {
         self.rooms.reset(alloc, &regex.strategy)
     }
 
-    /// The bytes that are accounted for the caches of its engines, or the greatest `usize` where they are more. The number
-    /// is fixed when the cache is made or reset. This is not what they reserve: the backtracker's cache also has room for
+    /// The bytes that are accounted for the caches of its engines, or the greatest `usize` where they are more. What is accounted for
+    /// lazy DFAs grows and falls with the states that searches make; the rest is fixed when the cache is made or reset. This is not what they reserve: the backtracker's cache also has room for
     /// each frame that a search can leave, which is some 24 bytes for each place of the longest span times the frames of
     /// all states. It is reserved when the cache is made, and touched only as far as searches come.
     pub fn memory_usage(&self) -> usize
@@ -66,13 +64,13 @@ impl Cache {
         self.rooms.memory_usage()
     }
 
-    /// A cache of its own with the same room.
+    /// A cache of its own with the same room. It holds no states of lazy DFAs.
     ///
     /// # Errors
     ///
     /// `Memory`, where there was no memory for it.
     pub fn clone(&self, alloc: Global) -> Result<Cache, Memory>
-        ensures { IfOk result (λ c. c ≡ self.now) }
+        ensures { IfOk result (StillFits self.now) }
     {
         Ok(Cache {
             rooms: self.rooms.clone(alloc)?,

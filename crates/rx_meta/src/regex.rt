@@ -1,5 +1,5 @@
 //! The public face: build once, search from anywhere.
-#![tactic(auto, unfolding(crate::specs::Cache::Fits, crate::specs::Cache::memory_of, crate::specs::Impossible::IsKnownImpossible, crate::specs::Regex::pattern_count))]
+#![tactic(auto, unfolding(crate::specs::Cache::Fits, crate::specs::Cache::AccountsAlike, crate::specs::Cache::memory_of, crate::specs::Impossible::IsKnownImpossible, crate::specs::Regex::pattern_count))]
 
 ghost use Rattle.std.specs.Prelude.{◌≡◌, ◌≤◌, ◌<◌, ◌∷◌, [], length, None, replicate, map, IfOk, IfErr, IfNone, IfSome, OnErr, IsOk};
 ghost use Rattle.rx_model.specs.Search.{Patterns};
@@ -9,7 +9,7 @@ ghost use Rattle.rx_search.specs.Matches.{match_value, half_match_value};
 ghost use Rattle.rx_search.specs.Told.{AreWithin, LiesIn, HalfLiesIn, matched_pattern};
 ghost use Rattle.rx_reader.specs.Config.{default};
 ghost use Rattle.rx_meta.specs.Build.{IsBuiltOf, IsRefusedFor};
-ghost use Rattle.rx_meta.specs.Cache.{Fits, memory_of, accounted_for};
+ghost use Rattle.rx_meta.specs.Cache.{Fits, AccountsAlike, memory_of, accounted_for};
 ghost use Rattle.rx_meta.specs.Config.{nothing_set};
 ghost use Rattle.rx_meta.specs.Impossible.{IsKnownImpossible};
 ghost use Rattle.rx_meta.specs.Regex.{Serves, groups_in, pattern_count, regex_memory};
@@ -263,7 +263,7 @@ impl Regex {
         ensures within { IfOk result (λ o. IfSome o (LiesIn input.now)) }
         ensures in_range { IfOk result (λ o. IfSome o (λ m. m.pattern < pattern_count self.now)) }
         ensures cache { Fits self.now cache.new }
-        ensures memory { memory_of cache.new ≡ memory_of cache.old }
+        ensures memory { AccountsAlike self.now cache.old cache.new }
         ensures sure { IsKnownImpossible self.now input.now → IsOk result }
     {
         // An engine to come may take memory (DECISIONS: the calls that end in `_with` take no allocator).
@@ -285,7 +285,7 @@ impl Regex {
         ensures within { IfOk result (λ o. IfSome o (HalfLiesIn input.now)) }
         ensures in_range { IfOk result (λ o. IfSome o (λ half. half.pattern < pattern_count self.now)) }
         ensures cache { Fits self.now cache.new }
-        ensures memory { memory_of cache.new ≡ memory_of cache.old }
+        ensures memory { AccountsAlike self.now cache.old cache.new }
         ensures sure { IsKnownImpossible self.now input.now → IsOk result }
     {
         self.strategy.search_half(&mut cache.rooms, input)
@@ -310,7 +310,7 @@ impl Regex {
         ensures slots_within { AreWithin input.now slots.new }
         ensures err { OnErr result (slots.new ≡ replicate (length slots.old) None) }
         ensures cache { Fits self.now cache.new }
-        ensures memory { memory_of cache.new ≡ memory_of cache.old }
+        ensures memory { AccountsAlike self.now cache.old cache.new }
         ensures sure { IsKnownImpossible self.now input.now → IsOk result }
     {
         let found = self.search_match_with(cache, input, slots)?;
@@ -337,7 +337,7 @@ impl Regex {
         ensures slots_within { AreWithin input.now slots.new }
         ensures err { OnErr result (slots.new ≡ replicate (length slots.old) None) }
         ensures cache { Fits self.now cache.new }
-        ensures memory { memory_of cache.new ≡ memory_of cache.old }
+        ensures memory { AccountsAlike self.now cache.old cache.new }
         ensures spanned { IsSpanned input.now }
         ensures sure { IsKnownImpossible self.now input.now → IsOk result }
     {

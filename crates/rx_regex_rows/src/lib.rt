@@ -2,4 +2,6 @@
 #![tactic(auto)]
 
 #[cfg(test)]
+mod dfas;
+#[cfg(test)]
 mod regex;

@@ -368,7 +368,8 @@ fn a_and_b(rt: &impl Abort, alloc: Global) -> Result<Vec<Hir>, Memory> {
 fn a_regex_is_built_of_expressions(rt: HostRuntime) {
     let alloc = rt.alloc();
     let exprs = a_and_b(&rt, alloc).ok().expect(&rt, "memory");
-    let builder = Builder::new();
+    let mut builder = Builder::new();
+    builder.configure(Config::new().dfa(false).hybrid(false));
     let first = exprs.first().expect(&rt, "two expressions");
     let one = builder.build_from_hir(alloc, first);
     let one = one.ok().expect(&rt, "a regex");
@@ -415,7 +416,7 @@ fn told_under<R: Abort + Wait>(
     haystack: &[u8],
 ) -> (Option<(usize, usize, usize)>, usize) {
     let config = config.ok().expect(rt, "memory");
-    let regex = configured(rt, alloc, config, pattern);
+    let regex = configured(rt, alloc, config.dfa(false).hybrid(false), pattern);
     let found = found_by(rt, alloc, &regex, &Input::new(haystack));
     (found, regex.memory_usage())
 }

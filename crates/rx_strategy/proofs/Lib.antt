@@ -1,4 +1,5 @@
 pub mod NeedleLemmas
+pub mod PartLemmas
 pub mod AnswerLemmas
 pub mod SpanLemmas
 pub mod StrategyLemmas

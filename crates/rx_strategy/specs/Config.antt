@@ -1,5 +1,5 @@
 -- What a configuration asks for.
-use Rattle.std.specs.Prelude.{◌&&◌, ℕ, Bool, true, false, List, Option, Some, None, unwrap_or}
+use Rattle.std.specs.Prelude.{◌&&◌, ◌||◌, ℕ, Bool, true, false, List, Option, Some, None, unwrap_or}
 use Rattle.std.specs.Option.{option_or}
 use Rattle.rx_model.specs.Search as model
 use Rattle.rx_search.specs.declared.anchored.MatchKind.{MatchKind}
@@ -7,7 +7,7 @@ use Rattle.rx_search.specs.declared.anchored.MatchKind.TheVariants.{All, Leftmos
 use Rattle.rx_nfa.specs.Config.{captures_kind}
 use Rattle.rx_nfa.specs.declared.compiler.config.Config.{Config as CompilerConfig}
 use Rattle.rx_nfa.specs.declared.compiler.config.WhichCaptures.{WhichCaptures}
-use Rattle.rx_nfa.specs.declared.compiler.config.WhichCaptures.TheVariants.{All as EveryGroup}
+use Rattle.rx_nfa.specs.declared.compiler.config.WhichCaptures.TheVariants.{All as EveryGroup, None as NoGroup}
 use Rattle.rx_strategy.specs.declared.config.Config.{Config}
 
 -- which of the matches that begin at one place is reported
@@ -45,6 +45,34 @@ terminator_of c = unwrap_or c.line_terminator 10
 abbrev pub backtrack_of : Config → Bool
 backtrack_of c = unwrap_or c.backtrack true
 
+-- lazy DFAs are asked for
+abbrev pub hybrid_of : Config → Bool
+hybrid_of c = unwrap_or c.hybrid true
+
+-- full DFAs are asked for
+abbrev pub dfa_of : Config → Bool
+dfa_of c = unwrap_or c.dfa true
+
+-- DFAs of either sort are asked for
+abbrev pub asks_for_dfas : Config → Bool
+asks_for_dfas c = dfa_of c || hybrid_of c
+
+-- the most bytes that the cache of a lazy DFA may account
+abbrev pub capacity_of : Config → ℕ
+capacity_of c = unwrap_or c.hybrid_cache_capacity 2097152
+
+-- the most bytes that may be accounted for full DFAs, if there is a limit
+abbrev pub dfa_size_limit_of : Config → Option ℕ
+dfa_size_limit_of c = unwrap_or c.dfa_size_limit (Some 40960)
+
+-- the most states that may be accounted for an NFA of which a full DFA is built, if there is a limit
+abbrev pub dfa_state_limit_of : Config → Option ℕ
+dfa_state_limit_of c = unwrap_or c.dfa_state_limit (Some 30)
+
+-- bytes that an NFA does not tell apart share a class in its DFAs
+abbrev pub byte_classes_of : Config → Bool
+byte_classes_of c = unwrap_or c.byte_classes true
+
 -- the compiler's configuration under this one
 abbrev pub compiler_of : Config → CompilerConfig
 compiler_of c = record {
@@ -54,6 +82,10 @@ compiler_of c = record {
   which_captures = Some (which_of c);
   look_matcher = Some (terminator_of c);
 }
+
+-- that for the NFA that reads backwards, which tells no groups
+abbrev pub reverse_compiler_of : Config → CompilerConfig
+reverse_compiler_of c = record (compiler_of c) { reverse = Some true; which_captures = Some NoGroup }
 
 abbrev pub is_leftmost : MatchKind → Bool
 is_leftmost All = false
@@ -74,6 +106,12 @@ nothing_set = record {
   nfa_size_limit = None;
   line_terminator = None;
   backtrack = None;
+  hybrid = None;
+  dfa = None;
+  hybrid_cache_capacity = None;
+  dfa_size_limit = None;
+  dfa_state_limit = None;
+  byte_classes = None;
 }
 
 -- the new configuration, with what it leaves open as in the old one
@@ -87,4 +125,10 @@ overwritten old new = record {
   nfa_size_limit = option_or new.nfa_size_limit old.nfa_size_limit;
   line_terminator = option_or new.line_terminator old.line_terminator;
   backtrack = option_or new.backtrack old.backtrack;
+  hybrid = option_or new.hybrid old.hybrid;
+  dfa = option_or new.dfa old.dfa;
+  hybrid_cache_capacity = option_or new.hybrid_cache_capacity old.hybrid_cache_capacity;
+  dfa_size_limit = option_or new.dfa_size_limit old.dfa_size_limit;
+  dfa_state_limit = option_or new.dfa_state_limit old.dfa_state_limit;
+  byte_classes = option_or new.byte_classes old.byte_classes;
 }

@@ -2,14 +2,26 @@
 ghost use Rattle.std.specs.Prelude.{◌≡◌, Some, IfOk, option_copied};
 ghost use Rattle.rx_strategy.specs.Config.{kind_of, utf8_of, auto_prefilter_of, prefilter_of, which_of, size_limit_of, terminator_of};
 ghost use Rattle.rx_strategy.specs.Config.{backtrack_of, compiler_of, has_backtracker, nothing_set, overwritten};
+ghost use Rattle.rx_strategy.specs.Config.{hybrid_of, dfa_of, capacity_of, dfa_size_limit_of, dfa_state_limit_of, byte_classes_of};
+ghost use Rattle.rx_strategy.specs.Config.{reverse_compiler_of, asks_for_dfas};
+ghost use Rattle.rx_strategy.specs.Availability.{may_be_full, table_limit};
 
-use rx_nfa::WhichCaptures;
+use rx_nfa::{NFA, WhichCaptures};
 use rx_prefilter::Prefilter;
 use rx_search::{LookMatcher, MatchKind, Memory};
 use std::default::Default;
 
 /// The bytes that the NFA may have where no other limit is set, by what is accounted for it.
 const NFA_SIZE_LIMIT: usize = 10485760;
+
+/// The bytes that the cache of a lazy DFA may account where nothing else is set.
+const HYBRID_CACHE_CAPACITY: usize = 2097152;
+
+/// The bytes that full DFAs may have where no other limit is set.
+const DFA_SIZE_LIMIT: usize = 40960;
+
+/// The states that may be accounted for an NFA of which a full DFA is built, where no other limit is set.
+const DFA_STATE_LIMIT: usize = 30;
 
 // What is left open keeps what was set before (DECISIONS: a configuration's fields are optional).
 /// How a regex is built, and how it searches. What is not set has its default.
@@ -23,6 +35,12 @@ pub struct Config {
     nfa_size_limit: Option<Option<usize>>,
     line_terminator: Option<u8>,
     backtrack: Option<bool>,
+    hybrid: Option<bool>,
+    dfa: Option<bool>,
+    hybrid_cache_capacity: Option<usize>,
+    dfa_size_limit: Option<Option<usize>>,
+    dfa_state_limit: Option<Option<usize>>,
+    byte_classes: Option<bool>,
 }
 
 impl Config {
@@ -39,6 +57,12 @@ impl Config {
             nfa_size_limit: None,
             line_terminator: None,
             backtrack: None,
+            hybrid: None,
+            dfa: None,
+            hybrid_cache_capacity: None,
+            dfa_size_limit: None,
+            dfa_state_limit: None,
+            byte_classes: None,
         }
     }
 
@@ -116,6 +140,60 @@ impl Config {
         config
     }
 
+    /// Sets whether lazy DFAs may be used. It changes no answer that is promised.
+    pub fn hybrid(self, yes: bool) -> Config
+        ensures { result ≡ record self { hybrid = Some yes } }
+    {
+        let mut config = self;
+        config.hybrid = Some(yes);
+        config
+    }
+
+    /// Sets whether full DFAs may be used. It changes no answer that is promised.
+    pub fn dfa(self, yes: bool) -> Config
+        ensures { result ≡ record self { dfa = Some yes } }
+    {
+        let mut config = self;
+        config.dfa = Some(yes);
+        config
+    }
+
+    /// Sets the most bytes that the cache of a lazy DFA may account. Where they are fewer than its minimum, there is no lazy DFA.
+    pub fn hybrid_cache_capacity(self, bytes: usize) -> Config
+        ensures { result ≡ record self { hybrid_cache_capacity = Some bytes } }
+    {
+        let mut config = self;
+        config.hybrid_cache_capacity = Some(bytes);
+        config
+    }
+
+    /// Sets the most bytes that full DFAs may have, by what is accounted for them. A table has a quarter of it. None: there is no limit.
+    pub fn dfa_size_limit(self, limit: Option<usize>) -> Config
+        ensures { result ≡ record self { dfa_size_limit = Some limit } }
+    {
+        let mut config = self;
+        config.dfa_size_limit = Some(limit);
+        config
+    }
+
+    /// Sets the most states that may be accounted for an NFA of which a full DFA is built. None: there is no limit.
+    pub fn dfa_state_limit(self, limit: Option<usize>) -> Config
+        ensures { result ≡ record self { dfa_state_limit = Some limit } }
+    {
+        let mut config = self;
+        config.dfa_state_limit = Some(limit);
+        config
+    }
+
+    /// Sets whether bytes that an NFA does not tell apart share a class in its DFAs. It changes no answer that is promised.
+    pub fn byte_classes(self, yes: bool) -> Config
+        ensures { result ≡ record self { byte_classes = Some yes } }
+    {
+        let mut config = self;
+        config.byte_classes = Some(yes);
+        config
+    }
+
     /// Which of the matches that begin at one place is reported; by default the first in order of preference.
     pub fn get_match_kind(&self) -> MatchKind
         ensures { result ≡ kind_of self.now }
@@ -175,6 +253,48 @@ impl Config {
         self.backtrack.unwrap_or(true)
     }
 
+    /// Whether lazy DFAs may be used; by default so.
+    pub fn get_hybrid(&self) -> bool
+        ensures { result ≡ hybrid_of self.now }
+    {
+        self.hybrid.unwrap_or(true)
+    }
+
+    /// Whether full DFAs may be used; by default so.
+    pub fn get_dfa(&self) -> bool
+        ensures { result ≡ dfa_of self.now }
+    {
+        self.dfa.unwrap_or(true)
+    }
+
+    /// The most bytes that the cache of a lazy DFA may account; by default 2097152.
+    pub fn get_hybrid_cache_capacity(&self) -> usize
+        ensures { result ≡ capacity_of self.now }
+    {
+        self.hybrid_cache_capacity.unwrap_or(HYBRID_CACHE_CAPACITY)
+    }
+
+    /// The most bytes that full DFAs may have; by default 40960.
+    pub fn get_dfa_size_limit(&self) -> Option<usize>
+        ensures { result ≡ dfa_size_limit_of self.now }
+    {
+        self.dfa_size_limit.unwrap_or(Some(DFA_SIZE_LIMIT))
+    }
+
+    /// The most states that may be accounted for an NFA of which a full DFA is built; by default 30.
+    pub fn get_dfa_state_limit(&self) -> Option<usize>
+        ensures { result ≡ dfa_state_limit_of self.now }
+    {
+        self.dfa_state_limit.unwrap_or(Some(DFA_STATE_LIMIT))
+    }
+
+    /// Whether bytes that an NFA does not tell apart share a class in its DFAs; by default so.
+    pub fn get_byte_classes(&self) -> bool
+        ensures { result ≡ byte_classes_of self.now }
+    {
+        self.byte_classes.unwrap_or(true)
+    }
+
     /// How the NFA is compiled under this configuration.
     pub fn compiler(&self) -> rx_nfa::Config
         ensures { result ≡ compiler_of self.now }
@@ -186,6 +306,45 @@ impl Config {
             .nfa_size_limit(self.get_nfa_size_limit())
             .which_captures(self.get_which_captures())
             .look_matcher(matcher)
+    }
+
+    /// How the NFA that reads backwards is compiled under this configuration. It tells no groups.
+    pub(crate) fn reverse_compiler(&self) -> rx_nfa::Config
+        ensures { result ≡ reverse_compiler_of self.now }
+    {
+        self.compiler()
+            .reverse(true)
+            .which_captures(WhichCaptures::None)
+    }
+
+    /// Whether DFAs are asked for, of either sort.
+    pub(crate) fn asks_for_dfas(&self) -> bool
+        ensures { result ≡ asks_for_dfas self.now }
+    {
+        self.get_dfa() || self.get_hybrid()
+    }
+
+    /// Whether a full DFA may be built of the NFA: it is asked for, and few enough states are accounted.
+    pub(crate) fn may_be_full(&self, nfa: &NFA) -> bool
+        ensures { result ≡ may_be_full self.now nfa.now }
+    {
+        if !self.get_dfa() {
+            return false;
+        }
+        match self.get_dfa_state_limit() {
+            Some(limit) => nfa.accounted_states() <= limit,
+            None => true,
+        }
+    }
+
+    /// The most bytes that the table of one full DFA may have.
+    pub(crate) fn table_limit(&self) -> Option<usize>
+        ensures { result ≡ table_limit self.now }
+    {
+        match self.get_dfa_size_limit() {
+            Some(limit) => Some(limit / 4),
+            None => None,
+        }
     }
 
     /// Whether a strategy under this configuration has the bounded backtracker.
@@ -216,6 +375,12 @@ impl Config {
             nfa_size_limit: self.nfa_size_limit,
             line_terminator: self.line_terminator,
             backtrack: self.backtrack,
+            hybrid: self.hybrid,
+            dfa: self.dfa,
+            hybrid_cache_capacity: self.hybrid_cache_capacity,
+            dfa_size_limit: self.dfa_size_limit,
+            dfa_state_limit: self.dfa_state_limit,
+            byte_classes: self.byte_classes,
         })
     }
 
@@ -242,6 +407,12 @@ impl Config {
             nfa_size_limit: other.nfa_size_limit.or(self.nfa_size_limit),
             line_terminator: other.line_terminator.or(self.line_terminator),
             backtrack: other.backtrack.or(self.backtrack),
+            hybrid: other.hybrid.or(self.hybrid),
+            dfa: other.dfa.or(self.dfa),
+            hybrid_cache_capacity: other.hybrid_cache_capacity.or(self.hybrid_cache_capacity),
+            dfa_size_limit: other.dfa_size_limit.or(self.dfa_size_limit),
+            dfa_state_limit: other.dfa_state_limit.or(self.dfa_state_limit),
+            byte_classes: other.byte_classes.or(self.byte_classes),
         }
     }
 }

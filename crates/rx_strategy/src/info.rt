@@ -101,6 +101,15 @@ impl RegexInfo {
         self.properties.look_set_suffix().contains(Look::End)
     }
 
+    /// The length of each match, where all matches have one length, and it is known.
+    pub(crate) fn fixed_len(&self) -> Option<usize>
+        ensures { (h : Expression) → AreOf h self.now.properties → IfSome result (λ len. (saturated (minimum_len h) ≡ Some len) × (in_64_bits (maximum_len h) ≡ Some len)) }
+    {
+        let least = self.properties.minimum_len()?;
+        let greatest = self.properties.maximum_len()?;
+        if least == greatest { Some(least) } else { None }
+    }
+
     /// Whether the span is longer than the greatest length of a match, where one is known.
     fn is_longer(&self, input: &Input<'_>) -> bool
         ensures { result ≡ is_above (span_len input.now) self.now.properties.maximum_len }

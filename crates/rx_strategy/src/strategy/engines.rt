@@ -1,27 +1,31 @@
-//! The strategy that runs engines over an NFA.
-ghost use Rattle.std.specs.Prelude.{◌≡◌, ◌≤◌, ◌<◌, ◌+◌, ◌-◌, ◌*◌, ◌^◌, min, List, true, false, length, None, replicate, is_some};
+//! The strategy that runs DFAs and engines over an NFA.
+ghost use Rattle.std.specs.Prelude.{◌≡◌, ◌≤◌, ◌<◌, List, option_copied, true, false, length, None, replicate, is_some};
 ghost use Rattle.std.specs.Prelude.{IfOk, OnOk, OnErr, IsOk, IfNone, IfSome, IsSomeAnd, IsTrue, MatchOption};
 ghost use Rattle.rx_model.specs.Expression.{Expression, alternation};
 ghost use Rattle.rx_model.specs.Search.{Patterns};
 ghost use Rattle.rx_search.specs.Input.{IsSpanned, next_in, span_len};
-ghost use Rattle.rx_search.specs.Matches.{match_value};
-ghost use Rattle.rx_search.specs.Told.{tells, AreWithin, LiesIn};
-ghost use Rattle.rx_hir.specs.Cost.{state_size};
+ghost use Rattle.rx_search.specs.Matches.{match_value, half_match_value};
+ghost use Rattle.rx_search.specs.Promise.{Premises};
+ghost use Rattle.rx_search.specs.Told.{tells, AreWithin, LiesIn, HalfLiesIn};
 ghost use Rattle.rx_hir.specs.Normal.{expressions};
 ghost use Rattle.rx_hir.specs.PropertiesViews.{AreOf};
 ghost use Rattle.rx_engines.specs.Bounded.{Fits as FitsBounded, max_len};
+ghost use Rattle.rx_dfa.specs.Search.{IsMeant};
 ghost use Rattle.rx_engines.specs.Needles.{BeginsEachRun};
 ghost use Rattle.rx_search.specs.Answer.{IsAnswer, AreSlotsOfAnswer, TellsWhether};
-ghost use Rattle.rx_strategy.specs.Cache.{FitsCore, FitsBacktracker, FitsAsBefore, StillFits, backtrack_memory, memory_of, accounted_backtrack, accounted_core};
+ghost use Rattle.rx_strategy.specs.Cache.{FitsCore, FitsBacktracker, FitsAsBefore, StillFits, backtrack_memory, AccountsAlikeIn, memory_of, accounted_backtrack, accounted_core};
+ghost use Rattle.rx_strategy.specs.Availability.{AreDfasBeside};
 ghost use Rattle.rx_strategy.specs.Config.{kind_of, captures_of, has_backtracker};
-ghost use Rattle.rx_strategy.specs.Core.{CoreValue, IsCoreFor, AreKnownOf, IsSearched};
+ghost use Rattle.rx_strategy.specs.Core.{CoreValue, IsCoreFor, AreKnownOf, IsSearched, core_memory, reverse_memory, needles_for};
 ghost use Rattle.rx_strategy.specs.Impossible.{is_impossible};
 ghost use Rattle.rx_strategy.specs.Nofail.{IsAskedFor};
-ghost use Rattle.rx_strategy.specs.Prefilter.{prefilter_memory};
 
 use crate::cache::Cache;
 use crate::config::{Config, shared};
+use crate::dfas::{Dfas, NoAnswer};
+use crate::found::half_match;
 use crate::info::RegexInfo;
+use crate::narrow::{match_of_len, narrowed};
 use crate::prefilter::memory_usage as accounted;
 use crate::span::leave_span;
 use rx_engines::backtrack::{self, BoundedBacktracker};
@@ -29,19 +33,24 @@ use rx_engines::empty;
 use rx_engines::pikevm::PikeVM;
 use rx_nfa::{NFA, WhichCaptures};
 use rx_prefilter::Prefilter;
-use rx_search::{Input, Match, Memory, NonMaxUsize};
+use rx_search::{HalfMatch, Input, Match, MatchKind, Memory, NonMaxUsize};
 use std::alloc::Global;
 use std::marker::Model;
 
-/// The engines over one NFA: the bounded backtracker where it serves, and else the PikeVM. Which of them serves a
-/// search changes no answer that is promised.
+/// The DFAs and the engines over one NFA. A search asks the DFAs, where they are there; where they have no answer, it asks an engine
+/// that always answers: the bounded backtracker where it serves, and else the PikeVM. Which of them serves a search changes no
+/// answer that is promised.
 #[derive(Drop)]
 pub struct Core {
     pikevm: PikeVM,
+    kind: MatchKind,
     backtrack: Option<BoundedBacktracker>,
     which_captures: WhichCaptures,
     pre: Option<Prefilter>,
     info: RegexInfo,
+    /// The NFA that reads backwards, where DFAs are asked for.
+    reverse: Option<NFA>,
+    dfas: Dfas,
 }
 
 impl Model for Core {
@@ -49,6 +58,7 @@ impl Model for Core {
     ghost use Rattle.rx_search.specs.declared.anchored.MatchKind.TheVariants.{LeftmostFirst};
     ghost use Rattle.rx_nfa.specs.Config.{captures_kind};
     ghost use Rattle.rx_strategy.specs.Core.{CoreValue, AreKnownOf};
+    ghost use Rattle.rx_strategy.specs.Dfas.{ServeNfa};
 
     ghost Value = { CoreValue };
 
@@ -59,10 +69,13 @@ impl Model for Core {
       backtracks = is_some c.backtrack;
       pre = c.pre;
       properties = c.info.properties;
+      reverse = c.reverse;
+      dfas = c.dfas;
     } };
 
     ghost invariant = { λ c. IfSome c.backtrack (λ b. (b.nfa ≡ c.pikevm.nfa) × (b.pre ≡ c.pre) × (c.pikevm.kind ≡ LeftmostFirst))
-        × AreKnownOf c.info.properties c.pikevm.nfa × (c.pikevm.pre ≡ c.pre) };
+        × AreKnownOf c.info.properties c.pikevm.nfa × (c.pikevm.pre ≡ c.pre) × ServeNfa c.pikevm.nfa c.pikevm.kind c.reverse c.dfas
+        × (c.kind ≡ c.pikevm.kind) };
 }
 
 /// An engine that answers each search that it is asked for.
@@ -72,32 +85,42 @@ pub(crate) enum Nofail<'a> {
 }
 
 impl Core {
-    /// The core of this NFA, which was built under the configuration, with what is known of its patterns. It searches with
-    /// this prefilter, where there is one.
+    /// The core of this NFA and of the one that reads backwards, if it is there, which were built under the configuration, with what is
+    /// known of its patterns. It searches with this prefilter, where there is one.
     pub(crate) fn new(
+        alloc: Global,
         config: &Config,
         nfa: NFA,
+        reverse: Option<NFA>,
         info: RegexInfo,
         pre: Option<Prefilter>,
     ) -> Result<Core, Memory>
-        requires { AreKnownOf info.properties nfa }
-        ensures { IfOk result (λ core. core ≡ record {
+        requires known { AreKnownOf info.properties nfa }
+        requires reads { (nfa.reverse ≡ false) × IfSome reverse (λ back. (back.reverse ≡ true) × (back.utf8 ≡ nfa.utf8) × (back.accounted ≡ nfa.accounted)) }
+        ensures core { IfOk result (λ core. core ≡ record {
           nfa = nfa;
           kind = kind_of config.now;
           which_captures = captures_of config.now;
           backtracks = has_backtracker config.now;
           pre = pre;
           properties = info.properties;
+          reverse = reverse;
+          dfas = core.dfas;
         }) }
+        ensures dfas { IfOk result (λ core. AreDfasBeside config.now nfa reverse core.dfas) }
     {
         let backtrack = backtracker(config, &nfa, &pre)?;
+        let dfas = Dfas::new(alloc, config, &nfa, reverse.as_ref())?;
         let own = shared(pre.as_ref())?;
         Ok(Core {
             pikevm: PikeVM::build_from_nfa(nfa, config.get_match_kind(), own),
+            kind: config.get_match_kind(),
             backtrack,
             which_captures: config.get_which_captures(),
             pre,
             info,
+            reverse,
+            dfas,
         })
     }
 
@@ -108,11 +131,14 @@ impl Core {
         self.pikevm.get_nfa()
     }
 
-    /// The bytes that are accounted for the core itself: those of its prefilter and of its NFA.
+    /// The bytes that are accounted for the core itself: those of its prefilter, of its NFAs, and of the tables of full DFAs.
     pub(crate) fn memory_usage(&self) -> usize
-        ensures { result ≡ min (2 ^ 64 - 1) (prefilter_memory self.now.pre + state_size * self.now.nfa.accounted) }
+        ensures { result ≡ core_memory self.now }
     {
-        accounted(&self.pre).saturating_add(self.get_nfa().memory_usage())
+        accounted(&self.pre)
+            .saturating_add(self.get_nfa().memory_usage())
+            .saturating_add(reverse_memory(&self.reverse))
+            .saturating_add(self.dfas.memory_usage())
     }
 
     /// Whether it is known that there is no match in the input's span.
@@ -132,12 +158,14 @@ impl Core {
     {
         let pikevm = self.pikevm.create_cache(alloc)?;
         let backtrack = self.backtrack_cache(alloc)?;
+        let lazies = self.dfas.create_cache(alloc)?;
         let memory = pikevm
             .memory_usage()
             .saturating_add(memory_usage(&backtrack));
         Ok(Cache {
             pikevm,
             backtrack,
+            lazies,
             memory,
         })
     }
@@ -159,10 +187,12 @@ impl Core {
         ensures memory { OnOk result (memory_of cache.new ≡ accounted_core self.now) }
         ensures err { OnErr result (FitsAsBefore cache.old cache.new) }
         ensures sure { FitsCore self.now cache.old → IsOk result }
-        ensures kept { StillFits cache.old cache.new }
+        ensures kept { FitsCore self.now cache.old → StillFits cache.old cache.new }
     {
         cache.pikevm.reset(alloc, &self.pikevm)?;
         let backtrack = self.reset_backtrack(alloc, &mut cache.backtrack)?;
+        // What the lazy DFAs of another core left would be wrong here.
+        self.dfas.reset_cache(alloc, &mut cache.lazies)?;
         cache.memory = cache.pikevm.memory_usage().saturating_add(backtrack);
         Ok(())
     }
@@ -202,10 +232,38 @@ impl Core {
         requires spanned { IsSpanned input.now }
         ensures value { TellsWhether (IsCoreFor self.now) self.now.pre input.now result }
         ensures cache { FitsCore self.now cache.new }
-        ensures memory { memory_of cache.new ≡ memory_of cache.old }
+        ensures memory { AccountsAlikeIn self.now cache.old cache.new }
     {
-        // It can stop at the first match (DECISIONS: `is_match` always asks the `PikeVM`).
-        self.pikevm.is_match(&mut cache.pikevm, input)
+        match self
+            .dfas
+            .try_is_match(&mut cache.lazies, self.dfa_needles(), input)
+        {
+            Ok(there) => there,
+            // It can stop at the first match (DECISIONS: of the engines that always answer).
+            Err(_) => self.pikevm.is_match(&mut cache.pikevm, input),
+        }
+    }
+
+    /// The end of the next match in the input's span, with its pattern, where matches are told. A DFA reads nothing backwards for it.
+    pub(crate) fn search_half(&self, cache: &mut Cache, input: &Input<'_>) -> Option<HalfMatch>
+        requires fits { FitsCore self.now cache.old }
+        requires spanned { IsSpanned input.now }
+        ensures answer { IsAnswer (IsCoreFor self.now) self.now.pre self.now.kind input.now half_match_value result }
+        ensures within { IfSome result (HalfLiesIn input.now) }
+        ensures in_range { IfSome result (λ half. half.pattern < length self.now.nfa.starts) }
+        ensures cache { FitsCore self.now cache.new }
+        ensures memory { AccountsAlikeIn self.now cache.old cache.new }
+    {
+        if !self.tells() {
+            return None;
+        }
+        match self
+            .dfas
+            .try_search_half(&mut cache.lazies, self.dfa_needles(), input)
+        {
+            Ok(found) => found,
+            Err(_) => half_match(self.search_nofail(cache, input, &mut [])),
+        }
     }
 
     /// The next match in the input's span, with its slots, where matches are told.
@@ -224,7 +282,7 @@ impl Core {
         ensures none { IfNone result (slots.new ≡ replicate (length slots.old) None) }
         ensures slots_within { AreWithin input.now slots.new }
         ensures cache { FitsCore self.now cache.new }
-        ensures memory { memory_of cache.new ≡ memory_of cache.old }
+        ensures memory { AccountsAlikeIn self.now cache.old cache.new }
     {
         if self.tells() {
             return self.search_told(cache, input, slots);
@@ -251,16 +309,89 @@ impl Core {
         ensures none { IfNone result (slots.new ≡ replicate (length slots.old) None) }
         ensures slots_within { AreWithin input.now slots.new }
         ensures cache { FitsCore self.now cache.new }
-        ensures memory { memory_of cache.new ≡ memory_of cache.old }
+        ensures memory { AccountsAlikeIn self.now cache.old cache.new }
     {
         // Two slots a pattern (DECISIONS: where a match's span is asked for alone, an engine keeps no slots).
         if slots.len() > 2 * self.get_nfa().pattern_len() {
-            return self.search_nofail(cache, input, slots);
+            return self.search_groups(cache, input, slots);
         }
         let _haystack = input.haystack();
-        let found = self.search_nofail(cache, input, &mut []);
+        let found = match self.try_search_mayfail(cache, input) {
+            Ok(found) => found,
+            Err(_) => self.search_nofail(cache, input, &mut []),
+        };
         leave_span(&found, slots);
         found
+    }
+
+    /// The same, where groups are asked for. The DFAs find the span, and an engine that keeps slots reads no more than that.
+    fn search_groups(
+        &self,
+        cache: &mut Cache,
+        input: &Input<'_>,
+        slots: &mut [Option<NonMaxUsize>],
+    ) -> Option<Match>
+        requires fits { FitsCore self.now cache.old }
+        requires spanned { IsSpanned input.now }
+        requires told { tells self.now.which_captures ≡ true }
+        ensures answer { IsAnswer (IsCoreFor self.now) self.now.pre self.now.kind input.now match_value result }
+        ensures slots { AreSlotsOfAnswer (IsCoreFor self.now) self.now.pre self.now.kind input.now match_value slots.new result }
+        ensures within { IfSome result (LiesIn input.now) }
+        ensures in_range { IfSome result (λ m. m.pattern < length self.now.nfa.starts) }
+        ensures none { IfNone result (slots.new ≡ replicate (length slots.old) None) }
+        ensures slots_within { AreWithin input.now slots.new }
+        ensures cache { FitsCore self.now cache.new }
+        ensures memory { AccountsAlikeIn self.now cache.old cache.new }
+    {
+        match self.try_search_mayfail(cache, input) {
+            Ok(Some(found)) => self.search_nofail(cache, &narrowed(input, &found), slots),
+            Ok(None) => {
+                empty(slots);
+                None
+            }
+            Err(_) => self.search_nofail(cache, input, slots),
+        }
+    }
+
+    /// The next match in the input's span by the DFAs, or no answer. Where all matches have one length, nothing is read backwards.
+    fn try_search_mayfail(
+        &self,
+        cache: &mut Cache,
+        input: &Input<'_>,
+    ) -> Result<Option<Match>, NoAnswer>
+        requires fits { FitsCore self.now cache.old }
+        requires spanned { IsSpanned input.now }
+        ensures answer { tells self.now.which_captures ≡ true → IfOk result (IsAnswer (IsCoreFor self.now) self.now.pre self.now.kind input.now match_value) }
+        ensures meant { (r : Patterns) → Premises (IsCoreFor self.now r) self.now.pre r input.now → IfOk result (λ found. IfSome found (IsMeant r input.now)) }
+        ensures within { IfOk result (λ found. IfSome found (LiesIn input.now)) }
+        ensures ordered { IfOk result (λ found. IfSome found (λ m. m.start ≤ m.end)) }
+        ensures in_range { IfOk result (λ found. IfSome found (λ m. m.pattern < length self.now.nfa.starts)) }
+        ensures cache { FitsCore self.now cache.new }
+        ensures memory { AccountsAlikeIn self.now cache.old cache.new }
+    {
+        let Some(len) = self.info.fixed_len() else {
+            return self
+                .dfas
+                .try_search(&mut cache.lazies, self.dfa_needles(), input);
+        };
+        match self
+            .dfas
+            .try_search_half(&mut cache.lazies, self.dfa_needles(), input)
+        {
+            Ok(Some(end)) => Ok(Some(match_of_len(input, end, len))),
+            Ok(None) => Ok(None),
+            Err(error) => Err(error),
+        }
+    }
+
+    /// The prefilter that the DFAs ask: under `All` none, since the last end is sought.
+    fn dfa_needles(&self) -> Option<&Prefilter>
+        ensures { option_copied result ≡ needles_for self.now }
+    {
+        match self.kind {
+            MatchKind::LeftmostFirst => self.pre.as_ref(),
+            MatchKind::All => None,
+        }
     }
 
     /// Whether matches are told.
@@ -288,7 +419,7 @@ impl Core {
         ensures slots_within { AreWithin input.now slots.new }
         ensures none { IfNone result (slots.new ≡ replicate (length slots.old) None) }
         ensures cache { FitsCore self.now cache.new }
-        ensures memory { memory_of cache.new ≡ memory_of cache.old }
+        ensures memory { AccountsAlikeIn self.now cache.old cache.new }
     {
         // The choice, and then one call (DECISIONS: a core asks first which engine serves).
         match self.nofail_for(input) {
@@ -329,6 +460,16 @@ fn backtracker(
     }
     let pre = shared(pre.as_ref())?;
     Ok(Some(BoundedBacktracker::build_from_nfa(nfa.clone()?, pre)))
+}
+
+/// What is accounted for the NFA that reads backwards, where there is one.
+fn reverse_memory(reverse: &Option<NFA>) -> usize
+    ensures { result ≡ reverse_memory reverse.now }
+{
+    match reverse {
+        Some(nfa) => nfa.memory_usage(),
+        None => 0,
+    }
 }
 
 /// What is accounted for the backtracker's cache, where there is one.

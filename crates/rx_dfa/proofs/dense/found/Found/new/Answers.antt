@@ -1,0 +1,11 @@
+use Rattle.std.proofs.Common.{[], ◌∷◌, refl}
+use Rattle.std.specs.Prelude.{None}
+use Rattle.std.proofs.lemmas.Result.{err_from_is_err_and}
+use Rattle.rx_dfa.specs.Automaton.{no_key}
+use Rattle.rx_dfa.proofs.lemmas.FindLemmas.{over-refused, lone}
+use Rattle.rx_dfa.proofs.dense.found.Found.new.Goals as goal
+
+pub returns-in_err-admit-clause-err : goal.returns-in_err-admit-clause-err
+returns-in_err-admit-clause-err c d state =
+    let e = err_from_is_err_and c.from_residual.result c.from_residual.ensures.1 in
+    rw (e.1, e.2) (over-refused d c.args.stride c.args.limit (no_key None ∷ []) 1 (lone d (no_key None) state) refl _ c.in_err-admit.ensures)
