@@ -16,13 +16,3 @@ pub mod ChainLemmas
 pub mod LazyLemmas
 pub mod RowsLemmas
 pub mod HeldLemmas
-pub mod StateLemmas
-pub mod TableLemmas
-pub mod FoundLemmas
-pub mod FindLemmas
-pub mod KeySetLemmas
-pub mod ReachLemmas
-pub mod CellLemmas
-pub mod RowLemmas
-pub mod SettleLemmas
-pub mod BuildLemmas

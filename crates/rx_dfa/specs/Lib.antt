@@ -1,7 +1,6 @@
 pub mod Automaton
 pub mod Course
 pub mod Search
-pub mod Candidates
 pub mod Beside
 pub mod StateKey
 pub mod Scratch
@@ -15,9 +14,3 @@ pub mod KeySet
 pub mod Lazy
 pub mod LazyCache
 pub mod LazyBuild
-pub mod Dense
-pub mod Found
-pub mod DenseView
-pub mod Numbers
-pub mod Job
-pub mod Work

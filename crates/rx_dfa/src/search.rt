@@ -3,11 +3,9 @@
 mod both;
 mod forward;
 pub(crate) mod parts;
-mod prefiltered;
 mod progress;
 mod reverse;
 
-pub use both::{try_search, try_search_start};
+pub use both::try_search;
 pub use forward::try_search_half_fwd;
-pub use prefiltered::try_search_half_fwd_by;
 pub use reverse::try_search_half_rev;

@@ -98,10 +98,6 @@ impl Automaton for Lazy {
         !is_plain(state)
     }
 
-    fn is_start(&self, cache: &LazyCache, state: StateID) -> bool {
-        cache.rows.is_start_of(self.nfa.start_anchored(), state)
-    }
-
     fn match_pattern(&self, cache: &LazyCache, state: StateID, index: usize) -> Option<PatternID> {
         if is_dead_state(state) {
             return None;

@@ -1,8 +1,7 @@
 //! How a cache is made and reset.
-ghost use Rattle.std.specs.Prelude.{◌≡◌, None, length, IfOk, OnOk, OnErr, IsOk};
+ghost use Rattle.std.specs.Prelude.{◌≡◌, [], IfOk, OnOk, OnErr};
 ghost use Rattle.rx_dfa.specs.Lazy.{LazyValue, accounted};
-ghost use Rattle.rx_dfa.specs.LazyCache.{IsCacheOf, HoldsNone};
-ghost use Rattle.rx_dfa.specs.Scratch.{room_of, room_with};
+ghost use Rattle.rx_dfa.specs.LazyCache.{IsCacheOf};
 
 use crate::lazy::lazy_cache::LazyCache;
 use crate::lazy::lazy_dfa::Lazy;
@@ -19,7 +18,7 @@ impl LazyCache {
     /// A cache for the automaton, without a state.
     pub fn new(alloc: Global, lazy: &Lazy) -> Result<LazyCache, Memory>
         ensures fits { IfOk result (IsCacheOf lazy.now) }
-        ensures empty { IfOk result HoldsNone }
+        ensures empty { IfOk result (λ c. c.rows.keys ≡ []) }
     {
         let buckets = lazy.capacity() / (4 * lazy.stride() + 16);
         Ok(LazyCache {
@@ -30,64 +29,23 @@ impl LazyCache {
         })
     }
 
-    /// Makes it a cache for the automaton, without a state, as if it were new. Where there is no memory, it stays as it was; where its
-    /// room is that of the automaton, it takes none.
+    /// Makes it a cache for the automaton, without a state, as if it were new. Where there is no memory, it stays as it was.
     pub fn reset(&mut self, alloc: Global, lazy: &Lazy) -> Result<(), Memory>
         ensures fits { OnOk result (IsCacheOf lazy.now self.new) }
-        ensures empty { OnOk result (HoldsNone self.new) }
+        ensures empty { OnOk result (self.new.rows.keys ≡ []) }
         ensures clears { OnOk result (self.new.rows.clears ≡ 0) }
         ensures err { OnErr result (self.new ≡ self.old) }
-        ensures sure { room_of self.old.scratch ≡ length lazy.now.dfa.nfa.states → IsOk result }
     {
-        let missing = self.missing(alloc, lazy)?;
-        self.renew(missing);
-        Ok(())
-    }
-
-    /// The room for the automaton, where its own is another one.
-    pub fn missing(&self, alloc: Global, lazy: &Lazy) -> Result<Option<Scratch>, Memory>
-        ensures room { IfOk result (λ missing. room_with missing self.now.scratch ≡ length lazy.now.dfa.nfa.states) }
-        ensures sure { room_of self.now.scratch ≡ length lazy.now.dfa.nfa.states → IsOk result }
-        ensures none { room_of self.now.scratch ≡ length lazy.now.dfa.nfa.states → IfOk result (λ missing. missing ≡ None) }
-    {
-        let states = lazy.nfa.states_len();
-        if self.scratch.room() == states {
-            return Ok(None);
-        }
-        Ok(Some(Scratch::new(alloc, states)?))
-    }
-
-    /// Lets go of all states, and has this room in place of its own, if one is given.
-    pub fn renew(&mut self, room: Option<Scratch>)
-        ensures fits { (l : LazyValue) → room_with room self.old.scratch ≡ length l.dfa.nfa.states → IsCacheOf l self.new }
-        ensures empty { HoldsNone self.new }
-        ensures clears { self.new.rows.clears ≡ 0 }
-    {
-        if let Some(room) = room {
-            self.scratch = room;
-        }
+        self.scratch = Scratch::new(alloc, lazy.nfa.states_len())?;
         self.rows.empty();
         self.rows.clears = 0;
         self.rows.since = None;
-    }
-
-    /// A cache of its own with the same room, without a state.
-    pub fn clone(&self, alloc: Global) -> Result<LazyCache, Memory>
-        ensures fits { IfOk result (λ c. (l : LazyValue) → IsCacheOf l self.now → IsCacheOf l c) }
-        ensures empty { IfOk result HoldsNone }
-    {
-        Ok(LazyCache {
-            rows: Rows::new(alloc, self.rows.keys.buckets())?,
-            scratch: Scratch::new(alloc, self.scratch.room())?,
-            from: make::empty(alloc),
-            into: make::empty(alloc),
-        })
+        Ok(())
     }
 
     /// The bytes that are accounted for its states.
     pub fn memory_usage(&self) -> usize
-        ensures value { result ≡ self.now.rows.size }
-        ensures accounted { (l : LazyValue) → IsCacheOf l self.now → result ≡ accounted l.stride self.now.rows.keys }
+        ensures { (l : LazyValue) → IsCacheOf l self.now → result ≡ accounted l.stride self.now.rows.keys }
     {
         self.rows.size
     }

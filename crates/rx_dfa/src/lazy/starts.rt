@@ -1,5 +1,5 @@
 //! The starts that a cache knows.
-ghost use Rattle.std.specs.Prelude.{◌≡◌, ◌↔◌, ℕ, Option, true, IsTrue, IfSome};
+ghost use Rattle.std.specs.Prelude.{◌≡◌, ◌↔◌, IsTrue, IfSome};
 ghost use Rattle.rx_dfa.specs.Lazy.{LazyValue, StandsFor, begun_key};
 ghost use Rattle.rx_dfa.specs.LazyCache.{AreRowsOf};
 
@@ -23,19 +23,6 @@ impl Rows {
             }
         }
         None
-    }
-
-    /// Whether the state is known as one at a start where runs begin at this state of the NFA and at each later place.
-    pub fn is_start_of(&self, start: StateID, state: StateID) -> bool
-        ensures { (l : LazyValue) → AreRowsOf l self.now → IsTrue result
-            → (before : Option ℕ) × StandsFor l.stride self.now.keys state (begun_key l.dfa start true before) }
-    {
-        for known in &self.starts {
-            if known.state == state && known.loops && known.start == start {
-                return true;
-            }
-        }
-        false
     }
 
     /// Notes the state of a start. Where many are known, they are let go, and none is noted.

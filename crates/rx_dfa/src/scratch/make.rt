@@ -22,11 +22,4 @@ impl Scratch {
             reached: Vec::new(alloc),
         })
     }
-
-    /// For how many states it is.
-    pub fn room(&self) -> usize
-        ensures { result ≡ room_of self.now }
-    {
-        self.walk.seen.room()
-    }
 }

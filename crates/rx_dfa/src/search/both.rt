@@ -1,13 +1,13 @@
 //! The search for a whole match: first for its end, and then for its start.
-ghost use Rattle.std.specs.Prelude.{◌≡◌, ◌≤◌, ◌<◌, true, false, Some, None, option_map, IfOk, IfSome, length, slice_get};
+ghost use Rattle.std.specs.Prelude.{◌≡◌, ◌≤◌, ◌<◌, true, false, Some, None, IfOk, IfSome, length, slice_get};
 ghost use Rattle.std.specs.Result.{IfErr};
 ghost use Rattle.rx_model.specs.Expression.{AreOrdered};
-ghost use Rattle.rx_model.specs.Search.{Patterns, is_anchored};
+ghost use Rattle.rx_model.specs.Search.{Patterns};
 ghost use Rattle.rx_search.specs.Promise.{Premises};
 ghost use Rattle.rx_search.specs.Told.{LiesIn, HalfLiesIn};
 ghost use Rattle.rx_search.specs.declared.anchored.MatchKind.TheVariants.{All, LeftmostFirst};
 ghost use Rattle.rx_nfa.specs.Nfa.{IsNfaOf, HasReverseRuns};
-ghost use Rattle.rx_dfa.specs.Search.{BothFail, SearchFails, IsMatchAnswer, IsReverseAnswer, part_of};
+ghost use Rattle.rx_dfa.specs.Search.{BothFail, IsMatchAnswer, part_of};
 
 use crate::automaton::Automaton;
 use crate::search::forward::try_search_half_fwd;
@@ -50,36 +50,9 @@ pub fn try_search<F: Automaton, B: Automaton>(
         Ok(found) => found,
         Err(error) => return Err(error),
     };
-    match found {
-        Some(end) => try_search_start(rev, rev_cache, input, end),
-        None => Ok(None),
-    }
-}
-
-/// The match that ends there, where an end was found in the input: its start is the span's, where the search is anchored, and else the
-/// least start of a part that its pattern means.
-///
-/// # Errors
-///
-/// As those of `try_search_half_rev`.
-pub fn try_search_start<B: Automaton>(
-    rev: &B,
-    rev_cache: &mut B::Cache,
-    input: &Input<'_>,
-    end: HalfMatch,
-) -> Result<Option<Match>, MatchError>
-    requires lies { HalfLiesIn input.now end }
-    requires fits { B.fits rev.now rev_cache.old }
-    requires reverse { (B.dfa rev.now).nfa.reverse ≡ true }
-    ensures start { is_anchored input.now.anchor ≡ true → IfOk result (λ found. found ≡ Some (record { pattern = end.pattern; start = input.now.start; end = end.offset })) }
-    ensures answer { (r : Patterns) → is_anchored input.now.anchor ≡ false → HasReverseRuns (B.dfa rev.now).nfa r → (B.dfa rev.now).kind ≡ All
-        → IfOk result (λ found. (half : _) × IsReverseAnswer (B.dfa rev.now).nfa r (part_of input.now end) half
-        × (found ≡ option_map (λ first. record { pattern = end.pattern; start = first.offset; end = end.offset }) half)) }
-    ensures within { IfOk result (λ found. IfSome found (LiesIn input.now)) }
-    ensures pattern { IfOk result (λ found. IfSome found (λ m. m.pattern ≡ end.pattern)) }
-    ensures err { IfErr result (SearchFails (B.dfa rev.now).nfa input.now (B.gives_up rev.now rev_cache.new) (B.wants rev.now)) }
-    ensures fits { B.fits rev.now rev_cache.new }
-{
+    let Some(end) = found else {
+        return Ok(None);
+    };
     if input.get_anchored().is_anchored() {
         return Ok(Some(from_start(input, end)));
     }
