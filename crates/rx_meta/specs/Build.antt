@@ -14,11 +14,11 @@ use Rattle.rx_thompson.specs.declared.error.BuildError.{BuildError as CompilerEr
 use Rattle.rx_thompson.specs.declared.error.BuildError.TheVariants.{Syntax as Refused, TooManyPatterns, TooManyGroups, TooManyStates}
 use Rattle.rx_thompson.specs.declared.error.BuildError.TheVariants.{ExceededSizeLimit, Memory as NoMemory}
 use Rattle.rx_meta.specs.Cache.{accounted_for}
-use Rattle.rx_meta.specs.Config.{Config, kind_of, utf8_of, terminator_of, captures_of, size_limit_of, has_backtracker}
+use Rattle.rx_meta.specs.Config.{Config, kind_of, utf8_of, terminator_of, captures_of, size_limit_of, has_backtracker, asks_for_dfas}
 use Rattle.rx_meta.specs.Impossible.{is_impossible, IsKnownImpossible}
 use Rattle.rx_meta.specs.Prefilter.{prefilter_for, prefilter_memory}
 use Rattle.rx_meta.specs.Reading.{reading_of}
-use Rattle.rx_meta.specs.Regex.{RegexValue, Serves, kind_in, groups_in, pattern_count, properties_in, prefilter_in, regex_memory}
+use Rattle.rx_meta.specs.Regex.{RegexValue, Serves, kind_in, groups_in, pattern_count, properties_in, prefilter_in, regex_memory, tables_memory}
 use Rattle.rx_meta.specs.declared.error.BuildError.{BuildError}
 use Rattle.rx_meta.specs.declared.error.BuildError.TheVariants.{Syntax, NFA, Memory}
 
@@ -46,6 +46,10 @@ engine_memory hs = min (2 ^ 64 - 1) (16 * nfa_states hs * slots_of hs)
 abbrev pub cache_memory : Config → List Expression → ℕ
 cache_memory c hs = min (2 ^ 64 - 1) (engine_memory hs + (if has_backtracker c then engine_memory hs else 0))
 
+-- What is accounted for its NFAs: as much for the one that reads backwards, which is there where DFAs are asked for.
+abbrev pub nfas_memory : Config → List Expression → ℕ
+nfas_memory c hs = state_size * nfa_states hs + (if asks_for_dfas c then state_size * nfa_states hs else 0)
+
 -- the regex of these expressions
 pub record IsBuilt (c : Config) (hs : List Expression) (regex : RegexValue) : Type 0 where
   pub config : regex.config ≡ c
@@ -60,7 +64,8 @@ pub record IsBuilt (c : Config) (hs : List Expression) (regex : RegexValue) : Ty
   -- no count and no cost passes its limit
   pub allowed : AreAllowed c hs
   -- what is accounted for it, and for its caches
-  pub memory : regex_memory regex ≡ min (2 ^ 64 - 1) (64 * (length hs + 1) + prefilter_memory (prefilter_for c hs) + state_size * nfa_states hs)
+  pub memory : regex_memory regex
+      ≡ min (2 ^ 64 - 1) (64 * (length hs + 1) + prefilter_memory (prefilter_for c hs) + nfas_memory c hs + tables_memory regex)
   pub cache : accounted_for regex ≡ cache_memory c hs
   -- its properties are those of the expressions together, so that it is known where no match is possible
   pub properties : AreOf (alternation (expressions hs)) (properties_in regex)

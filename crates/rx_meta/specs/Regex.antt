@@ -51,3 +51,7 @@ Serves regex r = strategy.IsFor regex.strategy r × (BeginsEachMatch (given_need
 -- of all of them, and what is accounted for its strategy.
 unfoldable pub regex_memory : RegexValue → ℕ
 regex_memory regex = min (2 ^ 64 - 1) (64 * (strategy.pattern_count regex.strategy + 1) + strategy.strategy_memory regex.strategy)
+
+-- what is accounted for the tables of its full DFAs, if it has some
+unfoldable pub tables_memory : RegexValue → ℕ
+tables_memory regex = strategy.tables_in regex.strategy

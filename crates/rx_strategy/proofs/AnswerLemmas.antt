@@ -152,11 +152,13 @@ module _ (c : CoreValue) (v : InputValue) where
   core-begins : v.end ≤ length v.haystack → (r : Patterns) → Premises (IsCoreFor c r) c.pre r v → BeginsEachRun c.pre c.nfa v
   core-begins within r p = begins-run c.pre c.nfa r v p.is_for.nfa p.is_for.ordered within p.begins
 
-  module _ (kind : MatchKind) (slots : List (Option ℕ)) (found : Option MatchValue)
-      (searched : BeginsEachRun c.pre c.nfa v → IsSearched c.nfa v slots found) (within : v.end ≤ length v.haystack) where
-    searched-for : (r : Patterns) → Premises (IsCoreFor c r) c.pre r v → IsSearched c.nfa v slots found
-    searched-for r p = searched (core-begins within r p)
+  -- so what is searched under the one premise is searched under the other
+  pub core-searched : {A : Type 0} → v.end ≤ length v.haystack → (BeginsEachRun c.pre c.nfa v → A) → (r : Patterns)
+      → Premises (IsCoreFor c r) c.pre r v → A
+  core-searched within searched r p = searched (core-begins within r p)
 
+  module _ (kind : MatchKind) (slots : List (Option ℕ)) (found : Option MatchValue)
+      (searched-for : (r : Patterns) → Premises (IsCoreFor c r) c.pre r v → IsSearched c.nfa v slots found) where
     next-is : (r : Patterns) → Premises (IsCoreFor c r) c.pre r v → tells r.which_captures ≡ true → next_match_in c.nfa v ≡ next_in r v
     next-is r p told = (searched-for r p).patterns r p.is_for.nfa ∙ told-whole r.which_captures told (next_in r v)
 

@@ -5,5 +5,6 @@ pub mod SpanLemmas
 pub mod StrategyLemmas
 pub mod ImpossibleLemmas
 pub mod InfoLemmas
+pub mod DfaLemmas
 pub mod CacheLemmas
 pub mod CoreLemmas

@@ -1,15 +1,13 @@
 -- Which DFAs a core has.
 use Rattle.std.specs.Prelude.{◌≡◌, ◌⊎◌, ℕ, ◌^◌, ◌/◌, ◌≤◌, Bool, true, false, ◌&&◌, nat_le, length, Option, Some, None, option_map, IfSome}
-use Rattle.rx_search.specs.ByteClasses.{alphabet_len, IsLeastPower}
 use Rattle.rx_search.specs.declared.anchored.MatchKind.{MatchKind}
 use Rattle.rx_search.specs.declared.anchored.MatchKind.TheVariants.{All}
 use Rattle.rx_nfa.specs.Nfa.{Nfa}
-use Rattle.rx_dfa.specs.Automaton.{Dfa}
-use Rattle.rx_dfa.specs.Dense.{IsDfaOf, IsTooBig, size_of}
+use Rattle.rx_dfa.specs.Dense.{IsDfaOf, IsAbove, size_of}
 use Rattle.rx_dfa.specs.Lazy.{LazyValue, minimum}
 use Rattle.rx_dfa.specs.LazyBuild.{IsLazyOf}
 use Rattle.rx_dfa.specs.Table.{DenseValue}
-use Rattle.rx_strategy.specs.Config.{kind_of, dfa_of, hybrid_of, capacity_of, dfa_size_limit_of, dfa_state_limit_of, byte_classes_of}
+use Rattle.rx_strategy.specs.Config.{kind_of, dfa_of, hybrid_of, hybrid_cache_capacity_of, dfa_size_limit_of, dfa_state_limit_of, byte_classes_of}
 use Rattle.rx_strategy.specs.declared.config.Config.{Config}
 use Rattle.rx_strategy.specs.declared.dfas.Dfas.{Dfas}
 use Rattle.rx_strategy.specs.declared.dfas.Dfas.TheVariants.{Absent, Full, Lazy}
@@ -25,7 +23,7 @@ may_be_full c nfa = dfa_of c && is_within nfa.accounted (dfa_state_limit_of c)
 
 -- a lazy DFA of the NFA may be built: it is asked for, and the capacity is at least its minimum
 abbrev pub may_be_lazy : Config → Nfa → Bool
-may_be_lazy c nfa = hybrid_of c && nat_le (minimum nfa) (capacity_of c)
+may_be_lazy c nfa = hybrid_of c && nat_le (minimum nfa) (hybrid_cache_capacity_of c)
 
 -- the most bytes that the table of one full DFA may have: a quarter of what all may have
 abbrev pub table_limit : Config → Option ℕ
@@ -41,15 +39,8 @@ pub record IsTableOf (c : Config) (nfa : Nfa) (kind : MatchKind) (d : DenseValue
   pub size : IfSome (table_limit c) (λ limit. table_memory d ≤ limit)
 
 -- the full DFA of the NFA and kind has a table above the limit
-pub record HasLargeTable (c : Config) (nfa : Nfa) (kind : MatchKind) : Type 0 where
-  pub dfa : Dfa
-  pub is : IsDfaOf nfa kind (byte_classes_of c) dfa
-  pub limit : ℕ
-  pub given : table_limit c ≡ Some limit
-  pub stride2 : ℕ
-  pub power : IsLeastPower (alphabet_len dfa.classes) stride2
-  pub size : ℕ
-  pub large : IsTooBig dfa (2 ^ stride2) limit size
+abbrev pub HasLargeTable : Config → Nfa → MatchKind → Type 0
+HasLargeTable c nfa kind = (limit : ℕ) × (size : ℕ) × (table_limit c ≡ Some limit) × IsAbove nfa kind (byte_classes_of c) limit size
 
 -- there are no full DFAs: one may not be built, or one of the two tables is above its limit
 abbrev pub HasNoFull : Config → (nfa reverse : Nfa) → Type 0
@@ -63,7 +54,7 @@ AreDfasOf c nfa reverse (Full forward backward) =
     (may_be_full c nfa ≡ true) × (IsTableOf c nfa (kind_of c) forward × IsTableOf c reverse All backward)
 AreDfasOf c nfa reverse (Lazy forward backward) =
     HasNoFull c nfa reverse × ((may_be_lazy c nfa ≡ true)
-    × (IsLazyOf nfa (kind_of c) (byte_classes_of c) (capacity_of c) forward × IsLazyOf reverse All (byte_classes_of c) (capacity_of c) backward))
+    × (IsLazyOf nfa (kind_of c) (byte_classes_of c) (hybrid_cache_capacity_of c) forward × IsLazyOf reverse All (byte_classes_of c) (hybrid_cache_capacity_of c) backward))
 
 -- Without the NFA that reads backwards there are none.
 abbrev pub AreDfasBeside : Config → (nfa : Nfa) → (reverse : Option Nfa) → Dfas → Type 0

@@ -1,13 +1,11 @@
 -- What the searches of a strategy write to.
-use Rattle.std.specs.Prelude.{◌≡◌, ℕ, ◌+◌, ◌-◌, ◌^◌, min, Bool, true, false, Option, Some, None, IfSome, MatchOption, if◌then◌else◌}
+use Rattle.std.specs.Prelude.{◌≡◌, ℕ, ◌+◌, ◌-◌, ◌^◌, min, true, false, Option, Some, None, IfSome, MatchOption, if◌then◌else◌}
 use Rattle.std.proofs.Props.{props}
 use Rattle.rx_engines.specs.Room as pike
 use Rattle.rx_engines.specs.Bounded as bounded
 use Rattle.rx_engines.specs.Engine.{accounted_memory, Fits as FitsPikeVM}
 use Rattle.rx_strategy.specs.Core.{CoreValue, pikevm_of}
-use Rattle.rx_strategy.specs.Dfas.{FitsLazies, HoldNoStates, states_memory}
-use Rattle.rx_strategy.specs.declared.dfas.Dfas.{Dfas}
-use Rattle.rx_strategy.specs.declared.dfas.Dfas.TheVariants.{Absent, Full, Lazy}
+use Rattle.rx_strategy.specs.Dfas.{are_lazy, FitsLazies, HoldNoStates, states_memory}
 use Rattle.rx_strategy.specs.declared.lazies.Lazies.{Lazies}
 use Rattle.rx_strategy.specs.declared.strategy.Strategy.{Strategy}
 use Rattle.rx_strategy.specs.declared.strategy.Strategy.TheVariants.{Core}
@@ -39,12 +37,6 @@ pub record FitsCore (c : CoreValue) (cache : CacheValue) : Type 0 where
 -- a cache with this room serves the strategy
 abbrev pub Fits : Strategy → CacheValue → Type 0
 Fits (Core core) cache = FitsCore core cache
-
--- there are lazy DFAs
-abbrev pub are_lazy : Dfas → Bool
-are_lazy Absent = false
-are_lazy (Full forward backward) = false
-are_lazy (Lazy forward backward) = true
 
 -- that it does has one proof at most
 pub Fits-prop : (s : Strategy) (cache : CacheValue) → IsProp (Fits s cache)

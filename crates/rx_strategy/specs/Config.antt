@@ -45,34 +45,6 @@ terminator_of c = unwrap_or c.line_terminator 10
 abbrev pub backtrack_of : Config → Bool
 backtrack_of c = unwrap_or c.backtrack true
 
--- lazy DFAs are asked for
-abbrev pub hybrid_of : Config → Bool
-hybrid_of c = unwrap_or c.hybrid true
-
--- full DFAs are asked for
-abbrev pub dfa_of : Config → Bool
-dfa_of c = unwrap_or c.dfa true
-
--- DFAs of either sort are asked for
-abbrev pub asks_for_dfas : Config → Bool
-asks_for_dfas c = dfa_of c || hybrid_of c
-
--- the most bytes that the cache of a lazy DFA may account
-abbrev pub capacity_of : Config → ℕ
-capacity_of c = unwrap_or c.hybrid_cache_capacity 2097152
-
--- the most bytes that may be accounted for full DFAs, if there is a limit
-abbrev pub dfa_size_limit_of : Config → Option ℕ
-dfa_size_limit_of c = unwrap_or c.dfa_size_limit (Some 40960)
-
--- the most states that may be accounted for an NFA of which a full DFA is built, if there is a limit
-abbrev pub dfa_state_limit_of : Config → Option ℕ
-dfa_state_limit_of c = unwrap_or c.dfa_state_limit (Some 30)
-
--- bytes that an NFA does not tell apart share a class in its DFAs
-abbrev pub byte_classes_of : Config → Bool
-byte_classes_of c = unwrap_or c.byte_classes true
-
 -- the compiler's configuration under this one
 abbrev pub compiler_of : Config → CompilerConfig
 compiler_of c = record {
@@ -83,10 +55,6 @@ compiler_of c = record {
   look_matcher = Some (terminator_of c);
 }
 
--- that for the NFA that reads backwards, which tells no groups
-abbrev pub reverse_compiler_of : Config → CompilerConfig
-reverse_compiler_of c = record (compiler_of c) { reverse = Some true; which_captures = Some NoGroup }
-
 abbrev pub is_leftmost : MatchKind → Bool
 is_leftmost All = false
 is_leftmost LeftmostFirst = true
@@ -94,6 +62,50 @@ is_leftmost LeftmostFirst = true
 -- the bounded backtracker may serve
 abbrev pub has_backtracker : Config → Bool
 has_backtracker c = backtrack_of c && is_leftmost (kind_of c)
+
+-- the most bytes that a one-pass DFA may have, if there is a limit
+abbrev pub onepass_size_limit_of : Config → Option ℕ
+onepass_size_limit_of c = unwrap_or c.onepass_size_limit (Some 1048576)
+
+-- how many bytes the cache of a lazy DFA may have
+abbrev pub hybrid_cache_capacity_of : Config → ℕ
+hybrid_cache_capacity_of c = unwrap_or c.hybrid_cache_capacity 2097152
+
+-- the most bytes that the tables of the full DFAs may have, if there is a limit
+abbrev pub dfa_size_limit_of : Config → Option ℕ
+dfa_size_limit_of c = unwrap_or c.dfa_size_limit (Some 40960)
+
+-- the most accounted states of an NFA for which a full DFA is made, if there is a limit
+abbrev pub dfa_state_limit_of : Config → Option ℕ
+dfa_state_limit_of c = unwrap_or c.dfa_state_limit (Some 30)
+
+-- bytes that the patterns do not tell apart are one to a DFA
+abbrev pub byte_classes_of : Config → Bool
+byte_classes_of c = unwrap_or c.byte_classes true
+
+-- among how many stacks the pool of caches is spread
+abbrev pub pool_capacity_of : Config → ℕ
+pool_capacity_of c = unwrap_or c.pool_capacity 8
+
+-- lazy DFAs may be used
+abbrev pub hybrid_of : Config → Bool
+hybrid_of c = unwrap_or c.hybrid true
+
+-- full DFAs may be used
+abbrev pub dfa_of : Config → Bool
+dfa_of c = unwrap_or c.dfa true
+
+-- a one-pass DFA may be used
+abbrev pub onepass_of : Config → Bool
+onepass_of c = unwrap_or c.onepass true
+
+-- DFAs of either sort are asked for
+abbrev pub asks_for_dfas : Config → Bool
+asks_for_dfas c = dfa_of c || hybrid_of c
+
+-- the compiler's configuration for the NFA that reads backwards, which tells no groups
+abbrev pub reverse_compiler_of : Config → CompilerConfig
+reverse_compiler_of c = record (compiler_of c) { reverse = Some true; which_captures = Some NoGroup }
 
 -- nothing is set
 abbrev pub nothing_set : Config
@@ -104,14 +116,17 @@ nothing_set = record {
   prefilter = None;
   which_captures = None;
   nfa_size_limit = None;
-  line_terminator = None;
-  backtrack = None;
-  hybrid = None;
-  dfa = None;
+  onepass_size_limit = None;
   hybrid_cache_capacity = None;
   dfa_size_limit = None;
   dfa_state_limit = None;
   byte_classes = None;
+  line_terminator = None;
+  pool_capacity = None;
+  hybrid = None;
+  dfa = None;
+  onepass = None;
+  backtrack = None;
 }
 
 -- the new configuration, with what it leaves open as in the old one
@@ -123,12 +138,15 @@ overwritten old new = record {
   prefilter = option_or new.prefilter old.prefilter;
   which_captures = option_or new.which_captures old.which_captures;
   nfa_size_limit = option_or new.nfa_size_limit old.nfa_size_limit;
-  line_terminator = option_or new.line_terminator old.line_terminator;
-  backtrack = option_or new.backtrack old.backtrack;
-  hybrid = option_or new.hybrid old.hybrid;
-  dfa = option_or new.dfa old.dfa;
+  onepass_size_limit = option_or new.onepass_size_limit old.onepass_size_limit;
   hybrid_cache_capacity = option_or new.hybrid_cache_capacity old.hybrid_cache_capacity;
   dfa_size_limit = option_or new.dfa_size_limit old.dfa_size_limit;
   dfa_state_limit = option_or new.dfa_state_limit old.dfa_state_limit;
   byte_classes = option_or new.byte_classes old.byte_classes;
+  line_terminator = option_or new.line_terminator old.line_terminator;
+  pool_capacity = option_or new.pool_capacity old.pool_capacity;
+  hybrid = option_or new.hybrid old.hybrid;
+  dfa = option_or new.dfa old.dfa;
+  onepass = option_or new.onepass old.onepass;
+  backtrack = option_or new.backtrack old.backtrack;
 }

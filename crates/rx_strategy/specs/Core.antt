@@ -17,7 +17,7 @@ use Rattle.rx_nfa.specs.NextMatch.{next_match_in}
 use Rattle.rx_engines.specs.Bounded.{BacktrackerValue, max_len}
 use Rattle.rx_engines.specs.Engine.{PikeVMValue}
 use Rattle.rx_strategy.specs.Availability.{AreDfasBeside}
-use Rattle.rx_strategy.specs.Config.{kind_of, captures_of, compiler_of, reverse_compiler_of, asks_for_dfas, has_backtracker, is_leftmost}
+use Rattle.rx_strategy.specs.Config.{kind_of, captures_of, compiler_of, reverse_compiler_of, asks_for_dfas, has_backtracker}
 use Rattle.rx_strategy.specs.Impossible.{is_impossible}
 use Rattle.rx_strategy.specs.Dfas.{tables_memory}
 use Rattle.rx_strategy.specs.Prefilter.{prefilter_for, prefilter_memory}
@@ -52,10 +52,6 @@ backtracker_of c = record { nfa = c.nfa; pre = c.pre }
 -- the core's backtracker serves this input: the span is not too long for it
 abbrev pub backtracker_serves : CoreValue → InputValue → Bool
 backtracker_serves c v = c.backtracks && nat_le (span_len v) (max_len c.nfa)
-
--- the needles that its DFAs ask for, if there are needles: under `All` none, since the last end is sought
-abbrev pub needles_for : CoreValue → Option (List (List ℕ))
-needles_for c = if is_leftmost c.kind then c.pre else None
 
 -- the core searches for these patterns
 pub record IsCoreFor (c : CoreValue) (r : Patterns) : Type 0 where

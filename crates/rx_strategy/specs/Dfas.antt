@@ -1,5 +1,5 @@
 -- What a core's DFAs are to its searches, and what their caches hold.
-use Rattle.std.specs.Prelude.{◌≡◌, ℕ, ◌+◌, ◌<◌, true, false, List, length, Option, Some, None, IfSome, IsSomeAnd, slice_get}
+use Rattle.std.specs.Prelude.{◌≡◌, ℕ, ◌+◌, ◌<◌, Bool, true, false, length, Option, Some, None, is_some, IfSome, IsSomeAnd, slice_get}
 use Rattle.rx_model.specs.Expression.{Expression, AreOrdered}
 use Rattle.rx_model.specs.Search.{Patterns}
 use Rattle.rx_search.specs.Input.{InputValue}
@@ -8,18 +8,12 @@ use Rattle.rx_search.specs.declared.anchored.MatchKind.{MatchKind}
 use Rattle.rx_search.specs.declared.anchored.MatchKind.TheVariants.{All, LeftmostFirst}
 use Rattle.rx_nfa.specs.Nfa.{Nfa, IsNfaOf, HasReverseRuns}
 use Rattle.rx_dfa.specs.Automaton.{Dfa}
+use Rattle.rx_dfa.specs.Lazy.{LazyValue}
 use Rattle.rx_dfa.specs.LazyCache.{IsCacheOf, HoldsNone}
 use Rattle.rx_strategy.specs.Availability.{table_memory}
 use Rattle.rx_strategy.specs.declared.dfas.Dfas.{Dfas}
 use Rattle.rx_strategy.specs.declared.dfas.Dfas.TheVariants.{Absent, Full, Lazy}
 use Rattle.rx_strategy.specs.declared.lazies.Lazies.{Lazies}
-
--- The first one reads forwards, and the second one backwards, under `All`; both permit the same starts.
-pub record ArePair (forward backward : Dfa) : Type 0 where
-  pub reads_on : forward.nfa.reverse ≡ false
-  pub reads_back : backward.nfa.reverse ≡ true
-  pub backward_kind : backward.kind ≡ All
-  pub utf8 : forward.nfa.utf8 ≡ backward.nfa.utf8
 
 -- the DFA that reads forwards and the one that reads backwards, if they are there
 abbrev pub pair_of : Dfas → Option (Dfa × Dfa)
@@ -27,9 +21,16 @@ pair_of Absent = None
 pair_of (Full forward backward) = Some (forward.dfa, backward.dfa)
 pair_of (Lazy forward backward) = Some (forward.dfa, backward.dfa)
 
--- what their searches ask of them
+-- The first one reads forwards, and the second one backwards, under `All`; both permit the same starts.
+pub record ArePair (both : Dfa × Dfa) : Type 0 where
+  pub reads_on : both.0.nfa.reverse ≡ false
+  pub reads_back : both.1.nfa.reverse ≡ true
+  pub backward_kind : both.1.kind ≡ All
+  pub utf8 : both.0.nfa.utf8 ≡ both.1.nfa.utf8
+
+-- what their searches ask of them, if they are there
 abbrev pub ArePaired : Dfas → Type 0
-ArePaired dfas = IfSome (pair_of dfas) (λ both. ArePair both.0 both.1)
+ArePaired dfas = IfSome (pair_of dfas) ArePair
 
 -- The first one is of this NFA and kind, and the second one of the NFA that reads backwards, which is there.
 pub record IsPairOf (nfa : Nfa) (kind : MatchKind) (reverse : Option Nfa) (both : Dfa × Dfa) : Type 0 where
@@ -42,26 +43,39 @@ pub record ServeNfa (nfa : Nfa) (kind : MatchKind) (reverse : Option Nfa) (dfas 
   pub paired : ArePaired dfas
   pub are : IfSome (pair_of dfas) (IsPairOf nfa kind reverse)
 
--- What the clauses of a search of both DFAs speak of, for these patterns, of which each match begins with one of the needles, if there
--- are needles.
-pub record SearchFor (dfas : Dfas) (needles : Option (List (List ℕ))) (r : Patterns) (v : InputValue) : Type 0 where
-  pub forward : Dfa
-  pub backward : Dfa
-  pub are : pair_of dfas ≡ Some (forward, backward)
-  pub premises : Premises (IsNfaOf forward.nfa r) needles r v
-  pub reverse_runs : HasReverseRuns backward.nfa r
+-- The first one is of this NFA, under leftmost-first. Both are for these patterns, and their answers are promised of this input.
+pub record IsSearchFor (nfa : Nfa) (r : Patterns) (v : InputValue) (both : Dfa × Dfa) : Type 0 where
+  pub own : both.0.nfa ≡ nfa
+  pub leftmost : both.0.kind ≡ LeftmostFirst
+  pub premises : Premises (IsNfaOf both.0.nfa r) None r v
+  pub reverse_runs : HasReverseRuns both.1.nfa r
   pub ordered : (p : ℕ) (h : Expression) → slice_get r.expressions p ≡ Some h → AreOrdered h
-  pub leftmost : forward.kind ≡ LeftmostFirst
+
+-- what the clauses of their searches stand under
+abbrev pub SearchFor : Dfas → Nfa → Patterns → InputValue → Type 0
+SearchFor dfas nfa r v = IfSome (pair_of dfas) (IsSearchFor nfa r v)
+
+-- it is a pattern of the DFA that reads forwards, which is there
+abbrev pub IsPatternOf : Dfas → (pattern : ℕ) → Type 0
+IsPatternOf dfas pattern = IsSomeAnd (pair_of dfas) (λ both. pattern < length both.0.nfa.starts)
+
+-- the lazy DFAs, if they are there
+abbrev pub lazies_of : Dfas → Option (LazyValue × LazyValue)
+lazies_of Absent = None
+lazies_of (Full forward backward) = None
+lazies_of (Lazy forward backward) = Some (forward, backward)
+
+-- there are lazy DFAs
+abbrev pub are_lazy : Dfas → Bool
+are_lazy dfas = is_some (lazies_of dfas)
+
+-- each cache serves its lazy DFA
+abbrev pub AreCachesOf : LazyValue × LazyValue → Lazies → Type 0
+AreCachesOf pair both = IsCacheOf pair.0 both.forward × IsCacheOf pair.1 both.backward
 
 -- the caches serve the lazy DFAs, if there are some
 abbrev pub FitsLazies : Dfas → Option Lazies → Type 0
-FitsLazies Absent lazies = Unit {0}
-FitsLazies (Full forward backward) lazies = Unit {0}
-FitsLazies (Lazy forward backward) lazies = IsSomeAnd lazies (λ both. IsCacheOf forward both.forward × IsCacheOf backward both.backward)
-
--- it is a pattern of the DFA that reads forwards, if that is there
-abbrev pub IsPatternOf : Dfas → (pattern : ℕ) → Type 0
-IsPatternOf dfas pattern = IfSome (pair_of dfas) (λ both. pattern < length both.0.nfa.starts)
+FitsLazies dfas lazies = IfSome (lazies_of dfas) (λ pair. IsSomeAnd lazies (AreCachesOf pair))
 
 -- what is accounted for the states that the caches of lazy DFAs hold, if there are such caches
 abbrev pub states_memory : Option Lazies → ℕ

@@ -7,6 +7,7 @@ use Rattle.rx_search.specs.Limits.{id_limit}
 use Rattle.rx_search.specs.declared.anchored.MatchKind.{MatchKind}
 use Rattle.rx_hir.specs.declared.hir.properties.Properties.{Properties}
 use Rattle.rx_strategy.specs.Core.{IsCoreFor, IsCoreOf, core_finds, core_memory}
+use Rattle.rx_strategy.specs.Dfas.{tables_memory}
 use Rattle.rx_strategy.specs.declared.config.Config.{Config}
 use Rattle.rx_strategy.specs.declared.strategy.Strategy.{Strategy}
 use Rattle.rx_strategy.specs.declared.strategy.Strategy.TheVariants.{Core}
@@ -42,6 +43,10 @@ prefilter_in (Core core) = core.pre
 -- accounted state of its NFAs, in both directions where DFAs are asked for, and those of the tables of its full DFAs.
 abbrev pub strategy_memory : Strategy → ℕ
 strategy_memory (Core core) = core_memory core
+
+-- what is accounted for the tables of its full DFAs, if it has some
+abbrev pub tables_in : Strategy → ℕ
+tables_in (Core core) = tables_memory core.dfas
 
 -- there are no more patterns than identifiers tell apart
 abbrev pub IsFew : Strategy → Type 0

@@ -1,8 +1,9 @@
 //! The configuration of a regex.
 ghost use Rattle.std.specs.Prelude.{◌≡◌, Some, IfOk, option_copied};
 ghost use Rattle.rx_strategy.specs.Config.{kind_of, utf8_of, auto_prefilter_of, prefilter_of, which_of, size_limit_of, terminator_of};
+ghost use Rattle.rx_strategy.specs.Config.{onepass_size_limit_of, hybrid_cache_capacity_of, dfa_size_limit_of, dfa_state_limit_of};
+ghost use Rattle.rx_strategy.specs.Config.{byte_classes_of, pool_capacity_of, hybrid_of, dfa_of, onepass_of};
 ghost use Rattle.rx_strategy.specs.Config.{backtrack_of, compiler_of, has_backtracker, nothing_set, overwritten};
-ghost use Rattle.rx_strategy.specs.Config.{hybrid_of, dfa_of, capacity_of, dfa_size_limit_of, dfa_state_limit_of, byte_classes_of};
 ghost use Rattle.rx_strategy.specs.Config.{reverse_compiler_of, asks_for_dfas};
 ghost use Rattle.rx_strategy.specs.Availability.{may_be_full, table_limit};
 
@@ -14,14 +15,20 @@ use std::default::Default;
 /// The bytes that the NFA may have where no other limit is set, by what is accounted for it.
 const NFA_SIZE_LIMIT: usize = 10485760;
 
-/// The bytes that the cache of a lazy DFA may account where nothing else is set.
+/// The bytes that a one-pass DFA may have where no other limit is set.
+const ONEPASS_SIZE_LIMIT: usize = 1048576;
+
+/// The bytes that the cache of a lazy DFA may have where no other number is set.
 const HYBRID_CACHE_CAPACITY: usize = 2097152;
 
-/// The bytes that full DFAs may have where no other limit is set.
+/// The bytes that the tables of the full DFAs may have where no other limit is set.
 const DFA_SIZE_LIMIT: usize = 40960;
 
-/// The states that may be accounted for an NFA of which a full DFA is built, where no other limit is set.
+/// The accounted states for which a full DFA is made where no other limit is set.
 const DFA_STATE_LIMIT: usize = 30;
+
+/// The stacks of the pool where no other number is set.
+const POOL_CAPACITY: usize = 8;
 
 // What is left open keeps what was set before (DECISIONS: a configuration's fields are optional).
 /// How a regex is built, and how it searches. What is not set has its default.
@@ -33,14 +40,17 @@ pub struct Config {
     prefilter: Option<Option<Prefilter>>,
     which_captures: Option<WhichCaptures>,
     nfa_size_limit: Option<Option<usize>>,
-    line_terminator: Option<u8>,
-    backtrack: Option<bool>,
-    hybrid: Option<bool>,
-    dfa: Option<bool>,
+    onepass_size_limit: Option<Option<usize>>,
     hybrid_cache_capacity: Option<usize>,
     dfa_size_limit: Option<Option<usize>>,
     dfa_state_limit: Option<Option<usize>>,
     byte_classes: Option<bool>,
+    line_terminator: Option<u8>,
+    pool_capacity: Option<usize>,
+    hybrid: Option<bool>,
+    dfa: Option<bool>,
+    onepass: Option<bool>,
+    backtrack: Option<bool>,
 }
 
 impl Config {
@@ -55,14 +65,17 @@ impl Config {
             prefilter: None,
             which_captures: None,
             nfa_size_limit: None,
-            line_terminator: None,
-            backtrack: None,
-            hybrid: None,
-            dfa: None,
+            onepass_size_limit: None,
             hybrid_cache_capacity: None,
             dfa_size_limit: None,
             dfa_state_limit: None,
             byte_classes: None,
+            line_terminator: None,
+            pool_capacity: None,
+            hybrid: None,
+            dfa: None,
+            onepass: None,
+            backtrack: None,
         }
     }
 
@@ -122,6 +135,54 @@ impl Config {
         config
     }
 
+    /// Sets the most bytes that a one-pass DFA may have. None: there is no limit. It changes no answer that is
+    /// promised.
+    pub fn onepass_size_limit(self, limit: Option<usize>) -> Config
+        ensures { result ≡ record self { onepass_size_limit = Some limit } }
+    {
+        let mut config = self;
+        config.onepass_size_limit = Some(limit);
+        config
+    }
+
+    /// Sets how many bytes the cache of a lazy DFA may have. It changes no answer that is promised.
+    pub fn hybrid_cache_capacity(self, number: usize) -> Config
+        ensures { result ≡ record self { hybrid_cache_capacity = Some number } }
+    {
+        let mut config = self;
+        config.hybrid_cache_capacity = Some(number);
+        config
+    }
+
+    /// Sets the most bytes that the tables of the full DFAs may have. None: there is no limit. It changes no answer
+    /// that is promised.
+    pub fn dfa_size_limit(self, limit: Option<usize>) -> Config
+        ensures { result ≡ record self { dfa_size_limit = Some limit } }
+    {
+        let mut config = self;
+        config.dfa_size_limit = Some(limit);
+        config
+    }
+
+    /// Sets the most accounted states of an NFA for which a full DFA is made. None: there is no limit. It changes no
+    /// answer that is promised.
+    pub fn dfa_state_limit(self, limit: Option<usize>) -> Config
+        ensures { result ≡ record self { dfa_state_limit = Some limit } }
+    {
+        let mut config = self;
+        config.dfa_state_limit = Some(limit);
+        config
+    }
+
+    /// Sets whether bytes that the patterns do not tell apart are one to a DFA. It changes no answer that is promised.
+    pub fn byte_classes(self, yes: bool) -> Config
+        ensures { result ≡ record self { byte_classes = Some yes } }
+    {
+        let mut config = self;
+        config.byte_classes = Some(yes);
+        config
+    }
+
     /// Sets the byte that ends a line, for anchors at lines.
     pub fn line_terminator(self, byte: u8) -> Config
         ensures { result ≡ record self { line_terminator = Some byte } }
@@ -131,12 +192,12 @@ impl Config {
         config
     }
 
-    /// Sets whether the bounded backtracker may be used. It changes no answer that is promised.
-    pub fn backtrack(self, yes: bool) -> Config
-        ensures { result ≡ record self { backtrack = Some yes } }
+    /// Sets among how many stacks the pool of caches is spread. It changes no answer that is promised.
+    pub fn pool_capacity(self, number: usize) -> Config
+        ensures { result ≡ record self { pool_capacity = Some number } }
     {
         let mut config = self;
-        config.backtrack = Some(yes);
+        config.pool_capacity = Some(number);
         config
     }
 
@@ -158,39 +219,21 @@ impl Config {
         config
     }
 
-    /// Sets the most bytes that the cache of a lazy DFA may account. Where they are fewer than its minimum, there is no lazy DFA.
-    pub fn hybrid_cache_capacity(self, bytes: usize) -> Config
-        ensures { result ≡ record self { hybrid_cache_capacity = Some bytes } }
+    /// Sets whether a one-pass DFA may be used. It changes no answer that is promised.
+    pub fn onepass(self, yes: bool) -> Config
+        ensures { result ≡ record self { onepass = Some yes } }
     {
         let mut config = self;
-        config.hybrid_cache_capacity = Some(bytes);
+        config.onepass = Some(yes);
         config
     }
 
-    /// Sets the most bytes that full DFAs may have, by what is accounted for them. A table has a quarter of it. None: there is no limit.
-    pub fn dfa_size_limit(self, limit: Option<usize>) -> Config
-        ensures { result ≡ record self { dfa_size_limit = Some limit } }
+    /// Sets whether the bounded backtracker may be used. It changes no answer that is promised.
+    pub fn backtrack(self, yes: bool) -> Config
+        ensures { result ≡ record self { backtrack = Some yes } }
     {
         let mut config = self;
-        config.dfa_size_limit = Some(limit);
-        config
-    }
-
-    /// Sets the most states that may be accounted for an NFA of which a full DFA is built. None: there is no limit.
-    pub fn dfa_state_limit(self, limit: Option<usize>) -> Config
-        ensures { result ≡ record self { dfa_state_limit = Some limit } }
-    {
-        let mut config = self;
-        config.dfa_state_limit = Some(limit);
-        config
-    }
-
-    /// Sets whether bytes that an NFA does not tell apart share a class in its DFAs. It changes no answer that is promised.
-    pub fn byte_classes(self, yes: bool) -> Config
-        ensures { result ≡ record self { byte_classes = Some yes } }
-    {
-        let mut config = self;
-        config.byte_classes = Some(yes);
+        config.backtrack = Some(yes);
         config
     }
 
@@ -239,6 +282,41 @@ impl Config {
         self.nfa_size_limit.unwrap_or(Some(NFA_SIZE_LIMIT))
     }
 
+    /// The most bytes that a one-pass DFA may have; by default 1048576.
+    pub fn get_onepass_size_limit(&self) -> Option<usize>
+        ensures { result ≡ onepass_size_limit_of self.now }
+    {
+        self.onepass_size_limit.unwrap_or(Some(ONEPASS_SIZE_LIMIT))
+    }
+
+    /// How many bytes the cache of a lazy DFA may have; by default 2097152.
+    pub fn get_hybrid_cache_capacity(&self) -> usize
+        ensures { result ≡ hybrid_cache_capacity_of self.now }
+    {
+        self.hybrid_cache_capacity.unwrap_or(HYBRID_CACHE_CAPACITY)
+    }
+
+    /// The most bytes that the tables of the full DFAs may have; by default 40960.
+    pub fn get_dfa_size_limit(&self) -> Option<usize>
+        ensures { result ≡ dfa_size_limit_of self.now }
+    {
+        self.dfa_size_limit.unwrap_or(Some(DFA_SIZE_LIMIT))
+    }
+
+    /// The most accounted states of an NFA for which a full DFA is made; by default 30.
+    pub fn get_dfa_state_limit(&self) -> Option<usize>
+        ensures { result ≡ dfa_state_limit_of self.now }
+    {
+        self.dfa_state_limit.unwrap_or(Some(DFA_STATE_LIMIT))
+    }
+
+    /// Whether bytes that the patterns do not tell apart are one to a DFA; by default so.
+    pub fn get_byte_classes(&self) -> bool
+        ensures { result ≡ byte_classes_of self.now }
+    {
+        self.byte_classes.unwrap_or(true)
+    }
+
     /// The byte that ends a line; by default `\n`.
     pub fn get_line_terminator(&self) -> u8
         ensures { result ≡ terminator_of self.now }
@@ -246,11 +324,11 @@ impl Config {
         self.line_terminator.unwrap_or(b'\n')
     }
 
-    /// Whether the bounded backtracker may be used; by default so.
-    pub fn get_backtrack(&self) -> bool
-        ensures { result ≡ backtrack_of self.now }
+    /// Among how many stacks the pool of caches is spread; by default 8.
+    pub fn get_pool_capacity(&self) -> usize
+        ensures { result ≡ pool_capacity_of self.now }
     {
-        self.backtrack.unwrap_or(true)
+        self.pool_capacity.unwrap_or(POOL_CAPACITY)
     }
 
     /// Whether lazy DFAs may be used; by default so.
@@ -267,32 +345,18 @@ impl Config {
         self.dfa.unwrap_or(true)
     }
 
-    /// The most bytes that the cache of a lazy DFA may account; by default 2097152.
-    pub fn get_hybrid_cache_capacity(&self) -> usize
-        ensures { result ≡ capacity_of self.now }
+    /// Whether a one-pass DFA may be used; by default so.
+    pub fn get_onepass(&self) -> bool
+        ensures { result ≡ onepass_of self.now }
     {
-        self.hybrid_cache_capacity.unwrap_or(HYBRID_CACHE_CAPACITY)
+        self.onepass.unwrap_or(true)
     }
 
-    /// The most bytes that full DFAs may have; by default 40960.
-    pub fn get_dfa_size_limit(&self) -> Option<usize>
-        ensures { result ≡ dfa_size_limit_of self.now }
+    /// Whether the bounded backtracker may be used; by default so.
+    pub fn get_backtrack(&self) -> bool
+        ensures { result ≡ backtrack_of self.now }
     {
-        self.dfa_size_limit.unwrap_or(Some(DFA_SIZE_LIMIT))
-    }
-
-    /// The most states that may be accounted for an NFA of which a full DFA is built; by default 30.
-    pub fn get_dfa_state_limit(&self) -> Option<usize>
-        ensures { result ≡ dfa_state_limit_of self.now }
-    {
-        self.dfa_state_limit.unwrap_or(Some(DFA_STATE_LIMIT))
-    }
-
-    /// Whether bytes that an NFA does not tell apart share a class in its DFAs; by default so.
-    pub fn get_byte_classes(&self) -> bool
-        ensures { result ≡ byte_classes_of self.now }
-    {
-        self.byte_classes.unwrap_or(true)
+        self.backtrack.unwrap_or(true)
     }
 
     /// How the NFA is compiled under this configuration.
@@ -373,14 +437,17 @@ impl Config {
             prefilter,
             which_captures: self.which_captures,
             nfa_size_limit: self.nfa_size_limit,
-            line_terminator: self.line_terminator,
-            backtrack: self.backtrack,
-            hybrid: self.hybrid,
-            dfa: self.dfa,
+            onepass_size_limit: self.onepass_size_limit,
             hybrid_cache_capacity: self.hybrid_cache_capacity,
             dfa_size_limit: self.dfa_size_limit,
             dfa_state_limit: self.dfa_state_limit,
             byte_classes: self.byte_classes,
+            line_terminator: self.line_terminator,
+            pool_capacity: self.pool_capacity,
+            hybrid: self.hybrid,
+            dfa: self.dfa,
+            onepass: self.onepass,
+            backtrack: self.backtrack,
         })
     }
 
@@ -405,14 +472,17 @@ impl Config {
             prefilter: other.prefilter.or(self.prefilter),
             which_captures: other.which_captures.or(self.which_captures),
             nfa_size_limit: other.nfa_size_limit.or(self.nfa_size_limit),
-            line_terminator: other.line_terminator.or(self.line_terminator),
-            backtrack: other.backtrack.or(self.backtrack),
-            hybrid: other.hybrid.or(self.hybrid),
-            dfa: other.dfa.or(self.dfa),
+            onepass_size_limit: other.onepass_size_limit.or(self.onepass_size_limit),
             hybrid_cache_capacity: other.hybrid_cache_capacity.or(self.hybrid_cache_capacity),
             dfa_size_limit: other.dfa_size_limit.or(self.dfa_size_limit),
             dfa_state_limit: other.dfa_state_limit.or(self.dfa_state_limit),
             byte_classes: other.byte_classes.or(self.byte_classes),
+            line_terminator: other.line_terminator.or(self.line_terminator),
+            pool_capacity: other.pool_capacity.or(self.pool_capacity),
+            hybrid: other.hybrid.or(self.hybrid),
+            dfa: other.dfa.or(self.dfa),
+            onepass: other.onepass.or(self.onepass),
+            backtrack: other.backtrack.or(self.backtrack),
         }
     }
 }

@@ -1,8 +1,7 @@
 //! The caches of the lazy DFAs of a core.
 ghost use Rattle.std.specs.Prelude.{◌≡◌, ◌+◌, ◌-◌, ◌^◌, min, IfOk, OnOk, OnErr, IsOk};
 ghost use Rattle.rx_dfa.specs.Lazy.{LazyValue};
-ghost use Rattle.rx_dfa.specs.LazyCache.{IsCacheOf};
-ghost use Rattle.rx_strategy.specs.Dfas.{HoldNoStates};
+ghost use Rattle.rx_strategy.specs.Dfas.{AreCachesOf, HoldNoStates};
 
 use rx_dfa::lazy::{Lazy, LazyCache};
 use rx_search::Memory;
@@ -18,7 +17,7 @@ pub(crate) struct Lazies {
 impl Lazies {
     /// Caches for these, without a state.
     pub(crate) fn new(alloc: Global, forward: &Lazy, backward: &Lazy) -> Result<Lazies, Memory>
-        ensures fits { IfOk result (λ both. IsCacheOf forward.now both.forward × IsCacheOf backward.now both.backward) }
+        ensures fits { IfOk result (λ both. AreCachesOf (forward.now, backward.now) both) }
         ensures empty { IfOk result HoldNoStates }
     {
         Ok(Lazies {
@@ -34,12 +33,11 @@ impl Lazies {
         forward: &Lazy,
         backward: &Lazy,
     ) -> Result<(), Memory>
-        ensures fits { OnOk result (IsCacheOf forward.now self.new.forward × IsCacheOf backward.now self.new.backward) }
+        ensures fits { OnOk result (AreCachesOf (forward.now, backward.now) self.new) }
         ensures empty { OnOk result (HoldNoStates self.new) }
         ensures err { OnErr result (self.new ≡ self.old) }
-        ensures sure { IsCacheOf forward.now self.old.forward × IsCacheOf backward.now self.old.backward → IsOk result }
-        ensures kept { IsCacheOf forward.now self.old.forward × IsCacheOf backward.now self.old.backward → (one other : LazyValue)
-            → IsCacheOf one self.old.forward × IsCacheOf other self.old.backward → IsCacheOf one self.new.forward × IsCacheOf other self.new.backward }
+        ensures sure { AreCachesOf (forward.now, backward.now) self.old → IsOk result }
+        ensures kept { AreCachesOf (forward.now, backward.now) self.old → (pair : LazyValue × LazyValue) → AreCachesOf pair self.old → AreCachesOf pair self.new }
     {
         // First the room for both, so that neither changes where there is none.
         let first = self.forward.missing(alloc, forward)?;
@@ -52,8 +50,7 @@ impl Lazies {
     /// Lets go of all states.
     pub(crate) fn clear(&mut self)
         ensures empty { HoldNoStates self.new }
-        ensures kept { (one other : LazyValue) → IsCacheOf one self.old.forward × IsCacheOf other self.old.backward
-            → IsCacheOf one self.new.forward × IsCacheOf other self.new.backward }
+        ensures kept { (pair : LazyValue × LazyValue) → AreCachesOf pair self.old → AreCachesOf pair self.new }
     {
         self.forward.renew(None);
         self.backward.renew(None);
@@ -61,8 +58,7 @@ impl Lazies {
 
     /// Caches of their own with the same room, without a state.
     pub(crate) fn clone(&self, alloc: Global) -> Result<Lazies, Memory>
-        ensures fits { IfOk result (λ both. (one other : LazyValue) → IsCacheOf one self.now.forward × IsCacheOf other self.now.backward
-            → IsCacheOf one both.forward × IsCacheOf other both.backward) }
+        ensures fits { IfOk result (λ both. (pair : LazyValue × LazyValue) → AreCachesOf pair self.now → AreCachesOf pair both) }
         ensures empty { IfOk result HoldNoStates }
     {
         Ok(Lazies {

@@ -223,5 +223,8 @@ fn compiled_backwards(
     if !config.asks_for_dfas() {
         return Ok(None);
     }
-    Ok(Some(compiled(alloc, config.reverse_compiler(), exprs)?))
+    match compiled(alloc, config.reverse_compiler(), exprs) {
+        Ok(nfa) => Ok(Some(nfa)),
+        Err(error) => Err(error),
+    }
 }

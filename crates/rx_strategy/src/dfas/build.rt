@@ -1,7 +1,7 @@
 //! Which DFAs a core has.
 ghost use Rattle.std.specs.Prelude.{◌≡◌, ◌<◌, IfOk, OnOk, OnErr, IsOk, IfSome, MatchOption, option_copied};
 ghost use Rattle.rx_strategy.specs.Dfas.{FitsLazies, HoldNoStates};
-ghost use Rattle.rx_strategy.specs.Config.{capacity_of, byte_classes_of};
+ghost use Rattle.rx_strategy.specs.Config.{hybrid_cache_capacity_of, byte_classes_of};
 ghost use Rattle.rx_strategy.specs.Availability.{AreDfasOf, AreDfasBeside, HasNoFull, HasLargeTable, IsTableOf};
 ghost use Rattle.rx_dfa.specs.Lazy.{minimum};
 ghost use Rattle.rx_dfa.specs.LazyBuild.{IsLazyOf};
@@ -143,8 +143,8 @@ fn lazy_of(
     nfa: &NFA,
     kind: MatchKind,
 ) -> Result<Option<Lazy>, Memory>
-    ensures { IfOk result (λ made. MatchOption made (capacity_of config.now < minimum nfa.now)
-        (IsLazyOf nfa.now kind (byte_classes_of config.now) (capacity_of config.now))) }
+    ensures { IfOk result (λ made. MatchOption made (hybrid_cache_capacity_of config.now < minimum nfa.now)
+        (IsLazyOf nfa.now kind (byte_classes_of config.now) (hybrid_cache_capacity_of config.now))) }
 {
     let own = nfa.clone()?;
     let capacity = config.get_hybrid_cache_capacity();

@@ -1,5 +1,5 @@
 //! The strategy that runs DFAs and engines over an NFA.
-ghost use Rattle.std.specs.Prelude.{◌≡◌, ◌≤◌, ◌<◌, List, option_copied, true, false, length, None, replicate, is_some};
+ghost use Rattle.std.specs.Prelude.{◌≡◌, ◌≤◌, ◌<◌, List, [], true, false, length, None, replicate, is_some};
 ghost use Rattle.std.specs.Prelude.{IfOk, OnOk, OnErr, IsOk, IfNone, IfSome, IsSomeAnd, IsTrue, MatchOption};
 ghost use Rattle.rx_model.specs.Expression.{Expression, alternation};
 ghost use Rattle.rx_model.specs.Search.{Patterns};
@@ -7,17 +7,20 @@ ghost use Rattle.rx_search.specs.Input.{IsSpanned, next_in, span_len};
 ghost use Rattle.rx_search.specs.Matches.{match_value, half_match_value};
 ghost use Rattle.rx_search.specs.Promise.{Premises};
 ghost use Rattle.rx_search.specs.Told.{tells, AreWithin, LiesIn, HalfLiesIn};
+ghost use Rattle.rx_search.specs.declared.anchored.MatchKind.TheVariants.{LeftmostFirst};
 ghost use Rattle.rx_hir.specs.Normal.{expressions};
 ghost use Rattle.rx_hir.specs.PropertiesViews.{AreOf};
 ghost use Rattle.rx_engines.specs.Bounded.{Fits as FitsBounded, max_len};
-ghost use Rattle.rx_dfa.specs.Search.{IsMeant};
+ghost use Rattle.rx_dfa.specs.Search.{IsForwardAnswer};
 ghost use Rattle.rx_engines.specs.Needles.{BeginsEachRun};
 ghost use Rattle.rx_search.specs.Answer.{IsAnswer, AreSlotsOfAnswer, TellsWhether};
 ghost use Rattle.rx_strategy.specs.Cache.{FitsCore, FitsBacktracker, FitsAsBefore, StillFits, backtrack_memory, AccountsAlikeIn, memory_of, accounted_backtrack, accounted_core};
 ghost use Rattle.rx_strategy.specs.Availability.{AreDfasBeside};
 ghost use Rattle.rx_strategy.specs.Config.{kind_of, captures_of, has_backtracker};
-ghost use Rattle.rx_strategy.specs.Core.{CoreValue, IsCoreFor, AreKnownOf, IsSearched, core_memory, reverse_memory, needles_for};
+ghost use Rattle.rx_strategy.specs.Core.{CoreValue, IsCoreFor, AreKnownOf, IsSearched, core_memory, reverse_memory};
+ghost use Rattle.rx_strategy.specs.Dfas.{ServeNfa};
 ghost use Rattle.rx_strategy.specs.Impossible.{is_impossible};
+ghost use Rattle.rx_strategy.specs.Narrow.{IsLenOf};
 ghost use Rattle.rx_strategy.specs.Nofail.{IsAskedFor};
 
 use crate::cache::Cache;
@@ -109,12 +112,13 @@ impl Core {
         }) }
         ensures dfas { IfOk result (λ core. AreDfasBeside config.now nfa reverse core.dfas) }
     {
+        let kind = config.get_match_kind();
         let backtrack = backtracker(config, &nfa, &pre)?;
         let dfas = Dfas::new(alloc, config, &nfa, reverse.as_ref())?;
         let own = shared(pre.as_ref())?;
         Ok(Core {
-            pikevm: PikeVM::build_from_nfa(nfa, config.get_match_kind(), own),
-            kind: config.get_match_kind(),
+            pikevm: PikeVM::build_from_nfa(nfa, kind, own),
+            kind,
             backtrack,
             which_captures: config.get_which_captures(),
             pre,
@@ -234,10 +238,7 @@ impl Core {
         ensures cache { FitsCore self.now cache.new }
         ensures memory { AccountsAlikeIn self.now cache.old cache.new }
     {
-        match self
-            .dfas
-            .try_is_match(&mut cache.lazies, self.dfa_needles(), input)
-        {
+        match self.try_is_match(cache, input) {
             Ok(there) => there,
             // It can stop at the first match (DECISIONS: of the engines that always answer).
             Err(_) => self.pikevm.is_match(&mut cache.pikevm, input),
@@ -257,10 +258,7 @@ impl Core {
         if !self.tells() {
             return None;
         }
-        match self
-            .dfas
-            .try_search_half(&mut cache.lazies, self.dfa_needles(), input)
-        {
+        match self.try_search_half(cache, input) {
             Ok(found) => found,
             Err(_) => half_match(self.search_nofail(cache, input, &mut [])),
         }
@@ -316,15 +314,29 @@ impl Core {
             return self.search_groups(cache, input, slots);
         }
         let _haystack = input.haystack();
-        let found = match self.try_search_mayfail(cache, input) {
-            Ok(found) => found,
-            Err(_) => self.search_nofail(cache, input, &mut []),
-        };
+        let found = self.search_span(cache, input);
         leave_span(&found, slots);
         found
     }
 
-    /// The same, where groups are asked for. The DFAs find the span, and an engine that keeps slots reads no more than that.
+    /// The next match in the input's span, without its slots.
+    fn search_span(&self, cache: &mut Cache, input: &Input<'_>) -> Option<Match>
+        requires fits { FitsCore self.now cache.old }
+        requires spanned { IsSpanned input.now }
+        ensures searched { (r : Patterns) → Premises (IsCoreFor self.now r) self.now.pre r input.now → IsSearched self.now.nfa input.now [] result }
+        ensures within { IfSome result (LiesIn input.now) }
+        ensures in_range { IfSome result (λ m. m.pattern < length self.now.nfa.starts) }
+        ensures cache { FitsCore self.now cache.new }
+        ensures memory { AccountsAlikeIn self.now cache.old cache.new }
+    {
+        match self.try_search_mayfail(cache, input) {
+            Ok(found) => found,
+            Err(_) => self.search_nofail(cache, input, &mut []),
+        }
+    }
+
+    /// The next match in the input's span, with slots of groups. The DFAs find its span, and an engine that keeps slots reads no more
+    /// than that.
     fn search_groups(
         &self,
         cache: &mut Cache,
@@ -333,9 +345,8 @@ impl Core {
     ) -> Option<Match>
         requires fits { FitsCore self.now cache.old }
         requires spanned { IsSpanned input.now }
-        requires told { tells self.now.which_captures ≡ true }
-        ensures answer { IsAnswer (IsCoreFor self.now) self.now.pre self.now.kind input.now match_value result }
-        ensures slots { AreSlotsOfAnswer (IsCoreFor self.now) self.now.pre self.now.kind input.now match_value slots.new result }
+        ensures searched { (r : Patterns) → Premises (IsCoreFor self.now r) self.now.pre r input.now
+            → IsSearched self.now.nfa input.now slots.new result }
         ensures within { IfSome result (LiesIn input.now) }
         ensures in_range { IfSome result (λ m. m.pattern < length self.now.nfa.starts) }
         ensures none { IfNone result (slots.new ≡ replicate (length slots.old) None) }
@@ -344,7 +355,10 @@ impl Core {
         ensures memory { AccountsAlikeIn self.now cache.old cache.new }
     {
         match self.try_search_mayfail(cache, input) {
-            Ok(Some(found)) => self.search_nofail(cache, &narrowed(input, &found), slots),
+            Ok(Some(found)) => {
+                let part = narrowed(input, &found);
+                self.search_nofail(cache, &part, slots)
+            }
             Ok(None) => {
                 empty(slots);
                 None
@@ -353,7 +367,23 @@ impl Core {
         }
     }
 
-    /// The next match in the input's span by the DFAs, or no answer. Where all matches have one length, nothing is read backwards.
+    /// Whether there is a match in the input's span, by a DFA that stops at the first one, or no answer.
+    fn try_is_match(&self, cache: &mut Cache, input: &Input<'_>) -> Result<bool, NoAnswer>
+        requires fits { FitsCore self.now cache.old }
+        requires spanned { IsSpanned input.now }
+        ensures value { (r : Patterns) → Premises (IsCoreFor self.now r) self.now.pre r input.now → IfOk result (λ there. there ≡ is_some (next_in r input.now)) }
+        ensures cache { FitsCore self.now cache.new }
+        ensures memory { AccountsAlikeIn self.now cache.old cache.new }
+    {
+        let mut any = input.clone();
+        any.set_earliest(true);
+        match self.try_search_half(cache, &any) {
+            Ok(found) => Ok(found.is_some()),
+            Err(error) => Err(error),
+        }
+    }
+
+    /// The next match in the input's span by the DFAs, or no answer: where any match will do, they are not asked.
     fn try_search_mayfail(
         &self,
         cache: &mut Cache,
@@ -361,37 +391,114 @@ impl Core {
     ) -> Result<Option<Match>, NoAnswer>
         requires fits { FitsCore self.now cache.old }
         requires spanned { IsSpanned input.now }
-        ensures answer { tells self.now.which_captures ≡ true → IfOk result (IsAnswer (IsCoreFor self.now) self.now.pre self.now.kind input.now match_value) }
-        ensures meant { (r : Patterns) → Premises (IsCoreFor self.now r) self.now.pre r input.now → IfOk result (λ found. IfSome found (IsMeant r input.now)) }
+        ensures searched { (r : Patterns) → Premises (IsCoreFor self.now r) self.now.pre r input.now
+            → IfOk result (IsSearched self.now.nfa input.now []) }
+        ensures whole { OnOk result (input.now.earliest ≡ false) }
         ensures within { IfOk result (λ found. IfSome found (LiesIn input.now)) }
-        ensures ordered { IfOk result (λ found. IfSome found (λ m. m.start ≤ m.end)) }
         ensures in_range { IfOk result (λ found. IfSome found (λ m. m.pattern < length self.now.nfa.starts)) }
         ensures cache { FitsCore self.now cache.new }
         ensures memory { AccountsAlikeIn self.now cache.old cache.new }
     {
-        let Some(len) = self.info.fixed_len() else {
-            return self
-                .dfas
-                .try_search(&mut cache.lazies, self.dfa_needles(), input);
-        };
-        match self
-            .dfas
-            .try_search_half(&mut cache.lazies, self.dfa_needles(), input)
-        {
+        if input.get_earliest() {
+            return Err(NoAnswer);
+        }
+        match self.info.fixed_len() {
+            Some(len) => self.try_search_of_len(cache, input, len),
+            None => self.try_search_both(cache, input),
+        }
+    }
+
+    /// The same where all matches have this length: nothing is read backwards.
+    fn try_search_of_len(
+        &self,
+        cache: &mut Cache,
+        input: &Input<'_>,
+        len: usize,
+    ) -> Result<Option<Match>, NoAnswer>
+        requires fits { FitsCore self.now cache.old }
+        requires spanned { IsSpanned input.now }
+        requires whole { input.now.earliest ≡ false }
+        requires len { (h : Expression) → AreOf h self.now.properties → IsLenOf h len }
+        ensures searched { (r : Patterns) → Premises (IsCoreFor self.now r) self.now.pre r input.now
+            → IfOk result (IsSearched self.now.nfa input.now []) }
+        ensures within { IfOk result (λ found. IfSome found (LiesIn input.now)) }
+        ensures in_range { IfOk result (λ found. IfSome found (λ m. m.pattern < length self.now.nfa.starts)) }
+        ensures cache { FitsCore self.now cache.new }
+        ensures memory { AccountsAlikeIn self.now cache.old cache.new }
+    {
+        match self.try_search_half(cache, input) {
             Ok(Some(end)) => Ok(Some(match_of_len(input, end, len))),
             Ok(None) => Ok(None),
             Err(error) => Err(error),
         }
     }
 
-    /// The prefilter that the DFAs ask: under `All` none, since the last end is sought.
-    fn dfa_needles(&self) -> Option<&Prefilter>
-        ensures { option_copied result ≡ needles_for self.now }
+    /// The same by the DFA that reads forwards, for the end, and then by that which reads backwards, for the start.
+    fn try_search_both(
+        &self,
+        cache: &mut Cache,
+        input: &Input<'_>,
+    ) -> Result<Option<Match>, NoAnswer>
+        requires fits { FitsCore self.now cache.old }
+        requires spanned { IsSpanned input.now }
+        requires whole { input.now.earliest ≡ false }
+        ensures searched { (r : Patterns) → Premises (IsCoreFor self.now r) self.now.pre r input.now
+            → IfOk result (IsSearched self.now.nfa input.now []) }
+        ensures within { IfOk result (λ found. IfSome found (LiesIn input.now)) }
+        ensures in_range { IfOk result (λ found. IfSome found (λ m. m.pattern < length self.now.nfa.starts)) }
+        ensures cache { FitsCore self.now cache.new }
+        ensures memory { AccountsAlikeIn self.now cache.old cache.new }
+    {
+        if !self.asks_dfas(input) {
+            return Err(NoAnswer);
+        }
+        self.get_dfas().try_search(&mut cache.lazies, input)
+    }
+
+    /// The end of the next match in the input's span by the DFA that reads forwards, or no answer.
+    fn try_search_half(
+        &self,
+        cache: &mut Cache,
+        input: &Input<'_>,
+    ) -> Result<Option<HalfMatch>, NoAnswer>
+        requires { FitsCore self.now cache.old }
+        ensures answer { (r : Patterns) → Premises (IsCoreFor self.now r) self.now.pre r input.now
+            → IfOk result (IsForwardAnswer self.now.nfa input.now) }
+        ensures within { IfOk result (λ found. IfSome found (HalfLiesIn input.now)) }
+        ensures in_range { IfOk result (λ found. IfSome found (λ half. half.pattern < length self.now.nfa.starts)) }
+        ensures cache { FitsCore self.now cache.new }
+        ensures memory { AccountsAlikeIn self.now cache.old cache.new }
+    {
+        if !self.asks_dfas(input) {
+            return Err(NoAnswer);
+        }
+        self.get_dfas().try_search_half(&mut cache.lazies, input)
+    }
+
+    /// Whether the DFAs are asked: under leftmost-first, where no needle is looked for.
+    fn asks_dfas(&self, input: &Input<'_>) -> bool
+        ensures { result ≡ true → self.now.kind ≡ LeftmostFirst }
     {
         match self.kind {
-            MatchKind::LeftmostFirst => self.pre.as_ref(),
-            MatchKind::All => None,
+            MatchKind::LeftmostFirst => self.looks_for_none(input),
+            MatchKind::All => false,
         }
+    }
+
+    /// Whether no needle is looked for: there is no prefilter, or the search is anchored.
+    fn looks_for_none(&self, input: &Input<'_>) -> bool {
+        if input.get_anchored().is_anchored() {
+            return true;
+        }
+        self.pre.is_none()
+    }
+
+    /// The DFAs.
+    fn get_dfas(&self) -> &Dfas
+        ensures value { result.now ≡ self.now.dfas }
+        ensures serve { ServeNfa self.now.nfa self.now.kind self.now.reverse result.now }
+    {
+        &self.dfas
     }
 
     /// Whether matches are told.
