@@ -95,7 +95,7 @@ meant-among t text [] p h is i j m = none-is-some is
 meant-among t text (x ∷ hs) zero h is i j m = inl (subst (λ y. Means t text y i j) (sym (some-is is)) m)
 meant-among t text (x ∷ hs) (suc p) h is i j m = inr (meant-among t text hs p h is i j m)
 
-pub anchored-start : (anchor : Anchor) (b a i : ℕ) → IsStart anchor b a i → is_anchored anchor ≡ true → i ≡ a
+anchored-start : (anchor : Anchor) (b a i : ℕ) → IsStart anchor b a i → is_anchored anchor ≡ true → i ≡ a
 anchored-start free b a i s e = absurd (true≢false (sym e))
 anchored-start anchored b a i s e = s.0
 anchored-start (anchored_to p) b a i s e = s.0

@@ -1,5 +1,4 @@
 pub mod NeedleLemmas
-pub mod PartLemmas
 pub mod AnswerLemmas
 pub mod SpanLemmas
 pub mod StrategyLemmas

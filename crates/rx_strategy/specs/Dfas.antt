@@ -1,15 +1,15 @@
 -- What a core's DFAs are to its searches, and what their caches hold.
-use Rattle.std.specs.Prelude.{◌≡◌, ℕ, ◌+◌, ◌<◌, Bool, true, false, length, Option, Some, None, is_some, IfSome, IsSomeAnd, slice_get}
-use Rattle.rx_model.specs.Expression.{Expression, AreOrdered}
+use Rattle.std.specs.Prelude.{◌≡◌, ℕ, ◌+◌, ◌<◌, Bool, true, false, length, Option, Some, None, is_some, IfSome, IsSomeAnd}
 use Rattle.rx_model.specs.Search.{Patterns}
 use Rattle.rx_search.specs.Input.{InputValue}
 use Rattle.rx_search.specs.Promise.{Premises}
 use Rattle.rx_search.specs.declared.anchored.MatchKind.{MatchKind}
-use Rattle.rx_search.specs.declared.anchored.MatchKind.TheVariants.{All, LeftmostFirst}
-use Rattle.rx_nfa.specs.Nfa.{Nfa, IsNfaOf, HasReverseRuns}
+use Rattle.rx_search.specs.declared.anchored.MatchKind.TheVariants.{All}
+use Rattle.rx_nfa.specs.Nfa.{Nfa, IsNfaOf}
 use Rattle.rx_dfa.specs.Automaton.{Dfa}
 use Rattle.rx_dfa.specs.Lazy.{LazyValue}
 use Rattle.rx_dfa.specs.LazyCache.{IsCacheOf, HoldsNone}
+use Rattle.rx_dfa.specs.Search.{TellsStarts}
 use Rattle.rx_strategy.specs.Availability.{table_memory}
 use Rattle.rx_strategy.specs.declared.dfas.Dfas.{Dfas}
 use Rattle.rx_strategy.specs.declared.dfas.Dfas.TheVariants.{Absent, Full, Lazy}
@@ -43,17 +43,15 @@ pub record ServeNfa (nfa : Nfa) (kind : MatchKind) (reverse : Option Nfa) (dfas 
   pub paired : ArePaired dfas
   pub are : IfSome (pair_of dfas) (IsPairOf nfa kind reverse)
 
--- The first one is of this NFA, under leftmost-first. Both are for these patterns, and their answers are promised of this input.
-pub record IsSearchFor (nfa : Nfa) (r : Patterns) (v : InputValue) (both : Dfa × Dfa) : Type 0 where
-  pub own : both.0.nfa ≡ nfa
-  pub leftmost : both.0.kind ≡ LeftmostFirst
+-- The first one is of this kind. Both are for these patterns, and their answers are promised of this input.
+pub record IsSearchFor (kind : MatchKind) (r : Patterns) (v : InputValue) (both : Dfa × Dfa) : Type 0 where
+  pub own_kind : both.0.kind ≡ kind
   pub premises : Premises (IsNfaOf both.0.nfa r) None r v
-  pub reverse_runs : HasReverseRuns both.1.nfa r
-  pub ordered : (p : ℕ) (h : Expression) → slice_get r.expressions p ≡ Some h → AreOrdered h
+  pub starts : TellsStarts both.1 r
 
 -- what the clauses of their searches stand under
-abbrev pub SearchFor : Dfas → Nfa → Patterns → InputValue → Type 0
-SearchFor dfas nfa r v = IfSome (pair_of dfas) (IsSearchFor nfa r v)
+abbrev pub SearchFor : Dfas → MatchKind → Patterns → InputValue → Type 0
+SearchFor dfas kind r v = IfSome (pair_of dfas) (IsSearchFor kind r v)
 
 -- it is a pattern of the DFA that reads forwards, which is there
 abbrev pub IsPatternOf : Dfas → (pattern : ℕ) → Type 0

@@ -3,9 +3,10 @@ ghost use Rattle.std.specs.Prelude.{◌≡◌, ◌-◌, ◌^◌, min, ◌<◌, N
 ghost use Rattle.rx_model.specs.Search.{Patterns};
 ghost use Rattle.rx_search.specs.Promise.{Premises};
 ghost use Rattle.rx_search.specs.Told.{LiesIn, HalfLiesIn};
-ghost use Rattle.rx_search.specs.declared.anchored.MatchKind.TheVariants.{LeftmostFirst};
-ghost use Rattle.rx_nfa.specs.Nfa.{Nfa, IsNfaOf};
-ghost use Rattle.rx_dfa.specs.Search.{IsForwardAnswer, IsMatchAnswer};
+ghost use Rattle.rx_search.specs.Matches.{match_value, half_match_value};
+ghost use Rattle.rx_search.specs.declared.anchored.MatchKind.{MatchKind};
+ghost use Rattle.rx_nfa.specs.Nfa.{IsNfaOf};
+ghost use Rattle.rx_dfa.specs.Search.{IsAnswerFor};
 ghost use Rattle.rx_strategy.specs.Dfas.{ArePair, ArePaired, IsSearchFor, SearchFor, are_lazy, FitsLazies, IsPatternOf, tables_memory};
 
 mod build;
@@ -40,7 +41,7 @@ impl Dfas {
     ) -> Result<Option<Match>, NoAnswer>
         requires fits { FitsLazies self.now lazies.old }
         requires paired { ArePaired self.now }
-        ensures answer { (nfa : Nfa) (r : Patterns) → SearchFor self.now nfa r input.now → IfOk result (IsMatchAnswer r input.now) }
+        ensures answer { (kind : MatchKind) (r : Patterns) → SearchFor self.now kind r input.now → IfOk result (IsAnswerFor kind r input.now match_value) }
         ensures within { IfOk result (λ found. IfSome found (LiesIn input.now)) }
         ensures in_range { IfOk result (λ found. IfSome found (λ m. IsPatternOf self.now m.pattern)) }
         ensures fits { FitsLazies self.now lazies.new }
@@ -72,7 +73,8 @@ impl Dfas {
     ) -> Result<Option<HalfMatch>, NoAnswer>
         requires fits { FitsLazies self.now lazies.old }
         requires paired { ArePaired self.now }
-        ensures answer { (nfa : Nfa) (r : Patterns) → SearchFor self.now nfa r input.now → IfOk result (IsForwardAnswer nfa input.now) }
+        ensures answer { (kind : MatchKind) (r : Patterns) → SearchFor self.now kind r input.now
+            → IfOk result (IsAnswerFor kind r input.now half_match_value) }
         ensures within { IfOk result (λ found. IfSome found (HalfLiesIn input.now)) }
         ensures in_range { IfOk result (λ found. IfSome found (λ half. IsPatternOf self.now half.pattern)) }
         ensures fits { FitsLazies self.now lazies.new }
@@ -117,8 +119,8 @@ fn whole<F: Automaton, B: Automaton>(
     requires forward_fits { F.fits forward.now forward_cache.old }
     requires backward_fits { B.fits backward.now backward_cache.old }
     requires paired { ArePair (F.dfa forward.now, B.dfa backward.now) }
-    ensures answer { (nfa : Nfa) (r : Patterns) → IsSearchFor nfa r input.now (F.dfa forward.now, B.dfa backward.now)
-        → IfOk result (IsMatchAnswer r input.now) }
+    ensures answer { (kind : MatchKind) (r : Patterns) → IsSearchFor kind r input.now (F.dfa forward.now, B.dfa backward.now)
+        → IfOk result (IsAnswerFor kind r input.now match_value) }
     ensures within { IfOk result (λ found. IfSome found (LiesIn input.now)) }
     ensures in_range { IfOk result (λ found. IfSome found (λ m. m.pattern < length (F.dfa forward.now).nfa.starts)) }
     ensures forward_fits { F.fits forward.now forward_cache.new }
@@ -138,8 +140,8 @@ fn end<F: Automaton>(
 ) -> Result<Option<HalfMatch>, NoAnswer>
     requires fits { F.fits forward.now cache.old }
     requires forward { (F.dfa forward.now).nfa.reverse ≡ false }
-    ensures answer { (r : Patterns) → Premises (IsNfaOf (F.dfa forward.now).nfa r) None r input.now → (F.dfa forward.now).kind ≡ LeftmostFirst
-        → IfOk result (IsForwardAnswer (F.dfa forward.now).nfa input.now) }
+    ensures answer { (r : Patterns) → Premises (IsNfaOf (F.dfa forward.now).nfa r) None r input.now
+        → IfOk result (IsAnswerFor (F.dfa forward.now).kind r input.now half_match_value) }
     ensures within { IfOk result (λ found. IfSome found (HalfLiesIn input.now)) }
     ensures in_range { IfOk result (λ found. IfSome found (λ h. h.pattern < length (F.dfa forward.now).nfa.starts)) }
     ensures fits { F.fits forward.now cache.new }

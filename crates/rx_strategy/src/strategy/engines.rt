@@ -1,5 +1,5 @@
 //! The strategy that runs DFAs and engines over an NFA.
-ghost use Rattle.std.specs.Prelude.{◌≡◌, ◌≤◌, ◌<◌, List, [], true, false, length, None, replicate, is_some};
+ghost use Rattle.std.specs.Prelude.{◌≡◌, ◌≤◌, ◌<◌, List, true, false, length, None, replicate, is_some};
 ghost use Rattle.std.specs.Prelude.{IfOk, OnOk, OnErr, IsOk, IfNone, IfSome, IsSomeAnd, IsTrue, MatchOption};
 ghost use Rattle.rx_model.specs.Expression.{Expression, alternation};
 ghost use Rattle.rx_model.specs.Search.{Patterns};
@@ -11,7 +11,7 @@ ghost use Rattle.rx_search.specs.declared.anchored.MatchKind.TheVariants.{Leftmo
 ghost use Rattle.rx_hir.specs.Normal.{expressions};
 ghost use Rattle.rx_hir.specs.PropertiesViews.{AreOf};
 ghost use Rattle.rx_engines.specs.Bounded.{Fits as FitsBounded, max_len};
-ghost use Rattle.rx_dfa.specs.Search.{IsForwardAnswer};
+ghost use Rattle.rx_dfa.specs.Search.{IsAnswerFor};
 ghost use Rattle.rx_engines.specs.Needles.{BeginsEachRun};
 ghost use Rattle.rx_search.specs.Answer.{IsAnswer, AreSlotsOfAnswer, TellsWhether};
 ghost use Rattle.rx_strategy.specs.Cache.{FitsCore, FitsBacktracker, FitsAsBefore, StillFits, backtrack_memory, AccountsAlikeIn, memory_of, accounted_backtrack, accounted_core};
@@ -319,11 +319,12 @@ impl Core {
         found
     }
 
-    /// The next match in the input's span, without its slots.
+    /// The next match in the input's span, without its slots, where matches are told.
     fn search_span(&self, cache: &mut Cache, input: &Input<'_>) -> Option<Match>
         requires fits { FitsCore self.now cache.old }
         requires spanned { IsSpanned input.now }
-        ensures searched { (r : Patterns) → Premises (IsCoreFor self.now r) self.now.pre r input.now → IsSearched self.now.nfa input.now [] result }
+        requires told { tells self.now.which_captures ≡ true }
+        ensures answer { IsAnswer (IsCoreFor self.now) self.now.pre self.now.kind input.now match_value result }
         ensures within { IfSome result (LiesIn input.now) }
         ensures in_range { IfSome result (λ m. m.pattern < length self.now.nfa.starts) }
         ensures cache { FitsCore self.now cache.new }
@@ -335,8 +336,7 @@ impl Core {
         }
     }
 
-    /// The next match in the input's span, with slots of groups. The DFAs find its span, and an engine that keeps slots reads no more
-    /// than that.
+    /// The next match in the input's span, with slots of groups.
     fn search_groups(
         &self,
         cache: &mut Cache,
@@ -345,6 +345,33 @@ impl Core {
     ) -> Option<Match>
         requires fits { FitsCore self.now cache.old }
         requires spanned { IsSpanned input.now }
+        ensures searched { (r : Patterns) → Premises (IsCoreFor self.now r) self.now.pre r input.now
+            → IsSearched self.now.nfa input.now slots.new result }
+        ensures within { IfSome result (LiesIn input.now) }
+        ensures in_range { IfSome result (λ m. m.pattern < length self.now.nfa.starts) }
+        ensures none { IfNone result (slots.new ≡ replicate (length slots.old) None) }
+        ensures slots_within { AreWithin input.now slots.new }
+        ensures cache { FitsCore self.now cache.new }
+        ensures memory { AccountsAlikeIn self.now cache.old cache.new }
+    {
+        if self.narrows(input) {
+            return self.search_narrowed(cache, input, slots);
+        }
+        self.search_nofail(cache, input, slots)
+    }
+
+    /// The same under leftmost-first, where not just any match will do: the DFAs find the span of the match, and an engine that keeps
+    /// slots reads no more than that.
+    fn search_narrowed(
+        &self,
+        cache: &mut Cache,
+        input: &Input<'_>,
+        slots: &mut [Option<NonMaxUsize>],
+    ) -> Option<Match>
+        requires fits { FitsCore self.now cache.old }
+        requires spanned { IsSpanned input.now }
+        requires leftmost { self.now.kind ≡ LeftmostFirst }
+        requires whole { input.now.earliest ≡ false }
         ensures searched { (r : Patterns) → Premises (IsCoreFor self.now r) self.now.pre r input.now
             → IsSearched self.now.nfa input.now slots.new result }
         ensures within { IfSome result (LiesIn input.now) }
@@ -367,10 +394,20 @@ impl Core {
         }
     }
 
+    /// Whether a search for groups is narrowed to the match that the DFAs find.
+    fn narrows(&self, input: &Input<'_>) -> bool
+        ensures leftmost { result ≡ true → self.now.kind ≡ LeftmostFirst }
+        ensures whole { result ≡ true → input.now.earliest ≡ false }
+    {
+        match self.kind {
+            MatchKind::LeftmostFirst => !input.get_earliest(),
+            MatchKind::All => false,
+        }
+    }
+
     /// Whether there is a match in the input's span, by a DFA that stops at the first one, or no answer.
     fn try_is_match(&self, cache: &mut Cache, input: &Input<'_>) -> Result<bool, NoAnswer>
         requires fits { FitsCore self.now cache.old }
-        requires spanned { IsSpanned input.now }
         ensures value { (r : Patterns) → Premises (IsCoreFor self.now r) self.now.pre r input.now → IfOk result (λ there. there ≡ is_some (next_in r input.now)) }
         ensures cache { FitsCore self.now cache.new }
         ensures memory { AccountsAlikeIn self.now cache.old cache.new }
@@ -383,25 +420,20 @@ impl Core {
         }
     }
 
-    /// The next match in the input's span by the DFAs, or no answer: where any match will do, they are not asked.
+    /// A match in the input's span by the DFAs, or no answer: the next one, or where any will do, or under `All`, some match.
     fn try_search_mayfail(
         &self,
         cache: &mut Cache,
         input: &Input<'_>,
     ) -> Result<Option<Match>, NoAnswer>
         requires fits { FitsCore self.now cache.old }
-        requires spanned { IsSpanned input.now }
-        ensures searched { (r : Patterns) → Premises (IsCoreFor self.now r) self.now.pre r input.now
-            → IfOk result (IsSearched self.now.nfa input.now []) }
-        ensures whole { OnOk result (input.now.earliest ≡ false) }
+        ensures answer { (r : Patterns) → Premises (IsCoreFor self.now r) self.now.pre r input.now
+            → IfOk result (IsAnswerFor self.now.kind r input.now match_value) }
         ensures within { IfOk result (λ found. IfSome found (LiesIn input.now)) }
         ensures in_range { IfOk result (λ found. IfSome found (λ m. m.pattern < length self.now.nfa.starts)) }
         ensures cache { FitsCore self.now cache.new }
         ensures memory { AccountsAlikeIn self.now cache.old cache.new }
     {
-        if input.get_earliest() {
-            return Err(NoAnswer);
-        }
         match self.info.fixed_len() {
             Some(len) => self.try_search_of_len(cache, input, len),
             None => self.try_search_both(cache, input),
@@ -416,11 +448,9 @@ impl Core {
         len: usize,
     ) -> Result<Option<Match>, NoAnswer>
         requires fits { FitsCore self.now cache.old }
-        requires spanned { IsSpanned input.now }
-        requires whole { input.now.earliest ≡ false }
         requires len { (h : Expression) → AreOf h self.now.properties → IsLenOf h len }
-        ensures searched { (r : Patterns) → Premises (IsCoreFor self.now r) self.now.pre r input.now
-            → IfOk result (IsSearched self.now.nfa input.now []) }
+        ensures answer { (r : Patterns) → Premises (IsCoreFor self.now r) self.now.pre r input.now
+            → IfOk result (IsAnswerFor self.now.kind r input.now match_value) }
         ensures within { IfOk result (λ found. IfSome found (LiesIn input.now)) }
         ensures in_range { IfOk result (λ found. IfSome found (λ m. m.pattern < length self.now.nfa.starts)) }
         ensures cache { FitsCore self.now cache.new }
@@ -439,23 +469,21 @@ impl Core {
         cache: &mut Cache,
         input: &Input<'_>,
     ) -> Result<Option<Match>, NoAnswer>
-        requires fits { FitsCore self.now cache.old }
-        requires spanned { IsSpanned input.now }
-        requires whole { input.now.earliest ≡ false }
-        ensures searched { (r : Patterns) → Premises (IsCoreFor self.now r) self.now.pre r input.now
-            → IfOk result (IsSearched self.now.nfa input.now []) }
+        requires { FitsCore self.now cache.old }
+        ensures answer { (r : Patterns) → Premises (IsCoreFor self.now r) self.now.pre r input.now
+            → IfOk result (IsAnswerFor self.now.kind r input.now match_value) }
         ensures within { IfOk result (λ found. IfSome found (LiesIn input.now)) }
         ensures in_range { IfOk result (λ found. IfSome found (λ m. m.pattern < length self.now.nfa.starts)) }
         ensures cache { FitsCore self.now cache.new }
         ensures memory { AccountsAlikeIn self.now cache.old cache.new }
     {
-        if !self.asks_dfas(input) {
+        if !self.looks_for_none(input) {
             return Err(NoAnswer);
         }
         self.get_dfas().try_search(&mut cache.lazies, input)
     }
 
-    /// The end of the next match in the input's span by the DFA that reads forwards, or no answer.
+    /// The end of the match that `try_search_mayfail` answers, by the DFA that reads forwards, or no answer.
     fn try_search_half(
         &self,
         cache: &mut Cache,
@@ -463,26 +491,16 @@ impl Core {
     ) -> Result<Option<HalfMatch>, NoAnswer>
         requires { FitsCore self.now cache.old }
         ensures answer { (r : Patterns) → Premises (IsCoreFor self.now r) self.now.pre r input.now
-            → IfOk result (IsForwardAnswer self.now.nfa input.now) }
+            → IfOk result (IsAnswerFor self.now.kind r input.now half_match_value) }
         ensures within { IfOk result (λ found. IfSome found (HalfLiesIn input.now)) }
         ensures in_range { IfOk result (λ found. IfSome found (λ half. half.pattern < length self.now.nfa.starts)) }
         ensures cache { FitsCore self.now cache.new }
         ensures memory { AccountsAlikeIn self.now cache.old cache.new }
     {
-        if !self.asks_dfas(input) {
+        if !self.looks_for_none(input) {
             return Err(NoAnswer);
         }
         self.get_dfas().try_search_half(&mut cache.lazies, input)
-    }
-
-    /// Whether the DFAs are asked: under leftmost-first, where no needle is looked for.
-    fn asks_dfas(&self, input: &Input<'_>) -> bool
-        ensures { result ≡ true → self.now.kind ≡ LeftmostFirst }
-    {
-        match self.kind {
-            MatchKind::LeftmostFirst => self.looks_for_none(input),
-            MatchKind::All => false,
-        }
     }
 
     /// Whether no needle is looked for: there is no prefilter, or the search is anchored.
