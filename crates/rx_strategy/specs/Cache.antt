@@ -4,6 +4,7 @@ use Rattle.std.proofs.Props.{props}
 use Rattle.rx_engines.specs.Room as pike
 use Rattle.rx_engines.specs.Bounded as bounded
 use Rattle.rx_engines.specs.Engine.{accounted_memory, Fits as FitsPikeVM}
+use Rattle.rx_dfa.specs.LazyProps.{IsCacheOf-prop}
 use Rattle.rx_strategy.specs.Core.{CoreValue, pikevm_of}
 use Rattle.rx_strategy.specs.Dfas.{are_lazy, FitsLazies, HoldNoStates, states_memory}
 use Rattle.rx_strategy.specs.declared.lazies.Lazies.{Lazies}
@@ -40,7 +41,7 @@ Fits (Core core) cache = FitsCore core cache
 
 -- that it does has one proof at most
 pub Fits-prop : (s : Strategy) (cache : CacheValue) → IsProp (Fits s cache)
-Fits-prop (Core core) cache = Prim.hlevel props
+Fits-prop (Core core) cache = Prim.hlevel (IsCacheOf-prop, props)
 
 -- What is accounted for the cache, up to the greatest number of 64 bits: what its engines need, and the states of lazy DFAs that it
 -- holds.
