@@ -1,5 +1,5 @@
 //! What is known of a match that was found.
-ghost use Rattle.std.specs.Prelude.{◌≡◌};
+ghost use Rattle.std.specs.Prelude.{◌≡◌, option_map, IfSome};
 ghost use Rattle.rx_search.specs.Told.{LiesIn, HalfLiesIn};
 ghost use Rattle.rx_strategy.specs.Narrow.{narrowed, of_len};
 
@@ -19,8 +19,19 @@ pub(crate) fn narrowed<'h>(input: &Input<'h>, found: &Match) -> Input<'h>
     part
 }
 
-/// The match of this length that ends there. It begins in the span, also where no match of this length would.
-pub(crate) fn match_of_len(input: &Input<'_>, end: HalfMatch, len: usize) -> Match
+/// The match of this length that ends there, if an end was found. It begins in the span, also where no match of this length would.
+pub(crate) fn match_of_len(input: &Input<'_>, found: Option<HalfMatch>, len: usize) -> Option<Match>
+    requires { IfSome found (HalfLiesIn input.now) }
+    ensures { result ≡ option_map (of_len input.now len) found }
+{
+    match found {
+        Some(end) => Some(match_to(input, end, len)),
+        None => None,
+    }
+}
+
+/// The match of this length that ends there.
+fn match_to(input: &Input<'_>, end: HalfMatch, len: usize) -> Match
     requires { HalfLiesIn input.now end }
     ensures { result ≡ of_len input.now len end }
 {

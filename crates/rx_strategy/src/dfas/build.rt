@@ -23,8 +23,8 @@ impl Dfas {
         nfa: &NFA,
         reverse: Option<&NFA>,
     ) -> Result<Dfas, Memory>
-        requires { IfSome (option_copied reverse.entry) (λ back. back.accounted ≡ nfa.now.accounted) }
-        ensures { IfOk result (AreDfasBeside config.now nfa.now (option_copied reverse.entry)) }
+        requires { IfSome (option_copied reverse) (λ back. back.accounted ≡ nfa.now.accounted) }
+        ensures { IfOk result (AreDfasBeside config.now nfa.now (option_copied reverse)) }
     {
         let Some(reverse) = reverse else {
             return Ok(Dfas::Absent);

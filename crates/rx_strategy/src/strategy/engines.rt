@@ -1,5 +1,5 @@
 //! The strategy that runs DFAs and engines over an NFA.
-ghost use Rattle.std.specs.Prelude.{◌≡◌, ◌≤◌, ◌<◌, List, true, false, length, None, replicate, is_some};
+ghost use Rattle.std.specs.Prelude.{◌≡◌, ◌≤◌, ◌<◌, List, true, false, length, None, replicate, is_some, option_map};
 ghost use Rattle.std.specs.Prelude.{IfOk, OnOk, OnErr, IsOk, IfNone, IfSome, IsSomeAnd, IsTrue, MatchOption};
 ghost use Rattle.rx_model.specs.Expression.{Expression, alternation};
 ghost use Rattle.rx_model.specs.Search.{Patterns};
@@ -382,15 +382,41 @@ impl Core {
         ensures memory { AccountsAlikeIn self.now cache.old cache.new }
     {
         match self.try_search_mayfail(cache, input) {
-            Ok(Some(found)) => {
-                let part = narrowed(input, &found);
+            Ok(found) => self.search_found(cache, input, &found, slots),
+            Err(_) => self.search_nofail(cache, input, slots),
+        }
+    }
+
+    /// The next match with its slots, where this is its span, if there is one.
+    fn search_found(
+        &self,
+        cache: &mut Cache,
+        input: &Input<'_>,
+        found: &Option<Match>,
+        slots: &mut [Option<NonMaxUsize>],
+    ) -> Option<Match>
+        requires fits { FitsCore self.now cache.old }
+        requires spanned { IsSpanned input.now }
+        requires whole { input.now.earliest ≡ false }
+        requires lies { IfSome found.now (LiesIn input.now) }
+        ensures searched { (r : Patterns) → IsCoreFor self.now r → found.now ≡ option_map match_value (next_in r input.now)
+            → IsSearched self.now.nfa input.now slots.new result }
+        ensures within { IfSome result (LiesIn input.now) }
+        ensures in_range { IfSome result (λ m. m.pattern < length self.now.nfa.starts) }
+        ensures none { IfNone result (slots.new ≡ replicate (length slots.old) None) }
+        ensures slots_within { AreWithin input.now slots.new }
+        ensures cache { FitsCore self.now cache.new }
+        ensures memory { AccountsAlikeIn self.now cache.old cache.new }
+    {
+        match found {
+            Some(found) => {
+                let part = narrowed(input, found);
                 self.search_nofail(cache, &part, slots)
             }
-            Ok(None) => {
+            None => {
                 empty(slots);
                 None
             }
-            Err(_) => self.search_nofail(cache, input, slots),
         }
     }
 
@@ -457,8 +483,7 @@ impl Core {
         ensures memory { AccountsAlikeIn self.now cache.old cache.new }
     {
         match self.try_search_half(cache, input) {
-            Ok(Some(end)) => Ok(Some(match_of_len(input, end, len))),
-            Ok(None) => Ok(None),
+            Ok(found) => Ok(match_of_len(input, found, len)),
             Err(error) => Err(error),
         }
     }
