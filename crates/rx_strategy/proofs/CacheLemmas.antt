@@ -1,10 +1,11 @@
 -- Caches that were grown, and what is accounted for them.
 use Rattle.std.proofs.Common.{◌≡◌, ℕ, ◌+◌, ◌-◌, ◌^◌, ◌≤◌, min, refl, sym, ap, ◌∙◌, arith}
-use Rattle.std.specs.Prelude.{Bool, false, Result, Ok, Err, OnErr, Option, Some, None, IfSome}
+use Rattle.std.specs.Prelude.{Bool, false, Result, Ok, Err, OnErr, Option, Some, None, IfSome, IsSomeAnd}
+use Rattle.rx_dfa.specs.Lazy.{LazyValue}
 use Rattle.rx_engines.specs.Engine.{PikeVMValue, Fits as FitsPikeVM}
 use Rattle.rx_strategy.specs.Cache.{CacheValue, Fits, FitsAsBefore, FitsBacktracker, AccountsAlikeIn}
 use Rattle.rx_strategy.specs.Core.{CoreValue, pikevm_of}
-use Rattle.rx_strategy.specs.Dfas.{FitsLazies, HoldNoStates, states_memory, are_lazy}
+use Rattle.rx_strategy.specs.Dfas.{lazies_of, AreCachesOf, FitsLazies, HoldNoStates, states_memory, are_lazy}
 use Rattle.rx_strategy.specs.declared.dfas.Dfas.{Dfas}
 use Rattle.rx_strategy.specs.declared.lazies.Lazies.{Lazies}
 use Rattle.rx_strategy.specs.declared.strategy.Strategy.{Strategy}
@@ -47,3 +48,12 @@ alike-then c old middle new first second = record {
   memory = second.memory ∙ first.memory;
   states = λ off. second.states off ∙ first.states off;
 }
+
+-- caches that serve what others serve
+pub more-lazies : (old new : Lazies) → ((pair : LazyValue × LazyValue) → AreCachesOf pair old → AreCachesOf pair new) → (dfas : Dfas)
+    → FitsLazies dfas (Some old) → FitsLazies dfas (Some new)
+more-lazies old new more dfas given = by_pair (lazies_of dfas) given
+  where
+    by_pair : (o : Option (LazyValue × LazyValue)) → IfSome o (λ pair. IsSomeAnd (Some old) (AreCachesOf pair)) → IfSome o (λ pair. IsSomeAnd (Some new) (AreCachesOf pair))
+    by_pair None given = tt
+    by_pair (Some pair) given = more pair given

@@ -1,7 +1,7 @@
 //! What the engines of a strategy write to.
-ghost use Rattle.std.specs.Prelude.{◌≡◌, IfOk, IfSome, OnOk, OnErr, IsOk};
+ghost use Rattle.std.specs.Prelude.{◌≡◌, ◌-◌, ◌^◌, min, IfOk, IfSome, OnOk, OnErr, IsOk};
 ghost use Rattle.rx_strategy.specs.Cache.{Fits, FitsAsBefore, StillFits, HoldsNoStates, memory_of, accounted_for};
-ghost use Rattle.rx_strategy.specs.Dfas.{FitsLazies, HoldNoStates};
+ghost use Rattle.rx_strategy.specs.Dfas.{FitsLazies, HoldNoStates, states_memory};
 ghost use Rattle.rx_strategy.specs.declared.dfas.Dfas.{Dfas};
 
 use crate::lazies::Lazies;
@@ -63,10 +63,7 @@ impl Cache {
     pub fn memory_usage(&self) -> usize
         ensures { result ≡ memory_of self.now }
     {
-        match &self.lazies {
-            Some(lazies) => self.memory.saturating_add(lazies.memory_usage()),
-            None => self.memory,
-        }
+        self.memory.saturating_add(accounted_states(&self.lazies))
     }
 
     /// A cache of its own with the same room. It holds no states of lazy DFAs.
@@ -105,5 +102,15 @@ impl Cache {
             Some(lazies) => Ok(Some(lazies.clone(alloc)?)),
             None => Ok(None),
         }
+    }
+}
+
+/// What is accounted for the states of lazy DFAs, where there are caches for them.
+fn accounted_states(lazies: &Option<Lazies>) -> usize
+    ensures { result ≡ min (2 ^ 64 - 1) (states_memory lazies.now) }
+{
+    match lazies {
+        Some(lazies) => lazies.memory_usage(),
+        None => 0,
     }
 }
