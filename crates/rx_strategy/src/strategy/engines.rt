@@ -255,9 +255,23 @@ impl Core {
         ensures cache { FitsCore self.now cache.new }
         ensures memory { AccountsAlikeIn self.now cache.old cache.new }
     {
-        if !self.tells() {
-            return None;
+        if self.tells() {
+            return self.search_half_told(cache, input);
         }
+        None
+    }
+
+    /// The same, where matches are told.
+    fn search_half_told(&self, cache: &mut Cache, input: &Input<'_>) -> Option<HalfMatch>
+        requires fits { FitsCore self.now cache.old }
+        requires spanned { IsSpanned input.now }
+        requires told { tells self.now.which_captures ≡ true }
+        ensures answer { IsAnswer (IsCoreFor self.now) self.now.pre self.now.kind input.now half_match_value result }
+        ensures within { IfSome result (HalfLiesIn input.now) }
+        ensures in_range { IfSome result (λ half. half.pattern < length self.now.nfa.starts) }
+        ensures cache { FitsCore self.now cache.new }
+        ensures memory { AccountsAlikeIn self.now cache.old cache.new }
+    {
         match self.try_search_half(cache, input) {
             Ok(found) => found,
             Err(_) => half_match(self.search_nofail(cache, input, &mut [])),
@@ -453,6 +467,7 @@ impl Core {
         input: &Input<'_>,
     ) -> Result<Option<Match>, NoAnswer>
         requires fits { FitsCore self.now cache.old }
+        requires spanned { IsSpanned input.now }
         ensures answer { (r : Patterns) → Premises (IsCoreFor self.now r) self.now.pre r input.now
             → IfOk result (IsAnswerFor self.now.kind r input.now match_value) }
         ensures within { IfOk result (λ found. IfSome found (LiesIn input.now)) }
@@ -474,6 +489,7 @@ impl Core {
         len: usize,
     ) -> Result<Option<Match>, NoAnswer>
         requires fits { FitsCore self.now cache.old }
+        requires spanned { IsSpanned input.now }
         requires len { (h : Expression) → AreOf h self.now.properties → IsLenOf h len }
         ensures answer { (r : Patterns) → Premises (IsCoreFor self.now r) self.now.pre r input.now
             → IfOk result (IsAnswerFor self.now.kind r input.now match_value) }

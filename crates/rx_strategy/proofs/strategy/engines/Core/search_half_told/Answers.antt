@@ -1,0 +1,19 @@
+use Rattle.rx_search.specs.Answer.{half_of}
+use Rattle.rx_search.specs.Matches.{match_value, half_match_value}
+use Rattle.rx_strategy.specs.Core.{IsCoreFor}
+use Rattle.rx_strategy.proofs.AnswerLemmas.{part-answers, core-answers, core-searched}
+use Rattle.rx_strategy.proofs.DfaLemmas.{dfa-answers}
+use Rattle.rx_strategy.proofs.strategy.engines.Core.search_half_told.Goals as goal
+
+pub returns-in-Ok-clause-answer : goal.returns-in-Ok-clause-answer
+returns-in-Ok-clause-answer c =
+    dfa-answers c.args.self.now c.args.input.now half_match_value c.in-Ok.found c.in-Ok.ensures.answer c.requires.told
+
+pub returns-in-Err-clause-answer : goal.returns-in-Err-clause-answer
+returns-in-Err-clause-answer c =
+    let core = c.args.self.now in
+    let v = c.args.input.now in
+    let slots = c.search_nofail.new.slots in
+    let found = c.search_nofail.result in
+    part-answers (λ r. IsCoreFor core r) core.pre core.kind v match_value half_of found c.half_match.result c.half_match.ensures
+    (core-answers core v core.kind slots found (core-searched core v c.requires.spanned.end c.search_nofail.ensures.answer) c.requires.told)
