@@ -1,9 +1,9 @@
 -- Which DFAs a core has.
-use Rattle.std.specs.Prelude.{◌≡◌, ◌⊎◌, ℕ, ◌^◌, ◌/◌, ◌≤◌, Bool, true, false, ◌&&◌, nat_le, length, Option, Some, None, option_map, IfSome}
+use Rattle.std.specs.Prelude.{◌≡◌, ◌⊎◌, ℕ, ◌^◌, ◌/◌, Bool, true, false, ◌&&◌, nat_le, length, Option, Some, None, option_map}
 use Rattle.rx_search.specs.declared.anchored.MatchKind.{MatchKind}
 use Rattle.rx_search.specs.declared.anchored.MatchKind.TheVariants.{All}
 use Rattle.rx_nfa.specs.Nfa.{Nfa}
-use Rattle.rx_dfa.specs.Dense.{IsDfaOf, IsAbove, size_of}
+use Rattle.rx_dfa.specs.Dense.{IsDfaOf, IsFullTable, IsAbove, size_of}
 use Rattle.rx_dfa.specs.Lazy.{LazyValue, minimum}
 use Rattle.rx_dfa.specs.LazyBuild.{IsLazyOf}
 use Rattle.rx_dfa.specs.Table.{DenseValue}
@@ -36,7 +36,7 @@ table_memory d = size_of (2 ^ d.stride2) (length d.keys)
 -- the full DFA of the NFA and kind, of which the table is within the limit
 pub record IsTableOf (c : Config) (nfa : Nfa) (kind : MatchKind) (d : DenseValue) : Type 0 where
   pub dfa : IsDfaOf nfa kind (byte_classes_of c) d.dfa
-  pub size : IfSome (table_limit c) (λ limit. table_memory d ≤ limit)
+  pub full : IsFullTable (table_limit c) d
 
 -- the full DFA of the NFA and kind has a table above the limit
 abbrev pub HasLargeTable : Config → Nfa → MatchKind → Type 0
