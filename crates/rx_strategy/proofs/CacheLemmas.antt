@@ -1,12 +1,14 @@
 -- Caches that were grown, and what is accounted for them.
-use Rattle.std.proofs.Common.{◌≡◌, ℕ, ◌+◌, ◌-◌, ◌^◌, ◌≤◌, min, refl, sym, ap, ◌∙◌, arith}
+use Rattle.std.proofs.Common.{◌≡◌, ℕ, ◌+◌, ◌-◌, ◌^◌, ◌≤◌, min, refl, sym, ap, ◌∙◌, subst, arith}
 use Rattle.std.specs.Prelude.{Bool, false, Result, Ok, Err, OnErr, Option, Some, None, IfSome, IsSomeAnd}
 use Rattle.rx_dfa.specs.Lazy.{LazyValue}
+use Rattle.rx_dfa.specs.LazyCache.{IsCacheOf}
 use Rattle.rx_engines.specs.Engine.{PikeVMValue, Fits as FitsPikeVM}
 use Rattle.rx_strategy.specs.Cache.{CacheValue, Fits, FitsAsBefore, FitsBacktracker, AccountsAlikeIn}
 use Rattle.rx_strategy.specs.Core.{CoreValue, pikevm_of}
 use Rattle.rx_strategy.specs.Dfas.{lazies_of, AreCachesOf, FitsLazies, HoldNoStates, states_memory, are_lazy}
 use Rattle.rx_strategy.specs.declared.dfas.Dfas.{Dfas}
+use Rattle.rx_strategy.specs.declared.dfas.Dfas.TheVariants.{Lazy}
 use Rattle.rx_strategy.specs.declared.lazies.Lazies.{Lazies}
 use Rattle.rx_strategy.specs.declared.strategy.Strategy.{Strategy}
 use Rattle.rx_strategy.specs.declared.strategy.Strategy.TheVariants.{Core}
@@ -57,3 +59,10 @@ more-lazies old new more dfas given = by_pair (lazies_of dfas) given
     by_pair : (o : Option (LazyValue × LazyValue)) → IfSome o (λ pair. IsSomeAnd (Some old) (AreCachesOf pair)) → IfSome o (λ pair. IsSomeAnd (Some new) (AreCachesOf pair))
     by_pair None given = tt
     by_pair (Some pair) given = more pair given
+
+-- the first one serves, and the second one stays
+pub first-fits : (dfas : Dfas) (f b : LazyValue) (lazies : Option Lazies) (old new : Lazies) → dfas ≡ Lazy f b → lazies ≡ Some old
+    → FitsLazies dfas lazies → IsCacheOf f new.forward → new.backward ≡ old.backward → FitsLazies dfas (Some new)
+first-fits dfas f b lazies old new is there fits first same =
+    let given : FitsLazies (Lazy f b) (Some old) = subst (λ (d : Dfas). FitsLazies d (Some old)) is (subst (λ (o : Option Lazies). FitsLazies dfas o) there fits) in
+    subst (λ (d : Dfas). FitsLazies d (Some new)) (sym is) (first, subst (IsCacheOf b) (sym same) given.1)

@@ -61,16 +61,16 @@ dfas-serve config nfa None dfas are on back = subst (ServeNfa nfa (kind_of confi
 dfas-serve config nfa (Some reverse) Absent are on back = record { paired = tt; are = tt }
 dfas-serve config nfa (Some reverse) (Full f b) are on back =
     let both : Dfa × Dfa = (f.dfa, b.dfa) in
-    let first = are.1.dfa in
-    let second = are.2.dfa in
+    let first = are.1.0.dfa in
+    let second = are.1.1.dfa in
     record {
       paired = pair nfa reverse (kind_of config) on back both first.nfa first.kind second.nfa second.kind;
       are = pair-of nfa reverse (kind_of config) on back both first.nfa first.kind second.nfa second.kind;
     }
 dfas-serve config nfa (Some reverse) (Lazy f b) are on back =
     let both : Dfa × Dfa = (f.dfa, b.dfa) in
-    let first = are.2 in
-    let second = are.3 in
+    let first = are.1.1.0 in
+    let second = are.1.1.1 in
     record {
       paired = pair nfa reverse (kind_of config) on back both first.nfa_is first.kind_is second.nfa_is second.kind_is;
       are = pair-of nfa reverse (kind_of config) on back both first.nfa_is first.kind_is second.nfa_is second.kind_is;

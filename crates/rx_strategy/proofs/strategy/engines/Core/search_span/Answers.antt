@@ -1,11 +1,5 @@
-use Rattle.rx_search.specs.Matches.{match_value}
 use Rattle.rx_strategy.proofs.AnswerLemmas.{core-answers, core-searched}
-use Rattle.rx_strategy.proofs.DfaLemmas.{dfa-answers}
 use Rattle.rx_strategy.proofs.strategy.engines.Core.search_span.Goals as goal
-
-pub returns-in-Ok-clause-answer : goal.returns-in-Ok-clause-answer
-returns-in-Ok-clause-answer c =
-    dfa-answers c.args.self.now c.args.input.now match_value c.in-Ok.found c.in-Ok.ensures.answer c.requires.told
 
 pub returns-in-Err-clause-answer : goal.returns-in-Err-clause-answer
 returns-in-Err-clause-answer c =
