@@ -6,6 +6,7 @@ ghost use Rattle.rx_search.specs.Told.{LiesIn, HalfLiesIn};
 ghost use Rattle.rx_search.specs.Matches.{match_value, half_match_value};
 ghost use Rattle.rx_search.specs.declared.anchored.MatchKind.{MatchKind};
 ghost use Rattle.rx_nfa.specs.Nfa.{IsNfaOf};
+ghost use Rattle.rx_dfa.specs.LazyCache.{IsCacheOf};
 ghost use Rattle.rx_dfa.specs.Search.{IsAnswerFor};
 ghost use Rattle.rx_strategy.specs.Dfas.{ArePair, ArePaired, IsSearchFor, SearchFor, are_lazy, FitsLazies, IsPatternOf, tables_memory};
 
@@ -87,7 +88,7 @@ impl Dfas {
                 let Some(both) = lazies else {
                     unreachable!();
                 };
-                end(forward, &mut both.forward, input)
+                end_in(forward, both, input)
             }
         }
     }
@@ -150,4 +151,22 @@ fn end<F: Automaton>(
         Ok(found) => Ok(found),
         Err(_) => Err(NoAnswer),
     }
+}
+
+/// The same by a lazy DFA, with the cache that is its own.
+fn end_in(
+    forward: &Lazy,
+    both: &mut Lazies,
+    input: &Input<'_>,
+) -> Result<Option<HalfMatch>, NoAnswer>
+    requires fits { IsCacheOf forward.now both.old.forward }
+    requires forward { forward.now.dfa.nfa.reverse ≡ false }
+    ensures answer { (r : Patterns) → Premises (IsNfaOf forward.now.dfa.nfa r) None r input.now
+        → IfOk result (IsAnswerFor forward.now.dfa.kind r input.now half_match_value) }
+    ensures within { IfOk result (λ found. IfSome found (HalfLiesIn input.now)) }
+    ensures in_range { IfOk result (λ found. IfSome found (λ h. h.pattern < length forward.now.dfa.nfa.starts)) }
+    ensures fits { IsCacheOf forward.now both.new.forward }
+    ensures same { both.new.backward ≡ both.old.backward }
+{
+    end(forward, &mut both.forward, input)
 }

@@ -24,7 +24,7 @@ impl Dfas {
         reverse: Option<&NFA>,
     ) -> Result<Dfas, Memory>
         requires { IfSome (option_copied reverse) (λ back. back.accounted ≡ nfa.now.accounted) }
-        ensures { IfOk result (AreDfasBeside config.now nfa.now (option_copied reverse)) }
+        ensures { IfOk result (AreDfasBeside config.now nfa.now (option_copied reverse.entry)) }
     {
         let Some(reverse) = reverse else {
             return Ok(Dfas::Absent);

@@ -12,8 +12,8 @@ returns-in-Some-clause-searched c r of is =
     let v = c.args.input.now in
     let slots = c.search_nofail.new.slots in
     let found = c.search_nofail.result in
-    let part : c.narrowed-part.result ≡ narrowed v c.in-Some.found.now = c.narrowed-part.ensures.value in
-    narrowed-searched core v c.requires.spanned.end r of slots c.requires.whole c.in-Some.found.now (sym c.in-Some.is ∙ is) found
+    let part : c.narrowed-part.result ≡ narrowed v c.in-Some.found = c.narrowed-part.ensures.value in
+    narrowed-searched core v c.requires.spanned.end r of slots c.requires.whole c.in-Some.found (sym c.in-Some.is ∙ is) found
     (subst (λ (w : InputValue). IsSearched core.nfa w slots found) part
     (c.search_nofail.ensures.answer (anchored-begins core.pre core.nfa c.narrowed-part.result (ap (λ (w : InputValue). is_anchored w.anchor) part))))
 
