@@ -34,6 +34,8 @@ PATTERNS = [
     ('(?i) and digits', repeated(b'0123456789', b'(?i)')),
     (r'[\w\w..]', repeated(rb'\w', b'[', b']')),
     (r'[\pL\pN..]', repeated(rb'\pL\pN', b'[', b']')),
+    (r'(?-u)[\w\w..]', repeated(rb'\w', b'(?-u)[', b']')),
+    (r'(?-u)\w', repeated(rb'\w', b'(?-u)')),
     (r'\w', repeated(rb'\w')),
     (r'\x41', repeated(rb'\x41')),
     ('|', repeated(b'|')),

@@ -50,6 +50,10 @@ key_from kind states loops before (Some start) = start_key kind states start loo
 abbrev pub first_key : Dfa → Anchor → (beside : Option ℕ) → Key
 first_key d anchor beside = key_from d.kind d.nfa.states (loops_in anchor) (class_beside d.keeps d.classes d.bytes beside) (start_of d.nfa anchor)
 
+-- it is the key at the first place of a search that is not anchored, whatever stands beside that place
+abbrev pub IsStartKey : Dfa → Key → Type 0
+IsStartKey d k = (before : Option ℕ) × (k ≡ start_key d.kind d.nfa.states d.nfa.start_anchored true before)
+
 -- The key after a byte. Only the loop begins new runs, and those at the common start.
 abbrev pub next_key : Dfa → Key → (byte : ℕ) → Key
 next_key d k byte = step_key d.kind d.nfa.states d.nfa.start_anchored (sight_of d) k byte

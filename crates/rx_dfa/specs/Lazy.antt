@@ -1,11 +1,11 @@
 -- What a lazy DFA is to a contract, and what its cache holds.
-use Rattle.std.specs.Prelude.{◌≡◌, ◌≢◌, ◌⊎◌, ℕ, ◌+◌, ◌*◌, ◌^◌, ◌/◌, ◌%◌, ◌<◌, ◌≤◌, Bool, true, false, List, [], length, Option, Some, None, IfSome, if◌then◌else◌, slice_get, slice_index}
+use Rattle.std.specs.Prelude.{◌≡◌, ◌≢◌, ◌⊎◌, ℕ, ◌+◌, ◌*◌, ◌^◌, ◌/◌, ◌%◌, ◌<◌, ◌≤◌, Bool, true, false, List, length, Option, Some, None, IfSome, if◌then◌else◌, slice_get, slice_index}
 use Rattle.std.specs.List.{sum_by}
 use Rattle.rx_search.specs.ByteClasses.{alphabet_len}
 use Rattle.rx_nfa.specs.Nfa.{Nfa}
 use Rattle.rx_nfa.specs.Ordered.{AreBelow}
 use Rattle.rx_determinize.specs.Key.{Key, is_empty, is_dead, start_key}
-use Rattle.rx_dfa.specs.Automaton.{Dfa, IsSound, AsksForWords, IsReadable, next_key, last_key}
+use Rattle.rx_dfa.specs.Automaton.{Dfa, IsSound, IsReadable, next_key, last_key}
 
 pub record LazyValue : Type 0 where
   pub dfa : Dfa
@@ -18,12 +18,14 @@ pub record LazyValue : Type 0 where
 abbrev pub minimum : Nfa → ℕ
 minimum nfa = 16384 + 16 * nfa.accounted
 
--- it is sound, a row has a cell for each class of bytes and one for the end of input, and a cache has room
+-- It is sound, a row has a cell for each class of bytes and one for the end of input, and a cache has room. No fewer states are
+-- accounted for the NFA than it has, so that there is room for two states of the DFA.
 pub record IsLazySound (l : LazyValue) : Type 0 where
   pub dfa : IsSound l.dfa
   pub wide : alphabet_len l.dfa.classes ≤ l.stride
   pub narrow : l.stride ≤ 512
   pub room : minimum l.dfa.nfa ≤ l.capacity
+  pub few : length l.dfa.nfa.states ≤ l.dfa.nfa.accounted
   pub small : l.capacity < 2 ^ 64
 
 -- the bytes that are accounted for a state: its row, the states of the NFA in it, of which the loop is one, and 16 more
@@ -37,32 +39,36 @@ accounted stride keys = sum_by (state_size stride) keys
 -- Numbers of states. A plain one is the place of its row in the table; that of a state that tells a match is greater by this. No
 -- table has more cells.
 abbrev pub offsets : ℕ
-offsets = 134217728
+offsets = 536870912
 
 -- the dead state, which has no row
 abbrev pub dead_state : ℕ
-dead_state = 268435456
+dead_state = 1073741824
 
 -- what a cell holds whose state was not asked for yet
 abbrev pub unknown : ℕ
-unknown = 402653184
+unknown = 1610612736
 
 -- the number of the state of this row and key
 abbrev pub number_of : (stride row : ℕ) → Key → ℕ
 number_of stride row k = row * stride + (if is_empty k.matches then 0 else offsets)
 
--- The state of this number stands for the key: it is the dead one, or that of a row with this key.
+-- the row of the state of this number, if it has one
+abbrev pub row_of : (stride state : ℕ) → ℕ
+row_of stride state = state % offsets / stride
+
+-- It is the state of a row with this key.
 pub record IsRowOf (stride : ℕ) (keys : List Key) (state : ℕ) (k : Key) : Type 0 where
-  pub row : ℕ
   pub alive : is_dead k ≡ false
-  pub key : slice_get keys row ≡ Some k
-  pub small : row * stride < offsets
-  pub is : state ≡ number_of stride row k
+  pub key : slice_get keys (row_of stride state) ≡ Some k
+  pub small : row_of stride state * stride < offsets
+  pub is : state ≡ number_of stride (row_of stride state) k
 
 pub record IsDeadState (state : ℕ) (k : Key) : Type 0 where
   pub dead : is_dead k ≡ true
   pub is : state ≡ dead_state
 
+-- The state of this number stands for the key: it is the dead one, or that of a row with this key.
 abbrev pub StandsFor : (stride : ℕ) → List Key → (state : ℕ) → Key → Type 0
 StandsFor stride keys state k = IsDeadState state k ⊎ IsRowOf stride keys state k
 
@@ -85,6 +91,7 @@ AreCells l keys cells = (i x : ℕ) (k : Key) → slice_get cells i ≡ Some x �
 pub record IsLive (d : Dfa) (k : Key) : Type 0 where
   pub alive : is_dead k ≡ false
   pub below : AreBelow (length d.nfa.states) k.threads
+  pub few : length k.threads ≤ length d.nfa.states
   pub byte : IfSome k.before (λ b. b < 256)
   pub readable : IsReadable d.nfa k.before
 

@@ -1,5 +1,5 @@
 -- What the cache of a lazy DFA holds.
-use Rattle.std.specs.Prelude.{◌≡◌, ◌≢◌, ℕ, ◌+◌, ◌*◌, ◌<◌, ◌≤◌, List, length, Option, Some, None, slice_get}
+use Rattle.std.specs.Prelude.{◌≡◌, ℕ, ◌+◌, ◌*◌, ◌<◌, ◌≤◌, [], length, Some, None, slice_get}
 use Rattle.rx_determinize.specs.Key.{Key}
 use Rattle.rx_dfa.specs.Scratch.{room_of}
 use Rattle.rx_dfa.specs.Lazy.{LazyValue, StandsFor, begun_key, AreCells, IsLive, state_size, accounted, offsets}
@@ -24,8 +24,15 @@ pub record IsCacheOf (l : LazyValue) (c : LazyCache) : Type 0 where
   pub rows : AreRowsOf l c.rows
   pub room : room_of c.scratch ≡ length l.dfa.nfa.states
 
--- Why it gave up: a state more would not fit, it was cleared at least three times, and fewer than ten steps were taken for each of
--- its states since the last time.
+-- It is as if new: it holds no state and accounts nothing, was never cleared, and no search counts its steps.
+pub record HoldsNone (c : LazyCache) : Type 0 where
+  pub keys : c.rows.keys ≡ []
+  pub size : c.rows.size ≡ 0
+  pub clears : c.rows.clears ≡ 0
+  pub since : c.rows.since ≡ None
+
+-- Why it gave up: a state more would not fit, it was cleared at least three times since it was new or reset, and fewer than ten steps
+-- were taken for each of its states since the last time.
 pub record GaveUpOn (l : LazyValue) (r : Rows) : Type 0 where
   pub key : Key
   pub full : l.capacity < r.size + state_size l.stride key

@@ -1,6 +1,7 @@
 pub mod Automaton
 pub mod Course
 pub mod Search
+pub mod Candidates
 pub mod Beside
 pub mod StateKey
 pub mod Scratch
@@ -13,4 +14,12 @@ pub mod Hash
 pub mod KeySet
 pub mod Lazy
 pub mod LazyCache
+pub mod LazyProps
+pub mod Clearing
 pub mod LazyBuild
+pub mod Dense
+pub mod Found
+pub mod DenseView
+pub mod Numbers
+pub mod Job
+pub mod Work

@@ -1,16 +1,20 @@
 -- What the searches of a DFA answer.
 use Rattle.std.specs.Prelude.{◌≡◌, ◌⊎◌, ℕ, ◌+◌, ◌≤◌, true, false, Option, Some, option_map, is_some, IfSome, IfNone, slice_get}
-use Rattle.rx_model.specs.Search.{anchored_to, is_anchored, is_permitted, Patterns}
+use Rattle.rx_model.specs.Expression.{Expression, AreOrdered}
+use Rattle.rx_model.specs.Search.{anchored_to, is_anchored, is_permitted, Match, Patterns}
 use Rattle.rx_search.specs.Input.{InputValue, next_in}
-use Rattle.rx_search.specs.Matches.{MatchValue, HalfMatchValue, match_value, half_match_value}
+use Rattle.rx_search.specs.Matches.{HalfMatchValue, half_match_value}
+use Rattle.rx_search.specs.Told.{IsMatchWith}
+use Rattle.rx_search.specs.declared.anchored.MatchKind.{MatchKind}
+use Rattle.rx_search.specs.declared.anchored.MatchKind.TheVariants.{All, LeftmostFirst}
 use Rattle.rx_search.specs.declared.match_error.MatchError.{MatchError}
 use Rattle.rx_search.specs.declared.match_error.MatchError.TheVariants.{Quit, GaveUp, HaystackTooLong, UnsupportedAnchored, Memory}
-use Rattle.rx_nfa.specs.Nfa.{Nfa}
+use Rattle.rx_nfa.specs.Nfa.{Nfa, HasReverseRuns}
 use Rattle.rx_nfa.specs.Automaton.{forwards}
 use Rattle.rx_nfa.specs.NextMatch.{start_of, next_match_of, next_match_in}
 use Rattle.rx_determinize.specs.Span.{loops_in}
 use Rattle.rx_determinize.specs.Told.{HasRunTo, MeansUpTo, IsLeastStartWhere}
-use Rattle.rx_dfa.specs.Automaton.{MakesQuit}
+use Rattle.rx_dfa.specs.Automaton.{Dfa, MakesQuit}
 
 -- Why a search has no answer: the byte at `offset`, in the span or directly beside it, is above 7F, and the NFA asks for words
 -- of Unicode; or the automaton's own reasons. It gives up at a place from the span's start to its end.
@@ -93,19 +97,22 @@ BothFail fwd rev v gives_up wants rev_gives_up rev_wants e = SearchFails fwd v g
 abbrev pub part_of : InputValue → HalfMatchValue → InputValue
 part_of v h = record v { end = h.offset; anchor = anchored_to h.pattern; earliest = false }
 
--- Its pattern is sought and means what it covers, which lies in the span, and a match may start there.
-pub record IsMeant (r : Patterns) (v : InputValue) (m : MatchValue) : Type 0 where
-  pub low : v.start ≤ m.start
-  pub high : m.end ≤ v.end
-  pub begins : is_anchored v.anchor ≡ true → m.start ≡ v.start
-  pub permitted : is_permitted r.utf8_empty v.haystack m.start ≡ true
-  pub means : MeansUpTo r v.haystack v.anchor m.end m.pattern m.start
-
--- What a search for a whole match answers.
-pub record IsMatchAnswer (r : Patterns) (v : InputValue) (found : Option MatchValue) : Type 0 where
-  -- the next match, where not just any match will do
-  pub value : v.earliest ≡ false → found ≡ option_map match_value (next_in r v)
+-- What a search for these patterns answers by a DFA of this kind, which is a part of a match: the match itself, or its half.
+pub record IsAnswerFor {T : Type 0} (kind : MatchKind) (r : Patterns) (v : InputValue) (part : Match → T) (found : Option T) : Type 0 where
+  -- that of the next match, under leftmost-first where not just any match will do
+  pub value : kind ≡ LeftmostFirst → v.earliest ≡ false → found ≡ option_map part (next_in r v)
   -- something is found exactly where there is a match
   pub exists : is_some found ≡ is_some (next_in r v)
-  -- and it is one
-  pub is_match : IfSome found (IsMeant r v)
+  -- and it is that of a match
+  pub is_match : IfSome found (λ answer. IsMatchWith r v (λ m. answer ≡ part m))
+
+-- the counts of each repetition are in order
+abbrev pub AreAllOrdered : Patterns → Type 0
+AreAllOrdered r = (p : ℕ) (h : Expression) → slice_get r.expressions p ≡ Some h → AreOrdered h
+
+-- The DFA tells where the matches of these patterns start: it has the runs of the patterns, read backwards, and tells each of them.
+pub record TellsStarts (d : Dfa) (r : Patterns) : Type 0 where
+  pub runs : HasReverseRuns d.nfa r
+  pub kind : d.kind ≡ All
+  pub utf8 : r.utf8_empty ≡ d.nfa.utf8
+  pub ordered : AreAllOrdered r

@@ -1,9 +1,9 @@
 //! DFAs, as the searches see them.
-ghost use Rattle.std.specs.Prelude.{◌≡◌, ◌+◌, ◌-◌, ℕ, [], Bool, false, not, Option, Some, None, IfOk, OnOk, slice_get};
+ghost use Rattle.std.specs.Prelude.{◌≡◌, ◌+◌, ◌-◌, ℕ, [], Bool, true, false, not, Option, Some, None, IfOk, OnOk, slice_get};
 ghost use Rattle.std.specs.Result.{IfErr};
 ghost use Rattle.rx_model.specs.Look.{byte_before, byte_after};
 ghost use Rattle.rx_determinize.specs.Key.{Key, is_empty, is_dead};
-ghost use Rattle.rx_dfa.specs.Automaton.{Dfa, IsSound, first_key, next_key, last_key, IsReadable, StepFails, StartFails};
+ghost use Rattle.rx_dfa.specs.Automaton.{Dfa, IsSound, IsStartKey, first_key, next_key, last_key, IsReadable, StepFails, StartFails};
 
 use crate::step_error::StepError;
 use rx_search::{Input, MatchError, PatternID, StateID, Steps};
@@ -133,6 +133,13 @@ pub trait Automaton {
         requires { (key : Key) × holds self.now cache.now state key }
         ensures live { (key : Key) → holds self.now cache.now state key → result ≡ false → is_dead key ≡ false }
         ensures no_match { (key : Key) → holds self.now cache.now state key → result ≡ false → key.matches ≡ [] };
+
+    /// Whether the state is one at which a search that is not anchored starts, so that the search may begin anew there. The answer may be
+    /// no also where it is such a state.
+    fn is_start(&self, cache: &Self::Cache, state: StateID) -> bool
+        requires fits { fits self.now cache.now }
+        requires held { (key : Key) × holds self.now cache.now state key }
+        ensures { (key : Key) → holds self.now cache.now state key → result ≡ true → IsStartKey (dfa self.now) key };
 
     /// The pattern of this index among those that match there: the preferred one, or under `All` each of them, ascending. None
     /// past the last.

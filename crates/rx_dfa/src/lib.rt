@@ -1,13 +1,14 @@
 //! DFAs: one look into a table for each byte. It stands on rx_determinize.
 //!
 //! `Automaton` is what a search needs of a DFA, and the searches serve any. `determinize` makes the keys for which its states
-//! stand.
+//! stand. `Dense` is the DFA whose whole table is made when it is built.
 #![tactic(auto)]
 
 pub mod alphabet;
 mod automaton;
 mod beside;
 mod close;
+pub mod dense;
 pub mod determinize;
 pub mod lazy;
 pub mod scratch;
@@ -16,7 +17,11 @@ pub mod state_key;
 mod state_list;
 mod step_error;
 mod step_parts;
+mod threads;
 
 pub use automaton::Automaton;
-pub use search::{try_search, try_search_half_fwd, try_search_half_rev};
+pub use dense::Dense;
+pub use search::{
+    try_search, try_search_half_fwd, try_search_half_fwd_by, try_search_half_rev, try_search_start,
+};
 pub use step_error::StepError;

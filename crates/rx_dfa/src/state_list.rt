@@ -28,6 +28,13 @@ impl StateList {
         })
     }
 
+    /// Below which number its states are.
+    pub fn room(&self) -> usize
+        ensures { result ≡ length self.now.marks.items }
+    {
+        self.marks.len()
+    }
+
     /// Empties the list.
     pub fn clear(&mut self)
         ensures empty { self.new.items.items ≡ [] }

@@ -1,18 +1,20 @@
 //! What the engines search, and what both do with an NFA at a place of it.
-ghost use Rattle.std.specs.Prelude.{◌≡◌, ◌≤◌, ◌∷◌, [], length, Some, None, IfSome, IfNone, if◌then◌else◌};
+ghost use Rattle.std.specs.Prelude.{◌≡◌, ◌<◌, ◌≤◌, ◌∷◌, [], length, Some, None, IfSome, IfNone, if◌then◌else◌};
 ghost use Rattle.rx_model.specs.Look.{holds};
+ghost use Rattle.rx_model.specs.Matches.{IsSought};
 ghost use Rattle.rx_search.specs.Input.{IsSpanned};
 ghost use Rattle.rx_search.specs.Look.{kind_of};
 ghost use Rattle.rx_nfa.specs.Nfa.{IsInRange};
 ghost use Rattle.rx_nfa.specs.Automaton.{byte_at, target_of};
 ghost use Rattle.rx_engines.specs.Engine.{IsSearchOf, HasNoMatch};
 ghost use Rattle.rx_engines.specs.Candidates.{IsNext};
+ghost use Rattle.rx_engines.specs.Overlap.{of_pattern};
 ghost use Rattle.rx_engines.specs.Search.{is_offered, may_begin};
 
 use crate::candidates::Candidates;
-use crate::starts::{latest_start, start_state};
+use crate::starts::{is_sought, latest_start, start_state};
 use rx_nfa::{NFA, State, Transition, matches_byte};
-use rx_search::{Input, Look, LookMatcher, StateID};
+use rx_search::{Input, Look, LookMatcher, PatternID, StateID};
 
 // One of them serves the PikeVM and the backtracker (DECISIONS: both engines have one `Search`).
 /// What is searched for a match, and where.
@@ -64,6 +66,46 @@ impl<'a> Search<'a> {
             candidates,
             // There is one place to look at (DECISIONS: a search that is anchored asks no candidates).
             free: !input.get_anchored().is_anchored(),
+            first: input.start(),
+            last: latest_start(input),
+            end: input.end(),
+            slots: nfa.slot_len(),
+        })
+    }
+
+    /// The search of the input's span for a match of this pattern alone. There is none where the input asks for another
+    /// pattern, or its span has no place left.
+    pub fn of_pattern(
+        nfa: &'a NFA,
+        candidates: &'a Candidates,
+        input: &'a Input<'a>,
+        pattern: PatternID,
+    ) -> Option<Search<'a>>
+        requires { pattern < length nfa.now.starts }
+        ensures some { IfSome result (IsSearchOf (of_pattern nfa.now pattern) input.now) }
+        ensures sought { IfSome result (λ _. IsSought input.now.anchor pattern) }
+        ensures known { IfSome result (λ s. s.candidates.now ≡ candidates.now) }
+        ensures none { IfNone result (IsSought input.now.anchor pattern → HasNoMatch nfa.now input.now) }
+        ensures spanned { IsSpanned input.now }
+        ensures in_range { IsInRange nfa.now }
+    {
+        let starts = nfa.starts();
+        let text = input.haystack();
+        let anchored = input.get_anchored();
+        if !is_sought(anchored, pattern) {
+            return None;
+        }
+        if input.is_done() {
+            return None;
+        }
+        Some(Search {
+            states: nfa.states(),
+            start: starts[pattern.as_usize()],
+            text,
+            matcher: *nfa.look_matcher(),
+            utf8: nfa.is_utf8(),
+            candidates,
+            free: !anchored.is_anchored(),
             first: input.start(),
             last: latest_start(input),
             end: input.end(),

@@ -1,5 +1,6 @@
 //! Where a search may start.
-ghost use Rattle.std.specs.Prelude.{◌≡◌, ◌≤◌, length};
+ghost use Rattle.std.specs.Prelude.{◌≡◌, ◌≤◌, ◌↔◌, length, IsTrue};
+ghost use Rattle.rx_model.specs.Matches.{IsSought};
 ghost use Rattle.rx_model.specs.Search.{is_permitted};
 ghost use Rattle.rx_search.specs.Anchored.{anchor_of};
 ghost use Rattle.rx_nfa.specs.Nfa.{IsInRange};
@@ -7,7 +8,7 @@ ghost use Rattle.rx_nfa.specs.NextMatch.{start_of};
 ghost use Rattle.rx_engines.specs.Engine.{last_start};
 
 use rx_nfa::NFA;
-use rx_search::{Anchored, Input, StateID, is_character_boundary};
+use rx_search::{Anchored, Input, PatternID, StateID, is_character_boundary};
 
 /// Where the runs start, if the pattern that is asked for is there.
 pub fn start_state(nfa: &NFA, anchored: Anchored) -> Option<StateID>
@@ -39,4 +40,14 @@ pub fn is_allowed(text: &[u8], utf8: bool, place: usize) -> bool
     ensures { result ≡ is_permitted utf8 text.now place }
 {
     !utf8 || is_character_boundary(text, place)
+}
+
+/// The search looks for the pattern.
+pub fn is_sought(anchored: Anchored, pattern: PatternID) -> bool
+    ensures { IsTrue result ↔ IsSought (anchor_of anchored) pattern }
+{
+    match anchored {
+        Anchored::No | Anchored::Yes => true,
+        Anchored::Pattern(only) => only.as_usize() == pattern.as_usize(),
+    }
 }

@@ -41,6 +41,9 @@ pub enum ClassItem {
     },
 }
 
+/// So many items at most are moved into a list of their number.
+const FEW: usize = 64;
+
 /// The items of a class in brackets, which a contract sees as their list. They lie apart, so that an atom stays small.
 #[derive(Drop)]
 pub struct ClassItems {
@@ -60,8 +63,7 @@ impl ClassItems {
     pub(crate) fn new(alloc: Global, items: Vec<ClassItem>) -> Result<ClassItems, AllocError>
         ensures { IfOk result (λ c. c ≡ items.items) }
     {
-        let mut items = items;
-        items.shrink_to_fit();
+        let items = fitted(alloc, items)?;
         Ok(ClassItems {
             items: Box::new(alloc, items)?,
         })
@@ -73,4 +75,19 @@ impl ClassItems {
     {
         self.items.as_slice()
     }
+}
+
+/// The same items, in a list of their number.
+fn fitted(alloc: Global, items: Vec<ClassItem>) -> Result<Vec<ClassItem>, AllocError>
+    ensures { IfOk result (λ v. v.items ≡ items.items) }
+{
+    let mut items = items;
+    if FEW < items.len() {
+        items.shrink_to_fit();
+        return Ok(items);
+    }
+    // Moved, and not shrunk (DECISIONS: a few items of a class are moved into a list of their number).
+    let mut own = Vec::with_capacity(alloc, items.len())?;
+    own.append(&mut items)?;
+    Ok(own)
 }

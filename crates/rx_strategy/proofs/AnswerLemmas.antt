@@ -1,12 +1,14 @@
 -- What the searches of a strategy answer.
-use Rattle.std.proofs.Common.{◌≡◌, ℕ, ◌≤◌, List, length, refl, sym, ap, ◌∙◌, subst, arith}
+use Rattle.std.proofs.Common.{◌≡◌, ℕ, ◌≤◌, List, length, refl, sym, ap, ◌∙◌, subst, arith, true≢false}
 use Rattle.std.specs.Prelude.{Bool, true, false, Option, Some, None, option_map, is_some, IfSome, IfNone}
 use Rattle.rx_model.specs.Search.{Patterns, WhichCaptures, all, implicit, none, Match, told_of}
 use Rattle.rx_model.proofs.lemmas.runs.RunLemmas.{by_test}
-use Rattle.rx_model.proofs.lemmas.matches.WithinLemmas.{next-later}
+use Rattle.rx_model.proofs.lemmas.matches.WithinLemmas.{next-later, match-next}
 use Rattle.rx_search.specs.Input.{InputValue, next_in}
 use Rattle.rx_search.specs.Matches.{MatchValue, match_value}
+use Rattle.rx_search.specs.PatternSet.{has}
 use Rattle.rx_search.specs.Promise.{Premises}
+use Rattle.rx_engines.specs.Sets.{MatchesIn, GainsMatching, AddsMatching, IsFilledFor, IsFilled}
 use Rattle.rx_search.specs.Told.{tells, told_in, IsMatchWith, HasSlots}
 use Rattle.rx_search.specs.declared.anchored.MatchKind.{MatchKind}
 use Rattle.rx_nfa.specs.Nfa.{Nfa, IsNfaOf}
@@ -197,3 +199,29 @@ module _ (c : CoreValue) (v : InputValue) where
       → TellsWhether (λ r. IsCoreFor c r) c.pre v there
   core-whether there is within r p =
       is (core-begins within r p) ∙ ap is_some (agree c.nfa v within r p.is_for.nfa) ∙ is_some-map (told_of r.which_captures) (next_in r v)
+
+  -- what is added to a set, of the NFA's patterns and so of the core's
+  module _ (old new : List Bool) (within : v.end ≤ length v.haystack) where
+    pub core-adds : ((r : Patterns) → IsNfaOf c.nfa r → BeginsEachRun c.pre c.nfa v → GainsMatching r v old new)
+        → AddsMatching (λ r. IsCoreFor c r) c.pre v old new
+    core-adds gains r p = gains r p.is_for.nfa (core-begins within r p)
+
+    pub core-fills : (kind : MatchKind) → ((r : Patterns) → IsNfaOf c.nfa r → BeginsEachRun c.pre c.nfa v → IsFilledFor r v old new kind)
+        → IsFilled (λ r. IsCoreFor c r) c.pre v old new kind
+    core-fills kind fills r p = fills r p.is_for.nfa (core-begins within r p)
+
+-- where there is no match a set stays as it is
+module _ (IsFor : Patterns → Type 0) (needles : Option (List (List ℕ))) (v : InputValue) (set : List Bool)
+    (gone : (r : Patterns) → IsFor r → next_in r v ≡ None) where
+  no-match : (r : Patterns) → IsFor r → (p : ℕ) → MatchesIn r v p → ⊥
+  no-match r of p m = match-next r v.haystack v.anchor v.end v.start m.0 m.1 (gone r of)
+
+  pub none-adds : AddsMatching IsFor needles v set set
+  none-adds r p k out there = absurd (true≢false (sym there ∙ out))
+
+  pub none-fills : (kind : MatchKind) → IsFilled IsFor needles v set set kind
+  none-fills kind r p = record {
+    all = λ all whole k m. absurd (no-match r p.is_for k m);
+    next = λ leftmost whole. subst (λ (o : Option Match). IfSome o (λ m. has set m.trace.pattern ≡ true)) (sym (gone r p.is_for)) tt;
+    some = λ there. absurd (true≢false (sym there ∙ ap is_some (gone r p.is_for)));
+  }

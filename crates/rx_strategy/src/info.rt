@@ -32,6 +32,13 @@ impl RegexInfo {
         })
     }
 
+    /// The properties of the patterns together.
+    pub(crate) fn properties(&self) -> &Properties
+        ensures { result.now ≡ self.now.properties }
+    {
+        &self.properties
+    }
+
     /// Whether it is known that no pattern has a match in the input's span.
     pub(crate) fn is_impossible(&self, input: &Input<'_>) -> bool
         ensures value { (hs : List Expression) → AreOf (alternation (expressions hs)) self.now.properties → result ≡ is_impossible hs input.now }

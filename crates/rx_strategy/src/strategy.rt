@@ -1,9 +1,10 @@
 //! How the searches of a regex are answered.
-ghost use Rattle.std.specs.Prelude.{◌≡◌, ◌<◌, List, length, None, replicate, true, false, MatchOption, IfOk, IfErr, OnOk, OnErr, IsOk, IfNone, IfSome, IsTrue};
+ghost use Rattle.std.specs.Prelude.{◌≡◌, ◌<◌, ◌≤◌, List, length, None, replicate, true, false, MatchOption, IfOk, IfErr, OnOk, OnErr, IsOk, IfNone, IfSome, IsTrue};
 ghost use Rattle.rx_model.specs.Expression.{Expression, alternation};
 ghost use Rattle.rx_model.specs.Search.{Patterns};
 ghost use Rattle.rx_search.specs.Input.{IsSpanned, next_in};
 ghost use Rattle.rx_search.specs.Matches.{match_value, half_match_value};
+ghost use Rattle.rx_engines.specs.Sets.{KeepsMembers, AddsMatching, IsFilled};
 ghost use Rattle.rx_search.specs.Told.{AreWithin, LiesIn, HalfLiesIn};
 ghost use Rattle.rx_search.specs.declared.anchored.MatchKind.TheVariants.{All};
 ghost use Rattle.rx_hir.specs.Normal.{expressions};
@@ -24,9 +25,9 @@ use crate::info::RegexInfo;
 use crate::prefilter::choose;
 pub use engines::Core;
 use rx_engines::empty;
-use rx_hir::Hir;
+use rx_hir::{Hir, Properties};
 use rx_nfa::{BuildError, Compiler, NFA};
-use rx_search::{GroupInfo, HalfMatch, Input, Match, Memory, NonMaxUsize};
+use rx_search::{GroupInfo, HalfMatch, Input, Match, Memory, NonMaxUsize, PatternSet};
 use std::alloc::Global;
 
 // Its clauses name patterns and no NFA (DECISIONS: a strategy is an enum).
@@ -142,6 +143,43 @@ impl Strategy {
         }
         match self {
             Strategy::Core(core) => Ok(core.is_match(cache, input)),
+        }
+    }
+
+    /// Adds patterns that have a match in the input's span to the set: all of them under `All`, and that of the next match
+    /// under leftmost-first. With `earliest` the set has a pattern with a match afterwards if there is one.
+    ///
+    /// `Memory`: there was no memory for the search. What was added before stays in the set.
+    pub fn which_overlapping_matches(
+        &self,
+        cache: &mut Cache,
+        input: &Input<'_>,
+        set: &mut PatternSet,
+    ) -> Result<(), Memory>
+        requires fits { Fits self.now cache.old }
+        requires room { pattern_count self.now ≤ length set.old }
+        ensures kept { KeepsMembers set.old set.new }
+        ensures matching { AddsMatching (IsFor self.now) (prefilter_in self.now) input.now set.old set.new }
+        ensures filled { OnOk result (IsFilled (IsFor self.now) (prefilter_in self.now) input.now set.old set.new (kind_in self.now)) }
+        ensures cache { Fits self.now cache.new }
+        ensures memory { AccountsAlike self.now cache.old cache.new }
+        ensures sure { IsKnownImpossible (properties_of self.now) input.now → IsOk result }
+    {
+        if self.is_impossible(input) {
+            return Ok(());
+        }
+        match self {
+            Strategy::Core(core) => core.which_overlapping_matches(cache, input, set),
+        }
+        Ok(())
+    }
+
+    /// The properties of the patterns together.
+    pub fn properties(&self) -> &Properties
+        ensures { result.now ≡ properties_of self.now }
+    {
+        match self {
+            Strategy::Core(core) => core.properties(),
         }
     }
 

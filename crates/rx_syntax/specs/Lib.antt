@@ -5,6 +5,7 @@ pub mod Assertions
 pub mod Classes
 pub mod Named
 pub mod Partial
+pub mod PartialBytes
 pub mod Translation
 pub mod ItemViews
 pub mod Pattern

@@ -1,18 +1,19 @@
 //! Classes of bytes, which are meant where the flag `u` is off.
-ghost use Rattle.std.specs.Prelude.{◌≡◌, not, ◌&&◌, [], ◌∷◌, IfOk, Some, None, if◌then◌else◌};
+ghost use Rattle.std.specs.Prelude.{◌≡◌, ◌&&◌, IfOk, Some, None, if◌then◌else◌};
 ghost use Rattle.rx_class.specs.Bytes.{byte_folded};
-ghost use Rattle.rx_class.specs.Ranges.{next_byte, fewest, is_ascii};
-ghost use Rattle.rx_sets.specs.Ascii.{ascii_ranges};
-ghost use Rattle.rx_sets.specs.Perl.{ascii_kind};
 ghost use Rattle.rx_syntax.specs.Answers.{Answers, AnswersAs};
-ghost use Rattle.rx_syntax.specs.Classes.{bytes_under, is_byte, item_bytes, all_bytes, byte_class, hex_byte};
+ghost use Rattle.rx_syntax.specs.Classes.{bytes_under, is_byte, item_bytes, byte_class, hex_byte};
+ghost use Rattle.rx_syntax.specs.Named.{bytes_of, bytes_within};
+ghost use Rattle.rx_syntax.specs.PartialBytes.{ranges_of_bytes, byte_class_of_items};
 
 use crate::characters::byte;
+use crate::known::KnownSets;
+use crate::named::ByteKey;
+use crate::partial_bytes::{AddedBytes, PartialBytes};
 use rx_class::{Class, ClassBytes};
 use rx_hir::Hir;
 use rx_reader::{ClassCharacter, ClassItem, Config, Flags, ParseError, Piece, SyntaxErrorKind};
 use rx_search::Memory;
-use rx_sets::ClassAsciiKind;
 use std::alloc::Global;
 
 /// What a class holds under the flags at it: with `i` the ASCII letters in either case, and then those of the
@@ -25,33 +26,40 @@ pub(crate) fn bytes_under(
 ) -> Result<ClassBytes, Memory>
     ensures { IfOk result (λ class. class ≡ bytes_under flags negated members) }
 {
-    let all = in_either_case(flags, members)?;
+    within(alloc, flags.case_insensitive, negated, members)
+}
+
+/// With the ASCII letters in either case, where that is asked for, and then those that are left, where it is negated.
+fn within(
+    alloc: Global,
+    folded: bool,
+    negated: bool,
+    members: ClassBytes,
+) -> Result<ClassBytes, Memory>
+    ensures { IfOk result (λ class. class ≡ bytes_within folded negated members) }
+{
+    let all = in_either_case(folded, members)?;
     if negated {
         return all.complement(alloc);
     }
     Ok(all)
 }
 
-fn in_either_case(flags: Flags, members: ClassBytes) -> Result<ClassBytes, Memory>
-    ensures { IfOk result (λ class. class ≡ (if flags.case_insensitive then byte_folded members else members)) }
+fn in_either_case(folded: bool, members: ClassBytes) -> Result<ClassBytes, Memory>
+    ensures { IfOk result (λ class. class ≡ (if folded then byte_folded members else members)) }
 {
-    if flags.case_insensitive {
+    if folded {
         return members.case_fold_simple();
     }
     Ok(members)
 }
 
-/// What the ASCII characters of a set hold.
-pub(crate) fn ascii_bytes(
-    alloc: Global,
-    flags: Flags,
-    kind: ClassAsciiKind,
-    negated: bool,
-) -> Result<ClassBytes, Memory>
-    ensures { IfOk result (λ class. class ≡ bytes_under flags negated (fewest next_byte (ascii_ranges kind))) }
+/// The bytes of a named set.
+pub(crate) fn bytes_of(alloc: Global, key: ByteKey) -> Result<ClassBytes, Memory>
+    ensures { IfOk result (λ class. class ≡ bytes_of key) }
 {
-    let members = ClassBytes::new(alloc, kind.ranges())?;
-    bytes_under(alloc, flags, negated, members)
+    let members = ClassBytes::new(alloc, key.kind.ranges())?;
+    within(alloc, key.folded, key.negated, members)
 }
 
 /// The byte that a character of a class stands for, if it stands for one: an ASCII character, or a byte that is
@@ -78,47 +86,42 @@ fn range_of(low: ClassCharacter, high: ClassCharacter) -> Option<(u8, u8)>
     }
 }
 
-/// The bytes of an item of the class that is the piece.
-fn item_bytes(
-    alloc: Global,
-    flags: Flags,
-    piece: Piece,
-    item: &ClassItem,
-) -> Result<Vec<(u8, u8)>, ParseError>
-    ensures { AnswersAs (λ v. v.items) result (item_bytes flags piece item.now) }
+/// What an item adds to the class that is the piece.
+fn added_by(flags: Flags, piece: Piece, item: &ClassItem) -> Result<AddedBytes, ParseError>
+    ensures { AnswersAs ranges_of_bytes result (item_bytes flags piece item.now) }
 {
     match item {
         ClassItem::Range { low, high } => match range_of(*low, *high) {
-            Some(range) => Ok(Vec::from_slice(alloc, &[range])?),
+            Some((first, last)) => Ok(AddedBytes::Range(first, last)),
             None => Err(piece.refuse(SyntaxErrorKind::UnicodeOff)),
         },
         ClassItem::Perl { kind, negated } => {
-            let class = ascii_bytes(alloc, flags, kind.ascii(), *negated)?;
-            Ok(Vec::from_slice(alloc, class.ranges())?)
+            let set = kind.ascii();
+            Ok(AddedBytes::Set(ByteKey::new(flags, set, *negated)))
         }
         ClassItem::Posix { kind, negated } => {
-            let class = ascii_bytes(alloc, flags, *kind, *negated)?;
-            Ok(Vec::from_slice(alloc, class.ranges())?)
+            Ok(AddedBytes::Set(ByteKey::new(flags, *kind, *negated)))
         }
         ClassItem::Property { .. } => Err(piece.refuse(SyntaxErrorKind::UnicodeOff)),
     }
 }
 
-/// The ranges of the items of the class that is the piece.
-pub(crate) fn all_bytes(
+/// The class of the items between the brackets that are the piece.
+pub(crate) fn gather_bytes(
     alloc: Global,
     flags: Flags,
     piece: Piece,
     items: &[ClassItem],
-) -> Result<Vec<(u8, u8)>, ParseError>
-    ensures { AnswersAs (λ v. v.items) result (all_bytes flags piece items.now) }
+    known: &mut KnownSets,
+) -> Result<ClassBytes, ParseError>
+    ensures { Answers result (byte_class_of_items flags piece items.now) }
 {
-    let mut ranges = Vec::new(alloc);
+    let mut class = PartialBytes::new(alloc);
     for item in items {
-        let mut more = item_bytes(alloc, flags, piece, item)?;
-        ranges.append(&mut more)?;
+        let added = added_by(flags, piece, item)?;
+        class = class.with(added, known)?;
     }
-    Ok(ranges)
+    Ok(class.build()?)
 }
 
 /// The class of these bytes. Where matches are to be UTF-8, no byte above 7F may be among them.

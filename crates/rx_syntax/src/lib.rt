@@ -14,6 +14,7 @@ mod laws;
 pub mod literal;
 mod named;
 mod partial;
+mod partial_bytes;
 mod pattern;
 mod patterns;
 mod scalars;

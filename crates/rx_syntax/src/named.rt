@@ -1,6 +1,6 @@
 //! The sets of characters that a pattern may name.
 ghost use Rattle.std.specs.Prelude.{◌≡◌, IfOk, IsTrue};
-ghost use Rattle.rx_syntax.specs.Named.{members_of, scalars_of, either_case, under, key_of};
+ghost use Rattle.rx_syntax.specs.Named.{members_of, scalars_of, either_case, under, key_of, byte_key_of};
 
 use crate::scalars::class_of_bytes;
 use rx_class::ClassUnicode;
@@ -25,6 +25,16 @@ pub(crate) enum NamedSet {
 pub(crate) struct SetKey {
     pub(crate) set: NamedSet,
     /// With the characters of either case.
+    pub(crate) folded: bool,
+    /// What is left without these.
+    pub(crate) negated: bool,
+}
+
+/// A named set of bytes as it stands in a pattern.
+#[derive(Clone, Copy)]
+pub(crate) struct ByteKey {
+    pub(crate) kind: ClassAsciiKind,
+    /// With the letters of either case.
     pub(crate) folded: bool,
     /// What is left without these.
     pub(crate) negated: bool,
@@ -98,6 +108,32 @@ impl SetKey {
     {
         SetKey {
             set,
+            folded: flags.case_insensitive,
+            negated,
+        }
+    }
+}
+
+impl ByteKey {
+    /// Both are the same.
+    pub(crate) fn is(&self, other: ByteKey) -> bool
+        ensures { IsTrue result → self.now ≡ other }
+    {
+        if !same_flag(self.folded, other.folded) {
+            return false;
+        }
+        if !same_flag(self.negated, other.negated) {
+            return false;
+        }
+        same_posix(self.kind, other.kind)
+    }
+
+    /// The set under the flags at it.
+    pub(crate) fn new(flags: Flags, kind: ClassAsciiKind, negated: bool) -> ByteKey
+        ensures { result ≡ byte_key_of flags kind negated }
+    {
+        ByteKey {
+            kind,
             folded: flags.case_insensitive,
             negated,
         }

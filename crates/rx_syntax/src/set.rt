@@ -6,9 +6,9 @@ ghost use Rattle.rx_syntax.specs.Classes.{scalar_class, perl_class, property_cla
 ghost use Rattle.rx_syntax.specs.Named.{scalars_of};
 ghost use Rattle.rx_syntax.specs.Translation.{atom_of};
 
-use crate::bytes::{all_bytes, ascii_bytes, byte_class, bytes_under};
+use crate::bytes::{byte_class, bytes_under, gather_bytes};
 use crate::known::KnownSets;
-use crate::named::{NamedSet, SetKey};
+use crate::named::{ByteKey, NamedSet, SetKey};
 use crate::scalars::{class_of_bytes, gather, named_scalars, property_key, scalars_under};
 use rx_class::{Class, ClassBytes, ClassUnicode};
 use rx_hir::Hir;
@@ -63,7 +63,7 @@ pub(crate) fn perl(
     ensures { Answers result (perl_class config.now flags piece kind negated) }
 {
     if !flags.unicode {
-        let members = ascii_bytes(alloc, flags, kind.ascii(), negated)?;
+        let members = known.bytes(ByteKey::new(flags, kind.ascii(), negated))?;
         return byte_class(alloc, config, piece, members);
     }
     let members = known.scalars(SetKey::new(flags, NamedSet::Perl(kind), negated))?;
@@ -105,8 +105,7 @@ pub(crate) fn bracketed(
         let class = scalars_under(alloc, flags, negated, members)?;
         return Ok(scalar_class(alloc, class)?);
     }
-    let ranges = all_bytes(alloc, flags, piece, items)?;
-    let members = ClassBytes::new(alloc, &ranges)?;
+    let members = gather_bytes(alloc, flags, piece, items, known)?;
     let class = bytes_under(alloc, flags, negated, members)?;
     byte_class(alloc, config, piece, class)
 }

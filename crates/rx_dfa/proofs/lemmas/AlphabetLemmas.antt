@@ -1,6 +1,6 @@
 -- The classes of a DFA serve its NFA.
-use Rattle.std.proofs.Common.{◌≡◌, ℕ, ◌+◌, ◌<◌, ◌≤◌, zero, suc, add-one, ⊎_elim, List, length, refl, sym, ◌∙◌, ap, subst, arith, true≢false}
-use Rattle.std.specs.Prelude.{Bool, true, false, not, IsTrue, ◌↔◌, EachIndex, slice_index}
+use Rattle.std.proofs.Common.{◌≡◌, ℕ, ◌<◌, ◌≤◌, zero, suc, add-one, ⊎_elim, List, length, refl, sym, ◌∙◌, ap, subst, arith, true≢false}
+use Rattle.std.specs.Prelude.{Bool, true, false, not, IsTrue, EachIndex, slice_index}
 use Rattle.rx_model.specs.Look.{Look}
 use Rattle.rx_model.proofs.lemmas.runs.RunLemmas.{by_test}
 use Rattle.rx_search.specs.ByteClasses.{AreClasses, AreRepresentatives}

@@ -96,7 +96,7 @@ module _ (d : Dfa) (around : Surroundings) (may : ℕ → Bool) (beside : ℕ �
       ∙ (λ j. progress (e - (at + 1)) (at + 1) (sym (next-key at le) j) (sym is j))
 
   -- what is readable so far, and the byte here
-  readable-next : (at : ℕ) → ((j : ℕ) → start ≤ j → j ≤ at → IsReadable d.nfa (beside j)) → IsReadable d.nfa (beside (at + 1))
+  pub readable-next : (at : ℕ) → ((j : ℕ) → start ≤ j → j ≤ at → IsReadable d.nfa (beside j)) → IsReadable d.nfa (beside (at + 1))
       → (j : ℕ) → start ≤ j → j ≤ at + 1 → IsReadable d.nfa (beside j)
   readable-next at before here j low high =
       by_test (nat_lt at j)

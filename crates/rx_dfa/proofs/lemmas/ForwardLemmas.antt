@@ -276,6 +276,63 @@ half-some : (o : Option Match) → is_some (option_map half_match_value o) ≡ i
 half-some None = refl
 half-some (Some m) = refl
 
+-- the premises of a later part of the span
+abbrev later-premises : (m : Nfa) (v : InputValue) (from : ℕ) (r : Patterns) → Premises (IsNfaOf m r) None r v
+    → Premises (IsNfaOf m r) None r (from_place from v)
+later-premises m v from r p = record { is_for = p.is_for; begins = p.begins; utf8 = p.utf8 }
+
+-- where there is no match, nothing is found
+pub nothing-found : (nfa : Nfa) (v : InputValue) → option_map half_match_value (next_match_in nfa v) ≡ None → IsForwardAnswer nfa v None
+nothing-found nfa v none = record {
+  value = λ whole. sym none;
+  exists = sym (sym (half-some (next_match_in nfa v)) ∙ ap is_some none);
+  is_match = tt;
+}
+
+-- One search from a place on, where the next match from there has the half of the next match.
+module _ (d : Dfa) (sound : IsSound d) (v : InputValue) (spanned : v.end ≤ length v.haystack) (from : ℕ) (low : v.start ≤ from)
+    (begins : is_anchored v.anchor ≡ true → from ≡ v.start) (x : Progress) (m : IsMetForwards d (from_place from v) x) (leftmost : d.kind ≡ LeftmostFirst)
+    (r : Patterns) (p : Premises (IsNfaOf d.nfa r) None r v)
+    (next : option_map half_match_value (next_match_in d.nfa v)
+    ≡ option_map half_match_value (next_match_of d.nfa d.nfa.utf8 v.haystack v.anchor v.end from)) where
+  -- something was found
+  pub found-from : (h : HalfMatchValue) → x.best ≡ Some h → IsForwardAnswer d.nfa v (Some h)
+  found-from h is =
+      let once = found-once d sound leftmost (from_place from v) spanned x m r (later-premises d.nfa v from r p) h is in
+      let some : is_some (next_match_of d.nfa d.nfa.utf8 v.haystack v.anchor m.stop from) ≡ true =
+      sym (half-some (next_match_of d.nfa d.nfa.utf8 v.haystack v.anchor m.stop from)) ∙ ap is_some once in
+      let there : is_some (next_match_in d.nfa v) ≡ true =
+      sym (half-some (next_match_in d.nfa v)) ∙ ap is_some next
+      ∙ half-some (next_match_of d.nfa d.nfa.utf8 v.haystack v.anchor v.end from)
+      ∙ is-later d.nfa v.haystack v.anchor r p.is_for m.stop v.end from m.high spanned some in
+      record {
+        value = λ whole.
+            elim m.whole [
+              | inl same ↦ sym
+                  (next ∙ ap (λ e. option_map half_match_value (next_match_of d.nfa d.nfa.utf8 v.haystack v.anchor e from))
+                  (sym same) ∙ once)
+              | inr early ↦ absurd (true≢false (sym early.0 ∙ whole))
+            ];
+        exists = sym there;
+        is_match = record { from = from; to = m.stop; low = low; high = m.high; begins = begins; is_next = once };
+      }
+
+  -- nothing was found, and the search may start nowhere else
+  pub anchored-from : x.best ≡ None → is_anchored v.anchor ≡ true → IsForwardAnswer d.nfa v None
+  anchored-from none on =
+      nothing-found d.nfa v (next ∙ ends-anchored d sound leftmost (from_place from v) spanned x m r (later-premises d.nfa v from r p) none on)
+
+  -- nothing was found, nor refused
+  pub unrefused-from : x.best ≡ None → x.refused ≡ None → IsForwardAnswer d.nfa v None
+  unrefused-from none is =
+      nothing-found d.nfa v (next ∙ ends-unrefused d sound leftmost (from_place from v) spanned x m r (later-premises d.nfa v from r p) none is)
+
+  -- the search begins again
+  pub next-from : x.best ≡ None → is_anchored v.anchor ≡ false → (place : ℕ) → x.refused ≡ Some place
+      → option_map half_match_value (next_match_in d.nfa v)
+      ≡ option_map half_match_value (next_match_of d.nfa d.nfa.utf8 v.haystack v.anchor v.end (place + 1))
+  next-from none off place is = next ∙ goes-on d sound leftmost (from_place from v) spanned x m r (later-premises d.nfa v from r p) none off place is
+
 -- The searches from one place on stand for the whole search.
 pub record Stands (d : Dfa) (v : InputValue) (from : ℕ) : Type 0 where
   pub low : v.start ≤ from
@@ -284,27 +341,12 @@ pub record Stands (d : Dfa) (v : InputValue) (from : ℕ) : Type 0 where
       → option_map half_match_value (next_match_in d.nfa v) ≡ option_map half_match_value (next_match_of d.nfa d.nfa.utf8 v.haystack v.anchor v.end from)
   pub over : d.kind ≡ All → IsOver d v from
 
--- the premises of a later part of the span
-abbrev later-premises : (m : Nfa) (v : InputValue) (from : ℕ) (r : Patterns) → Premises (IsNfaOf m r) None r v
-    → Premises (IsNfaOf m r) None r (from_place from v)
-later-premises m v from r p = record { is_for = p.is_for; begins = p.begins; utf8 = p.utf8 }
-
--- where no match starts from that place on, there is none
-nothing : (d : Dfa) (v : InputValue) (from : ℕ) → Stands d v from → d.kind ≡ LeftmostFirst → (r : Patterns) → Premises (IsNfaOf d.nfa r) None r v
-    → option_map half_match_value (next_match_of d.nfa d.nfa.utf8 v.haystack v.anchor v.end from) ≡ None → IsForwardAnswer d.nfa v None
-nothing d v from stands leftmost r p none =
-    let is : option_map half_match_value (next_match_in d.nfa v) ≡ None = stands.next leftmost r p ∙ none in
-    record {
-      value = λ whole. sym is;
-      exists = sym (sym (half-some (next_match_in d.nfa v)) ∙ ap is_some is);
-      is_match = tt;
-    }
-
 -- the search is past the span's end
 pub nothing-past : (d : Dfa) (v : InputValue) (from : ℕ) → Stands d v from → v.end < from
     → (r : Patterns) → Premises (IsNfaOf d.nfa r) None r v → d.kind ≡ LeftmostFirst → IsForwardAnswer d.nfa v None
 nothing-past d v from stands past r p leftmost =
-    nothing d v from stands leftmost r p (ap (option_map half_match_value) (past-none d.nfa d.nfa.utf8 v.haystack v.anchor v.end from past))
+    nothing-found d.nfa v
+    (stands.next leftmost r p ∙ ap (option_map half_match_value) (past-none d.nfa d.nfa.utf8 v.haystack v.anchor v.end from past))
 
 pub stands-first : (d : Dfa) (v : InputValue) → Stands d v v.start
 stands-first d v = record { low = omega arith; begins = λ on. refl; next = λ leftmost r p. refl; over = λ every. inl refl }
@@ -315,38 +357,19 @@ module _ (d : Dfa) (sound : IsSound d) (v : InputValue) (spanned : v.end ≤ len
   pub answer-found : (h : HalfMatchValue) → x.best ≡ Some h → (r : Patterns) → Premises (IsNfaOf d.nfa r) None r v → d.kind ≡ LeftmostFirst
       → IsForwardAnswer d.nfa v (Some h)
   answer-found h is r p leftmost =
-      let low = m.low in
-      let high = m.high in
-      let once = found-once d sound leftmost (from_place from v) spanned x m r (later-premises d.nfa v from r p) h is in
-      let some : is_some (next_match_of d.nfa d.nfa.utf8 v.haystack v.anchor m.stop from) ≡ true =
-      sym (half-some (next_match_of d.nfa d.nfa.utf8 v.haystack v.anchor m.stop from)) ∙ ap is_some once in
-      let there : is_some (next_match_in d.nfa v) ≡ true =
-      sym (half-some (next_match_in d.nfa v)) ∙ ap is_some (stands.next leftmost r p)
-      ∙ half-some (next_match_of d.nfa d.nfa.utf8 v.haystack v.anchor v.end from)
-      ∙ is-later d.nfa v.haystack v.anchor r p.is_for m.stop v.end from m.high spanned some in
-      record {
-        value = λ whole.
-            elim m.whole [
-              | inl same ↦ sym
-                  (stands.next leftmost r p ∙ ap (λ e. option_map half_match_value (next_match_of d.nfa d.nfa.utf8 v.haystack v.anchor e from))
-                  (sym same) ∙ once)
-              | inr early ↦ absurd (true≢false (sym early.0 ∙ whole))
-            ];
-        exists = sym there;
-        is_match = record { from = from; to = m.stop; low = stands.low; high = m.high; begins = stands.begins; is_next = once };
-      }
+      found-from d sound v spanned from stands.low stands.begins x m leftmost r p (stands.next leftmost r p) h is
 
   -- nothing was found, and the search may start nowhere else
   pub answer-anchored : x.best ≡ None → is_anchored v.anchor ≡ true → (r : Patterns) → Premises (IsNfaOf d.nfa r) None r v → d.kind ≡ LeftmostFirst
       → IsForwardAnswer d.nfa v None
   answer-anchored none on r p leftmost =
-      nothing d v from stands leftmost r p (ends-anchored d sound leftmost (from_place from v) spanned x m r (later-premises d.nfa v from r p) none on)
+      anchored-from d sound v spanned from stands.low stands.begins x m leftmost r p (stands.next leftmost r p) none on
 
   -- nothing was found, nor refused
   pub answer-unrefused : x.best ≡ None → x.refused ≡ None → (r : Patterns) → Premises (IsNfaOf d.nfa r) None r v → d.kind ≡ LeftmostFirst
       → IsForwardAnswer d.nfa v None
   answer-unrefused none is r p leftmost =
-      nothing d v from stands leftmost r p (ends-unrefused d sound leftmost (from_place from v) spanned x m r (later-premises d.nfa v from r p) none is)
+      unrefused-from d sound v spanned from stands.low stands.begins x m leftmost r p (stands.next leftmost r p) none is
 
   -- the search begins again
   pub stands-next : x.best ≡ None → is_anchored v.anchor ≡ false → (place : ℕ) → x.refused ≡ Some place → Stands d v (place + 1)
@@ -357,8 +380,8 @@ module _ (d : Dfa) (sound : IsSound d) (v : InputValue) (spanned : v.end ≤ len
       record {
         low = omega arith;
         begins = λ on. absurd (true≢false (sym on ∙ off));
-        next = λ leftmost r p. stands.next leftmost r p
-            ∙ goes-on d sound leftmost (from_place from v) spanned x m r (later-premises d.nfa v from r p) none off place is;
+        next = λ leftmost r p.
+            next-from d sound v spanned from stands.low stands.begins x m leftmost r p (stands.next leftmost r p) none off place is;
         over = λ every. inr (none-of-missing d sound every v spanned from stands.low stands.begins (stands.over every) x m none);
       }
 
@@ -390,7 +413,8 @@ module _ (d : Dfa) (sound : IsSound d) (forward : d.nfa.reverse ≡ false) (v : 
   tells-ahead e low high readable =
       tells-forwards d sound forward v.haystack bytes opening e v.start (first-before d v.anchor (byte_before v.haystack v.start)) low (omega arith) readable
 
-  read-here : (at byte : ℕ) → at < v.end → byte ≡ slice_index v.haystack at → IsReadable d.nfa (Some byte) → IsReadable d.nfa (byte_before v.haystack (at + 1))
+  pub read-here : (at byte : ℕ) → at < v.end → byte ≡ slice_index v.haystack at → IsReadable d.nfa (Some byte)
+      → IsReadable d.nfa (byte_before v.haystack (at + 1))
   read-here at byte lt is readable =
       subst (IsReadable d.nfa) (ap Some is ∙ sym (slice_get-get_or v.haystack at 0 (omega arith)) ∙ sym (before-next v.haystack at)) readable
 

@@ -1,21 +1,23 @@
 -- The states of a cache by their numbers.
-use Rattle.std.proofs.Common.{◌≡◌, ◌≢◌, ℕ, ◌+◌, ◌*◌, ◌%◌, ◌/◌, ◌≤◌, ◌<◌, inl, inr, List, [], ◌∷◌, length, refl, sym, ◌∙◌, ap, subst, arith, true≢false}
+use Rattle.std.proofs.Common.{◌≡◌, ◌≢◌, ℕ, ◌+◌, ◌*◌, ◌%◌, ◌/◌, ◌≤◌, ◌<◌, inl, inr, List, [], length, refl, sym, ◌∙◌, ap, subst, arith, true≢false}
 use Rattle.std.proofs.lemmas.Nat.{div-mul-add, mod-mul-add}
-use Rattle.std.proofs.lemmas.Bool.Decides.{Decides-eqb}
+use Rattle.std.proofs.lemmas.Option.{slice_get_within}
+use Rattle.std.proofs.lemmas.Bool.Decides.{Decides-eqb, nat_tests}
 use Rattle.rx_model.proofs.lemmas.runs.RunLemmas.{by_test}
-use Rattle.std.specs.Prelude.{Bool, true, false, not, ◌==◌, Option, Some, None, IfSome, slice_get, slice_index, if◌then◌else◌}
+use Rattle.std.specs.Prelude.{Bool, true, false, not, ◌==◌, nat_lt, Option, Some, None, IfSome, slice_get, slice_index, if◌then◌else◌}
 use Rattle.rx_search.specs.declared.anchored.MatchKind.{MatchKind}
 use Rattle.rx_search.specs.declared.anchored.MatchKind.TheVariants.{All, LeftmostFirst}
 use Rattle.rx_nfa.specs.Ordered.{threads_from}
 use Rattle.rx_nfa.specs.declared.state.State.{State}
-use Rattle.rx_determinize.specs.Key.{Key, is_empty, is_dead, step_key, end_key, matching}
+use Rattle.rx_determinize.specs.Key.{Key, is_empty, is_dead, end_key, matching}
 use Rattle.rx_determinize.proofs.lemmas.DeadLemmas.{no-thread, threads-nil}
-use Rattle.rx_dfa.specs.Automaton.{Dfa, IsReadable, sight_of, next_key, last_key}
-use Rattle.rx_dfa.specs.Lazy.{LazyValue, IsLazySound, StandsFor, IsRowOf, IsNext, number_of, offsets, dead_state, unknown, key_after, column_of}
+use Rattle.rx_dfa.specs.Automaton.{Dfa, IsReadable, sight_of}
+use Rattle.rx_dfa.specs.Lazy.{LazyValue, IsLazySound, StandsFor, IsRowOf, IsNext, row_of, number_of, offsets, dead_state, unknown, key_after, column_of}
 use Rattle.rx_dfa.specs.LazyCache.{AreRowsOf}
 use Rattle.rx_dfa.specs.declared.lazy.rows.Rows.{Rows}
 use Rattle.rx_dfa.proofs.lemmas.CourseLemmas.{dead-threads, dead-loops, dead-matches}
 use Rattle.rx_dfa.proofs.lemmas.LazyLemmas.{next-told}
+use Rattle.rx_dfa.proofs.lemmas.RowsLemmas.{wide, inside, row-small}
 
 -- Dead keys.
 
@@ -51,10 +53,11 @@ plain-number place false lt = let no : ⊥ = omega arith in absurd no
 pub plain-empty : (stride : ℕ) (keys : List Key) (state : ℕ) (k : Key) → StandsFor stride keys state k → state < offsets
     → (is_empty k.matches ≡ true) × (is_dead k ≡ false)
 plain-empty stride keys state k (inl d) low = let is : state ≡ dead_state = d.is in let no : ⊥ = omega arith in absurd no
-plain-empty stride keys state k (inr x) low = (plain-number (x.row * stride) (is_empty k.matches) (subst (λ n. n < offsets) x.is low), x.alive)
+plain-empty stride keys state k (inr x) low = (plain-number (row_of stride state * stride) (is_empty k.matches) (subst (λ n. n < offsets) x.is low), x.alive)
 
 pub row-not_dead : (stride : ℕ) (keys : List Key) (state : ℕ) (k : Key) → IsRowOf stride keys state k → state < dead_state
-row-not_dead stride keys state k x = subst (λ n. n < dead_state) (sym x.is) (number-below (x.row * stride) (is_empty k.matches) x.small)
+row-not_dead stride keys state k x =
+    subst (λ n. n < dead_state) (sym x.is) (number-below (row_of stride state * stride) (is_empty k.matches) x.small)
 
 pub held-dead : (stride : ℕ) (keys : List Key) (state : ℕ) (k : Key) → StandsFor stride keys state k → state ≡ dead_state → is_dead k ≡ true
 held-dead stride keys state k (inl d) same = d.dead
@@ -82,23 +85,31 @@ pub tells-match : (stride : ℕ) (keys : List Key) (state : ℕ) (k : Key) → S
 tells-match stride keys state k (inl d) high =
     ap not ((Decides-eqb state dead_state).1 d.is) ∙ sym (ap (λ ms. not (is_empty ms)) (dead-matches k d.dead))
 tells-match stride keys state k (inr x) high =
-    let some : is_empty k.matches ≡ false = high-number (x.row * stride) (is_empty k.matches) x.small (subst (λ n. offsets ≤ n) x.is high) in
+    let some : is_empty k.matches ≡ false = high-number (row_of stride state * stride) (is_empty k.matches) x.small (subst (λ n. offsets ≤ n) x.is high) in
     ap not (tells-dead stride keys state k (inr x) ∙ x.alive ∙ sym some)
 
-row-place : (stride : ℕ) (keys : List Key) (state : ℕ) (k : Key) → (x : IsRowOf stride keys state k) → state % offsets ≡ x.row * stride
-row-place stride keys state k x = ap (λ n. n % offsets) x.is ∙ mod-number (x.row * stride) (is_empty k.matches) x.small
-
 -- the row of a state, where it is not dead
-pub held-row : (stride : ℕ) → 0 < stride → (keys : List Key) (state : ℕ) (k : Key) → StandsFor stride keys state k → state ≢ dead_state
-    → (slice_get keys (state % offsets / stride) ≡ Some k) × (is_dead k ≡ false) × (state % offsets ≡ state % offsets / stride * stride)
-held-row stride some keys state k (inl d) apart = absurd (apart d.is)
-held-row stride some keys state k (inr x) apart =
-    let place = row-place stride keys state k x in
-    let row : state % offsets / stride ≡ x.row = ap (λ n. n / stride) place ∙ whole x.row in
-    (ap (slice_get keys) row ∙ x.key, x.alive, place ∙ ap (λ n. n * stride) (sym row))
+pub held-row : (stride : ℕ) (keys : List Key) (state : ℕ) (k : Key) → StandsFor stride keys state k → state ≢ dead_state
+    → (slice_get keys (row_of stride state) ≡ Some k) × (is_dead k ≡ false) × (state % offsets ≡ row_of stride state * stride)
+held-row stride keys state k (inl d) apart = absurd (apart d.is)
+held-row stride keys state k (inr x) apart =
+    (x.key, x.alive, ap (λ n. n % offsets) x.is ∙ mod-number (row_of stride state * stride) (is_empty k.matches) x.small)
+
+-- the state of a row
+pub stands-row : (stride : ℕ) → 0 < stride → (keys : List Key) (row : ℕ) (k : Key) → is_dead k ≡ false → slice_get keys row ≡ Some k
+    → row * stride < offsets → (state : ℕ) → state ≡ number_of stride row k → StandsFor stride keys state k
+stands-row stride some keys row k alive key small state is =
+    let place : state % offsets ≡ row * stride = ap (λ n. n % offsets) is ∙ mod-number (row * stride) (is_empty k.matches) small in
+    let same : row ≡ row_of stride state = sym (ap (λ n. n / stride) place ∙ whole) in
+    inr (record {
+      alive = alive;
+      key = subst (λ n. slice_get keys n ≡ Some k) same key;
+      small = subst (λ n. n * stride < offsets) same small;
+      is = is ∙ ap (λ n. number_of stride n k) same;
+    })
   where
-    whole : (row : ℕ) → row * stride / stride ≡ row
-    whole row = let same : row * stride ≡ row * stride + 0 = omega arith in ap (λ n. n / stride) same ∙ div-mul-add row stride 0 some
+    whole : row * stride / stride ≡ row
+    whole = let plus : row * stride ≡ row * stride + 0 = omega arith in ap (λ n. n / stride) plus ∙ div-mul-add row stride 0 some
 
 pub column-within : (l : LazyValue) → IsLazySound l → (byte : Option ℕ) → IfSome byte (λ b. b < 256) → column_of l.dfa byte < l.stride
 column-within l sound None small = let each : length l.dfa.bytes ≡ slice_index l.dfa.classes 255 + 1 = sound.dfa.serve.stand.each in omega (arith, sound.wide)
@@ -118,3 +129,43 @@ cell-told l r h row k key byte small narrow next got known =
     next-told l r.keys k byte small next
     (subst (λ c. IsNext l r.keys k c next) in_column
     (h.cells (row * l.stride + column) next k got known (ap (slice_get r.keys) on_row ∙ key)))
+
+-- Tests of numbers.
+
+pub alive-apart : (state : ℕ) → (state == dead_state) ≡ false → state ≢ dead_state
+alive-apart state h e = true≢false (sym ((Decides-eqb state dead_state).1 e) ∙ h)
+
+pub plain-apart : (state : ℕ) → nat_lt state offsets ≡ true → (state ≢ dead_state) × (state ≡ state % offsets)
+plain-apart state h = let low : state < offsets = grind (arith, nat_tests) in (λ e. let no : ⊥ = omega arith in no, omega arith)
+
+pub plain-known : (state : ℕ) → nat_lt state offsets ≡ true → state ≢ unknown
+plain-known state h e = let low : state < offsets = grind (arith, nat_tests) in let no : ⊥ = omega arith in no
+
+pub asked-known : (state : ℕ) → not (state == unknown) ≡ true → state ≢ unknown
+asked-known state h e = true≢false (sym h ∙ ap not ((Decides-eqb state unknown).1 e))
+
+-- The cell of a state, which is not dead, in the column of a byte or of the end of input. Where it is known, it tells the state after it.
+pub cell-of : (l : LazyValue) → IsLazySound l → (r : Rows) → AreRowsOf l r → (state : ℕ) (k : Key) → StandsFor l.stride r.keys state k
+    → state ≢ dead_state → (byte : Option ℕ) → IfSome byte (λ b. b < 256) → (column : ℕ) → column ≡ column_of l.dfa byte → column < l.stride
+    → (place : ℕ) → place ≡ state % offsets → (place + column < length r.cells.items)
+    × ((known : ℕ) → slice_get r.cells.items (place + column) ≡ Some known → known ≢ unknown
+    → StandsFor l.stride r.keys known (key_after l.dfa k byte) × IsReadable l.dfa.nfa byte)
+cell-of l sound r h state k stands apart byte small column at narrow place is =
+    let held = held-row l.stride r.keys state k stands apart in
+    let row = row_of l.stride state in
+    let below : row < length r.keys = slice_get_within r.keys row k held.0 in
+    let begins : place ≡ row * l.stride = is ∙ held.2 in
+    let index : place + column ≡ row * l.stride + column_of l.dfa byte = (λ j. begins j + at j) in (
+      subst (λ n. n + column < length r.cells.items) (sym begins) (inside (length r.keys) l.stride row column (length r.cells.items) h.len below narrow),
+      λ known got asked. cell-told l r h row k held.0 byte small (subst (λ n. n < l.stride) at narrow) known (ap (slice_get r.cells.items) (sym index) ∙ got)
+          asked,
+    )
+
+-- a state whose row is there still stands for its key
+pub stands-still : (l : LazyValue) → IsLazySound l → (r : Rows) → AreRowsOf l r → (row : ℕ) (k : Key) → slice_get r.keys row ≡ Some k
+    → (number : ℕ) × StandsFor l.stride r.keys number k
+stands-still l sound r h row k got = (
+  number_of l.stride row k,
+  stands-row l.stride (wide l sound) r.keys row k (h.keys row k got).alive got (row-small l sound r h row (slice_get_within r.keys row k got))
+      (number_of l.stride row k) refl,
+)

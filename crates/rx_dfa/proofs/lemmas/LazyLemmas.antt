@@ -1,26 +1,27 @@
 -- What the cells of a lazy DFA hold.
-use Rattle.std.proofs.Common.{◌≡◌, ◌≢◌, ℕ, zero, suc, ◌+◌, ◌-◌, ◌*◌, ◌%◌, ◌/◌, ◌≤◌, ◌<◌, ◌⊎◌, inl, inr, List, [], ◌∷◌, ◌++◌, length, set, get_or, replicate, refl, sym, ◌∙◌, ap, subst, arith, true≢false}
+use Rattle.std.proofs.Common.{◌≡◌, ◌≢◌, ℕ, zero, suc, ◌+◌, ◌-◌, ◌*◌, ◌%◌, ◌/◌, ◌≤◌, ◌<◌, inl, inr, List, [], ◌∷◌, ◌++◌, length, set, get_or, replicate, refl, sym, ◌∙◌, ap, subst, arith, true≢false}
 use Rattle.std.proofs.lemmas.Bool.{cases_lt, cases_eq}
-use Rattle.std.proofs.lemmas.List.{length_push, length-append, length-replicate, get_or-append_right}
-use Rattle.std.proofs.lemmas.Nat.{mod_below, div_below, div-mul-add, mod-mul-add}
-use Rattle.std.proofs.lemmas.Option.{same_Some, none-some, slice_get_within, get_or_from_slice_get}
-use Rattle.std.specs.Prelude.{Bool, true, false, Option, Some, None, All, IfSome, IsTrue, slice_get, slice_index, nat_lt, if◌then◌else◌}
+use Rattle.std.proofs.lemmas.List.{get_or-append_right}
+use Rattle.std.proofs.lemmas.Nat.{div_below, div-mul-add, mod-mul-add}
+use Rattle.std.proofs.lemmas.Option.{same_Some, get_or_from_slice_get}
+use Rattle.std.specs.Prelude.{Bool, true, false, Option, Some, None, All, IfSome, IsTrue, slice_get, slice_index, nat_lt}
 use Rattle.std.proofs.lemmas.Bool.Decides.{nat_tests}
 use Rattle.rx_model.proofs.lemmas.runs.RunLemmas.{by_test}
 use Rattle.rx_model.specs.Look as model
 use Rattle.rx_model.specs.Look.{start_text, end_text, start_lf, end_lf, start_crlf, end_crlf, word_ascii, word_ascii_negate, word_unicode, word_unicode_negate, word_start_ascii, word_end_ascii, word_start_unicode, word_end_unicode, word_start_half_ascii, word_end_half_ascii, word_start_half_unicode, word_end_half_unicode}
-use Rattle.rx_model.specs.Beside.{is_unicode_word, AreAlike, IsAsciiOrNone}
-use Rattle.rx_search.specs.LookSet.{has}
+use Rattle.rx_model.specs.Beside.{is_unicode_word, AreAlike}
 use Rattle.rx_nfa.specs.ByteClasses.{AreOfOneClass}
 use Rattle.rx_nfa.specs.Nfa.{Nfa}
 use Rattle.rx_nfa.proofs.lemmas.classes.ApartLemmas.{one-class-looks}
-use Rattle.rx_determinize.specs.Key.{Key, is_empty, is_dead, step_key, end_key, start_key}
+use Rattle.rx_determinize.specs.Key.{Key, is_dead, step_key, end_key, start_key}
 use Rattle.rx_determinize.specs.Sight.{class_kept, class_beside, stands_for}
+use Rattle.rx_determinize.proofs.lemmas.OnceLemmas.{start-once, step-once}
 use Rattle.rx_determinize.proofs.lemmas.SightLemmas.{class-steps}
 use Rattle.rx_dfa.specs.Alphabet.{reads}
-use Rattle.rx_dfa.specs.Automaton.{Dfa, IsSound, AsksForWords, MakesQuit, IsReadable, next_key, last_key}
-use Rattle.rx_dfa.specs.Lazy.{LazyValue, IsLazySound, StandsFor, IsRowOf, IsDeadState, IsNext, AreCells, IsLive, number_of, offsets, dead_state, unknown, key_after, column_of}
-use Rattle.rx_dfa.proofs.lemmas.ChainLemmas.{got-push, got-old, got-new}
+use Rattle.rx_dfa.specs.Automaton.{Dfa, IsSound, AsksForWords, MakesQuit, IsReadable, sight_of, next_key, last_key}
+use Rattle.rx_dfa.specs.Lazy.{LazyValue, StandsFor, row_of, IsNext, AreCells, IsLive, unknown, key_after, column_of}
+use Rattle.rx_dfa.proofs.lemmas.ChainLemmas.{got-old}
+use Rattle.rx_dfa.proofs.lemmas.FitLemmas.{once-within}
 
 -- Lists.
 
@@ -56,7 +57,8 @@ replicated cells n u i x past got =
 
 pub stands-grow : (stride : ℕ) (keys more : List Key) (state : ℕ) (k : Key) → StandsFor stride keys state k → StandsFor stride (keys ++ more) state k
 stands-grow stride keys more state k (inl d) = inl d
-stands-grow stride keys more state k (inr r) = inr (record { row = r.row; alive = r.alive; key = got-old keys more k r.row r.key; small = r.small; is = r.is })
+stands-grow stride keys more state k (inr r) =
+    inr (record { alive = r.alive; key = got-old keys more k (row_of stride state) r.key; small = r.small; is = r.is })
 
 next-grows : (l : LazyValue) (keys more : List Key) (k : Key) (column state : ℕ) → IsNext l keys k column state → IsNext l (keys ++ more) k column state
 next-grows l keys more k column state n = record {
@@ -160,19 +162,32 @@ unfolding step_key
 live-next d sound k byte lt readable alive below = record {
   alive = alive;
   below = below;
+  few = once-within (length d.nfa.states) (next_key d k byte).threads (step-once d.kind d.nfa.states d.nfa.start_anchored (sight_of d) k byte) below;
   byte = kept-small d sound byte lt;
   readable = kept-readable d sound byte lt readable;
 }
 
 pub live-last : (d : Dfa) (k : Key) → is_dead (last_key d k) ≡ false → All (λ q. q < length d.nfa.states) (last_key d k).threads → IsLive d (last_key d k)
 unfolding end_key
-live-last d k alive below = record { alive = alive; below = below; byte = tt; readable = λ kind asked word. tt }
+live-last d k alive below = record {
+  alive = alive;
+  below = below;
+  few = omega arith;
+  byte = tt;
+  readable = λ kind asked word. tt;
+}
 
 pub live-start : (d : Dfa) (start : ℕ) (loops : Bool) (before : Option ℕ) → is_dead (start_key d.kind d.nfa.states start loops before) ≡ false
     → All (λ q. q < length d.nfa.states) (start_key d.kind d.nfa.states start loops before).threads → IfSome before (λ b. b < 256) → IsReadable d.nfa before
     → IsLive d (start_key d.kind d.nfa.states start loops before)
 unfolding start_key
-live-start d start loops before alive below byte readable = record { alive = alive; below = below; byte = byte; readable = readable }
+live-start d start loops before alive below byte readable = record {
+  alive = alive;
+  below = below;
+  few = once-within (length d.nfa.states) (start_key d.kind d.nfa.states start loops before).threads (start-once d.kind d.nfa.states start loops before) below;
+  byte = byte;
+  readable = readable;
+}
 
 -- what a row may note of its column
 pub next-of : (l : LazyValue) → IsSound l.dfa → (keys : List Key) (k : Key) → IsLive l.dfa k → (byte : Option ℕ) → IfSome byte (λ b. b < 256)

@@ -31,12 +31,18 @@ impl Lazy {
         ensures ok { IfOk result (IsLazyOf nfa kind byte_classes capacity) }
         ensures err { IfErr result (LazyFails nfa capacity) }
     {
-        let minimum = LEAST + 16 * nfa.accounted_states();
+        let accounted = nfa.accounted_states();
+        let minimum = LEAST + 16 * accounted;
         if capacity < minimum {
             return Err(BuildError::CacheTooSmall {
                 minimum,
                 given: capacity,
             });
+        }
+        // No NFA has more states than are accounted for it. But an NFA does not promise that, and a cleared cache must have room for
+        // two states.
+        if nfa.states_len() > accounted {
+            return Err(BuildError::Memory);
         }
         let alphabet = Alphabet::new(alloc, &nfa, byte_classes)?;
         let stride = stride_of(&alphabet.classes);

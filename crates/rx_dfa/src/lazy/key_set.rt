@@ -51,6 +51,13 @@ impl KeySet {
         })
     }
 
+    /// In how many buckets they are found.
+    pub fn buckets(&self) -> usize
+        ensures { 0 < result }
+    {
+        self.heads.len()
+    }
+
     /// How many keys there are.
     pub fn len(&self) -> usize
         ensures { result ≡ length self.now }

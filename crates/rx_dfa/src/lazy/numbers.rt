@@ -6,7 +6,7 @@ ghost use Rattle.rx_dfa.specs.Lazy.{offsets, dead_state, unknown};
 use rx_search::StateID;
 
 /// No table has more cells: what is greater has its kind in the bits from here on.
-pub const OFFSETS: usize = 1 << 27;
+pub const OFFSETS: usize = 1 << 29;
 
 /// The dead state.
 const DEAD: usize = 2 * OFFSETS;

@@ -1,6 +1,7 @@
 //! Room for a state more.
-ghost use Rattle.std.specs.Prelude.{◌≡◌, ◌+◌, ◌*◌, ◌<◌, ◌≤◌, ℕ, Some, [], ◌∷◌, true, length, IfOk, OnOk, slice_get};
+ghost use Rattle.std.specs.Prelude.{◌≡◌, ◌+◌, ◌*◌, ◌<◌, ◌≤◌, ℕ, Some, None, [], ◌∷◌, true, length, IfOk, OnOk, OnErr, slice_get};
 ghost use Rattle.std.specs.Result.{IfErr};
+ghost use Rattle.rx_dfa.specs.Clearing.{IsGrown, IsMade, AreCounted, CountsWhereGaveUp, counts_of, one_more};
 ghost use Rattle.rx_dfa.specs.StateKey.{key_of};
 ghost use Rattle.rx_dfa.specs.Lazy.{LazyValue, IsLive, IsNew, StandsFor, state_size};
 ghost use Rattle.rx_dfa.specs.LazyCache.{AreRowsOf, RoomFails};
@@ -22,6 +23,7 @@ impl Rows {
     fn clear(&mut self, taken: Option<u64>)
         ensures rows { (l : LazyValue) → AreRowsOf l self.new }
         ensures empty { self.new.keys ≡ [] }
+        ensures counts { counts_of self.new ≡ (one_more self.old.clears, taken) }
     {
         self.empty();
         self.clears = self.clears.saturating_add(1);
@@ -33,12 +35,17 @@ impl Rows {
     fn is_to_give_up(&mut self, taken: u64) -> bool
         ensures cleared { result ≡ true → 3 ≤ self.new.clears }
         ensures few { result ≡ true → self.new.calls < 10 * length self.new.keys }
+        ensures counted { result ≡ true → AreCounted self.old self.new taken }
         ensures same { self.new ≡ record self.old { calls = self.new.calls } }
     {
         let Some(since) = self.since else {
             return false;
         };
-        self.calls = taken.saturating_sub(since);
+        // Fewer than there were: another count of steps.
+        if taken < since {
+            return false;
+        }
+        self.calls = taken - since;
         if self.clears < CLEARS {
             return false;
         }
@@ -60,10 +67,14 @@ impl Rows {
         requires rows { AreRowsOf lazy.now self.old }
         requires from { slice_get self.old.keys row ≡ Some (key_of from.now) }
         requires into { IsNew self.old.keys (key_of into.now) }
+        requires live { IsLive lazy.now.dfa (key_of into.now) }
         ensures rows { AreRowsOf lazy.now self.new }
         ensures from { IfOk result (λ kept. slice_get self.new.keys kept ≡ Some (key_of from.now)) }
         ensures into { OnOk result (IsNew self.new.keys (key_of into.now)) }
         ensures room { OnOk result (self.new.size + state_size lazy.now.stride (key_of into.now) ≤ lazy.now.capacity) }
+        ensures made { OnOk result (IsMade lazy.now (key_of from.now) (key_of into.now) taken self.old self.new) }
+        ensures grown { OnErr result (IsGrown lazy.now (key_of from.now ∷ []) (key_of into.now) self.old.since (Some taken) self.old self.new) }
+        ensures counted { IfErr result (CountsWhereGaveUp self.old self.new taken) }
         ensures err { IfErr result (RoomFails lazy.now self.new) }
     {
         if self.has_room(lazy, into) {
@@ -73,30 +84,10 @@ impl Rows {
             return Err(StepError::GaveUp);
         }
         self.clear(Some(taken));
-        if self.add_first(lazy, from, into).is_err() {
+        if self.add(lazy, from).is_err() {
             return Err(StepError::Memory);
         }
         Ok(0)
-    }
-
-    /// The state of the key `from` alone, with room for that of the key `into`. An NFA has no more states than are accounted for it,
-    /// so that there is room for both; but it does not say so.
-    fn add_first(&mut self, lazy: &Lazy, from: &StateKey, into: &StateKey) -> Result<(), Memory>
-        requires rows { AreRowsOf lazy.now self.old }
-        requires none { self.old.keys ≡ [] }
-        requires live { IsLive lazy.now.dfa (key_of from.now) }
-        ensures rows { AreRowsOf lazy.now self.new }
-        ensures from { OnOk result (self.new.keys ≡ key_of from.now ∷ []) }
-        ensures room { OnOk result (self.new.size + state_size lazy.now.stride (key_of into.now) ≤ lazy.now.capacity) }
-    {
-        if !self.has_room(lazy, from) {
-            return Err(Memory);
-        }
-        self.add(lazy, from)?;
-        if !self.has_room(lazy, into) {
-            return Err(Memory);
-        }
-        Ok(())
     }
 
     /// A state of the key, which is not there, for a search that begins.
@@ -106,14 +97,12 @@ impl Rows {
         requires new { IsNew self.old.keys (key_of key.now) }
         ensures rows { AreRowsOf lazy.now self.new }
         ensures state { IfOk result (λ state. StandsFor lazy.now.stride self.new.keys state (key_of key.now)) }
+        ensures grown { IsGrown lazy.now [] (key_of key.now) self.old.since None self.old self.new }
     {
         if self.has_room(lazy, key) {
             return self.add(lazy, key);
         }
         self.clear(None);
-        if !self.has_room(lazy, key) {
-            return Err(Memory);
-        }
         self.add(lazy, key)
     }
 }

@@ -2,7 +2,8 @@
 ghost use Rattle.std.specs.Prelude.{◌≡◌, ◌+◌, ◌*◌, ◌<◌, ◌≤◌, ℕ, Some, None, [], ◌∷◌, ◌++◌, length, replicate, IfOk, OnOk, OnErr, IfSome, IsTrue, ◌↔◌, MatchOption, slice_get, false};
 ghost use Rattle.rx_determinize.specs.Key.{Key, is_empty, is_dead};
 ghost use Rattle.rx_dfa.specs.StateKey.{key_of};
-ghost use Rattle.rx_dfa.specs.Lazy.{LazyValue, unknown, StandsFor, IsNext, IsLive, IsNew, state_size};
+ghost use Rattle.rx_dfa.specs.Clearing.{counts_of};
+ghost use Rattle.rx_dfa.specs.Lazy.{LazyValue, IsLazySound, unknown, StandsFor, IsNext, IsLive, IsNew, state_size};
 ghost use Rattle.rx_dfa.specs.LazyCache.{AreRowsOf};
 
 use crate::lazy::key_set::KeySet;
@@ -59,6 +60,8 @@ impl Rows {
         requires { 0 < buckets }
         ensures rows { IfOk result (λ r. (l : LazyValue) → AreRowsOf l r) }
         ensures empty { IfOk result (λ r. r.keys ≡ []) }
+        ensures size { IfOk result (λ r. r.size ≡ 0) }
+        ensures counts { IfOk result (λ r. counts_of r ≡ (0, None)) }
     {
         Ok(Rows {
             cells: Vec::new(alloc),
@@ -75,7 +78,8 @@ impl Rows {
     pub fn empty(&mut self)
         ensures rows { (l : LazyValue) → AreRowsOf l self.new }
         ensures empty { self.new.keys ≡ [] }
-        ensures clears { self.new.clears ≡ self.old.clears }
+        ensures size { self.new.size ≡ 0 }
+        ensures counts { counts_of self.new ≡ counts_of self.old }
     {
         self.cells.clear();
         self.keys.clear();
@@ -99,7 +103,8 @@ impl Rows {
     /// Whether the state of the key would fit.
     pub fn has_room(&self, lazy: &Lazy, key: &StateKey) -> bool
         requires { AreRowsOf lazy.now self.now }
-        ensures { IsTrue result ↔ self.now.size + state_size lazy.now.stride (key_of key.now) ≤ lazy.now.capacity }
+        ensures room { IsTrue result ↔ self.now.size + state_size lazy.now.stride (key_of key.now) ≤ lazy.now.capacity }
+        ensures sound { IsLazySound lazy.now }
     {
         words(lazy.stride(), key) <= (lazy.capacity() - self.size) / 4
     }
@@ -115,6 +120,7 @@ impl Rows {
         ensures state { IfOk result (λ state. StandsFor lazy.now.stride self.new.keys state (key_of key.now)) }
         ensures ok { OnOk result (self.new.keys ≡ self.old.keys ++ key_of key.now ∷ []) }
         ensures err { OnErr result (self.new.keys ≡ self.old.keys) }
+        ensures counts { counts_of self.new ≡ counts_of self.old }
     {
         let stride = lazy.stride();
         let place = self.cells.len();
@@ -138,6 +144,7 @@ impl Rows {
         requires next { (k : Key) → slice_get self.old.keys row ≡ Some k → IsNext lazy.now self.old.keys k column state }
         ensures rows { AreRowsOf lazy.now self.new }
         ensures keys { self.new.keys ≡ self.old.keys }
+        ensures counts { counts_of self.new ≡ counts_of self.old }
     {
         self.cells[row * lazy.stride() + column] = state;
     }

@@ -1,5 +1,6 @@
 //! The starts that a cache knows.
-ghost use Rattle.std.specs.Prelude.{◌≡◌, ◌↔◌, IsTrue, IfSome};
+ghost use Rattle.std.specs.Prelude.{◌≡◌, ◌↔◌, ℕ, Option, true, IsTrue, IfSome};
+ghost use Rattle.rx_dfa.specs.Clearing.{counts_of};
 ghost use Rattle.rx_dfa.specs.Lazy.{LazyValue, StandsFor, begun_key};
 ghost use Rattle.rx_dfa.specs.LazyCache.{AreRowsOf};
 
@@ -25,12 +26,34 @@ impl Rows {
         None
     }
 
+    /// Whether the state is known as that of a start where runs begin at this state of the NFA and at each later place.
+    pub fn is_start_of(&self, lazy: &Lazy, start: StateID, state: StateID) -> bool
+        requires { AreRowsOf lazy.now self.now }
+        ensures { result ≡ true → (before : Option ℕ) × StandsFor lazy.now.stride self.now.keys state (begun_key lazy.now.dfa start true before) }
+    {
+        for known in &self.starts {
+            if self.begins_at(lazy, *known, start, state) {
+                return true;
+            }
+        }
+        false
+    }
+
+    /// Whether this start, which the cache knows, has that state, and runs begin there at this state of the NFA and at each later place.
+    fn begins_at(&self, lazy: &Lazy, known: Start, start: StateID, state: StateID) -> bool
+        requires { StandsFor lazy.now.stride self.now.keys known.state (begun_key lazy.now.dfa known.start known.loops known.before) }
+        ensures { result ≡ true → (before : Option ℕ) × StandsFor lazy.now.stride self.now.keys state (begun_key lazy.now.dfa start true before) }
+    {
+        is_start_at(known, start, state)
+    }
+
     /// Notes the state of a start. Where many are known, they are let go, and none is noted.
     pub fn note_start(&mut self, lazy: &Lazy, start: Start) -> Result<(), Memory>
         requires rows { AreRowsOf lazy.now self.old }
         requires state { StandsFor lazy.now.stride self.old.keys start.state (begun_key lazy.now.dfa start.start start.loops start.before) }
         ensures rows { AreRowsOf lazy.now self.new }
         ensures keys { self.new.keys ≡ self.old.keys }
+        ensures counts { counts_of self.new ≡ counts_of self.old }
     {
         let is_full = self.starts.len() >= STARTS;
         if is_full {
@@ -53,4 +76,17 @@ fn is_start(known: Start, start: StateID, loops: bool, before: Option<u8>) -> bo
         return false;
     }
     known.before == before
+}
+
+/// Whether it is the state of a start where runs begin at this state of the NFA and at each later place.
+fn is_start_at(known: Start, start: StateID, state: StateID) -> bool
+    ensures { result ≡ true → (known.state ≡ state) × (known.start ≡ start) × (known.loops ≡ true) }
+{
+    if known.state != state {
+        return false;
+    }
+    if known.start != start {
+        return false;
+    }
+    known.loops
 }

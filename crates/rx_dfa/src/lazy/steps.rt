@@ -1,8 +1,9 @@
 //! How a search comes to a state that it was not in before.
-ghost use Rattle.std.specs.Prelude.{◌≡◌, ◌<◌, ℕ, Some, false, length, IfOk, OnOk, IfSome, slice_get};
+ghost use Rattle.std.specs.Prelude.{◌≡◌, ◌<◌, ℕ, Some, None, [], ◌∷◌, false, length, IfOk, OnOk, IfSome, slice_get};
 ghost use Rattle.std.specs.Result.{IfErr};
 ghost use Rattle.rx_determinize.specs.Key.{Key, is_dead};
 ghost use Rattle.rx_dfa.specs.Automaton.{IsReadable, StepFails};
+ghost use Rattle.rx_dfa.specs.Clearing.{IsGrown, CountsWhereGaveUp};
 ghost use Rattle.rx_dfa.specs.StateKey.{key_of, StandsBelow};
 ghost use Rattle.rx_dfa.specs.Lazy.{StandsFor, IsLive, begun_key, key_after};
 ghost use Rattle.rx_dfa.specs.LazyCache.{IsCacheOf, GaveUpOn, RoomFails};
@@ -32,6 +33,11 @@ impl Lazy {
         ensures readable { (key : Key) → StandsFor self.now.stride cache.old.rows.keys state key → is_dead key ≡ false
             → OnOk result (IsReadable self.now.dfa.nfa byte) }
         ensures err { IfErr result (StepFails self.now.dfa.nfa byte (GaveUpOn self.now cache.new.rows) (Unit {0})) }
+        ensures stays { (key : Key) → StandsFor self.now.stride cache.old.rows.keys state key
+            → OnOk result ((number : ℕ) × StandsFor self.now.stride cache.new.rows.keys number key) }
+        ensures grown { (key : Key) → StandsFor self.now.stride cache.old.rows.keys state key
+            → IsGrown self.now (key ∷ []) (key_after self.now.dfa key byte) cache.old.rows.since (Some taken) cache.old.rows cache.new.rows }
+        ensures counted { IfErr result (CountsWhereGaveUp cache.old.rows cache.new.rows taken) }
         ensures fits { IsCacheOf self.now cache.new }
     {
         if is_dead_state(state) {
@@ -64,6 +70,11 @@ impl Lazy {
         ensures next { (key : Key) → slice_get cache.old.rows.keys row ≡ Some key
             → IfOk result (λ next. StandsFor self.now.stride cache.new.rows.keys next (key_after self.now.dfa key byte)) }
         ensures err { IfErr result (RoomFails self.now cache.new.rows) }
+        ensures stays { (key : Key) → slice_get cache.old.rows.keys row ≡ Some key
+            → OnOk result ((kept : ℕ) × (slice_get cache.new.rows.keys kept ≡ Some key)) }
+        ensures grown { (key : Key) → slice_get cache.old.rows.keys row ≡ Some key
+            → IsGrown self.now (key ∷ []) (key_after self.now.dfa key byte) cache.old.rows.since (Some taken) cache.old.rows cache.new.rows }
+        ensures counted { IfErr result (CountsWhereGaveUp cache.old.rows cache.new.rows taken) }
         ensures fits { IsCacheOf self.now cache.new }
     {
         let column = self.column(byte);
@@ -117,9 +128,9 @@ impl Lazy {
         requires readable { IsReadable self.now.dfa.nfa before }
         requires byte { IfSome before (λ b. b < 256) }
         ensures state { IfOk result (λ state. StandsFor self.now.stride cache.new.rows.keys state (begun_key self.now.dfa start loops before)) }
+        ensures grown { IsGrown self.now [] (begun_key self.now.dfa start loops before) cache.old.rows.since None cache.old.rows cache.new.rows }
         ensures fits { IsCacheOf self.now cache.new }
     {
-        cache.rows.since = None;
         if let Some(state) = cache.rows.find_start(start, loops, before) {
             return Ok(state);
         }
@@ -143,6 +154,7 @@ impl Lazy {
         requires fits { IsCacheOf self.now cache.old }
         requires live { is_dead (key_of cache.old.into) ≡ false → IsLive self.now.dfa (key_of cache.old.into) }
         ensures state { IfOk result (λ state. StandsFor self.now.stride cache.new.rows.keys state (key_of cache.old.into)) }
+        ensures grown { IsGrown self.now [] (key_of cache.old.into) cache.old.rows.since None cache.old.rows cache.new.rows }
         ensures fits { IsCacheOf self.now cache.new }
     {
         if let Some(state) = cache.rows.find(self, &cache.into) {

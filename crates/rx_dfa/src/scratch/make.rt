@@ -22,4 +22,10 @@ impl Scratch {
             reached: Vec::new(alloc),
         })
     }
+    /// For how many states it is.
+    pub fn room(&self) -> usize
+        ensures { result ≡ room_of self.now }
+    {
+        self.walk.seen.room()
+    }
 }

@@ -3,13 +3,14 @@ ghost use Rattle.std.specs.Prelude.{◌≡◌, ◌≤◌, ◌+◌, ◌<◌, fals
 ghost use Rattle.std.specs.Result.{IfErr};
 ghost use Rattle.rx_model.specs.Search.{Patterns, is_anchored};
 ghost use Rattle.rx_search.specs.Input.{IsSpanned};
+ghost use Rattle.rx_search.specs.Matches.{half_match_value};
 ghost use Rattle.rx_search.specs.Promise.{Premises};
 ghost use Rattle.rx_search.specs.Told.{HalfLiesIn};
 ghost use Rattle.rx_search.specs.declared.anchored.MatchKind.TheVariants.{All, LeftmostFirst};
 ghost use Rattle.rx_nfa.specs.Nfa.{IsNfaOf};
 ghost use Rattle.rx_dfa.specs.Automaton.{IsSound};
 ghost use Rattle.rx_dfa.specs.Course.{IsMetForwards};
-ghost use Rattle.rx_dfa.specs.Search.{SearchFails, IsForwardAnswer, IsLastAnswer};
+ghost use Rattle.rx_dfa.specs.Search.{SearchFails, IsForwardAnswer, IsLastAnswer, IsAnswerFor};
 
 use crate::automaton::Automaton;
 use crate::search::parts::{byte_after, is_permitted_at, last_state, place_error, record};
@@ -38,11 +39,15 @@ pub fn try_search_half_fwd<A: Automaton>(
     ensures answer { (r : Patterns) → Premises (IsNfaOf (A.dfa dfa.now).nfa r) None r input.now → (A.dfa dfa.now).kind ≡ LeftmostFirst
         → IfOk result (IsForwardAnswer (A.dfa dfa.now).nfa input.now) }
     ensures last { (A.dfa dfa.now).kind ≡ All → IfOk result (IsLastAnswer (A.dfa dfa.now).nfa input.now) }
+    ensures told { (r : Patterns) → Premises (IsNfaOf (A.dfa dfa.now).nfa r) None r input.now
+        → IfOk result (IsAnswerFor (A.dfa dfa.now).kind r input.now half_match_value) }
     ensures within { IfOk result (λ found. IfSome found (HalfLiesIn input.now)) }
     ensures in_range { IfOk result (λ found. IfSome found (λ h. h.pattern < length (A.dfa dfa.now).nfa.starts)) }
     ensures err { IfErr result (SearchFails (A.dfa dfa.now).nfa input.now (A.gives_up dfa.now cache.new) (A.wants dfa.now)) }
     ensures fits { A.fits dfa.now cache.new }
 {
+    // An input's span lies in its haystack.
+    let _haystack = input.haystack();
     find_end::<A, Brand>(Blank::new(1), dfa, cache, input)
 }
 

@@ -1,5 +1,5 @@
 //! What a search met so far.
-ghost use Rattle.std.specs.Prelude.{◌≡◌, ◌&&◌, is_some};
+ghost use Rattle.std.specs.Prelude.{◌≡◌, ◌&&◌, true, is_some};
 ghost use Rattle.rx_determinize.specs.Permitted.{fresh, recorded};
 
 use rx_search::{HalfMatch, PatternID};
@@ -59,5 +59,15 @@ impl Met {
         ensures { result ≡ (earliest && is_some self.best) }
     {
         earliest && self.best.is_some()
+    }
+
+    /// Whether nothing was met.
+    pub(crate) fn is_nothing(self) -> bool
+        ensures { result ≡ true → self ≡ fresh }
+    {
+        if self.best.is_some() {
+            return false;
+        }
+        self.refused.is_none()
     }
 }

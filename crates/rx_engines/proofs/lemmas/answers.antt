@@ -3,3 +3,4 @@ pub mod SlotLemmas
 pub mod SpanLemmas
 pub mod PatternLemmas
 pub mod EngineLemmas
+pub mod OverlapLemmas

@@ -1,8 +1,11 @@
 //! The PikeVM.
-ghost use Rattle.std.specs.Prelude.{◌≡◌, ◌<◌, ◌-◌, ◌^◌, min, length, None, replicate, is_some, IfOk, IfNone, IfSome, option_map};
+ghost use Rattle.std.specs.Prelude.{◌≡◌, ℕ, ◌<◌, ◌-◌, ◌^◌, min, length, None, replicate, is_some, IfOk, IfNone, IfSome, IsTrue, MatchOption, ◌≤◌, ◌↔◌, true, slice_set, not, option_map};
 ghost use Rattle.rx_model.specs.Search.{Patterns, told_of};
 ghost use Rattle.rx_search.specs.Input.{next_in};
 ghost use Rattle.rx_search.specs.Matches.{match_value};
+ghost use Rattle.rx_search.specs.PatternSet.{has};
+ghost use Rattle.rx_search.specs.declared.anchored.MatchKind.TheVariants.{All};
+ghost use Rattle.rx_engines.specs.Sets.{MatchesIn, KeepsMembers, GainsMatching, IsFilledFor};
 ghost use Rattle.rx_search.specs.Told.{IsMatchWith, HasSlots, AreWithin, LiesIn, matched_pattern};
 ghost use Rattle.rx_nfa.specs.Nfa.{IsNfaOf};
 ghost use Rattle.rx_nfa.specs.NextMatch.{next_match_in};
@@ -17,7 +20,7 @@ use crate::search::Search;
 use crate::slots::empty;
 use rx_nfa::NFA;
 use rx_prefilter::Prefilter;
-use rx_search::{Input, Match, MatchKind, Memory, NonMaxUsize, PatternID};
+use rx_search::{Input, Match, MatchKind, Memory, NonMaxUsize, PatternID, PatternSet};
 use std::alloc::Global;
 use std::marker::Model;
 
@@ -97,6 +100,97 @@ impl PikeVM {
         ensures memory { cache.new.memory ≡ cache.old.memory }
     {
         let Some(search) = Search::of(&self.nfa, &self.candidates, input) else {
+            return false;
+        };
+        cache.find(&search, true, &mut []).is_some()
+    }
+
+    /// Adds patterns that have a match in the input's span to the set, which must have room for all patterns. Under `All`
+    /// each pattern that has one is added, under `LeftmostFirst` that of the next match, and with `earliest` that of the
+    /// match that `find` answers.
+    pub fn which_overlapping_matches(
+        &self,
+        cache: &mut Cache,
+        input: &Input<'_>,
+        set: &mut PatternSet,
+    )
+        requires fits { Fits self.now cache.old }
+        requires room { length self.now.nfa.starts ≤ length set.old }
+        ensures kept { KeepsMembers set.old set.new }
+        ensures matching { (r : Patterns) → IsNfaOf self.now.nfa r → BeginsEachRun self.now.pre self.now.nfa input.now
+            → GainsMatching r input.now set.old set.new }
+        ensures filled { (r : Patterns) → IsNfaOf self.now.nfa r → BeginsEachRun self.now.pre self.now.nfa input.now
+            → IsFilledFor r input.now set.old set.new self.now.kind }
+        ensures cache { Fits self.now cache.new }
+        ensures memory { cache.new.memory ≡ cache.old.memory }
+    {
+        if is_for_all(self.kind, input.get_earliest()) {
+            self.fill(cache, input, set);
+            return;
+        }
+        // One match tells the rest (DECISIONS: a set is filled by one match under leftmost-first, and with `earliest`).
+        let found = self.find(cache, input);
+        add(found, set);
+    }
+
+    // The searches of the patterns share no state (DECISIONS: under `All` a set is filled pattern by pattern).
+    /// Adds each pattern that has a match in the input's span to the set, one after another.
+    fn fill(&self, cache: &mut Cache, input: &Input<'_>, set: &mut PatternSet)
+        requires fits { Fits self.now cache.old }
+        requires room { length self.now.nfa.starts ≤ length set.old }
+        ensures kept { KeepsMembers set.old set.new }
+        ensures matching { (r : Patterns) → IsNfaOf self.now.nfa r → BeginsEachRun self.now.pre self.now.nfa input.now
+            → GainsMatching r input.now set.old set.new }
+        ensures each { (r : Patterns) → IsNfaOf self.now.nfa r → BeginsEachRun self.now.pre self.now.nfa input.now
+            → (p : ℕ) → MatchesIn r input.now p → has set.new p ≡ true }
+        ensures cache { Fits self.now cache.new }
+        ensures memory { cache.new.memory ≡ cache.old.memory }
+    {
+        let count = self.nfa.pattern_len();
+        for k in 0..count {
+            let pattern = PatternID::new(k).unwrap();
+            self.try_pattern(cache, input, pattern, set);
+        }
+    }
+
+    /// Adds the pattern to the set if it has a match in the input's span.
+    fn try_pattern(
+        &self,
+        cache: &mut Cache,
+        input: &Input<'_>,
+        pattern: PatternID,
+        set: &mut PatternSet,
+    )
+        requires fits { Fits self.now cache.old }
+        requires is_there { pattern < length self.now.nfa.starts }
+        requires room { pattern < length set.old }
+        ensures kept { KeepsMembers set.old set.new }
+        ensures matching { (r : Patterns) → IsNfaOf self.now.nfa r → BeginsEachRun self.now.pre self.now.nfa input.now
+            → GainsMatching r input.now set.old set.new }
+        ensures tried { (r : Patterns) → IsNfaOf self.now.nfa r → BeginsEachRun self.now.pre self.now.nfa input.now
+            → MatchesIn r input.now pattern → has set.new pattern ≡ true }
+        ensures cache { Fits self.now cache.new }
+        ensures memory { cache.new.memory ≡ cache.old.memory }
+    {
+        if set.contains(pattern) {
+            return;
+        }
+        if !self.has_match(cache, input, pattern) {
+            return;
+        }
+        set.insert(pattern);
+    }
+
+    /// Whether the pattern has a match in the input's span.
+    fn has_match(&self, cache: &mut Cache, input: &Input<'_>, pattern: PatternID) -> bool
+        requires fits { Fits self.now cache.old }
+        requires is_there { pattern < length self.now.nfa.starts }
+        ensures value { (r : Patterns) → IsNfaOf self.now.nfa r → BeginsEachRun self.now.pre self.now.nfa input.now
+            → IsTrue result ↔ MatchesIn r input.now pattern }
+        ensures cache { Fits self.now cache.new }
+        ensures memory { cache.new.memory ≡ cache.old.memory }
+    {
+        let Some(search) = Search::of_pattern(&self.nfa, &self.candidates, input, pattern) else {
             return false;
         };
         cache.find(&search, true, &mut []).is_some()
@@ -184,5 +278,25 @@ impl PikeVM {
             return None;
         };
         cache.find(&search, input.get_earliest(), slots)
+    }
+}
+
+/// Whether a set gets each pattern that has a match.
+fn is_for_all(kind: MatchKind, earliest: bool) -> bool
+    ensures { kind ≡ All → result ≡ not earliest }
+{
+    match kind {
+        MatchKind::All => !earliest,
+        MatchKind::LeftmostFirst => false,
+    }
+}
+
+/// Adds the pattern of the match to the set.
+fn add(found: Option<Match>, set: &mut PatternSet)
+    requires { IfSome found (λ m. m.pattern < length set.old) }
+    ensures { MatchOption found (set.new ≡ set.old) (λ m. set.new ≡ slice_set set.old m.pattern true) }
+{
+    if let Some(found) = found {
+        set.insert(found.pattern());
     }
 }

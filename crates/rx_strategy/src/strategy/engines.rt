@@ -8,6 +8,7 @@ ghost use Rattle.rx_search.specs.Matches.{match_value, half_match_value};
 ghost use Rattle.rx_search.specs.Promise.{Premises};
 ghost use Rattle.rx_search.specs.Told.{tells, AreWithin, LiesIn, HalfLiesIn};
 ghost use Rattle.rx_search.specs.declared.anchored.MatchKind.TheVariants.{LeftmostFirst};
+ghost use Rattle.rx_engines.specs.Sets.{KeepsMembers, AddsMatching, IsFilled};
 ghost use Rattle.rx_hir.specs.Normal.{expressions};
 ghost use Rattle.rx_hir.specs.PropertiesViews.{AreOf};
 ghost use Rattle.rx_engines.specs.Bounded.{Fits as FitsBounded, max_len};
@@ -34,9 +35,10 @@ use crate::span::leave_span;
 use rx_engines::backtrack::{self, BoundedBacktracker};
 use rx_engines::empty;
 use rx_engines::pikevm::PikeVM;
+use rx_hir::Properties;
 use rx_nfa::{NFA, WhichCaptures};
 use rx_prefilter::Prefilter;
-use rx_search::{HalfMatch, Input, Match, MatchKind, Memory, NonMaxUsize};
+use rx_search::{HalfMatch, Input, Match, MatchKind, Memory, NonMaxUsize, PatternSet};
 use std::alloc::Global;
 use std::marker::Model;
 
@@ -276,6 +278,33 @@ impl Core {
             Ok(found) => found,
             Err(_) => half_match(self.search_nofail(cache, input, &mut [])),
         }
+    }
+
+    /// Adds patterns that have a match in the input's span to the set, under each kind of captures.
+    pub(crate) fn which_overlapping_matches(
+        &self,
+        cache: &mut Cache,
+        input: &Input<'_>,
+        set: &mut PatternSet,
+    )
+        requires fits { FitsCore self.now cache.old }
+        requires room { length self.now.nfa.starts ≤ length set.old }
+        requires spanned { IsSpanned input.now }
+        ensures kept { KeepsMembers set.old set.new }
+        ensures matching { AddsMatching (IsCoreFor self.now) self.now.pre input.now set.old set.new }
+        ensures filled { IsFilled (IsCoreFor self.now) self.now.pre input.now set.old set.new self.now.kind }
+        ensures cache { FitsCore self.now cache.new }
+        ensures memory { AccountsAlikeIn self.now cache.old cache.new }
+    {
+        let threads = &mut cache.pikevm;
+        self.pikevm.which_overlapping_matches(threads, input, set);
+    }
+
+    /// The properties of the patterns together.
+    pub(crate) fn properties(&self) -> &Properties
+        ensures { result.now ≡ self.now.properties }
+    {
+        self.info.properties()
     }
 
     /// The next match in the input's span, with its slots, where matches are told.

@@ -14,8 +14,8 @@ use Rattle.rx_class.specs.Ranges.{next_scalar, next_byte, fewest, is_ascii, Have
 use Rattle.rx_class.specs.Scalars.{complement}
 use Rattle.rx_class.specs.Bytes.{byte_folded, byte_complement, other_case}
 use Rattle.rx_class.specs.Folding.{folded}
-use Rattle.rx_class.proofs.RangeLemmas.{fewest-fewest, fewest-ends, ends-bound, Ends}
-use Rattle.rx_class.proofs.SuccessorLemmas.{scalars-succeed, bytes-succeed, IsAny, ends-from-scalars, scalars-from-ends}
+use Rattle.rx_class.proofs.RangeLemmas.{ends-bound, Ends}
+use Rattle.rx_class.proofs.SuccessorLemmas.{bytes-succeed, IsAny, scalars-from-ends}
 use Rattle.rx_class.proofs.ScalarLemmas.{AreScalarRanges-complement}
 use Rattle.rx_class.proofs.FoldLemmas.{AreScalarRanges-folded}
 use Rattle.rx_class.proofs.ByteLemmas.{byte_folded-members, AreByteRanges-folded}

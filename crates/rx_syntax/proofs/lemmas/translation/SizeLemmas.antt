@@ -1,10 +1,8 @@
 -- A part of a list is smaller than the list.
-use Rattle.std.proofs.Common.{ℕ, zero, suc, ◌<◌, ◌≤◌, List, [], ◌∷◌, ◌++◌, length, get_or, arith}
-use Rattle.std.specs.Prelude.{map}
-use Rattle.rx_reader.specs.Syntax.{Syntax, literal, syntaxes}
+use Rattle.std.proofs.Common.{ℕ, zero, suc, ◌<◌, ◌≤◌, List, [], ◌∷◌, length, get_or, arith}
+use Rattle.rx_reader.specs.Syntax.{Syntax, syntaxes}
 use Rattle.rx_reader.specs.Coded.{syntax_size, greatest_size}
 use Rattle.rx_reader.specs.AstViews.{expanded}
-use Rattle.rx_reader.specs.declared.flags.Flags.{Flags}
 use Rattle.rx_reader.specs.declared.ast.Item.{Item}
 use Rattle.rx_reader.specs.declared.ast.Item.TheVariants.{Literals, One}
 use Rattle.rx_reader.specs.AstFalls.{greatest_size-after}

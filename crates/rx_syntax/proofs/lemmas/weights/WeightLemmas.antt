@@ -1,23 +1,22 @@
 -- The weight of a whole is made of the weights of its parts, through the normal forms.
-use Rattle.std.proofs.Common.{◌≡◌, ◌≢◌, ℕ, zero, suc, ◌+◌, ◌*◌, ◌^◌, ◌<◌, ◌≤◌, Bool, true, false, ◌&&◌, List, [], ◌∷◌, ◌++◌, length, flat_map, refl, sym, ap, ◌∙◌, subst, arith, length-append, append-nil}
+use Rattle.std.proofs.Common.{◌≡◌, ℕ, zero, suc, ◌+◌, ◌*◌, ◌<◌, ◌≤◌, Bool, true, false, ◌&&◌, List, [], ◌∷◌, ◌++◌, length, refl, sym, ap, ◌∙◌, subst, arith, length-append, append-nil}
 use Rattle.std.specs.Prelude.{min, max, Option, Some, None, IfSome, if◌then◌else◌}
 use Rattle.std.proofs.Math.Nat.{suc-mul}
 use Rattle.std.proofs.lemmas.Bool.{and_left, and_right, ne_eqb}
 use Rattle.std.proofs.Math.Bool.{and-true}
-use Rattle.rx_model.specs.Expression.{Expression, Expressions, empty, literal, class, look, repetition, capture, concat, alternation, nil, cons}
+use Rattle.rx_model.specs.Expression.{Expression, empty, literal, class, look, repetition, capture, concat, alternation, nil, cons}
 use Rattle.rx_model.specs.Length.{plus}
 use Rattle.rx_model.specs.Search.{greatest_group, greatest_in}
-use Rattle.rx_hir.specs.Cost.{states_of_copies, accounted_states, accounted_in, capped}
+use Rattle.rx_hir.specs.Cost.{accounted_states, accounted_in, capped}
 use Rattle.rx_hir.specs.Length.{times, greater, maximum_len, sum_of_maximum_len, greatest_maximum_len}
 use Rattle.rx_hir.specs.Normal.{is_zero, at_most_one, list_of, expressions, copies_of, repetition_of, parts_of, join_literals, joined, sequence_of, alternatives_of, choice_of}
 use Rattle.rx_hir.proofs.CostLemmas.{capped-copies}
 use Rattle.rx_hir.proofs.RowLemmas.{expressions-list_of}
 use Rattle.rx_hir.proofs.OrderedFormsLemmas.{at-most-one}
-use Rattle.rx_syntax.specs.declared.weight.Shape.{Shape}
-use Rattle.rx_syntax.specs.declared.weight.Shape.TheVariants.{Empty, Alternatives, Other}
+use Rattle.rx_syntax.specs.declared.weight.Shape.TheVariants.{Alternatives, Other}
 use Rattle.rx_syntax.specs.declared.weight.Weight.{Weight}
 use Rattle.rx_syntax.specs.Weight.{shape_of, weight_of, is_nothing, in_row, followed, alternatives_in, either, some_copies, copies, repeated, captured, IsNormal}
-use Rattle.rx_syntax.specs.Row.{states_in, are_null, greatest_of, row_weight, IsOne, IsRow, IsOnly, IsChoice}
+use Rattle.rx_syntax.specs.Row.{states_in, are_null, greatest_of, row_weight, IsRow, IsChoice}
 
 -- Tests.
 

@@ -1,6 +1,5 @@
-use Rattle.std.proofs.Common.{◌≡◌, sym, ◌∙◌, ap, true≢false}
-use Rattle.std.specs.Prelude.{true, false, not, IsTrue}
-use Rattle.rx_model.proofs.lemmas.runs.RunLemmas.{by_test}
+use Rattle.std.proofs.Common.{◌≡◌, sym, ◌∙◌, true≢false}
+use Rattle.std.specs.Prelude.{not}
 use Rattle.rx_model.specs.Look.{Look}
 use Rattle.rx_search.specs.LookSet.{has}
 use Rattle.rx_dfa.proofs.lemmas.AlphabetLemmas.{classes-serve, kept-none}

@@ -1,4 +1,4 @@
-use Rattle.std.proofs.Common.{◌≡◌, ◌≤◌, ◌<◌, ℕ, ◌+◌, length, sym, ap, ◌∙◌, subst, arith}
+use Rattle.std.proofs.Common.{◌≤◌, ◌<◌, ℕ, ◌+◌, length, sym, ap, ◌∙◌, subst, arith}
 use Rattle.rx_syntax.specs.Patterns.{all_translated, RefusesAll, error_at}
 use Rattle.rx_syntax.specs.Translation.{translated}
 use Rattle.rx_syntax.specs.Weight.{AreWeightsOf}

@@ -1,4 +1,4 @@
-use Rattle.std.proofs.Common.{◌≡◌, ◌^◌, ◌<◌}
+use Rattle.std.proofs.Common.{◌≡◌}
 use Rattle.rx_syntax.proofs.lemmas.patterns.PatternsLemmas.{translate_each}
 use Rattle.rx_syntax.proofs.lemmas.weights.WeighLemmas.{AllWeighed}
 use Rattle.rx_syntax.proofs.weight.list.weigh_all.Given as goal

@@ -1,4 +1,4 @@
-use Rattle.std.proofs.Common.{◌≡◌, ◌≤◌, ◌<◌, Bor, List, ℕ, ◌+◌, map, length, sym, ap, ◌∙◌, subst, arith}
+use Rattle.std.proofs.Common.{◌≤◌, ◌<◌, Bor, List, ℕ, ◌+◌, map, length, sym, ap, ◌∙◌, subst, arith}
 use Rattle.rx_syntax.specs.Patterns.{each_read, RefusesAll, error_at}
 use Rattle.rx_syntax.specs.Weight.{AreWeightsOf}
 use Rattle.rx_syntax.specs.declared.patterns.PatternsError.{PatternsError}

@@ -1,5 +1,4 @@
-use Rattle.std.proofs.Common.{List, ◌++◌, ◌+◌, take, map, flat_map, sym, ap, ◌∙◌, subst}
-use Rattle.rx_model.specs.Expression.{Expression}
+use Rattle.std.proofs.Common.{◌++◌, ◌+◌, take, map, flat_map, sym, ap, ◌∙◌, subst}
 use Rattle.rx_hir.specs.Normal.{parts_of}
 use Rattle.rx_syntax.specs.Literals.{in_either_case}
 use Rattle.rx_syntax.specs.Row.{IsRow}

@@ -1,11 +1,13 @@
-use Rattle.std.proofs.Common.{◌≡◌, ◌<◌, List, [], ◌∷◌, ◌++◌, length, sym, ◌∙◌, ap, subst}
+use Rattle.std.proofs.Common.{◌≡◌, ◌<◌, List, [], ◌∷◌, ◌++◌, length, refl, sym, ◌∙◌, ap, subst}
 use Rattle.std.proofs.lemmas.Option.{same_Some, slice_get_within}
 use Rattle.std.specs.Prelude.{All, Some, false, is_err, slice_get}
 use Rattle.rx_determinize.specs.Key.{Key, is_dead}
+use Rattle.rx_dfa.specs.Clearing.{counts_of}
 use Rattle.rx_dfa.specs.Lazy.{StandsFor, IsNext, IsLive, key_after}
 use Rattle.rx_dfa.specs.StateKey.{key_of}
 use Rattle.rx_dfa.specs.declared.lazy.rows.Rows.{Rows}
 use Rattle.rx_dfa.proofs.lemmas.ChainLemmas.{got-old}
+use Rattle.rx_dfa.proofs.lemmas.ClearingLemmas.{grown-kept, grown-same, grown-keys, made-grown, made-add}
 use Rattle.rx_dfa.proofs.lemmas.LazyLemmas.{next-of, live-after}
 use Rattle.rx_dfa.proofs.lemmas.RowsLemmas.{ok-then}
 use Rattle.rx_dfa.proofs.lazy.lazy_dfa.Lazy.make_step.Goals as goal
@@ -43,6 +45,18 @@ pub make_room-requires-clause-from : goal.make_room-requires-clause-from
 make_room-requires-clause-from c =
     let ok : is_err c.make_key.result ≡ false = sym c.is_err.ensures.value ∙ c.if-is_err.false in
     ok-then c.make_key.result _ ok c.make_key.ensures.from
+
+pub make_room-requires-clause-live : goal.make_room-requires-clause-live
+make_room-requires-clause-live c =
+    let l = c.args.self.now in
+    let new = c.make_key.new.cache in
+    let ok : is_err c.make_key.result ≡ false = sym c.is_err.ensures.value ∙ c.if-is_err.false in
+    let into : key_of new.into ≡ key_after l.dfa (key_of new.from) c.args.byte = ok-then c.make_key.result _ ok c.make_key.ensures.into in
+    let below : All (λ q. q < length l.dfa.nfa.states) (key_of new.into).threads = ok-then c.make_key.result _ ok c.make_key.ensures.below in
+    subst (IsLive l.dfa) (sym into)
+    (live-after l.dfa c.column-column.ensures.sound.dfa (key_of new.from) c.args.byte c.requires.small c.requires.readable
+    (ap is_dead (sym into) ∙ c.in_default.ensures.0)
+    (subst (λ (x : Key). All (λ q. q < length l.dfa.nfa.states) x.threads) into below))
 
 pub add-requires-clause-live : goal.add-requires-clause-live
 add-requires-clause-live c =
@@ -82,3 +96,78 @@ set-requires-in-Ok-add-clause-next c k got =
     subst (λ column. IsNext l c.add.new.self.keys k column next) (sym c.column-column.ensures.value)
     (next-of l c.column-column.ensures.sound.dfa c.add.new.self.keys k (c.in-Ok-add.ensures.rows.keys c.in-Ok.kept k got) c.args.byte c.requires.small
     c.requires.readable next stands)
+
+pub returns-then-is_err-clause-grown : goal.returns-then-is_err-clause-grown
+returns-then-is_err-clause-grown c key old =
+    let l = c.args.self.now in
+    let rows = c.make_key.ensures.rows in
+    grown-kept l (key ∷ []) (key_after l.dfa key c.args.byte) c.args.cache.now.rows.since _ c.args.cache.now.rows c.make_key.new.cache.rows
+    (ap (λ (r : Rows). r.keys) rows) (ap counts_of rows)
+
+pub returns-in-Some-clause-stays : goal.returns-in-Some-clause-stays
+returns-in-Some-clause-stays c key old =
+    let same : c.set.new.self.keys ≡ c.args.cache.now.rows.keys = c.set.ensures.keys ∙ ap (λ (r : Rows). r.keys) c.make_key.ensures.rows in
+    (c.args.row, ap (λ (ks : List Key). slice_get ks c.args.row) same ∙ old)
+
+pub returns-in-Some-clause-grown : goal.returns-in-Some-clause-grown
+returns-in-Some-clause-grown c key old =
+    let l = c.args.self.now in
+    let rows = c.make_key.ensures.rows in
+    grown-kept l (key ∷ []) (key_after l.dfa key c.args.byte) c.args.cache.now.rows.since _ c.args.cache.now.rows c.set.new.self
+    (c.set.ensures.keys ∙ ap (λ (r : Rows). r.keys) rows) (c.set.ensures.counts ∙ ap counts_of rows)
+
+pub returns-in-Err-clause-grown : goal.returns-in-Err-clause-grown
+returns-in-Err-clause-grown c key old =
+    let l = c.args.self.now in
+    let new = c.make_key.new.cache in
+    let ok : is_err c.make_key.result ≡ false = sym c.is_err.ensures.value ∙ c.if-is_err.false in
+    let got : slice_get new.rows.keys c.args.row ≡ Some key = ap (λ (r : Rows). slice_get r.keys c.args.row) c.make_key.ensures.rows ∙ old in
+    let from : slice_get new.rows.keys c.args.row ≡ Some (key_of new.from) = ok-then c.make_key.result _ ok c.make_key.ensures.from in
+    let into : key_of new.into ≡ key_after l.dfa (key_of new.from) c.args.byte = ok-then c.make_key.result _ ok c.make_key.ensures.into in
+    let same : key_of new.from ≡ key = same_Some (key_of new.from) key (sym from ∙ got) in
+    grown-keys l (key_of new.from) key (key_of new.into) (key_after l.dfa key c.args.byte) new.rows c.args.cache.now.rows c.make_room.new.self c.args.taken same
+    (into ∙ ap (λ (x : Key). key_after l.dfa x c.args.byte) same) c.make_key.ensures.rows c.in-Err.ensures.grown
+
+pub returns-in-Ok-add-clause-stays : goal.returns-in-Ok-add-clause-stays
+returns-in-Ok-add-clause-stays c key old =
+    let new = c.make_key.new.cache in
+    let keys = c.make_room.new.self.keys in
+    let ok : is_err c.make_key.result ≡ false = sym c.is_err.ensures.value ∙ c.if-is_err.false in
+    let got : slice_get new.rows.keys c.args.row ≡ Some key = ap (λ (r : Rows). slice_get r.keys c.args.row) c.make_key.ensures.rows ∙ old in
+    let own : slice_get new.rows.keys c.args.row ≡ Some (key_of new.from) = ok-then c.make_key.result _ ok c.make_key.ensures.from in
+    let from : slice_get (keys ++ key_of new.into ∷ []) c.in-Ok.kept ≡ Some (key_of new.from) =
+    got-old keys (key_of new.into ∷ []) (key_of new.from) c.in-Ok.kept c.in-Ok.ensures.from in
+    (c.in-Ok.kept, ap (λ (ks : List Key). slice_get ks c.in-Ok.kept) (c.set-in-Ok-add.ensures.keys ∙ c.in-Ok-add.ensures.ok) ∙ from ∙ sym own ∙ got)
+
+pub returns-in-Ok-add-clause-grown : goal.returns-in-Ok-add-clause-grown
+returns-in-Ok-add-clause-grown c key old =
+    let l = c.args.self.now in
+    let new = c.make_key.new.cache in
+    let made = c.make_room.new.self in
+    let last = c.set-in-Ok-add.new.self in
+    let ok : is_err c.make_key.result ≡ false = sym c.is_err.ensures.value ∙ c.if-is_err.false in
+    let got : slice_get new.rows.keys c.args.row ≡ Some key = ap (λ (r : Rows). slice_get r.keys c.args.row) c.make_key.ensures.rows ∙ old in
+    let from : slice_get new.rows.keys c.args.row ≡ Some (key_of new.from) = ok-then c.make_key.result _ ok c.make_key.ensures.from in
+    let into : key_of new.into ≡ key_after l.dfa (key_of new.from) c.args.byte = ok-then c.make_key.result _ ok c.make_key.ensures.into in
+    let same : key_of new.from ≡ key = same_Some (key_of new.from) key (sym from ∙ got) in
+    grown-keys l (key_of new.from) key (key_of new.into) (key_after l.dfa key c.args.byte) new.rows c.args.cache.now.rows last c.args.taken same
+    (into ∙ ap (λ (x : Key). key_after l.dfa x c.args.byte) same) c.make_key.ensures.rows
+    (made-add l (key_of new.from) (key_of new.into) c.args.taken new.rows made last c.in-Ok.ensures.made
+    (c.set-in-Ok-add.ensures.keys ∙ c.in-Ok-add.ensures.ok) (c.set-in-Ok-add.ensures.counts ∙ c.add.ensures.counts))
+
+pub returns-in-Err-add-clause-grown : goal.returns-in-Err-add-clause-grown
+returns-in-Err-add-clause-grown c key old =
+    let l = c.args.self.now in
+    let new = c.make_key.new.cache in
+    let made = c.make_room.new.self in
+    let last = c.add.new.self in
+    let ok : is_err c.make_key.result ≡ false = sym c.is_err.ensures.value ∙ c.if-is_err.false in
+    let got : slice_get new.rows.keys c.args.row ≡ Some key = ap (λ (r : Rows). slice_get r.keys c.args.row) c.make_key.ensures.rows ∙ old in
+    let from : slice_get new.rows.keys c.args.row ≡ Some (key_of new.from) = ok-then c.make_key.result _ ok c.make_key.ensures.from in
+    let into : key_of new.into ≡ key_after l.dfa (key_of new.from) c.args.byte = ok-then c.make_key.result _ ok c.make_key.ensures.into in
+    let same : key_of new.from ≡ key = same_Some (key_of new.from) key (sym from ∙ got) in
+    grown-keys l (key_of new.from) key (key_of new.into) (key_after l.dfa key c.args.byte) new.rows c.args.cache.now.rows last c.args.taken same
+    (into ∙ ap (λ (x : Key). key_after l.dfa x c.args.byte) same) c.make_key.ensures.rows
+    (grown-same l (key_of new.from ∷ []) (key_of new.into) new.rows.since (Some c.args.taken) new.rows new.rows made last refl refl refl
+    c.in-Err-add.ensures.err c.add.ensures.counts
+    (made-grown l (key_of new.from) (key_of new.into) c.args.taken new.rows made c.in-Ok.ensures.made))

@@ -1,6 +1,9 @@
-use Rattle.std.proofs.Common.{◌≡◌, ◌<◌, sym, subst, rules}
-use Rattle.std.specs.Prelude.{IfSome}
-use Rattle.rx_dfa.specs.Automaton.{IsReadable}
+use Rattle.std.proofs.Common.{◌≡◌, ◌<◌, [], refl, sym, ap, subst, rules}
+use Rattle.std.specs.Prelude.{Some, None, IfSome, not}
+use Rattle.rx_search.specs.Anchored.{anchor_of}
+use Rattle.rx_nfa.specs.NextMatch.{start_of}
+use Rattle.rx_dfa.specs.Automaton.{IsReadable, first_key}
+use Rattle.rx_dfa.proofs.lemmas.ClearingLemmas.{grown-kept, grown-first}
 use Rattle.rx_dfa.proofs.lemmas.LazyLemmas.{beside-readable}
 use Rattle.rx_dfa.proofs.lazy.lazy_dfa.Lazy.start_at.Goals as goal
 
@@ -10,3 +13,23 @@ start-requires-clause-readable c =
     let small : IfSome c.args.beside (λ b. b < 256) = search rules in
     subst (IsReadable d.nfa) (sym c.kept_beside-before.ensures)
     (beside-readable d c.refused.ensures.sound.dfa c.args.beside small c.in_default.ensures.none)
+
+pub returns-in-Some-clause-grown : goal.returns-in-Some-clause-grown
+returns-in-Some-clause-grown c =
+    grown-kept c.args.self.now [] (first_key c.args.self.now.dfa (anchor_of c.args.mode) c.args.beside) None _ c.args.cache.now.rows _ refl refl
+
+pub returns-in-Ok-clause-grown : goal.returns-in-Ok-clause-grown
+returns-in-Ok-clause-grown c =
+    let d = c.args.self.now.dfa in
+    let begins : Some c.in-Some-start_of.start ≡ start_of d.nfa (anchor_of c.args.mode) = c.in-Some-start_of.ensures.value in
+    grown-first c.args.self.now (anchor_of c.args.mode) c.args.beside c.in-Some-start_of.start (not c.is_anchored.result) c.kept_beside-before.result
+    c.args.cache.now.rows (record c.args.cache.now.rows { since = None }) c.start.new.cache.rows begins (ap not c.is_anchored.ensures)
+    c.kept_beside-before.ensures refl refl refl refl c.start.ensures.grown
+
+pub returns-in-Err-clause-grown : goal.returns-in-Err-clause-grown
+returns-in-Err-clause-grown c =
+    let d = c.args.self.now.dfa in
+    let begins : Some c.in-Some-start_of.start ≡ start_of d.nfa (anchor_of c.args.mode) = c.in-Some-start_of.ensures.value in
+    grown-first c.args.self.now (anchor_of c.args.mode) c.args.beside c.in-Some-start_of.start (not c.is_anchored.result) c.kept_beside-before.result
+    c.args.cache.now.rows (record c.args.cache.now.rows { since = None }) c.start.new.cache.rows begins (ap not c.is_anchored.ensures)
+    c.kept_beside-before.ensures refl refl refl refl c.start.ensures.grown

@@ -1,10 +1,11 @@
-use Rattle.std.proofs.Common.{◌≡◌, ℕ, ◌+◌, ◌*◌, ◌≤◌, ◌<◌, inr, List, [], ◌∷◌, ◌++◌, length, take, replicate, refl, sym, ◌∙◌, ap, subst, arith}
+use Rattle.std.proofs.Common.{◌≡◌, ◌+◌, ◌*◌, ◌≤◌, ◌<◌, List, [], ◌∷◌, ◌++◌, length, take, replicate, refl, sym, ◌∙◌, ap, subst, arith}
 use Rattle.std.proofs.lemmas.List.{take_at}
 use Rattle.std.specs.Prelude.{Some, if◌then◌else◌, slice_get}
 use Rattle.rx_determinize.specs.Key.{Key}
 use Rattle.rx_dfa.specs.Lazy.{unknown, offsets, state_size}
 use Rattle.rx_dfa.specs.StateKey.{key_of}
 use Rattle.rx_dfa.proofs.lemmas.ChainLemmas.{got-new}
+use Rattle.rx_dfa.proofs.lemmas.HeldLemmas.{stands-row}
 use Rattle.rx_dfa.proofs.lemmas.RowsLemmas.{wide, ok-then, err-then, rows-same, rows-add}
 use Rattle.rx_dfa.proofs.lazy.rows.Rows.add.Goals as goal
 
@@ -48,10 +49,6 @@ returns-clause-state c =
     let few : c.len-place.result + l.stride ≤ offsets = omega (arith, c.stride-stride.ensures.value) in
     let some : 0 < l.stride = wide l c.stride-stride.ensures.sound in
     let low : c.len-place.result < offsets = omega arith in
-    inr (record {
-      row = length r.keys;
-      alive = c.requires.live.alive;
-      key = subst (λ (ks : List Key). slice_get ks (length r.keys) ≡ Some k) (sym keys) (got-new r.keys k);
-      small = subst (λ n. n < offsets) place low;
-      is = c.numbered.ensures ∙ (λ j. place j + (if c.is_plain_key.ensures j then 0 else offsets));
-    })
+    stands-row l.stride some c.insert.new.self (length r.keys) k c.requires.live.alive
+    (subst (λ (ks : List Key). slice_get ks (length r.keys) ≡ Some k) (sym keys) (got-new r.keys k)) (subst (λ n. n < offsets) place low) c.numbered.result
+    (c.numbered.ensures ∙ (λ j. place j + (if c.is_plain_key.ensures j then 0 else offsets)))

@@ -1,0 +1,36 @@
+use Rattle.std.proofs.Common.{◌≡◌, ℕ, ◌∙◌, subst}
+use Rattle.std.specs.Prelude.{Option, IfOk, OnOk}
+use Rattle.std.specs.Result.{IfErr}
+use Rattle.rx_model.specs.Look.{byte_after}
+use Rattle.rx_model.specs.Search.{Anchor}
+use Rattle.rx_search.specs.Anchored.{anchor_of}
+use Rattle.rx_dfa.specs.Automaton.{first_key, IsReadable, StartFails}
+use Rattle.rx_dfa.specs.Table.{Holds}
+use Rattle.rx_dfa.proofs.dense.automaton.DenseAutomaton.start_reverse.Goals as goal
+
+pub returns-clause-start : goal.returns-clause-start
+returns-clause-start c =
+    let v = c.args.self.now in
+    let i = c.args.input.now in
+    let before : c.byte_after-after.result ≡ byte_after i.haystack i.end =
+    c.byte_after-after.ensures ∙ (λ j. byte_after (c.haystack.ensures.value j) (c.end-end.ensures.value j)) in
+    subst (λ (a : Anchor). IfOk c.start_beside.result (λ s. Holds v s (first_key v.dfa a (byte_after i.haystack i.end)))) c.get_anchored.ensures
+    (subst (λ (b : Option ℕ). IfOk c.start_beside.result (λ s. Holds v s (first_key v.dfa (anchor_of c.get_anchored.result) b))) before
+    c.start_beside.ensures.start)
+
+pub returns-clause-readable : goal.returns-clause-readable
+returns-clause-readable c =
+    let i = c.args.input.now in
+    let before : c.byte_after-after.result ≡ byte_after i.haystack i.end =
+    c.byte_after-after.ensures ∙ (λ j. byte_after (c.haystack.ensures.value j) (c.end-end.ensures.value j)) in
+    subst (λ (b : Option ℕ). OnOk c.start_beside.result (IsReadable c.args.self.now.dfa.nfa b)) before c.start_beside.ensures.readable
+
+pub returns-clause-err : goal.returns-clause-err
+returns-clause-err c =
+    let i = c.args.input.now in
+    let before : c.byte_after-after.result ≡ byte_after i.haystack i.end =
+    c.byte_after-after.ensures ∙ (λ j. byte_after (c.haystack.ensures.value j) (c.end-end.ensures.value j)) in
+    let place = c.end-end.ensures.value in
+    subst (λ n. IfErr c.start_beside.result (StartFails c.args.self.now.dfa.nfa (byte_after i.haystack i.end) n i.end ⊥ ⊥)) place
+    (subst (λ (b : Option ℕ). IfErr c.start_beside.result (StartFails c.args.self.now.dfa.nfa b c.end-end.result i.end ⊥ ⊥)) before
+    (c.start_beside.ensures.err i.end))

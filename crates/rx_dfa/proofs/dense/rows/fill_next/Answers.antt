@@ -1,0 +1,96 @@
+use Rattle.std.proofs.Common.{◌≡◌, ◌+◌, refl, sym, ◌∙◌, ap, subst, arith}
+use Rattle.std.specs.Prelude.{Some, slice_get}
+use Rattle.std.specs.Option.{option_map}
+use Rattle.std.proofs.lemmas.Option.{slice_get-map}
+use Rattle.rx_dfa.specs.StateKey.{key_of}
+use Rattle.rx_dfa.specs.States.{IsState}
+use Rattle.rx_dfa.specs.Job.{dfa_in}
+use Rattle.rx_dfa.specs.Found.{plain_keys, special_keys}
+use Rattle.rx_dfa.specs.declared.dense.rows.Cells.{Cells}
+use Rattle.rx_dfa.proofs.lemmas.FilledLemmas.{few-rows, plain-filled, special-filled, plain-within, special-within}
+use Rattle.rx_dfa.proofs.dense.rows.fill_next.Goals as goal
+
+pub push_row-requires-clause-state : goal.push_row-requires-clause-state
+push_row-requires-clause-state c =
+    let f = c.args.found.now in
+    let rows = c.args.cells.now.plain_rows in
+    let there : slice_get (plain_keys f) rows ≡ Some (key_of c.in-Some.plain.now) =
+    slice_get-map key_of f.plain.keys rows ∙ ap (option_map key_of) (sym c.in-Some.ensures.key) in
+    subst (IsState (dfa_in c.args.job.now)) (sym c.in_ok-copy.ensures) (c.requires.found.plain_states.each rows (key_of c.in-Some.plain.now) there)
+
+pub returns-in-Some-clause-within : goal.returns-in-Some-clause-within
+returns-in-Some-clause-within c =
+    let f = c.args.found.now in
+    let cells = c.args.cells.now in
+    let k = key_of c.copy.new.into in
+    let there : slice_get (plain_keys f) cells.plain_rows ≡ Some k =
+    slice_get-map key_of f.plain.keys cells.plain_rows ∙ ap (option_map key_of) (sym c.in-Some.ensures.key) ∙ ap Some (sym c.in_ok-copy.ensures) in
+    let later : Cells = record { plain = c.push_row.new.cells; special = cells.special; plain_rows = cells.plain_rows + 1; special_rows = cells.special_rows }
+    in
+    plain-within (dfa_in c.args.job.now) f c.push_row.new.found c.in_ok-push_row.ensures.grows cells later c.requires.within c.requires.filled k there refl refl
+
+pub returns-in-Some-clause-made : goal.returns-in-Some-clause-made
+returns-in-Some-clause-made c =
+    let f = c.args.found.now in
+    let cells = c.args.cells.now in
+    let k = key_of c.copy.new.into in
+    let there : slice_get (plain_keys f) cells.plain_rows ≡ Some k =
+    slice_get-map key_of f.plain.keys cells.plain_rows ∙ ap (option_map key_of) (sym c.in-Some.ensures.key) ∙ ap Some (sym c.in_ok-copy.ensures) in
+    let later : Cells = record { plain = c.push_row.new.cells; special = cells.special; plain_rows = cells.plain_rows + 1; special_rows = cells.special_rows }
+    in
+    record {
+      found = c.in_ok-push_row.ensures.made.found;
+      ok = plain-filled (dfa_in c.args.job.now) f c.push_row.new.found c.in_ok-push_row.ensures.grows cells later c.requires.within c.requires.filled k
+          c.requires.wide there c.in_ok-push_row.ensures.made.ok refl refl refl;
+      err = tt;
+    }
+
+pub push_row-requires-in-Some-get_index-clause-state : goal.push_row-requires-in-Some-get_index-clause-state
+push_row-requires-in-Some-get_index-clause-state c =
+    let f = c.args.found.now in
+    let rows = c.args.cells.now.special_rows in
+    let there : slice_get (special_keys f) rows ≡ Some (key_of c.in-Some-get_index.special.now) =
+    slice_get-map key_of f.special.keys rows ∙ ap (option_map key_of) (sym c.in-Some-get_index.ensures.key) in
+    subst (IsState (dfa_in c.args.job.now)) (sym c.in_ok-copy-2.ensures)
+    (c.requires.found.special_states.each rows (key_of c.in-Some-get_index.special.now) there)
+
+pub overflow_add-cells-in-Some-get_index : goal.overflow_add-cells-in-Some-get_index
+overflow_add-cells-in-Some-get_index c =
+    let few = few-rows c.args.found.now c.args.cells.now c.requires.within in
+    omega arith
+
+pub returns-in-Some-get_index-clause-within : goal.returns-in-Some-get_index-clause-within
+returns-in-Some-get_index-clause-within c =
+    let f = c.args.found.now in
+    let cells = c.args.cells.now in
+    let k = key_of c.copy-in-Some-get_index.new.into in
+    let there : slice_get (special_keys f) cells.special_rows ≡ Some k =
+    slice_get-map key_of f.special.keys cells.special_rows ∙ ap (option_map key_of) (sym c.in-Some-get_index.ensures.key) ∙ ap Some
+    (sym c.in_ok-copy-2.ensures) in
+    let later : Cells =
+    record { plain = cells.plain; special = c.push_row-in-Some-get_index.new.cells; plain_rows = cells.plain_rows; special_rows = cells.special_rows + 1 } in
+    special-within (dfa_in c.args.job.now) f c.push_row-in-Some-get_index.new.found c.in_ok-push_row-2.ensures.grows cells later c.requires.within
+    c.requires.filled
+    k there refl refl
+
+pub returns-in-Some-get_index-clause-made : goal.returns-in-Some-get_index-clause-made
+returns-in-Some-get_index-clause-made c =
+    let f = c.args.found.now in
+    let cells = c.args.cells.now in
+    let k = key_of c.copy-in-Some-get_index.new.into in
+    let there : slice_get (special_keys f) cells.special_rows ≡ Some k =
+    slice_get-map key_of f.special.keys cells.special_rows ∙ ap (option_map key_of) (sym c.in-Some-get_index.ensures.key) ∙ ap Some
+    (sym c.in_ok-copy-2.ensures) in
+    let later : Cells =
+    record { plain = cells.plain; special = c.push_row-in-Some-get_index.new.cells; plain_rows = cells.plain_rows; special_rows = cells.special_rows + 1 } in
+    record {
+      found = c.in_ok-push_row-2.ensures.made.found;
+      ok = special-filled (dfa_in c.args.job.now) f c.push_row-in-Some-get_index.new.found c.in_ok-push_row-2.ensures.grows cells later c.requires.within
+          c.requires.filled k c.requires.wide there c.in_ok-push_row-2.ensures.made.ok refl refl refl;
+      err = tt;
+    }
+
+pub overflow_add-cells : goal.overflow_add-cells
+overflow_add-cells c =
+    let few = few-rows c.args.found.now c.args.cells.now c.requires.within in
+    omega arith

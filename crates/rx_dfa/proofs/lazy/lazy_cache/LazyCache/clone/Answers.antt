@@ -1,0 +1,14 @@
+use Rattle.std.proofs.Common.{ℕ, ◌∙◌, ap}
+use Rattle.std.specs.Prelude.{Option}
+use Rattle.rx_dfa.proofs.lazy.lazy_cache.LazyCache.clone.Goals as goal
+
+pub returns-clause-fits : goal.returns-clause-fits
+returns-clause-fits c l h = record { rows = c.in_ok-new.ensures.rows l; room = c.in_ok-new-2.ensures ∙ c.room.ensures ∙ h.room }
+
+pub returns-clause-empty : goal.returns-clause-empty
+returns-clause-empty c = record {
+  keys = c.in_ok-new.ensures.empty;
+  size = c.in_ok-new.ensures.size;
+  clears = ap (λ (p : ℕ × Option ℕ). p.0) c.in_ok-new.ensures.counts;
+  since = ap (λ (p : ℕ × Option ℕ). p.1) c.in_ok-new.ensures.counts;
+}
