@@ -54,10 +54,11 @@ impl Cache {
         self.rooms.reset(alloc, &regex.strategy)
     }
 
-    /// The bytes that are accounted for the caches of its engines, or the greatest `usize` where they are more. What is accounted for
-    /// lazy DFAs grows and falls with the states that searches make; the rest is fixed when the cache is made or reset. This is not what they reserve: the backtracker's cache also has room for
-    /// each frame that a search can leave, which is some 24 bytes for each place of the longest span times the frames of
-    /// all states. It is reserved when the cache is made, and touched only as far as searches come.
+    /// The bytes that are accounted for the caches of its engines, or the greatest `usize` where they are more. What is
+    /// accounted for lazy DFAs grows and falls with the states that searches make; the rest is fixed when the cache is made
+    /// or reset. This is not what they reserve: the backtracker's cache also has room for each frame that a search can
+    /// leave, which is some 24 bytes for each place of the longest span times the frames of all states. It is reserved when
+    /// the cache is made, and touched only as far as searches come.
     pub fn memory_usage(&self) -> usize
         ensures { result ≡ memory_of self.now }
     {

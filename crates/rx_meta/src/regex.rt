@@ -378,7 +378,8 @@ impl Regex {
     }
 
     /// The bytes that are accounted for the regex: 64 for the properties of each pattern and for those of all of them
-    /// together, and what is accounted for its prefilter and its NFA; or the greatest `usize` where they are more.
+    /// together, and what is accounted for its prefilter, its NFAs and its full DFAs; or the greatest `usize` where they are
+    /// more.
     #[tactic(auto, unfolding(crate::specs::Regex::regex_memory))]
     pub fn memory_usage(&self) -> usize
         ensures { result ≡ regex_memory self.now }
