@@ -8,6 +8,7 @@ use Rattle.rx_search.specs.Promise.{Premises, Promised}
 use Rattle.rx_engines.specs.Sets as sets
 use Rattle.rx_search.specs.Told.{told_in, HasSlots}
 use Rattle.rx_strategy.specs.Strategy as strategy
+use Rattle.rx_strategy.proofs.AnswerLemmas as lower
 use Rattle.rx_strategy.specs.declared.strategy.Strategy.{Strategy}
 use Rattle.rx_meta.specs.Regex.{RegexValue, Serves, given_needles, kind_in}
 use Rattle.rx_meta.specs.Search.{IsAnswer, AreSlotsOfAnswer, TellsWhether}
@@ -106,3 +107,11 @@ module _ (regex : RegexValue) (v : InputValue) where
 
     pub none-there : TellsWhether regex v false
     none-there = λ r p. sym (ap is_some (none-of r p.is_for))
+
+    pub none-adds : (set : List Bool) → AddsMatching regex v set set
+    none-adds set = adds-of set set (lower.none-adds (λ r. strategy.IsFor regex.strategy r) (strategy.prefilter_in regex.strategy) v set none)
+
+    pub none-fills : (set : List Bool) → IsFilled regex v set set
+    unfolding kind_in
+    none-fills set r p =
+        lower.none-fills (λ r. strategy.IsFor regex.strategy r) (strategy.prefilter_in regex.strategy) v set none (strategy.kind_in regex.strategy) r (premises-of r p)

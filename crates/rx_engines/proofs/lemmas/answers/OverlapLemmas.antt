@@ -4,7 +4,7 @@ use Rattle.std.proofs.lemmas.Bool.Decides.{nat_tests}
 use Rattle.std.proofs.lemmas.List.{get_or-set_same, get_or-set_other, length-set}
 use Rattle.std.proofs.lemmas.List.Elements.{All-get_or}
 use Rattle.std.proofs.lemmas.Option.{get_or_from_slice_get, slice_get-get_or, slice_get_within, slice_get_cases}
-use Rattle.std.specs.Prelude.{◌↔◌, Bool, true, false, not, ◌==◌, Option, Some, None, option_map, is_some, IfSome, IsSome, IsTrue, MatchOption, slice_get, slice_index, nat_le}
+use Rattle.std.specs.Prelude.{◌↔◌, Bool, true, false, ◌==◌, Option, Some, None, option_map, is_some, IfSome, IsSome, IsTrue, MatchOption, slice_get, slice_index, nat_le}
 use Rattle.rx_model.specs.Expression.{Expression}
 use Rattle.rx_model.specs.Runs.{Trace, nowhere, trace, first_past, first_trace}
 use Rattle.rx_model.specs.Graph.{at}
@@ -130,10 +130,6 @@ sought-at nfa p q is (anchored_to k) sought = ap (slice_get nfa.starts) (sym sou
 
 pub slice_get-read : (xs ys : List ℕ) (p n q : ℕ) → p < length ys → xs ≡ ys → n ≡ p → q ≡ get_or xs n q → slice_get ys p ≡ Some q
 slice_get-read xs ys p n q lt same at_p is = slice_get-get_or ys p q lt ∙ ap Some (sym (is ∙ (λ i. get_or (same i) (at_p i) q)))
-
-pub from-not : (b : Bool) → not b ≡ false → b ≡ true
-from-not true e = refl
-from-not false e = absurd (true≢false e)
 
 told-none : (which : WhichCaptures) (o : Option Trace) → o ≡ None → option_map (told which) o ≡ None
 told-none which o e = ap (option_map (told which)) e

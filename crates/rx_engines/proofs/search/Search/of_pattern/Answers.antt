@@ -1,7 +1,7 @@
 use Rattle.std.proofs.Common.{rules, subst}
 use Rattle.rx_model.specs.Matches.{IsSought}
 use Rattle.rx_engines.proofs.lemmas.answers.EngineLemmas.{none-done}
-use Rattle.rx_engines.proofs.lemmas.answers.OverlapLemmas.{sought-at, slice_get-read, from-not}
+use Rattle.rx_engines.proofs.lemmas.answers.OverlapLemmas.{sought-at, slice_get-read}
 use Rattle.rx_engines.proofs.search.Search.of_pattern.Goals as goal
 
 pub returns-then-is_done-clause-none : goal.returns-then-is_done-clause-none
@@ -10,7 +10,7 @@ returns-then-is_done-clause-none c sought = none-done c.args.nfa.now c.args.inpu
 pub returns-clause-some : goal.returns-clause-some
 returns-clause-some c =
     let nfa = c.args.nfa.now in
-    let sought = c.is_sought.ensures.0 (from-not c.is_sought.result c.if-not-is_sought.false) in
+    let sought = c.is_sought.ensures.0 c.if-not-is_sought.false in
     let start = slice_get-read _ nfa.starts c.args.pattern _ c.index-starts-as_usize.result c.requires c.starts-starts.ensures.value
     c.as_usize.ensures.value c.index-starts-as_usize.is in
     record {

@@ -1,8 +1,8 @@
 use Rattle.std.proofs.Common.{◌≡◌, length, sym, ◌∙◌, ap, subst, true≢false}
-use Rattle.std.specs.Prelude.{true, not, List, Bool, slice_set}
+use Rattle.std.specs.Prelude.{List, Bool}
 use Rattle.rx_search.specs.PatternSet.{has}
 use Rattle.rx_engines.specs.Sets.{KeepsMembers, GainsMatching}
-use Rattle.rx_engines.proofs.lemmas.answers.OverlapLemmas.{keeps-same, keeps-set, gains-same, gains-set, set-there, from-not}
+use Rattle.rx_engines.proofs.lemmas.answers.OverlapLemmas.{keeps-same, keeps-set, gains-same, gains-set, set-there}
 use Rattle.rx_engines.proofs.pikevm.vm.PikeVM.try_pattern.Goals as goal
 
 pub returns-then-contains-clause-kept : goal.returns-then-contains-clause-kept
@@ -22,7 +22,7 @@ returns-then-not-has_match-clause-matching c r is begins = gains-same r c.args.i
 
 pub returns-then-not-has_match-clause-tried : goal.returns-then-not-has_match-clause-tried
 returns-then-not-has_match-clause-tried c r is begins m =
-    absurd (true≢false (sym c.if-not-has_match.true ∙ ap not ((c.has_match.ensures.value r is begins).1 m)))
+    absurd (true≢false (sym ((c.has_match.ensures.value r is begins).1 m) ∙ c.if-not-has_match.true))
 
 pub returns-clause-kept : goal.returns-clause-kept
 returns-clause-kept c = subst (KeepsMembers c.args.set.now) (sym c.insert.ensures.set) (keeps-set c.args.set.now c.args.pattern c.requires.room)
@@ -30,7 +30,7 @@ returns-clause-kept c = subst (KeepsMembers c.args.set.now) (sym c.insert.ensure
 pub returns-clause-matching : goal.returns-clause-matching
 returns-clause-matching c r is begins =
     subst (GainsMatching r c.args.input.now c.args.set.now) (sym c.insert.ensures.set)
-    (gains-set r c.args.input.now c.args.set.now c.args.pattern ((c.has_match.ensures.value r is begins).0 (from-not c.has_match.result c.if-not-has_match.false)))
+    (gains-set r c.args.input.now c.args.set.now c.args.pattern ((c.has_match.ensures.value r is begins).0 c.if-not-has_match.false))
 
 pub returns-clause-tried : goal.returns-clause-tried
 returns-clause-tried c r is begins m =
