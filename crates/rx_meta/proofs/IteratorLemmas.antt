@@ -202,8 +202,7 @@ module _ (regex regex' : RegexValue) (same : regex' ≡ regex) (s t : SearcherVa
       → GivesFirst AreOfMatch before (after over) given
   captures-given captures found (Ok c) over copy e g told =
       let first = g.0 in
-      let is : upcoming (searches regex) s ≡ Some first = to_come-first (searches regex) s first _ g.2 in
-      (
+      let is : upcoming (searches regex) s ≡ Some first = to_come-first (searches regex) s first _ g.2 in (
         first,
         subst (λ (o : CapturesValue). AreOfMatch first o) (sym copy) (subst (AreOf captures) is told),
         to_come-before ∙ g.2 ∙ ap (λ ms. first ∷ ms) (sym (to_come-after over e)),

@@ -1,9 +1,10 @@
 -- What a set gains means a part of the span.
-use Rattle.std.proofs.Common.{◌≡◌, ℕ, ◌≤◌, ◌<◌, sym, ◌∙◌, subst, ap, inl, inr, arith, true≢false}
+use Rattle.std.proofs.Common.{◌≡◌, ℕ, ◌≤◌, ◌<◌, refl, sym, ◌∙◌, subst, ap, inl, inr, arith, true≢false}
 use Rattle.std.proofs.lemmas.Bool.Decides.{nat_tests}
 use Rattle.std.specs.Prelude.{◌↔◌, Bool, true, false, List, Some, IsTrue, slice_get, nat_lt}
 use Rattle.rx_model.specs.Expression.{Expression, AreOrdered}
 use Rattle.rx_model.specs.Meaning.{Means}
+use Rattle.rx_model.specs.Runs.{Trace}
 use Rattle.rx_model.specs.Search.{Patterns, Anchor, free, anchored, anchored_to, is_anchored, is_permitted, first}
 use Rattle.rx_model.specs.Matches.{IsStart}
 use Rattle.rx_model.specs.Utf8.{MeansUtf8}
@@ -46,6 +47,9 @@ first-start free b s i low high is = (low, high)
 first-start anchored b s i low high is = (is refl, omega arith)
 first-start (anchored_to p) b s i low high is = (is refl, omega arith)
 
+longer : (a b : ℕ) → a ≤ b → (b ≡ a → ⊥) → a < b
+longer a b le differ = by_test (nat_lt a b) (λ e. grind (arith, nat_tests)) (λ e. absurd (differ (grind (arith, nat_tests))))
+
 module _ (r : Patterns) (v : InputValue) (ordered : (p : ℕ) (h : Expression) → slice_get r.expressions p ≡ Some h → AreOrdered h) where
   -- a pattern with a match means a part of the span
   matches-mean : (p : ℕ) → MatchesIn r v p → MeansInSpan r v p
@@ -63,27 +67,40 @@ module _ (r : Patterns) (v : InputValue) (ordered : (p : ℕ) (h : Expression) �
       } in
       subst (MeansInSpan r v) m.2 own
 
-  -- and one that means a part has a match, where no part that is meant is empty
+  -- a match may start where a part begins that is meant and not empty
+  meant-permitted : (r.utf8_empty ≡ true → MeansUtf8 r v.haystack) → (p : ℕ) (h : Expression) → slice_get r.expressions p ≡ Some h → (i j : ℕ) → i < j
+      → Means r.terminator v.haystack h i j → IsTrue (is_permitted r.utf8_empty v.haystack i)
+  meant-permitted utf8 p h is i j lt means =
+      by_test r.utf8_empty
+      (λ on. rw on (part-permitted v.haystack (utf8 on).whole i j lt ((utf8 on).parts p h is i j lt means)).0)
+      (λ off. rw off refl)
+
+  -- and the pattern has a run there
+  meant-run : (p : ℕ) (h : Expression) → slice_get r.expressions p ≡ Some h → (i j : ℕ) → j ≤ v.end → Means r.terminator v.haystack h i j
+      → (t : Trace) × (first r v.haystack v.end p h i ≡ Some t)
+  meant-run p h is i j le means =
+      elim (tells (first r v.haystack v.end p h i)) [
+        | inl none ↦ absurd (first-none r v.haystack v.end p h (ordered p h is) i none j le means)
+        | inr some ↦ some
+      ]
+
+  -- so one that means a part has a match, where no part that is meant is empty
   means-match : (r.utf8_empty ≡ true → MeansUtf8 r v.haystack) → HasNoEmptyMatch r v → (p : ℕ) → MeansInSpan r v p → MatchesIn r v p
   means-match utf8 full p m =
       let h = m.expression in
+      let low = m.within.0 in
       let order = m.within.1 in
-      let lt : m.start < m.end =
-      by_test (nat_lt m.start m.end)
-      (λ e. grind (arith, nat_tests))
-      (λ e.
-      let same : m.end ≡ m.start = grind (arith, nat_tests) in
-      absurd (full p h m.start m.is_there (subst (λ j. Means r.terminator v.haystack h m.start j) same m.meant))) in
-      let permitted : IsTrue (is_permitted r.utf8_empty v.haystack m.start) =
-      by_test r.utf8_empty
-      (λ on. rw on (part-permitted v.haystack (utf8 on).whole m.start m.end lt ((utf8 on).parts p h m.is_there m.start m.end lt m.meant)).0)
-      (λ off. rw off refl) in
       let high = m.within.2 in
-      let begins = first-start v.anchor v.end v.start m.start m.within.0 (omega arith) m.first in
-      elim (tells (first r v.haystack v.end p h m.start)) [
-        | inl none ↦ absurd (first-none r v.haystack v.end p h (ordered p h m.is_there) m.start none m.end m.within.2 m.meant)
-        | inr some ↦ run-matches r v p (m.start, some.0, (begins, permitted), (m.sought, (h, m.is_there, some.1)))
-      ]
+      let lt = longer m.start m.end order (λ same. full p h m.start m.is_there (subst (λ j. Means r.terminator v.haystack h m.start j) same m.meant)) in
+      let run = meant-run p h m.is_there m.start m.end high m.meant in
+      let place : m.start ≤ v.end = omega arith in
+      let begins = first-start v.anchor v.end v.start m.start low place m.first in
+      run-matches r v p (
+        m.start,
+        run.0,
+        (begins, meant-permitted utf8 p h m.is_there m.start m.end lt m.meant),
+        (m.sought, (h, m.is_there, run.1)),
+      )
 
 pub gains-what_means : (regex : RegexValue) (r : Patterns) (v : InputValue) (old new : List Bool) → Premises (Serves regex r) (given_needles regex) r v
     → kind_in regex ≡ All → v.earliest ≡ false → HasNoEmptyMatch r v → AddsMatching regex v old new → IsFilled regex v old new

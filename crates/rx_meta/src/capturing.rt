@@ -1,4 +1,6 @@
 //! The searches that fill captures.
+#![tactic(auto, unfolding(crate::specs::Cache::Fits, crate::specs::Cache::memory_of, crate::specs::Impossible::IsKnownImpossible, crate::specs::Regex::pattern_count))]
+
 ghost use Rattle.std.specs.Prelude.{◌≡◌, ◌+◌, ◌-◌, ◌^◌, min, None, replicate, option_map, IfOk, OnOk, OnErr, IsOk};
 ghost use Rattle.rx_search.specs.GroupInfo.{slot_count};
 ghost use Rattle.rx_meta.specs.Cache.{Fits, memory_of};

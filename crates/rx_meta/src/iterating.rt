@@ -1,4 +1,6 @@
 //! The iterators of a regex.
+#![tactic(auto, unfolding(crate::specs::Cache::Fits, crate::specs::Cache::memory_of, crate::specs::Impossible::IsKnownImpossible, crate::specs::Regex::pattern_count))]
+
 ghost use Rattle.std.specs.Prelude.{◌≡◌, IfOk};
 ghost use Rattle.rx_meta.specs.Iterators.{begun, split_begun};
 

@@ -1,5 +1,7 @@
 //! The searches that fill a set of patterns.
-ghost use Rattle.std.specs.Prelude.{◌≤◌, length, OnOk, IsOk};
+#![tactic(auto, unfolding(crate::specs::Cache::Fits, crate::specs::Cache::memory_of, crate::specs::Impossible::IsKnownImpossible, crate::specs::Regex::pattern_count))]
+
+ghost use Rattle.std.specs.Prelude.{◌≡◌, ◌≤◌, length, OnOk, IsOk};
 ghost use Rattle.rx_meta.specs.Cache.{Fits, memory_of};
 ghost use Rattle.rx_meta.specs.Impossible.{IsKnownImpossible};
 ghost use Rattle.rx_meta.specs.Regex.{pattern_count};

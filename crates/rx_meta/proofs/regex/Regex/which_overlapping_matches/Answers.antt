@@ -3,7 +3,7 @@ use Rattle.rx_engines.proofs.lemmas.answers.OverlapLemmas.{keeps-same}
 use Rattle.rx_meta.specs.Regex.{RegexValue}
 use Rattle.rx_meta.specs.Sets.{AddsMatching, IsFilled}
 use Rattle.rx_meta.proofs.ServeLemmas.{with_strategy, none-adds, none-fills}
-use Rattle.rx_meta.proofs.overlapping.Regex.which_overlapping_matches.Goals as goal
+use Rattle.rx_meta.proofs.regex.Regex.which_overlapping_matches.Goals as goal
 
 pub returns-then-is_impossible-clause-kept : goal.returns-then-is_impossible-clause-kept
 returns-then-is_impossible-clause-kept g c = keeps-same c.args.set.now

@@ -3,7 +3,7 @@ use Rattle.std.specs.Prelude.{OnOk}
 use Rattle.rx_meta.specs.Regex.{RegexValue}
 use Rattle.rx_meta.specs.Sets.{AddsMatching, IsFilled}
 use Rattle.rx_meta.proofs.ServeLemmas.{with_strategy, adds-of, filled-of}
-use Rattle.rx_meta.proofs.overlapping.Regex.which_overlapping_matches_with.Goals as goal
+use Rattle.rx_meta.proofs.regex.Regex.which_overlapping_matches_with.Goals as goal
 
 pub returns-clause-matching : goal.returns-clause-matching
 returns-clause-matching c =
