@@ -1,0 +1,55 @@
+//! The automata of the tests.
+ghost use Rattle.std.specs.Prelude.{◌≡◌, not};
+
+use rx_dfa::Dense;
+use rx_engines::backtrack::BoundedBacktracker;
+use rx_engines::pikevm::PikeVM;
+use rx_nfa::Config;
+use rx_search::{Input, Match, MatchError, MatchKind};
+use rx_thompson::{Compiler, NFA};
+use std::alloc::Global;
+use std::process::Abort;
+use std::test::Fail;
+
+/// The NFA of the patterns, whether its matches may lie inside a character, and whether it reads backwards.
+pub(crate) fn nfa(
+    rt: &impl Abort,
+    alloc: Global,
+    patterns: &[&str],
+    splits: bool,
+    reverse: bool,
+) -> NFA
+    ensures utf8 { result.utf8 ≡ not splits }
+    ensures reverse { result.reverse ≡ reverse }
+{
+    let mut compiler = Compiler::new();
+    compiler.configure(Config::new().utf8(!splits).reverse(reverse));
+    let nfa = compiler.build_many(alloc, patterns);
+    nfa.ok().expect(rt, "an NFA")
+}
+
+/// The full DFA of the NFA, with its classes of bytes.
+pub(crate) fn dense(rt: &impl Abort, alloc: Global, nfa: NFA, kind: MatchKind) -> Dense
+    ensures { result.dfa.nfa ≡ nfa }
+{
+    let dense = Dense::build_from_nfa(alloc, nfa, kind, true, None);
+    dense.ok().expect(rt, "a full DFA")
+}
+
+/// What the PikeVM finds.
+pub(crate) fn simulated(alloc: Global, nfa: NFA, input: &Input<'_>) -> Result<Option<Match>, Fail> {
+    let vm = PikeVM::build_from_nfa(nfa, MatchKind::LeftmostFirst, None);
+    let mut cache = vm.create_cache(alloc)?;
+    Ok(vm.find(&mut cache, input))
+}
+
+/// What the backtracker finds.
+pub(crate) fn backtracked(
+    alloc: Global,
+    nfa: NFA,
+    input: &Input<'_>,
+) -> Result<Result<Option<Match>, MatchError>, Fail> {
+    let backtracker = BoundedBacktracker::build_from_nfa(nfa, None);
+    let mut cache = backtracker.create_cache(alloc)?;
+    Ok(backtracker.try_find_slots(&mut cache, input, &mut []))
+}

@@ -1,0 +1,221 @@
+//! Searches for a match and for its end, by the full DFA and by the other engines. What is wanted was found by hand.
+
+use crate::automata::{backtracked, dense, nfa, simulated};
+use crate::table::Mode::{No, Only, Yes};
+use crate::table::Told::{Found, Nothing, Quit};
+use crate::table::{Mode, Search, Told, input, told_half, told_whole};
+use rx_dfa::{try_search, try_search_half_fwd};
+use rx_search::MatchKind;
+use std::alloc::Global;
+use std::process::Abort;
+use std::test::Fail;
+
+/// The patterns, whether a match may lie inside a character, the text, the span, the mode, and what is wanted.
+type Row = (
+    &'static [&'static str],
+    bool,
+    &'static str,
+    (usize, usize),
+    Mode,
+    Told,
+);
+
+const PREFERENCE: [Row; 22] = [
+    (&["a"], false, "xay", (0, 3), No, Found(0, 1, 2)),
+    (&["a"], false, "xyz", (0, 3), No, Nothing),
+    (&["a|ab"], false, "xab", (0, 3), No, Found(0, 1, 2)),
+    (&["ab|a"], false, "xab", (0, 3), No, Found(0, 1, 3)),
+    (&[".abb|b"], false, "xabb", (0, 4), No, Found(0, 0, 4)),
+    (&["abcd|c"], false, "abce", (0, 4), No, Found(0, 2, 3)),
+    (&["a+"], false, "xaab", (0, 4), No, Found(0, 1, 3)),
+    (&["a+?"], false, "xaab", (0, 4), No, Found(0, 1, 2)),
+    (&["a*?"], false, "aa", (0, 2), No, Found(0, 0, 0)),
+    (&["a*?b"], false, "caab", (0, 4), No, Found(0, 1, 4)),
+    (&["(?:|a)+"], false, "aaa", (0, 3), No, Found(0, 0, 0)),
+    (&["(?:a|)+"], false, "aab", (0, 3), No, Found(0, 0, 2)),
+    (&["(?:a??)*b"], false, "aab", (0, 3), No, Found(0, 0, 3)),
+    (
+        &[r"(?:\B(?:|[-+]))*\+"],
+        false,
+        "-++",
+        (0, 3),
+        No,
+        Found(0, 0, 3),
+    ),
+    (&["b", "ab"], false, "ab", (0, 2), No, Found(1, 0, 2)),
+    (&["a", "ab"], false, "ab", (0, 2), No, Found(0, 0, 1)),
+    (&["ab", "a"], false, "ab", (0, 2), No, Found(0, 0, 2)),
+    (&["abc", "b"], false, "abd", (0, 3), No, Found(1, 1, 2)),
+    (&["a*", "b"], false, "b", (0, 1), No, Found(0, 0, 0)),
+    (&["x", "a+", "a"], false, "baa", (0, 3), No, Found(1, 1, 3)),
+    (&["a", "a"], false, "a", (0, 1), No, Found(0, 0, 1)),
+    (&[], false, "a", (0, 1), No, Nothing),
+];
+
+const MODES: [Row; 16] = [
+    (&["a"], false, "ba", (0, 2), Yes, Nothing),
+    (&["a"], false, "ba", (1, 2), Yes, Found(0, 1, 2)),
+    (&["a*"], false, "ba", (0, 2), Yes, Found(0, 0, 0)),
+    (&["a", "b"], false, "ba", (0, 2), Only(1), Found(1, 0, 1)),
+    (&["a", "b"], false, "ba", (0, 2), Only(0), Nothing),
+    (&["a", "b"], false, "ba", (0, 2), Only(2), Nothing),
+    (&["", ""], false, "ba", (0, 2), Only(2), Nothing),
+    (&["a+", "aa"], false, "aaa", (0, 3), Only(1), Found(1, 0, 2)),
+    (&["a", "ab"], false, "ab", (0, 2), Yes, Found(0, 0, 1)),
+    (&["a"], false, "aaa", (1, 2), No, Found(0, 1, 2)),
+    (&["a+"], false, "aaaa", (1, 3), No, Found(0, 1, 3)),
+    (&["b"], false, "aab", (0, 2), No, Nothing),
+    (&[""], false, "ab", (1, 1), No, Found(0, 1, 1)),
+    (&[""], false, "ab", (2, 1), No, Nothing),
+    (&["a*"], false, "ab", (1, 0), Yes, Nothing),
+    (&["a"], false, "", (0, 0), No, Nothing),
+];
+
+const NEIGHBOURS: [Row; 30] = [
+    (&["a$"], false, "ab", (0, 1), No, Nothing),
+    (&["a$"], false, "ba", (0, 2), No, Found(0, 1, 2)),
+    (&["(?m)a$"], false, "a\nb", (0, 1), No, Found(0, 0, 1)),
+    (&["(?m)^a"], false, "\na", (1, 2), No, Found(0, 1, 2)),
+    (&["(?m)^a"], false, "xa", (1, 2), No, Nothing),
+    (&["^a"], false, "xa", (1, 2), No, Nothing),
+    (&["^a"], false, "ax", (0, 2), No, Found(0, 0, 1)),
+    (&["(?mR)$"], false, "a\r\nb", (1, 1), No, Found(0, 1, 1)),
+    (&["(?mR)$"], false, "a\r\nb", (2, 2), No, Nothing),
+    (&["(?mR)^"], false, "a\r\nb", (2, 2), No, Nothing),
+    (&["(?mR)^b"], false, "a\r\nb", (1, 4), No, Found(0, 3, 4)),
+    (&[r"\ba"], false, "xa a", (1, 4), No, Found(0, 3, 4)),
+    (&[r"a\b"], false, "ab", (0, 1), No, Nothing),
+    (&[r"a\b"], false, "a-", (0, 1), No, Found(0, 0, 1)),
+    (&[r"a\B"], false, "ab", (0, 1), No, Found(0, 0, 1)),
+    (&[r"\Ba"], false, "xa", (1, 2), Yes, Found(0, 1, 2)),
+    (&[r"\b{start}a"], false, "-ab", (1, 2), No, Found(0, 1, 2)),
+    (&[r"a\b{end}"], false, "-ab", (1, 2), No, Nothing),
+    (&[r"\b{start-half}a"], false, "aa", (1, 2), No, Nothing),
+    (&[r"(?-u:a\b)"], false, "a☃", (0, 1), No, Found(0, 0, 1)),
+    (&[r"a\b{end-half}"], false, "a☃", (0, 1), No, Quit(226, 1)),
+    (
+        &[r"\bfoo\b"],
+        false,
+        "foo βfoo foo",
+        (3, 13),
+        No,
+        Quit(206, 4),
+    ),
+    (
+        &[r"\bfoo\b"],
+        false,
+        "foo βfoo foo",
+        (0, 3),
+        No,
+        Found(0, 0, 3),
+    ),
+    (&[r"\bfoo"], false, "βfoo", (2, 5), No, Quit(178, 1)),
+    (&["foo"], false, "βfoo", (2, 5), No, Found(0, 2, 5)),
+    (&[r"foo\b"], false, "fooβ", (0, 3), No, Quit(206, 3)),
+    (&[r"foo\b"], false, "foo--β", (0, 7), No, Found(0, 0, 3)),
+    (&[r"a\b"], false, "ba β", (0, 2), Yes, Nothing),
+    (&["a", r"\bb"], false, "aβ", (0, 1), No, Quit(206, 1)),
+    (&["a", r"\bb"], false, "βa", (2, 3), Only(0), Quit(178, 1)),
+];
+
+const CHARACTERS: [Row; 31] = [
+    (&["☃"], false, "a☃b", (0, 5), No, Found(0, 1, 4)),
+    (&["☃"], false, "a☃b", (0, 3), No, Nothing),
+    (&["."], false, "é☃", (0, 5), No, Found(0, 0, 2)),
+    (&["."], false, "é☃", (1, 5), No, Found(0, 2, 5)),
+    (&["."], false, "☃", (1, 3), No, Nothing),
+    (&["[^a]"], false, "a☃", (0, 4), No, Found(0, 1, 4)),
+    (&["[α-ω]+"], false, "xαβx", (0, 6), No, Found(0, 1, 5)),
+    (&["é+|☃"], false, "☃éé", (0, 7), No, Found(0, 0, 3)),
+    (&["é", "☃"], false, "☃é", (0, 5), No, Found(1, 0, 3)),
+    (&[""], false, "☃", (0, 3), No, Found(0, 0, 0)),
+    (&[""], false, "☃", (1, 3), No, Found(0, 3, 3)),
+    (&[""], true, "☃", (1, 3), No, Found(0, 1, 1)),
+    (&[""], false, "☃", (1, 2), No, Nothing),
+    (&[""], true, "☃", (2, 2), No, Found(0, 2, 2)),
+    (&[""], false, "☃", (1, 3), Yes, Nothing),
+    (&[""], true, "☃", (1, 3), Yes, Found(0, 1, 1)),
+    (&["a", ""], false, "☃a", (1, 4), Only(1), Nothing),
+    (&["a*"], false, "☃a", (1, 4), No, Found(0, 3, 4)),
+    (&["a*"], true, "☃a", (1, 4), No, Found(0, 1, 1)),
+    (&["b", "a*"], false, "☃☃b", (1, 7), No, Found(1, 3, 3)),
+    (&["☃|"], false, "a☃", (2, 4), No, Found(0, 4, 4)),
+    (&["☃|"], false, "a☃", (1, 3), No, Found(0, 1, 1)),
+    (&[r"(?-u:\B)|a☃"], false, "a☃b", (0, 5), No, Found(0, 0, 4)),
+    (&[r"(?-u:\B)|a☃"], false, "a☃b", (1, 5), No, Nothing),
+    (&[r"(?-u:\B)|a☃"], true, "a☃b", (1, 5), No, Found(0, 2, 2)),
+    (&[r"(?-u:\B)"], false, "a☃☃", (0, 7), No, Found(0, 4, 4)),
+    (&[r"(?-u:\B)"], true, "a☃☃", (0, 7), No, Found(0, 2, 2)),
+    (&[r"(?-u:\B)"], false, "a☃", (1, 2), No, Nothing),
+    (&[r"(?-u:\B)"], true, "a☃", (1, 2), No, Found(0, 2, 2)),
+    (&[r"a|(?-u:\B)"], false, "☃a", (0, 2), No, Found(0, 0, 0)),
+    (&[r"(?-u:\B)|é"], false, "bé☃", (0, 4), No, Found(0, 1, 3)),
+];
+
+/// Compares what the searches tell with what is wanted.
+fn searched(rt: &impl Abort, alloc: Global, row: Row) -> Result<(), Fail> {
+    let (patterns, splits, text, span, mode, want) = row;
+    let search = Search {
+        patterns,
+        splits,
+        text,
+        span,
+        mode,
+    };
+    let input = input(rt, search);
+    let forward = dense(
+        rt,
+        alloc,
+        nfa(rt, alloc, patterns, splits, false),
+        MatchKind::LeftmostFirst,
+    );
+    let backward = dense(
+        rt,
+        alloc,
+        nfa(rt, alloc, patterns, splits, true),
+        MatchKind::All,
+    );
+    let end = told_half(try_search_half_fwd(&forward, &mut (), &input));
+    assert_eq!(rt; end, want.end());
+    let found = told_whole(try_search(&forward, &mut (), &backward, &mut (), &input));
+    assert_eq!(rt; found, want);
+    if want.is_ok() {
+        let found = simulated(alloc, nfa(rt, alloc, patterns, splits, false), &input)?;
+        assert_eq!(rt; told_whole(Ok(found)), want);
+        let found = backtracked(alloc, nfa(rt, alloc, patterns, splits, false), &input)?;
+        assert_eq!(rt; told_whole(found), want);
+    }
+    Ok(())
+}
+
+#[test]
+fn preferred_matches(rt: HostRuntime) -> Result<(), Fail> {
+    for row in PREFERENCE {
+        searched(&rt, rt.alloc(), row)?;
+    }
+    Ok(())
+}
+
+#[test]
+fn spans_and_modes(rt: HostRuntime) -> Result<(), Fail> {
+    for row in MODES {
+        searched(&rt, rt.alloc(), row)?;
+    }
+    Ok(())
+}
+
+#[test]
+fn what_stands_beside_a_span(rt: HostRuntime) -> Result<(), Fail> {
+    for row in NEIGHBOURS {
+        searched(&rt, rt.alloc(), row)?;
+    }
+    Ok(())
+}
+
+#[test]
+fn characters_of_several_bytes(rt: HostRuntime) -> Result<(), Fail> {
+    for row in CHARACTERS {
+        searched(&rt, rt.alloc(), row)?;
+    }
+    Ok(())
+}

@@ -1,0 +1,91 @@
+//! What the rows of the tests are made of.
+
+use rx_search::{Anchored, HalfMatch, Input, Match, MatchError, PatternID, Span};
+use std::process::Abort;
+
+/// Where a match may begin: anywhere, where the span begins, and there of the pattern of this number alone.
+#[derive(Clone, Copy)]
+pub(crate) enum Mode {
+    No,
+    Yes,
+    Only(usize),
+}
+
+/// A search: the patterns; whether a match may lie inside a character; the text; and the span and the mode.
+#[derive(Clone, Copy)]
+pub(crate) struct Search {
+    pub(crate) patterns: &'static [&'static str],
+    pub(crate) splits: bool,
+    pub(crate) text: &'static str,
+    pub(crate) span: (usize, usize),
+    pub(crate) mode: Mode,
+}
+
+/// What a search tells.
+#[derive(Clone, Copy, Debug, PartialEq, Eq)]
+pub(crate) enum Told {
+    /// A match of the pattern of this number, from this place to that.
+    Found(usize, usize, usize),
+    /// The pattern of this number matches, and its match ends, or starts, at this place.
+    Half(usize, usize),
+    Nothing,
+    /// The search quits at this byte, at this place.
+    Quit(u8, usize),
+    /// Another error.
+    Refused,
+}
+
+/// The input of the search.
+pub(crate) fn input(rt: &impl Abort, search: Search) -> Input<'static> {
+    let (start, end) = search.span;
+    assert!(rt; end <= search.text.len());
+    assert!(rt; start <= end + 1);
+    let input = Input::new(search.text.as_bytes()).span(Span { start, end });
+    input.anchored(anchored(rt, search.mode))
+}
+
+/// The mode of a search.
+fn anchored(rt: &impl Abort, mode: Mode) -> Anchored {
+    match mode {
+        Mode::No => Anchored::No,
+        Mode::Yes => Anchored::Yes,
+        Mode::Only(number) => {
+            Anchored::Pattern(PatternID::new(number).expect(rt, "a number of a pattern"))
+        }
+    }
+}
+
+/// What a search for a match tells.
+pub(crate) fn told_whole(found: Result<Option<Match>, MatchError>) -> Told {
+    match found {
+        Ok(Some(found)) => { Told::Found(found.pattern().as_usize(), found.start(), found.end()) }
+        Ok(None) => Told::Nothing,
+        Err(MatchError::Quit { byte, offset }) => Told::Quit(byte, offset),
+        Err(_) => Told::Refused,
+    }
+}
+
+/// What a search for an end, or a start, tells.
+pub(crate) fn told_half(found: Result<Option<HalfMatch>, MatchError>) -> Told {
+    match found {
+        Ok(Some(found)) => Told::Half(found.pattern().as_usize(), found.offset()),
+        Ok(None) => Told::Nothing,
+        Err(MatchError::Quit { byte, offset }) => Told::Quit(byte, offset),
+        Err(_) => Told::Refused,
+    }
+}
+
+impl Told {
+    /// The same without the start.
+    pub(crate) fn end(self) -> Told {
+        match self {
+            Told::Found(pattern, _, end) => Told::Half(pattern, end),
+            told => told,
+        }
+    }
+
+    /// Whether the search came to its end.
+    pub(crate) fn is_ok(self) -> bool {
+        !matches!(self, Told::Quit(..) | Told::Refused)
+    }
+}
