@@ -1,6 +1,7 @@
 //! The NFA of the pattern that is timed.
 
 use crate::failure::Failure;
+use rx_nfa::Config;
 use rx_prefilter::Prefilter;
 use rx_search::MatchKind;
 use rx_syntax::{ParseError, parse};
@@ -14,6 +15,21 @@ use std::alloc::Global;
 /// `Pattern` where the grammar or a limit refuses the pattern; else only `Memory`.
 pub fn compile(alloc: Global, pattern: &str) -> Result<NFA, Failure> {
     match Compiler::new().build(alloc, pattern) {
+        Ok(nfa) => Ok(nfa),
+        Err(BuildError::Memory) => Err(Failure::Memory),
+        Err(_) => Err(Failure::Pattern),
+    }
+}
+
+/// The NFA of the pattern that reads backwards.
+///
+/// # Errors
+///
+/// `Pattern` where the grammar or a limit refuses the pattern; else only `Memory`.
+pub fn compile_reverse(alloc: Global, pattern: &str) -> Result<NFA, Failure> {
+    let mut compiler = Compiler::new();
+    compiler.configure(Config::new().reverse(true));
+    match compiler.build(alloc, pattern) {
         Ok(nfa) => Ok(nfa),
         Err(BuildError::Memory) => Err(Failure::Memory),
         Err(_) => Err(Failure::Pattern),

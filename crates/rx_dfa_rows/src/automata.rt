@@ -1,15 +1,20 @@
 //! The automata of the tests.
 ghost use Rattle.std.specs.Prelude.{◌≡◌, not};
+ghost use Rattle.rx_dfa.specs.LazyCache.{IsCacheOf};
 
+use crate::table::{Told, told_whole};
 use rx_dfa::Dense;
+use rx_dfa::lazy::{Lazy, LazyCache};
 use rx_engines::backtrack::BoundedBacktracker;
 use rx_engines::pikevm::PikeVM;
 use rx_nfa::Config;
-use rx_search::{Input, Match, MatchError, MatchKind};
+use rx_search::{Input, MatchKind};
 use rx_thompson::{Compiler, NFA};
 use std::alloc::Global;
 use std::process::Abort;
-use std::test::Fail;
+
+/// The bytes that the caches of most tests may account.
+const CAPACITY: usize = 1 << 20;
 
 /// The NFA of the patterns, whether its matches may lie inside a character, and whether it reads backwards.
 pub(crate) fn nfa(
@@ -36,20 +41,31 @@ pub(crate) fn dense(rt: &impl Abort, alloc: Global, nfa: NFA, kind: MatchKind) -
     dense.ok().expect(rt, "a full DFA")
 }
 
+/// A lazy DFA of the NFA, with its classes of bytes and room for many states.
+pub(crate) fn lazy(rt: &impl Abort, alloc: Global, nfa: NFA, kind: MatchKind) -> Lazy
+    ensures { result.dfa.nfa ≡ nfa }
+{
+    let lazy = Lazy::build_from_nfa(alloc, nfa, kind, true, CAPACITY);
+    lazy.ok().expect(rt, "a lazy DFA")
+}
+
+/// A cache for the automaton.
+pub(crate) fn cache(rt: &impl Abort, alloc: Global, lazy: &Lazy) -> LazyCache
+    ensures { IsCacheOf lazy.now result }
+{
+    LazyCache::new(alloc, lazy).ok().expect(rt, "a cache")
+}
+
 /// What the PikeVM finds.
-pub(crate) fn simulated(alloc: Global, nfa: NFA, input: &Input<'_>) -> Result<Option<Match>, Fail> {
+pub(crate) fn simulated(rt: &impl Abort, alloc: Global, nfa: NFA, input: &Input<'_>) -> Told {
     let vm = PikeVM::build_from_nfa(nfa, MatchKind::LeftmostFirst, None);
-    let mut cache = vm.create_cache(alloc)?;
-    Ok(vm.find(&mut cache, input))
+    let mut cache = vm.create_cache(alloc).ok().expect(rt, "a cache");
+    told_whole(Ok(vm.find(&mut cache, input)))
 }
 
 /// What the backtracker finds.
-pub(crate) fn backtracked(
-    alloc: Global,
-    nfa: NFA,
-    input: &Input<'_>,
-) -> Result<Result<Option<Match>, MatchError>, Fail> {
+pub(crate) fn backtracked(rt: &impl Abort, alloc: Global, nfa: NFA, input: &Input<'_>) -> Told {
     let backtracker = BoundedBacktracker::build_from_nfa(nfa, None);
-    let mut cache = backtracker.create_cache(alloc)?;
-    Ok(backtracker.try_find_slots(&mut cache, input, &mut []))
+    let mut cache = backtracker.create_cache(alloc).ok().expect(rt, "a cache");
+    told_whole(backtracker.try_find_slots(&mut cache, input, &mut []))
 }

@@ -1,24 +1,14 @@
-//! Searches for a match and for its end, by the full DFA and by the other engines. What is wanted was found by hand.
+//! Searches for a match and for its end, by the DFAs and by the other engines. What is wanted was found by hand.
+ghost use Rattle.std.specs.Prelude.{◌≡◌, true, false};
 
-use crate::automata::{backtracked, dense, nfa, simulated};
+use crate::automata::{backtracked, cache, dense, lazy, nfa, simulated};
 use crate::table::Mode::{No, Only, Yes};
 use crate::table::Told::{Found, Nothing, Quit};
-use crate::table::{Mode, Search, Told, input, told_half, told_whole};
-use rx_dfa::{try_search, try_search_half_fwd};
+use crate::table::{Row, input, told_half, told_whole};
+use rx_dfa::{Automaton, try_search, try_search_half_fwd};
 use rx_search::MatchKind;
 use std::alloc::Global;
 use std::process::Abort;
-use std::test::Fail;
-
-/// The patterns, whether a match may lie inside a character, the text, the span, the mode, and what is wanted.
-type Row = (
-    &'static [&'static str],
-    bool,
-    &'static str,
-    (usize, usize),
-    Mode,
-    Told,
-);
 
 const PREFERENCE: [Row; 22] = [
     (&["a"], false, "xay", (0, 3), No, Found(0, 1, 2)),
@@ -152,70 +142,95 @@ const CHARACTERS: [Row; 31] = [
     (&[r"(?-u:\B)|é"], false, "bé☃", (0, 4), No, Found(0, 1, 3)),
 ];
 
-/// Compares what the searches tell with what is wanted.
-fn searched(rt: &impl Abort, alloc: Global, row: Row) -> Result<(), Fail> {
-    let (patterns, splits, text, span, mode, want) = row;
-    let search = Search {
-        patterns,
-        splits,
-        text,
-        span,
-        mode,
-    };
-    let input = input(rt, search);
-    let forward = dense(
-        rt,
-        alloc,
-        nfa(rt, alloc, patterns, splits, false),
-        MatchKind::LeftmostFirst,
-    );
-    let backward = dense(
-        rt,
-        alloc,
-        nfa(rt, alloc, patterns, splits, true),
-        MatchKind::All,
-    );
-    let end = told_half(try_search_half_fwd(&forward, &mut (), &input));
+/// Compares what two automata tell with what is wanted.
+fn searched<A: Automaton>(
+    rt: &impl Abort,
+    forward: &A,
+    cache: &mut A::Cache,
+    backward: &A,
+    second: &mut A::Cache,
+    row: Row,
+)
+    requires fits { A.fits forward.now cache.old }
+    requires second { A.fits backward.now second.old }
+    requires forward { (A.dfa forward.now).nfa.reverse ≡ false }
+    requires backward { (A.dfa backward.now).nfa.reverse ≡ true }
+    requires utf8 { (A.dfa forward.now).nfa.utf8 ≡ (A.dfa backward.now).nfa.utf8 }
+{
+    let (_, _, _, _, _, want) = row;
+    let input = input(rt, row);
+    let end = told_half(try_search_half_fwd(forward, cache, &input));
     assert_eq!(rt; end, want.end());
-    let found = told_whole(try_search(&forward, &mut (), &backward, &mut (), &input));
+    let found = told_whole(try_search(forward, cache, backward, second, &input));
     assert_eq!(rt; found, want);
-    if want.is_ok() {
-        let found = simulated(alloc, nfa(rt, alloc, patterns, splits, false), &input)?;
-        assert_eq!(rt; told_whole(Ok(found)), want);
-        let found = backtracked(alloc, nfa(rt, alloc, patterns, splits, false), &input)?;
-        assert_eq!(rt; told_whole(found), want);
+}
+
+/// Compares what the full DFA tells.
+fn by_full(rt: &impl Abort, alloc: Global, row: Row) {
+    let (patterns, splits, ..) = row;
+    let reads = nfa(rt, alloc, patterns, splits, false);
+    let forward = dense(rt, alloc, reads, MatchKind::LeftmostFirst);
+    let reads_back = nfa(rt, alloc, patterns, splits, true);
+    let backward = dense(rt, alloc, reads_back, MatchKind::All);
+    searched(rt, &forward, &mut (), &backward, &mut (), row);
+}
+
+/// Compares what a lazy DFA tells.
+fn by_lazy(rt: &impl Abort, alloc: Global, row: Row) {
+    let (patterns, splits, ..) = row;
+    let reads = nfa(rt, alloc, patterns, splits, false);
+    let forward = lazy(rt, alloc, reads, MatchKind::LeftmostFirst);
+    let mut first = cache(rt, alloc, &forward);
+    let reads_back = nfa(rt, alloc, patterns, splits, true);
+    let backward = lazy(rt, alloc, reads_back, MatchKind::All);
+    let mut second = cache(rt, alloc, &backward);
+    searched(rt, &forward, &mut first, &backward, &mut second, row);
+}
+
+/// Compares what the other engines find, where the search is to come to its end.
+fn by_others(rt: &impl Abort, alloc: Global, row: Row) {
+    let (patterns, splits, _, _, _, want) = row;
+    if !want.is_ok() {
+        return;
     }
-    Ok(())
+    let input = input(rt, row);
+    let found = simulated(rt, alloc, nfa(rt, alloc, patterns, splits, false), &input);
+    assert_eq!(rt; found, want);
+    let tried = backtracked(rt, alloc, nfa(rt, alloc, patterns, splits, false), &input);
+    assert_eq!(rt; tried, want);
+}
+
+/// Compares what all engines tell.
+fn compare(rt: &impl Abort, alloc: Global, row: Row) {
+    by_full(rt, alloc, row);
+    by_lazy(rt, alloc, row);
+    by_others(rt, alloc, row);
 }
 
 #[test]
-fn preferred_matches(rt: HostRuntime) -> Result<(), Fail> {
+fn preferred_matches(rt: HostRuntime) {
     for row in PREFERENCE {
-        searched(&rt, rt.alloc(), row)?;
+        compare(&rt, rt.alloc(), row);
     }
-    Ok(())
 }
 
 #[test]
-fn spans_and_modes(rt: HostRuntime) -> Result<(), Fail> {
+fn spans_and_modes(rt: HostRuntime) {
     for row in MODES {
-        searched(&rt, rt.alloc(), row)?;
+        compare(&rt, rt.alloc(), row);
     }
-    Ok(())
 }
 
 #[test]
-fn what_stands_beside_a_span(rt: HostRuntime) -> Result<(), Fail> {
+fn what_stands_beside_a_span(rt: HostRuntime) {
     for row in NEIGHBOURS {
-        searched(&rt, rt.alloc(), row)?;
+        compare(&rt, rt.alloc(), row);
     }
-    Ok(())
 }
 
 #[test]
-fn characters_of_several_bytes(rt: HostRuntime) -> Result<(), Fail> {
+fn characters_of_several_bytes(rt: HostRuntime) {
     for row in CHARACTERS {
-        searched(&rt, rt.alloc(), row)?;
+        compare(&rt, rt.alloc(), row);
     }
-    Ok(())
 }

@@ -1,25 +1,14 @@
-//! Searches for the last end of any match. What is wanted was found by hand.
+//! Searches for the last end of any match, with the least pattern that ends there. What is wanted was found by hand.
+ghost use Rattle.std.specs.Prelude.{◌≡◌, false};
 
-use crate::automata::{dense, nfa, simulated};
+use crate::automata::{cache, dense, lazy, nfa, simulated};
 use crate::table::Mode::{No, Only, Yes};
 use crate::table::Told::{Half, Nothing, Quit};
-use crate::table::{Mode, Search, Told, input, told_half};
-use rx_dfa::try_search_half_fwd;
+use crate::table::{Row, input, told_half};
+use rx_dfa::{Automaton, try_search_half_fwd};
 use rx_search::MatchKind;
 use std::alloc::Global;
 use std::process::Abort;
-use std::test::Fail;
-
-/// The patterns, whether a match may lie inside a character, the text, the span, the mode, and what is wanted: the last
-/// end of any match, and the least pattern that ends there.
-type Row = (
-    &'static [&'static str],
-    bool,
-    &'static str,
-    (usize, usize),
-    Mode,
-    Told,
-);
 
 const ROWS: [Row; 20] = [
     (&["a|ab"], false, "xab", (0, 3), No, Half(0, 3)),
@@ -44,36 +33,50 @@ const ROWS: [Row; 20] = [
     (&[r"(?-u:\B)|a☃"], false, "a☃b", (0, 5), No, Half(0, 4)),
 ];
 
-/// Compares what the search tells with what is wanted. The PikeVM finds a match exactly where there is one.
-fn searched(rt: &impl Abort, alloc: Global, row: Row) -> Result<(), Fail> {
-    let (patterns, splits, text, span, mode, want) = row;
-    let search = Search {
-        patterns,
-        splits,
-        text,
-        span,
-        mode,
-    };
-    let input = input(rt, search);
-    let forward = dense(
+/// Compares what an automaton tells with what is wanted.
+fn searched<A: Automaton>(rt: &impl Abort, forward: &A, cache: &mut A::Cache, row: Row)
+    requires fits { A.fits forward.now cache.old }
+    requires forward { (A.dfa forward.now).nfa.reverse ≡ false }
+{
+    let (_, _, _, _, _, want) = row;
+    let end = told_half(try_search_half_fwd(forward, cache, &input(rt, row)));
+    assert_eq!(rt; end, want);
+}
+
+/// Compares what the full DFA and a lazy one tell.
+fn by_automata(rt: &impl Abort, alloc: Global, row: Row) {
+    let (patterns, splits, ..) = row;
+    let full = dense(
         rt,
         alloc,
         nfa(rt, alloc, patterns, splits, false),
         MatchKind::All,
     );
-    let end = told_half(try_search_half_fwd(&forward, &mut (), &input));
-    assert_eq!(rt; end, want);
+    searched(rt, &full, &mut (), row);
+    let lazy = lazy(
+        rt,
+        alloc,
+        nfa(rt, alloc, patterns, splits, false),
+        MatchKind::All,
+    );
+    let mut cache = cache(rt, alloc, &lazy);
+    searched(rt, &lazy, &mut cache, row);
+}
+
+/// Compares what the searches tell with what is wanted. The PikeVM finds a match exactly where there is one.
+fn compare(rt: &impl Abort, alloc: Global, row: Row) {
+    let (patterns, splits, _, _, _, want) = row;
+    by_automata(rt, alloc, row);
     if want.is_ok() {
-        let found = simulated(alloc, nfa(rt, alloc, patterns, splits, false), &input)?;
-        assert_eq!(rt; found.is_none(), want == Nothing);
+        let nfa = nfa(rt, alloc, patterns, splits, false);
+        let found = simulated(rt, alloc, nfa, &input(rt, row));
+        assert_eq!(rt; found == Nothing, want == Nothing);
     }
-    Ok(())
 }
 
 #[test]
-fn last_ends(rt: HostRuntime) -> Result<(), Fail> {
+fn last_ends(rt: HostRuntime) {
     for row in ROWS {
-        searched(&rt, rt.alloc(), row)?;
+        compare(&rt, rt.alloc(), row);
     }
-    Ok(())
 }

@@ -4,6 +4,8 @@
 #[cfg(test)]
 mod automata;
 #[cfg(test)]
+mod caches;
+#[cfg(test)]
 mod forward;
 #[cfg(test)]
 mod last;

@@ -1,13 +1,12 @@
 //! Patterns with loops and look-around, over several texts. What is wanted was found by another implementation.
-
 ghost use Rattle.std.specs.Prelude.{◌≡◌, true, false};
 
-use crate::automata::{dense, nfa};
-use rx_dfa::{Dense, try_search};
-use rx_search::{Input, MatchError, MatchKind};
+use crate::automata::{cache, dense, lazy, nfa};
+use rx_dfa::{Automaton, try_search};
+use rx_search::{Input, Match, MatchError, MatchKind};
 use std::alloc::Global;
+use std::fmt::Write;
 use std::process::Abort;
-use std::test::Fail;
 
 /// The patterns, the texts, and of each text its successive matches; all parted by line ends.
 type Row = (&'static str, &'static str, &'static str);
@@ -616,18 +615,32 @@ const ROWS_D: [Row; 30] = [
     ),
 ];
 
+/// Appends the match as the rows write it.
+fn push(rt: &impl Abort, told: &mut String, found: Match) {
+    if !told.is_empty() {
+        told.push(' ').ok().expect(rt, "room");
+    }
+    let pattern = found.pattern().as_usize();
+    let written = write!(told, "{pattern}:{}..{}", found.start(), found.end());
+    assert!(rt; written.is_ok());
+}
+
 /// Compares the successive matches of a text with what is wanted. A search may quit, at a byte that is not ASCII alone.
-fn compare(
+fn searched<A: Automaton>(
     rt: &impl Abort,
     alloc: Global,
-    forward: &Dense,
-    backward: &Dense,
+    forward: &A,
+    cache: &mut A::Cache,
+    backward: &A,
+    second: &mut A::Cache,
     text: &str,
     want: &str,
-) -> Result<(), Fail>
-    requires forward { forward.now.dfa.nfa.reverse ≡ false }
-    requires backward { backward.now.dfa.nfa.reverse ≡ true }
-    requires utf8 { forward.now.dfa.nfa.utf8 ≡ backward.now.dfa.nfa.utf8 }
+)
+    requires fits { A.fits forward.now cache.old }
+    requires second { A.fits backward.now second.old }
+    requires forward { (A.dfa forward.now).nfa.reverse ≡ false }
+    requires backward { (A.dfa backward.now).nfa.reverse ≡ true }
+    requires utf8 { (A.dfa forward.now).nfa.utf8 ≡ (A.dfa backward.now).nfa.utf8 }
 {
     let mut told = String::new(alloc);
     let mut at = 0;
@@ -637,76 +650,99 @@ fn compare(
             break;
         }
         let input = Input::new(text.as_bytes()).range(at..text.len());
-        let found = match try_search(forward, &mut (), backward, &mut (), &input) {
+        let found = match try_search(forward, cache, backward, second, &input) {
             Ok(Some(found)) => found,
             Ok(None) => break,
             Err(error) => {
                 assert!(rt; matches!(error, MatchError::Quit { byte: 0x80.., .. }));
-                return Ok(());
+                return;
             }
         };
         if found.is_empty() && last == Some(found.end()) {
             at += 1;
             continue;
         }
-        let pattern = found.pattern().as_usize();
-        if !told.is_empty() {
-            told.push(' ')?;
-        }
-        let row = format!(in alloc; "{pattern}:{}..{}", found.start(), found.end())?;
-        told.push_str(&row)?;
+        push(rt, &mut told, found);
         at = found.end();
         last = Some(at);
     }
     assert_eq!(rt; told.as_str(), want);
-    Ok(())
+}
+
+/// The lines of a cell.
+fn lines<'t>(rt: &impl Abort, alloc: Global, cell: &'t str) -> Vec<&'t str> {
+    let mut lines = Vec::new(alloc);
+    for line in cell.split('\n') {
+        lines.push(line).ok().expect(rt, "room");
+    }
+    lines
+}
+
+/// Compares what the full DFA finds.
+fn by_full(rt: &impl Abort, alloc: Global, patterns: &[&str], texts: &str, wants: &str) {
+    let reads = nfa(rt, alloc, patterns, false, false);
+    let forward = dense(rt, alloc, reads, MatchKind::LeftmostFirst);
+    let reads_back = nfa(rt, alloc, patterns, false, true);
+    let backward = dense(rt, alloc, reads_back, MatchKind::All);
+    for (text, want) in texts.split('\n').zip(wants.split('\n')) {
+        searched(rt, alloc, &forward, &mut (), &backward, &mut (), text, want);
+    }
+}
+
+/// Compares what a lazy DFA finds, with the same cache for all texts.
+fn by_lazy(rt: &impl Abort, alloc: Global, patterns: &[&str], texts: &str, wants: &str) {
+    let reads = nfa(rt, alloc, patterns, false, false);
+    let forward = lazy(rt, alloc, reads, MatchKind::LeftmostFirst);
+    let mut first = cache(rt, alloc, &forward);
+    let reads_back = nfa(rt, alloc, patterns, false, true);
+    let backward = lazy(rt, alloc, reads_back, MatchKind::All);
+    let mut second = cache(rt, alloc, &backward);
+    for (text, want) in texts.split('\n').zip(wants.split('\n')) {
+        searched(
+            rt,
+            alloc,
+            &forward,
+            &mut first,
+            &backward,
+            &mut second,
+            text,
+            want,
+        );
+    }
 }
 
 /// Compares the matches of all texts of a row with what is wanted.
-fn searched(rt: &impl Abort, alloc: Global, row: Row) -> Result<(), Fail> {
+fn compare(rt: &impl Abort, alloc: Global, row: Row) {
     let (patterns, texts, wants) = row;
-    let mut list = Vec::new(alloc);
-    for pattern in patterns.split('\n') {
-        list.push(pattern)?;
-    }
-    let forward = nfa(rt, alloc, &list, false, false);
-    let forward = dense(rt, alloc, forward, MatchKind::LeftmostFirst);
-    let backward = nfa(rt, alloc, &list, false, true);
-    let backward = dense(rt, alloc, backward, MatchKind::All);
-    for (text, want) in texts.split('\n').zip(wants.split('\n')) {
-        compare(rt, alloc, &forward, &backward, text, want)?;
-    }
-    Ok(())
+    let list = lines(rt, alloc, patterns);
+    by_full(rt, alloc, &list, texts, wants);
+    by_lazy(rt, alloc, &list, texts, wants);
 }
 
 #[test]
-fn loops_of_the_first_table(rt: HostRuntime) -> Result<(), Fail> {
+fn loops_of_the_first_table(rt: HostRuntime) {
     for row in ROWS_A {
-        searched(&rt, rt.alloc(), row)?;
+        compare(&rt, rt.alloc(), row);
     }
-    Ok(())
 }
 
 #[test]
-fn loops_of_the_second_table(rt: HostRuntime) -> Result<(), Fail> {
+fn loops_of_the_second_table(rt: HostRuntime) {
     for row in ROWS_B {
-        searched(&rt, rt.alloc(), row)?;
+        compare(&rt, rt.alloc(), row);
     }
-    Ok(())
 }
 
 #[test]
-fn loops_of_the_third_table(rt: HostRuntime) -> Result<(), Fail> {
+fn loops_of_the_third_table(rt: HostRuntime) {
     for row in ROWS_C {
-        searched(&rt, rt.alloc(), row)?;
+        compare(&rt, rt.alloc(), row);
     }
-    Ok(())
 }
 
 #[test]
-fn loops_of_the_fourth_table(rt: HostRuntime) -> Result<(), Fail> {
+fn loops_of_the_fourth_table(rt: HostRuntime) {
     for row in ROWS_D {
-        searched(&rt, rt.alloc(), row)?;
+        compare(&rt, rt.alloc(), row);
     }
-    Ok(())
 }

@@ -1,25 +1,15 @@
-//! Searches for the first start of a match that ends where the span ends. What is wanted was found by hand.
+//! Searches for the first start of a match that ends where the span ends, with the least pattern of such a match. What is wanted
+//! was found by hand.
+ghost use Rattle.std.specs.Prelude.{◌≡◌, true};
 
-use crate::automata::{dense, nfa, simulated};
+use crate::automata::{cache, dense, lazy, nfa, simulated};
 use crate::table::Mode::{Only, Yes};
 use crate::table::Told::{Half, Nothing, Quit};
-use crate::table::{Mode, Search, Told, input, told_half};
-use rx_dfa::try_search_half_rev;
+use crate::table::{Row, Told, input, told_half};
+use rx_dfa::{Automaton, try_search_half_rev};
 use rx_search::MatchKind;
 use std::alloc::Global;
 use std::process::Abort;
-use std::test::Fail;
-
-/// The patterns, whether a match may lie inside a character, the text, the span, the mode, and what is wanted: the first
-/// start of a match that ends where the span ends, and the least such pattern.
-type Row = (
-    &'static [&'static str],
-    bool,
-    &'static str,
-    (usize, usize),
-    Mode,
-    Told,
-);
 
 const ROWS: [Row; 45] = [
     (&["a"], false, "aba", (0, 3), Yes, Half(0, 2)),
@@ -83,21 +73,49 @@ const ROWS: [Row; 45] = [
     ),
 ];
 
+/// Compares what an automaton tells with what is wanted.
+fn searched<A: Automaton>(rt: &impl Abort, backward: &A, cache: &mut A::Cache, row: Row)
+    requires fits { A.fits backward.now cache.old }
+    requires backward { (A.dfa backward.now).nfa.reverse ≡ true }
+{
+    let (_, _, _, _, _, want) = row;
+    let start = told_half(try_search_half_rev(backward, cache, &input(rt, row)));
+    assert_eq!(rt; start, want);
+}
+
+/// Compares what the full DFA and a lazy one tell.
+fn by_automata(rt: &impl Abort, alloc: Global, row: Row) {
+    let (patterns, splits, ..) = row;
+    let full = dense(
+        rt,
+        alloc,
+        nfa(rt, alloc, patterns, splits, true),
+        MatchKind::All,
+    );
+    searched(rt, &full, &mut (), row);
+    let lazy = lazy(
+        rt,
+        alloc,
+        nfa(rt, alloc, patterns, splits, true),
+        MatchKind::All,
+    );
+    let mut cache = cache(rt, alloc, &lazy);
+    searched(rt, &lazy, &mut cache, row);
+}
+
 /// The first start of a match of the PikeVM that ends where the span ends.
-fn simulated_start(rt: &impl Abort, alloc: Global, search: Search) -> Result<Option<usize>, Fail> {
-    let (first, end) = search.span;
+fn simulated_start(rt: &impl Abort, alloc: Global, row: Row) -> Option<usize> {
+    let (patterns, splits, text, (first, end), mode, want) = row;
     for start in first..=end {
-        let part = Search {
-            span: (start, end),
-            ..search
-        };
-        let nfa = nfa(rt, alloc, search.patterns, search.splits, false);
-        let found = simulated(alloc, nfa, &input(rt, part))?;
-        if found.is_some_and(|found| found.end() == end) {
-            return Ok(Some(start));
+        let part = (patterns, splits, text, (start, end), mode, want);
+        let nfa = nfa(rt, alloc, patterns, splits, false);
+        if let Told::Found(_, _, last) = simulated(rt, alloc, nfa, &input(rt, part)) {
+            if last == end {
+                return Some(start);
+            }
         }
     }
-    Ok(None)
+    None
 }
 
 /// Whether the start is told, or one before it, where there is one and the search comes to its end.
@@ -109,34 +127,18 @@ fn is_found_before(told: Told, start: Option<usize>) -> bool {
     }
 }
 
-/// Compares what the search tells with what is wanted. Where the PikeVM's match in a part of the span up to its end has that
+/// Compares what the searches tell with what is wanted. Where the PikeVM's match in a part of the span up to its end has that
 /// end, its start is told, or one before it.
-fn searched(rt: &impl Abort, alloc: Global, row: Row) -> Result<(), Fail> {
-    let (patterns, splits, text, span, mode, want) = row;
-    let search = Search {
-        patterns,
-        splits,
-        text,
-        span,
-        mode,
-    };
-    let input = input(rt, search);
-    let backward = dense(
-        rt,
-        alloc,
-        nfa(rt, alloc, patterns, splits, true),
-        MatchKind::All,
-    );
-    let start = told_half(try_search_half_rev(&backward, &mut (), &input));
-    assert_eq!(rt; start, want);
-    assert!(rt; is_found_before(start, simulated_start(rt, alloc, search)?));
-    Ok(())
+fn compare(rt: &impl Abort, alloc: Global, row: Row) {
+    let (_, _, _, _, _, want) = row;
+    by_automata(rt, alloc, row);
+    let start = simulated_start(rt, alloc, row);
+    assert!(rt; is_found_before(want, start));
 }
 
 #[test]
-fn first_starts(rt: HostRuntime) -> Result<(), Fail> {
+fn first_starts(rt: HostRuntime) {
     for row in ROWS {
-        searched(&rt, rt.alloc(), row)?;
+        compare(&rt, rt.alloc(), row);
     }
-    Ok(())
 }

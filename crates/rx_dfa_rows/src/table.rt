@@ -11,16 +11,6 @@ pub(crate) enum Mode {
     Only(usize),
 }
 
-/// A search: the patterns; whether a match may lie inside a character; the text; and the span and the mode.
-#[derive(Clone, Copy)]
-pub(crate) struct Search {
-    pub(crate) patterns: &'static [&'static str],
-    pub(crate) splits: bool,
-    pub(crate) text: &'static str,
-    pub(crate) span: (usize, usize),
-    pub(crate) mode: Mode,
-}
-
 /// What a search tells.
 #[derive(Clone, Copy, Debug, PartialEq, Eq)]
 pub(crate) enum Told {
@@ -31,17 +21,37 @@ pub(crate) enum Told {
     Nothing,
     /// The search quits at this byte, at this place.
     Quit(u8, usize),
+    GaveUp,
     /// Another error.
     Refused,
 }
 
-/// The input of the search.
-pub(crate) fn input(rt: &impl Abort, search: Search) -> Input<'static> {
-    let (start, end) = search.span;
-    assert!(rt; end <= search.text.len());
+/// The patterns, whether a match may lie inside a character, the text, the span, the mode, and what is wanted.
+pub(crate) type Row = (
+    &'static [&'static str],
+    bool,
+    &'static str,
+    (usize, usize),
+    Mode,
+    Told,
+);
+
+/// The input of the row's search.
+pub(crate) fn input(rt: &impl Abort, row: Row) -> Input<'static> {
+    let (_, _, text, (start, end), mode, _) = row;
+    within(rt, text, start, end).anchored(anchored(rt, mode))
+}
+
+/// The text, from this place to that.
+pub(crate) fn within(
+    rt: &impl Abort,
+    text: &'static str,
+    start: usize,
+    end: usize,
+) -> Input<'static> {
+    assert!(rt; end <= text.len());
     assert!(rt; start <= end + 1);
-    let input = Input::new(search.text.as_bytes()).span(Span { start, end });
-    input.anchored(anchored(rt, search.mode))
+    Input::new(text.as_bytes()).span(Span { start, end })
 }
 
 /// The mode of a search.
@@ -60,8 +70,7 @@ pub(crate) fn told_whole(found: Result<Option<Match>, MatchError>) -> Told {
     match found {
         Ok(Some(found)) => { Told::Found(found.pattern().as_usize(), found.start(), found.end()) }
         Ok(None) => Told::Nothing,
-        Err(MatchError::Quit { byte, offset }) => Told::Quit(byte, offset),
-        Err(_) => Told::Refused,
+        Err(error) => told_error(error),
     }
 }
 
@@ -70,8 +79,16 @@ pub(crate) fn told_half(found: Result<Option<HalfMatch>, MatchError>) -> Told {
     match found {
         Ok(Some(found)) => Told::Half(found.pattern().as_usize(), found.offset()),
         Ok(None) => Told::Nothing,
-        Err(MatchError::Quit { byte, offset }) => Told::Quit(byte, offset),
-        Err(_) => Told::Refused,
+        Err(error) => told_error(error),
+    }
+}
+
+/// What a search tells that does not come to its end.
+fn told_error(error: MatchError) -> Told {
+    match error {
+        MatchError::Quit { byte, offset } => Told::Quit(byte, offset),
+        MatchError::GaveUp { .. } => Told::GaveUp,
+        _ => Told::Refused,
     }
 }
 
@@ -86,6 +103,6 @@ impl Told {
 
     /// Whether the search came to its end.
     pub(crate) fn is_ok(self) -> bool {
-        !matches!(self, Told::Quit(..) | Told::Refused)
+        !matches!(self, Told::Quit(..) | Told::GaveUp | Told::Refused)
     }
 }

@@ -1,9 +1,9 @@
 //! The full DFA as the searches see it.
-ghost use Rattle.std.specs.Prelude.{◌≡◌, ℕ, IfOk, OnOk, slice_get};
+ghost use Rattle.std.specs.Prelude.{◌≡◌, ◌==◌, ℕ, IfOk, OnOk, slice_get};
 ghost use Rattle.std.specs.Result.{IfErr};
 ghost use Rattle.rx_search.specs.Anchored.{anchor_of};
 ghost use Rattle.rx_dfa.specs.Automaton.{first_key, IsReadable, IsSound, StartFails};
-ghost use Rattle.rx_dfa.specs.Table.{Holds};
+ghost use Rattle.rx_dfa.specs.Table.{Holds, quit};
 
 use crate::automaton::Automaton;
 use crate::dense::Dense;
@@ -56,7 +56,7 @@ impl Automaton for Dense {
         if next < self.dead {
             return Ok(next);
         }
-        if next == QUIT {
+        if is_quit(next) {
             return Err(StepError::Quit { byte });
         }
         Ok(next)
@@ -99,6 +99,14 @@ impl Automaton for Dense {
     fn is_utf8(&self) -> bool {
         self.nfa.is_utf8()
     }
+}
+
+/// Whether the automaton quits there. It is a call of its own, so that a search compares a number once a byte.
+#[inline(never)]
+fn is_quit(state: StateID) -> bool
+    ensures { result ≡ (state == quit) }
+{
+    state == QUIT
 }
 
 /// The pattern of this index, if there is one.

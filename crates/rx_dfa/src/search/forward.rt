@@ -48,6 +48,7 @@ pub fn try_search_half_fwd<A: Automaton>(
 
 /// The same, counted on this ledger: where a search records no match, one begins again behind the first end that lies inside a
 /// character. Under `All` a search that begins again finds nothing, since the first one told every end.
+#[inline(never)]
 fn find_end<A: Automaton, L: Ledger>(
     blank: Blank,
     dfa: &A,
@@ -91,6 +92,7 @@ fn find_end<A: Automaton, L: Ledger>(
 }
 
 /// One search from the start of the input's span: what it met by the span's end, or with `earliest` by the first match.
+#[inline(always)]
 fn run_forward<A: Automaton, L: Ledger>(
     dfa: &A,
     cache: &mut A::Cache,

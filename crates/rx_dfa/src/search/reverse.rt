@@ -44,6 +44,7 @@ pub fn try_search_half_rev<A: Automaton>(
 }
 
 /// The same, counted on this ledger.
+#[inline(never)]
 fn find_start<A: Automaton, L: Ledger>(
     blank: Blank,
     dfa: &A,
@@ -75,6 +76,7 @@ fn find_start<A: Automaton, L: Ledger>(
 }
 
 /// One search from the end of the input's span: what it met by the span's start, or with `earliest` by the first match.
+#[inline(always)]
 fn run_reverse<A: Automaton, L: Ledger>(
     dfa: &A,
     cache: &mut A::Cache,

@@ -64,8 +64,8 @@ returns-then-lt-clause-readable g c key h live =
     let dead_lt = below-quit v are v.dead (no_key None) (dead-holds v are (no_key None) refl) in
     readable-there v are c.args.state key c.args.byte h small (λ q. omega arith)
 
-pub returns-then-eq-clause-err : goal.returns-then-eq-clause-err
-returns-then-eq-clause-err g c =
+pub returns-then-is_quit-clause-err : goal.returns-then-is_quit-clause-err
+returns-then-is_quit-clause-err g c =
     let v = c.args.self.now in
     let are : IsDense v = subst IsDense c.self.view_is c.self.invariant in
     let small : c.args.byte < 256 = omega (arith, c.ranges.byte.fits) in
@@ -82,7 +82,7 @@ returns-then-eq-clause-err g c =
     (omega arith) c.index.ensures in (
       refl,
       quits-there v are c.args.state c.requires.held.0 c.args.byte c.requires.held.1 small
-          (sym at ∙ same-from c.index.result.now quit (sym c.eq.ensures ∙ c.if-eq.true)),
+          (sym at ∙ same-from c.index.result.now quit (sym c.is_quit.ensures ∙ c.if-is_quit.true)),
     )
 
 pub returns-clause-next : goal.returns-clause-next
@@ -102,7 +102,7 @@ returns-clause-next g c key h =
     table-cell c.self.inside.table.items v.table (c.as_usize.result + c.get-class.result) (c.args.state + class) c.index.result.now table (omega arith)
     (omega arith) c.index.ensures in
     let readable = readable-there v are c.args.state key c.args.byte h small
-    (λ q. other-from c.index.result.now quit (sym c.eq.ensures ∙ c.if-eq.false) (at ∙ q)) in
+    (λ q. other-from c.index.result.now quit (sym c.is_quit.ensures ∙ c.if-is_quit.false) (at ∙ q)) in
     subst (λ n. Holds v n (next_key v.dfa key c.args.byte)) (sym at) (stepped v are c.args.state key c.args.byte h small readable)
 
 pub returns-clause-readable : goal.returns-clause-readable
@@ -122,4 +122,4 @@ returns-clause-readable g c key h live =
     table-cell c.self.inside.table.items v.table (c.as_usize.result + c.get-class.result) (c.args.state + class) c.index.result.now table (omega arith)
     (omega arith) c.index.ensures in
     readable-there v are c.args.state key c.args.byte h small
-    (λ q. other-from c.index.result.now quit (sym c.eq.ensures ∙ c.if-eq.false) (at ∙ q))
+    (λ q. other-from c.index.result.now quit (sym c.is_quit.ensures ∙ c.if-is_quit.false) (at ∙ q))
