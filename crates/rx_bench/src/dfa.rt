@@ -1,11 +1,11 @@
 //! The DFAs of a pattern: the time in which the full one is built, and those of searches of a text.
 ghost use Rattle.std.specs.Prelude.{◌≡◌, false, true, IfOk};
+ghost use Rattle.rx_dfa.specs.LazyCache.{IsCacheOf};
 
 use crate::compile::{compile, compile_reverse};
 use crate::failure::Failure;
-use rx_dfa::lazy::{BuildError as LazyError, LazyCache};
 use rx_dfa::dense::BuildError;
-use rx_dfa::lazy::Lazy;
+use rx_dfa::lazy::{BuildError as LazyError, Lazy, LazyCache};
 use rx_dfa::{Automaton, Dense, try_search, try_search_half_fwd};
 use rx_nfa::NFA;
 use rx_search::{Input, MatchKind};
@@ -63,13 +63,48 @@ fn matches_over<R: Runtime + AllocGlobal>(
     pattern: &str,
     text: &str,
 ) -> Result<(), Failure> {
-    let fwd = on_demand(rt.alloc(), compile(rt.alloc(), pattern)?, MatchKind::LeftmostFirst)?;
-    let rev = on_demand(rt.alloc(), compile_reverse(rt.alloc(), pattern)?, MatchKind::All)?;
-    let mut fwd_cache = LazyCache::new(rt.alloc(), &fwd)?;
-    let mut rev_cache = LazyCache::new(rt.alloc(), &rev)?;
+    let nfa = compile(rt.alloc(), pattern)?;
+    let fwd = on_demand(rt.alloc(), nfa, MatchKind::LeftmostFirst)?;
+    let mut cache = LazyCache::new(rt.alloc(), &fwd)?;
+    both_ways(rt, pattern, &fwd, &mut cache, text)
+}
+
+/// The same, with the DFA that reads forwards. A function of its own, so that few ways lead out while there is one.
+fn both_ways<R: Runtime + AllocGlobal>(
+    rt: &R,
+    pattern: &str,
+    fwd: &Lazy,
+    fwd_cache: &mut LazyCache,
+    text: &str,
+) -> Result<(), Failure>
+    requires fits { IsCacheOf fwd.now fwd_cache.old }
+    requires forward { fwd.now.dfa.nfa.reverse ≡ false }
+    requires utf8 { fwd.now.dfa.nfa.utf8 ≡ true }
+{
+    let nfa = compile_reverse(rt.alloc(), pattern)?;
+    let rev = on_demand(rt.alloc(), nfa, MatchKind::All)?;
+    let mut cache = LazyCache::new(rt.alloc(), &rev)?;
+    counts(rt, fwd, fwd_cache, &rev, &mut cache, text)
+}
+
+/// Prints for each round the number of the successive matches, and its time.
+fn counts<R: Runtime + AllocGlobal>(
+    rt: &R,
+    fwd: &Lazy,
+    fwd_cache: &mut LazyCache,
+    rev: &Lazy,
+    rev_cache: &mut LazyCache,
+    text: &str,
+) -> Result<(), Failure>
+    requires fwd_fits { IsCacheOf fwd.now fwd_cache.old }
+    requires rev_fits { IsCacheOf rev.now rev_cache.old }
+    requires forward { fwd.now.dfa.nfa.reverse ≡ false }
+    requires reverse { rev.now.dfa.nfa.reverse ≡ true }
+    requires utf8 { fwd.now.dfa.nfa.utf8 ≡ rev.now.dfa.nfa.utf8 }
+{
     for _ in 0..ROUNDS {
         let start = Instant::now(rt)?;
-        let count = count(&fwd, &mut fwd_cache, &rev, &mut rev_cache, text.as_bytes())?;
+        let count = count(fwd, fwd_cache, rev, rev_cache, text.as_bytes())?;
         let time = start.elapsed(rt)?.as_nanos();
         println!(rt; "matches {count} nanoseconds {time}")?;
     }
@@ -83,7 +118,15 @@ fn count(
     rev: &Lazy,
     rev_cache: &mut LazyCache,
     text: &[u8],
-) -> Result<usize, Failure> {
+) -> Result<usize, Failure>
+    requires fwd_fits { IsCacheOf fwd.now fwd_cache.old }
+    requires rev_fits { IsCacheOf rev.now rev_cache.old }
+    requires forward { fwd.now.dfa.nfa.reverse ≡ false }
+    requires reverse { rev.now.dfa.nfa.reverse ≡ true }
+    requires utf8 { fwd.now.dfa.nfa.utf8 ≡ rev.now.dfa.nfa.utf8 }
+    ensures fwd_fits { IsCacheOf fwd.now fwd_cache.new }
+    ensures rev_fits { IsCacheOf rev.now rev_cache.new }
+{
     let mut input = Input::new(text);
     let mut count = 0usize;
     for _ in 0..text.len() {
@@ -119,7 +162,8 @@ fn on_demand(alloc: Global, nfa: NFA, kind: MatchKind) -> Result<Lazy, Failure>
     }
 }
 
-/// Prints for each search the end that it found, or that of the text, and its time.
+/// Prints for each search the end that it found, or that of the text, and its time. A pattern of which a search does not come to
+/// its end counts as refused.
 fn searches<R: Runtime + AllocGlobal, A: Automaton>(
     rt: &R,
     dfa: &A,

@@ -1,9 +1,10 @@
 //! The caches of lazy DFAs: what fits, and that they are cleared. What is wanted was counted by hand.
 ghost use Rattle.std.specs.Prelude.{◌≡◌, false, IfOk};
+ghost use Rattle.rx_dfa.specs.LazyCache.{IsCacheOf};
 
 use crate::automata::{cache, nfa, simulated};
 use crate::table::{Told, told_half};
-use rx_dfa::lazy::{BuildError, Lazy};
+use rx_dfa::lazy::{BuildError, Lazy, LazyCache};
 use rx_dfa::try_search_half_fwd;
 use rx_search::{Input, MatchKind};
 use std::alloc::Global;
@@ -119,7 +120,7 @@ fn searched(rt: &impl Abort, alloc: Global, byte_classes: bool, text: &[u8], tim
         answers: 0,
         gave_up: 0,
     };
-    for _ in 0..times {
+    'turns: for _ in 0..times {
         let told = told_half(try_search_half_fwd(&lazy, &mut cache, &input));
         assert!(rt; is_answer(told, want));
         assert!(rt; cache.memory_usage() <= capacity);
@@ -148,18 +149,27 @@ fn a_cache_below_the_minimum(rt: HostRuntime) {
     }
 }
 
-/// The states of `a` on `a`: at the start two states of the NFA, then one, and none at the end; each with a row of 4 cells.
+/// A search of `a` by an empty cache of its automaton. There are the state at the start, which stands for two states of the NFA,
+/// one that stands for one, and that after the end, which stands for none; each has a row of 4 cells.
+fn serves(rt: &impl Abort, lazy: &Lazy, cache: &mut LazyCache)
+    requires fits { IsCacheOf lazy.now cache.old }
+    requires forward { lazy.now.dfa.nfa.reverse ≡ false }
+{
+    assert_eq!(rt; cache.memory_usage(), 0);
+    let told = told_half(try_search_half_fwd(lazy, cache, &Input::new(b"a")));
+    assert_eq!(rt; told, Told::Half(0, 1));
+    assert_eq!(rt; cache.memory_usage(), 3 * (4 * 4 + 16) + 4 * (2 + 1));
+}
+
 #[test]
 fn a_cache_of_the_minimum(rt: HostRuntime) {
     let lazy = lazy(&rt, rt.alloc(), "a", true, 16512);
     let lazy = lazy.ok().expect(&rt, "a lazy DFA");
     let mut cache = cache(&rt, rt.alloc(), &lazy);
-    for _ in 0..2 {
-        assert_eq!(rt; cache.memory_usage(), 0);
-        let told = told_half(try_search_half_fwd(&lazy, &mut cache, &Input::new(b"a")));
-        assert_eq!(rt; told, Told::Half(0, 1));
-        assert_eq!(rt; cache.memory_usage(), 3 * (4 * 4 + 16) + 4 * (2 + 1));
-        assert!(rt; cache.reset(rt.alloc(), &lazy).is_ok());
+    serves(&rt, &lazy, &mut cache);
+    match cache.reset(rt.alloc(), &lazy) {
+        Ok(()) => serves(&rt, &lazy, &mut cache),
+        Err(_) => assert!(rt; false),
     }
 }
 

@@ -641,11 +641,13 @@ fn searched<A: Automaton>(
     requires forward { (A.dfa forward.now).nfa.reverse ≡ false }
     requires backward { (A.dfa backward.now).nfa.reverse ≡ true }
     requires utf8 { (A.dfa forward.now).nfa.utf8 ≡ (A.dfa backward.now).nfa.utf8 }
+    ensures fits { A.fits forward.now cache.new }
+    ensures second { A.fits backward.now second.new }
 {
     let mut told = String::new(alloc);
     let mut at = 0;
     let mut last = None;
-    for _ in 0..usize::MAX {
+    'starts: for _ in 0..usize::MAX {
         if at > text.len() {
             break;
         }
@@ -697,7 +699,7 @@ fn by_lazy(rt: &impl Abort, alloc: Global, patterns: &[&str], texts: &str, wants
     let reads_back = nfa(rt, alloc, patterns, false, true);
     let backward = lazy(rt, alloc, reads_back, MatchKind::All);
     let mut second = cache(rt, alloc, &backward);
-    for (text, want) in texts.split('\n').zip(wants.split('\n')) {
+    'texts: for (text, want) in texts.split('\n').zip(wants.split('\n')) {
         searched(
             rt,
             alloc,
