@@ -713,38 +713,72 @@ fn by_lazy(rt: &impl Abort, alloc: Global, patterns: &[&str], texts: &str, wants
     }
 }
 
-/// Compares the matches of all texts of a row with what is wanted.
-fn compare(rt: &impl Abort, alloc: Global, row: Row) {
+/// Compares what the full DFA finds in all texts of a row.
+fn row_by_full(rt: &impl Abort, alloc: Global, row: Row) {
     let (patterns, texts, wants) = row;
     let list = lines(rt, alloc, patterns);
     by_full(rt, alloc, &list, texts, wants);
+}
+
+/// Compares what a lazy DFA finds in all texts of a row.
+fn row_by_lazy(rt: &impl Abort, alloc: Global, row: Row) {
+    let (patterns, texts, wants) = row;
+    let list = lines(rt, alloc, patterns);
     by_lazy(rt, alloc, &list, texts, wants);
 }
 
 #[test]
-fn loops_of_the_first_table(rt: HostRuntime) {
+fn loops_of_the_first_table_by_the_full_dfa(rt: HostRuntime) {
     for row in ROWS_A {
-        compare(&rt, rt.alloc(), row);
+        row_by_full(&rt, rt.alloc(), row);
     }
 }
 
 #[test]
-fn loops_of_the_second_table(rt: HostRuntime) {
+fn loops_of_the_first_table_by_a_lazy_dfa(rt: HostRuntime) {
+    for row in ROWS_A {
+        row_by_lazy(&rt, rt.alloc(), row);
+    }
+}
+
+#[test]
+fn loops_of_the_second_table_by_the_full_dfa(rt: HostRuntime) {
     for row in ROWS_B {
-        compare(&rt, rt.alloc(), row);
+        row_by_full(&rt, rt.alloc(), row);
     }
 }
 
 #[test]
-fn loops_of_the_third_table(rt: HostRuntime) {
+fn loops_of_the_second_table_by_a_lazy_dfa(rt: HostRuntime) {
+    for row in ROWS_B {
+        row_by_lazy(&rt, rt.alloc(), row);
+    }
+}
+
+#[test]
+fn loops_of_the_third_table_by_the_full_dfa(rt: HostRuntime) {
     for row in ROWS_C {
-        compare(&rt, rt.alloc(), row);
+        row_by_full(&rt, rt.alloc(), row);
     }
 }
 
 #[test]
-fn loops_of_the_fourth_table(rt: HostRuntime) {
+fn loops_of_the_third_table_by_a_lazy_dfa(rt: HostRuntime) {
+    for row in ROWS_C {
+        row_by_lazy(&rt, rt.alloc(), row);
+    }
+}
+
+#[test]
+fn loops_of_the_fourth_table_by_the_full_dfa(rt: HostRuntime) {
     for row in ROWS_D {
-        compare(&rt, rt.alloc(), row);
+        row_by_full(&rt, rt.alloc(), row);
+    }
+}
+
+#[test]
+fn loops_of_the_fourth_table_by_a_lazy_dfa(rt: HostRuntime) {
+    for row in ROWS_D {
+        row_by_lazy(&rt, rt.alloc(), row);
     }
 }
