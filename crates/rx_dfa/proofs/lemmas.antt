@@ -18,7 +18,9 @@ pub mod RowsLemmas
 pub mod HeldLemmas
 pub mod StateLemmas
 pub mod TableLemmas
+pub mod WholeLemmas
 pub mod FoundLemmas
+pub mod WithinLemmas
 pub mod FindLemmas
 pub mod KeySetLemmas
 pub mod ReachLemmas

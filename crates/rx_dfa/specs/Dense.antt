@@ -1,5 +1,5 @@
 -- What the build of a full DFA answers.
-use Rattle.std.specs.Prelude.{◌≡◌, ℕ, ◌+◌, ◌*◌, ◌^◌, ◌<◌, Bool, true, false, List, length, Option, Some, EachIndex, slice_get, slice_index}
+use Rattle.std.specs.Prelude.{◌≡◌, ℕ, ◌+◌, ◌*◌, ◌^◌, ◌<◌, ◌≤◌, Bool, true, false, List, length, Option, Some, IfSome, EachIndex, slice_get, slice_index}
 use Rattle.rx_model.specs.Look.{Look}
 use Rattle.rx_search.specs.ByteClasses.{alphabet_len, IsLeastPower}
 use Rattle.rx_search.specs.LookSet.{has}
@@ -8,6 +8,7 @@ use Rattle.rx_nfa.specs.Nfa.{Nfa}
 use Rattle.rx_determinize.specs.Key.{Key}
 use Rattle.rx_dfa.specs.Automaton.{Dfa, IsSound}
 use Rattle.rx_dfa.specs.States.{IsState, AreStates}
+use Rattle.rx_dfa.specs.Table.{DenseValue}
 use Rattle.rx_dfa.specs.declared.dense.error.BuildError.{BuildError}
 use Rattle.rx_dfa.specs.declared.dense.error.BuildError.TheVariants.{TooBig, Memory}
 
@@ -25,6 +26,10 @@ pub record IsDfaOf (own_nfa : Nfa) (own_kind : MatchKind) (byte_classes : Bool) 
 abbrev pub size_of : (stride states : ℕ) → ℕ
 size_of stride states = 4 * ((states + 1) * stride)
 
+-- so many states make no table above the limit
+abbrev pub IsWithin : (stride : ℕ) → Option ℕ → (states : ℕ) → Type 0
+IsWithin stride given states = IfSome given (λ limit. size_of stride states ≤ limit)
+
 -- The automaton has as many states as this size accounts, and it is above the limit.
 pub record IsTooBig (d : Dfa) (stride limit given : ℕ) : Type 0 where
   pub states : List Key
@@ -40,6 +45,13 @@ IsRefused d stride given Memory = Unit {0}
 -- each state of the DFA is among these
 abbrev pub HasAll : Dfa → List Key → Type 0
 HasAll d keys = (k : Key) → IsState d k → (row : ℕ) × (slice_get keys row ≡ Some k)
+
+-- The rows are those of all states, no two alike. They are as short as the classes allow, and their table is within the limit.
+pub record IsFullTable (given : Option ℕ) (v : DenseValue) : Type 0 where
+  pub states : AreStates v.dfa v.keys
+  pub all : HasAll v.dfa v.keys
+  pub power : IsLeastPower (alphabet_len v.dfa.classes) v.stride2
+  pub within : IsWithin (2 ^ v.stride2) given (length v.keys)
 
 -- A row has as many cells as the classes of the NFA's DFA need. Some of its states make a table of this size, which is above the
 -- limit, and so is the size of the whole table.

@@ -8,7 +8,8 @@ use Rattle.rx_dfa.specs.Table.{DenseValue}
 use Rattle.rx_dfa.specs.declared.alphabet.Alphabet.{Alphabet}
 use Rattle.rx_dfa.specs.declared.dense.found.Found.{Found}
 
-abbrev pub value_of : Nfa → MatchKind → Alphabet → (stride2 : ℕ) → (table : List ℕ) → (dead : ℕ) → (starts : List ℕ) → (matches : List (List ℕ)) → Found → DenseValue
+abbrev pub value_of : Nfa → MatchKind → Alphabet → (stride2 : ℕ) → (table : List ℕ) → (dead : ℕ) → (starts : List ℕ) → (matches : List (List ℕ)) → Found
+    → DenseValue
 value_of nfa kind a stride2 table dead starts matches f = record {
   dfa = dfa_of nfa kind a;
   words = a.words;

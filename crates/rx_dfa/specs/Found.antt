@@ -7,7 +7,7 @@ use Rattle.rx_dfa.specs.StateKey.{key_of}
 use Rattle.rx_dfa.specs.States.{is_special, IsState, AreStates}
 use Rattle.rx_dfa.specs.Table.{IsRow}
 use Rattle.rx_dfa.specs.Numbers.{second}
-use Rattle.rx_dfa.specs.Dense.{size_of, IsRefused}
+use Rattle.rx_dfa.specs.Dense.{size_of, IsWithin, IsRefused}
 use Rattle.rx_dfa.specs.declared.state_key.StateKey.{StateKey}
 use Rattle.rx_dfa.specs.declared.dense.error.BuildError.{BuildError}
 use Rattle.rx_dfa.specs.declared.dense.error.BuildError.TheVariants.{TooBig, Memory}
@@ -26,13 +26,14 @@ special_keys f = keys_in f.special.keys
 abbrev pub IsNumber : Found → (number : ℕ) → Key → Type 0
 IsNumber f number k = IsRow f.stride (plain_keys f) 0 number k ⊎ IsRow f.stride (special_keys f) second number k
 
--- They are states of the DFA, each of its sort. The first of the second sort is the dead one.
+-- They are states of the DFA, each of its sort, and no more than the limit allows. The first of the second sort is the dead one.
 pub record AreFound (d : Dfa) (f : Found) : Type 0 where
   pub plain_states : AreStates d (plain_keys f)
   pub special_states : AreStates d (special_keys f)
   pub plain : (row : ℕ) (k : Key) → slice_get (plain_keys f) row ≡ Some k → is_special k ≡ false
   pub special : (row : ℕ) (k : Key) → slice_get (special_keys f) row ≡ Some k → is_special k ≡ true
   pub dead : slice_get (special_keys f) 0 ≡ Some (no_key None)
+  pub within : IsWithin f.stride f.limit (length f.plain.keys + length f.special.keys)
 
 -- what was there is there still
 abbrev pub Stays : (old new : List Key) → Type 0

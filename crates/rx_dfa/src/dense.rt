@@ -52,7 +52,8 @@ impl Model for Dense {
 
     ghost view = { λ d. value_of d.nfa d.kind d.alphabet d.stride2 d.table.items d.dead d.starts.items (map vec_items d.matches.items) d.found.value };
 
-    ghost invariant = { λ d. IsDense (value_of d.nfa d.kind d.alphabet d.stride2 d.table.items d.dead d.starts.items (map vec_items d.matches.items) d.found.value) };
+    ghost invariant = { λ d. IsDense (value_of d.nfa d.kind d.alphabet d.stride2 d.table.items d.dead d.starts.items (map vec_items d.matches.items)
+        d.found.value) };
 }
 
 impl Dense {

@@ -15,12 +15,14 @@ use Rattle.rx_dfa.specs.States.{is_special, AreStates}
 use Rattle.rx_dfa.specs.Table.{quit, IsRow, AreRows, AreStarts, Holds, IsDense}
 use Rattle.rx_dfa.specs.Found.{plain_keys, special_keys, AreFound}
 use Rattle.rx_dfa.specs.DenseView.{value_of}
+use Rattle.rx_dfa.specs.Dense.{IsWithin, IsFullTable}
 use Rattle.rx_dfa.specs.declared.alphabet.Alphabet.{Alphabet}
 use Rattle.rx_dfa.specs.declared.state_key.StateKey.{StateKey}
 use Rattle.rx_dfa.specs.declared.dense.found.Found.{Found}
 use Rattle.rx_dfa.proofs.lemmas.AlphabetLemmas.{class-small}
 use Rattle.rx_dfa.proofs.lemmas.FoundLemmas.{appended, append-there, states-append, at-mapped}
 use Rattle.rx_dfa.proofs.lemmas.SettleLemmas.{all_keys}
+use Rattle.rx_dfa.proofs.lemmas.WholeLemmas.{has-all}
 
 -- a row has a cell for each class, and one for the end of input
 pub least-wide : (classes bytes : List ℕ) → AreRepresentatives classes bytes → (k : ℕ) → IsLeastPower (alphabet_len classes) k → length bytes < 2 ^ k
@@ -48,7 +50,8 @@ module _ (nfa : Nfa) (range : IsInRange nfa) (kind : MatchKind) (byte_classes : 
       let special = length-map f.special.keys key_of in
       let room = f.plain_room in
       let more = f.special_room in
-      let narrow : length (all_keys f) * f.stride ≤ quit = summed (length (all_keys f)) (length f.plain.keys) (length f.special.keys) f.stride (omega arith) room more in
+      let narrow : length (all_keys f) * f.stride ≤ quit = summed (length (all_keys f)) (length f.plain.keys) (length f.special.keys) f.stride (omega arith)
+      room more in
       subst (λ s. length (all_keys f) * s ≤ quit) wide narrow
     where
       summed : (n p q s : ℕ) → n ≡ p + q → p * s < 1073741824 → q * s < 1073741824 → n * s ≤ 2147483646
@@ -105,3 +108,18 @@ module _ (nfa : Nfa) (range : IsInRange nfa) (kind : MatchKind) (byte_classes : 
     starts = subst (λ s. AreStarts d (IsRow s (all_keys f) 0) starts) wide begins;
     matches = patterns;
   }
+
+  pub is-full : (given : Option ℕ) → f.limit ≡ given → IsFullTable given (value_of nfa kind a stride2 table dead starts matches f)
+  is-full given limit =
+      let all = length-append (plain_keys f) (special_keys f) in
+      let plain = length-map f.plain.keys key_of in
+      let special = length-map f.special.keys key_of in
+      let count : length f.plain.keys + length f.special.keys ≡ length (all_keys f) = omega arith in
+      record {
+        states = all_states;
+        all = has-all (value_of nfa kind a stride2 table dead starts matches f) is-dense;
+        power = power;
+        within =
+            subst (λ s. IsWithin s given (length (all_keys f))) wide
+            (subst (λ (l : Option ℕ). IsWithin f.stride l (length (all_keys f))) limit (subst (IsWithin f.stride f.limit) count found.within));
+      }

@@ -25,6 +25,7 @@ module _ (d : Dfa) (keys all : List Key) (are : AreStates d keys) (has : HasAll 
   place_of row (Some k) is = (has k (are.each row k is)).0
 
   at-place : (row : ℕ) (o : Option Key) (is : slice_get keys row ≡ o) (k : Key) → o ≡ Some k → slice_get all (place_of row o is) ≡ Some k
+  unfolding place_of
   at-place row None is k same = none-is-some same
   at-place row (Some own) is k same = (has own (are.each row own is)).1 ∙ same
 
@@ -35,6 +36,7 @@ module _ (d : Dfa) (keys all : List Key) (are : AreStates d keys) (has : HasAll 
   there row lt = slice_get-get_or keys row (no_key None) lt
 
   in-all : (row : ℕ) → row < length keys → slice_get all (place row) ≡ Some (get_or keys row (no_key None))
+  unfolding place place_of
   in-all row lt = at-place row (slice_get keys row) refl (get_or keys row (no_key None)) (there row lt)
 
   -- states, no two alike, are no more than all states are
@@ -57,7 +59,8 @@ whole-above d stride limit given big all has =
     omega arith
 
 pub no-table : (nfa : Nfa) (kind : MatchKind) (byte_classes : Bool) (d : Dfa) (stride2 stride : ℕ) (given : Option ℕ) → IsDfaOf nfa kind byte_classes d
-    → IsLeastPower (alphabet_len d.classes) stride2 → stride ≡ 2 ^ stride2 → (e : BuildError) → IsRefused d stride given e → IsNoTable nfa kind byte_classes given e
+    → IsLeastPower (alphabet_len d.classes) stride2 → stride ≡ 2 ^ stride2 → (e : BuildError) → IsRefused d stride given e
+    → IsNoTable nfa kind byte_classes given e
 no-table nfa kind byte_classes d stride2 stride given of power is (TooBig limit size) refused =
     let big = subst (λ s. IsTooBig d s limit size) is refused.1 in
     (refused.0, record { dfa = d; of = of; stride2 = stride2; power = power; big = big; whole = whole-above d (2 ^ stride2) limit size big })

@@ -35,7 +35,8 @@ pub drawn-made : (d : Dfa) (old new : Found) (table starts : List ℕ) (result :
     → IfOk result (λ x. x.table.items ≡ table) → IfOk result (λ x. x.starts.items ≡ starts) → IfErr result (λ e. e ≡ Memory)
     → ((of_table of_starts : List ℕ) → of_table ≡ table → of_starts ≡ starts → AreDrawn d new of_table of_starts)
     → IsMade {A = Drawn} d old new (λ x. AreDrawn d new x.table.items x.starts.items) result
-drawn-made d old new table starts (Ok x) are is_table is_starts err drawn = record { found = are; ok = drawn x.table.items x.starts.items is_table is_starts; err = tt }
+drawn-made d old new table starts (Ok x) are is_table is_starts err drawn = record
+    { found = are; ok = drawn x.table.items x.starts.items is_table is_starts; err = tt }
 drawn-made d old new table starts (Err e) are is_table is_starts err drawn = record { found = are; ok = tt; err = memory-refused d old.stride old.limit e err }
 
 -- what an NFA tells of itself is the NFA

@@ -35,7 +35,8 @@ part-padded d Num k n more pad old cells wide part =
     }
 
 -- The cells of all classes, then that of the end of input, and then some that no search reads.
-pub row-made : (d : Dfa) (Old New : ℕ → Key → Type 0) → ((n : ℕ) (k : Key) → Old n k → New n k) → (k : Key) (stride : ℕ) (old cells here new : List ℕ) (last end len pad : ℕ)
+pub row-made : (d : Dfa) (Old New : ℕ → Key → Type 0) → ((n : ℕ) (k : Key) → Old n k → New n k)
+    → (k : Key) (stride : ℕ) (old cells here new : List ℕ) (last end len pad : ℕ)
     → length d.bytes < stride → IsPart d Old k (length d.bytes) old cells → New last (last_key d k) → here ≡ cells ++ last ∷ [] → end ≡ length old + stride
     → len ≡ length here → new ≡ take end here ++ replicate (end - len) pad → IsAppended d stride New k old new
 row-made d Old New grow k stride old cells here new last end len pad wide part is is_here is_end is_len is_new =
@@ -88,7 +89,8 @@ module _ (d : Dfa) (old new : Found) (grows : Grows old new) (c later : Cells) (
   plain-grown : AreRows d new.stride (IsNumber new) (plain_keys new) c.plain_rows c.plain.items
   plain-grown =
       subst (λ s. AreRows d s (IsNumber new) (plain_keys new) c.plain_rows c.plain.items) (sym grows.stride)
-      (rows-grow d old.stride (IsNumber old) (IsNumber new) (number-grows old new grows) (plain_keys old) (plain_keys new) c.plain_rows c.plain.items within.plain
+      (rows-grow d old.stride (IsNumber old) (IsNumber new) (number-grows old new grows) (plain_keys old) (plain_keys new) c.plain_rows c.plain.items
+      within.plain
       grows.plain filled.plain)
 
   special-grown : AreRows d new.stride (IsNumber new) (special_keys new) c.special_rows c.special.items
@@ -104,7 +106,8 @@ module _ (d : Dfa) (old new : Found) (grows : Grows old new) (c later : Cells) (
       let stride = grows.stride in
       record {
         plain = subst (λ n. AreRows d new.stride (IsNumber new) (plain_keys new) n later.plain.items) (sym rows)
-            (rows-push d new.stride (IsNumber new) (plain_keys new) c.plain_rows k c.plain.items later.plain.items (omega arith) (grows.plain c.plain_rows k there)
+            (rows-push d new.stride (IsNumber new) (plain_keys new) c.plain_rows k c.plain.items later.plain.items (omega arith)
+            (grows.plain c.plain_rows k there)
             plain-grown (subst (λ s. IsAppended d s (IsNumber new) k c.plain.items later.plain.items) (sym grows.stride) more));
         special = subst (λ n. AreRows d new.stride (IsNumber new) (special_keys new) n later.special.items) (sym same)
             (subst (λ (xs : List ℕ). AreRows d new.stride (IsNumber new) (special_keys new) c.special_rows xs) (sym cells) special-grown);
@@ -124,7 +127,8 @@ module _ (d : Dfa) (old new : Found) (grows : Grows old new) (c later : Cells) (
             (subst (λ s. IsAppended d s (IsNumber new) k c.special.items later.special.items) (sym grows.stride) more));
       }
 
-  pub plain-within : slice_get (plain_keys old) c.plain_rows ≡ Some k → later.plain_rows ≡ c.plain_rows + 1 → later.special_rows ≡ c.special_rows → AreWithin new later
+  pub plain-within : slice_get (plain_keys old) c.plain_rows ≡ Some k → later.plain_rows ≡ c.plain_rows + 1 → later.special_rows ≡ c.special_rows
+      → AreWithin new later
   plain-within there rows same =
       let lt = slice_get_within (plain_keys new) c.plain_rows k (grows.plain c.plain_rows k there) in
       let le = stays-within (special_keys old) (special_keys new) grows.special c.special_rows within.special in
@@ -148,7 +152,8 @@ drawn d sound f c begun table starts wide filled plain special are is_table is_s
     let classes = sound.serve.stand.each in
     let some : 1 < f.stride = omega arith in
     let room : length (plain_keys f) * f.stride < 1073741824 = subst (λ n. n * f.stride < 1073741824) (sym (length-map f.plain.keys key_of)) f.plain_room in
-    let more : length (special_keys f) * f.stride < 1073741824 = subst (λ n. n * f.stride < 1073741824) (sym (length-map f.special.keys key_of)) f.special_room in
+    let more : length (special_keys f) * f.stride < 1073741824 = subst (λ n. n * f.stride < 1073741824) (sym (length-map f.special.keys key_of))
+    f.special_room in
     record {
       rows = subst (λ (xs : List ℕ). AreRows d f.stride (IsRow f.stride (plain_keys f ++ special_keys f) 0) (plain_keys f ++ special_keys f)
           (length (plain_keys f ++ special_keys f)) xs) (sym is_table)

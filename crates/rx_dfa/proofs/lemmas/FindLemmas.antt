@@ -1,15 +1,16 @@
 -- What is found of a key, by the sort of its state.
 use Rattle.std.proofs.Common.{◌≡◌, ℕ, zero, suc, ◌+◌, ◌*◌, ◌<◌, ◌≤◌, ◌⊎◌, inl, inr, List, [], ◌∷◌, ◌++◌, map, length, refl, sym, ◌∙◌, ap, subst, arith, true≢false}
 use Rattle.std.specs.Prelude.{Bool, true, false, ◌||◌, not, ◌==◌, Option, Some, None, slice_get, Result, IfOk, IfErr}
-use Rattle.std.proofs.lemmas.List.{length-append}
+use Rattle.std.proofs.lemmas.List.{length-append, length-map}
 use Rattle.std.proofs.lemmas.Result.{IfOk-weaker, IfErr-weaker}
 use Rattle.rx_model.proofs.lemmas.runs.FirstLemmas.{none-is-some}
 use Rattle.rx_determinize.specs.Key.{Key, is_dead, is_empty}
 use Rattle.rx_dfa.specs.Automaton.{Dfa, no_key}
+use Rattle.rx_dfa.specs.StateKey.{key_of}
 use Rattle.rx_dfa.specs.States.{canonical, is_special, IsState, AreStates}
 use Rattle.rx_dfa.specs.Table.{IsRow}
 use Rattle.rx_dfa.specs.Numbers.{second}
-use Rattle.rx_dfa.specs.Dense.{size_of, IsTooBig, IsRefused}
+use Rattle.rx_dfa.specs.Dense.{size_of, IsTooBig, IsWithin, IsRefused}
 use Rattle.rx_dfa.specs.Found.{plain_keys, special_keys, IsNumber, AreFound, Stays, Grows, IsNew, IsAdded, IsOver, IsMade}
 use Rattle.rx_dfa.specs.declared.dense.error.BuildError.{BuildError}
 use Rattle.rx_dfa.specs.declared.dense.error.BuildError.TheVariants.{TooBig, Memory}
@@ -50,23 +51,25 @@ pub count-more : (xs ys : List Key) (k : Key) → length xs + length ys + 1 ≡ 
 count-more xs ys k = let a = length-append (xs ++ ys) (k ∷ []) in let b = length-append xs ys in omega arith
 
 pub found-plain : (d : Dfa) (old new : Found) (k : Key) → AreFound d old → IsState d k → is_special k ≡ false → special_keys new ≡ special_keys old
-    → IsAdded (plain_keys old) k (plain_keys new) → AreFound d new
-found-plain d old new k are state plain same added = record {
+    → IsAdded (plain_keys old) k (plain_keys new) → IsWithin new.stride new.limit (length new.plain.keys + length new.special.keys) → AreFound d new
+found-plain d old new k are state plain same added within = record {
   plain_states = states-added d (plain_keys old) k (plain_keys new) added are.plain_states state;
   special_states = subst (AreStates d) (sym same) are.special_states;
   plain = sort-added false (plain_keys old) k (plain_keys new) added are.plain plain;
   special = λ row x is. are.special row x (ap (λ (ks : List Key). slice_get ks row) (sym same) ∙ is);
   dead = ap (λ (ks : List Key). slice_get ks 0) same ∙ are.dead;
+  within = within;
 }
 
 pub found-special : (d : Dfa) (old new : Found) (k : Key) → AreFound d old → IsState d k → is_special k ≡ true → plain_keys new ≡ plain_keys old
-    → IsAdded (special_keys old) k (special_keys new) → AreFound d new
-found-special d old new k are state special same added = record {
+    → IsAdded (special_keys old) k (special_keys new) → IsWithin new.stride new.limit (length new.plain.keys + length new.special.keys) → AreFound d new
+found-special d old new k are state special same added within = record {
   plain_states = subst (AreStates d) (sym same) are.plain_states;
   special_states = states-added d (special_keys old) k (special_keys new) added are.special_states state;
   plain = λ row x is. are.plain row x (ap (λ (ks : List Key). slice_get ks row) (sym same) ∙ is);
   special = sort-added true (special_keys old) k (special_keys new) added are.special special;
   dead = added-stays (special_keys old) k (special_keys new) added 0 (no_key None) are.dead;
+  within = within;
 }
 
 -- the refusal of one state more, which is not there yet
@@ -130,3 +133,23 @@ none-are d = record { each = λ row k is. none-is-some is; once = λ row other k
 
 pub lone : (d : Dfa) (k : Key) → IsState d k → AreStates d (k ∷ [])
 lone d k state = states-push d [] k (none-are d) state (λ row is. none-is-some is)
+
+-- the dead state alone
+pub found-lone : (d : Dfa) (f : Found) → IsState d (no_key None) → plain_keys f ≡ [] → special_keys f ≡ no_key None ∷ [] → IsWithin f.stride f.limit 1
+    → AreFound d f
+found-lone d f state none one within =
+    let short : length (plain_keys f) ≡ 0 = ap (λ (ks : List Key). length ks) none in
+    let long : length (special_keys f) ≡ 1 = ap (λ (ks : List Key). length ks) one in
+    let mapped = length-map f.plain.keys key_of in
+    let mapped' = length-map f.special.keys key_of in
+    record {
+      plain_states = subst (AreStates d) (sym none) (none-are d);
+      special_states = subst (AreStates d) (sym one) (lone d (no_key None) state);
+      plain = λ row k is. none-is-some (ap (λ (ks : List Key). slice_get ks row) (sym none) ∙ is);
+      special = λ row k is. elim (pushed [] (no_key None) row k (ap (λ (ks : List Key). slice_get ks row) (sym one) ∙ is)) [
+        | inl there ↦ none-is-some there
+        | inr last ↦ ap is_special last.1
+      ];
+      dead = ap (λ (ks : List Key). slice_get ks 0) one;
+      within = subst (IsWithin f.stride f.limit) (let e : 1 ≡ length f.plain.keys + length f.special.keys = omega arith in e) within;
+    }

@@ -22,7 +22,8 @@ and-decides : {P Q : Type 0} (p q : Bool) → Decides p P → Decides q Q → De
 and-decides true q dp dq = (λ e. (dp.0 refl, dq.0 e), λ pq. dq.1 pq.1)
 and-decides false q dp dq = (λ e. absurd (true≢false (sym e)), λ pq. dp.1 pq.0)
 
-byte-decides : (o p : Option ℕ) (E : Option ℕ → Option ℕ → Bool) → E None None ≡ true → ((y : ℕ) → E None (Some y) ≡ false) → ((x : ℕ) → E (Some x) None ≡ false)
+byte-decides : (o p : Option ℕ) (E : Option ℕ → Option ℕ → Bool) → E None None ≡ true → ((y : ℕ) → E None (Some y) ≡ false)
+    → ((x : ℕ) → E (Some x) None ≡ false)
     → ((x y : ℕ) → E (Some x) (Some y) ≡ (x == y)) → Decides (E o p) (o ≡ p)
 byte-decides None None E none left right both = (λ e. refl, λ e. none)
 byte-decides None (Some y) E none left right both = (λ e. absurd (true≢false (sym e ∙ left y)), λ e. none-is-some e)

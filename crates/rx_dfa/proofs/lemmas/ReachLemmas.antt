@@ -75,7 +75,8 @@ kept-read : (d : Dfa) (keeps : Bool) (byte : ℕ) → IsRead d.nfa (Some byte) �
 kept-read d true byte read = read
 kept-read d false byte read = read-none d
 
-pub next-state : (d : Dfa) (sound : IsSound d) (k : Key) (class : ℕ) → class < length d.bytes → IsState d k → IsReadable d.nfa (Some (slice_index d.bytes class))
+pub next-state : (d : Dfa) (sound : IsSound d) (k : Key) (class : ℕ) → class < length d.bytes → IsState d k
+    → IsReadable d.nfa (Some (slice_index d.bytes class))
     → AreBelow (length d.nfa.states) (next_key d k (slice_index d.bytes class)).threads → is_dead (next_key d k (slice_index d.bytes class)) ≡ false
     → IsState d (next_key d k (slice_index d.bytes class))
 next-state d sound k class lt state readable below live =
@@ -90,7 +91,8 @@ next-state d sound k class lt state readable below live =
       before = subst (IsRead d.nfa) (sym (before-next d k byte ∙ kept-stand d sound class lt)) (kept-read d d.keeps byte read);
     }
 
-pub last-state : (d : Dfa) (k : Key) → IsState d k → AreBelow (length d.nfa.states) (last_key d k).threads → is_dead (last_key d k) ≡ false → IsState d (last_key d k)
+pub last-state : (d : Dfa) (k : Key) → IsState d k → AreBelow (length d.nfa.states) (last_key d k).threads → is_dead (last_key d k) ≡ false
+    → IsState d (last_key d k)
 last-state d k state below live = record {
   dead = λ e. absurd (true≢false (sym e ∙ live));
   reached = λ e. by_test (is_dead k)

@@ -35,7 +35,8 @@ last-read xs x =
     get_or-append_right xs (x ∷ []) (length xs) (length xs) 0 refl (omega arith) ∙ ap (λ n. get_or (x ∷ []) n 0) none
 
 module _ (d : Dfa) where
-  cell-grows : (Old New : ℕ → Key → Type 0) → ((n : ℕ) (k : Key) → Old n k → New n k) → (byte : ℕ) (k : Key) (cell : ℕ) → IsCell d Old byte k cell → IsCell d New byte k cell
+  cell-grows : (Old New : ℕ → Key → Type 0) → ((n : ℕ) (k : Key) → Old n k → New n k) → (byte : ℕ) (k : Key) (cell : ℕ) → IsCell d Old byte k cell
+      → IsCell d New byte k cell
   cell-grows Old New grow byte k cell is = record { reads = λ r. grow cell _ (is.reads r); quits = is.quits }
 
   pub part-none : (Num : ℕ → Key → Type 0) (k : Key) (old : List ℕ) → IsPart d Num k 0 old old
@@ -75,7 +76,8 @@ module _ (d : Dfa) where
       record {
         len = are.len;
         steps = λ row class k lt is inside.
-            cell-grows Old New grow (slice_index d.bytes class) k (slice_index cells (row * stride + class)) (are.steps row class k lt (back row k lt is) inside);
+            cell-grows Old New grow (slice_index d.bytes class) k (slice_index cells (row * stride + class))
+            (are.steps row class k lt (back row k lt is) inside);
         ends = λ row k lt is. grow _ _ (are.ends row k lt (back row k lt is));
       }
 

@@ -72,7 +72,8 @@ module _ (f : Found) where
       record {
         row = length (plain_keys f) + r.row;
         there = append-there (plain_keys f) (special_keys f) r.row (canonical k) r.there;
-        is = settled-second first n (omega arith) (omega arith) ∙ (let e : n - second + first ≡ 0 + (length (plain_keys f) + r.row) * f.stride = omega arith in e);
+        is = settled-second first n (omega arith) (omega arith) ∙
+            (let e : n - second + first ≡ 0 + (length (plain_keys f) + r.row) * f.stride = omega arith in e);
       }
 
   module _ (d : Dfa) (first : ℕ) (is_first : first ≡ length (plain_keys f) * f.stride) (room : length (plain_keys f) * f.stride < second)

@@ -38,13 +38,15 @@ context-byte : (d : Dfa) → IsSound d → (before : Option ℕ) → IsContext d
 context-byte d sound before context = subst (λ (o : Option ℕ). IfSome o (λ b. b < 256)) context.1 (beside-byte d sound d.keeps context.0)
 
 -- what is kept of a byte that is read
-pub context-read : (d : Dfa) (asks : Bool) → IsServed d asks → (before : Option ℕ) → IsContext d before → IfSome before (λ b. reads asks b ≡ true) → IsRead d.nfa before
+pub context-read : (d : Dfa) (asks : Bool) → IsServed d asks → (before : Option ℕ) → IsContext d before → IfSome before (λ b. reads asks b ≡ true)
+    → IsRead d.nfa before
 context-read d asks served None context e = record { is_byte = tt; readable = λ kind asked word. tt }
 context-read d asks served (Some b) context e =
     record { is_byte = context-byte d served.sound (Some b) context; readable = reads-readable d asks served b e }
 
 -- no start is asked for where the byte is not read
-pub first-quits : (d : Dfa) (asks : Bool) → IsServed d asks → (start : ℕ) (loops : Bool) (before : Option ℕ) (b : ℕ) (f : Found) → AreFound d f → before ≡ Some b
+pub first-quits : (d : Dfa) (asks : Bool) → IsServed d asks → (start : ℕ) (loops : Bool) (before : Option ℕ) (b : ℕ) (f : Found) → AreFound d f
+    → before ≡ Some b
     → reads asks b ≡ false → IsMade {A = ℕ} d f f (λ n. IsRead d.nfa before → IsNumber f n (start_key d.kind d.nfa.states start loops before)) (Ok quit)
 first-quits d asks served start loops before b f are is unread = record {
   found = are;
@@ -109,7 +111,8 @@ module _ (d : Dfa) where
   pub started-none : (Num : ℕ → Key → Type 0) → AreStarted d Num 0 []
   started-none Num = record { len = omega arith; each = λ anchor start class lt is small read. absurd (omega arith) }
 
-  pub started-grow : (Old New : ℕ → Key → Type 0) → ((n : ℕ) (k : Key) → Old n k → New n k) → (n : ℕ) (starts : List ℕ) → AreStarted d Old n starts → AreStarted d New n starts
+  pub started-grow : (Old New : ℕ → Key → Type 0) → ((n : ℕ) (k : Key) → Old n k → New n k) → (n : ℕ) (starts : List ℕ) → AreStarted d Old n starts
+      → AreStarted d New n starts
   started-grow Old New grow n starts are = record {
     len = are.len;
     each = λ anchor start class lt is small read.

@@ -59,7 +59,8 @@ matching-none : (kind : MatchKind) (states : List State) → is_empty (matching 
 matching-none All states = refl
 matching-none LeftmostFirst states = refl
 
-end-dead : (kind : MatchKind) (states : List State) (sight : Sight) (k : Key) (after : Option ℕ) → k.threads ≡ [] → is_dead (end_key kind states sight k after) ≡ true
+end-dead : (kind : MatchKind) (states : List State) (sight : Sight) (k : Key) (after : Option ℕ) → k.threads ≡ []
+    → is_dead (end_key kind states sight k after) ≡ true
 unfolding end_key
 end-dead kind states sight k after none =
     ap (λ ts. is_empty (matching kind states (threads_from states (sight.holds k.before after) ts))) none

@@ -347,7 +347,8 @@ module _ (v : DenseValue) (are : IsDense v) where
       let class = context_of v.dfa.keeps v.dfa.classes v.dfa.bytes beside in
       by_start (start_of v.dfa.nfa anchor)
       (λ no. dead-holds (first_key v.dfa anchor beside)
-      (ap (λ (o : Option ℕ). is_dead (key_from v.dfa.kind v.dfa.nfa.states (loops_in anchor) (class_beside v.dfa.keeps v.dfa.classes v.dfa.bytes beside) o)) no))
+      (ap (λ (o : Option ℕ). is_dead (key_from v.dfa.kind v.dfa.nfa.states (loops_in anchor) (class_beside v.dfa.keeps v.dfa.classes v.dfa.bytes beside) o))
+      no))
       (λ start some.
       let within = index-within (mode_of anchor) (context_count v.dfa.keeps v.dfa.bytes) class (length v.dfa.nfa.starts + 2)
       (mode-within anchor start some) (context-within v.dfa.keeps beside) in

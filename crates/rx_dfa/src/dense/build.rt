@@ -9,7 +9,7 @@ ghost use Rattle.rx_dfa.specs.Table.{IsRow, AreRows, AreStarts};
 ghost use Rattle.rx_dfa.specs.Found.{AreFound, Grows, IsMade, keys_in, plain_keys, special_keys};
 ghost use Rattle.rx_dfa.specs.Job.{dfa_in, IsServed, IsJob};
 ghost use Rattle.rx_dfa.specs.Work.{AreDrawn};
-ghost use Rattle.rx_dfa.specs.Dense.{IsDfaOf, IsNoTable};
+ghost use Rattle.rx_dfa.specs.Dense.{IsDfaOf, IsFullTable, IsNoTable};
 
 use crate::alphabet::Alphabet;
 use crate::dense::Dense;
@@ -28,7 +28,8 @@ use std::snapshot::Snapshot;
 
 impl Dense {
     /// The full DFA of the NFA, which reports matches of this kind: with starts for each mode, and for each pattern. Bytes that
-    /// the NFA does not tell apart share a column, or each byte has one of its own.
+    /// the NFA does not tell apart share a column, or each byte has one of its own. Its rows are those of all states, and their
+    /// size is within the limit.
     ///
     /// # Errors
     ///
@@ -42,6 +43,7 @@ impl Dense {
         limit: Option<usize>,
     ) -> Result<Dense, BuildError>
         ensures dfa { IfOk result (λ d. IsDfaOf nfa kind byte_classes d.dfa) }
+        ensures full { IfOk result (IsFullTable limit) }
         ensures err { IfErr result (IsNoTable nfa kind byte_classes limit) }
     {
         let alphabet = Alphabet::new(alloc, &nfa, byte_classes)?;
@@ -144,7 +146,8 @@ fn draw_all(alloc: Global, job: &Job<'_>, found: &mut Found) -> Result<Drawn, Bu
 
 /// The table of these cells and the starts, with the numbers that states have at the end.
 fn settle_all(alloc: Global, starts: &[StateID], cells: &Cells) -> Result<Drawn, BuildError>
-    ensures table { IfOk result (λ drawn. drawn.table.items ≡ map (settled (length cells.now.plain.items)) cells.now.plain.items ++ map (settled (length cells.now.plain.items)) cells.now.special.items) }
+    ensures table { IfOk result (λ drawn. drawn.table.items ≡ map (settled (length cells.now.plain.items)) cells.now.plain.items ++ map
+        (settled (length cells.now.plain.items)) cells.now.special.items) }
     ensures starts { IfOk result (λ drawn. drawn.starts.items ≡ map (settled (length cells.now.plain.items)) starts.now) }
     ensures err { IfErr result (λ e. e ≡ BuildError.Memory) }
 {

@@ -108,7 +108,8 @@ fn fill_next(
     ensures grows { Grows found.old found.new }
     ensures within { OnOk result (AreWithin found.new cells.new) }
     ensures more { IfOk result (λ more. more ≡ true → cells.new.plain_rows + cells.new.special_rows ≡ cells.old.plain_rows + cells.old.special_rows + 1) }
-    ensures all { IfOk result (λ more. more ≡ false → (cells.new.plain_rows ≡ length (plain_keys found.new)) × (cells.new.special_rows ≡ length (special_keys found.new))) }
+    ensures all { IfOk result (λ more. more ≡ false → (cells.new.plain_rows ≡ length (plain_keys found.new)) ×
+        (cells.new.special_rows ≡ length (special_keys found.new))) }
     ensures made { IsMade (dfa_in job.now) found.old found.new (λ more. AreFilled (dfa_in job.now) found.new cells.new) result }
 {
     if let Some(plain) = found.plain.get_index(cells.plain_rows) {

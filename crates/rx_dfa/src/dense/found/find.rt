@@ -5,7 +5,7 @@ ghost use Rattle.rx_dfa.specs.Automaton.{Dfa, no_key};
 ghost use Rattle.rx_dfa.specs.StateKey.{key_of};
 ghost use Rattle.rx_dfa.specs.States.{is_special, IsState};
 ghost use Rattle.rx_dfa.specs.Numbers.{second};
-ghost use Rattle.rx_dfa.specs.Dense.{IsRefused};
+ghost use Rattle.rx_dfa.specs.Dense.{IsWithin, IsRefused};
 ghost use Rattle.rx_dfa.specs.Found.{keys_in, IsNumber, AreFound, Stays, Grows, IsNew, IsAdded, IsOver, IsMade};
 
 use crate::dense::error::BuildError;
@@ -28,8 +28,9 @@ impl Found {
         admit(1, stride, limit)?;
         let mut special = IndexSet::new(alloc);
         append(alloc, &mut special, &make::empty(alloc))?;
+        let plain = IndexSet::new(alloc);
         Ok(Found {
-            plain: IndexSet::new(alloc),
+            plain,
             special,
             stride,
             limit,
@@ -132,6 +133,7 @@ fn row_of(
     ensures added { IsAdded (keys_in keys.old.keys) (key_of key.now) (keys_in keys.new.keys) }
     ensures row { IfOk result (λ row. slice_get (keys_in keys.new.keys) row ≡ Some (key_of key.now)) }
     ensures room { length keys.new.keys * stride < 1073741824 }
+    ensures within { IsWithin stride limit (length keys.old.keys + others) → IsWithin stride limit (length keys.new.keys + others) }
     ensures absent { OnErr result (IsNew (keys_in keys.old.keys) (key_of key.now)) }
     ensures err { IfErr result (IsOver stride limit (length keys.old.keys + others + 1)) }
 {
@@ -150,7 +152,8 @@ fn admit(states: usize, stride: usize, limit: Option<usize>) -> Result<(), Build
     requires narrow { stride ≤ 512 }
     requires few { states * stride ≤ 2147483648 + 512 }
     requires states { states ≤ 2147483649 }
-    ensures { IfErr result (IsOver stride limit states) }
+    ensures ok { OnOk result (IsWithin stride limit states) }
+    ensures err { IfErr result (IsOver stride limit states) }
 {
     let Some(limit) = limit else {
         return Ok(());

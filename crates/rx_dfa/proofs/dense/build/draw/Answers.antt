@@ -28,5 +28,6 @@ returns-clause-made c =
     let same = same-dfa nfa c.args.kind c.args.alphabet.now c.states.result.now c.start_anchored.result c.look_matcher.result.now c.is_reverse.result
     c.states.ensures.value c.start_anchored.ensures.value c.look_matcher.ensures.value c.is_reverse.ensures in
     subst
-    (λ (d : Dfa). IsMade {A = Drawn} d c.args.found.now c.draw_all.new.found (λ x. AreDrawn d c.draw_all.new.found x.table.items x.starts.items) c.draw_all.result)
+    (λ (d : Dfa). IsMade {A = Drawn} d c.args.found.now c.draw_all.new.found (λ x. AreDrawn d c.draw_all.new.found x.table.items x.starts.items)
+    c.draw_all.result)
     same c.draw_all.ensures.made

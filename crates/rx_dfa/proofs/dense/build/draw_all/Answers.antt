@@ -1,8 +1,10 @@
 use Rattle.std.proofs.Common.{◌≡◌, ℕ, List, ◌<◌, ◌++◌, map, length, refl, sym, ◌∙◌, ap, subst, arith}
+use Rattle.std.proofs.lemmas.Result.{err_from_is_err_and}
 use Rattle.rx_dfa.specs.Job.{dfa_in}
 use Rattle.rx_dfa.specs.Numbers.{settled}
 use Rattle.rx_dfa.specs.Table.{AreStarts}
 use Rattle.rx_dfa.specs.Found.{IsNumber}
+use Rattle.rx_dfa.proofs.lemmas.FindLemmas.{memory-refused}
 use Rattle.rx_dfa.proofs.lemmas.RowLemmas.{number-grows, grows-on}
 use Rattle.rx_dfa.proofs.lemmas.StartLemmas.{starts-grow}
 use Rattle.rx_dfa.proofs.lemmas.FilledLemmas.{drawn}
@@ -37,5 +39,15 @@ returns-clause-made c =
     drawn-made d c.args.found.now f (map (settled first) cells.plain.items ++ map (settled first) cells.special.items) (map (settled first) begun)
     c.settle_all.result c.in_ok-fill.ensures.made.found c.settle_all.ensures.table c.settle_all.ensures.starts c.settle_all.ensures.err
     (λ table of_starts is_table is_starts.
-    drawn d c.requires.job.sound f cells begun table of_starts wide c.in_ok-fill.ensures.made.ok c.in_ok-fill.ensures.all.0 c.in_ok-fill.ensures.all.1 starts is_table
+    drawn d c.requires.job.sound f cells begun table of_starts wide c.in_ok-fill.ensures.made.ok c.in_ok-fill.ensures.all.0 c.in_ok-fill.ensures.all.1 starts
+    is_table
     is_starts)
+
+pub returns-in_err-desk-clause-made : goal.returns-in_err-desk-clause-made
+returns-in_err-desk-clause-made c =
+    let e = err_from_is_err_and c.from_residual.result c.from_residual.ensures.1 in
+    record {
+      found = c.requires.found;
+      ok = rw (e.1) tt;
+      err = rw (e.1) (memory-refused (dfa_in c.args.job.now) c.args.found.now.stride c.args.found.now.limit e.0 e.2);
+    }

@@ -1,7 +1,9 @@
-use Rattle.std.proofs.Common.{◌≡◌, refl, sym, ◌∙◌, ap, subst, rules}
+use Rattle.std.proofs.Common.{◌≡◌, refl, sym, ◌∙◌, ap, subst}
+use Rattle.std.proofs.lemmas.Result.{err_from_is_err_and}
 use Rattle.rx_dfa.specs.Automaton.{sight_of, last_key}
 use Rattle.rx_dfa.specs.StateKey.{key_of}
 use Rattle.rx_dfa.specs.Job.{dfa_in}
+use Rattle.rx_dfa.proofs.lemmas.FindLemmas.{memory-refused}
 use Rattle.rx_dfa.proofs.lemmas.CellLemmas.{last-is, end-made}
 use Rattle.rx_dfa.proofs.dense.rows.end_cell.Goals as goal
 
@@ -14,4 +16,10 @@ returns-clause-made c =
     (c.find.ensures.made d c.requires.found (λ live. last-is d k (key_of c.end.new.into) next c.requires.state c.in_ok-end.ensures.below live))
 
 pub returns-in_err-end-clause-made : goal.returns-in_err-end-clause-made
-returns-in_err-end-clause-made c = record { found = c.requires.found; ok = search rules; err = search rules }
+returns-in_err-end-clause-made c =
+    let e = err_from_is_err_and c.from_residual.result c.from_residual.ensures.1 in
+    record {
+      found = c.requires.found;
+      ok = rw (e.1) tt;
+      err = rw (e.1) (memory-refused (dfa_in c.args.job.now) c.args.found.now.stride c.args.found.now.limit e.0 e.2);
+    }

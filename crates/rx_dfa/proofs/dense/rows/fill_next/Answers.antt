@@ -25,7 +25,8 @@ returns-in-Some-clause-within c =
     let k = key_of c.copy.new.into in
     let there : slice_get (plain_keys f) cells.plain_rows ≡ Some k =
     slice_get-map key_of f.plain.keys cells.plain_rows ∙ ap (option_map key_of) (sym c.in-Some.ensures.key) ∙ ap Some (sym c.in_ok-copy.ensures) in
-    let later : Cells = record { plain = c.push_row.new.cells; special = cells.special; plain_rows = cells.plain_rows + 1; special_rows = cells.special_rows } in
+    let later : Cells = record { plain = c.push_row.new.cells; special = cells.special; plain_rows = cells.plain_rows + 1; special_rows = cells.special_rows }
+    in
     plain-within (dfa_in c.args.job.now) f c.push_row.new.found c.in_ok-push_row.ensures.grows cells later c.requires.within c.requires.filled k there refl refl
 
 pub returns-in-Some-clause-made : goal.returns-in-Some-clause-made
@@ -35,7 +36,8 @@ returns-in-Some-clause-made c =
     let k = key_of c.copy.new.into in
     let there : slice_get (plain_keys f) cells.plain_rows ≡ Some k =
     slice_get-map key_of f.plain.keys cells.plain_rows ∙ ap (option_map key_of) (sym c.in-Some.ensures.key) ∙ ap Some (sym c.in_ok-copy.ensures) in
-    let later : Cells = record { plain = c.push_row.new.cells; special = cells.special; plain_rows = cells.plain_rows + 1; special_rows = cells.special_rows } in
+    let later : Cells = record { plain = c.push_row.new.cells; special = cells.special; plain_rows = cells.plain_rows + 1; special_rows = cells.special_rows }
+    in
     record {
       found = c.in_ok-push_row.ensures.made.found;
       ok = plain-filled (dfa_in c.args.job.now) f c.push_row.new.found c.in_ok-push_row.ensures.grows cells later c.requires.within c.requires.filled k
@@ -63,10 +65,12 @@ returns-in-Some-get_index-clause-within c =
     let cells = c.args.cells.now in
     let k = key_of c.copy-in-Some-get_index.new.into in
     let there : slice_get (special_keys f) cells.special_rows ≡ Some k =
-    slice_get-map key_of f.special.keys cells.special_rows ∙ ap (option_map key_of) (sym c.in-Some-get_index.ensures.key) ∙ ap Some (sym c.in_ok-copy-2.ensures) in
+    slice_get-map key_of f.special.keys cells.special_rows ∙ ap (option_map key_of) (sym c.in-Some-get_index.ensures.key) ∙ ap Some
+    (sym c.in_ok-copy-2.ensures) in
     let later : Cells =
     record { plain = cells.plain; special = c.push_row-in-Some-get_index.new.cells; plain_rows = cells.plain_rows; special_rows = cells.special_rows + 1 } in
-    special-within (dfa_in c.args.job.now) f c.push_row-in-Some-get_index.new.found c.in_ok-push_row-2.ensures.grows cells later c.requires.within c.requires.filled
+    special-within (dfa_in c.args.job.now) f c.push_row-in-Some-get_index.new.found c.in_ok-push_row-2.ensures.grows cells later c.requires.within
+    c.requires.filled
     k there refl refl
 
 pub returns-in-Some-get_index-clause-made : goal.returns-in-Some-get_index-clause-made
@@ -75,7 +79,8 @@ returns-in-Some-get_index-clause-made c =
     let cells = c.args.cells.now in
     let k = key_of c.copy-in-Some-get_index.new.into in
     let there : slice_get (special_keys f) cells.special_rows ≡ Some k =
-    slice_get-map key_of f.special.keys cells.special_rows ∙ ap (option_map key_of) (sym c.in-Some-get_index.ensures.key) ∙ ap Some (sym c.in_ok-copy-2.ensures) in
+    slice_get-map key_of f.special.keys cells.special_rows ∙ ap (option_map key_of) (sym c.in-Some-get_index.ensures.key) ∙ ap Some
+    (sym c.in_ok-copy-2.ensures) in
     let later : Cells =
     record { plain = cells.plain; special = c.push_row-in-Some-get_index.new.cells; plain_rows = cells.plain_rows; special_rows = cells.special_rows + 1 } in
     record {
@@ -84,3 +89,8 @@ returns-in-Some-get_index-clause-made c =
           c.requires.filled k c.requires.wide there c.in_ok-push_row-2.ensures.made.ok refl refl refl;
       err = tt;
     }
+
+pub overflow_add-cells : goal.overflow_add-cells
+overflow_add-cells c =
+    let few = few-rows c.args.found.now c.args.cells.now c.requires.within in
+    omega arith

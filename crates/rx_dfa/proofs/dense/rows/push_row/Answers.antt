@@ -8,6 +8,7 @@ use Rattle.rx_dfa.specs.Table.{quit, IsCell}
 use Rattle.rx_dfa.specs.Found.{IsNumber}
 use Rattle.rx_dfa.specs.Work.{IsPart}
 use Rattle.rx_dfa.specs.declared.state_key.StateKey.{StateKey}
+use Rattle.rx_dfa.proofs.lemmas.ErrorLemmas.{refused-before}
 use Rattle.rx_dfa.proofs.lemmas.RowLemmas.{number-grows, grows-same, grows-on, part-none, part-push}
 use Rattle.rx_dfa.proofs.lemmas.FindLemmas.{memory-refused}
 use Rattle.rx_dfa.proofs.lemmas.FilledLemmas.{row-made}
@@ -41,9 +42,11 @@ loop-class-preserved c =
       grows = grows-on _ _ _ c.loop-class.invariant.grows c.in_ok-cell.ensures.grows;
       found = c.in_ok-cell.ensures.made.found;
       part = subst (IsPart d (IsNumber c.step_cell.new.found) (key_of c.args.desk.now.row) (class + 1) c.args.cells.now.items) (sym items)
-          (part-push d (IsNumber c.loop-class.found) (IsNumber c.step_cell.new.found) (number-grows _ _ c.in_ok-cell.ensures.grows) (key_of c.args.desk.now.row) class
+          (part-push d (IsNumber c.loop-class.found) (IsNumber c.step_cell.new.found) (number-grows _ _ c.in_ok-cell.ensures.grows)
+          (key_of c.args.desk.now.row) class
           c.args.cells.now.items c.loop-class.cells.items cell c.loop-class.invariant.part
-          (λ lt. subst (λ (r : StateKey). IsCell d (IsNumber c.step_cell.new.found) (slice_index d.bytes class) (key_of r) cell) c.loop-class.invariant.row is));
+          (λ lt. subst (λ (r : StateKey). IsCell d (IsNumber c.step_cell.new.found) (slice_index d.bytes class) (key_of r) cell) c.loop-class.invariant.row
+          is));
     }
 
 pub returns-in_err-last-clause-grows : goal.returns-in_err-last-clause-grows
@@ -86,4 +89,40 @@ returns-clause-made c =
           (subst (λ (r : StateKey). IsNumber c.end_cell.new.found last (last_key d (key_of r))) c.loop-class.invariant.row is) here
           (omega (arith, c.args.cells.now.ok.0)) c.push-2.new.self.ok.0 c.in_ok-resize.ensures.items;
       err = tt;
+    }
+
+pub returns-in_err-cell-clause-made : goal.returns-in_err-cell-clause-made
+returns-in_err-cell-clause-made c =
+    let e = err_from_is_err_and c.from_residual.result c.from_residual.ensures.1 in
+    record {
+      found = c.in_err-cell.ensures.made.found;
+      ok = rw (e.1) tt;
+      err = rw (e.1, e.2) (refused-before (dfa_in c.args.job.now) _ _ c.loop-class.invariant.grows _ c.in_err-cell.ensures.made.err);
+    }
+
+pub returns-in_err-push-clause-made : goal.returns-in_err-push-clause-made
+returns-in_err-push-clause-made c =
+    let e = err_from_is_err_and c.from_residual-in_err-push.result c.from_residual-in_err-push.ensures.1 in
+    record {
+      found = c.in_ok-cell.ensures.made.found;
+      ok = rw (e.1) tt;
+      err = rw (e.1) (memory-refused (dfa_in c.args.job.now) c.args.found.now.stride c.args.found.now.limit e.0 e.2);
+    }
+
+pub returns-in_err-last-clause-made : goal.returns-in_err-last-clause-made
+returns-in_err-last-clause-made c =
+    let e = err_from_is_err_and c.from_residual-in_err-last.result c.from_residual-in_err-last.ensures.1 in
+    record {
+      found = c.in_err-last.ensures.made.found;
+      ok = rw (e.1) tt;
+      err = rw (e.1, e.2) (refused-before (dfa_in c.args.job.now) _ _ c.loop-class.invariant.grows _ c.in_err-last.ensures.made.err);
+    }
+
+pub returns-in_err-push-2-clause-made : goal.returns-in_err-push-2-clause-made
+returns-in_err-push-2-clause-made c =
+    let e = err_from_is_err_and c.from_residual-in_err-push-2.result c.from_residual-in_err-push-2.ensures.1 in
+    record {
+      found = c.in_ok-last.ensures.made.found;
+      ok = rw (e.1) tt;
+      err = rw (e.1) (memory-refused (dfa_in c.args.job.now) c.args.found.now.stride c.args.found.now.limit e.0 e.2);
     }

@@ -29,7 +29,8 @@ returns-clause-made c =
     ∙ sym (c.kept-kept.ensures ∙ ap (λ (b : ℕ). if d.keeps then Some b else None) byte) in
     let next : key_of c.step.new.into ≡ next_key d k stand = c.in_ok-step.ensures.key (sight_of d) refl kept ∙ ap (next_key d k) byte in
     let read = sym (ap (reads j.alphabet.now.words) byte) ∙ sym c.reads.ensures ∙ c.if-not-reads.false in
-    cell-made d j.alphabet.now.words c.requires.job k c.args.class c.requires.class c.args.found.now c.find.new.self c.find.result (key_of c.step.new.into) next read
+    cell-made d j.alphabet.now.words c.requires.job k c.args.class c.requires.class c.args.found.now c.find.new.self c.find.result (key_of c.step.new.into)
+    next read
     (c.find.ensures.made d c.requires.found
     (λ live. next-is d j.alphabet.now.words c.requires.job k c.args.class c.requires.class (key_of c.step.new.into) next c.requires.state read
     c.in_ok-step.ensures.below live))

@@ -73,7 +73,8 @@ loop-start-preserved c =
       room = c.in_ok-push_starts-3.ensures.room;
       grows = grows-on _ _ _ c.loop-start.invariant.grows c.in_ok-push_starts-3.ensures.grows;
       found = c.in_ok-push_starts-3.ensures.made.found;
-      started = subst (λ n. AreStarted d (IsNumber later) n c.push_starts-in-loop-start.new.starts.items) (let n : i + 2 + 1 ≡ i + 1 + 2 = omega arith in n) more;
+      started = subst (λ n. AreStarted d (IsNumber later) n c.push_starts-in-loop-start.new.starts.items) (let n : i + 2 + 1 ≡ i + 1 + 2 = omega arith in n)
+          more;
     }
 
 pub returns-clause-made : goal.returns-clause-made

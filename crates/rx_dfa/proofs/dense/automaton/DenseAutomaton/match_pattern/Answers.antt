@@ -46,7 +46,8 @@ returns c key h =
     let long = ap (λ (x : DenseValue). length x.matches) c.self.view_is in
     let mapped = length-map c.self.inside.matches.items vec_items in
     let at : slice_get c.self.inside.matches.items index ≡ Some c.index-patterns.result.now =
-    slice_get_read c.self.inside.matches.items (length c.self.inside.matches.items) index c.index-patterns.result.now refl (omega arith) c.index-patterns.ensures in
+    slice_get_read c.self.inside.matches.items (length c.self.inside.matches.items) index c.index-patterns.result.now refl (omega arith)
+    c.index-patterns.ensures in
     let list : c.index-patterns.result.now.items ≡ key.matches =
     some-is (sym (slice_get-map vec_items c.self.inside.matches.items index ∙ ap (option_map vec_items) at)
     ∙ (λ j. slice_get ((c.self.view_is j).matches) (place j)) ∙ there) in

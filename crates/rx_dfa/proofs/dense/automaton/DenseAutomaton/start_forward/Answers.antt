@@ -15,7 +15,8 @@ returns-clause-start c =
     let before : c.byte_before-before.result ≡ byte_before i.haystack i.start =
     c.byte_before-before.ensures ∙ (λ j. byte_before (c.haystack.ensures.value j) (c.start-start.ensures.value j)) in
     subst (λ (a : Anchor). IfOk c.start_beside.result (λ s. Holds v s (first_key v.dfa a (byte_before i.haystack i.start)))) c.get_anchored.ensures
-    (subst (λ (b : Option ℕ). IfOk c.start_beside.result (λ s. Holds v s (first_key v.dfa (anchor_of c.get_anchored.result) b))) before c.start_beside.ensures.start)
+    (subst (λ (b : Option ℕ). IfOk c.start_beside.result (λ s. Holds v s (first_key v.dfa (anchor_of c.get_anchored.result) b))) before
+    c.start_beside.ensures.start)
 
 pub returns-clause-readable : goal.returns-clause-readable
 returns-clause-readable c =

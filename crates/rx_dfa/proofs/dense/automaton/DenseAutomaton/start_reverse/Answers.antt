@@ -15,7 +15,8 @@ returns-clause-start c =
     let before : c.byte_after-after.result ≡ byte_after i.haystack i.end =
     c.byte_after-after.ensures ∙ (λ j. byte_after (c.haystack.ensures.value j) (c.end-end.ensures.value j)) in
     subst (λ (a : Anchor). IfOk c.start_beside.result (λ s. Holds v s (first_key v.dfa a (byte_after i.haystack i.end)))) c.get_anchored.ensures
-    (subst (λ (b : Option ℕ). IfOk c.start_beside.result (λ s. Holds v s (first_key v.dfa (anchor_of c.get_anchored.result) b))) before c.start_beside.ensures.start)
+    (subst (λ (b : Option ℕ). IfOk c.start_beside.result (λ s. Holds v s (first_key v.dfa (anchor_of c.get_anchored.result) b))) before
+    c.start_beside.ensures.start)
 
 pub returns-clause-readable : goal.returns-clause-readable
 returns-clause-readable c =

@@ -7,7 +7,8 @@ use Rattle.rx_dfa.proofs.dense.found.Found.find.Goals as goal
 
 pub returns-then-is_dead-clause-made : goal.returns-then-is_dead-clause-made
 returns-then-is_dead-clause-made c d are state =
-    dead-made d c.args.self.now (key_of c.args.key.now) c.number.result are (sym c.is_dead.ensures ∙ c.if-is_dead.true) c.number.ensures.number c.number.ensures.err
+    dead-made d c.args.self.now (key_of c.args.key.now) c.number.result are (sym c.is_dead.ensures ∙ c.if-is_dead.true) c.number.ensures.number
+    c.number.ensures.err
 
 pub returns-then-is_empty-clause-made : goal.returns-then-is_empty-clause-made
 returns-then-is_empty-clause-made c d are state =

@@ -7,6 +7,7 @@ use Rattle.std.proofs.Math.Nat.{mul-le-mul_left}
 use Rattle.rx_dfa.specs.StateKey.{key_of}
 use Rattle.rx_dfa.specs.Found.{keys_in, IsMade}
 use Rattle.rx_dfa.proofs.lemmas.FoundLemmas.{added-stays}
+use Rattle.rx_dfa.proofs.lemmas.WithinLemmas.{within-more}
 use Rattle.rx_dfa.proofs.lemmas.FindLemmas.{found-special, special-made, refused-more, new-plain}
 use Rattle.rx_dfa.proofs.dense.found.Found.find_special.Goals as goal
 
@@ -29,15 +30,25 @@ returns-clause-grows c = record {
 
 pub returns-clause-made : goal.returns-clause-made
 returns-clause-made c d are state live special =
+    let others = c.len-others.ensures.len in
+    let within = within-more c.args.self.now.stride c.args.self.now.limit (length c.args.self.now.plain.keys + length c.args.self.now.special.keys)
+    (length c.args.self.now.special.keys + c.len-others.result)
+    (length c.row_of.new.keys.keys + c.len-others.result) (length c.args.self.now.plain.keys + length c.row_of.new.keys.keys) (omega arith) (omega arith)
+    c.in_ok-row.ensures.within are.within in
     special-made d c.args.self.now _ (key_of c.args.key.now) c.in_ok-row.row c.number.result
-    (found-special d c.args.self.now _ (key_of c.args.key.now) are state special refl c.in_ok-row.ensures.added) live refl c.in_ok-row.ensures.row
+    (found-special d c.args.self.now _ (key_of c.args.key.now) are state special refl c.in_ok-row.ensures.added within) live refl c.in_ok-row.ensures.row
     c.number.ensures.number c.number.ensures.err
 
 pub returns-in_err-row-clause-made : goal.returns-in_err-row-clause-made
 returns-in_err-row-clause-made c d are state live special =
     let e = err_from_is_err_and c.from_residual.result c.from_residual.ensures.1 in
+    let others = c.len-others.ensures.len in
+    let within = within-more c.args.self.now.stride c.args.self.now.limit (length c.args.self.now.plain.keys + length c.args.self.now.special.keys)
+    (length c.args.self.now.special.keys + c.len-others.result)
+    (length c.row_of.new.keys.keys + c.len-others.result) (length c.args.self.now.plain.keys + length c.row_of.new.keys.keys) (omega arith) (omega arith)
+    c.in_err-row.ensures.within are.within in
     record {
-      found = found-special d c.args.self.now _ (key_of c.args.key.now) are state special refl c.in_err-row.ensures.added;
+      found = found-special d c.args.self.now _ (key_of c.args.key.now) are state special refl c.in_err-row.ensures.added within;
       ok = rw (e.1) tt;
       err = rw (e.1, e.2)
           (refused-more d c.args.self.now (key_of c.args.key.now) c.len-others.result (length c.args.self.now.special.keys) are state
