@@ -14,7 +14,7 @@ ghost use Rattle.rx_dfa.specs.Search.{SearchFails, IsForwardAnswer, IsLastAnswer
 use crate::automaton::Automaton;
 use crate::search::parts::{byte_after, is_permitted_at, last_state, place_error, record};
 use crate::search::progress::Met;
-use rx_search::{HalfMatch, Input, MatchError, Steps};
+use rx_search::{HalfMatch, Input, MatchError, StateID, Steps};
 use std::marker::Brand;
 use std::sync::ledger::{Blank, Ledger};
 
@@ -126,7 +126,15 @@ fn run_forward<A: Automaton, L: Ledger>(
         };
         if !dfa.is_special(cache, state) {
             at += 1;
-            continue;
+            let (there, place) = match pass(dfa, cache, state, haystack, at, end, steps) {
+                Ok(passed) => passed,
+                Err(error) => return Err(error),
+            };
+            state = there;
+            at = place;
+            if at >= end {
+                continue;
+            }
         }
         let may = is_permitted_at(utf8, haystack, at);
         met = record(dfa, cache, state, may, at, met);
@@ -146,4 +154,31 @@ fn run_forward<A: Automaton, L: Ledger>(
     let may_end = is_permitted_at(utf8, haystack, end);
     let all = record(dfa, cache, last, may_end, end, met);
     Ok(all)
+}
+
+#[inline(always)]
+fn pass<A: Automaton, L: Ledger>(
+    dfa: &A,
+    cache: &mut A::Cache,
+    state: StateID,
+    haystack: &[u8],
+    from: usize,
+    end: usize,
+    steps: &mut Steps<L>,
+) -> Result<(StateID, usize), MatchError>
+{
+    let mut here = state;
+    let mut at = from;
+    while at < end {
+        let next = match dfa.next_state(cache, here, haystack[at], steps) {
+            Ok(next) => next,
+            Err(error) => return Err(place_error(error, at, at)),
+        };
+        if dfa.is_special(cache, next) {
+            return Ok((next, at));
+        }
+        here = next;
+        at += 1;
+    }
+    Ok((here, at))
 }
