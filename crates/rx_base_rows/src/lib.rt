@@ -8,6 +8,8 @@ mod captures;
 #[cfg(test)]
 mod class;
 #[cfg(test)]
+mod group_info;
+#[cfg(test)]
 mod look_matcher;
 #[cfg(test)]
 mod look_set;

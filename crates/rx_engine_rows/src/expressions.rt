@@ -1,4 +1,4 @@
-//! The expressions of the tests, and what their searches are to tell.
+//! The expressions of the tests, and what the searches of both engines are to tell.
 
 use rx_hir::{Capture, Hir, Repetition};
 use rx_search::{Memory, NonMaxUsize};
@@ -77,6 +77,27 @@ pub(crate) fn two_groups(alloc: Global) -> Result<Hir, Memory> {
         group(alloc, 2, text(alloc, b"c")?)?,
     )
 }
+
+/// A search of a whole haystack: the haystack, whether a match of the first pattern is found in it, and the places that are
+/// left in as many slots.
+pub(crate) type Row = (&'static [u8], bool, &'static [Option<usize>]);
+
+/// Searches for `a|ab`: the first alternative is preferred.
+pub(crate) const OF_A_OR_AB: [Row; 1] = [(b"ab", true, &[Some(0), Some(1), None])];
+
+/// Searches for `(a)b`, with no slots, with some, with as many as there are, and with more.
+pub(crate) const OF_GROUP_THEN_B: [Row; 3] = [
+    (b"xab", true, &[]),
+    (b"xab", true, &[Some(1)]),
+    (b"xab", true, &[Some(1), Some(3), Some(1), Some(2), None]),
+];
+
+/// Searches for `(a)b` one after another, with one cache.
+pub(crate) const IN_TURN: [Row; 3] = [
+    (b"xab", true, &[Some(1), Some(3), Some(1), Some(2)]),
+    (b"xa", false, &[None, None, None, None]),
+    (b"ab", true, &[Some(0), Some(2), Some(0), Some(1)]),
+];
 
 /// Whether the slots hold these places.
 pub(crate) fn hold(slots: &[Option<NonMaxUsize>], places: &[Option<usize>]) -> bool {

@@ -3,8 +3,6 @@ use rx_nfa::{NFA, State, matches_byte};
 use rx_search::{LookMatcher, Memory, PatternID, StateID};
 use rx_thompson::{Compiler, Config};
 use std::alloc::Global;
-use std::process::Abort;
-use std::test::Fail;
 
 /// The states to go on from, each at a place.
 type Stack = Vec<(usize, usize)>;
@@ -137,124 +135,138 @@ fn starts(alloc: Global, nfa: &NFA, walk: Walk, text: &[u8], end: usize) -> Resu
     Ok(told)
 }
 
-fn assert_starts(
-    rt: &impl Abort,
-    alloc: Global,
-    row: (&str, &str, usize, &str),
-) -> Result<(), Fail> {
-    let (pattern, text, end, expected) = row;
+/// A compiler for texts that are read backwards.
+fn backwards() -> Compiler {
     let mut compiler = Compiler::new();
     compiler.configure(Config::new().reverse(true));
-    let nfa = compiler.build(alloc, pattern)?;
-    assert!(rt; nfa.is_reverse());
-    assert!(rt; nfa.states_len() <= nfa.accounted_states());
+    compiler
+}
+
+/// A pattern, a text, where matches end in it, and where they start, by hand.
+type Row = (&'static str, &'static str, usize, &'static str);
+
+/// Whether the walk tells these starts.
+fn tells(alloc: Global, nfa: &NFA, walk: Walk, text: &[u8], end: usize, want: &str) -> bool {
+    match starts(alloc, nfa, walk, text, end) {
+        Ok(told) => told.as_str() == want,
+        Err(_) => false,
+    }
+}
+
+/// Whether the NFA reads backwards, has no more states than are accounted, and tells these starts.
+fn is_right(alloc: Global, nfa: &NFA, text: &[u8], end: usize, want: &str) -> bool {
     let walk = Walk {
         from: nfa.start_anchored(),
         to: PatternID::ZERO,
     };
-    let told = starts(alloc, &nfa, walk, text.as_bytes(), end)?;
-    assert_eq!(rt; told.as_str(), expected);
-    Ok(())
+    nfa.is_reverse()
+        && nfa.states_len() <= nfa.accounted_states()
+        && tells(alloc, nfa, walk, text, end, want)
 }
 
-// By hand: the pattern, the text, where matches end, and where they start.
+/// Whether the matches start where the row says.
+fn is_met(alloc: Global, row: Row) -> bool {
+    let (pattern, text, end, want) = row;
+    match backwards().build(alloc, pattern) {
+        Ok(nfa) => is_right(alloc, &nfa, text.as_bytes(), end, want),
+        Err(_) => false,
+    }
+}
+
+/// The number of the first row that is not met, counted from 0.
+fn first_wrong(alloc: Global, rows: &[Row]) -> Option<usize> {
+    for k in 0..rows.len() {
+        if !is_met(alloc, rows[k]) {
+            return Some(k);
+        }
+    }
+    None
+}
+
+/// Matches that end at a place.
+const ENDS: [Row; 48] = [
+    ("a", "aba", 3, "2"),
+    ("", "ab", 1, "1"),
+    ("ab", "abab", 4, "2"),
+    ("a|ab", "ab", 2, "0"),
+    ("a*", "aaa", 2, "012"),
+    ("(a|b)*c", "abc", 3, "012"),
+    ("(?:a|b)+?c", "abc", 3, "01"),
+    ("a{2,4}", "aaaaa", 5, "123"),
+    ("(?:ab){0,2}", "abab", 4, "024"),
+    ("(?:|a)(?:b|)", "ab", 2, "012"),
+    ("x*y|z", "xxy", 3, "012"),
+    ("☃", "a☃", 4, "1"),
+    ("☃", "a☃", 3, ""),
+    ("[α-ω]+", "αβ", 4, "02"),
+    ("[^a]", "é", 2, "0"),
+    ("[^a]", "é", 1, ""),
+    (".", "\n", 1, ""),
+    ("(?s).", "☃", 3, "0"),
+    ("[\u{7F}-\u{801}]", "\u{7FF}\u{800}", 5, "2"),
+    ("[\u{7F}-\u{801}]", "\u{802}", 3, ""),
+    ("[\u{FFFF}-\u{10FFFF}]", "\u{FFFF}\u{10000}", 7, "3"),
+    ("(?i)k", "\u{212A}", 3, "0"),
+    (r"\d{2}", "\u{663}4", 3, "0"),
+    (r"\bfoo", "foo", 3, "0"),
+    (r"\bfoo", "xfoo", 4, ""),
+    (r"foo\b", "foox", 3, ""),
+    (r"\Aab\z", "ab", 2, "0"),
+    (r"ab\z", "abc", 2, ""),
+    ("(?m)^a", "b\na", 3, "2"),
+    ("(?m)a$", "a\nb", 1, "0"),
+    ("(?mR)$", "a\r\n", 1, "1"),
+    ("(?mR)$", "a\r\n", 2, ""),
+    (r"(?-u:\B)|a☃", "a☃b", 4, "0"),
+    (r"(?-u:\B)|a☃", "a☃b", 2, "2"),
+    (r"\b{start}a\b{end}", "a a", 3, "2"),
+    (r"\b{end-half}", "é", 1, ""),
+    ("(?mR)^", "a\r\n", 3, "3"),
+    ("(?mR)^", "a\r\n", 2, ""),
+    (r"(?-u:\b)a", "éa", 3, "2"),
+    (r"\ba", "éa", 3, ""),
+    (r"\B", "éa", 2, "2"),
+    (r"\B", "é", 1, ""),
+    (r"(?-u:\b{start})a", "éa", 3, "2"),
+    (r"a(?-u:\b{end})", "aé", 1, "0"),
+    (r"(?-u:\b{start-half})a", "éa", 3, "2"),
+    (r"a(?-u:\b{end-half})", "aé", 1, "0"),
+    (r"\b{start-half}a", "éa", 3, ""),
+    (r"\b{start-half}a", " a", 2, "1"),
+];
+
 #[test]
-fn matches_that_end_at_a_place_start_there(rt: HostRuntime) -> Result<(), Fail> {
-    let rows = [
-        ("a", "aba", 3, "2"),
-        ("", "ab", 1, "1"),
-        ("ab", "abab", 4, "2"),
-        ("a|ab", "ab", 2, "0"),
-        ("a*", "aaa", 2, "012"),
-        ("(a|b)*c", "abc", 3, "012"),
-        ("(?:a|b)+?c", "abc", 3, "01"),
-        ("a{2,4}", "aaaaa", 5, "123"),
-        ("(?:ab){0,2}", "abab", 4, "024"),
-        ("(?:|a)(?:b|)", "ab", 2, "012"),
-        ("x*y|z", "xxy", 3, "012"),
-        ("☃", "a☃", 4, "1"),
-        ("☃", "a☃", 3, ""),
-        ("[α-ω]+", "αβ", 4, "02"),
-        ("[^a]", "é", 2, "0"),
-        ("[^a]", "é", 1, ""),
-        (".", "\n", 1, ""),
-        ("(?s).", "☃", 3, "0"),
-        ("[\u{7F}-\u{801}]", "\u{7FF}\u{800}", 5, "2"),
-        ("[\u{7F}-\u{801}]", "\u{802}", 3, ""),
-        ("[\u{FFFF}-\u{10FFFF}]", "\u{FFFF}\u{10000}", 7, "3"),
-        ("(?i)k", "\u{212A}", 3, "0"),
-        (r"\d{2}", "\u{663}4", 3, "0"),
-        (r"\bfoo", "foo", 3, "0"),
-        (r"\bfoo", "xfoo", 4, ""),
-        (r"foo\b", "foox", 3, ""),
-        (r"\Aab\z", "ab", 2, "0"),
-        (r"ab\z", "abc", 2, ""),
-        ("(?m)^a", "b\na", 3, "2"),
-        ("(?m)a$", "a\nb", 1, "0"),
-        ("(?mR)$", "a\r\n", 1, "1"),
-        ("(?mR)$", "a\r\n", 2, ""),
-        (r"(?-u:\B)|a☃", "a☃b", 4, "0"),
-        (r"(?-u:\B)|a☃", "a☃b", 2, "2"),
-        (r"\b{start}a\b{end}", "a a", 3, "2"),
-        (r"\b{end-half}", "é", 1, ""),
-        ("(?mR)^", "a\r\n", 3, "3"),
-        ("(?mR)^", "a\r\n", 2, ""),
-        (r"(?-u:\b)a", "éa", 3, "2"),
-        (r"\ba", "éa", 3, ""),
-        (r"\B", "éa", 2, "2"),
-        (r"\B", "é", 1, ""),
-        (r"(?-u:\b{start})a", "éa", 3, "2"),
-        (r"a(?-u:\b{end})", "aé", 1, "0"),
-        (r"(?-u:\b{start-half})a", "éa", 3, "2"),
-        (r"a(?-u:\b{end-half})", "aé", 1, "0"),
-        (r"\b{start-half}a", "éa", 3, ""),
-        (r"\b{start-half}a", " a", 2, "1"),
-    ];
-    for row in rows {
-        assert_starts(&rt, rt.alloc(), row)?;
-    }
-    Ok(())
+fn matches_that_end_at_a_place_start_there(rt: HostRuntime) {
+    assert_eq!(rt; first_wrong(rt.alloc(), &ENDS), None);
 }
 
-/// Where the matches of a pattern start that end with `ab`, from its own start and from the common one.
-fn assert_pattern_starts(
-    rt: &impl Abort,
-    alloc: Global,
-    nfa: &NFA,
-    row: (usize, &str),
-) -> Result<(), Fail> {
-    let (number, expected) = row;
-    let to = PatternID::new(number).ok_or("a pattern's number")?;
-    let own = nfa.start_pattern(to).ok_or("a pattern of the NFA")?;
-    for from in [own, nfa.start_anchored()] {
-        let told = starts(alloc, nfa, Walk { from, to }, b"ab", 2)?;
-        assert_eq!(rt; told.as_str(), expected);
-    }
-    let other = PatternID::new(number.saturating_add(1)).ok_or("a pattern's number")?;
-    let told = starts(
-        alloc,
-        nfa,
-        Walk {
-            from: own,
-            to: other,
-        },
-        b"ab",
-        2,
-    )?;
-    assert_eq!(rt; told.as_str(), "");
-    Ok(())
+/// Whether the matches of the pattern of this number start there that end with `ab`, from its own start and from the common
+/// one, and no match of the next pattern is told from its own start.
+fn pattern_is_told(alloc: Global, nfa: &NFA, number: usize, want: &str) -> bool {
+    let (Some(to), Some(other)) = (
+        PatternID::new(number),
+        PatternID::new(number.saturating_add(1)),
+    ) else {
+        return false;
+    };
+    let Some(from) = nfa.start_pattern(to) else {
+        return false;
+    };
+    let common = nfa.start_anchored();
+    tells(alloc, nfa, Walk { from, to }, b"ab", 2, want)
+        && tells(alloc, nfa, Walk { from: common, to }, b"ab", 2, want)
+        && tells(alloc, nfa, Walk { from, to: other }, b"ab", 2, "")
 }
 
 // Each pattern from its own start, from which no other is accepted, and from the common one.
 #[test]
-fn several_patterns_share_the_common_start(rt: HostRuntime) -> Result<(), Fail> {
-    let mut compiler = Compiler::new();
-    compiler.configure(Config::new().reverse(true));
-    let nfa = compiler.build_many(rt.alloc(), &["ab", "b", "a|[^b]"])?;
-    for row in [(0, "0"), (1, "1"), (2, "")] {
-        assert_pattern_starts(&rt, rt.alloc(), &nfa, row)?;
-    }
-    Ok(())
+fn several_patterns_share_the_common_start(rt: HostRuntime) {
+    let alloc = rt.alloc();
+    let nfa = backwards().build_many(alloc, &["ab", "b", "a|[^b]"]).ok();
+    let nfa = nfa.expect(&rt, "an NFA");
+    assert!(rt; pattern_is_told(alloc, &nfa, 0, "0"));
+    assert!(rt; pattern_is_told(alloc, &nfa, 1, "1"));
+    assert!(rt; pattern_is_told(alloc, &nfa, 2, ""));
 }
 
 /// The most alternatives of a choice.
@@ -268,27 +280,26 @@ fn widest_choice(nfa: &NFA) -> usize {
     widest
 }
 
-fn assert_size(rt: &impl Abort, alloc: Global, row: (&str, usize, usize)) -> Result<(), Fail> {
-    let (pattern, states, widest) = row;
-    let mut compiler = Compiler::new();
-    compiler.configure(Config::new().reverse(true));
-    let nfa = compiler.build(alloc, pattern)?;
-    assert_eq!(rt; nfa.states_len(), states);
-    assert_eq!(rt; widest_choice(&nfa), widest);
-    Ok(())
+/// A pattern, its states (one accepts, and two just go on), and the most ways of a choice, by hand.
+const SIZES: [(&str, usize, usize); 4] = [
+    ("[é]", 5, 1),
+    ("[\u{80}-\u{BF}\u{100}-\u{13F}]", 7, 2),
+    ("[\u{80}-\u{BF}\u{101}]", 8, 2),
+    (".", 28, 6),
+];
+
+/// The states of a pattern, and the most ways of a choice.
+fn size_of(alloc: Global, pattern: &str) -> Option<(usize, usize)> {
+    match backwards().build(alloc, pattern) {
+        Ok(nfa) => Some((nfa.states_len(), widest_choice(&nfa))),
+        Err(_) => None,
+    }
 }
 
-// By hand: the pattern, its states (one accepts, and two just go on), and the most ways of a choice.
 #[test]
-fn ranges_of_a_class_share_their_last_bytes(rt: HostRuntime) -> Result<(), Fail> {
-    let rows = [
-        ("[é]", 5, 1),
-        ("[\u{80}-\u{BF}\u{100}-\u{13F}]", 7, 2),
-        ("[\u{80}-\u{BF}\u{101}]", 8, 2),
-        (".", 28, 6),
-    ];
-    for row in rows {
-        assert_size(&rt, rt.alloc(), row)?;
+fn ranges_of_a_class_share_their_last_bytes(rt: HostRuntime) {
+    for (pattern, states, widest) in SIZES.iter() {
+        let size = size_of(rt.alloc(), pattern);
+        assert!(rt; size == Some((*states, *widest)), "{pattern}");
     }
-    Ok(())
 }

@@ -1,10 +1,9 @@
 //! Each call of a configuration.
 
 use rx_reader::Config;
-use std::test::Fail;
 
 #[test]
-fn keeps_the_flags(rt: HostRuntime) -> Result<(), Fail> {
+fn keeps_the_flags(rt: HostRuntime) {
     let config = Config::new()
         .case_insensitive(true)
         .multi_line(true)
@@ -21,11 +20,10 @@ fn keeps_the_flags(rt: HostRuntime) -> Result<(), Fail> {
     assert_eq!(rt; config.get_ignore_whitespace(), true);
     assert_eq!(rt; config.get_unicode(), false);
     assert_eq!(rt; config.flags().unicode, false);
-    Ok(())
 }
 
 #[test]
-fn keeps_the_rest(rt: HostRuntime) -> Result<(), Fail> {
+fn keeps_the_rest(rt: HostRuntime) {
     let config = Config::default();
     assert_eq!(rt; config.get_line_terminator(), b'\n');
     assert_eq!(rt; config.get_utf8(), true);
@@ -39,5 +37,4 @@ fn keeps_the_rest(rt: HostRuntime) -> Result<(), Fail> {
     assert_eq!(rt; config.get_utf8(), false);
     assert_eq!(rt; config.get_nest_limit(), 7);
     assert_eq!(rt; config.get_octal(), true);
-    Ok(())
 }

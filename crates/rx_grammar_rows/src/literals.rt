@@ -1,13 +1,17 @@
 //! The literals of patterns, from their texts on.
 
+use rx_hir::Hir;
 use rx_literal::{Literal, Seq, longest_common_suffix, prefixes, suffixes};
+use rx_search::Memory;
 use rx_syntax::parse;
 use std::alloc::{AllocError, Global};
-use std::test::Fail;
+
+/// A pattern, and what is told of its literals.
+type Row = (&'static str, &'static [u8], &'static [u8], &'static [u8]);
 
 /// A pattern; its prefixes, and its suffixes, each in order, a star behind one that is inexact, and a dash where there are
 /// infinitely many; the longest common suffix, or a dash where there is none.
-const ROWS: [(&str, &[u8], &[u8], &[u8]); 8] = [
+const ROWS: [Row; 8] = [
     ("ab|cd", b"ab cd ", b"ab cd ", b""),
     ("a*b", b"a* b ", b"ab* b ", b"b"),
     (r"\w+Holmes", b"-", b"Holmes* ", b"Holmes"),
@@ -46,20 +50,49 @@ fn told(alloc: Global, seq: &Seq) -> Result<Vec<u8>, AllocError> {
     Ok(text)
 }
 
-#[test]
-fn literals_of_patterns(rt: HostRuntime) -> Result<(), Fail> {
-    let alloc = rt.alloc();
-    for (pattern, first, last, common) in ROWS {
-        let hir = parse(alloc, pattern)?;
-        let seq = prefixes(alloc, &hir)?;
-        let begun = told(alloc, &seq)?;
-        assert_eq!(rt; begun.as_slice(), first);
-        let seq = suffixes(alloc, &hir)?;
-        let ended = told(alloc, &seq)?;
-        assert_eq!(rt; ended.as_slice(), last);
-        let dash = b"-".as_slice();
-        let found = longest_common_suffix(&seq).unwrap_or(dash);
-        assert_eq!(rt; found, common);
+/// Whether this is told of the literals.
+fn is_told(alloc: Global, seq: &Seq, want: &[u8]) -> bool {
+    match told(alloc, seq) {
+        Ok(text) => text.as_slice() == want,
+        Err(_) => false,
     }
-    Ok(())
+}
+
+/// Whether this is told of the prefixes.
+fn begins(alloc: Global, seq: Result<Seq, Memory>, want: &[u8]) -> bool {
+    match seq {
+        Ok(seq) => is_told(alloc, &seq, want),
+        Err(_) => false,
+    }
+}
+
+/// Whether this is told of the suffixes, and of the longest common one.
+fn ends(alloc: Global, seq: Result<Seq, Memory>, want: &[u8], common: &[u8]) -> bool {
+    match seq {
+        Ok(seq) => {
+            let found = longest_common_suffix(&seq).unwrap_or(b"-".as_slice());
+            found == common && is_told(alloc, &seq, want)
+        }
+        Err(_) => false,
+    }
+}
+
+/// Whether the literals of the expression are told as the row says.
+fn is_met(alloc: Global, hir: &Hir, row: Row) -> bool {
+    begins(alloc, prefixes(alloc, hir), row.1) && ends(alloc, suffixes(alloc, hir), row.2, row.3)
+}
+
+/// The same of the row's pattern.
+fn row_is_met(alloc: Global, row: Row) -> bool {
+    match parse(alloc, row.0) {
+        Ok(hir) => is_met(alloc, &hir, row),
+        Err(_) => false,
+    }
+}
+
+#[test]
+fn literals_of_patterns(rt: HostRuntime) {
+    for row in ROWS.iter() {
+        assert!(rt; row_is_met(rt.alloc(), *row), "{}", row.0);
+    }
 }

@@ -4,21 +4,26 @@ use rx_class::Class;
 use rx_hir::{Hir, HirKind, cost};
 use rx_syntax::*;
 use std::alloc::Global;
-use std::test::Fail;
+use std::process::Abort;
 
-/// Whether a class of scalars holds the character.
-fn holds(alloc: Global, pattern: &str, c: char) -> Result<bool, Fail> {
-    let hir = parse(alloc, pattern)?;
+/// Whether the pattern is a class of scalars that holds the character, if it is read.
+fn holds(alloc: Global, pattern: &str, c: char) -> Option<bool> {
+    match parse(alloc, pattern) {
+        Ok(hir) => Some(class_holds(&hir, c)),
+        Err(_) => None,
+    }
+}
+
+/// Whether the expression is a class of scalars that holds the character.
+fn class_holds(hir: &Hir, c: char) -> bool {
     match hir.kind() {
         HirKind::Class(Class::Unicode(class)) => {
-            Ok(
-                class
-                    .ranges()
-                    .iter()
-                    .any(|(low, high)| *low <= c && c <= *high),
-            )
+            class
+                .ranges()
+                .iter()
+                .any(|(low, high)| *low <= c && c <= *high)
         }
-        _ => Ok(false),
+        _ => false,
     }
 }
 
@@ -40,7 +45,7 @@ fn is_literal(hir: &Hir, bytes: &[u8]) -> bool {
     }
 }
 
-/// Whether these are two literals, of these bytes.
+/// Whether there are two expressions, which are literals of these bytes.
 fn are_literals(exprs: &[Hir], first: &[u8], second: &[u8]) -> bool {
     match exprs {
         [one, other] => is_literal(one, first) && is_literal(other, second),
@@ -48,73 +53,110 @@ fn are_literals(exprs: &[Hir], first: &[u8], second: &[u8]) -> bool {
     }
 }
 
-#[test]
-fn several_patterns(rt: HostRuntime) -> Result<(), Fail> {
-    let hir = parse(rt.alloc(), "a|b")?;
-    let mut alternatives = 0;
-    if let HirKind::Alternation(subs) = hir.kind() {
-        alternatives = subs.len();
-        assert!(rt; are_literals(subs, b"a", b"b"));
+/// Whether it is a choice of two literals, of these bytes.
+fn is_choice(hir: &Hir, first: &[u8], second: &[u8]) -> bool {
+    match hir.kind() {
+        HirKind::Alternation(subs) => are_literals(subs, first, second),
+        _ => false,
     }
-    assert_eq!(rt; alternatives, 2);
-    let both = parse_many(rt.alloc(), &["a", "b"])?;
+}
+
+/// What was read.
+fn expression<E: Drop>(rt: &impl Abort, hir: Result<Hir, E>) -> Hir {
+    hir.ok().expect(rt, "an expression")
+}
+
+#[test]
+fn several_patterns(rt: HostRuntime) {
+    let alloc = rt.alloc();
+    let hir = expression(&rt, parse(alloc, "a|b"));
+    assert!(rt; is_choice(&hir, b"a", b"b"));
+    let both = parse_many(alloc, &["a", "b"]).ok();
+    let both = both.expect(&rt, "two expressions");
     assert!(rt; are_literals(&both, b"a", b"b"));
-    let bytes = parse(rt.alloc(), "(?-u:\u{E9})")?;
+    let bytes = expression(&rt, parse(alloc, "(?-u:\u{E9})"));
     assert!(rt; is_literal(&bytes, b"\xC3\xA9"));
-    let ast = read_with(rt.alloc(), "a", &Config::new())?;
-    let read = translate_with(rt.alloc(), &ast, &Config::new())?;
+    let ast = read_with(alloc, "a", &Config::new()).ok();
+    let ast = ast.expect(&rt, "a tree");
+    let read = expression(&rt, translate_with(alloc, &ast, &Config::new()));
     assert!(rt; is_literal(&read, b"a"));
-    Ok(())
 }
 
+/// A pattern, and the bytes that are accounted for it.
+const COSTS: [(&str, usize); 4] = [("a", 32), ("a{3}", 128), ("[a-c]", 64), ("(a)", 96)];
+
 #[test]
-fn accounted_bytes(rt: HostRuntime) -> Result<(), Fail> {
-    for (pattern, bytes) in [("a", 32), ("a{3}", 128), ("[a-c]", 64), ("(a)", 96)] {
-        assert_eq!(rt; cost(&parse(rt.alloc(), pattern)?), bytes);
+fn accounted_bytes(rt: HostRuntime) {
+    for (pattern, bytes) in COSTS.iter() {
+        let hir = expression(&rt, parse(rt.alloc(), pattern));
+        assert_eq!(rt; cost(&hir), *bytes, "{pattern}");
     }
-    Ok(())
 }
 
+/// A pattern, a character, and whether the pattern is a class of scalars that holds it.
+type Row = (&'static str, char, bool);
+
+/// The number of the first row that is not met, counted from 0.
+fn first_wrong(alloc: Global, rows: &[Row]) -> Option<usize> {
+    for k in 0..rows.len() {
+        let (pattern, c, want) = rows[k];
+        if holds(alloc, pattern, c) != Some(want) {
+            return Some(k);
+        }
+    }
+    None
+}
+
+/// Classes in either case.
+const EITHER_CASE: [Row; 5] = [
+    ("(?i)k", '\u{212A}', true),
+    ("(?i)\u{17F}", 's', true),
+    ("(?i)\u{17F}", 'S', true),
+    ("(?i-u)K", '\u{212A}', false),
+    ("(?i)[^k]", '\u{212A}', false),
+];
+
 #[test]
-fn either_case(rt: HostRuntime) -> Result<(), Fail> {
-    assert!(rt; holds(rt.alloc(), "(?i)k", '\u{212A}')?);
-    assert!(rt; holds(rt.alloc(), "(?i)\u{17F}", 's')?);
-    assert!(rt; holds(rt.alloc(), "(?i)\u{17F}", 'S')?);
-    assert!(rt; !holds(rt.alloc(), "(?i-u)K", '\u{212A}')?);
-    assert!(rt; !holds(rt.alloc(), "(?i)[^k]", '\u{212A}')?);
-    let bytes = parse(rt.alloc(), "(?i-u)\u{E9}")?;
+fn either_case(rt: HostRuntime) {
+    let alloc = rt.alloc();
+    assert_eq!(rt; first_wrong(alloc, &EITHER_CASE), None);
+    let bytes = expression(&rt, parse(alloc, "(?i-u)\u{E9}"));
     assert!(rt; is_literal(&bytes, b"\xC3\xA9"));
-    Ok(())
 }
 
+/// Classes by name.
+const NAMED: [Row; 5] = [
+    (r"\p{Greek}", '\u{3B1}', true),
+    (r"\pN", '7', true),
+    (r"\P{Lu}", 'A', false),
+    (r"[^\d]", '7', false),
+    (r"[[:^alpha:]x]", 'x', true),
+];
+
 #[test]
-fn named_classes(rt: HostRuntime) -> Result<(), Fail> {
-    assert!(rt; holds(rt.alloc(), r"\p{Greek}", '\u{3B1}')?);
-    assert!(rt; holds(rt.alloc(), r"\pN", '7')?);
-    assert!(rt; !holds(rt.alloc(), r"\P{Lu}", 'A')?);
-    assert!(rt; !holds(rt.alloc(), r"[^\d]", '7')?);
-    assert!(rt; holds(rt.alloc(), r"[[:^alpha:]x]", 'x')?);
-    Ok(())
+fn named_classes(rt: HostRuntime) {
+    assert_eq!(rt; first_wrong(rt.alloc(), &NAMED), None);
 }
+
+/// A pattern, why it is refused, and where the piece that is refused starts and ends.
+const REFUSALS: [(&str, SyntaxErrorKind, usize, usize); 9] = [
+    (r"\p{Nope}", SyntaxErrorKind::Property, 0, 8),
+    (r"a\p{a=b}", SyntaxErrorKind::Property, 1, 8),
+    (r"(?-u:\xFF)", SyntaxErrorKind::Utf8, 5, 9),
+    (r"(?-u:\W)", SyntaxErrorKind::Utf8, 5, 7),
+    (r"(?-u:\pL)", SyntaxErrorKind::UnicodeOff, 5, 8),
+    ("(?-u:[\u{E9}])", SyntaxErrorKind::UnicodeOff, 5, 9),
+    (r"[a\pQ]", SyntaxErrorKind::Property, 2, 5),
+    ("(?-u).", SyntaxErrorKind::Utf8, 5, 6),
+    (r"(?-u)[\d\p{Nope}]", SyntaxErrorKind::UnicodeOff, 5, 17),
+];
 
 #[test]
 fn refusals(rt: HostRuntime) {
     let config = Config::new();
-    for (pattern, kind, start, end) in [
-        (r"\p{Nope}", SyntaxErrorKind::Property, 0, 8),
-        (r"a\p{a=b}", SyntaxErrorKind::Property, 1, 8),
-        (r"(?-u:\xFF)", SyntaxErrorKind::Utf8, 5, 9),
-        (r"(?-u:\W)", SyntaxErrorKind::Utf8, 5, 7),
-        (r"(?-u:\pL)", SyntaxErrorKind::UnicodeOff, 5, 8),
-        ("(?-u:[\u{E9}])", SyntaxErrorKind::UnicodeOff, 5, 9),
-        (r"[a\pQ]", SyntaxErrorKind::Property, 2, 5),
-        ("(?-u).", SyntaxErrorKind::Utf8, 5, 6),
-        (r"(?-u)[\d\p{Nope}]", SyntaxErrorKind::UnicodeOff, 5, 17),
-    ] {
-        assert_eq!(rt;
-            refusal(rt.alloc(), pattern, &config),
-            error(kind, start, end)
-        );
+    for (pattern, kind, start, end) in REFUSALS.iter() {
+        let refusal = refusal(rt.alloc(), pattern, &config);
+        assert!(rt; refusal == error(*kind, *start, *end), "{pattern}");
     }
 }
 

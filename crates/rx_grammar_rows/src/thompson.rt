@@ -4,35 +4,39 @@ use rx_hir::Hir;
 use rx_search::PatternID;
 use rx_syntax::{SyntaxError, SyntaxErrorKind};
 use rx_thompson::*;
-use std::test::Fail;
+use std::alloc::Global;
+use std::process::Abort;
+
+/// What was built.
+fn built<E: Drop>(rt: &impl Abort, nfa: Result<NFA, E>) -> NFA {
+    nfa.ok().expect(rt, "an NFA")
+}
 
 #[test]
-fn builds_one_pattern(rt: HostRuntime) -> Result<(), Fail> {
-    let nfa = Compiler::new().build(rt.alloc(), "a")?;
+fn builds_one_pattern(rt: HostRuntime) {
+    let nfa = built(&rt, Compiler::new().build(rt.alloc(), "a"));
     assert_eq!(rt; nfa.pattern_len(), 1);
     // 4 states, 1 and 3 of `a`, at 32 each.
     assert_eq!(rt; nfa.memory_usage(), 256);
-    Ok(())
 }
 
 #[test]
-fn builds_several_patterns(rt: HostRuntime) -> Result<(), Fail> {
+fn builds_several_patterns(rt: HostRuntime) {
     let alloc = rt.alloc();
-    let nfa = Compiler::new().build_many(alloc, &["a", "b(c)", ""])?;
+    let nfa = built(&rt, Compiler::new().build_many(alloc, &["a", "b(c)", ""]));
     assert_eq!(rt; nfa.pattern_len(), 3);
     assert_eq!(rt; nfa.slot_len(), 8);
     let exprs = [Hir::empty(), Hir::empty()];
-    let nfa = Compiler::new().build_many_from_hir(alloc, &exprs)?;
+    let nfa = built(&rt, Compiler::new().build_many_from_hir(alloc, &exprs));
     assert_eq!(rt; nfa.pattern_len(), 2);
-    let nfa = Compiler::new().build_from_hir(alloc, &exprs[0])?;
+    let nfa = built(&rt, Compiler::new().build_from_hir(alloc, &exprs[0]));
     assert_eq!(rt; nfa.pattern_len(), 1);
-    Ok(())
 }
 
 #[test]
-fn tells_the_first_refused_pattern(rt: HostRuntime) -> Result<(), Fail> {
+fn tells_the_first_refused_pattern(rt: HostRuntime) {
     let refusal = BuildError::Syntax {
-        pid: PatternID::new(1).ok_or("1")?,
+        pid: PatternID::new(1).expect(&rt, "1"),
         err: SyntaxError {
             kind: SyntaxErrorKind::Property,
             start: 0,
@@ -41,7 +45,6 @@ fn tells_the_first_refused_pattern(rt: HostRuntime) -> Result<(), Fail> {
     };
     let built = Compiler::new().build_many(rt.alloc(), &["a", r"\p{Nope}", "a("]);
     assert!(rt; built.err() == Some(refusal));
-    Ok(())
 }
 
 #[test]
@@ -58,15 +61,14 @@ fn refuses_a_size_above_the_limit(rt: HostRuntime) {
 }
 
 #[test]
-fn takes_a_grammar_and_a_configuration(rt: HostRuntime) -> Result<(), Fail> {
+fn takes_a_grammar_and_a_configuration(rt: HostRuntime) {
     let mut compiler = Compiler::new();
     compiler.syntax(rx_syntax::Config::new().case_insensitive(true));
     compiler.configure(Config::new().which_captures(WhichCaptures::None));
-    let nfa = compiler.build(rt.alloc(), "a")?;
+    let nfa = built(&rt, compiler.build(rt.alloc(), "a"));
     // 3 states of the class of both letters.
     assert_eq!(rt; nfa.accounted_states(), 10);
     assert_eq!(rt; nfa.slot_len(), 2);
-    Ok(())
 }
 
 #[test]
@@ -79,19 +81,24 @@ fn refuses_a_count_of_too_many_patterns(rt: HostRuntime) {
     assert!(rt; built.err() == Some(refusal));
 }
 
+/// How many states the pattern has.
+fn states_of(alloc: Global, pattern: &str) -> Option<usize> {
+    match Compiler::new().build(alloc, pattern) {
+        Ok(nfa) => Some(nfa.states_len()),
+        Err(_) => None,
+    }
+}
+
 // A state for each number of continuation bytes, one for each first byte that some may not follow (E0, ED, F0, F4), and
 // the start make eight; with the group's two and the match they are eleven.
 #[test]
-fn scalars_share_their_first_bytes(rt: HostRuntime) -> Result<(), Fail> {
-    for pattern in [".", "[^a]", r"[^\]]"] {
-        assert_eq!(rt;
-            Compiler::new().build(rt.alloc(), pattern)?.states_len(),
-            11
-        );
-    }
+fn scalars_share_their_first_bytes(rt: HostRuntime) {
+    let alloc = rt.alloc();
+    assert_eq!(rt; states_of(alloc, "."), Some(11));
+    assert_eq!(rt; states_of(alloc, "[^a]"), Some(11));
+    assert_eq!(rt; states_of(alloc, r"[^\]]"), Some(11));
     let mut compiler = Compiler::new();
     compiler.syntax(rx_syntax::Config::new().utf8(false));
-    let nfa = compiler.build(rt.alloc(), r"(?-u:[\x00-\x09\x80-\xFF])")?;
+    let nfa = built(&rt, compiler.build(alloc, r"(?-u:[\x00-\x09\x80-\xFF])"));
     assert_eq!(rt; nfa.states_len(), 4);
-    Ok(())
 }

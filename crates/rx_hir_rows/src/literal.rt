@@ -3,7 +3,7 @@ use rx_hir::{Class, ClassUnicode, Hir, Look, Repetition};
 use rx_literal::*;
 use rx_search::Memory;
 use std::alloc::{AllocError, Global};
-use std::test::Fail;
+use std::process::Abort;
 
 fn literal(alloc: Global, bytes: &[u8]) -> Result<Hir, AllocError> {
     Ok(Hir::literal(Vec::from_slice(alloc, bytes)?))
@@ -58,68 +58,120 @@ fn is_pair(seq: &Seq, first: (&[u8], bool), second: (&[u8], bool)) -> bool {
         && b.is_exact() == second.1
 }
 
+/// What was made.
+fn made_of(rt: &impl Abort, seq: Result<Seq, Memory>) -> Seq {
+    seq.ok().expect(rt, "memory")
+}
+
+/// The prefixes of the expression.
+fn begun(alloc: Global, hir: Result<Hir, Memory>) -> Result<Seq, Memory> {
+    prefixes(alloc, &hir?)
+}
+
 #[test]
-fn begin(rt: HostRuntime) -> Result<(), Fail> {
+fn begin(rt: HostRuntime) {
     let alloc = rt.alloc();
-    let seq = prefixes(alloc, &choice(alloc)?)?;
+    let seq = made_of(&rt, begun(alloc, choice(alloc)));
     assert!(rt; is_pair(&seq, (b"ab", true), (b"cd", true)));
     assert!(rt; seq.is_exact());
-    let seq = prefixes(alloc, &star(alloc)?)?;
+    let seq = made_of(&rt, begun(alloc, star(alloc)));
     assert!(rt; is_pair(&seq, (b"a", false), (b"b", true)));
-    assert!(rt; !prefixes(alloc, &holmes(alloc)?)?.is_finite());
-    Ok(())
+    let seq = made_of(&rt, begun(alloc, holmes(alloc)));
+    assert!(rt; !seq.is_finite());
+}
+
+/// The suffixes of the expression.
+fn ended(alloc: Global, hir: Result<Hir, Memory>) -> Result<Seq, Memory> {
+    suffixes(alloc, &hir?)
 }
 
 #[test]
-fn end(rt: HostRuntime) -> Result<(), Fail> {
+fn end(rt: HostRuntime) {
     let alloc = rt.alloc();
-    let seq = suffixes(alloc, &holmes(alloc)?)?;
-    let Some(common) = longest_common_suffix(&seq) else {
-        return Err("no suffix")?;
-    };
-    assert!(rt; common == b"Holmes".as_slice());
-    Ok(())
+    let seq = made_of(&rt, ended(alloc, holmes(alloc)));
+    assert!(rt; longest_common_suffix(&seq) == Some(b"Holmes".as_slice()));
+}
+
+/// The prefixes of `b` and `ba`.
+fn b_and_ba(alloc: Global) -> Result<Seq, Memory> {
+    let exprs = pair(alloc, literal(alloc, b"b")?, literal(alloc, b"ba")?)?;
+    prefixes_of(alloc, &exprs)
+}
+
+/// Those that may be found first.
+fn preferred(alloc: Global) -> Result<Seq, Memory> {
+    b_and_ba(alloc)?.trimmed_by_preference(alloc)
+}
+
+/// Those that may be found at all.
+fn all(alloc: Global) -> Result<Seq, Memory> {
+    b_and_ba(alloc)?.clone()?.trimmed_for_all(alloc)
+}
+
+/// Whether it is this literal alone.
+fn is_one(seq: &Seq, bytes: &[u8], exact: bool) -> bool {
+    match seq.literals() {
+        Some([only]) => only.as_bytes() == bytes && only.is_exact() == exact,
+        _ => false,
+    }
 }
 
 #[test]
-fn trimmed(rt: HostRuntime) -> Result<(), Fail> {
+fn trimmed(rt: HostRuntime) {
     let alloc = rt.alloc();
-    let seq = prefixes_of(
-        alloc,
-        &pair(alloc, literal(alloc, b"b")?, literal(alloc, b"ba")?)?,
-    )?;
-    let preferred = seq.clone()?.trimmed_by_preference(alloc)?;
-    let Some([only]) = preferred.literals() else {
-        return Err("not one")?;
-    };
-    assert!(rt; only.as_bytes() == b"b".as_slice() && only.is_exact());
-    assert!(rt; is_pair(&seq.trimmed_for_all(alloc)?, (b"b", true), (b"ba", true)));
-    Ok(())
+    let seq = made_of(&rt, preferred(alloc));
+    assert!(rt; is_one(&seq, b"b", true));
+    let seq = made_of(&rt, all(alloc));
+    assert!(rt; is_pair(&seq, (b"b", true), (b"ba", true)));
 }
 
-#[test]
-fn made(rt: HostRuntime) -> Result<(), Fail> {
-    let alloc = rt.alloc();
+/// `ab`, inexact, and `a`.
+fn ab_and_a(alloc: Global) -> Result<Seq, Memory> {
     let mut literals = Vec::new(alloc);
     literals.push(Literal::inexact(Vec::from_slice(alloc, b"ab")?))?;
     literals.push(Literal::exact(Vec::from_slice(alloc, b"a")?))?;
-    let seq = Seq::new(literals);
-    assert!(rt; is_pair(&seq.clone()?, (b"ab", false), (b"a", true)));
-    assert!(rt; is_pair(&seq.trimmed_for_all(alloc)?, (b"a", true), (b"ab", false)));
-    let many = vec![in alloc; Literal::exact(Vec::from_slice(alloc, b"a")?); 251]?;
-    assert!(rt; !Seq::new(many).is_finite());
-    Ok(())
+    Ok(Seq::new(literals))
+}
+
+/// More literals than a sequence may have.
+fn too_many(alloc: Global) -> Result<Seq, Memory> {
+    let literal = Literal::exact(Vec::from_slice(alloc, b"a")?);
+    Ok(Seq::new(vec![in alloc; literal; 251]?))
 }
 
 #[test]
-fn look_free(rt: HostRuntime) -> Result<(), Fail> {
+fn made(rt: HostRuntime) {
     let alloc = rt.alloc();
-    assert!(rt; is_look_free(&choice(alloc)?));
-    assert!(rt; is_look_free(&holmes(alloc)?));
-    let at_the_end = pair(alloc, literal(alloc, b"a")?, Hir::look(Look::End))?;
-    let at_the_end = Hir::concat(alloc, at_the_end)?;
-    assert!(rt; !is_look_free(&at_the_end));
+    let seq = made_of(&rt, ab_and_a(alloc));
+    let copy = seq.clone().ok().expect(&rt, "memory");
+    assert!(rt; is_pair(&copy, (b"ab", false), (b"a", true)));
+    let seq = made_of(&rt, seq.trimmed_for_all(alloc));
+    assert!(rt; is_pair(&seq, (b"a", true), (b"ab", false)));
+    let seq = made_of(&rt, too_many(alloc));
+    assert!(rt; !seq.is_finite());
+}
+
+/// Whether no look-around stands in the expression.
+fn is_free(hir: Result<Hir, Memory>) -> Option<bool> {
+    match hir {
+        Ok(hir) => Some(is_look_free(&hir)),
+        Err(_) => None,
+    }
+}
+
+/// `a$`
+fn at_the_end(alloc: Global) -> Result<Hir, Memory> {
+    let parts = pair(alloc, literal(alloc, b"a")?, Hir::look(Look::End))?;
+    Hir::concat(alloc, parts)
+}
+
+#[test]
+fn look_free(rt: HostRuntime) {
+    let alloc = rt.alloc();
+    assert_eq!(rt; is_free(choice(alloc)), Some(true));
+    assert_eq!(rt; is_free(holmes(alloc)), Some(true));
+    assert_eq!(rt; is_free(at_the_end(alloc)), Some(false));
     // No first run ends with this prefix where more text follows.
-    assert!(rt; prefixes(alloc, &at_the_end)?.is_exact());
-    Ok(())
+    let seq = made_of(&rt, begun(alloc, at_the_end(alloc)));
+    assert!(rt; seq.is_exact());
 }

@@ -1,15 +1,17 @@
 //! Searches, worked out by hand, and what a prefilter says of itself.
+ghost use Rattle.std.specs.Prelude.{◌≤◌, length};
 
 use rx_hir::Hir;
 use rx_prefilter::{Choice, Prefilter};
-use rx_search::{MatchKind, Span};
-use std::alloc::Global;
-use std::process::Abort;
-use std::test::Fail;
+use rx_search::{MatchKind, Memory, Span};
+use std::alloc::{AllocError, Global};
+
+/// Needles, parted by commas; a text; the part of it that is searched; and what is told of the search.
+type Row = (&'static [u8], &'static [u8], usize, usize, &'static [u8]);
 
 /// Needles, parted by commas; a text; the part of it that is searched; and the kind of search, what `find` answers and
 /// what `prefix` answers.
-const ROWS: [(&[u8], &[u8], usize, usize, &[u8]); 50] = [
+const ROWS: [Row; 50] = [
     (b"a", b"ba", 0, 2, b"memchr 1..2 -"),
     (b"a", b"ba", 1, 1, b"memchr - -"),
     (b"a", b"ba", 1, 2, b"memchr 1..2 1..2"),
@@ -93,7 +95,7 @@ const ROWS: [(&[u8], &[u8], usize, usize, &[u8]); 50] = [
 ];
 
 /// The needles that a text has, parted by commas.
-fn needles_of(alloc: Global, text: &[u8]) -> Result<Vec<Vec<u8>>, Fail> {
+fn needles_of(alloc: Global, text: &[u8]) -> Result<Vec<Vec<u8>>, AllocError> {
     let mut needles = Vec::new(alloc);
     for needle in text.split(|byte| *byte == b',') {
         needles.push(Vec::from_slice(alloc, needle)?)?;
@@ -102,46 +104,72 @@ fn needles_of(alloc: Global, text: &[u8]) -> Result<Vec<Vec<u8>>, Fail> {
 }
 
 /// A span as it is told: its start and its end, or a dash where there is none.
-fn span_text(alloc: Global, found: Option<Span>) -> Result<String, Fail> {
-    let text = match found {
-        Some(span) => format!(in alloc; "{}..{}", span.start, span.end)?,
-        None => format!(in alloc; "-")?,
-    };
-    Ok(text)
+fn span_text(alloc: Global, found: Option<Span>) -> Result<String, AllocError> {
+    match found {
+        Some(span) => format!(in alloc; "{}..{}", span.start, span.end),
+        None => String::from_str(alloc, "-"),
+    }
 }
 
 /// What is told of a search.
-fn told(
-    rt: &impl Abort,
-    alloc: Global,
-    made: Option<Prefilter>,
-    text: &[u8],
-    start: usize,
-    end: usize,
-) -> Result<String, Fail> {
-    assert!(rt; start <= end);
-    assert!(rt; end <= text.len());
-    let span = Span { start, end };
-    let Some(prefilter) = made else {
-        return Ok(format!(in alloc; "none")?);
-    };
+fn told(alloc: Global, prefilter: &Prefilter, text: &[u8], span: Span) -> Result<String, AllocError>
+    requires start { span.start ≤ span.end }
+    requires end { span.end ≤ length text.now }
+{
     let found = span_text(alloc, prefilter.find(text, span))?;
     let prefix = span_text(alloc, prefilter.prefix(text, span))?;
-    Ok(format!(in alloc; "{} {found} {prefix}", prefilter.choice().name())?)
+    format!(in alloc; "{} {found} {prefix}", prefilter.choice().name())
+}
+
+/// Whether this is told of a search.
+fn is_told(alloc: Global, prefilter: &Prefilter, text: &[u8], span: Span, want: &[u8]) -> bool {
+    if span.end < span.start || text.len() < span.end {
+        return false;
+    }
+    match told(alloc, prefilter, text, span) {
+        Ok(told) => told.as_bytes() == want,
+        Err(_) => false,
+    }
+}
+
+/// Whether this is told of a search by what was made; `none` where nothing was made.
+fn is_told_of(
+    alloc: Global,
+    made: Result<Option<Prefilter>, Memory>,
+    text: &[u8],
+    span: Span,
+    want: &[u8],
+) -> bool {
+    match made {
+        Ok(Some(prefilter)) => is_told(alloc, &prefilter, text, span, want),
+        Ok(None) => want == b"none".as_slice(),
+        Err(_) => false,
+    }
+}
+
+/// A prefilter of the needles that a text has.
+fn of_needles(alloc: Global, kind: MatchKind, text: &[u8]) -> Result<Option<Prefilter>, Memory> {
+    let needles = needles_of(alloc, text)?;
+    Prefilter::new(alloc, kind, &needles)
+}
+
+/// The number of the first row that is not told, counted from 0.
+fn first_wrong(alloc: Global, kind: MatchKind, rows: &[Row]) -> Option<usize> {
+    for k in 0..rows.len() {
+        let (needles, text, start, end, want) = rows[k];
+        let made = of_needles(alloc, kind, needles);
+        if !is_told_of(alloc, made, text, Span { start, end }, want) {
+            return Some(k);
+        }
+    }
+    None
 }
 
 #[test]
-fn searches_by_hand(rt: HostRuntime) -> Result<(), Fail> {
+fn searches_by_hand(rt: HostRuntime) {
     let alloc = rt.alloc();
-    for (needles, text, start, end, expected) in ROWS {
-        let needles = needles_of(alloc, needles)?;
-        for kind in [MatchKind::LeftmostFirst, MatchKind::All] {
-            let made = Prefilter::new(alloc, kind, &needles)?;
-            let told = told(&rt, alloc, made, text, start, end)?;
-            assert_eq!(rt; told.as_bytes(), expected);
-        }
-    }
-    Ok(())
+    assert_eq!(rt; first_wrong(alloc, MatchKind::LeftmostFirst, &ROWS), None);
+    assert_eq!(rt; first_wrong(alloc, MatchKind::All, &ROWS), None);
 }
 
 /// Literals, parted by commas; a text; the part of it that is searched; what a prefilter of their prefixes tells as
@@ -170,7 +198,7 @@ const PREFIX_ROWS: [(&[u8], &[u8], usize, usize, &[u8], &[u8]); 6] = [
 ];
 
 /// The literals that a text has, parted by commas.
-fn literals_of(alloc: Global, text: &[u8]) -> Result<Vec<Hir>, Fail> {
+fn literals_of(alloc: Global, text: &[u8]) -> Result<Vec<Hir>, AllocError> {
     let mut literals = Vec::new(alloc);
     for literal in needles_of(alloc, text)? {
         literals.push(Hir::literal(literal))?;
@@ -178,26 +206,56 @@ fn literals_of(alloc: Global, text: &[u8]) -> Result<Vec<Hir>, Fail> {
     Ok(literals)
 }
 
-#[test]
-fn prefixes_by_hand(rt: HostRuntime) -> Result<(), Fail> {
-    let alloc = rt.alloc();
-    for (literals, text, start, end, preferred, all) in PREFIX_ROWS {
-        let hirs = literals_of(alloc, literals)?;
-        let alternation = Hir::alternation(alloc, literals_of(alloc, literals)?)?;
-        for (kind, expected) in [(MatchKind::LeftmostFirst, preferred), (MatchKind::All, all)] {
-            let one = Prefilter::from_hir_prefix(alloc, kind, &alternation)?;
-            let told_of_one = told(&rt, alloc, one, text, start, end)?;
-            assert_eq!(rt; told_of_one.as_bytes(), expected);
-            let several = Prefilter::from_hirs_prefix(alloc, kind, &hirs)?;
-            let told_of_several = told(&rt, alloc, several, text, start, end)?;
-            assert_eq!(rt; told_of_several.as_bytes(), expected);
+/// A prefilter of the prefixes of the literals that a text has, as alternatives of one expression.
+fn of_one(alloc: Global, kind: MatchKind, text: &[u8]) -> Result<Option<Prefilter>, Memory> {
+    let alternation = Hir::alternation(alloc, literals_of(alloc, text)?)?;
+    Prefilter::from_hir_prefix(alloc, kind, &alternation)
+}
+
+/// The same, as expressions of their own.
+fn of_several(alloc: Global, kind: MatchKind, text: &[u8]) -> Result<Option<Prefilter>, Memory> {
+    let hirs = literals_of(alloc, text)?;
+    Prefilter::from_hirs_prefix(alloc, kind, &hirs)
+}
+
+/// Whether this is told of a search by the prefixes of these literals.
+fn prefixes_tell(
+    alloc: Global,
+    kind: MatchKind,
+    literals: &[u8],
+    text: &[u8],
+    span: Span,
+    want: &[u8],
+) -> bool {
+    is_told_of(alloc, of_one(alloc, kind, literals), text, span, want)
+        && is_told_of(alloc, of_several(alloc, kind, literals), text, span, want)
+}
+
+/// The number of the first of these rows that is not told.
+fn first_wrong_prefix(alloc: Global, kind: MatchKind) -> Option<usize> {
+    for k in 0..PREFIX_ROWS.len() {
+        let (literals, text, start, end, preferred, all) = PREFIX_ROWS[k];
+        let want = if kind == MatchKind::All {
+            all
+        } else {
+            preferred
+        };
+        if !prefixes_tell(alloc, kind, literals, text, Span { start, end }, want) {
+            return Some(k);
         }
     }
-    Ok(())
+    None
+}
+
+#[test]
+fn prefixes_by_hand(rt: HostRuntime) {
+    let alloc = rt.alloc();
+    assert_eq!(rt; first_wrong_prefix(alloc, MatchKind::LeftmostFirst), None);
+    assert_eq!(rt; first_wrong_prefix(alloc, MatchKind::All), None);
 }
 
 /// Needles of three digits, as many as this.
-fn numbers(alloc: Global, count: usize) -> Result<Vec<Vec<u8>>, Fail> {
+fn numbers(alloc: Global, count: usize) -> Result<Vec<Vec<u8>>, AllocError> {
     let mut needles = Vec::new(alloc);
     for number in 0..count {
         let text = format!(in alloc; "{number:03}")?;
@@ -206,53 +264,80 @@ fn numbers(alloc: Global, count: usize) -> Result<Vec<Vec<u8>>, Fail> {
     Ok(needles)
 }
 
-#[test]
-fn many_needles(rt: HostRuntime) -> Result<(), Fail> {
-    let alloc = rt.alloc();
-    let text = b"x063x999";
-    let span = Span { start: 0, end: 8 };
-    for (count, choice, start) in [
-        (64, Choice::Multi, Some(1)),
-        (63, Choice::Multi, None),
-        (65, Choice::AhoCorasick, Some(1)),
-        (1000, Choice::AhoCorasick, Some(1)),
-    ] {
-        let needles = numbers(alloc, count)?;
-        let prefilter = Prefilter::new(alloc, MatchKind::All, &needles)?;
-        let prefilter = prefilter.expect(&rt, "needles");
-        assert_eq!(rt; prefilter.choice(), choice);
-        let found = prefilter.find(text, span);
-        assert_eq!(rt; found.map(|span| span.start), start);
+/// A prefilter of so many numbers.
+fn of_numbers(alloc: Global, count: usize) -> Result<Option<Prefilter>, Memory> {
+    let needles = numbers(alloc, count)?;
+    Prefilter::new(alloc, MatchKind::All, &needles)
+}
+
+/// What a prefilter of so many numbers is, and where it finds one.
+fn choice_and_start(alloc: Global, count: usize) -> Option<(Choice, Option<usize>)> {
+    match of_numbers(alloc, count) {
+        Ok(Some(prefilter)) => {
+            let found = prefilter.find(b"x063x999", Span { start: 0, end: 8 });
+            Some((prefilter.choice(), found.map(|span| span.start)))
+        }
+        _ => None,
     }
-    Ok(())
+}
+
+/// How many needles there are, what the prefilter is, and where one begins in the text above.
+const COUNTS: [(usize, Choice, Option<usize>); 4] = [
+    (64, Choice::Multi, Some(1)),
+    (63, Choice::Multi, None),
+    (65, Choice::AhoCorasick, Some(1)),
+    (1000, Choice::AhoCorasick, Some(1)),
+];
+
+#[test]
+fn many_needles(rt: HostRuntime) {
+    for (count, choice, start) in COUNTS.iter() {
+        let made = choice_and_start(rt.alloc(), *count);
+        assert!(rt; made == Some((*choice, *start)), "{count}");
+    }
 }
 
 /// Values of this type may go to other threads, and be shared with them.
 fn crosses_threads<T: Send + Sync>(_value: &T) {}
 
+/// Whether it is the prefilter of two needles of three bytes.
+fn has_two_needles(prefilter: &Prefilter) -> bool {
+    crosses_threads(prefilter);
+    prefilter.choice() == Choice::Multi
+        && prefilter.is_fast()
+        && prefilter.max_needle_len() == 3
+        && prefilter.memory_usage() == 6
+}
+
 /// Whether it is the prefilter of two needles of three bytes, and its clone too.
-fn assert_two_needles(rt: &impl Abort, made: Option<Prefilter>) -> Result<(), Fail> {
-    let prefilter = made.expect(rt, "needles");
-    crosses_threads(&prefilter);
-    for each in [prefilter.clone()?, prefilter] {
-        assert_eq!(rt; each.choice().name(), "multi");
-        assert!(rt; each.is_fast());
-        assert_eq!(rt; each.max_needle_len(), 3);
-        assert_eq!(rt; each.memory_usage(), 6);
+fn is_of_two(made: Result<Option<Prefilter>, Memory>) -> bool {
+    match made {
+        Ok(Some(prefilter)) => {
+            let copy = prefilter.clone();
+            has_two_needles(&prefilter) && copy_has_two(copy)
+        }
+        _ => false,
     }
-    Ok(())
+}
+
+/// The same of the clone.
+fn copy_has_two(copy: Result<Prefilter, Memory>) -> bool {
+    match copy {
+        Ok(copy) => has_two_needles(&copy),
+        Err(_) => false,
+    }
+}
+
+/// Whether each way to make it makes it.
+fn all_are_of_two(alloc: Global, kind: MatchKind) -> bool {
+    is_of_two(of_needles(alloc, kind, b"foo,bar"))
+        && is_of_two(of_one(alloc, kind, b"foo,bar"))
+        && is_of_two(of_several(alloc, kind, b"foo,bar"))
 }
 
 #[test]
-fn a_prefilter_says_what_it_is(rt: HostRuntime) -> Result<(), Fail> {
+fn a_prefilter_says_what_it_is(rt: HostRuntime) {
     let alloc = rt.alloc();
-    let needles = needles_of(alloc, b"foo,bar")?;
-    let hirs = literals_of(alloc, b"foo,bar")?;
-    let alternation = Hir::alternation(alloc, literals_of(alloc, b"foo,bar")?)?;
-    for kind in [MatchKind::LeftmostFirst, MatchKind::All] {
-        assert_two_needles(&rt, Prefilter::new(alloc, kind, &needles)?)?;
-        assert_two_needles(&rt, Prefilter::from_hir_prefix(alloc, kind, &alternation)?)?;
-        assert_two_needles(&rt, Prefilter::from_hirs_prefix(alloc, kind, &hirs)?)?;
-    }
-    Ok(())
+    assert!(rt; all_are_of_two(alloc, MatchKind::LeftmostFirst));
+    assert!(rt; all_are_of_two(alloc, MatchKind::All));
 }

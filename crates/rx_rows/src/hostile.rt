@@ -2,7 +2,6 @@
 
 use rx_meta::{BuildError, Regex};
 use std::alloc::{AllocError, Global};
-use std::test::Fail;
 
 /// The length of a long pattern. The longest ones, of 16 MiB, stand in `tests/hostile.txt`.
 const LONG: usize = 1048576;
@@ -49,69 +48,58 @@ fn refusal(error: &BuildError) -> Outcome {
     }
 }
 
-#[test]
-fn digits_in_either_case_are_built(rt: HostRuntime) -> Result<(), Fail> {
-    let pattern = repeated(rt.alloc(), "(?i)", "0123456789", 30000, "")?;
-    assert!(rt; answer_to(rt.alloc(), &pattern) == Outcome::Built);
-    Ok(())
+/// What a pattern begins with, what follows so often, what it ends with, and what comes of it.
+type Row = (&'static str, &'static str, usize, &'static str, Outcome);
+
+/// Digits in either case, characters by number, named sets, branches, a class of named sets, empty groups, and repetitions. Four
+/// times as many named sets pass the limit on states, which is looked at first.
+const ROWS: [Row; 8] = [
+    ("(?i)", "0123456789", 30000, "", Outcome::Built),
+    ("(?i)", "01234567", LONG / 8 - 1, "", TOO_BIG),
+    ("", r"\x41", LONG / 4, "", Outcome::Built),
+    ("", r"\w", LONG / 8, "", TOO_BIG),
+    ("", "|", LONG, "", TOO_BIG),
+    ("[", r"\w", LONG / 2 - 1, "]", Outcome::Built),
+    ("", "(?:)", LONG / 4, "", Outcome::Built),
+    ("", "a*", LONG / 2, "", TOO_BIG),
+];
+
+/// What comes of a pattern, where there is memory for it.
+fn comes_of(alloc: Global, pattern: Result<String, AllocError>) -> Option<Outcome> {
+    match pattern {
+        Ok(pattern) => Some(answer_to(alloc, &pattern)),
+        Err(_) => None,
+    }
+}
+
+/// The number of the first row of which something else comes, counted from 0.
+fn first_wrong(alloc: Global, rows: &[Row]) -> Option<usize> {
+    for k in 0..rows.len() {
+        let (head, unit, count, tail, want) = rows[k];
+        let pattern = repeated(alloc, head, unit, count, tail);
+        if comes_of(alloc, pattern) != Some(want) {
+            return Some(k);
+        }
+    }
+    None
 }
 
 #[test]
-fn many_digits_in_either_case_are_too_big(rt: HostRuntime) -> Result<(), Fail> {
-    let pattern = repeated(rt.alloc(), "(?i)", "01234567", LONG / 8 - 1, "")?;
-    assert!(rt; answer_to(rt.alloc(), &pattern) == TOO_BIG);
-    Ok(())
+fn patterns_are_built_or_too_big(rt: HostRuntime) {
+    assert_eq!(rt; first_wrong(rt.alloc(), &ROWS), None);
 }
 
-#[test]
-fn many_characters_by_number_are_built(rt: HostRuntime) -> Result<(), Fail> {
-    let pattern = repeated(rt.alloc(), "", r"\x41", LONG / 4, "")?;
-    assert!(rt; answer_to(rt.alloc(), &pattern) == Outcome::Built);
-    Ok(())
-}
-
-#[test]
-fn many_named_sets_are_too_big(rt: HostRuntime) -> Result<(), Fail> {
-    // Four times as many pass the limit on states, which is looked at first.
-    let pattern = repeated(rt.alloc(), "", r"\w", LONG / 8, "")?;
-    assert!(rt; answer_to(rt.alloc(), &pattern) == TOO_BIG);
-    Ok(())
-}
-
-#[test]
-fn many_branches_are_too_big(rt: HostRuntime) -> Result<(), Fail> {
-    let pattern = repeated(rt.alloc(), "", "|", LONG, "")?;
-    assert!(rt; answer_to(rt.alloc(), &pattern) == TOO_BIG);
-    Ok(())
-}
-
-#[test]
-fn a_class_of_many_named_sets_is_built(rt: HostRuntime) -> Result<(), Fail> {
-    let pattern = repeated(rt.alloc(), "[", r"\w", LONG / 2 - 1, "]")?;
-    assert!(rt; answer_to(rt.alloc(), &pattern) == Outcome::Built);
-    Ok(())
-}
-
-#[test]
-fn many_empty_groups_are_built(rt: HostRuntime) -> Result<(), Fail> {
-    let pattern = repeated(rt.alloc(), "", "(?:)", LONG / 4, "")?;
-    assert!(rt; answer_to(rt.alloc(), &pattern) == Outcome::Built);
-    Ok(())
-}
-
-#[test]
-fn many_repetitions_are_too_big(rt: HostRuntime) -> Result<(), Fail> {
-    let pattern = repeated(rt.alloc(), "", "a*", LONG / 2, "")?;
-    assert!(rt; answer_to(rt.alloc(), &pattern) == TOO_BIG);
-    Ok(())
-}
-
-#[test]
-fn many_groups_with_names_are_too_big(rt: HostRuntime) -> Result<(), Fail> {
-    let mut pattern = String::new(rt.alloc());
-    for k in 0..200000 {
+/// So many groups with names.
+fn named_groups(alloc: Global, count: usize) -> Result<String, AllocError> {
+    let mut pattern = String::new(alloc);
+    for k in 0..count {
         write!(&mut pattern, "(?<g{k}>)")?;
     }
-    assert!(rt; answer_to(rt.alloc(), &pattern) == TOO_BIG);
-    Ok(())
+    Ok(pattern)
+}
+
+#[test]
+fn many_groups_with_names_are_too_big(rt: HostRuntime) {
+    let alloc = rt.alloc();
+    assert_eq!(rt; comes_of(alloc, named_groups(alloc, 200000)), Some(TOO_BIG));
 }
