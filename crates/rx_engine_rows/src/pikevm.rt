@@ -164,7 +164,7 @@ const AB: Row = (b"xxab", true, &[Some(2), Some(4), None, None]);
 const A_IN_GROUP_THEN_B: Row = (b"xab", true, &[Some(1), Some(3), Some(1), Some(2)]);
 
 #[test]
-fn a_cache_is_reset_for_more_and_for_less(rt: HostRuntime) {
+fn a_cache_is_reset_for_more(rt: HostRuntime) {
     let alloc = rt.alloc();
     let small = preferring(alloc, text(alloc, b"ab")).ok();
     let small = small.expect(&rt, "an engine");
@@ -173,6 +173,15 @@ fn a_cache_is_reset_for_more_and_for_less(rt: HostRuntime) {
     // 4 states, 2 and 3 of the pattern, with 2 slots; and 4, 4 and 3, with 4 slots
     let memory = memory_of_both(alloc, (&small, AB), (&large, A_IN_GROUP_THEN_B));
     assert_eq!(rt; memory, Ok(Some((16 * 9 * 2, 16 * 11 * 4))));
+}
+
+#[test]
+fn a_cache_is_reset_for_less(rt: HostRuntime) {
+    let alloc = rt.alloc();
+    let small = preferring(alloc, text(alloc, b"ab")).ok();
+    let small = small.expect(&rt, "an engine");
+    let large = preferring(alloc, a_in_group_then_b(alloc)).ok();
+    let large = large.expect(&rt, "an engine");
     let memory = memory_of_both(alloc, (&large, A_IN_GROUP_THEN_B), (&small, AB));
     assert_eq!(rt; memory, Ok(Some((16 * 11 * 4, 16 * 9 * 2))));
 }
