@@ -91,7 +91,8 @@ fn slots_of_two_patterns(rt: HostRuntime) {
         (Some(8), None)
     );
     assert_eq!(rt; info.to_index(second, "a"), Some(1));
-    let unnamed = known(&rt, GroupInfo::unnamed(rt.alloc(), &[3, 2]));
+    let unnamed = GroupInfo::unnamed(rt.alloc(), &[3, 2]).ok();
+    let unnamed = unnamed.expect(&rt, "memory");
     assert_eq!(rt;
         (unnamed.slot_len(), unnamed.slot(second, 1)),
         (10, Some(8))
