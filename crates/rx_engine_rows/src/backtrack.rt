@@ -75,19 +75,31 @@ fn no_slots_and_some_and_more_than_there_are(rt: HostRuntime) {
     );
 }
 
-/// The number of the first row that the engine does not tell, where one cache serves all.
-fn wrong_in_turn(alloc: Global, backtracker: &BoundedBacktracker) -> Result<Option<usize>, Memory> {
-    let mut cache = backtracker.create_cache(alloc)?;
-    if !tells(alloc, backtracker, &mut cache, IN_TURN[0])? {
+/// The number of the first row that the engine does not tell, where this cache serves all.
+fn wrong_by_one(
+    alloc: Global,
+    backtracker: &BoundedBacktracker,
+    cache: &mut Cache,
+) -> Result<Option<usize>, Memory>
+    requires { Fits backtracker.now.nfa cache.old }
+    ensures { Fits backtracker.now.nfa cache.new }
+{
+    if !tells(alloc, backtracker, cache, IN_TURN[0])? {
         return Ok(Some(0));
     }
-    if !tells(alloc, backtracker, &mut cache, IN_TURN[1])? {
+    if !tells(alloc, backtracker, cache, IN_TURN[1])? {
         return Ok(Some(1));
     }
-    if !tells(alloc, backtracker, &mut cache, IN_TURN[2])? {
+    if !tells(alloc, backtracker, cache, IN_TURN[2])? {
         return Ok(Some(2));
     }
     Ok(None)
+}
+
+/// The same with a new cache.
+fn wrong_in_turn(alloc: Global, backtracker: &BoundedBacktracker) -> Result<Option<usize>, Memory> {
+    let mut cache = backtracker.create_cache(alloc)?;
+    wrong_by_one(alloc, backtracker, &mut cache)
 }
 
 #[test]

@@ -76,19 +76,27 @@ fn no_slots_and_some_and_more_than_there_are(rt: HostRuntime) {
     );
 }
 
-/// The number of the first row that the engine does not tell, where one cache serves all.
-fn wrong_in_turn(alloc: Global, vm: &PikeVM) -> Result<Option<usize>, Memory> {
-    let mut cache = vm.create_cache(alloc)?;
-    if !tells(alloc, vm, &mut cache, IN_TURN[0])? {
+/// The number of the first row that the engine does not tell, where this cache serves all.
+fn wrong_by_one(alloc: Global, vm: &PikeVM, cache: &mut Cache) -> Result<Option<usize>, Memory>
+    requires { Fits vm.now cache.old }
+    ensures { Fits vm.now cache.new }
+{
+    if !tells(alloc, vm, cache, IN_TURN[0])? {
         return Ok(Some(0));
     }
-    if !tells(alloc, vm, &mut cache, IN_TURN[1])? {
+    if !tells(alloc, vm, cache, IN_TURN[1])? {
         return Ok(Some(1));
     }
-    if !tells(alloc, vm, &mut cache, IN_TURN[2])? {
+    if !tells(alloc, vm, cache, IN_TURN[2])? {
         return Ok(Some(2));
     }
     Ok(None)
+}
+
+/// The same with a new cache.
+fn wrong_in_turn(alloc: Global, vm: &PikeVM) -> Result<Option<usize>, Memory> {
+    let mut cache = vm.create_cache(alloc)?;
+    wrong_by_one(alloc, vm, &mut cache)
 }
 
 #[test]
@@ -134,27 +142,44 @@ fn earliest_may_start_later(rt: HostRuntime) {
     assert_eq!(rt; span_in(alloc, &vm, b"abcd", true), Ok(Some((2, 3))));
 }
 
-/// The bytes that are accounted for a cache of the first engine, if the engine tells what the row says, and for the same cache
-/// once it was reset for the second one, if that one tells what its row says.
+/// The bytes that are accounted for the cache, if the engine tells what the row says.
+fn memory_of(
+    alloc: Global,
+    vm: &PikeVM,
+    cache: &mut Cache,
+    row: Row,
+) -> Result<Option<usize>, Memory>
+    requires { Fits vm.now cache.old }
+    ensures { Fits vm.now cache.new }
+{
+    if tells(alloc, vm, cache, row)? && vm.is_match(cache, &Input::new(row.0)) == row.1 {
+        Ok(Some(cache.memory_usage()))
+    } else {
+        Ok(None)
+    }
+}
+
+/// The same once the cache was reset for the engine.
+fn memory_after_reset(
+    alloc: Global,
+    vm: &PikeVM,
+    cache: &mut Cache,
+    row: Row,
+) -> Result<Option<usize>, Memory> {
+    cache.reset(alloc, vm)?;
+    memory_of(alloc, vm, cache, row)
+}
+
+/// What is accounted for a cache of the first engine, and for the same cache once it was reset for the second one.
 fn memory_of_both(
     alloc: Global,
     first: (&PikeVM, Row),
     second: (&PikeVM, Row),
-) -> Result<Option<(usize, usize)>, Memory> {
+) -> Result<(Option<usize>, Option<usize>), Memory> {
     let mut cache = first.0.create_cache(alloc)?;
-    if !tells(alloc, first.0, &mut cache, first.1)? {
-        return Ok(None);
-    }
-    let before = cache.memory_usage();
-    cache.reset(alloc, second.0)?;
-    let after = cache.memory_usage();
-    if !tells(alloc, second.0, &mut cache, second.1)? {
-        return Ok(None);
-    }
-    if !second.0.is_match(&mut cache, &Input::new(second.1.0)) {
-        return Ok(None);
-    }
-    Ok(Some((before, after)))
+    let before = memory_of(alloc, first.0, &mut cache, first.1)?;
+    let after = memory_after_reset(alloc, second.0, &mut cache, second.1)?;
+    Ok((before, after))
 }
 
 /// Where `ab` matches.
@@ -172,7 +197,7 @@ fn a_cache_is_reset_for_more(rt: HostRuntime) {
     let large = large.expect(&rt, "an engine");
     // 4 states, 2 and 3 of the pattern, with 2 slots; and 4, 4 and 3, with 4 slots
     let memory = memory_of_both(alloc, (&small, AB), (&large, A_IN_GROUP_THEN_B));
-    assert_eq!(rt; memory, Ok(Some((16 * 9 * 2, 16 * 11 * 4))));
+    assert_eq!(rt; memory, Ok((Some(16 * 9 * 2), Some(16 * 11 * 4))));
 }
 
 #[test]
@@ -183,7 +208,7 @@ fn a_cache_is_reset_for_less(rt: HostRuntime) {
     let large = preferring(alloc, a_in_group_then_b(alloc)).ok();
     let large = large.expect(&rt, "an engine");
     let memory = memory_of_both(alloc, (&large, A_IN_GROUP_THEN_B), (&small, AB));
-    assert_eq!(rt; memory, Ok(Some((16 * 11 * 4, 16 * 9 * 2))));
+    assert_eq!(rt; memory, Ok((Some(16 * 11 * 4), Some(16 * 9 * 2))));
 }
 
 /// Values of this type may go to other threads.
