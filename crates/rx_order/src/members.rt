@@ -3,26 +3,47 @@ ghost use Rattle.std.specs.Prelude.{◌≡◌, ◌&&◌, not, chars};
 ghost use Rattle.std.specs.List.{list_all};
 ghost use Rattle.std.specs.Str.{is_utf8};
 ghost use Rattle.rx_model.specs.Text.{is_member};
+ghost use Rattle.rx_class.specs.Ranges.{next_scalar, next_byte, AreFewest};
 ghost use Rattle.rx_order.specs.Tests.{is_clear, are_disjoint};
 
-/// Whether no scalar lies in a range of both lists.
+/// Whether no scalar lies in a range of both lists. The list whose range ends first goes on, so each range is looked at once.
 pub(crate) fn scalars_are_disjoint(ranges: &[(char, char)], others: &[(char, char)]) -> bool
+    requires ranges { AreFewest next_scalar ranges.now }
+    requires others { AreFewest next_scalar others.now }
     ensures { result ≡ are_disjoint ranges.now others.now }
 {
-    for (low, high) in others {
-        if !is_clear_of_scalars(ranges, *low, *high) {
+    let mut own = 0;
+    let mut other = 0;
+    while own < ranges.len() && other < others.len() {
+        let (first, last) = ranges[own];
+        let (low, high) = others[other];
+        if last < low {
+            own += 1;
+        } else if high < first {
+            other += 1;
+        } else {
             return false;
         }
     }
     true
 }
 
-/// Whether no byte lies in a range of both lists.
+/// Whether no byte lies in a range of both lists. The list whose range ends first goes on, so each range is looked at once.
 pub(crate) fn bytes_are_disjoint(ranges: &[(u8, u8)], others: &[(u8, u8)]) -> bool
+    requires ranges { AreFewest next_byte ranges.now }
+    requires others { AreFewest next_byte others.now }
     ensures { result ≡ are_disjoint ranges.now others.now }
 {
-    for (low, high) in others {
-        if !is_clear_of_bytes(ranges, *low, *high) {
+    let mut own = 0;
+    let mut other = 0;
+    while own < ranges.len() && other < others.len() {
+        let (first, last) = ranges[own];
+        let (low, high) = others[other];
+        if last < low {
+            own += 1;
+        } else if high < first {
+            other += 1;
+        } else {
             return false;
         }
     }

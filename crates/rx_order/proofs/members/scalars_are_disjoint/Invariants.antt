@@ -1,6 +1,7 @@
-use Rattle.std.proofs.Common.{◌≡◌, drop}
+use Rattle.std.proofs.Common.{◌≡◌, ◌≤◌, length, drop}
 use Rattle.rx_order.specs.Tests.{are_disjoint}
 use Rattle.rx_order.proofs.members.scalars_are_disjoint.Given as goal
 
-abbrev pub invariant-loop-low : goal.invariant-loop-low
-invariant-loop-low l = are_disjoint l.ranges (drop l.low-index l.others) ≡ are_disjoint l.ranges l.others
+-- the loop may have no name of its own: take the one that a check prints
+abbrev pub invariant-loop : goal.invariant-loop
+invariant-loop l = (l.own ≤ length l.ranges) × (l.other ≤ length l.others) × (are_disjoint (drop l.own l.ranges) (drop l.other l.others) ≡ are_disjoint l.ranges l.others)
