@@ -1,11 +1,11 @@
 #!/usr/bin/env python3
-"""Counts the allocations of a reset of a cache, of a clone of a prefilter, and of a row.
+"""Counts the allocations of a reset of a cache, of a clone of a prefilter, of a row, and of a match and a gap of an iterator.
 
 It makes a program of bench/allocations.txt in a copy of the repository, and runs it by `rt try` with the 500th allocation
 failing, once for each number of allocations that the program is to make first. At one of these numbers the allocation that
 fails is the one after the job, and the status 4 says so: by its distance from that of another job the two are compared.
-Ends with status 1 where a reset of a cache that fits, a clone, or a row without groups, takes memory, or a row with groups takes it
-more than once. The program is built twice.
+Ends with status 1 where a reset of a cache that fits, a clone, a row without groups, a match of an iterator or a gap takes
+memory, or a row with groups takes it more than once. The program is built twice.
 """
 import os
 import re
@@ -21,8 +21,8 @@ STEP = 5
 CASE = re.compile(rb'^case=(\S+) run=ended status=([0-9]+)', re.MULTILINE)
 
 # Jobs, each with how often it is done: resets for the same regex and for a larger one, clones of a prefilter, rows without
-# groups and with one.
-JOBS = ['s0', 's9', 'l0', 'l1', 'l9', 'c1', 'c9', 'w5', 'w8', 'g5', 'g8']
+# groups and with one, matches and gaps of an iterator.
+JOBS = ['s0', 's9', 'l0', 'l1', 'l9', 'c1', 'c9', 'w5', 'w8', 'g5', 'g8', 'i5', 'i8', 'p5', 'p8']
 
 
 def copy_to(folder):
@@ -85,7 +85,10 @@ def main():
     clones = places['c9'] - places['c1']
     print('eight clones more of a prefilter: %d' % clones)
     print('three rows more: %d without groups, %d with one' % (whole, group))
-    return 0 if again == (0, 0) and clones == 0 and whole == 0 and group <= 3 else 1
+    matches, gaps = places['i8'] - places['i5'], places['p8'] - places['p5']
+    print('three matches more of an iterator: %d; three gaps more: %d' % (matches, gaps))
+    none = (*again, clones, whole, matches, gaps)
+    return 0 if not any(none) and group <= 3 else 1
 
 
 if __name__ == '__main__':

@@ -9,8 +9,10 @@ places of the matches of one pattern; Python's `re` prints the places of the mat
 input take turns, each five times, and the least processor time of each counts. All print into a file, since `grep` stops
 at the first match where it prints into the null device. A ratio is rxscan's time over the tool's: below 1, rxscan is the
 faster one. The first column of ratios is beside `rxscan scan off:p`, which makes no prefilter. Its rows, and those of the
-other programs, are compared with rxscan's.
+other programs, are compared with rxscan's. Where `grep` and Python mean something else by the pattern, or search for
+ever, they are not run.
 """
+import math
 import os
 import random
 import subprocess
@@ -47,6 +49,10 @@ def letters(rng, low, high):
     return ''.join(rng.choice('abcdefghijklmnopqrstuvwxyz') for _ in range(rng.randint(low, high)))
 
 
+def mixed(rng, alphabet, low, high):
+    return ''.join(rng.choice(alphabet) for _ in range(rng.randint(low, high)))
+
+
 def inputs(size):
     rng = random.Random(20261126)
     plain = words(rng, size, lambda r: letters(r, 1, 9))
@@ -54,14 +60,26 @@ def inputs(size):
     names = words(rng, size, lambda r: r.choice(['Holmes', 'Watson']) if r.random() < 0.02 else letters(r, 2, 8))
     pairs = words(rng, size, lambda r: letters(r, 2, 6) + '=' + str(r.randint(0, 9999)))
     lines = words(rng, size, lambda r: letters(r, 1, 30), '\n')
+    long_lines = words(rng, size, lambda r: letters(r, 1, 9) if r.random() > 0.00001 else '\n')
+    other_words = words(rng, size // 2, lambda r: mixed(r, 'абвгдежзиклмнabcdefgh', 1, 9))
+    two_letters = words(rng, size // 4, lambda r: mixed(r, 'ab', 5, 60))
+    runs = words(rng, size // 4, lambda r: 'a' * r.randint(1, 40) + ('b' if r.random() < 0.1 else ''))
     return [
         ('literal', 'Holmes', names),
         ('alternation of words', 'Holmes|Watson|Moriarty|Adler', names),
         ('[a-z]+ing', '[a-z]+ing', ing),
         ('key=value with groups', '([a-z]+)=([0-9]+)', pairs),
         ('many short lines', 'b[a-m]*z', lines),
+        ('few long lines', '[a-z]+ q[a-z]+', long_lines),
         ('no match', 'QQQ', plain),
+        ('Unicode words', r'\w+', other_words),
+        ('many states', '[ab]*a[ab]{10}', two_letters),
+        ('runs of runs', '(?:a+a+)+b', runs),
     ]
+
+
+# The inputs on which the outside tools mean something else, or search for ever.
+ALONE = {'Unicode words', 'runs of runs'}
 
 
 def run_time(command, stdin, stdout):
@@ -93,6 +111,7 @@ def main():
     tools = ['off:p', 'grep -aobE', 'Python re'] + [os.path.basename(path) for path in others]
     print('| input | pattern | ns a byte | %s |' % ' | '.join('rxscan / ' + tool for tool in tools))
     print('|---' * (3 + len(tools)) + '|')
+    logs = [0.0] * (3 + len(others))
     with tempfile.TemporaryDirectory() as folder:
         for name, pattern, text in inputs(size):
             hay, given = os.path.join(folder, 'hay'), os.path.join(folder, 'given')
@@ -102,16 +121,22 @@ def main():
             jobs = [
                 ([program, 'scan'], given, told[0]),
                 ([program, 'scan', 'off:p'], given, told[1]),
-                (['grep', '-aobE', pattern, hay], os.devnull, told[2]),
-                ([sys.executable, '-c', PYTHON, pattern, hay], os.devnull, told[3]),
+                (['true'] if name in ALONE else ['grep', '-aobE', pattern, hay], os.devnull, told[2]),
+                (['true'] if name in ALONE else [sys.executable, '-c', PYTHON, pattern, hay], os.devnull, told[3]),
             ]
             jobs += [([other, 'scan'], given, path) for other, path in zip(others, told[4:])]
             ours, *theirs = least_times(jobs)
             if any(contents(path) != contents(told[0]) for path in [told[1], *told[4:]]):
                 sys.exit('%s: the programs print different rows' % name)
-            ratios = ' | '.join('%.2f' % (ours / other) for other in theirs)
-            figure = '%.2f' % (ours * 1e9 / len(text))
+            cells = ['%.2f' % (ours / other) for other in theirs]
+            logs = [log + math.log(ours / other) for log, other in zip(logs, theirs)]
+            if name in ALONE:
+                cells[1] = cells[2] = '-'
+            ratios = ' | '.join(cells)
+            figure = '%.2f' % (ours * 1e9 / len(text.encode()))
             print('| %s | `%s` | %s | %s |' % (name, pattern.replace('|', '\\|'), figure, ratios), flush=True)
+    means = ['%.2f' % math.exp(log / len(inputs(1))) for log in logs]
+    print('| geometric mean | | | %s |' % ' | '.join([means[0], '', ''] + means[3:]))
 
 
 if __name__ == '__main__':

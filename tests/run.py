@@ -7,7 +7,8 @@ A table is a text of cases with an empty line between them. A case is made of th
 
     # TEXT            a remark
     $ rxscan WORD..   a run with these words, quoted as for a shell. Several such lines are several runs with the same
-                      input, which end alike; without one there are two, `rxscan scan` and `rxscan scan off:p`
+                      input, which end alike; without one there are five: `rxscan scan`, and with `off:p`, `off:d`, `off:h` and
+                      `off:dhobp`
     < TEXT            a line of the input
     <= LITERAL * N    bytes of the input, N times, with no newline after them: a string of Python's, as "a\\t\\u00e9", or
                       bytes, as b"\\xff"; N is 1 if left out
@@ -27,8 +28,9 @@ import sys
 FOLDER = os.path.dirname(os.path.abspath(__file__))
 SECONDS = 1200
 
-# The runs of a case that names no words: with automatic prefilters and without them.
-WITHOUT_WORDS = [['scan'], ['scan', 'off:p']]
+# The runs of a case that names no words: with all engines, without automatic prefilters, without either sort of DFAs, and
+# without all that can be switched off.
+WITHOUT_WORDS = [['scan'], ['scan', 'off:p'], ['scan', 'off:d'], ['scan', 'off:h'], ['scan', 'off:dhobp']]
 
 
 class BadTable(Exception):

@@ -1,10 +1,12 @@
 //! `rx_bench ENGINE PATTERN` searches each line of standard input for the successive matches of the pattern, and prints
 //! their number, the bytes of the lines, and the time that the searches took. `rx_bench needles LIST` times a search for
 //! needles, which commas part, beside the kit's. `rx_bench literals` times the literals of the patterns that it reads, one
-//! a line, beside their NFA.
+//! a line, beside their NFA. `rx_bench dense PATTERN` times how a full DFA is built, and how it searches standard input;
+//! `rx_bench lazy PATTERN` how a lazy one does, and `rx_bench matches PATTERN` how lazy ones find all matches.
 #![tactic(auto)]
 
 mod compile;
+mod dfa;
 mod engine;
 mod failure;
 mod finders;
@@ -55,6 +57,9 @@ fn with_argument<R: Runtime + AllocGlobal>(
 ) -> Result<(), Failure> {
     match command {
         "needles" => prefilters::bench(rt, argument),
+        "dense" => dfa::dense(rt, argument),
+        "lazy" => dfa::lazy(rt, argument),
+        "matches" => dfa::matches(rt, argument),
         _ => searches(rt, command, argument),
     }
 }

@@ -1,5 +1,7 @@
 pub mod LooplessLemmas
+pub mod KindLemmas
 pub mod CourseLemmas
+pub mod PassLemmas
 pub mod MetLemmas
 pub mod LastLemmas
 pub mod ForwardLemmas
@@ -7,6 +9,8 @@ pub mod BackwardLemmas
 pub mod PatternLemmas
 pub mod WalkLemmas
 pub mod AnswerLemmas
+pub mod SetLemmas
+pub mod OverlapLemmas
 pub mod AnewLemmas
 pub mod BothLemmas
 pub mod BackLemmas
@@ -42,3 +46,6 @@ pub mod ErrorLemmas
 pub mod DrawLemmas
 pub mod CountLemmas
 pub mod SameLemmas
+pub mod ClassListLemmas
+pub mod SpreadLemmas
+pub mod KnownLemmas

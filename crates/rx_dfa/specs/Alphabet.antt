@@ -1,7 +1,6 @@
 -- The bytes as a DFA tells them apart.
-use Rattle.std.specs.Prelude.{◌≡◌, ℕ, ◌||◌, Bool, true, false, not, nat_lt, EachIndex, slice_index, IsTrue, length}
+use Rattle.std.specs.Prelude.{◌≡◌, ℕ, ◌||◌, Bool, true, false, not, nat_lt, EachIndex, slice_index}
 use Rattle.rx_model.specs.Look.{Look}
-use Rattle.rx_model.specs.Beside.{is_unicode_word}
 use Rattle.rx_search.specs.ByteClasses.{AreClasses}
 use Rattle.rx_search.specs.LookSet.{has}
 use Rattle.rx_nfa.specs.Nfa.{Nfa}

@@ -1,6 +1,6 @@
 -- What a call does to the states that a cache holds: it keeps them all, or clears the cache, where one more would not fit.
-use Rattle.std.specs.Prelude.{◌≡◌, ◌⊎◌, ℕ, ◌+◌, ◌-◌, ◌^◌, ◌<◌, List, [], ◌∷◌, ◌++◌, take, min, Option, Some}
-use Rattle.rx_determinize.specs.Key.{Key}
+use Rattle.std.specs.Prelude.{◌≡◌, ◌⊎◌, ℕ, ◌+◌, ◌-◌, ◌^◌, ◌<◌, List, [], ◌∷◌, ◌++◌, take, min, false, Option, Some}
+use Rattle.rx_determinize.specs.Key.{Key, is_dead}
 use Rattle.rx_dfa.specs.Lazy.{LazyValue, IsNew, state_size}
 use Rattle.rx_dfa.specs.declared.lazy.rows.Rows.{Rows}
 use Rattle.rx_dfa.specs.declared.step_error.StepError.{StepError}
@@ -23,8 +23,9 @@ pub record IsKept (into : Key) (since : Option ℕ) (old new : Rows) : Type 0 wh
   pub keys : (new.keys ≡ old.keys) ⊎ (new.keys ≡ old.keys ++ into ∷ [])
   pub counts : counts_of new ≡ (old.clears, since)
 
--- This key has no state, and one more for it would account above the capacity.
+-- This key, which is not dead, has no state, and one more for it would account above the capacity.
 pub record IsFull (l : LazyValue) (into : Key) (old : Rows) : Type 0 where
+  pub alive : is_dead into ≡ false
   pub is_new : IsNew old.keys into
   pub above : l.capacity < old.size + state_size l.stride into
 

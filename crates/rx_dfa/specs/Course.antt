@@ -1,16 +1,16 @@
 -- The course of one search over the keys of a DFA.
-use Rattle.std.specs.Prelude.{◌≡◌, ◌⊎◌, ℕ, ◌-◌, ◌≤◌, Bool, true, length, Option, option_map, is_some}
+use Rattle.std.specs.Prelude.{◌≡◌, ◌⊎◌, ℕ, zero, suc, ◌-◌, ◌≤◌, ◌<◌, Bool, true, false, [], length, Option, Some, option_map, is_some}
 use Rattle.rx_model.specs.Look.{byte_before, byte_after}
 use Rattle.rx_model.specs.Search.{is_permitted}
 use Rattle.rx_search.specs.Input.{InputValue}
 use Rattle.rx_search.specs.declared.match_error.MatchError.{MatchError}
 use Rattle.rx_search.specs.declared.match_error.MatchError.TheVariants.{Quit, GaveUp, Memory}
 use Rattle.rx_nfa.specs.Automaton.{Surroundings, forwards, backwards}
-use Rattle.rx_determinize.specs.Key.{Key, end_key}
+use Rattle.rx_determinize.specs.Key.{Key, end_key, is_dead}
 use Rattle.rx_determinize.specs.Span.{key_at, SeesWhileAlive}
 use Rattle.rx_determinize.specs.Permitted.{Progress, fresh, run_within}
 use Rattle.rx_determinize.specs.Told.{at_place}
-use Rattle.rx_dfa.specs.Automaton.{Dfa, sight_of, first_key}
+use Rattle.rx_dfa.specs.Automaton.{Dfa, sight_of, first_key, next_key, IsReadable}
 use Rattle.rx_dfa.specs.declared.step_error.StepError.{StepError}
 use Rattle.rx_dfa.specs.declared.step_error.StepError.TheVariants.{Quit as QuitsAt, GaveUp as GivesUp, Memory as WantsMemory}
 
@@ -58,3 +58,24 @@ pub record IsMetBackwards (d : Dfa) (v : InputValue) (met : Progress) : Type 0 w
   pub is : met ≡ in_text (length v.haystack) at_distances
   pub along : IsMetAlong d (backwards d.nfa.terminator v.haystack) (λ i. is_permitted d.nfa.utf8 v.haystack (length v.haystack - i)) (length v.haystack)
       (length v.haystack - v.start) (length v.haystack - v.end) (first_key d v.anchor (byte_after v.haystack v.end)) v.earliest at_distances
+
+-- Over plain states.
+
+-- the key after the first n of these bytes
+abbrev pub along : Dfa → (byte : ℕ → ℕ) → (n : ℕ) → Key → Key
+along d byte zero k = k
+along d byte (suc n) k = next_key d (along d byte n k) (byte n)
+
+-- The keys after each of the first n of these bytes are alive and tell no match, and the bytes are read.
+pub record ArePlain (d : Dfa) (byte : ℕ → ℕ) (k : Key) (n : ℕ) : Type 0 where
+  pub alive : (i : ℕ) → i < n → is_dead (along d byte (suc i) k) ≡ false
+  pub no_match : (i : ℕ) → i < n → (along d byte (suc i) k).matches ≡ []
+  pub readable : (i : ℕ) → i < n → IsReadable d.nfa (Some (byte i))
+
+-- A search passed n of so many bytes, and stands in this state: at the last one behind it, and before that behind one byte more, of
+-- which nothing is told but that it is read.
+pub record IsPassed (Held : ℕ → Key → Type 0) (d : Dfa) (byte : ℕ → ℕ) (k : Key) (n count state : ℕ) : Type 0 where
+  pub within : n ≤ count
+  pub plain : ArePlain d byte k n
+  pub at_end : n ≡ count → Held state (along d byte n k)
+  pub behind : n < count → Held state (along d byte (suc n) k) × IsReadable d.nfa (Some (byte n))

@@ -6,6 +6,7 @@ use Rattle.rx_nfa.specs.Nfa.{Nfa}
 use Rattle.rx_nfa.specs.Ordered.{AreBelow}
 use Rattle.rx_determinize.specs.Key.{Key, is_empty, is_dead, start_key}
 use Rattle.rx_dfa.specs.Automaton.{Dfa, IsSound, IsReadable, next_key, last_key}
+use Rattle.rx_dfa.specs.States.{IsReached}
 
 pub record LazyValue : Type 0 where
   pub dfa : Dfa
@@ -87,9 +88,10 @@ abbrev pub AreCells : LazyValue → List Key → (cells : List ℕ) → Type 0
 AreCells l keys cells = (i x : ℕ) (k : Key) → slice_get cells i ≡ Some x → x ≢ unknown → slice_get keys (i / l.stride) ≡ Some k
     → IsNext l keys k (i % l.stride) x
 
--- a key that a row may have
+-- A key that a row may have: it is not dead, and it is come to from a start, in some way.
 pub record IsLive (d : Dfa) (k : Key) : Type 0 where
   pub alive : is_dead k ≡ false
+  pub reached : ∥ IsReached d k ∥₁
   pub below : AreBelow (length d.nfa.states) k.threads
   pub few : length k.threads ≤ length d.nfa.states
   pub byte : IfSome k.before (λ b. b < 256)

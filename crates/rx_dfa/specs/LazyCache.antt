@@ -9,8 +9,8 @@ use Rattle.rx_dfa.specs.declared.lazy.lazy_cache.LazyCache.{LazyCache}
 use Rattle.rx_dfa.specs.declared.step_error.StepError.{StepError}
 use Rattle.rx_dfa.specs.declared.step_error.StepError.TheVariants.{Quit as QuitsAt, GaveUp as GivesUp, Memory as WantsMemory}
 
--- Whatever was asked for: each cell is unknown or the step of its row's key, each start the start's key, no two rows have one key
--- (as the rows' own type has it), and the accounted size is exact and within the capacity.
+-- Whatever was asked for: each cell is unknown or the step of its row's key, each start the start's key, each row's key is a state of
+-- the automaton, no two rows have one key (as the rows' own type has it), and the accounted size is exact and within the capacity.
 pub record AreRowsOf (l : LazyValue) (r : Rows) : Type 0 where
   pub cells : AreCells l r.keys r.cells.items
   pub len : length r.cells.items ≡ length r.keys * l.stride
@@ -31,8 +31,8 @@ pub record HoldsNone (c : LazyCache) : Type 0 where
   pub clears : c.rows.clears ≡ 0
   pub since : c.rows.since ≡ None
 
--- Why it gave up: a state of a key that has none would not fit, it was cleared at least three times since it was new or reset, and fewer than ten steps
--- were taken for each of its states since the last time.
+-- Why it gave up: a state of the automaton that no row has would not fit, it was cleared at least three times since it was new or
+-- reset, and fewer than ten steps were taken for each of its states since the last time.
 pub record GaveUpOn (l : LazyValue) (r : Rows) : Type 0 where
   pub key : Key
   pub is_new : IsNew r.keys key

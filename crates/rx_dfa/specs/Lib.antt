@@ -2,6 +2,7 @@ pub mod Automaton
 pub mod Course
 pub mod Search
 pub mod Candidates
+pub mod Overlapping
 pub mod Beside
 pub mod StateKey
 pub mod Scratch
@@ -23,3 +24,5 @@ pub mod DenseView
 pub mod Numbers
 pub mod Job
 pub mod Work
+pub mod ClassLists
+pub mod Spread

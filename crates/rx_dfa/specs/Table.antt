@@ -1,5 +1,5 @@
 -- The table of a DFA: a row for each state.
-use Rattle.std.specs.Prelude.{◌≡◌, ◌⊎◌, ℕ, ◌+◌, ◌*◌, ◌^◌, ◌-◌, ◌<◌, ◌≤◌, Bool, true, false, List, length, Option, Some, None, if◌then◌else◌, slice_get, slice_index}
+use Rattle.std.specs.Prelude.{◌≡◌, ℕ, ◌+◌, ◌*◌, ◌^◌, ◌-◌, ◌<◌, ◌≤◌, Bool, true, false, List, length, Option, Some, None, if◌then◌else◌, slice_get, slice_index}
 use Rattle.rx_model.specs.Search.{Anchor, free, anchored, anchored_to}
 use Rattle.rx_search.specs.Limits.{id_limit}
 use Rattle.rx_search.specs.ByteClasses.{alphabet_len, IsLeastPower}

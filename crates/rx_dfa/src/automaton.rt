@@ -6,7 +6,7 @@ ghost use Rattle.rx_determinize.specs.Key.{Key, is_empty, is_dead};
 ghost use Rattle.rx_dfa.specs.Automaton.{Dfa, IsSound, IsStartKey, first_key, next_key, last_key, IsReadable, StepFails, StartFails};
 
 use crate::step_error::StepError;
-use rx_search::{Input, MatchError, PatternID, StateID, Steps};
+use rx_search::{Input, MatchError, MatchKind, PatternID, StateID, Steps};
 use std::sync::ledger::Ledger;
 
 /// A DFA of an NFA: full or lazy.
@@ -146,6 +146,10 @@ pub trait Automaton {
     fn match_pattern(&self, cache: &Self::Cache, state: StateID, index: usize) -> Option<PatternID>
         requires { (key : Key) × holds self.now cache.now state key }
         ensures { (key : Key) → holds self.now cache.now state key → result ≡ slice_get key.matches index };
+
+    /// Which matches it tells.
+    fn match_kind(&self) -> MatchKind
+        ensures { result ≡ (dfa self.now).kind };
 
     /// Whether no match is to start inside an encoded character, as the NFA has it.
     fn is_utf8(&self) -> bool

@@ -4,11 +4,14 @@ ghost use Rattle.rx_dfa.specs.Dense.{size_of};
 
 mod automaton;
 mod build;
+mod class_lists;
 mod error;
 mod found;
 mod job;
+mod known;
 mod numbers;
 mod rows;
+mod spread;
 mod starts;
 
 use crate::alphabet::Alphabet;

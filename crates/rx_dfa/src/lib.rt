@@ -23,5 +23,6 @@ pub use automaton::Automaton;
 pub use dense::Dense;
 pub use search::{
     try_search, try_search_half_fwd, try_search_half_fwd_by, try_search_half_rev, try_search_start,
+    try_which_overlapping,
 };
 pub use step_error::StepError;

@@ -74,7 +74,7 @@ fn accepts(state: &State) -> Option<PatternID>
 }
 
 /// The state that the byte leads to.
-fn target(state: &State, byte: u8) -> Option<StateID>
+pub fn target(state: &State, byte: u8) -> Option<StateID>
     ensures { result ≡ target_of state.now byte }
 {
     match state {

@@ -4,9 +4,9 @@
 #[cfg(test)]
 mod backtrack;
 #[cfg(test)]
-mod expressions;
-#[cfg(test)]
 mod pikevm;
+#[cfg(test)]
+mod rows;
 #[cfg(test)]
 mod slots;
 #[cfg(test)]

@@ -52,12 +52,12 @@ fn strategy_of(
     made.ok().expect(rt, "a strategy")
 }
 
-/// The strategy of `a`, without a backtracker.
+/// The strategy of `a`, without a backtracker and without DFAs.
 fn of_a(rt: &impl Abort, alloc: Global) -> Strategy {
     strategy_of(
         rt,
         alloc,
-        &Config::new().backtrack(false),
+        &without_dfas().backtrack(false),
         text(alloc, b"a"),
     )
 }
@@ -70,10 +70,15 @@ fn prefilter(alloc: Global, first: &[u8], second: &[u8]) -> Result<Option<Prefil
     Prefilter::new(alloc, MatchKind::LeftmostFirst, &needles)
 }
 
-/// A configuration into which a prefilter of these needles is handed, and that makes none else.
+/// A configuration without DFAs.
+fn without_dfas() -> Config {
+    Config::new().dfa(false).hybrid(false)
+}
+
+/// A configuration into which a prefilter of these needles is handed, that makes none else, without DFAs.
 fn handing_in(rt: &impl Abort, alloc: Global, first: &[u8], second: &[u8]) -> Config {
     let pre = prefilter(alloc, first, second).ok().expect(rt, "memory");
-    Config::new().auto_prefilter(false).prefilter(pre)
+    without_dfas().auto_prefilter(false).prefilter(pre)
 }
 
 /// A cache of the strategy.
@@ -192,7 +197,7 @@ fn prefers_the_first(rt: &impl Abort, alloc: Global, config: &Config) {
 fn both_engines_prefer_the_first_alternative(rt: HostRuntime) {
     let alloc = rt.alloc();
     for backtrack in [true, false] {
-        prefers_the_first(&rt, alloc, &Config::new().backtrack(backtrack));
+        prefers_the_first(&rt, alloc, &without_dfas().backtrack(backtrack));
     }
 }
 
@@ -200,7 +205,7 @@ fn both_engines_prefer_the_first_alternative(rt: HostRuntime) {
 fn no_prefilter_changes_an_answer(rt: HostRuntime) {
     let alloc = rt.alloc();
     for backtrack in [true, false] {
-        let config = Config::new().auto_prefilter(false).backtrack(backtrack);
+        let config = without_dfas().auto_prefilter(false).backtrack(backtrack);
         prefers_the_first(&rt, alloc, &config);
         let config = handing_in(&rt, alloc, b"a", b"x").backtrack(backtrack);
         prefers_the_first(&rt, alloc, &config);
@@ -221,10 +226,10 @@ fn memory_of(
 fn a_prefilter_is_chosen(rt: HostRuntime) {
     let alloc = rt.alloc();
     // 4 states, 2 and 3 of the pattern, with 32 for each; and the lengths of the needles
-    let none = Config::new().auto_prefilter(false);
+    let none = without_dfas().auto_prefilter(false);
     assert_eq!(rt; memory_of(&rt, alloc, &none, text(alloc, b"ab")), 288);
     assert_eq!(rt;
-        memory_of(&rt, alloc, &Config::new(), text(alloc, b"ab")),
+        memory_of(&rt, alloc, &without_dfas(), text(alloc, b"ab")),
         290
     );
     let given = handing_in(&rt, alloc, b"ab", b"xyz").auto_prefilter(true);
@@ -269,7 +274,7 @@ fn a_strategy_asks_for_candidates(rt: HostRuntime) {
         assert_eq!(rt; asked, Some((2, 2)));
         let asked = asked_for(&rt, alloc, &given, b"aaa");
         assert_eq!(rt; asked, None);
-        let none = Config::new().backtrack(backtrack);
+        let none = without_dfas().backtrack(backtrack);
         let asked = asked_for(&rt, alloc, &none, b"aac");
         assert_eq!(rt; asked, Some((0, 0)));
     }
@@ -296,52 +301,180 @@ fn matches_in(rt: &impl Abort, strategy: &Strategy, cache: &mut Cache, haystack:
     found.expect(rt, "memory")
 }
 
+/// The expression `abc|a`.
+fn abc_or_a(alloc: Global) -> Result<Hir, Memory> {
+    let mut alternatives = Vec::new(alloc);
+    alternatives.push(text(alloc, b"abc")?)?;
+    alternatives.push(text(alloc, b"a")?)?;
+    Hir::alternation(alloc, alternatives)
+}
+
+/// The bytes that are accounted for the cache once it was asked whether there is a match in the haystack.
+fn after_is_match(rt: &impl Abort, strategy: &Strategy, cache: &mut Cache, haystack: &[u8]) -> usize
+    requires { Fits strategy.now cache.old }
+{
+    let _there = matches_in(rt, strategy, cache, haystack);
+    cache.memory_usage()
+}
+
+/// The bytes that are accounted for a new cache of the strategy, and those that are once it was asked.
+fn before_and_after(
+    rt: &impl Abort,
+    alloc: Global,
+    strategy: &Strategy,
+    haystack: &[u8],
+) -> (usize, usize) {
+    let mut cache = cache_of(rt, alloc, strategy);
+    let before = cache.memory_usage();
+    (before, after_is_match(rt, strategy, &mut cache, haystack))
+}
+
+#[test]
+fn a_lazy_dfa_tells_whether_there_is_a_match(rt: HostRuntime) {
+    let alloc = rt.alloc();
+    let config = Config::new().dfa(false).auto_prefilter(false);
+    let strategy = strategy_of(&rt, alloc, &config, abc_or_a(alloc));
+    let (new, short) = before_and_after(&rt, alloc, &strategy, b"ab");
+    let (_, long) = before_and_after(&rt, alloc, &strategy, b"abc");
+    assert!(rt; new < short);
+    // the match of `a` is known one byte behind it, and no more is read
+    assert_eq!(rt; long, short);
+}
+
+/// What the calls of a strategy tell: the span and the end of the match in the first haystack, and whether there is a match in
+/// each of both.
+type Calls = (Option<(usize, usize)>, Option<usize>, bool, bool);
+
+/// What each call tells with this cache.
+fn calls_in(
+    rt: &impl Abort,
+    strategy: &Strategy,
+    cache: &mut Cache,
+    first: &[u8],
+    second: &[u8],
+) -> Calls
+    requires { Fits strategy.now cache.old }
+{
+    let span = span_in(rt, strategy, cache, first);
+    let end = end_in(rt, strategy, cache, first);
+    let matches = matches_in(rt, strategy, cache, first);
+    (span, end, matches, matches_in(rt, strategy, cache, second))
+}
+
+/// The same with a new cache.
+fn calls(
+    rt: &impl Abort,
+    alloc: Global,
+    strategy: &Strategy,
+    first: &[u8],
+    second: &[u8],
+) -> Calls {
+    let mut cache = cache_of(rt, alloc, strategy);
+    calls_in(rt, strategy, &mut cache, first, second)
+}
+
+/// The same of the strategy of `a|ab` under the configuration.
+fn calls_of(rt: &impl Abort, alloc: Global, config: &Config, first: &[u8], second: &[u8]) -> Calls {
+    let strategy = strategy_of(rt, alloc, config, a_or_ab(alloc));
+    calls(rt, alloc, &strategy, first, second)
+}
+
 #[test]
 fn each_call_answers_alike(rt: HostRuntime) {
-    let alloc = rt.alloc();
-    let strategy = strategy_of(&rt, alloc, &Config::new(), a_or_ab(alloc));
-    let mut cache = cache_of(&rt, alloc, &strategy);
-    assert_eq!(rt; span_in(&rt, &strategy, &mut cache, b"xab"), Some((1, 2)));
-    assert_eq!(rt; end_in(&rt, &strategy, &mut cache, b"xab"), Some(2));
-    assert!(rt; matches_in(&rt, &strategy, &mut cache, b"xab"));
-    assert!(rt; !matches_in(&rt, &strategy, &mut cache, b"xb"));
+    let told = calls_of(&rt, rt.alloc(), &Config::new(), b"xab", b"xb");
+    assert!(rt; told == (Some((1, 2)), Some(2), true, false));
+}
+
+/// The bytes that are accounted for the cache's clone.
+fn memory_of_clone(rt: &impl Abort, alloc: Global, cache: &Cache) -> usize {
+    cache.clone(alloc).ok().expect(rt, "a cache").memory_usage()
+}
+
+/// The bytes that are accounted for a cache of the strategy, and for its clone.
+fn memory_of_both(rt: &impl Abort, alloc: Global, strategy: &Strategy) -> (usize, usize) {
+    let cache = cache_of(rt, alloc, strategy);
+    let memory = cache.memory_usage();
+    (memory, memory_of_clone(rt, alloc, &cache))
 }
 
 #[test]
 fn a_cache_is_cloned(rt: HostRuntime) {
     let alloc = rt.alloc();
     let strategy = strategy_of(&rt, alloc, &Config::new(), a_or_ab(alloc));
-    let cache = cache_of(&rt, alloc, &strategy);
-    let again = cache.clone(alloc).ok().expect(&rt, "a cache");
-    assert_eq!(rt; again.memory_usage(), cache.memory_usage());
+    let (memory, again) = memory_of_both(&rt, alloc, &strategy);
+    assert_eq!(rt; again, memory);
+}
+
+/// The bytes that are accounted for a cache, and the span of the match in `xab`.
+type Told = (usize, Option<(usize, usize)>);
+
+/// What is told once the cache was reset for the strategy.
+fn told_after_reset(
+    rt: &impl Abort,
+    alloc: Global,
+    cache: &mut Cache,
+    strategy: &Strategy,
+) -> Told {
+    reset(rt, alloc, cache, strategy);
+    let memory = cache.memory_usage();
+    (memory, span_in(rt, strategy, cache, b"xab"))
+}
+
+/// What is told once the cache was reset for the one strategy, and then for the other one.
+fn told_in_turn(
+    rt: &impl Abort,
+    alloc: Global,
+    cache: &mut Cache,
+    first: &Strategy,
+    second: &Strategy,
+) -> (Told, Told) {
+    let told = told_after_reset(rt, alloc, cache, first);
+    (told, told_after_reset(rt, alloc, cache, second))
+}
+
+/// The same with a new cache of the second strategy, and the bytes that are accounted for it before.
+fn told_by_cache(
+    rt: &impl Abort,
+    alloc: Global,
+    first: &Strategy,
+    second: &Strategy,
+) -> (usize, (Told, Told)) {
+    let mut cache = cache_of(rt, alloc, second);
+    let memory = cache.memory_usage();
+    let told = told_in_turn(rt, alloc, &mut cache, first, second);
+    (memory, told)
+}
+
+/// The same where the first strategy is that of `a|ab`.
+fn more_and(rt: &impl Abort, alloc: Global, second: &Strategy) -> (usize, (Told, Told)) {
+    let first = strategy_of(rt, alloc, &Config::new(), a_or_ab(alloc));
+    told_by_cache(rt, alloc, &first, second)
+}
+
+/// The same where the second strategy is that of `a`.
+fn more_and_less(rt: &impl Abort, alloc: Global) -> (usize, (Told, Told)) {
+    let second = of_a(rt, alloc);
+    more_and(rt, alloc, &second)
 }
 
 #[test]
 fn a_cache_is_reset_for_more_and_for_less(rt: HostRuntime) {
-    let alloc = rt.alloc();
-    let small = of_a(&rt, alloc);
-    let large = strategy_of(&rt, alloc, &Config::new(), a_or_ab(alloc));
-    let mut cache = cache_of(&rt, alloc, &small);
+    let (memory, (more, less)) = more_and_less(&rt, rt.alloc());
     // 4 states, 1 and 3 of the pattern, with 16 for each of 2 slots
-    assert_eq!(rt; cache.memory_usage(), 16 * 8 * 2);
-    reset(&rt, alloc, &mut cache, &large);
+    assert_eq!(rt; memory, 16 * 8 * 2);
     // 4 more states, and as much for the backtracker
-    assert!(rt; cache.memory_usage() > 2 * 16 * 8 * 2);
-    assert_eq!(rt; span_in(&rt, &large, &mut cache, b"xab"), Some((1, 2)));
-    reset(&rt, alloc, &mut cache, &small);
-    assert_eq!(rt; cache.memory_usage(), 16 * 8 * 2);
-    assert_eq!(rt; span_in(&rt, &small, &mut cache, b"xab"), Some((1, 2)));
+    assert!(rt; more.0 > 2 * 16 * 8 * 2);
+    assert_eq!(rt; more.1, Some((1, 2)));
+    assert_eq!(rt; less, (16 * 8 * 2, Some((1, 2))));
 }
 
 #[test]
 fn nothing_is_told_without_captures(rt: HostRuntime) {
     let alloc = rt.alloc();
     let config = Config::new().which_captures(WhichCaptures::None);
+    let told = calls_of(&rt, alloc, &config, b"ab", b"b");
+    assert!(rt; told == (None, None, true, false));
     let strategy = strategy_of(&rt, alloc, &config, a_or_ab(alloc));
-    let mut cache = cache_of(&rt, alloc, &strategy);
-    assert_eq!(rt; span_in(&rt, &strategy, &mut cache, b"ab"), None);
-    assert_eq!(rt; end_in(&rt, &strategy, &mut cache, b"ab"), None);
-    assert!(rt; matches_in(&rt, &strategy, &mut cache, b"ab"));
     let found = found_by(&rt, alloc, &strategy, b"ab");
     assert!(rt; found == (None, None, None));
 }
@@ -382,4 +515,47 @@ fn a_strategy_crosses_threads(rt: HostRuntime) {
     let strategy = of_a(&rt, alloc);
     crosses_threads(&strategy);
     goes_to_threads(&cache_of(&rt, alloc, &strategy));
+}
+
+/// The limits and sizes of the DFAs, and how many stacks a pool has.
+fn numbers(config: &Config) -> (Option<usize>, Option<usize>, Option<usize>, usize, usize) {
+    (
+        config.get_onepass_size_limit(),
+        config.get_dfa_size_limit(),
+        config.get_dfa_state_limit(),
+        config.get_hybrid_cache_capacity(),
+        config.get_pool_capacity(),
+    )
+}
+
+/// Which engines may be used beside the PikeVM and the backtracker, and whether they tell classes of bytes alone apart.
+fn choices(config: &Config) -> (bool, bool, bool, bool) {
+    (
+        config.get_onepass(),
+        config.get_hybrid(),
+        config.get_dfa(),
+        config.get_byte_classes(),
+    )
+}
+
+#[test]
+fn a_configuration_has_numbers_and_choices(rt: HostRuntime) {
+    let none = Config::new();
+    assert!(rt; numbers(&none) == (Some(1048576), Some(40960), Some(30), 2097152, 8));
+    assert!(rt; choices(&none) == (true, true, true, true));
+    let old = Config::new()
+        .onepass_size_limit(None)
+        .dfa_size_limit(Some(1))
+        .dfa_state_limit(Some(2))
+        .hybrid_cache_capacity(3)
+        .pool_capacity(4)
+        .onepass(false)
+        .hybrid(false)
+        .dfa(false)
+        .byte_classes(false);
+    assert!(rt; numbers(&old) == (None, Some(1), Some(2), 3, 4));
+    assert!(rt; choices(&old) == (false, false, false, false));
+    let both = old.overwrite(Config::new().dfa(true).pool_capacity(5));
+    assert!(rt; numbers(&both) == (None, Some(1), Some(2), 3, 5));
+    assert!(rt; choices(&both) == (false, false, true, false));
 }

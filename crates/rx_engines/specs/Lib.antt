@@ -3,7 +3,6 @@ pub mod Walk
 pub mod Onward
 pub mod Threads
 pub mod Simulation
-pub mod Sets
 pub mod Overlap
 pub mod Search
 pub mod Room

@@ -2,6 +2,8 @@
 #![tactic(auto)]
 
 #[cfg(test)]
+mod alternations;
+#[cfg(test)]
 mod hir;
 #[cfg(test)]
 mod literal;

@@ -3,3 +3,10 @@ pub mod BuildLemmas
 pub mod ServeLemmas
 pub mod FinderLemmas
 pub mod SetLemmas
+pub mod ThreadLemmas
+pub mod GapLemmas
+pub mod CapturingLemmas
+pub mod CapturedLemmas
+pub mod IteratorLemmas
+pub mod CacheLemmas
+pub mod SuccessiveLemmas

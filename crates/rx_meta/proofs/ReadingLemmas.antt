@@ -1,5 +1,5 @@
 -- Of which patterns a regex is built.
-use Rattle.std.proofs.Common.{◌≡◌, ℕ, List, subst}
+use Rattle.std.proofs.Common.{ℕ, List}
 use Rattle.std.specs.Prelude.{take, length}
 use Rattle.rx_search.specs.Limits.{id_limit}
 use Rattle.rx_reader.specs.declared.config.Config.{Config as Grammar}

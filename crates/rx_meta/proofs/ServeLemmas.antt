@@ -5,17 +5,22 @@ use Rattle.rx_model.specs.Search.{Patterns, Match}
 use Rattle.rx_search.specs.Answer as answer
 use Rattle.rx_search.specs.Input.{InputValue, next_in}
 use Rattle.rx_search.specs.Promise.{Premises, Promised}
-use Rattle.rx_search.specs.Told.{told_in, HasSlots}
+use Rattle.rx_search.specs.Sets as sets
+use Rattle.rx_search.specs.Told.{HasSlots}
 use Rattle.rx_strategy.specs.Strategy as strategy
 use Rattle.rx_strategy.proofs.AnswerLemmas as lower
+use Rattle.rx_strategy.specs.declared.strategy.Strategy.{Strategy}
 use Rattle.rx_meta.specs.Regex.{RegexValue, Serves, given_needles, kind_in}
 use Rattle.rx_meta.specs.Search.{IsAnswer, AreSlotsOfAnswer, TellsWhether}
 use Rattle.rx_meta.specs.Sets.{AddsMatching, IsFilled}
-use Rattle.rx_engines.specs.Sets as sets
 
 told-none : (b : Bool) (next : Option Match) → next ≡ None → false ≡ is_some (if b then next else None)
 told-none true next none = sym (ap is_some none)
 told-none false next none = refl
+
+-- the regex with a strategy that is its own
+pub with_strategy : (regex : RegexValue) {s : Strategy} → s ≡ regex.strategy → record { config = regex.config; strategy = s } ≡ regex
+with_strategy regex is = ap (λ (s : Strategy). record { config = regex.config; strategy = s }) is
 
 module _ (regex : RegexValue) (v : InputValue) where
   premises-of : (r : Patterns) → Premises (Serves regex r) (given_needles regex) r v

@@ -1,5 +1,5 @@
 -- What a set gains means a part of the span.
-use Rattle.std.proofs.Common.{◌≡◌, ℕ, ◌≤◌, ◌<◌, refl, sym, ◌∙◌, subst, ap, inl, inr, arith, true≢false}
+use Rattle.std.proofs.Common.{◌≡◌, ℕ, ◌≤◌, ◌<◌, refl, sym, subst, inl, inr, arith, true≢false}
 use Rattle.std.proofs.lemmas.Bool.Decides.{nat_tests}
 use Rattle.std.specs.Prelude.{◌↔◌, Bool, true, false, List, Some, IsTrue, slice_get, nat_lt}
 use Rattle.rx_model.specs.Expression.{Expression, AreOrdered}
@@ -17,12 +17,12 @@ use Rattle.rx_search.specs.Input.{InputValue}
 use Rattle.rx_search.specs.PatternSet.{has}
 use Rattle.rx_search.specs.Promise.{Premises}
 use Rattle.rx_search.specs.declared.anchored.MatchKind.TheVariants.{All}
-use Rattle.rx_engines.specs.Sets.{MatchesIn}
+use Rattle.rx_search.specs.Sets.{MatchesIn}
 use Rattle.rx_engines.proofs.lemmas.answers.OverlapLemmas.{run-matches}
 use Rattle.rx_strategy.specs.Strategy as strategy
 use Rattle.rx_strategy.specs.declared.strategy.Strategy.{Strategy}
 use Rattle.rx_strategy.specs.declared.strategy.Strategy.TheVariants.{Core}
-use Rattle.rx_meta.specs.Laws.{MeansInSpan, HasNoEmptyMatch}
+use Rattle.rx_meta.specs.Laws.{MeansInSpan, MeansFromPermitted, HasNoEmptyMatch}
 use Rattle.rx_meta.specs.Regex.{RegexValue, Serves, given_needles, kind_in}
 use Rattle.rx_meta.specs.Sets.{AddsMatching, IsFilled}
 
@@ -51,8 +51,8 @@ longer : (a b : ℕ) → a ≤ b → (b ≡ a → ⊥) → a < b
 longer a b le differ = by_test (nat_lt a b) (λ e. grind (arith, nat_tests)) (λ e. absurd (differ (grind (arith, nat_tests))))
 
 module _ (r : Patterns) (v : InputValue) (ordered : (p : ℕ) (h : Expression) → slice_get r.expressions p ≡ Some h → AreOrdered h) where
-  -- a pattern with a match means a part of the span
-  matches-mean : (p : ℕ) → MatchesIn r v p → MeansInSpan r v p
+  -- a pattern with a match means a part of the span, from where a match may start
+  matches-mean : (p : ℕ) → MatchesIn r v p → MeansFromPermitted r v p
   matches-mean p m =
       let is = m.1 in
       let own : MeansInSpan r v m.0.trace.pattern = record {
@@ -65,7 +65,7 @@ module _ (r : Patterns) (v : InputValue) (ordered : (p : ℕ) (h : Expression) �
         first = λ a. start-first v.anchor v.end v.start m.0.start a is.start.0;
         meant = match-means r v.haystack v.anchor v.end v.start m.0 is is.expression is.is_there (ordered m.0.trace.pattern is.expression is.is_there);
       } in
-      subst (MeansInSpan r v) m.2 own
+      subst (MeansFromPermitted r v) m.2 (own, is.start.1)
 
   -- a match may start where a part begins that is meant and not empty
   meant-permitted : (r.utf8_empty ≡ true → MeansUtf8 r v.haystack) → (p : ℕ) (h : Expression) → slice_get r.expressions p ≡ Some h → (i j : ℕ) → i < j
@@ -84,29 +84,39 @@ module _ (r : Patterns) (v : InputValue) (ordered : (p : ℕ) (h : Expression) �
         | inr some ↦ some
       ]
 
-  -- so one that means a part has a match, where no part that is meant is empty
-  means-match : (r.utf8_empty ≡ true → MeansUtf8 r v.haystack) → HasNoEmptyMatch r v → (p : ℕ) → MeansInSpan r v p → MatchesIn r v p
-  means-match utf8 full p m =
+  -- so one that means a part from where a match may start has a match
+  means-match : (p : ℕ) → MeansFromPermitted r v p → MatchesIn r v p
+  means-match p (m, permitted) =
       let h = m.expression in
       let low = m.within.0 in
       let order = m.within.1 in
       let high = m.within.2 in
-      let lt = longer m.start m.end order (λ same. full p h m.start m.is_there (subst (λ j. Means r.terminator v.haystack h m.start j) same m.meant)) in
       let run = meant-run p h m.is_there m.start m.end high m.meant in
       let place : m.start ≤ v.end = omega arith in
       let begins = first-start v.anchor v.end v.start m.start low place m.first in
-      run-matches r v p (
-        m.start,
-        run.0,
-        (begins, meant-permitted utf8 p h m.is_there m.start m.end lt m.meant),
-        (m.sought, (h, m.is_there, run.1)),
+      run-matches r v p (m.start, run.0, (begins, permitted), (m.sought, (h, m.is_there, run.1)))
+
+  -- where no part that is meant is empty, a match may start wherever one begins
+  means-permitted : (r.utf8_empty ≡ true → MeansUtf8 r v.haystack) → HasNoEmptyMatch r v → (p : ℕ) → MeansInSpan r v p → MeansFromPermitted r v p
+  means-permitted utf8 full p m =
+      let h = m.expression in
+      let order = m.within.1 in
+      let lt = longer m.start m.end order (λ same. full p h m.start m.is_there (subst (λ j. Means r.terminator v.haystack h m.start j) same m.meant)) in
+      (m, meant-permitted utf8 p h m.is_there m.start m.end lt m.meant)
+
+module _ (regex : RegexValue) (r : Patterns) (v : InputValue) (old new : List Bool) (premises : Premises (Serves regex r) (given_needles regex) r v)
+    (kind : kind_in regex ≡ All) (whole : v.earliest ≡ false) (adds : AddsMatching regex v old new) (filled : IsFilled regex v old new) (p : ℕ)
+    (out : has old p ≡ false) where
+  pub gains-what_means : (has new p ≡ true) ↔ MeansFromPermitted r v p
+  gains-what_means =
+      let ordered = serves-ordered regex r premises.is_for in (
+        λ there. matches-mean r v ordered p (adds r premises p out there),
+        λ means. (filled r premises).all kind whole p (means-match r v ordered p means),
       )
 
-pub gains-what_means : (regex : RegexValue) (r : Patterns) (v : InputValue) (old new : List Bool) → Premises (Serves regex r) (given_needles regex) r v
-    → kind_in regex ≡ All → v.earliest ≡ false → HasNoEmptyMatch r v → AddsMatching regex v old new → IsFilled regex v old new
-    → (p : ℕ) → has old p ≡ false → (has new p ≡ true) ↔ MeansInSpan r v p
-gains-what_means regex r v old new premises kind whole full adds filled p out =
-    let ordered = serves-ordered regex r premises.is_for in (
-      λ there. matches-mean r v ordered p (adds r premises p out there),
-      λ means. (filled r premises).all kind whole p (means-match r v ordered premises.utf8 full p means),
-    )
+  pub gains-what_means_anywhere : HasNoEmptyMatch r v → (has new p ≡ true) ↔ MeansInSpan r v p
+  gains-what_means_anywhere full =
+      let ordered = serves-ordered regex r premises.is_for in (
+        λ there. (gains-what_means.0 there).0,
+        λ means. gains-what_means.1 (means-permitted r v ordered premises.utf8 full p means),
+      )

@@ -1,5 +1,5 @@
 -- What a build answers.
-use Rattle.std.specs.Prelude.{◌≡◌, ℕ, true, ◌+◌, ◌-◌, ◌*◌, ◌^◌, ◌<◌, ◌≤◌, min, List, length, Option, Some, IfSome, slice_get, Ok, Err, if◌then◌else◌}
+use Rattle.std.specs.Prelude.{◌≡◌, ℕ, true, false, ◌+◌, ◌-◌, ◌*◌, ◌^◌, ◌/◌, ◌<◌, ◌≤◌, min, List, length, Some, IfSome, slice_get, Ok, Err, if◌then◌else◌}
 use Rattle.rx_model.specs.Expression.{Expression, alternation, AreOrdered}
 use Rattle.rx_model.specs.Search.{Patterns}
 use Rattle.rx_search.specs.Input.{InputValue}
@@ -13,12 +13,12 @@ use Rattle.rx_syntax.specs.Patterns.{all_read}
 use Rattle.rx_thompson.specs.declared.error.BuildError.{BuildError as CompilerError}
 use Rattle.rx_thompson.specs.declared.error.BuildError.TheVariants.{Syntax as Refused, TooManyPatterns, TooManyGroups, TooManyStates}
 use Rattle.rx_thompson.specs.declared.error.BuildError.TheVariants.{ExceededSizeLimit, Memory as NoMemory}
-use Rattle.rx_meta.specs.Cache.{accounted_for}
-use Rattle.rx_meta.specs.Config.{Config, kind_of, utf8_of, terminator_of, captures_of, size_limit_of, has_backtracker}
+use Rattle.rx_meta.specs.Cache.{CacheValue, Fits, accounted_for, states_memory}
+use Rattle.rx_meta.specs.Config.{Config, kind_of, utf8_of, terminator_of, captures_of, size_limit_of, has_backtracker, asks_for_dfas, dfa_of, hybrid_of, dfa_size_limit_of, hybrid_cache_capacity_of}
 use Rattle.rx_meta.specs.Impossible.{is_impossible, IsKnownImpossible}
 use Rattle.rx_meta.specs.Prefilter.{prefilter_for, prefilter_memory}
 use Rattle.rx_meta.specs.Reading.{reading_of}
-use Rattle.rx_meta.specs.Regex.{RegexValue, Serves, kind_in, groups_in, pattern_count, properties_in, prefilter_in, regex_memory}
+use Rattle.rx_meta.specs.Regex.{RegexValue, Serves, kind_in, groups_in, pattern_count, properties_in, prefilter_in, regex_memory, tables_memory, has_lazy, IsMadeUnder}
 use Rattle.rx_meta.specs.declared.error.BuildError.{BuildError}
 use Rattle.rx_meta.specs.declared.error.BuildError.TheVariants.{Syntax, NFA, Memory}
 
@@ -46,9 +46,22 @@ engine_memory hs = min (2 ^ 64 - 1) (16 * nfa_states hs * slots_of hs)
 abbrev pub cache_memory : Config → List Expression → ℕ
 cache_memory c hs = min (2 ^ 64 - 1) (engine_memory hs + (if has_backtracker c then engine_memory hs else 0))
 
+-- What is accounted for its NFAs: as much for the one that reads backwards, which is there where DFAs are asked for.
+abbrev pub nfas_memory : Config → List Expression → ℕ
+nfas_memory c hs = state_size * nfa_states hs + (if asks_for_dfas c then state_size * nfa_states hs else 0)
+
 -- the regex of these expressions
 pub record IsBuilt (c : Config) (hs : List Expression) (regex : RegexValue) : Type 0 where
   pub config : regex.config ≡ c
+  -- its engines and its DFAs are those that the configuration has for these expressions
+  pub made : IsMadeUnder c hs regex
+  -- a full DFA is there only where it is asked for, and its table is within a quarter of the limit
+  pub no_tables : dfa_of c ≡ false → tables_memory regex ≡ 0
+  pub small_tables : IfSome (dfa_size_limit_of c) (λ limit. tables_memory regex ≤ limit / 2)
+  -- and a lazy one only where it is asked for
+  pub no_lazy : hybrid_of c ≡ false → has_lazy regex ≡ false
+  -- of which a cache holds states within the capacity of each, the one that reads forwards and the one that reads backwards
+  pub small_states : has_lazy regex ≡ true → (cache : CacheValue) → Fits regex cache → states_memory cache ≤ 2 * hybrid_cache_capacity_of c
   pub kind : kind_in regex ≡ kind_of c
   -- it searches for the patterns of these expressions
   pub serves : Serves regex (patterns_for c hs)
@@ -60,7 +73,8 @@ pub record IsBuilt (c : Config) (hs : List Expression) (regex : RegexValue) : Ty
   -- no count and no cost passes its limit
   pub allowed : AreAllowed c hs
   -- what is accounted for it, and for its caches
-  pub memory : regex_memory regex ≡ min (2 ^ 64 - 1) (64 * (length hs + 1) + prefilter_memory (prefilter_for c hs) + state_size * nfa_states hs)
+  pub memory : regex_memory regex
+      ≡ min (2 ^ 64 - 1) (64 * (length hs + 1) + prefilter_memory (prefilter_for c hs) + nfas_memory c hs + tables_memory regex)
   pub cache : accounted_for regex ≡ cache_memory c hs
   -- its properties are those of the expressions together, so that it is known where no match is possible
   pub properties : AreOf (alternation (expressions hs)) (properties_in regex)

@@ -1,14 +1,11 @@
 -- What the searches of a regex write to. What is in it is the strategy's own: a contract sees it by these definitions alone.
-use Rattle.std.specs.Prelude.{◌≡◌, ℕ, refl}
-use Rattle.std.specs.Coded.{Coded, code_by}
+use Rattle.std.specs.Prelude.{◌≡◌, ℕ}
 use Rattle.rx_strategy.specs.Cache as strategy
+use Rattle.rx_strategy.specs.Dfas as dfas
 use Rattle.rx_meta.specs.Regex.{RegexValue}
 
 pub record CacheValue : Type 0 where
   pub rooms : strategy.CacheValue
-
-abbrev pub cache_code : Coded CacheValue
-cache_code = code_by strategy.CacheValue strategy.cache_code (λ c. c.rooms) (λ rooms. record { rooms = rooms }) (λ _. refl)
 
 -- the cache serves the regex
 unfoldable pub Fits : RegexValue → CacheValue → Type 0
@@ -23,6 +20,14 @@ Fits-prop regex cache = strategy.Fits-prop regex.strategy cache.rooms
 unfoldable pub memory_of : CacheValue → ℕ
 memory_of cache = strategy.memory_of cache.rooms
 
+-- what is accounted for the states of lazy DFAs that it holds
+unfoldable pub states_memory : CacheValue → ℕ
+states_memory cache = dfas.states_memory cache.rooms.lazies
+
+-- what is accounted for it but for those
+unfoldable pub fixed_memory : CacheValue → ℕ
+fixed_memory cache = cache.rooms.memory
+
 -- what is accounted for a cache that is made for the regex
 unfoldable pub accounted_for : RegexValue → ℕ
 accounted_for regex = strategy.accounted_for regex.strategy
@@ -35,3 +40,7 @@ StillFits old new = (regex : RegexValue) → Fits regex old → Fits regex new
 pub record FitsAsBefore (old new : CacheValue) : Type 0 where
   pub fits : StillFits old new
   pub memory : memory_of new ≡ memory_of old
+
+-- A search changes what is accounted for the states of lazy DFAs alone.
+unfoldable pub AccountsAlike : RegexValue → (old new : CacheValue) → Type 0
+AccountsAlike regex old new = strategy.AccountsAlike regex.strategy old.rooms new.rooms

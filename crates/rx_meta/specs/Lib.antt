@@ -6,6 +6,9 @@ pub mod Regex
 pub mod Cache
 pub mod Search
 pub mod Finder
+pub mod Captures
+pub mod Gaps
+pub mod Iterators
 pub mod Sets
 pub mod Laws
 pub mod Build

@@ -1,6 +1,7 @@
 -- What a regex is to a contract. How it searches is its strategy's own: a contract sees it by these definitions alone, which do
 -- not unfold by themselves.
-use Rattle.std.specs.Prelude.{ℕ, ◌+◌, ◌-◌, ◌*◌, ◌^◌, min, List, Option}
+use Rattle.std.specs.Prelude.{ℕ, ◌+◌, ◌-◌, ◌*◌, ◌^◌, min, Bool, List, Option}
+use Rattle.rx_model.specs.Expression.{Expression}
 use Rattle.rx_model.specs.Search.{Patterns, Match}
 use Rattle.rx_search.specs.Input.{InputValue}
 use Rattle.rx_search.specs.Needles.{BeginsEachMatch}
@@ -51,3 +52,16 @@ Serves regex r = strategy.IsFor regex.strategy r × (BeginsEachMatch (given_need
 -- of all of them, and what is accounted for its strategy.
 unfoldable pub regex_memory : RegexValue → ℕ
 regex_memory regex = min (2 ^ 64 - 1) (64 * (strategy.pattern_count regex.strategy + 1) + strategy.strategy_memory regex.strategy)
+
+-- what is accounted for the tables of its full DFAs, if it has some
+unfoldable pub tables_memory : RegexValue → ℕ
+tables_memory regex = strategy.tables_in regex.strategy
+
+-- it has lazy DFAs
+unfoldable pub has_lazy : RegexValue → Bool
+has_lazy regex = strategy.has_lazy regex.strategy
+
+-- The regex is made of these expressions under the configuration. So its engines and its DFAs are those that the configuration has
+-- for them.
+unfoldable pub IsMadeUnder : Config → List Expression → RegexValue → Type 0
+IsMadeUnder c hs regex = strategy.IsMadeOf c hs regex.strategy

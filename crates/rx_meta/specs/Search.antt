@@ -1,5 +1,5 @@
 -- What the searches of a regex answer.
-use Rattle.std.specs.Prelude.{◌≡◌, ℕ, Bool, List, Option, is_some}
+use Rattle.std.specs.Prelude.{ℕ, Bool, List, Option}
 use Rattle.rx_model.specs.Search.{Match}
 use Rattle.rx_search.specs.Input.{InputValue}
 use Rattle.rx_search.specs.Answer as answer

@@ -1,8 +1,8 @@
 -- What the searches of a regex add to a set of patterns.
 use Rattle.std.specs.Prelude.{Bool, List}
 use Rattle.rx_search.specs.Input.{InputValue}
-use Rattle.rx_engines.specs.Sets as sets
-pub use Rattle.rx_engines.specs.Sets.{KeepsMembers}
+use Rattle.rx_search.specs.Sets as sets
+pub use Rattle.rx_search.specs.Sets.{KeepsMembers}
 use Rattle.rx_meta.specs.Regex.{RegexValue, Serves, given_needles, kind_in}
 
 -- no other pattern is added than one that has a match

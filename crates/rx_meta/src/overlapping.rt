@@ -1,8 +1,8 @@
 //! The searches that fill a set of patterns.
-#![tactic(auto, unfolding(crate::specs::Cache::Fits, crate::specs::Cache::memory_of, crate::specs::Impossible::IsKnownImpossible, crate::specs::Regex::pattern_count))]
+#![tactic(auto, unfolding(crate::specs::Cache::Fits, crate::specs::Cache::AccountsAlike, crate::specs::Impossible::IsKnownImpossible, crate::specs::Regex::pattern_count))]
 
-ghost use Rattle.std.specs.Prelude.{◌≡◌, ◌≤◌, length, OnOk, IsOk};
-ghost use Rattle.rx_meta.specs.Cache.{Fits, memory_of};
+ghost use Rattle.std.specs.Prelude.{◌≤◌, length, OnOk, IsOk};
+ghost use Rattle.rx_meta.specs.Cache.{AccountsAlike, Fits};
 ghost use Rattle.rx_meta.specs.Impossible.{IsKnownImpossible};
 ghost use Rattle.rx_meta.specs.Regex.{pattern_count};
 ghost use Rattle.rx_meta.specs.Sets.{KeepsMembers, AddsMatching, IsFilled};
@@ -24,6 +24,14 @@ impl Regex {
     /// # Errors
     ///
     /// `Memory`, where there was no memory for a cache.
+    ///
+    /// # Examples
+    ///
+    /// ```
+    /// let mut set = PatternSet::new(alloc, regex.pattern_len())?;
+    /// regex.which_overlapping_matches(&rt, alloc, &Input::new(b"xab"), &mut set)?;
+    /// assert_eq!(rt; set.len(), 2);
+    /// ```
     pub fn which_overlapping_matches<R: Wait>(
         &self,
         _rt: &R,
@@ -37,7 +45,7 @@ impl Regex {
         ensures filled { OnOk result (IsFilled self.now input.now set.old set.new) }
         ensures sure { IsKnownImpossible self.now input.now → IsOk result }
     {
-        if self.strategy.is_impossible(input) {
+        if self.strategy().is_impossible(input) {
             return Ok(());
         }
         let mut cache = self.create_cache(alloc)?;
@@ -61,10 +69,10 @@ impl Regex {
         ensures matching { AddsMatching self.now input.now set.old set.new }
         ensures filled { OnOk result (IsFilled self.now input.now set.old set.new) }
         ensures cache { Fits self.now cache.new }
-        ensures memory { memory_of cache.new ≡ memory_of cache.old }
+        ensures memory { AccountsAlike self.now cache.old cache.new }
         ensures sure { IsKnownImpossible self.now input.now → IsOk result }
     {
-        self.strategy
+        self.strategy()
             .which_overlapping_matches(&mut cache.rooms, input, set)
     }
 }

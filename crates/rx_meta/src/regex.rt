@@ -1,5 +1,5 @@
 //! The public face: build once, search from anywhere.
-#![tactic(auto, unfolding(crate::specs::Cache::Fits, crate::specs::Cache::memory_of, crate::specs::Impossible::IsKnownImpossible, crate::specs::Regex::pattern_count))]
+#![tactic(auto, unfolding(crate::specs::Cache::Fits, crate::specs::Cache::AccountsAlike, crate::specs::Cache::memory_of, crate::specs::Impossible::IsKnownImpossible, crate::specs::Regex::pattern_count))]
 
 ghost use Rattle.std.specs.Prelude.{◌≡◌, ◌≤◌, ◌<◌, ◌∷◌, [], length, None, replicate, map, IfOk, IfErr, IfNone, IfSome, OnErr, IsOk};
 ghost use Rattle.rx_model.specs.Search.{Patterns};
@@ -9,7 +9,7 @@ ghost use Rattle.rx_search.specs.Matches.{match_value, half_match_value};
 ghost use Rattle.rx_search.specs.Told.{AreWithin, LiesIn, HalfLiesIn, matched_pattern};
 ghost use Rattle.rx_reader.specs.Config.{default};
 ghost use Rattle.rx_meta.specs.Build.{IsBuiltOf, IsRefusedFor};
-ghost use Rattle.rx_meta.specs.Cache.{Fits, memory_of, accounted_for};
+ghost use Rattle.rx_meta.specs.Cache.{Fits, AccountsAlike, memory_of, accounted_for, states_memory};
 ghost use Rattle.rx_meta.specs.Config.{nothing_set};
 ghost use Rattle.rx_meta.specs.Impossible.{IsKnownImpossible};
 ghost use Rattle.rx_meta.specs.Regex.{Serves, groups_in, pattern_count, regex_memory};
@@ -24,7 +24,7 @@ use rx_search::{GroupInfo, HalfMatch, Input, Match, Memory, NonMaxUsize, Pattern
 use rx_strategy::{Config, Strategy};
 use std::alloc::Global;
 use std::marker::Model;
-use std::sync::Wait;
+use std::sync::{Arc, Wait};
 
 /// The bytes that are accounted for the properties of a pattern.
 const PROPERTIES_SIZE: usize = 64;
@@ -36,21 +36,23 @@ const PROPERTIES_SIZE: usize = 64;
 /// pattern. Where no match may start inside a character, this is promised of texts that are UTF-8, and of patterns that mean
 /// UTF-8 there. A search that finds nothing leaves every slot None.
 ///
-/// A call that takes `rt` makes a cache for itself, and fails where there is no memory for it. A call that ends in `_with`
-/// is given one that serves this regex; it may fail where there is no memory for the search. Where it is known beforehand
-/// that there is no match in the span, no search is made, no cache is made, and no call fails.
+/// A search that takes `rt` makes a cache for itself, and fails where there is no memory for it. One that ends in `_with`
+/// is given a cache that serves this regex; it may fail where there is no memory for the search. Where it is known beforehand
+/// that there is no match in the span, no search is made, no cache is made, and no search fails. An iterator makes its cache
+/// at first, whatever the input is. Clones share the strategy.
 #[derive(Drop)]
 pub struct Regex {
     config: Config,
-    pub(crate) strategy: Strategy,
+    strategy: Arc<Strategy, Global>,
 }
 
 impl Model for Regex {
+    ghost use Rattle.std.specs.Arc.{arc_value};
     ghost use Rattle.rx_meta.specs.Regex.{RegexValue};
 
     ghost Value = { RegexValue };
 
-    ghost view = { λ r. record { config = r.config; strategy = r.strategy } };
+    ghost view = { λ r. record { config = r.config; strategy = arc_value r.strategy } };
 }
 
 impl Regex {
@@ -103,10 +105,38 @@ impl Regex {
     }
 
     /// A regex that searches by this strategy, which was made under the configuration.
-    pub(crate) fn from_parts(config: Config, strategy: Strategy) -> Regex
-        ensures { result ≡ record { config = config; strategy = strategy } }
+    pub(crate) fn from_parts(
+        alloc: Global,
+        config: Config,
+        strategy: Strategy,
+    ) -> Result<Regex, Memory>
+        ensures { IfOk result (λ regex. regex ≡ record { config = config; strategy = strategy }) }
     {
-        Regex { config, strategy }
+        Ok(Regex {
+            config,
+            strategy: Arc::new(alloc, strategy)?,
+        })
+    }
+
+    /// How its searches are answered.
+    pub(crate) fn strategy(&self) -> &Strategy
+        ensures { result.now ≡ self.now.strategy }
+    {
+        &self.strategy
+    }
+
+    /// The same regex once more. It shares the strategy.
+    ///
+    /// # Errors
+    ///
+    /// `Memory`, where there was no memory for it.
+    pub fn clone(&self) -> Result<Regex, Memory>
+        ensures { IfOk result (λ copy. copy ≡ self.now) }
+    {
+        Ok(Regex {
+            config: self.config.clone()?,
+            strategy: Arc::try_clone(&self.strategy)?,
+        })
     }
 
     /// Whether there is a match in the input's span, under every configuration.
@@ -124,11 +154,11 @@ impl Regex {
         ensures sure { IsKnownImpossible self.now input.now → IsOk result }
     {
         // It is a few comparisons (DECISIONS: searches that can have no match run no engine).
-        if self.strategy.is_impossible(input) {
+        if self.strategy().is_impossible(input) {
             return Ok(false);
         }
         let mut cache = self.create_cache(alloc)?;
-        self.strategy.is_match(&mut cache.rooms, input)
+        self.strategy().is_match(&mut cache.rooms, input)
     }
 
     /// As `search`.
@@ -177,11 +207,11 @@ impl Regex {
         ensures sure { IsKnownImpossible self.now input.now → IsOk result }
     {
         // The input first, so that the answer needs no memory there (DECISIONS: a call that makes a cache reads the input first).
-        if self.strategy.is_impossible(input) {
+        if self.strategy().is_impossible(input) {
             return Ok(None);
         }
         let mut cache = self.create_cache(alloc)?;
-        self.strategy.search(&mut cache.rooms, input)
+        self.strategy().search(&mut cache.rooms, input)
     }
 
     /// The pattern and the end of the match that `search` answers.
@@ -200,11 +230,11 @@ impl Regex {
         ensures in_range { IfOk result (λ o. IfSome o (λ half. half.pattern < pattern_count self.now)) }
         ensures sure { IsKnownImpossible self.now input.now → IsOk result }
     {
-        if self.strategy.is_impossible(input) {
+        if self.strategy().is_impossible(input) {
             return Ok(None);
         }
         let mut cache = self.create_cache(alloc)?;
-        self.strategy.search_half(&mut cache.rooms, input)
+        self.strategy().search_half(&mut cache.rooms, input)
     }
 
     /// The pattern of the match that `search` answers. Each slot gets the place that the match leaves in it, and None where
@@ -241,7 +271,7 @@ impl Regex {
         ensures err { OnErr result (slots.new ≡ replicate (length slots.old) None) }
         ensures sure { IsKnownImpossible self.now input.now → IsOk result }
     {
-        if self.strategy.is_impossible(input) {
+        if self.strategy().is_impossible(input) {
             empty(slots);
             return Ok(None);
         }
@@ -263,11 +293,11 @@ impl Regex {
         ensures within { IfOk result (λ o. IfSome o (LiesIn input.now)) }
         ensures in_range { IfOk result (λ o. IfSome o (λ m. m.pattern < pattern_count self.now)) }
         ensures cache { Fits self.now cache.new }
-        ensures memory { memory_of cache.new ≡ memory_of cache.old }
+        ensures memory { AccountsAlike self.now cache.old cache.new }
         ensures sure { IsKnownImpossible self.now input.now → IsOk result }
     {
-        // An engine to come may take memory (DECISIONS: the calls that end in `_with` take no allocator).
-        self.strategy.search(&mut cache.rooms, input)
+        // Where a DFA wants memory another engine serves (DECISIONS: the calls that end in `_with` take no allocator).
+        self.strategy().search(&mut cache.rooms, input)
     }
 
     /// As `search_half`, with a cache that serves this regex.
@@ -285,10 +315,10 @@ impl Regex {
         ensures within { IfOk result (λ o. IfSome o (HalfLiesIn input.now)) }
         ensures in_range { IfOk result (λ o. IfSome o (λ half. half.pattern < pattern_count self.now)) }
         ensures cache { Fits self.now cache.new }
-        ensures memory { memory_of cache.new ≡ memory_of cache.old }
+        ensures memory { AccountsAlike self.now cache.old cache.new }
         ensures sure { IsKnownImpossible self.now input.now → IsOk result }
     {
-        self.strategy.search_half(&mut cache.rooms, input)
+        self.strategy().search_half(&mut cache.rooms, input)
     }
 
     /// As `search_slots`, with a cache that serves this regex.
@@ -310,11 +340,11 @@ impl Regex {
         ensures slots_within { AreWithin input.now slots.new }
         ensures err { OnErr result (slots.new ≡ replicate (length slots.old) None) }
         ensures cache { Fits self.now cache.new }
-        ensures memory { memory_of cache.new ≡ memory_of cache.old }
+        ensures memory { AccountsAlike self.now cache.old cache.new }
         ensures sure { IsKnownImpossible self.now input.now → IsOk result }
     {
         let found = self.search_match_with(cache, input, slots)?;
-        Ok(pattern(found))
+        Ok(pattern(&found))
     }
 
     /// As `search_slots_with`, with the whole match.
@@ -337,11 +367,11 @@ impl Regex {
         ensures slots_within { AreWithin input.now slots.new }
         ensures err { OnErr result (slots.new ≡ replicate (length slots.old) None) }
         ensures cache { Fits self.now cache.new }
-        ensures memory { memory_of cache.new ≡ memory_of cache.old }
+        ensures memory { AccountsAlike self.now cache.old cache.new }
         ensures spanned { IsSpanned input.now }
         ensures sure { IsKnownImpossible self.now input.now → IsOk result }
     {
-        self.strategy.search_slots(&mut cache.rooms, input, slots)
+        self.strategy().search_slots(&mut cache.rooms, input, slots)
     }
 
     /// A cache that serves this regex.
@@ -357,13 +387,14 @@ impl Regex {
     /// let first = regex.search_with(&mut cache, &Input::new(b"Error: 1"))?;
     /// let second = regex.search_with(&mut cache, &Input::new(b"an ERROR"))?;
     /// ```
-    #[tactic(auto, unfolding(crate::specs::Cache::Fits, crate::specs::Cache::memory_of, crate::specs::Cache::accounted_for))]
+    #[tactic(auto, unfolding(crate::specs::Cache::Fits, crate::specs::Cache::memory_of, crate::specs::Cache::accounted_for, crate::specs::Cache::states_memory))]
     pub fn create_cache(&self, alloc: Global) -> Result<Cache, Memory>
         ensures fits { IfOk result (Fits self.now) }
         ensures memory { IfOk result (λ c. memory_of c ≡ accounted_for self.now) }
+        ensures empty { IfOk result (λ c. states_memory c ≡ 0) }
     {
         Ok(Cache {
-            rooms: self.strategy.create_cache(alloc)?,
+            rooms: self.strategy().create_cache(alloc)?,
         })
     }
 
@@ -374,18 +405,19 @@ impl Regex {
         ensures patterns { (r : Patterns) → Serves self.now r → result ≡ length r.expressions }
         ensures few { result ≤ id_limit }
     {
-        self.strategy.pattern_len()
+        self.strategy().pattern_len()
     }
 
     /// The bytes that are accounted for the regex: 64 for the properties of each pattern and for those of all of them
-    /// together, and what is accounted for its prefilter and its NFA; or the greatest `usize` where they are more.
+    /// together, and what is accounted for its prefilter, its NFAs and its full DFAs; or the greatest `usize` where they are
+    /// more.
     #[tactic(auto, unfolding(crate::specs::Regex::regex_memory))]
     pub fn memory_usage(&self) -> usize
         ensures { result ≡ regex_memory self.now }
     {
-        let properties = PROPERTIES_SIZE * (self.strategy.pattern_len() + 1);
+        let properties = PROPERTIES_SIZE * (self.strategy().pattern_len() + 1);
         // Needles may be of any length (DECISIONS: what is accounted for a regex stops at the greatest number of 64 bits).
-        properties.saturating_add(self.strategy.memory_usage())
+        properties.saturating_add(self.strategy().memory_usage())
     }
 
     /// The groups of each pattern. A group that the configuration leaves out has slots too, which stay empty.
@@ -393,7 +425,7 @@ impl Regex {
     pub fn group_info(&self) -> &GroupInfo
         ensures { result.now ≡ groups_in self.now }
     {
-        self.strategy.group_info()
+        self.strategy().group_info()
     }
 
     /// The configuration that it was built under.

@@ -3,3 +3,4 @@ pub mod classes
 pub mod runs
 pub mod lists
 pub mod reverse
+pub mod prefixes

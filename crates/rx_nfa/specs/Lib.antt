@@ -16,5 +16,10 @@ pub mod Directed
 pub mod Digits
 pub mod Repeated
 pub mod Room
+pub mod Prefixes
+pub mod Named
+pub mod Forks
+pub mod Trees
+pub mod Sharing
 pub mod Compiled
 pub mod Ordered

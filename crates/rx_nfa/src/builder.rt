@@ -9,7 +9,7 @@ ghost use Rattle.rx_class.specs.ClassViews.{class_view};
 ghost use Rattle.rx_hir.specs.Cost.{states_of_class};
 ghost use Rattle.rx_nfa.specs.Built.{Built};
 ghost use Rattle.rx_nfa.specs.Directed.{build_class};
-ghost use Rattle.rx_nfa.specs.Draft.{pushed, patched};
+ghost use Rattle.rx_nfa.specs.Draft.{AreInRange, pushed, patched};
 ghost use Rattle.rx_nfa.specs.Row.{HasSortedTransitions};
 ghost use Rattle.rx_nfa.specs.Slots.{WritesOwnSlots};
 ghost use Rattle.rx_nfa.specs.Nfa.{IsInRange};
@@ -75,6 +75,14 @@ impl Builder {
             group_info,
             written_len,
         }
+    }
+
+    /// The states so far.
+    pub fn states(&self) -> &[State]
+        ensures value { result.now ≡ self.now.states }
+        ensures range { AreInRange self.now }
+    {
+        &self.states
     }
 
     /// Appends a state, and answers its number.

@@ -19,7 +19,7 @@ use rx_search::{Memory, StateID};
 use std::alloc::Global;
 
 pub(crate) mod ranges;
-mod row;
+pub(crate) mod row;
 mod trie;
 
 /// Scalar values whose encodings have one length, and the blocks that their first bytes begin.

@@ -26,6 +26,7 @@ mod slots;
 use crate::builder::{Builder, Facts};
 use crate::error::BuildError;
 use crate::nfa::{NFA, STATE_SIZE};
+use crate::prefixes::share_prefixes;
 use crate::state::{Alternates, State};
 use accounting::{nfa_states, slot_len};
 use anchors::all_start_anchored;
@@ -171,6 +172,7 @@ fn build(
     let mut builder = Builder::new(alloc, group_info, slots_written(which, exprs, slots));
     let starts = compile_patterns(alloc, &mut builder, reverse, which, exprs)?;
     let start = start_of_all(alloc, &mut builder, &starts)?;
+    share_prefixes(alloc, &mut builder, start, &starts)?;
     let facts = Facts {
         utf8: config.get_utf8(),
         reverse,

@@ -15,6 +15,7 @@ mod error;
 mod lists;
 mod looks;
 mod nfa;
+mod prefixes;
 mod runs;
 mod sparse;
 mod state;

@@ -20,3 +20,4 @@ pub mod LeftLemmas
 pub mod LooseLemmas
 pub mod RestLemmas
 pub mod AlternationLemmas
+pub mod HalvingLemmas

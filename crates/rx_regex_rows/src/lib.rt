@@ -2,4 +2,10 @@
 #![tactic(auto)]
 
 #[cfg(test)]
+mod dfas;
+#[cfg(test)]
+mod iterators;
+#[cfg(test)]
 mod regex;
+#[cfg(test)]
+mod sets;

@@ -18,14 +18,14 @@ fn regex_of(rt: &impl Abort, alloc: Global, pattern: &str) -> Regex {
 }
 
 /// The regex of a pattern under this configuration.
-fn configured(rt: &impl Abort, alloc: Global, config: Config, pattern: &str) -> Regex {
+pub(crate) fn configured(rt: &impl Abort, alloc: Global, config: Config, pattern: &str) -> Regex {
     let mut builder = Builder::new();
     builder.configure(config);
     builder.build(alloc, pattern).ok().expect(rt, "a regex")
 }
 
 /// A cache of the regex.
-fn cache_of(rt: &impl Abort, alloc: Global, regex: &Regex) -> Cache
+pub(crate) fn cache_of(rt: &impl Abort, alloc: Global, regex: &Regex) -> Cache
     ensures { Fits regex.now result }
 {
     Cache::new(alloc, regex).ok().expect(rt, "a cache")
@@ -47,7 +47,7 @@ fn place(slot: Option<NonMaxUsize>) -> Option<usize> {
 }
 
 /// The place that a slot of these holds.
-fn place_at(slots: &[Option<NonMaxUsize>], slot: usize) -> Option<usize> {
+pub(crate) fn place_at(slots: &[Option<NonMaxUsize>], slot: usize) -> Option<usize> {
     match slots.get(slot) {
         Some(Some(place)) => Some(place.get()),
         _ => None,
@@ -187,6 +187,20 @@ fn a_cache_is_reset_for_another_regex(rt: HostRuntime) {
     assert!(rt; told.pattern == Some(0));
     assert!(rt; told.span == (Some(1), Some(2)));
     assert!(rt; told.group == (Some(1), Some(2)));
+}
+
+#[test]
+fn a_clone_answers_as_its_source(rt: HostRuntime) {
+    let alloc = rt.alloc();
+    let config = Config::new().line_terminator(b';');
+    let source = configured(&rt, alloc, config, "a(b)?");
+    let copy = source.clone().ok().expect(&rt, "memory");
+    let input = Input::new(b"xab");
+    is_told(&rt, &told_by(&rt, alloc, &copy, &input));
+    let mut cache = cache_of(&rt, alloc, &copy);
+    is_told(&rt, &told_with(&rt, &copy, &mut cache, &input));
+    assert_eq!(rt; copy.get_config().get_line_terminator(), b';');
+    assert_eq!(rt; copy.memory_usage(), source.memory_usage());
 }
 
 /// Makes a cache that serves the regex one that serves it, which asks for no memory.
@@ -368,7 +382,8 @@ fn a_and_b(rt: &impl Abort, alloc: Global) -> Result<Vec<Hir>, Memory> {
 fn a_regex_is_built_of_expressions(rt: HostRuntime) {
     let alloc = rt.alloc();
     let exprs = a_and_b(&rt, alloc).ok().expect(&rt, "memory");
-    let builder = Builder::new();
+    let mut builder = Builder::new();
+    builder.configure(Config::new().dfa(false).hybrid(false));
     let first = exprs.first().expect(&rt, "two expressions");
     let one = builder.build_from_hir(alloc, first);
     let one = one.ok().expect(&rt, "a regex");
@@ -400,7 +415,7 @@ fn a_builder_takes_a_grammar_and_a_line_terminator(rt: HostRuntime) {
 }
 
 /// A configuration into which a prefilter of this needle is handed.
-fn handing_in(alloc: Global, needle: &[u8]) -> Result<Config, Memory> {
+pub(crate) fn handing_in(alloc: Global, needle: &[u8]) -> Result<Config, Memory> {
     let needles = [Vec::from_slice(alloc, needle)?];
     let pre = Prefilter::new(alloc, MatchKind::LeftmostFirst, &needles)?;
     Ok(Config::new().prefilter(pre))
@@ -415,7 +430,7 @@ fn told_under<R: Abort + Wait>(
     haystack: &[u8],
 ) -> (Option<(usize, usize, usize)>, usize) {
     let config = config.ok().expect(rt, "memory");
-    let regex = configured(rt, alloc, config, pattern);
+    let regex = configured(rt, alloc, config.dfa(false).hybrid(false), pattern);
     let found = found_by(rt, alloc, &regex, &Input::new(haystack));
     (found, regex.memory_usage())
 }

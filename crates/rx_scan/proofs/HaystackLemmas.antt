@@ -68,9 +68,7 @@ promised-from regex r text finds = λ i.
       r,
       record {
         premises = record { is_for = p.premises.is_for; begins = p.premises.begins; utf8 = p.premises.utf8 };
-        leftmost = p.leftmost;
-        told = p.told;
-        whole = refl;
+        next = λ told. (p.leftmost, refl);
       },
     )
 

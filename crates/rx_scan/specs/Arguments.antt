@@ -53,7 +53,12 @@ switched_off letters = record {
 
 -- the configuration of a scan's regex without these, in which nothing else is set
 abbrev pub config_without : Off → ConfigValue
-config_without off = record nothing_set { auto_prefilter = Some (not off.auto_prefilter); backtrack = Some (not off.backtrack) }
+config_without off = record nothing_set {
+  auto_prefilter = Some (not off.auto_prefilter);
+  backtrack = Some (not off.backtrack);
+  dfa = Some (not off.dfa);
+  hybrid = Some (not off.hybrid);
+}
 
 abbrev pub is_nonempty : List ℕ → Bool
 is_nonempty [] = false

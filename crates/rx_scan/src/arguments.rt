@@ -40,7 +40,7 @@ impl Off {
         auto_prefilter: false,
     };
 
-    /// The configuration of a regex without these. There is no DFA yet that could be switched off.
+    /// The configuration of a regex without these. There is no one-pass DFA yet that could be switched off.
     pub fn config(&self) -> Config
         ensures { result ≡ config_without self.now }
     {
@@ -48,6 +48,8 @@ impl Off {
         Config::new()
             .auto_prefilter(!self.auto_prefilter)
             .backtrack(!self.backtrack)
+            .dfa(!self.dfa)
+            .hybrid(!self.hybrid)
     }
 }
 

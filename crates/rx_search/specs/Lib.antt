@@ -16,3 +16,4 @@ pub mod ByteClasses
 pub mod PatternSet
 pub mod Captures
 pub mod CapturesLends
+pub mod Sets

@@ -5,10 +5,10 @@ use Rattle.rx_model.specs.Search.{Patterns, WhichCaptures, all, implicit, none, 
 use Rattle.rx_model.proofs.lemmas.runs.RunLemmas.{by_test}
 use Rattle.rx_model.proofs.lemmas.matches.WithinLemmas.{next-later, match-next}
 use Rattle.rx_search.specs.Input.{InputValue, next_in}
-use Rattle.rx_search.specs.Matches.{MatchValue, match_value}
+use Rattle.rx_search.specs.Matches.{MatchValue, match_value, half_match_value}
 use Rattle.rx_search.specs.PatternSet.{has}
 use Rattle.rx_search.specs.Promise.{Premises}
-use Rattle.rx_engines.specs.Sets.{MatchesIn, GainsMatching, AddsMatching, IsFilledFor, IsFilled}
+use Rattle.rx_search.specs.Sets.{MatchesIn, GainsMatching, AddsMatching, IsFilledFor, IsFilled}
 use Rattle.rx_search.specs.Told.{tells, told_in, IsMatchWith, HasSlots}
 use Rattle.rx_search.specs.declared.anchored.MatchKind.{MatchKind}
 use Rattle.rx_nfa.specs.Nfa.{Nfa, IsNfaOf}
@@ -16,7 +16,7 @@ use Rattle.rx_nfa.specs.NextMatch.{next_match_in}
 use Rattle.rx_nfa.proofs.lemmas.runs.NextMatchLemmas.{next_match_of-patterns}
 use Rattle.rx_search.specs.Answer.{IsAnswer, AreSlotsOfAnswer, TellsWhether}
 use Rattle.rx_engines.specs.Needles.{BeginsEachRun}
-use Rattle.rx_strategy.specs.Core.{CoreValue, IsCoreFor, IsSearched, core_finds}
+use Rattle.rx_strategy.specs.Core.{CoreValue, IsCoreFor, IsSearched, IsToldFor, core_finds}
 use Rattle.rx_strategy.proofs.NeedleLemmas.{begins-run}
 
 -- the next match of an NFA is that of its patterns
@@ -37,6 +37,21 @@ told-whole w e (Some m) = ap Some (told_of-whole w e m)
 pub is_some-map : {A B : Type 0} (f : A → B) (o : Option A) → is_some (option_map f o) ≡ is_some o
 is_some-map f None = refl
 is_some-map f (Some x) = refl
+
+-- what is told of a match keeps its span
+pub span-told : (w : WhichCaptures) (m : Match) → match_value (told_of w m) ≡ match_value m
+span-told all m = refl
+span-told implicit m = refl
+span-told none m = refl
+
+pub half-told : (w : WhichCaptures) (m : Match) → half_match_value (told_of w m) ≡ half_match_value m
+half-told all m = refl
+half-told implicit m = refl
+half-told none m = refl
+
+spans-told : (w : WhichCaptures) (o : Option Match) → option_map match_value (option_map (told_of w) o) ≡ option_map match_value o
+spans-told w None = refl
+spans-told w (Some m) = ap Some (span-told w m)
 
 -- a part of a part
 map-twice : {A B C : Type 0} (f : A → B) (g : B → C) (o : Option A) → option_map g (option_map f o) ≡ option_map (λ x. g (f x)) o
@@ -154,28 +169,39 @@ module _ (c : CoreValue) (v : InputValue) where
   core-begins : v.end ≤ length v.haystack → (r : Patterns) → Premises (IsCoreFor c r) c.pre r v → BeginsEachRun c.pre c.nfa v
   core-begins within r p = begins-run c.pre c.nfa r v p.is_for.nfa p.is_for.ordered within p.begins
 
-  module _ (kind : MatchKind) (slots : List (Option ℕ)) (found : Option MatchValue)
-      (searched : BeginsEachRun c.pre c.nfa v → IsSearched c.nfa v slots found) (within : v.end ≤ length v.haystack) where
-    searched-for : (r : Patterns) → Premises (IsCoreFor c r) c.pre r v → IsSearched c.nfa v slots found
-    searched-for r p = searched (core-begins within r p)
+  module _ (kind : MatchKind) (slots : List (Option ℕ)) (found : Option MatchValue) where
+    -- what an engine tells of a search, of the patterns
+    pub searched-told : IsSearched c.nfa v slots found → (r : Patterns) → IsCoreFor c r → IsToldFor kind r v slots found
+    searched-told s r of =
+        let w = r.which_captures in
+        let same : next_match_in c.nfa v ≡ option_map (told_of w) (next_in r v) = s.patterns r of.nfa in
+        record {
+          value = λ leftmost whole. s.value whole ∙ ap (option_map match_value) same ∙ spans-told w (next_in r v);
+          exists = s.exists ∙ ap is_some same ∙ is_some-map (told_of w) (next_in r v);
+          is_match = s.is_match r of.nfa;
+          slots = λ leftmost whole. subst (λ (o : Option Match). IfSome o (HasSlots slots)) same (s.slots whole);
+        }
 
-    next-is : (r : Patterns) → Premises (IsCoreFor c r) c.pre r v → tells r.which_captures ≡ true → next_match_in c.nfa v ≡ next_in r v
-    next-is r p told = (searched-for r p).patterns r p.is_for.nfa ∙ told-whole r.which_captures told (next_in r v)
+    -- which is known where each run begins with a needle
+    pub engine-told : v.end ≤ length v.haystack → (BeginsEachRun c.pre c.nfa v → IsSearched c.nfa v slots found) → (r : Patterns)
+        → Premises (IsCoreFor c r) c.pre r v → IsToldFor kind r v slots found
+    engine-told within searched r p = searched-told (searched (core-begins within r p)) r p.is_for
 
-    pub core-answers : tells c.which_captures ≡ true → IsAnswer (λ r. IsCoreFor c r) c.pre kind v match_value found
-    core-answers told = record {
-      value = λ r p. (searched-for r p.premises).value p.whole ∙ ap (option_map match_value) (next-is r p.premises p.told);
-      exists = λ r p.
-          let heard : tells r.which_captures ≡ true = ap tells p.is_for.which_captures ∙ told in
-          (searched-for r p).exists ∙ ap is_some (next-is r p heard ∙ sym (told-yes r v heard));
-      is_match = λ r p. slots-aside r v slots found ((searched-for r p).is_match r p.is_for.nfa);
-    }
+    module _ (told-for : (r : Patterns) → Premises (IsCoreFor c r) c.pre r v → IsToldFor kind r v slots found) where
+      pub core-answers : tells c.which_captures ≡ true → IsAnswer (λ r. IsCoreFor c r) c.pre kind v match_value found
+      core-answers told = record {
+        value = λ r p. (told-for r p.premises).value p.leftmost p.whole;
+        exists = λ r p. (told-for r p).exists ∙ ap is_some (sym (told-yes r v (ap tells p.is_for.which_captures ∙ told)));
+        is_match = λ r p. slots-aside r v slots found (told-for r p).is_match;
+      }
 
-    pub core-slots : AreSlotsOfAnswer (λ r. IsCoreFor c r) c.pre kind v match_value slots found
-    core-slots = record {
-      value = λ r p. subst (λ o. IfSome o (HasSlots slots)) (next-is r p.premises p.told) ((searched-for r p.premises).slots p.whole);
-      is_match = λ r p. (searched-for r p).is_match r p.is_for.nfa;
-    }
+      pub core-slots : AreSlotsOfAnswer (λ r. IsCoreFor c r) c.pre kind v match_value slots found
+      core-slots = record {
+        value = λ r p.
+            subst (λ (o : Option Match). IfSome o (HasSlots slots)) (told-whole r.which_captures p.told (next_in r v))
+            ((told-for r p.premises).slots p.leftmost p.whole);
+        is_match = λ r p. (told-for r p).is_match;
+      }
 
   -- nothing is told without captures
   pub silent-answers : (kind : MatchKind) → tells c.which_captures ≡ false → IsAnswer (λ r. IsCoreFor c r) c.pre kind v match_value None

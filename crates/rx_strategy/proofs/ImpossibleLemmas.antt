@@ -21,7 +21,7 @@ use Rattle.rx_hir.proofs.SpanLemmas.{means-short, saturated-some, in_64_bits-som
 use Rattle.rx_strategy.specs.Impossible.{is_below, is_above, is_always_anchored_start, is_always_anchored_end, begins_too_late}
 use Rattle.rx_strategy.specs.Impossible.{ends_too_early, is_too_short, is_anchored_start, is_too_long, is_impossible}
 
-start-place : (t : ℕ) (text : List ℕ) (i : ℕ) → holds t text start_text i ≡ true → i ≡ 0
+pub start-place : (t : ℕ) (text : List ℕ) (i : ℕ) → holds t text start_text i ≡ true → i ≡ 0
 unfolding holds
 start-place t text i e = let is : (i == 0) ≡ true = e in grind (arith, nat_tests)
 
@@ -88,7 +88,7 @@ module _ (h : Expression) (v : InputValue) (t i j : ℕ) (means : Means t v.hays
       omega arith
 
 -- what one of the alternatives means their alternation means
-meant-among : (t : ℕ) (text : List ℕ) (hs : List Expression) (p : ℕ) (h : Expression) → slice_get hs p ≡ Some h → (i j : ℕ) → Means t text h i j
+pub meant-among : (t : ℕ) (text : List ℕ) (hs : List Expression) (p : ℕ) (h : Expression) → slice_get hs p ≡ Some h → (i j : ℕ) → Means t text h i j
     → Means t text (alternation (expressions hs)) i j
 unfolding Means
 meant-among t text [] p h is i j m = none-is-some is

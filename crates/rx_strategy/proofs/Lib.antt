@@ -3,6 +3,9 @@ pub mod AnswerLemmas
 pub mod SpanLemmas
 pub mod StrategyLemmas
 pub mod ImpossibleLemmas
+pub mod AnchorLemmas
 pub mod InfoLemmas
+pub mod DfaLemmas
 pub mod CacheLemmas
 pub mod CoreLemmas
+pub mod ThreadLemmas

@@ -1,11 +1,13 @@
 -- What the searches of a strategy write to.
-use Rattle.std.specs.Prelude.{◌≡◌, ℕ, ◌+◌, ◌-◌, ◌^◌, min, true, false, Option, Some, None, MatchOption, if◌then◌else◌, refl}
+use Rattle.std.specs.Prelude.{◌≡◌, ℕ, ◌+◌, ◌-◌, ◌^◌, min, true, false, Option, Some, None, IfSome, MatchOption, if◌then◌else◌}
 use Rattle.std.proofs.Props.{props}
-use Rattle.std.specs.Coded.{Coded, code_by, coded×, coded_option, coded_ℕ}
 use Rattle.rx_engines.specs.Room as pike
 use Rattle.rx_engines.specs.Bounded as bounded
 use Rattle.rx_engines.specs.Engine.{accounted_memory, Fits as FitsPikeVM}
+use Rattle.rx_dfa.specs.LazyProps.{IsCacheOf-prop}
 use Rattle.rx_strategy.specs.Core.{CoreValue, pikevm_of}
+use Rattle.rx_strategy.specs.Dfas.{are_lazy, FitsLazies, HoldNoStates, states_memory}
+use Rattle.rx_strategy.specs.declared.lazies.Lazies.{Lazies}
 use Rattle.rx_strategy.specs.declared.strategy.Strategy.{Strategy}
 use Rattle.rx_strategy.specs.declared.strategy.Strategy.TheVariants.{Core}
 
@@ -13,13 +15,10 @@ pub record CacheValue : Type 0 where
   -- the room for each engine
   pub pikevm : pike.Room
   pub backtrack : Option bounded.Room
-  -- what is accounted for the parts that its strategy needs
+  -- the caches of lazy DFAs, if there are some
+  pub lazies : Option Lazies
+  -- what is accounted for the engines that always answer, as far as its strategy needs them
   pub memory : ℕ
-
-abbrev pub cache_code : Coded CacheValue
-cache_code =
-    code_by (pike.Room × (Option bounded.Room × ℕ)) (coded× pike.room_code (coded× (coded_option bounded.room_code) coded_ℕ))
-    (λ c. (c.pikevm, (c.backtrack, c.memory))) (λ p. record { pikevm = p.0; backtrack = p.1.0; memory = p.1.1 }) (λ _. refl)
 
 -- there is room for the backtracker where the core has one
 abbrev pub FitsBacktracker : CoreValue → Option bounded.Room → Type 0
@@ -34,6 +33,7 @@ backtrack_memory (Some room) = room.memory
 pub record FitsCore (c : CoreValue) (cache : CacheValue) : Type 0 where
   pub pikevm : FitsPikeVM (pikevm_of c) cache.pikevm
   pub backtrack : FitsBacktracker c cache.backtrack
+  pub lazies : FitsLazies c.dfas cache.lazies
 
 -- a cache with this room serves the strategy
 abbrev pub Fits : Strategy → CacheValue → Type 0
@@ -41,17 +41,32 @@ Fits (Core core) cache = FitsCore core cache
 
 -- that it does has one proof at most
 pub Fits-prop : (s : Strategy) (cache : CacheValue) → IsProp (Fits s cache)
-Fits-prop (Core core) cache = Prim.hlevel props
+Fits-prop (Core core) cache = Prim.hlevel (IsCacheOf-prop, props)
 
--- what is accounted for the cache
+-- What is accounted for the cache, up to the greatest number of 64 bits: what its engines need, and the states of lazy DFAs that it
+-- holds.
 abbrev pub memory_of : CacheValue → ℕ
-memory_of cache = cache.memory
+memory_of cache = min (2 ^ 64 - 1) (cache.memory + states_memory cache.lazies)
+
+-- it holds no state of a lazy DFA
+abbrev pub HoldsNoStates : CacheValue → Type 0
+HoldsNoStates cache = IfSome cache.lazies HoldNoStates
+
+-- A search of the core changes what is accounted for the states of lazy DFAs alone.
+pub record AccountsAlikeIn (c : CoreValue) (old new : CacheValue) : Type 0 where
+  pub memory : new.memory ≡ old.memory
+  -- and where there is no lazy DFA, nothing
+  pub states : are_lazy c.dfas ≡ false → new.lazies ≡ old.lazies
+
+-- the same of a search of the strategy
+abbrev pub AccountsAlike : Strategy → (old new : CacheValue) → Type 0
+AccountsAlike (Core core) old new = AccountsAlikeIn core old new
 
 -- what is accounted for the backtracker's cache of a core
 abbrev pub accounted_backtrack : CoreValue → ℕ
 accounted_backtrack c = if c.backtracks then accounted_memory c.nfa else 0
 
--- what is accounted for a cache of the core, which has as much for each engine, up to the greatest number of 64 bits
+-- What is accounted for a cache of the core that holds no state of a lazy DFA, as a new one: as much for each engine, up to the greatest number of 64 bits
 abbrev pub accounted_core : CoreValue → ℕ
 accounted_core c = min (2 ^ 64 - 1) (accounted_memory c.nfa + accounted_backtrack c)
 

@@ -1,5 +1,5 @@
 -- What a configuration asks for.
-use Rattle.std.specs.Prelude.{◌&&◌, ℕ, Bool, true, false, List, Option, Some, None, unwrap_or}
+use Rattle.std.specs.Prelude.{◌&&◌, ◌||◌, ℕ, Bool, true, false, List, Option, Some, None, unwrap_or}
 use Rattle.std.specs.Option.{option_or}
 use Rattle.rx_model.specs.Search as model
 use Rattle.rx_search.specs.declared.anchored.MatchKind.{MatchKind}
@@ -7,7 +7,7 @@ use Rattle.rx_search.specs.declared.anchored.MatchKind.TheVariants.{All, Leftmos
 use Rattle.rx_nfa.specs.Config.{captures_kind}
 use Rattle.rx_nfa.specs.declared.compiler.config.Config.{Config as CompilerConfig}
 use Rattle.rx_nfa.specs.declared.compiler.config.WhichCaptures.{WhichCaptures}
-use Rattle.rx_nfa.specs.declared.compiler.config.WhichCaptures.TheVariants.{All as EveryGroup}
+use Rattle.rx_nfa.specs.declared.compiler.config.WhichCaptures.TheVariants.{All as EveryGroup, None as NoGroup}
 use Rattle.rx_strategy.specs.declared.config.Config.{Config}
 
 -- which of the matches that begin at one place is reported
@@ -71,7 +71,7 @@ onepass_size_limit_of c = unwrap_or c.onepass_size_limit (Some 1048576)
 abbrev pub hybrid_cache_capacity_of : Config → ℕ
 hybrid_cache_capacity_of c = unwrap_or c.hybrid_cache_capacity 2097152
 
--- the most bytes that the tables of the full DFAs may have, if there is a limit
+-- the limit of the tables of full DFAs, if there is one: each of the two may have a quarter of it
 abbrev pub dfa_size_limit_of : Config → Option ℕ
 dfa_size_limit_of c = unwrap_or c.dfa_size_limit (Some 40960)
 
@@ -98,6 +98,14 @@ dfa_of c = unwrap_or c.dfa true
 -- a one-pass DFA may be used
 abbrev pub onepass_of : Config → Bool
 onepass_of c = unwrap_or c.onepass true
+
+-- DFAs of either sort are asked for
+abbrev pub asks_for_dfas : Config → Bool
+asks_for_dfas c = dfa_of c || hybrid_of c
+
+-- the compiler's configuration for the NFA that reads backwards, which tells no groups
+abbrev pub reverse_compiler_of : Config → CompilerConfig
+reverse_compiler_of c = record (compiler_of c) { reverse = Some true; which_captures = Some NoGroup }
 
 -- nothing is set
 abbrev pub nothing_set : Config

@@ -1,5 +1,5 @@
 -- What a core is to a contract: the engines over one NFA, and what is known of the patterns.
-use Rattle.std.specs.Prelude.{◌≡◌, ℕ, ◌≤◌, Bool, true, false, ◌&&◌, nat_le, List, length, Option}
+use Rattle.std.specs.Prelude.{◌≡◌, ℕ, ◌+◌, ◌-◌, ◌*◌, ◌^◌, min, ◌≤◌, Bool, true, false, ◌&&◌, nat_le, List, length, Option}
 use Rattle.std.specs.Prelude.{Some, None, option_map, is_some, IfSome, slice_get, if◌then◌else◌}
 use Rattle.rx_model.specs.Expression.{Expression, alternation, AreOrdered}
 use Rattle.rx_model.specs.Search.{Patterns, WhichCaptures, Match, told_of}
@@ -7,18 +7,23 @@ use Rattle.rx_search.specs.Input.{InputValue, next_in, span_len}
 use Rattle.rx_search.specs.Matches.{MatchValue, match_value}
 use Rattle.rx_search.specs.Told.{tells, IsMatchWith, HasSlots}
 use Rattle.rx_search.specs.declared.anchored.MatchKind.{MatchKind}
+use Rattle.rx_search.specs.declared.anchored.MatchKind.TheVariants.{LeftmostFirst}
+use Rattle.rx_hir.specs.Cost.{state_size}
 use Rattle.rx_hir.specs.Normal.{expressions}
 use Rattle.rx_hir.specs.PropertiesViews.{AreOf}
 use Rattle.rx_hir.specs.declared.hir.properties.Properties.{Properties}
 use Rattle.rx_nfa.specs.Compiled.{IsCompiled}
-use Rattle.rx_nfa.specs.Nfa.{Nfa, IsNfaOf}
+use Rattle.rx_nfa.specs.Nfa.{Nfa, IsNfaOf, HasReverseRuns}
 use Rattle.rx_nfa.specs.NextMatch.{next_match_in}
 use Rattle.rx_engines.specs.Bounded.{BacktrackerValue, max_len}
 use Rattle.rx_engines.specs.Engine.{PikeVMValue}
-use Rattle.rx_strategy.specs.Config.{kind_of, captures_of, compiler_of, has_backtracker}
+use Rattle.rx_strategy.specs.Availability.{AreDfasBeside}
+use Rattle.rx_strategy.specs.Config.{kind_of, captures_of, compiler_of, reverse_compiler_of, asks_for_dfas, has_backtracker}
 use Rattle.rx_strategy.specs.Impossible.{is_impossible}
-use Rattle.rx_strategy.specs.Prefilter.{prefilter_for}
+use Rattle.rx_strategy.specs.Dfas.{tables_memory}
+use Rattle.rx_strategy.specs.Prefilter.{prefilter_for, prefilter_memory}
 use Rattle.rx_strategy.specs.declared.config.Config.{Config}
+use Rattle.rx_strategy.specs.declared.dfas.Dfas.{Dfas}
 
 pub record CoreValue : Type 0 where
   pub nfa : Nfa
@@ -32,6 +37,10 @@ pub record CoreValue : Type 0 where
   pub pre : Option (List (List ℕ))
   -- the properties of the patterns together
   pub properties : Properties
+  -- the NFA that reads backwards, where DFAs are asked for
+  pub reverse : Option Nfa
+  -- the DFAs of both, if there are some
+  pub dfas : Dfas
 
 -- the core's PikeVM
 abbrev pub pikevm_of : CoreValue → PikeVMValue
@@ -51,6 +60,10 @@ pub record IsCoreFor (c : CoreValue) (r : Patterns) : Type 0 where
   pub which_captures : r.which_captures ≡ c.which_captures
   -- the counts of each expression are in order
   pub ordered : (p : ℕ) (h : Expression) → slice_get r.expressions p ≡ Some h → AreOrdered h
+  -- the NFA that reads backwards, if it is there, leads back over exactly the spans that they mean
+  pub reverse : IfSome c.reverse (λ back. HasReverseRuns back r)
+  -- the properties are theirs
+  pub properties : AreOf (alternation (expressions r.expressions)) c.properties
 
 -- what a search of the core finds: the next match of its NFA, where matches are told
 abbrev pub core_finds : CoreValue → InputValue → Option Match
@@ -67,6 +80,20 @@ pub record IsCoreOf (config : Config) (hs : List Expression) (c : CoreValue) : T
   pub pre : c.pre ≡ prefilter_for config hs
   -- its properties are those of the expressions together, so that it is known where no match is possible
   pub properties : AreOf (alternation (expressions hs)) c.properties
+  -- the NFA that reads backwards is there exactly where DFAs are asked for, and compiled of them too
+  pub asked : is_some c.reverse ≡ asks_for_dfas config
+  pub reverse : IfSome c.reverse (IsCompiled (reverse_compiler_of config) hs)
+  -- which DFAs are there
+  pub dfas : AreDfasBeside config c.nfa c.reverse c.dfas
+
+-- what is accounted for an NFA, if it is there
+abbrev pub reverse_memory : Option Nfa → ℕ
+reverse_memory None = 0
+reverse_memory (Some nfa) = state_size * nfa.accounted
+
+-- what is accounted for the core itself
+abbrev pub core_memory : CoreValue → ℕ
+core_memory c = min (2 ^ 64 - 1) (prefilter_memory c.pre + state_size * c.nfa.accounted + reverse_memory c.reverse + tables_memory c.dfas)
 
 -- The properties are those of some patterns together, of which the NFA has no match where none is possible.
 pub record AreKnownOf (p : Properties) (nfa : Nfa) : Type 0 where
@@ -86,3 +113,13 @@ pub record IsSearched (nfa : Nfa) (v : InputValue) (told : List (Option ℕ)) (f
   -- and it is a match of the patterns
   pub is_match : (r : Patterns) → IsNfaOf nfa r → IfSome found (λ m. IsMatchWith r v (λ n. (m ≡ match_value n) × HasSlots told n))
   pub slots : v.earliest ≡ false → IfSome (next_match_in nfa v) (HasSlots told)
+
+-- What a search of a core tells of these patterns, in the slots and else.
+pub record IsToldFor (kind : MatchKind) (r : Patterns) (v : InputValue) (told : List (Option ℕ)) (found : Option MatchValue) : Type 0 where
+  -- the next match, under leftmost-first where not just any match will do
+  pub value : kind ≡ LeftmostFirst → v.earliest ≡ false → found ≡ option_map match_value (next_in r v)
+  -- something is found exactly where there is a match
+  pub exists : is_some found ≡ is_some (next_in r v)
+  -- and it is a match, with its slots
+  pub is_match : IfSome found (λ m. IsMatchWith r v (λ n. (m ≡ match_value n) × HasSlots told n))
+  pub slots : kind ≡ LeftmostFirst → v.earliest ≡ false → IfSome (option_map (told_of r.which_captures) (next_in r v)) (HasSlots told)

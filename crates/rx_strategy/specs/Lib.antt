@@ -1,8 +1,11 @@
 pub mod Config
 pub mod Impossible
 pub mod Prefilter
+pub mod Availability
+pub mod Dfas
 pub mod Core
 pub mod Nofail
+pub mod Narrow
 pub mod Span
 pub mod Strategy
 pub mod Cache

@@ -1,14 +1,13 @@
 -- What a strategy is to a contract: data by cases, one for each way to search.
-use Rattle.std.specs.Prelude.{ℕ, ◌+◌, ◌-◌, ◌*◌, ◌^◌, ◌≤◌, min, Bool, List, length, Option}
+use Rattle.std.specs.Prelude.{ℕ, ◌≤◌, Bool, List, length, Option}
 use Rattle.rx_model.specs.Expression.{Expression}
 use Rattle.rx_model.specs.Search.{Patterns, Match}
 use Rattle.rx_search.specs.Input.{InputValue}
 use Rattle.rx_search.specs.Limits.{id_limit}
 use Rattle.rx_search.specs.declared.anchored.MatchKind.{MatchKind}
-use Rattle.rx_hir.specs.Cost.{state_size}
 use Rattle.rx_hir.specs.declared.hir.properties.Properties.{Properties}
-use Rattle.rx_strategy.specs.Core.{IsCoreFor, IsCoreOf, core_finds}
-use Rattle.rx_strategy.specs.Prefilter.{prefilter_memory}
+use Rattle.rx_strategy.specs.Core.{IsCoreFor, IsCoreOf, core_finds, core_memory}
+use Rattle.rx_strategy.specs.Dfas.{tables_memory, are_lazy}
 use Rattle.rx_strategy.specs.declared.config.Config.{Config}
 use Rattle.rx_strategy.specs.declared.strategy.Strategy.{Strategy}
 use Rattle.rx_strategy.specs.declared.strategy.Strategy.TheVariants.{Core}
@@ -40,10 +39,18 @@ properties_of (Core core) = core.properties
 abbrev pub prefilter_in : Strategy → Option (List (List ℕ))
 prefilter_in (Core core) = core.pre
 
--- The bytes that are accounted for the strategy itself, up to the greatest number of 64 bits: those of its prefilter, and
--- those of each accounted state of its NFA.
+-- The bytes that are accounted for the strategy itself, up to the greatest number of 64 bits: those of its prefilter, those of each
+-- accounted state of its NFAs, in both directions where DFAs are asked for, and those of the tables of its full DFAs.
 abbrev pub strategy_memory : Strategy → ℕ
-strategy_memory (Core core) = min (2 ^ 64 - 1) (prefilter_memory core.pre + state_size * core.nfa.accounted)
+strategy_memory (Core core) = core_memory core
+
+-- what is accounted for the tables of its full DFAs, if it has some
+abbrev pub tables_in : Strategy → ℕ
+tables_in (Core core) = tables_memory core.dfas
+
+-- it has lazy DFAs
+abbrev pub has_lazy : Strategy → Bool
+has_lazy (Core core) = are_lazy core.dfas
 
 -- there are no more patterns than identifiers tell apart
 abbrev pub IsFew : Strategy → Type 0

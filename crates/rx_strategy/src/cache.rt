@@ -1,7 +1,10 @@
 //! What the engines of a strategy write to.
-ghost use Rattle.std.specs.Prelude.{◌≡◌, IfOk, OnOk, OnErr, IsOk};
-ghost use Rattle.rx_strategy.specs.Cache.{Fits, FitsAsBefore, StillFits, memory_of, accounted_for};
+ghost use Rattle.std.specs.Prelude.{◌≡◌, ◌-◌, ◌^◌, min, IfOk, IfSome, OnOk, OnErr, IsOk};
+ghost use Rattle.rx_strategy.specs.Cache.{Fits, FitsAsBefore, StillFits, HoldsNoStates, memory_of, accounted_for};
+ghost use Rattle.rx_strategy.specs.Dfas.{FitsLazies, HoldNoStates, states_memory};
+ghost use Rattle.rx_strategy.specs.declared.dfas.Dfas.{Dfas};
 
+use crate::lazies::Lazies;
 use crate::strategy::Strategy;
 use rx_engines::{backtrack, pikevm};
 use rx_search::Memory;
@@ -16,17 +19,18 @@ use std::marker::Model;
 pub struct Cache {
     pub(crate) pikevm: pikevm::Cache,
     pub(crate) backtrack: Option<backtrack::Cache>,
+    /// The states of lazy DFAs.
+    pub(crate) lazies: Option<Lazies>,
+    /// What is accounted for the engines that always answer.
     pub(crate) memory: usize,
 }
 
 impl Model for Cache {
-    ghost use Rattle.rx_strategy.specs.Cache.{CacheValue, cache_code};
+    ghost use Rattle.rx_strategy.specs.Cache.{CacheValue};
 
     ghost Value = { CacheValue };
 
-    ghost coded = { cache_code };
-
-    ghost view = { λ c. record { pikevm = c.pikevm; backtrack = c.backtrack; memory = c.memory } };
+    ghost view = { λ c. record { pikevm = c.pikevm; backtrack = c.backtrack; lazies = c.lazies; memory = c.memory } };
 }
 
 impl Cache {
@@ -34,6 +38,7 @@ impl Cache {
     pub fn new(alloc: Global, strategy: &Strategy) -> Result<Cache, Memory>
         ensures fits { IfOk result (Fits strategy.now) }
         ensures memory { IfOk result (λ c. memory_of c ≡ accounted_for strategy.now) }
+        ensures empty { IfOk result HoldsNoStates }
     {
         strategy.create_cache(alloc)
     }
@@ -44,6 +49,7 @@ impl Cache {
     pub fn reset(&mut self, alloc: Global, strategy: &Strategy) -> Result<(), Memory>
         ensures fits { OnOk result (Fits strategy.now self.new) }
         ensures memory { OnOk result (memory_of self.new ≡ accounted_for strategy.now) }
+        ensures empty { OnOk result (HoldsNoStates self.new) }
         ensures err { OnErr result (FitsAsBefore self.old self.new) }
         ensures sure { Fits strategy.now self.old → IsOk result }
         ensures kept { Fits strategy.now self.old → StillFits self.old self.new }
@@ -54,22 +60,27 @@ impl Cache {
     }
 
     /// The bytes that are accounted for the caches of the engines of its strategy, or the greatest `usize` where they are
-    /// more. The number is fixed when the cache is made or reset.
+    /// more. What the lazy DFAs account grows and falls with the states that a search makes; the rest is fixed when the cache is
+    /// made or reset.
     pub fn memory_usage(&self) -> usize
         ensures { result ≡ memory_of self.now }
     {
-        self.memory
+        self.memory.saturating_add(accounted_states(&self.lazies))
     }
 
-    /// A cache of its own with the same room.
+    /// A cache of its own with the same room. It holds no states of lazy DFAs.
     pub fn clone(&self, alloc: Global) -> Result<Cache, Memory>
-        ensures { IfOk result (λ c. c ≡ self.now) }
+        ensures fits { IfOk result (StillFits self.now) }
+        ensures memory { IfOk result (λ c. c.memory ≡ self.now.memory) }
+        ensures empty { IfOk result HoldsNoStates }
     {
         let pikevm = self.pikevm.clone(alloc)?;
         let backtrack = self.clone_backtrack(alloc)?;
+        let lazies = self.clone_lazies(alloc)?;
         Ok(Cache {
             pikevm,
             backtrack,
+            lazies,
             memory: self.memory,
         })
     }
@@ -82,5 +93,26 @@ impl Cache {
             Some(cache) => Ok(Some(cache.clone(alloc)?)),
             None => Ok(None),
         }
+    }
+
+    /// Caches for lazy DFAs once more, without a state.
+    fn clone_lazies(&self, alloc: Global) -> Result<Option<Lazies>, Memory>
+        ensures fits { IfOk result (λ lazies. (dfas : Dfas) → FitsLazies dfas self.now.lazies → FitsLazies dfas lazies) }
+        ensures empty { IfOk result (λ lazies. IfSome lazies HoldNoStates) }
+    {
+        match &self.lazies {
+            Some(lazies) => Ok(Some(lazies.clone(alloc)?)),
+            None => Ok(None),
+        }
+    }
+}
+
+/// What is accounted for the states of lazy DFAs, where there are caches for them.
+fn accounted_states(lazies: &Option<Lazies>) -> usize
+    ensures { result ≡ min (2 ^ 64 - 1) (states_memory lazies.now) }
+{
+    match lazies {
+        Some(lazies) => lazies.memory_usage(),
+        None => 0,
     }
 }

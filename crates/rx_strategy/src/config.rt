@@ -4,8 +4,10 @@ ghost use Rattle.rx_strategy.specs.Config.{kind_of, utf8_of, auto_prefilter_of, 
 ghost use Rattle.rx_strategy.specs.Config.{onepass_size_limit_of, hybrid_cache_capacity_of, dfa_size_limit_of, dfa_state_limit_of};
 ghost use Rattle.rx_strategy.specs.Config.{byte_classes_of, pool_capacity_of, hybrid_of, dfa_of, onepass_of};
 ghost use Rattle.rx_strategy.specs.Config.{backtrack_of, compiler_of, has_backtracker, nothing_set, overwritten};
+ghost use Rattle.rx_strategy.specs.Config.{reverse_compiler_of, asks_for_dfas};
+ghost use Rattle.rx_strategy.specs.Availability.{may_be_full, table_limit};
 
-use rx_nfa::WhichCaptures;
+use rx_nfa::{NFA, WhichCaptures};
 use rx_prefilter::Prefilter;
 use rx_search::{LookMatcher, MatchKind, Memory};
 use std::default::Default;
@@ -19,7 +21,7 @@ const ONEPASS_SIZE_LIMIT: usize = 1048576;
 /// The bytes that the cache of a lazy DFA may have where no other number is set.
 const HYBRID_CACHE_CAPACITY: usize = 2097152;
 
-/// The bytes that the tables of the full DFAs may have where no other limit is set.
+/// The limit of the tables of full DFAs where no other is set.
 const DFA_SIZE_LIMIT: usize = 40960;
 
 /// The accounted states for which a full DFA is made where no other limit is set.
@@ -152,7 +154,7 @@ impl Config {
         config
     }
 
-    /// Sets the most bytes that the tables of the full DFAs may have. None: there is no limit. It changes no answer
+    /// Sets the limit of the tables of full DFAs: each of the two may have a quarter of it. None: there is no limit. It changes no answer
     /// that is promised.
     pub fn dfa_size_limit(self, limit: Option<usize>) -> Config
         ensures { result ≡ record self { dfa_size_limit = Some limit } }
@@ -294,7 +296,7 @@ impl Config {
         self.hybrid_cache_capacity.unwrap_or(HYBRID_CACHE_CAPACITY)
     }
 
-    /// The most bytes that the tables of the full DFAs may have; by default 40960.
+    /// The limit of the tables of full DFAs, of which each of the two may have a quarter; by default 40960.
     pub fn get_dfa_size_limit(&self) -> Option<usize>
         ensures { result ≡ dfa_size_limit_of self.now }
     {
@@ -368,6 +370,45 @@ impl Config {
             .nfa_size_limit(self.get_nfa_size_limit())
             .which_captures(self.get_which_captures())
             .look_matcher(matcher)
+    }
+
+    /// How the NFA that reads backwards is compiled under this configuration. It tells no groups.
+    pub(crate) fn reverse_compiler(&self) -> rx_nfa::Config
+        ensures { result ≡ reverse_compiler_of self.now }
+    {
+        self.compiler()
+            .reverse(true)
+            .which_captures(WhichCaptures::None)
+    }
+
+    /// Whether DFAs are asked for, of either sort.
+    pub(crate) fn asks_for_dfas(&self) -> bool
+        ensures { result ≡ asks_for_dfas self.now }
+    {
+        self.get_dfa() || self.get_hybrid()
+    }
+
+    /// Whether a full DFA may be built of the NFA: it is asked for, and few enough states are accounted.
+    pub(crate) fn may_be_full(&self, nfa: &NFA) -> bool
+        ensures { result ≡ may_be_full self.now nfa.now }
+    {
+        if !self.get_dfa() {
+            return false;
+        }
+        match self.get_dfa_state_limit() {
+            Some(limit) => nfa.accounted_states() <= limit,
+            None => true,
+        }
+    }
+
+    /// The most bytes that the table of one full DFA may have.
+    pub(crate) fn table_limit(&self) -> Option<usize>
+        ensures { result ≡ table_limit self.now }
+    {
+        match self.get_dfa_size_limit() {
+            Some(limit) => Some(limit / 4),
+            None => None,
+        }
     }
 
     /// Whether a strategy under this configuration has the bounded backtracker.

@@ -1,11 +1,12 @@
 //! What is known of the patterns before a search.
-ghost use Rattle.std.specs.Prelude.{◌≡◌, List, IfOk};
+ghost use Rattle.std.specs.Prelude.{◌≡◌, List, IfOk, IfSome};
 ghost use Rattle.rx_model.specs.Expression.{Expression, alternation};
 ghost use Rattle.rx_hir.specs.Normal.{expressions};
 ghost use Rattle.rx_hir.specs.PropertiesViews.{AreOf};
 ghost use Rattle.rx_search.specs.Input.{IsSpanned, span_len};
 ghost use Rattle.rx_strategy.specs.Impossible.{is_above, is_always_anchored_start, is_always_anchored_end, begins_too_late};
 ghost use Rattle.rx_strategy.specs.Impossible.{ends_too_early, is_too_short, is_anchored_start, is_too_long, is_impossible};
+ghost use Rattle.rx_strategy.specs.Narrow.{IsLenOf};
 
 use rx_hir::{Hir, Properties};
 use rx_search::{Input, Look, Memory};
@@ -106,6 +107,19 @@ impl RegexInfo {
         ensures { (h : Expression) → AreOf h self.now.properties → result ≡ is_always_anchored_end h }
     {
         self.properties.look_set_suffix().contains(Look::End)
+    }
+
+    /// The length of each match, where all matches have one length, and it is known.
+    pub(crate) fn fixed_len(&self) -> Option<usize>
+        ensures { (h : Expression) → AreOf h self.now.properties → IfSome result (IsLenOf h) }
+    {
+        let Some(least) = self.properties.minimum_len() else {
+            return None;
+        };
+        match self.properties.maximum_len() {
+            Some(greatest) if greatest == least => Some(least),
+            _ => None,
+        }
     }
 
     /// Whether the span is longer than the greatest length of a match, where one is known.

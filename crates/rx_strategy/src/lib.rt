@@ -1,14 +1,17 @@
 //! The strategies of a regex: how a search is answered.
 //!
-//! A `Strategy` is one of several ways to search, of which `Core` is the only one so far: it runs engines over one NFA. The
-//! contract of a strategy names the patterns alone, so that one that runs no automaton can meet it. It stands on rx_engines.
+//! A `Strategy` is one of several ways to search, of which `Core` is the only one so far: it runs DFAs and engines over one NFA. The
+//! contract of a strategy names the patterns alone, so that one that runs no automaton can meet it. It stands on rx_dfa and rx_engines.
 #![tactic(auto)]
 
 mod cache;
 mod config;
+mod dfas;
 mod found;
 mod info;
 mod laws;
+mod lazies;
+mod narrow;
 mod prefilter;
 mod span;
 mod strategy;

@@ -1,18 +1,19 @@
 //! How the searches of a regex are answered.
-ghost use Rattle.std.specs.Prelude.{◌≡◌, ◌<◌, ◌≤◌, List, length, None, replicate, false, IfOk, IfErr, OnOk, OnErr, IsOk, IfNone, IfSome, IsTrue};
+ghost use Rattle.std.specs.Prelude.{◌≡◌, ◌<◌, ◌≤◌, List, length, None, replicate, true, false, MatchOption, IfOk, IfErr, OnOk, OnErr, IsOk, IfNone, IfSome, IsTrue};
 ghost use Rattle.rx_model.specs.Expression.{Expression, alternation};
 ghost use Rattle.rx_model.specs.Search.{Patterns};
 ghost use Rattle.rx_search.specs.Input.{IsSpanned, next_in};
 ghost use Rattle.rx_search.specs.Matches.{match_value, half_match_value};
-ghost use Rattle.rx_engines.specs.Sets.{KeepsMembers, AddsMatching, IsFilled};
+ghost use Rattle.rx_search.specs.Sets.{KeepsMembers, AddsMatching, IsFilled};
 ghost use Rattle.rx_search.specs.Told.{AreWithin, LiesIn, HalfLiesIn};
 ghost use Rattle.rx_search.specs.declared.anchored.MatchKind.TheVariants.{All};
 ghost use Rattle.rx_hir.specs.Normal.{expressions};
 ghost use Rattle.rx_hir.specs.PropertiesViews.{AreOf};
-ghost use Rattle.rx_nfa.specs.Compiled.{AreAllowed, IsRefusal};
+ghost use Rattle.rx_nfa.specs.Compiled.{IsCompiled, AreAllowed, IsRefusal};
+ghost use Rattle.rx_nfa.specs.Config.{nothing_set, overwritten};
 ghost use Rattle.rx_search.specs.Answer.{IsAnswer, AreSlotsOfAnswer, TellsWhether};
-ghost use Rattle.rx_strategy.specs.Config.{kind_of, compiler_of};
-ghost use Rattle.rx_strategy.specs.Cache.{Fits, memory_of, accounted_for};
+ghost use Rattle.rx_strategy.specs.Config.{kind_of, compiler_of, reverse_compiler_of, asks_for_dfas};
+ghost use Rattle.rx_strategy.specs.Cache.{Fits, AccountsAlike, HoldsNoStates, memory_of, accounted_for};
 ghost use Rattle.rx_strategy.specs.Impossible.{is_impossible, IsKnownImpossible};
 ghost use Rattle.rx_strategy.specs.Strategy.{IsFor, kind_in, groups_in, pattern_count, properties_of, prefilter_in, strategy_memory, backtracks, IsFew, IsMadeOf};
 
@@ -20,13 +21,12 @@ mod engines;
 
 use crate::cache::Cache;
 use crate::config::Config;
-use crate::found::half_match;
 use crate::info::RegexInfo;
 use crate::prefilter::choose;
 pub use engines::Core;
 use rx_engines::empty;
 use rx_hir::{Hir, Properties};
-use rx_nfa::{BuildError, Compiler};
+use rx_nfa::{BuildError, Compiler, NFA};
 use rx_search::{GroupInfo, HalfMatch, Input, Match, Memory, NonMaxUsize, PatternSet};
 use std::alloc::Global;
 
@@ -49,12 +49,11 @@ impl Strategy {
         ensures allowed { OnOk result (AreAllowed (compiler_of config.now) exprs.now) }
         ensures refused { IfErr result (IsRefusal (compiler_of config.now) exprs.now) }
     {
-        let mut compiler = Compiler::new();
-        compiler.configure(config.compiler());
-        let nfa = compiler.build_many_from_hir(alloc, exprs)?;
+        let nfa = compiled(alloc, config.compiler(), exprs)?;
+        let reverse = compiled_backwards(alloc, config, exprs)?;
         let info = RegexInfo::new(alloc, exprs)?;
         let pre = choose(alloc, config, exprs, &info)?;
-        Ok(Strategy::Core(Core::new(config, nfa, info, pre)?))
+        Ok(Strategy::Core(Core::new(alloc, config, nfa, reverse, info, pre)?))
     }
 
     /// The next match in the input's span. With `earliest` it is some match, and there is one exactly where there is a next
@@ -67,7 +66,7 @@ impl Strategy {
         ensures within { IfOk result (λ o. IfSome o (LiesIn input.now)) }
         ensures in_range { IfOk result (λ o. IfSome o (λ m. m.pattern < pattern_count self.now)) }
         ensures cache { Fits self.now cache.new }
-        ensures memory { memory_of cache.new ≡ memory_of cache.old }
+        ensures memory { AccountsAlike self.now cache.old cache.new }
         ensures sure { IsKnownImpossible (properties_of self.now) input.now → IsOk result }
     {
         self.search_slots(cache, input, &mut [])
@@ -86,11 +85,15 @@ impl Strategy {
         ensures within { IfOk result (λ o. IfSome o (HalfLiesIn input.now)) }
         ensures in_range { IfOk result (λ o. IfSome o (λ half. half.pattern < pattern_count self.now)) }
         ensures cache { Fits self.now cache.new }
-        ensures memory { memory_of cache.new ≡ memory_of cache.old }
+        ensures memory { AccountsAlike self.now cache.old cache.new }
         ensures sure { IsKnownImpossible (properties_of self.now) input.now → IsOk result }
     {
-        let found = self.search_slots(cache, input, &mut [])?;
-        Ok(half_match(found))
+        if self.is_impossible(input) {
+            return Ok(None);
+        }
+        match self {
+            Strategy::Core(core) => Ok(core.search_half(cache, input)),
+        }
     }
 
     /// As `search`. Each slot gets the place that the match leaves in it, and None where there is no match, no such slot,
@@ -112,7 +115,7 @@ impl Strategy {
         ensures err { OnErr result (slots.new ≡ replicate (length slots.old) None) }
         ensures slots_within { AreWithin input.now slots.new }
         ensures cache { Fits self.now cache.new }
-        ensures memory { memory_of cache.new ≡ memory_of cache.old }
+        ensures memory { AccountsAlike self.now cache.old cache.new }
         ensures spanned { IsSpanned input.now }
         ensures sure { IsKnownImpossible (properties_of self.now) input.now → IsOk result }
     {
@@ -132,7 +135,7 @@ impl Strategy {
         requires { Fits self.now cache.old }
         ensures value { IfOk result (TellsWhether (IsFor self.now) (prefilter_in self.now) input.now) }
         ensures cache { Fits self.now cache.new }
-        ensures memory { memory_of cache.new ≡ memory_of cache.old }
+        ensures memory { AccountsAlike self.now cache.old cache.new }
         ensures sure { IsKnownImpossible (properties_of self.now) input.now → IsOk result }
     {
         if self.is_impossible(input) {
@@ -159,7 +162,7 @@ impl Strategy {
         ensures matching { AddsMatching (IsFor self.now) (prefilter_in self.now) input.now set.old set.new }
         ensures filled { OnOk result (IsFilled (IsFor self.now) (prefilter_in self.now) input.now set.old set.new (kind_in self.now)) }
         ensures cache { Fits self.now cache.new }
-        ensures memory { memory_of cache.new ≡ memory_of cache.old }
+        ensures memory { AccountsAlike self.now cache.old cache.new }
         ensures sure { IsKnownImpossible (properties_of self.now) input.now → IsOk result }
     {
         if self.is_impossible(input) {
@@ -196,6 +199,7 @@ impl Strategy {
     pub fn create_cache(&self, alloc: Global) -> Result<Cache, Memory>
         ensures fits { IfOk result (Fits self.now) }
         ensures memory { IfOk result (λ c. memory_of c ≡ accounted_for self.now) }
+        ensures empty { IfOk result HoldsNoStates }
     {
         match self {
             Strategy::Core(core) => core.create_cache(alloc),
@@ -213,8 +217,8 @@ impl Strategy {
         }
     }
 
-    /// The bytes that are accounted for the strategy itself, which are those of its prefilter and of its NFA, or the greatest
-    /// `usize` where they are more.
+    /// The bytes that are accounted for the strategy itself, which are those of its prefilter, its NFAs and its full DFAs, or the
+    /// greatest `usize` where they are more.
     pub fn memory_usage(&self) -> usize
         ensures { result ≡ strategy_memory self.now }
     {
@@ -230,5 +234,36 @@ impl Strategy {
         match self {
             Strategy::Core(core) => core.get_nfa().group_info(),
         }
+    }
+}
+
+/// The NFA of the expressions, compiled so.
+fn compiled(alloc: Global, config: rx_nfa::Config, exprs: &[Hir]) -> Result<NFA, BuildError>
+    ensures made { IfOk result (IsCompiled (overwritten nothing_set config) exprs.now) }
+    ensures allowed { OnOk result (AreAllowed (overwritten nothing_set config) exprs.now) }
+    ensures refused { IfErr result (IsRefusal (overwritten nothing_set config) exprs.now) }
+{
+    let mut compiler = Compiler::new();
+    compiler.configure(config);
+    compiler.build_many_from_hir(alloc, exprs)
+}
+
+/// The NFA of the expressions that reads backwards, where DFAs are asked for. It costs as much as the other one, so nothing is refused
+/// that was not refused before.
+fn compiled_backwards(
+    alloc: Global,
+    config: &Config,
+    exprs: &[Hir],
+) -> Result<Option<NFA>, BuildError>
+    ensures made { IfOk result (λ o. MatchOption o (asks_for_dfas config.now ≡ false)
+        (λ nfa. (asks_for_dfas config.now ≡ true) × IsCompiled (reverse_compiler_of config.now) exprs.now nfa)) }
+    ensures refused { IfErr result (IsRefusal (compiler_of config.now) exprs.now) }
+{
+    if !config.asks_for_dfas() {
+        return Ok(None);
+    }
+    match compiled(alloc, config.reverse_compiler(), exprs) {
+        Ok(nfa) => Ok(Some(nfa)),
+        Err(error) => Err(error),
     }
 }

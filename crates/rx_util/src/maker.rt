@@ -1,4 +1,5 @@
 //! What makes a value when it is asked for.
+ghost use Rattle.std.specs.Prelude.{◌≡◌};
 
 use rx_search::Memory;
 
@@ -28,7 +29,9 @@ pub struct FromFn<F> {
 
 impl<F> FromFn<F> {
     /// The maker that asks this closure.
-    pub fn new(make: F) -> FromFn<F> {
+    pub fn new(make: F) -> FromFn<F>
+        ensures { result.make ≡ make }
+    {
         FromFn { make }
     }
 }

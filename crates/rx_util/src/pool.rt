@@ -1,5 +1,5 @@
 //! Pools of values that many threads use in turn.
-ghost use Rattle.std.specs.Prelude.{◌≡◌, ◌<◌, vec_len};
+ghost use Rattle.std.specs.Prelude.{◌≡◌, ◌<◌, IfOk, max, vec_len};
 
 use crate::maker::Maker;
 use crate::stack::Stack;
@@ -28,7 +28,10 @@ impl<T: Drop, M: Maker<Value = T> + Drop> Pool<T, M> {
     /// # Errors
     ///
     /// Only want of memory.
-    pub fn new(alloc: Global, maker: M) -> Result<Pool<T, M>, Memory> {
+    pub fn new(alloc: Global, maker: M) -> Result<Pool<T, M>, Memory>
+        ensures maker { IfOk result (λ pool. pool.maker ≡ maker) }
+        ensures stacks { IfOk result (λ pool. vec_len pool.stacks ≡ 8) }
+    {
         Pool::with_capacity(alloc, STACKS, maker)
     }
 
@@ -37,10 +40,12 @@ impl<T: Drop, M: Maker<Value = T> + Drop> Pool<T, M> {
     /// # Errors
     ///
     /// Only want of memory.
-    pub fn with_capacity(alloc: Global, stacks: usize, maker: M) -> Result<Pool<T, M>, Memory> {
+    pub fn with_capacity(alloc: Global, stacks: usize, maker: M) -> Result<Pool<T, M>, Memory>
+        ensures maker { IfOk result (λ pool. pool.maker ≡ maker) }
+        ensures stacks { IfOk result (λ pool. vec_len pool.stacks ≡ max stacks 1) }
+    {
         let mut all = Vec::new(alloc);
-        all.push(Mutex::new(Stack::new(alloc)))?;
-        for _ in 1..stacks {
+        for _count in 0..stacks.max(1) {
             all.push(Mutex::new(Stack::new(alloc)))?;
         }
         Ok(Pool {
@@ -59,7 +64,10 @@ impl<T: Drop, M: Maker<Value = T> + Drop> Pool<T, M> {
         alloc: Global,
         parallelism: usize,
         maker: M,
-    ) -> Result<Pool<T, M>, Memory> {
+    ) -> Result<Pool<T, M>, Memory>
+        ensures maker { IfOk result (λ pool. pool.maker ≡ maker) }
+        ensures stacks { IfOk result (λ pool. vec_len pool.stacks ≡ max parallelism 1) }
+    {
         Pool::with_capacity(alloc, parallelism, maker)
     }
 
@@ -70,6 +78,7 @@ impl<T: Drop, M: Maker<Value = T> + Drop> Pool<T, M> {
     /// Only want of memory, of this call or of the maker. The pool then serves as before.
     pub fn get<R: Wait>(&self, rt: &R) -> Result<PoolGuard<'_, T>, Memory>
         requires { M.can_make self.now.maker }
+        ensures { IfOk result (λ guard. guard.index < vec_len self.now.stacks) }
     {
         let turn = self.turn.fetch_add(1, Ordering::SeqCst);
         let index = turn % self.stacks.len();
@@ -99,7 +108,9 @@ pub struct PoolGuard<'p, T> {
     stack: &'p Mutex<Stack<T>>,
     index: usize,
     number: u128,
-    value: T,
+    // A proof follows what is written to a field (DECISIONS: a guard borrows the lock of its stack).
+    /// The value, which [`PoolGuard::value_mut`] lends.
+    pub value: T,
 }
 
 impl<'p, T: Drop> PoolGuard<'p, T> {

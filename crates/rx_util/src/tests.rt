@@ -139,25 +139,32 @@ fn two_callers_hold_guards_at_once(rt: HostRuntime) -> Result<(), Fail> {
 /// The number of a name.
 fn index_of(name: &str) -> Option<usize> {
     match name {
-        "42a" => Some(1),
-        "+1" => Some(2),
-        "bar" => Some(3),
+        "42a" | "bar" => Some(1),
+        "+1" | "foo" => Some(2),
         _ => None,
     }
 }
 
-/// The template with `<n>` for group n, as a text and as bytes.
-fn filled_in(alloc: Global, template: &str) -> Result<(String, Vec<u8>), Memory> {
+/// What a group stands for: its text, where it has one, else its number in brackets.
+fn piece_of(alloc: Global, texts: &[&str], number: usize) -> Result<String, Memory> {
+    if number < texts.len() {
+        return Ok(String::from_str(alloc, texts[number])?);
+    }
+    Ok(format!(in alloc; "<{number}>")?)
+}
+
+/// The template, where groups have these texts, as a text and as bytes.
+fn filled_in(alloc: Global, template: &str, texts: &[&str]) -> Result<(String, Vec<u8>), Memory> {
     let mut text = String::new(alloc);
     let group = |number: usize, dst: &mut String| -> Result<(), Memory> {
-        let piece = format!(in alloc; "<{number}>")?;
+        let piece = piece_of(alloc, texts, number)?;
         dst.push_str(piece.as_str())?;
         Ok(())
     };
     interpolate::string(template, group, |name: &str| index_of(name), &mut text)?;
     let mut bytes = Vec::new(alloc);
     let group = |number: usize, dst: &mut Vec<u8>| -> Result<(), Memory> {
-        let piece = format!(in alloc; "<{number}>")?;
+        let piece = piece_of(alloc, texts, number)?;
         dst.extend_from_slice(piece.as_bytes())?;
         Ok(())
     };
@@ -172,18 +179,20 @@ fn filled_in(alloc: Global, template: &str) -> Result<(String, Vec<u8>), Memory>
 
 #[test]
 fn templates_are_filled_in(rt: HostRuntime) -> Result<(), Fail> {
+    let none: &[&str] = &[];
+    let some: &[&str] = &["", "yyy", "xxx"];
     let rows = [
-        ("$42a", "<1>"),
-        ("${42}a", "<42>a"),
-        ("${+1}", "<2>"),
-        ("test $bar$bar", "test <3><3>"),
-        ("test ${wat $bar ok", "test ${wat <3> ok"),
-        ("$$1$", "$1$"),
-        ("a${}b$18446744073709551616c", "ab"),
-        ("é$1é", "é<1>é"),
+        ("$42a", none, "<1>"),
+        ("${42}a", none, "<42>a"),
+        ("${+1}", none, "<2>"),
+        ("test $bar$foo", some, "test yyyxxx"),
+        ("test ${wat $bar ok", some, "test ${wat yyy ok"),
+        ("$$1$", none, "$1$"),
+        ("a${}b$18446744073709551616c", none, "ab"),
+        ("é$1é", none, "é<1>é"),
     ];
-    for (template, wanted) in rows {
-        let (text, bytes) = filled_in(rt.alloc(), template)?;
+    for (template, texts, wanted) in rows {
+        let (text, bytes) = filled_in(rt.alloc(), template, texts)?;
         assert_eq!(rt; text.as_str(), wanted);
         assert_eq!(rt; bytes.as_slice(), wanted.as_bytes());
     }

@@ -1,8 +1,7 @@
 -- Where a search may as well begin anew: nothing was met, and the key is that of a start.
 use Rattle.std.proofs.Common.{◌≡◌, ℕ, suc, ◌+◌, ◌-◌, ◌≤◌, ◌<◌, List, [], ◌∷◌, length, refl, sym, ◌∙◌, ap, subst, inl, inr, arith}
-use Rattle.std.specs.Prelude.{Bool, true, false, Option, Some, None, option_map, All, nat_lt, if◌then◌else◌}
+use Rattle.std.specs.Prelude.{Bool, true, false, Option, Some, None, option_map, All}
 use Rattle.std.specs.Option.{option_or}
-use Rattle.std.proofs.lemmas.Bool.Decides.{nat_tests}
 use Rattle.rx_model.specs.Runs.{PriorityGraph, Trace, Leads, nowhere, found}
 use Rattle.rx_model.specs.Search.{Match, free, first_start, is_permitted}
 use Rattle.rx_model.proofs.lemmas.runs.RunLemmas.{by_test}

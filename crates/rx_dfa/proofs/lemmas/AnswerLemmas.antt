@@ -1,8 +1,8 @@
 -- What a forward search answers, said of the matches of patterns.
-use Rattle.std.proofs.Common.{◌≡◌, ◌⊎◌, ℕ, ◌+◌, ◌≤◌, ◌<◌, List, length, refl, sym, ◌∙◌, ap, subst, inl, inr, arith, true≢false}
+use Rattle.std.proofs.Common.{◌≡◌, ◌⊎◌, ℕ, ◌≤◌, ◌<◌, List, length, refl, sym, ◌∙◌, ap, subst, inl, inr, arith, true≢false}
 use Rattle.std.specs.Prelude.{Bool, true, false, not, Option, Some, None, option_map, is_some, unwrap_or, nat_lt, slice_get, IfSome}
 use Rattle.std.proofs.lemmas.Bool.Decides.{nat_tests}
-use Rattle.rx_model.specs.Runs.{Configuration, PriorityGraph, Trace, nowhere, trace, last_of, Leads}
+use Rattle.rx_model.specs.Runs.{Trace, nowhere, trace, Leads}
 use Rattle.rx_model.specs.Expression.{Expression}
 use Rattle.rx_model.specs.Search.{Anchor, free, anchored, anchored_to, is_anchored, is_permitted, Match, Patterns, WhichCaptures, told_of, next_match}
 use Rattle.rx_model.specs.Search.{all as every_group, implicit as whole_match, none as no_group}
@@ -13,20 +13,19 @@ use Rattle.rx_model.proofs.lemmas.runs.RiseLemmas.{mapped-some, trace-end}
 use Rattle.rx_model.proofs.lemmas.graphs.GraphLemmas.{trace-pattern}
 use Rattle.rx_model.proofs.lemmas.matches.MatchLemmas.{next-is, next-within}
 use Rattle.rx_model.proofs.lemmas.matches.NarrowLemmas.{next-narrowed}
-use Rattle.rx_model.proofs.lemmas.matches.WithinLemmas.{next-run, next-later, match-next, run-later, trace-later}
+use Rattle.rx_model.proofs.lemmas.matches.WithinLemmas.{next-run, next-later, match-next, match-within, run-later, trace-later}
 use Rattle.rx_search.specs.Input.{InputValue, next_in}
 use Rattle.rx_search.specs.Matches.{HalfMatchValue, match_value, half_match_value}
 use Rattle.rx_search.specs.Promise.{Premises}
 use Rattle.rx_search.specs.Told.{IsMatchWith}
 use Rattle.rx_search.specs.declared.anchored.MatchKind.{MatchKind}
 use Rattle.rx_search.specs.declared.anchored.MatchKind.TheVariants.{All, LeftmostFirst}
-use Rattle.rx_nfa.specs.Automaton.{at, automaton, forwards}
+use Rattle.rx_nfa.specs.Automaton.{at, automaton}
 use Rattle.rx_nfa.specs.Nfa.{Nfa, IsNfaOf}
 use Rattle.rx_nfa.specs.NextMatch.{start_of, next_match_of, next_match_in}
 use Rattle.rx_nfa.proofs.lemmas.runs.NextMatchLemmas.{next_match_of-patterns}
-use Rattle.rx_determinize.specs.Told.{HasRunTo}
 use Rattle.rx_determinize.proofs.lemmas.KeepsLemmas.{walks-keep}
-use Rattle.rx_dfa.specs.Search.{HasNoEnd, IsEnd, IsForwardAnswer, IsLastAnswer, IsAnswerFor}
+use Rattle.rx_dfa.specs.Search.{HasRunIn, HasNoEnd, IsEnd, IsForwardAnswer, IsLastAnswer, IsAnswerFor}
 use Rattle.rx_dfa.proofs.lemmas.WalkLemmas.{RunsTo, run-accepts-it, walk-run, run-walk, has-start}
 
 -- a search is of one of two kinds
@@ -38,7 +37,7 @@ is_all : MatchKind → Bool
 is_all All = true
 is_all LeftmostFirst = false
 
-not-both : (kind : MatchKind) → kind ≡ All → kind ≡ LeftmostFirst → ⊥
+pub not-both : (kind : MatchKind) → kind ≡ All → kind ≡ LeftmostFirst → ⊥
 unfolding is_all
 not-both kind every leftmost = true≢false (sym (ap is_all every) ∙ ap is_all leftmost)
 
@@ -183,45 +182,82 @@ module _ (nfa : Nfa) (r : Patterns) (v : InputValue) (spanned : v.end ≤ length
       (walk-start q is h.pattern h.offset run.steps run.from within high run.leads x.ends) w.sought in
       (m.0, m.1, (λ k. record { pattern = m.2 k; offset = m.4 k }))
 
-  -- without an end there is no match
-  no-match : HasNoEnd nfa v → next_in r v ≡ None
-  no-match none =
-      elim (tells (next_in r v)) [
-        | inl gone ↦ gone
-        | inr found ↦ absurd (refuted found.0 found.1)
+  -- A match has an end, and a run that ends there.
+  pub match-ends : (m : Match) → IsMatch r text v.anchor v.end v.start m
+      → (e : ℕ) × (v.start ≤ e) × (e ≤ v.end) × (is_permitted nfa.utf8 text e ≡ true) × HasRunIn nfa v m.trace.pattern e
+  match-ends m is =
+      elim (tells (next_match r text (anchored_to m.trace.pattern) v.end m.start)) [
+        | inl none ↦ absurd (match-next r text (anchored_to m.trace.pattern) v.end m.start m own none)
+        | inr found ↦ of_next found.0 found.1
       ]
     where
-      refuted : (m : Match) → next_in r v ≡ Some m → ⊥
-      refuted m next =
-          let p = m.trace.pattern in
-          let e = m.trace.end in
-          let is = next-is r text v.anchor v.end v.start m next in
-          let order = next-within r text v.anchor v.end v.start m next in
-          let low = order.0 in
+      own : IsMatch r text (anchored_to m.trace.pattern) v.end m.start m
+      own =
+          let within = match-within r text v.anchor v.end v.start m is in
+          let mid = within.1 in
+          let high = within.2 in
+          record {
+            start = ((refl, omega arith), is.start.1);
+            sought = refl;
+            expression = is.expression;
+            is_there = is.is_there;
+            run = is.run;
+            accepting = is.accepting;
+            tells = is.tells;
+          }
+
+      of_next : (n : Match) → next_match r text (anchored_to m.trace.pattern) v.end m.start ≡ Some n
+          → (e : ℕ) × (v.start ≤ e) × (e ≤ v.end) × (is_permitted nfa.utf8 text e ≡ true) × HasRunIn nfa v m.trace.pattern e
+      of_next n next =
+          let p = n.trace.pattern in
+          let e = n.trace.end in
+          let alike = next-is r text (anchored_to m.trace.pattern) v.end m.start n next in
+          let same : p ≡ m.trace.pattern = alike.run.0 in
+          let place : n.start ≡ m.start = alike.start.0.0 in
+          let order = next-within r text (anchored_to m.trace.pattern) v.end m.start n next in
           let mid = order.1 in
           let high = order.2 in
+          let first = (match-within r text v.anchor v.end v.start m is).0 in
           let within : e ≤ length text = omega arith in
-          let part = next-run r text (anchored_to p) e m.start m (next-narrowed r text v.anchor v.end v.start m next) in
-          let c = at (part_of r p part.expression).start m.start in
-          let x : RunsTo r text e p part.expression m.start = record {
+          let part = next-run r text (anchored_to p) e n.start n (next-narrowed r text (anchored_to m.trace.pattern) v.end m.start n next) in
+          let c = at (part_of r p part.expression).start n.start in
+          let x : RunsTo r text e p part.expression n.start = record {
             run = part.run;
             is = part.accepting;
             ends = sym (trace-end (runs_of_pattern r text e p part.expression) c part.run) ∙ ap (λ (t : Trace). t.end) (sym part.tells);
           } in
-          let start = has-start nfa r premises.is_for.runs text e within p v.anchor is.run.0 part.expression part.is_there in
-          let walk = run-walk nfa r premises.is_for.runs text e within p v.anchor start.0 start.1 is.run.0 part.expression part.is_there m.start x in
-          none p e (omega arith) high (walk-end start.0 start.1 p e walk.0 m.start within mid walk.1 is.start.1) (
+          let sought = subst (IsSought v.anchor) (sym same) is.sought in
+          let start = has-start nfa r premises.is_for.runs text e within p v.anchor sought part.expression part.is_there in
+          let walk = run-walk nfa r premises.is_for.runs text e within p v.anchor start.0 start.1 sought part.expression part.is_there n.start x in
+          let run : HasRunIn nfa v p e = (
             start.0,
             start.1,
             record {
-              from = m.start;
-              low = low;
+              from = n.start;
+              low = omega arith;
               high = mid;
-              anchored = λ off. starts-at v.anchor v.end v.start m.start (loopless (is_anchored v.anchor) off) is.start.0;
+              anchored = λ off. place ∙ starts-at v.anchor v.end v.start m.start (loopless (is_anchored v.anchor) off) is.start.0;
               steps = walk.0;
               leads = walk.1;
             },
+          ) in (
+            e,
+            omega arith,
+            high,
+            walk-end start.0 start.1 p e walk.0 n.start within mid walk.1 alike.start.1,
+            subst (λ q. HasRunIn nfa v q e) same run,
           )
+
+  -- without an end there is no match
+  pub no-match : HasNoEnd nfa v → next_in r v ≡ None
+  no-match none =
+      elim (tells (next_in r v)) [
+        | inl gone ↦ gone
+        | inr found ↦
+            let m = found.0 in
+            let x = match-ends m (next-run r text v.anchor v.end v.start m found.1) in
+            absurd (none m.trace.pattern x.0 x.1 x.2 x.3 x.4)
+      ]
 
   -- a match that is there
   there : (m : Match) → IsMatch r text v.anchor v.end v.start m → is_some (next_in r v) ≡ true

@@ -1,16 +1,14 @@
 -- The loop of a search that stops where it may as well begin anew.
-use Rattle.std.proofs.Common.{◌≡◌, ℕ, suc, ◌+◌, ◌-◌, ◌≤◌, ◌<◌, List, [], ◌∷◌, length, refl, sym, ◌∙◌, ap, subst, arith, true≢false}
+use Rattle.std.proofs.Common.{◌≡◌, ℕ, ◌+◌, ◌-◌, ◌≤◌, ◌<◌, List, [], ◌∷◌, length, refl, sym, ◌∙◌, ap, subst, arith}
 use Rattle.std.specs.Prelude.{Bool, true, false, Option, Some, None, option_map, slice_index}
 use Rattle.std.specs.Option.{option_or}
 use Rattle.rx_model.specs.Look.{byte_before}
-use Rattle.rx_model.specs.Search.{free, is_anchored, is_permitted, Patterns}
+use Rattle.rx_model.specs.Search.{free, is_anchored, is_permitted}
 use Rattle.rx_model.proofs.lemmas.runs.FirstLemmas.{none-is-some}
 use Rattle.rx_search.specs.Input.{InputValue}
-use Rattle.rx_search.specs.Matches.{HalfMatchValue, half_match_value}
-use Rattle.rx_search.specs.Promise.{Premises}
+use Rattle.rx_search.specs.Matches.{half_match_value}
 use Rattle.rx_search.specs.declared.anchored.MatchKind.TheVariants.{LeftmostFirst}
 use Rattle.rx_nfa.specs.Automaton.{Surroundings, forwards, byte_within}
-use Rattle.rx_nfa.specs.Nfa.{IsNfaOf}
 use Rattle.rx_nfa.specs.NextMatch.{next_match_of}
 use Rattle.rx_nfa.specs.Ordered.{HoldsAt}
 use Rattle.rx_determinize.specs.Key.{Key, start_key, step_key}
@@ -24,7 +22,7 @@ use Rattle.rx_dfa.specs.Candidates.{IsBack}
 use Rattle.rx_dfa.proofs.lemmas.AnewLemmas.{IsComing, coming-start, coming-step, coming-again, next-alike}
 use Rattle.rx_dfa.proofs.lemmas.BothLemmas.{not-anchored}
 use Rattle.rx_dfa.proofs.lemmas.CourseLemmas.{first-key, next-key, readable-next}
-use Rattle.rx_dfa.proofs.lemmas.ForwardLemmas.{key_ahead, tells-forwards, first-before, before-next}
+use Rattle.rx_dfa.proofs.lemmas.ForwardLemmas.{key_ahead, tells-forwards, first-before}
 
 -- where nothing was met after these patterns, there are none, and nothing was met before
 recorded-some : (t : Bool) (q place : ℕ) (r : Progress) → recorded t q place r ≡ fresh → ⊥

@@ -24,11 +24,11 @@ use Rattle.rx_determinize.proofs.lemmas.DeadLemmas.{no-more-within}
 use Rattle.rx_determinize.proofs.lemmas.ReverseLemmas.{once-some, once-none, no-start}
 use Rattle.rx_determinize.proofs.lemmas.SightLemmas.{sees-backwards, within-back}
 use Rattle.rx_dfa.specs.Automaton.{Dfa, IsSound, sight_of, no_key, key_from, first_key, next_key, IsReadable}
-use Rattle.rx_dfa.specs.Course.{key_of, end_of, in_text, IsMetAlong, IsMetBackwards}
+use Rattle.rx_dfa.specs.Course.{key_of, end_of, in_text, IsMetAlong, IsMetBackwards, along, IsPassed}
 use Rattle.rx_dfa.specs.Search.{IsReverseAnswer}
 use Rattle.rx_dfa.proofs.lemmas.LooplessLemmas.{start-loopless, run-loopless, sees-loopless}
-use Rattle.rx_dfa.proofs.lemmas.CourseLemmas.{Going, going-start, going-next, met-dead, met-early, met-end, met-none}
-use Rattle.rx_dfa.proofs.lemmas.ForwardLemmas.{before-next, along-between}
+use Rattle.rx_dfa.proofs.lemmas.CourseLemmas.{Going, going-start, going-next, met-dead, met-early, met-end, met-none, nothing_held, next-key, key-along, going-passed, going-forget}
+use Rattle.rx_dfa.proofs.lemmas.ForwardLemmas.{before-next, along-between, first-before}
 
 -- What is met at a distance.
 
@@ -397,6 +397,110 @@ key_behind d v at =
 abbrev pub GoingBehind : {F C : Type 0} → (F → C → ℕ → Key → Type 0) → F → C → ℕ → Dfa → InputValue → (at : ℕ) → Progress → Type 0
 GoingBehind holds a cache state d v at met =
     GoingBack holds a cache state d v.haystack v.end (first_key d v.anchor (byte_after v.haystack v.end)) at met
+
+-- A search stands before the byte that ends at the place, of which nothing is told yet but that it is read.
+pub record ArrivesBack {F C : Type 0} (holds : F → C → ℕ → Key → Type 0) (a : F) (old new : C) (before next : ℕ) (d : Dfa) (v : InputValue) (place byte : ℕ)
+    (met : Progress) : Type 0 where
+  pub past : GoingBehind nothing_held a old before d v place met
+  pub held : holds a new next (next_key d (key_behind d v place) byte)
+  pub readable : IsReadable d.nfa (Some byte)
+
+module _ (d : Dfa) (sound : IsSound d) (reverse : d.nfa.reverse ≡ true) (v : InputValue) (bytes : AreBytes v.haystack) (in_order : v.start ≤ v.end)
+    (within : v.end ≤ length v.haystack) {F C : Type 0} (holds : F → C → ℕ → Key → Type 0) (a : F) (old new : C) where
+  abbrev text_size : ℕ
+  text_size = length v.haystack
+
+  abbrev opening : Key
+  opening = first_key d v.anchor (byte_after v.haystack v.end)
+
+  abbrev turned : Surroundings
+  turned = backwards d.nfa.terminator v.haystack
+
+  abbrev may_at : ℕ → Bool
+  may_at i = is_permitted d.nfa.utf8 v.haystack (text_size - i)
+
+  back-hold : (before next at : ℕ) (met : Progress) → GoingBehind nothing_held a old before d v at met → holds a new next (key_behind d v at)
+      → GoingBehind holds a new next d v at met
+  back-hold before next at met g held = record {
+    at_distances = g.at_distances;
+    is = g.is;
+    going = record { held = held; same = g.going.same; readable = g.going.readable; alive = g.going.alive };
+  }
+
+  module _ (state next from place start : ℕ) (met : Progress) (text : List ℕ) (is_text : text ≡ v.haystack) (is_start : start ≡ v.start)
+      (low : start ≤ place) (le : place ≤ from) (high : from ≤ v.end)
+      (passed : IsPassed (holds a new) d (λ i. slice_index text (from - suc i)) (key_behind d v from) (from - place) (from - start) next)
+      (going : GoingBehind holds a old state d v from met) where
+    abbrev read : ℕ → ℕ
+    read i = slice_index text (from - suc i)
+
+    read-is : (i : ℕ) → i < from - place → read i ≡ turned.byte (text_size - from + i)
+    read-is i lt =
+        let at : from - suc i ≡ text_size - suc (text_size - from + i) = omega arith in
+        (λ j. slice_index (is_text j) (at j))
+
+    read-readable : (i : ℕ) → i < from - place → IsReadable d.nfa (read_last v.haystack (text_size - from + i + 1))
+    read-readable i lt =
+        let at : text_size - (from - i) + 1 ≡ text_size - from + i + 1 = omega arith in
+        let before : from - suc i ≡ from - i - 1 = omega arith in
+        subst (λ j. IsReadable d.nfa (read_last v.haystack j)) at
+        (read-next d sound reverse v.haystack bytes v.start v.end in_order within opening (first-before d v.anchor (byte_after v.haystack v.end))
+        (from - i) (read i) (from - suc i) (omega arith) (omega arith) before (ap (λ (t : List ℕ). slice_index t (from - suc i)) is_text)
+        (passed.plain.readable i lt))
+
+    pub past-back : GoingBehind nothing_held a old state d v place met
+    past-back =
+        let count : text_size - from + (from - place) ≡ text_size - place = omega arith in
+        record {
+          at_distances = going.at_distances;
+          is = going.is;
+          going = subst
+              (λ i. Going nothing_held a old state d turned may_at (read_last v.haystack) text_size (text_size - v.end) opening i going.at_distances) count
+              (going-passed d turned may_at (read_last v.haystack) text_size (text_size - v.start) (text_size - v.end) (omega arith) opening a old state
+              (text_size - from) (from - place) going.at_distances read (omega arith) read-is read-readable passed.plain
+              (going-forget d turned may_at (read_last v.haystack) text_size (text_size - v.start) (text_size - v.end) (omega arith) opening holds a old new
+              state next (text_size - from) going.at_distances going.going));
+        }
+
+    key-there : along d read (from - place) (key_behind d v from) ≡ key_behind d v place
+    key-there =
+        let count : text_size - from + (from - place) ≡ text_size - place = omega arith in
+        key-along d turned may_at (read_last v.haystack) text_size (text_size - v.start) (text_size - v.end) (omega arith) opening
+        (text_size - from) (from - place) read (omega arith) read-is
+        ∙ ap (λ i. key_of d turned (i - (text_size - v.end)) (text_size - v.end) opening) count
+
+    pub back-passed-end : place ≡ start → GoingBehind holds a new next d v place met
+    back-passed-end same = back-hold state next place met past-back (subst (holds a new next) key-there (passed.at_end (omega arith)))
+
+    pub back-passed-before : start < place → ArrivesBack holds a old new state next d v place (slice_index v.haystack (place - 1)) met
+    back-passed-before lt =
+        let at : from - suc (from - place) ≡ place - 1 = omega arith in
+        let byte : read (from - place) ≡ slice_index v.haystack (place - 1) = (λ j. slice_index (is_text j) (at j)) in
+        let behind = passed.behind (omega arith) in
+        record {
+          past = past-back;
+          held = subst (holds a new next) (λ j. next_key d (key-there j) (byte j)) behind.0;
+          readable = subst (λ (b : ℕ). IsReadable d.nfa (Some b)) byte behind.1;
+        }
+
+  -- on from there
+  pub arrived-back : (before next place : ℕ) (met met' : Progress) → v.start < place → place ≤ v.end
+      → ArrivesBack holds a old new before next d v place (slice_index v.haystack (place - 1)) met
+      → is_dead (next_key d (key_behind d v place) (slice_index v.haystack (place - 1))) ≡ false
+      → met' ≡ met_within (is_permitted d.nfa.utf8 v.haystack) (next_key d (key_behind d v place) (slice_index v.haystack (place - 1))).matches place met
+      → GoingBehind holds a new next d v (place - 1) met'
+  arrived-back before next place met met' lt le there alive is =
+      let count : text_size - place + 1 ≡ text_size - (place - 1) = omega arith in
+      let at : place - 1 ≡ text_size - suc (text_size - place) = omega arith in
+      back-hold before next (place - 1) met'
+      (back-next d sound reverse v.haystack bytes v.start v.end in_order within opening (first-before d v.anchor (byte_after v.haystack v.end)) nothing_held a
+      old old before before place (place - 1) met met' (slice_index v.haystack (place - 1)) lt le refl refl there.past tt there.readable alive is)
+      (subst (holds a new next)
+      (ap (next_key d (key_behind d v place)) (ap (slice_index v.haystack) at)
+      ∙ sym (next-key d turned may_at (read_last v.haystack) text_size (text_size - v.start) (text_size - v.end) (omega arith) opening (text_size - place)
+      (omega arith))
+      ∙ ap (λ i. key_of d turned (i - (text_size - v.end)) (text_size - v.end) opening) count)
+      there.held)
 
 -- three parts make a search
 abbrev pub met-of : (d : Dfa) (v : InputValue) (met : Progress)

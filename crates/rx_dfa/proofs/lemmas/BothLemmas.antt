@@ -1,5 +1,5 @@
 -- The end of a match and its start make a match.
-use Rattle.std.proofs.Common.{◌≡◌, ℕ, ◌≤◌, length, refl, sym, ◌∙◌, ap, subst, inl, inr, arith, true≢false}
+use Rattle.std.proofs.Common.{◌≡◌, ℕ, ◌≤◌, refl, sym, ◌∙◌, ap, subst, arith, true≢false}
 use Rattle.std.specs.Prelude.{true, false, Option, Some, None, option_map, slice_get}
 use Rattle.rx_model.specs.Search.{Anchor, free, anchored, anchored_to, is_anchored, is_permitted, Match, Patterns, WhichCaptures, slot_of, next_match}
 use Rattle.rx_model.specs.Utf8.{MeansUtf8}

@@ -1,6 +1,6 @@
 -- A search from candidate to candidate.
-use Rattle.std.proofs.Common.{◌≡◌, ℕ, zero, suc, ◌+◌, ◌≤◌, ◌<◌, List, [], ◌∷◌, length, take, refl, sym, ◌∙◌, ap, subst, inl, inr, arith, true≢false}
-use Rattle.std.specs.Prelude.{true, false, Option, Some, None, option_map, MatchOption, slice_get}
+use Rattle.std.proofs.Common.{◌≡◌, ℕ, zero, suc, ◌+◌, ◌≤◌, ◌<◌, List, [], ◌∷◌, length, refl, sym, ◌∙◌, ap, subst, inl, inr, arith, true≢false}
+use Rattle.std.specs.Prelude.{true, false, Option, Some, None, option_map, slice_get}
 use Rattle.rx_model.specs.Expression.{Expression}
 use Rattle.rx_model.specs.Meaning.{Means}
 use Rattle.rx_model.specs.Search.{free, is_anchored, Patterns, next_match, starting_at}
@@ -14,10 +14,10 @@ use Rattle.rx_search.specs.Needles.{MeansSome, OneBegins}
 use Rattle.rx_search.specs.Promise.{Premises}
 use Rattle.rx_search.specs.declared.anchored.MatchKind.TheVariants.{LeftmostFirst}
 use Rattle.rx_nfa.specs.Nfa.{IsNfaOf}
-use Rattle.rx_nfa.specs.NextMatch.{next_match_of, next_match_in}
+use Rattle.rx_nfa.specs.NextMatch.{next_match_of}
 use Rattle.rx_determinize.specs.Permitted.{Progress}
 use Rattle.rx_dfa.specs.Automaton.{Dfa, IsSound}
-use Rattle.rx_dfa.specs.Candidates.{HasNoneBefore, IsAlikeFrom, IsBack, StandsBy}
+use Rattle.rx_dfa.specs.Candidates.{HasNoneBefore, IsBack, StandsBy}
 use Rattle.rx_dfa.specs.Course.{IsMetForwards}
 use Rattle.rx_dfa.specs.Search.{AreAllOrdered, IsForwardAnswer}
 use Rattle.rx_dfa.proofs.lemmas.AnswerLemmas.{agree-half}

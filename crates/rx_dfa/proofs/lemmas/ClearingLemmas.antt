@@ -6,7 +6,7 @@ use Rattle.std.proofs.lemmas.Option.{none-some}
 use Rattle.std.specs.Prelude.{Option, Some, None, Result, Ok, Err, OnOk, OnErr, IsTrue, ◌↔◌, Bool, false, slice_get}
 use Rattle.rx_model.specs.Search.{Anchor}
 use Rattle.rx_nfa.specs.NextMatch.{start_of}
-use Rattle.rx_determinize.specs.Key.{Key}
+use Rattle.rx_determinize.specs.Key.{Key, is_dead}
 use Rattle.rx_determinize.specs.Sight.{class_beside}
 use Rattle.rx_determinize.specs.Span.{loops_in}
 use Rattle.rx_dfa.specs.Automaton.{key_from, first_key}
@@ -18,9 +18,10 @@ use Rattle.rx_dfa.specs.declared.step_error.StepError.TheVariants.{Quit as Quits
 use Rattle.rx_dfa.proofs.lemmas.ChainLemmas.{got-push}
 
 -- no room for a state that is not there
-pub full-from : (l : LazyValue) (into : Key) (r : Rows) (b : Bool) → IsNew r.keys into
+pub full-from : (l : LazyValue) (into : Key) (r : Rows) (b : Bool) → is_dead into ≡ false → IsNew r.keys into
     → (IsTrue b ↔ r.size + state_size l.stride into ≤ l.capacity) → b ≡ false → IsFull l into r
-full-from l into r b fresh room lacks = record {
+full-from l into r b alive fresh room lacks = record {
+  alive = alive;
   is_new = fresh;
   above = elim (cases_lt l.capacity (r.size + state_size l.stride into)) [
     | inl lt ↦ lt
@@ -57,6 +58,7 @@ grown-same l standing into since taken old other new last keys size clears held 
 })
 grown-same l standing into since taken old other new last keys size clears held counts (inr g) = inr (record {
   full = record {
+    alive = g.full.alive;
     is_new = subst (λ (ks : List Key). IsNew ks into) keys g.full.is_new;
     above = subst (λ n. l.capacity < n + state_size l.stride into) size g.full.above;
   };

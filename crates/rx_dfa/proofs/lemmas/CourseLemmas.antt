@@ -1,7 +1,8 @@
 -- The loop of a search, place by place.
-use Rattle.std.proofs.Common.{◌≡◌, ℕ, suc, ◌+◌, ◌-◌, ◌≤◌, ◌<◌, List, [], ◌∷◌, refl, sym, ◌∙◌, ap, subst, inl, inr, arith, true≢false}
+use Rattle.std.proofs.Common.{◌≡◌, ℕ, zero, suc, ⊎_elim, ◌+◌, ◌-◌, ◌≤◌, ◌<◌, List, [], ◌∷◌, refl, sym, ◌∙◌, ap, subst, inl, inr, arith, true≢false}
 use Rattle.std.specs.Prelude.{Bool, true, false, ◌&&◌, not, Option, Some, is_some, nat_lt}
 use Rattle.std.proofs.lemmas.Bool.Decides.{nat_tests}
+use Rattle.std.proofs.lemmas.Bool.{cases_lt}
 use Rattle.rx_model.proofs.lemmas.runs.RunLemmas.{by_test}
 use Rattle.rx_nfa.specs.Automaton.{Surroundings, byte_within}
 use Rattle.rx_nfa.specs.Ordered.{HoldsAt}
@@ -12,7 +13,7 @@ use Rattle.rx_determinize.proofs.lemmas.DeadLemmas.{no-more-within}
 use Rattle.rx_determinize.proofs.lemmas.SpanLemmas.{byte-here}
 use Rattle.rx_determinize.proofs.lemmas.SeenLemmas.{key_at-add, seen-at, seen-all, seen-until}
 use Rattle.rx_dfa.specs.Automaton.{Dfa, sight_of, next_key, IsReadable}
-use Rattle.rx_dfa.specs.Course.{progress_of, key_of, end_of, IsMetAlong}
+use Rattle.rx_dfa.specs.Course.{progress_of, key_of, end_of, IsMetAlong, along, ArePlain}
 
 -- The parts of a dead key.
 
@@ -55,6 +56,32 @@ pub record Going {F C : Type 0} (holds : F → C → ℕ → Key → Type 0) (a 
       (key_of d around (at - start) start k) r
   pub readable : (j : ℕ) → start ≤ j → j ≤ at → IsReadable d.nfa (beside j)
   pub alive : is_dead (key_of d around (at - start) start k) ≡ false
+
+-- no state is held
+abbrev pub nothing_held : {F C : Type 0} → F → C → ℕ → Key → Type 0
+nothing_held a cache state key = Unit {0}
+
+-- What is plain of more bytes is so of fewer.
+pub plain-fewer : (d : Dfa) (byte : ℕ → ℕ) (k : Key) (n more : ℕ) → n ≤ more → ArePlain d byte k more → ArePlain d byte k n
+plain-fewer d byte k n more le p = record {
+  alive = λ i lt. p.alive i (omega arith);
+  no_match = λ i lt. p.no_match i (omega arith);
+  readable = λ i lt. p.readable i (omega arith);
+}
+
+pub plain-none : (d : Dfa) (byte : ℕ → ℕ) (k : Key) → ArePlain d byte k 0
+plain-none d byte k = record { alive = λ i lt. absurd (omega arith); no_match = λ i lt. absurd (omega arith); readable = λ i lt. absurd (omega arith) }
+
+pub plain-more : (d : Dfa) (byte : ℕ → ℕ) (k : Key) (n : ℕ) → ArePlain d byte k n → is_dead (along d byte (suc n) k) ≡ false
+    → (along d byte (suc n) k).matches ≡ [] → IsReadable d.nfa (Some (byte n)) → ArePlain d byte k (suc n)
+plain-more d byte k n p alive none readable = record {
+  alive = λ i lt. ⊎_elim (λ below. p.alive i below)
+      (λ le. let same : n ≡ i = omega arith in subst (λ (j : ℕ). is_dead (along d byte (suc j) k) ≡ false) same alive) (cases_lt i n);
+  no_match = λ i lt. ⊎_elim (λ below. p.no_match i below)
+      (λ le. let same : n ≡ i = omega arith in subst (λ (j : ℕ). (along d byte (suc j) k).matches ≡ []) same none) (cases_lt i n);
+  readable = λ i lt. ⊎_elim (λ below. p.readable i below)
+      (λ le. let same : n ≡ i = omega arith in subst (λ (j : ℕ). IsReadable d.nfa (Some (byte j))) same readable) (cases_lt i n);
+}
 
 module _ (d : Dfa) (around : Surroundings) (may : ℕ → Bool) (beside : ℕ → Option ℕ) (size end start : ℕ) (short : end ≤ size) (k : Key) where
   abbrev key : (at : ℕ) → Key
@@ -206,6 +233,45 @@ module _ (d : Dfa) (around : Surroundings) (may : ℕ → Bool) (beside : ℕ �
           sees = record { sees = seen-all d.kind around size d.nfa.states d.nfa.start_anchored (sight_of d) end start k sees };
           whole = inl refl;
         }
+
+  -- over plain states
+
+  pub key-along : (at n : ℕ) (byte : ℕ → ℕ) → start ≤ at → ((i : ℕ) → i < n → byte i ≡ around.byte (at + i)) → along d byte n (key at) ≡ key (at + n)
+  key-along at zero byte low is = let same : at ≡ at + 0 = omega arith in ap key same
+  key-along at (suc n) byte low is =
+      let place : at + n + 1 ≡ at + suc n = omega arith in
+      (λ j. next_key d (key-along at n byte low (λ i lt. is i (omega arith)) j) (is n (omega arith) j))
+      ∙ sym (next-key (at + n) (omega arith))
+      ∙ ap key place
+
+  module _ {F C : Type 0} (a : F) (cache : C) (state : ℕ) where
+    pub going-passed : (at n : ℕ) (r : Progress) (byte : ℕ → ℕ) → start ≤ at → ((i : ℕ) → i < n → byte i ≡ around.byte (at + i))
+        → ((i : ℕ) → i < n → IsReadable d.nfa (beside (at + i + 1))) → ArePlain d byte (key at) n
+        → Going nothing_held a cache state d around may beside size start k at r
+        → Going nothing_held a cache state d around may beside size start k (at + n) r
+    going-passed at zero r byte low is readable plain going =
+        let same : at ≡ at + 0 = omega arith in
+        subst (λ i. Going nothing_held a cache state d around may beside size start k i r) same going
+    going-passed at (suc n) r byte low is readable plain going =
+        let place : at + n + 1 ≡ at + suc n = omega arith in
+        let before = going-passed at n r byte low (λ i lt. is i (omega arith)) (λ i lt. readable i (omega arith))
+        (plain-fewer d byte (key at) n (suc n) (omega arith) plain) going in
+        let here : along d byte (suc n) (key at) ≡ next_key d (key (at + n)) (byte n) =
+        ap (λ x. next_key d x (byte n)) (key-along at n byte low (λ i lt. is i (omega arith))) in
+        subst (λ i. Going nothing_held a cache state d around may beside size start k i r) place
+        (going-next nothing_held a cache cache state state (at + n) r r (byte n) (omega arith) (is n (omega arith)) before tt (readable n (omega arith))
+        (sym (ap is_dead here) ∙ plain.alive n (omega arith))
+        (sym (ap (λ (x : Key). met_within may x.matches (at + n) r) (sym here)
+        ∙ ap (λ ms. met_within may ms (at + n) r) (plain.no_match n (omega arith)))))
+
+  module _ {F C : Type 0} (holds : F → C → ℕ → Key → Type 0) (a : F) (cache new : C) (state next : ℕ) where
+    pub going-forget : (at : ℕ) (r : Progress) → Going holds a cache state d around may beside size start k at r
+        → Going nothing_held a cache state d around may beside size start k at r
+    going-forget at r g = record { held = tt; same = g.same; readable = g.readable; alive = g.alive }
+
+    pub going-hold : (at : ℕ) (r : Progress) → Going nothing_held a cache state d around may beside size start k at r → holds a new next (key at)
+        → Going holds a new next d around may beside size start k at r
+    going-hold at r g held = record { held = held; same = g.same; readable = g.readable; alive = g.alive }
 
   -- where the first key is dead, there is nothing to meet
   pub met-none : (earliest : Bool) → start ≤ end → is_dead k ≡ true → IsMetAlong d around may size end start k earliest fresh

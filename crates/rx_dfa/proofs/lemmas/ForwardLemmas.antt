@@ -27,13 +27,13 @@ use Rattle.rx_determinize.proofs.lemmas.PermittedLemmas.{search-once}
 use Rattle.rx_determinize.proofs.lemmas.SightLemmas.{sees-forwards, within-get}
 use Rattle.rx_determinize.proofs.lemmas.SpanLemmas.{none-starts}
 use Rattle.rx_dfa.specs.Automaton.{Dfa, IsSound, sight_of, key_from, first_key, next_key, IsReadable, StepFails, StartFails}
-use Rattle.rx_dfa.specs.Course.{placed, progress_of, key_of, end_of, IsMetAlong, IsMetForwards}
+use Rattle.rx_dfa.specs.Course.{placed, progress_of, key_of, end_of, IsMetAlong, IsMetForwards, along, IsPassed}
 use Rattle.rx_dfa.specs.Search.{SearchFails, IsForwardAnswer}
 use Rattle.rx_dfa.specs.declared.step_error.StepError.{StepError}
 use Rattle.rx_dfa.specs.declared.step_error.StepError.TheVariants.{Quit as QuitsAt, GaveUp as GivesUp, Memory as WantsMemory}
 use Rattle.rx_search.specs.declared.match_error.MatchError.{MatchError}
 use Rattle.rx_search.specs.declared.match_error.MatchError.TheVariants.{Quit, GaveUp, HaystackTooLong, UnsupportedAnchored, Memory}
-use Rattle.rx_dfa.proofs.lemmas.CourseLemmas.{Going, going-start, going-next, met-dead, met-early, met-end, met-none}
+use Rattle.rx_dfa.proofs.lemmas.CourseLemmas.{Going, going-start, going-next, met-dead, met-early, met-end, met-none, nothing_held, next-key, key-along, going-passed, going-forget, going-hold}
 use Rattle.rx_dfa.proofs.lemmas.MetLemmas.{run-from, sees-from, nothing-met, to-end}
 use Rattle.rx_dfa.proofs.lemmas.LastLemmas.{IsOver, none-of-missing}
 
@@ -408,7 +408,7 @@ module _ (d : Dfa) (sound : IsSound d) (forward : d.nfa.reverse ≡ false) (v : 
   abbrev opening : Key
   opening = first_key d v.anchor (byte_before v.haystack v.start)
 
-  tells-ahead : (e : ℕ) → v.start ≤ e → e ≤ v.end → ((j : ℕ) → v.start ≤ j → j ≤ e + 1 → IsReadable d.nfa (byte_before v.haystack j))
+  pub tells-ahead : (e : ℕ) → v.start ≤ e → e ≤ v.end → ((j : ℕ) → v.start ≤ j → j ≤ e + 1 → IsReadable d.nfa (byte_before v.haystack j))
       → Sees (sight_of d) ahead (length v.haystack) d.nfa.states opening.before e v.start
   tells-ahead e low high readable =
       tells-forwards d sound forward v.haystack bytes opening e v.start (first-before d v.anchor (byte_before v.haystack v.start)) low (omega arith) readable
@@ -464,6 +464,83 @@ module _ (d : Dfa) (sound : IsSound d) (forward : d.nfa.reverse ≡ false) (v : 
         met-end d ahead allowed (byte_before v.haystack) (length v.haystack) v.end v.start spanned opening holds a tells-ahead cache state r r' last
         (byte_after v.haystack v.end) v.earliest in_order (within-get v.haystack v.end) going
         (subst (IsReadable d.nfa) (sym (before-next v.haystack v.end)) readable) told met
+
+-- A search stands behind the byte at the place, of which nothing is told yet but that it is read.
+pub record Arrives {F C : Type 0} (holds : F → C → ℕ → Key → Type 0) (a : F) (old new : C) (before next : ℕ) (d : Dfa) (v : InputValue) (place byte : ℕ)
+    (r : Progress) : Type 0 where
+  pub past : GoingAhead nothing_held a old before d v place r
+  pub held : holds a new next (next_key d (key_ahead d v place) byte)
+  pub readable : IsReadable d.nfa (Some byte)
+
+module _ (d : Dfa) (sound : IsSound d) (forward : d.nfa.reverse ≡ false) (v : InputValue) (in_order : v.start ≤ v.end) (spanned : v.end ≤ length v.haystack)
+    (bytes : AreBytes v.haystack) {F C : Type 0} (holds : F → C → ℕ → Key → Type 0) (a : F) (old new : C) (state next from place end : ℕ) (r : Progress)
+    (text : List ℕ) (is_text : text ≡ v.haystack) (is_end : end ≡ v.end) (low : v.start ≤ from) (le : from ≤ place) (high : place ≤ end)
+    (passed : IsPassed (holds a new) d (λ i. slice_index text (from + i)) (key_ahead d v from) (place - from) (end - from) next)
+    (going : GoingAhead holds a old state d v from r) where
+  abbrev around_text : Surroundings
+  around_text = forwards d.nfa.terminator v.haystack
+
+  abbrev read : ℕ → ℕ
+  read i = slice_index text (from + i)
+
+  abbrev first_here : Key
+  first_here = first_key d v.anchor (byte_before v.haystack v.start)
+
+  read-is : (i : ℕ) → read i ≡ slice_index v.haystack (from + i)
+  read-is i = ap (λ (t : List ℕ). slice_index t (from + i)) is_text
+
+  pub past-plain : GoingAhead nothing_held a old state d v place r
+  past-plain =
+      let count : from + (place - from) ≡ place = omega arith in
+      subst (λ i. GoingAhead nothing_held a old state d v i r) count
+      (going-passed d around_text (is_permitted d.nfa.utf8 v.haystack) (byte_before v.haystack) (length v.haystack) v.end v.start spanned first_here a old state
+      from (place - from) r read low (λ i lt. read-is i)
+      (λ i lt. read-here d sound forward v in_order spanned bytes (from + i) (read i) (omega arith) (read-is i) (passed.plain.readable i lt))
+      passed.plain
+      (going-forget d around_text (is_permitted d.nfa.utf8 v.haystack) (byte_before v.haystack) (length v.haystack) v.end v.start spanned first_here holds a old
+      new state next from r going))
+
+  key-there : along d read (place - from) (key_ahead d v from) ≡ key_ahead d v place
+  key-there =
+      let count : from + (place - from) ≡ place = omega arith in
+      key-along d around_text (is_permitted d.nfa.utf8 v.haystack) (byte_before v.haystack) (length v.haystack) v.end v.start spanned first_here
+      from (place - from) read low (λ i lt. read-is i)
+      ∙ ap (key_ahead d v) count
+
+  pub passed-end : place ≡ end → GoingAhead holds a new next d v place r
+  passed-end same =
+      going-hold d around_text (is_permitted d.nfa.utf8 v.haystack) (byte_before v.haystack) (length v.haystack) v.end v.start spanned first_here holds a old new
+      state next place r past-plain
+      (subst (holds a new next) key-there (passed.at_end (omega arith)))
+
+  pub passed-before : place < end → Arrives holds a old new state next d v place (slice_index v.haystack place) r
+  passed-before lt =
+      let count : from + (place - from) ≡ place = omega arith in
+      let byte : read (place - from) ≡ slice_index v.haystack place = read-is (place - from) ∙ ap (slice_index v.haystack) count in
+      let behind = passed.behind (omega arith) in
+      record {
+        past = past-plain;
+        held = subst (holds a new next) (λ j. next_key d (key-there j) (byte j)) behind.0;
+        readable = subst (λ (b : ℕ). IsReadable d.nfa (Some b)) byte behind.1;
+      }
+
+-- on from there
+pub arrived-next : (d : Dfa) (sound : IsSound d) (forward : d.nfa.reverse ≡ false) (v : InputValue) (in_order : v.start ≤ v.end)
+    (spanned : v.end ≤ length v.haystack) (bytes : AreBytes v.haystack) {F C : Type 0} (holds : F → C → ℕ → Key → Type 0) (a : F) (old new : C)
+    (before next place : ℕ) (r r' : Progress) → v.start ≤ place → place < v.end
+    → Arrives holds a old new before next d v place (slice_index v.haystack place) r
+    → is_dead (next_key d (key_ahead d v place) (slice_index v.haystack place)) ≡ false
+    → r' ≡ met_within (is_permitted d.nfa.utf8 v.haystack) (next_key d (key_ahead d v place) (slice_index v.haystack place)).matches place r
+    → GoingAhead holds a new next d v (place + 1) r'
+arrived-next d sound forward v in_order spanned bytes holds a old new before next place r r' low lt there alive met =
+    let around = forwards d.nfa.terminator v.haystack in
+    let k = first_key d v.anchor (byte_before v.haystack v.start) in
+    going-hold d around (is_permitted d.nfa.utf8 v.haystack) (byte_before v.haystack) (length v.haystack) v.end v.start spanned k holds a old new before next
+    (place + 1) r'
+    (ahead-next d sound forward v in_order spanned bytes nothing_held a old old before before place r r' (slice_index v.haystack place) low lt refl there.past
+    tt there.readable alive met)
+    (subst (holds a new next)
+    (sym (next-key d around (is_permitted d.nfa.utf8 v.haystack) (byte_before v.haystack) (length v.haystack) v.end v.start spanned k place low)) there.held)
 
 -- where the first key is dead
 pub ahead-none : (d : Dfa) (v : InputValue) → v.start ≤ v.end → v.end ≤ length v.haystack → (r : Progress) → r ≡ fresh

@@ -1,9 +1,9 @@
 -- Keys in an arena that grows.
-use Rattle.std.proofs.Common.{◌≡◌, ℕ, ◌+◌, ◌-◌, ◌≤◌, ◌<◌, List, [], ◌∷◌, ◌++◌, length, take, drop, map, refl, sym, ◌∙◌, ap, arith}
-use Rattle.std.proofs.lemmas.List.{length-append, length-drop, take-append-le, drop-append-le, take_at, drop_at, take_all, map_push}
+use Rattle.std.proofs.Common.{◌≡◌, ℕ, ◌-◌, ◌≤◌, List, [], ◌∷◌, ◌++◌, length, take, drop, map, refl, ◌∙◌, ap, arith}
+use Rattle.std.proofs.lemmas.List.{length-append, length-drop, take-append-le, drop-append-le, drop_at, take_all, map_push}
 use Rattle.std.proofs.lemmas.List.Elements.{All-head, All-tail, All-weaker}
 use Rattle.std.proofs.lemmas.Bool.Decides.{nat_tests}
-use Rattle.std.specs.Prelude.{All, Bool, true, false, ◌==◌, Option, Result, Ok, Err, OnErr, slice_range}
+use Rattle.std.specs.Prelude.{All, Bool, ◌==◌, Option, Result, Ok, Err, OnErr, slice_range}
 use Rattle.rx_determinize.specs.Key.{Key, is_empty}
 use Rattle.rx_dfa.specs.KeyRow.{key_in, LiesWithin}
 use Rattle.rx_dfa.specs.declared.lazy.key_row.KeyRow.{KeyRow}

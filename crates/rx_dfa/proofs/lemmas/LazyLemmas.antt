@@ -4,24 +4,30 @@ use Rattle.std.proofs.lemmas.Bool.{cases_lt, cases_eq}
 use Rattle.std.proofs.lemmas.List.{get_or-append_right}
 use Rattle.std.proofs.lemmas.Nat.{div_below, div-mul-add, mod-mul-add}
 use Rattle.std.proofs.lemmas.Option.{same_Some, get_or_from_slice_get}
+use Rattle.std.proofs.Math.Logic.{∥∥₁_map}
 use Rattle.std.specs.Prelude.{Bool, true, false, Option, Some, None, All, IfSome, IsTrue, slice_get, slice_index, nat_lt}
 use Rattle.std.proofs.lemmas.Bool.Decides.{nat_tests}
 use Rattle.rx_model.proofs.lemmas.runs.RunLemmas.{by_test}
 use Rattle.rx_model.specs.Look as model
 use Rattle.rx_model.specs.Look.{start_text, end_text, start_lf, end_lf, start_crlf, end_crlf, word_ascii, word_ascii_negate, word_unicode, word_unicode_negate, word_start_ascii, word_end_ascii, word_start_unicode, word_end_unicode, word_start_half_ascii, word_end_half_ascii, word_start_half_unicode, word_end_half_unicode}
 use Rattle.rx_model.specs.Beside.{is_unicode_word, AreAlike}
+use Rattle.rx_model.specs.Search.{Anchor}
 use Rattle.rx_nfa.specs.ByteClasses.{AreOfOneClass}
 use Rattle.rx_nfa.specs.Nfa.{Nfa}
+use Rattle.rx_nfa.specs.NextMatch.{start_of}
 use Rattle.rx_nfa.proofs.lemmas.classes.ApartLemmas.{one-class-looks}
 use Rattle.rx_determinize.specs.Key.{Key, is_dead, step_key, end_key, start_key}
 use Rattle.rx_determinize.specs.Sight.{class_kept, class_beside, stands_for}
+use Rattle.rx_determinize.specs.Span.{loops_in}
 use Rattle.rx_determinize.proofs.lemmas.OnceLemmas.{start-once, step-once}
 use Rattle.rx_determinize.proofs.lemmas.SightLemmas.{class-steps}
 use Rattle.rx_dfa.specs.Alphabet.{reads}
-use Rattle.rx_dfa.specs.Automaton.{Dfa, IsSound, AsksForWords, MakesQuit, IsReadable, sight_of, next_key, last_key}
-use Rattle.rx_dfa.specs.Lazy.{LazyValue, StandsFor, row_of, IsNext, AreCells, IsLive, unknown, key_after, column_of}
+use Rattle.rx_dfa.specs.Automaton.{Dfa, IsSound, AsksForWords, MakesQuit, IsReadable, sight_of, key_from, first_key, next_key, last_key}
+use Rattle.rx_dfa.specs.States.{IsReached}
+use Rattle.rx_dfa.specs.Lazy.{LazyValue, StandsFor, row_of, IsNext, AreCells, IsLive, unknown, begun_key, key_after, column_of}
 use Rattle.rx_dfa.proofs.lemmas.ChainLemmas.{got-old}
 use Rattle.rx_dfa.proofs.lemmas.FitLemmas.{once-within}
+use Rattle.rx_dfa.proofs.lemmas.ReachLemmas.{reached-first, reached-next, reached-last}
 
 -- Lists.
 
@@ -157,20 +163,23 @@ module _ (d : Dfa) (sound : IsSound d) where
 
 -- the key after a byte is one that a row may have, unless it is dead
 pub live-next : (d : Dfa) → IsSound d → (k : Key) (byte : ℕ) → byte < 256 → IsReadable d.nfa (Some byte) → is_dead (next_key d k byte) ≡ false
-    → All (λ q. q < length d.nfa.states) (next_key d k byte).threads → IsLive d (next_key d k byte)
+    → All (λ q. q < length d.nfa.states) (next_key d k byte).threads → ∥ IsReached d k ∥₁ → IsLive d (next_key d k byte)
 unfolding step_key
-live-next d sound k byte lt readable alive below = record {
+live-next d sound k byte lt readable alive below reached = record {
   alive = alive;
+  reached = ∥∥₁_map reached (λ r. reached-next d k byte r (record { is_byte = lt; readable = readable }));
   below = below;
   few = once-within (length d.nfa.states) (next_key d k byte).threads (step-once d.kind d.nfa.states d.nfa.start_anchored (sight_of d) k byte) below;
   byte = kept-small d sound byte lt;
   readable = kept-readable d sound byte lt readable;
 }
 
-pub live-last : (d : Dfa) (k : Key) → is_dead (last_key d k) ≡ false → All (λ q. q < length d.nfa.states) (last_key d k).threads → IsLive d (last_key d k)
+pub live-last : (d : Dfa) (k : Key) → is_dead (last_key d k) ≡ false → All (λ q. q < length d.nfa.states) (last_key d k).threads → ∥ IsReached d k ∥₁
+    → IsLive d (last_key d k)
 unfolding end_key
-live-last d k alive below = record {
+live-last d k alive below reached = record {
   alive = alive;
+  reached = ∥∥₁_map reached (reached-last d k);
   below = below;
   few = omega arith;
   byte = tt;
@@ -179,10 +188,11 @@ live-last d k alive below = record {
 
 pub live-start : (d : Dfa) (start : ℕ) (loops : Bool) (before : Option ℕ) → is_dead (start_key d.kind d.nfa.states start loops before) ≡ false
     → All (λ q. q < length d.nfa.states) (start_key d.kind d.nfa.states start loops before).threads → IfSome before (λ b. b < 256) → IsReadable d.nfa before
-    → IsLive d (start_key d.kind d.nfa.states start loops before)
+    → ∥ IsReached d (start_key d.kind d.nfa.states start loops before) ∥₁ → IsLive d (start_key d.kind d.nfa.states start loops before)
 unfolding start_key
-live-start d start loops before alive below byte readable = record {
+live-start d start loops before alive below byte readable reached = record {
   alive = alive;
+  reached = reached;
   below = below;
   few = once-within (length d.nfa.states) (start_key d.kind d.nfa.states start loops before).threads (start-once d.kind d.nfa.states start loops before) below;
   byte = byte;
@@ -218,9 +228,9 @@ next-told l keys k (Some b) small state n = let told = n.bytes b small refl in (
 
 -- the key after a byte, or after the end of input, is one that a row may have, unless it is dead
 pub live-after : (d : Dfa) → IsSound d → (k : Key) (byte : Option ℕ) → IfSome byte (λ b. b < 256) → IsReadable d.nfa byte → is_dead (key_after d k byte) ≡ false
-    → All (λ q. q < length d.nfa.states) (key_after d k byte).threads → IsLive d (key_after d k byte)
-live-after d sound k None small readable alive below = live-last d k alive below
-live-after d sound k (Some b) small readable alive below = live-next d sound k b small readable alive below
+    → All (λ q. q < length d.nfa.states) (key_after d k byte).threads → ∥ IsReached d k ∥₁ → IsLive d (key_after d k byte)
+live-after d sound k None small readable alive below reached = live-last d k alive below reached
+live-after d sound k (Some b) small readable alive below reached = live-next d sound k b small readable alive below reached
 
 -- Bytes that are read.
 
@@ -244,3 +254,12 @@ pub beside-readable : (d : Dfa) → IsSound d → (o : Option ℕ) → IfSome o 
     → IsReadable d.nfa (class_beside d.keeps d.classes d.bytes o)
 beside-readable d sound None small readable kind asked word = tt
 beside-readable d sound (Some b) small readable kind asked word = kept-readable d sound b small readable kind asked word
+
+-- the key of a mode's start beside a byte that is read is one that is come to
+pub begun-reached : (d : Dfa) (anchor : Anchor) (beside : Option ℕ) (start : ℕ) (loops : Bool) (before : Option ℕ)
+    → Some start ≡ start_of d.nfa anchor → loops ≡ loops_in anchor → before ≡ class_beside d.keeps d.classes d.bytes beside
+    → IfSome beside (λ b. b < 256) → IsReadable d.nfa beside → ∥ IsReached d (begun_key d start loops before) ∥₁
+begun-reached d anchor beside start loops before begins mode kept small readable =
+    let is : first_key d anchor beside ≡ begun_key d start loops before =
+    (λ j. key_from d.kind d.nfa.states (sym mode j) (sym kept j) (sym begins j)) in
+    ∣ subst (IsReached d) is (reached-first d anchor beside (record { is_byte = small; readable = readable })) ∣₁

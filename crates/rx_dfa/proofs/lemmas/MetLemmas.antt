@@ -10,12 +10,12 @@ use Rattle.rx_nfa.specs.Nfa.{Nfa}
 use Rattle.rx_nfa.specs.NextMatch.{start_of}
 use Rattle.rx_determinize.specs.Key.{start_key}
 use Rattle.rx_determinize.specs.Sight.{class_beside}
-use Rattle.rx_determinize.specs.Span.{loops_in, SeesWhileAlive}
+use Rattle.rx_determinize.specs.Span.{key_at, loops_in, SeesWhileAlive}
 use Rattle.rx_determinize.specs.Permitted.{Progress, fresh, run_within}
 use Rattle.rx_determinize.proofs.lemmas.DeadLemmas.{no-more-within}
-use Rattle.rx_dfa.specs.Automaton.{Dfa, sight_of, no_key, key_from}
-use Rattle.rx_dfa.specs.Course.{IsMetForwards}
-use Rattle.rx_dfa.proofs.lemmas.LooplessLemmas.{start-loopless, run-loopless, sees-loopless, same-start}
+use Rattle.rx_dfa.specs.Automaton.{Dfa, sight_of, no_key, key_from, first_key}
+use Rattle.rx_dfa.specs.Course.{key_of, IsMetForwards}
+use Rattle.rx_dfa.proofs.lemmas.LooplessLemmas.{start-loopless, key-loopless, run-loopless, sees-loopless, same-start}
 
 module _ (d : Dfa) (v : InputValue) (x : Progress) (m : IsMetForwards d v x) where
   abbrev nfa : Nfa
@@ -85,3 +85,19 @@ module _ (d : Dfa) (v : InputValue) (x : Progress) (m : IsMetForwards d v x) whe
         | inl same ↦ same
         | inr early ↦ absurd (true≢false (sym early.1 ∙ ap is_some none))
       ]
+
+-- the keys along a span
+pub keys-from : (d : Dfa) (v : InputValue) (kind : MatchKind) → d.kind ≡ kind → (q : ℕ) → start_of d.nfa v.anchor ≡ Some q → (n : ℕ)
+    → key_of d (forwards d.nfa.terminator v.haystack) n v.start (first_key d v.anchor (byte_before v.haystack v.start))
+    ≡ key_at kind d.nfa.states q (sight_of d) (forwards d.nfa.terminator v.haystack) n v.start
+    (start_key kind d.nfa.states q (loops_in v.anchor) (class_beside d.keeps d.classes d.bytes (byte_before v.haystack v.start)))
+keys-from d v kind told q is n =
+    let states = d.nfa.states in
+    let around = forwards d.nfa.terminator v.haystack in
+    let before = class_beside d.keeps d.classes d.bytes (byte_before v.haystack v.start) in
+    (λ j. key_at (told j) states d.nfa.start_anchored (sight_of d) around n v.start (key_from (told j) states (loops_in v.anchor) before (is j)))
+    ∙ elim (same-start d.nfa v.anchor q is) [
+      | inl over ↦ key-loopless kind states d.nfa.start_anchored q (sight_of d) around n v.start (start_key kind states q (loops_in v.anchor) before)
+          (ap (λ l. (start_key kind states q l before).loops) over ∙ start-loopless kind states q before)
+      | inr same ↦ ap (λ s. key_at kind states s (sight_of d) around n v.start (start_key kind states q (loops_in v.anchor) before)) same
+    ]

@@ -1,7 +1,7 @@
 -- Where the needles of a prefilter lie in a span.
-use Rattle.std.proofs.Common.{◌≡◌, ℕ, ◌+◌, ◌≤◌, ◌<◌, List, [], ◌∷◌, length, take, drop, sym, ◌∙◌, ap, subst, inl, inr, arith, true≢false, get_or, get_or-take, get_or-drop, length-take-le}
+use Rattle.std.proofs.Common.{◌≡◌, ℕ, ◌+◌, ◌≤◌, List, [], ◌∷◌, length, take, drop, sym, ◌∙◌, ap, subst, inl, inr, arith, true≢false, get_or, get_or-take, get_or-drop, length-take-le}
 use Rattle.std.proofs.lemmas.List.{get_or_append_left}
-use Rattle.std.specs.Prelude.{true, Option, Some, None, is_some}
+use Rattle.std.specs.Prelude.{true, Some, None, is_some}
 use Rattle.memchr.specs.Find.{OccursAt, occurs_at}
 use Rattle.memchr.proofs.lemmas.MatchLemmas.{occurs_at-true, OccursAt-true}
 use Rattle.rx_model.specs.Text.{stands_at}

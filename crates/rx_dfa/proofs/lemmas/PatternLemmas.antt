@@ -1,6 +1,6 @@
 -- The pattern of what is found is one of the NFA's.
 use Rattle.std.proofs.Common.{◌≡◌, ℕ, zero, suc, ◌+◌, ◌-◌, ◌≤◌, ◌<◌, List, [], ◌∷◌, length, refl, sym, ◌∙◌, ap, subst, arith}
-use Rattle.std.specs.Prelude.{Bool, true, false, Option, Some, None, option_map, IfSome, ◌==◌, nat_lt}
+use Rattle.std.specs.Prelude.{Bool, true, false, Option, Some, None, IfSome, ◌==◌, nat_lt}
 use Rattle.std.specs.Option.{option_or}
 use Rattle.std.proofs.lemmas.Bool.Decides.{nat_tests}
 use Rattle.std.proofs.lemmas.List.{get_or_past}
@@ -101,12 +101,69 @@ module _ (nfa : Nfa) (range : IsInRange nfa) where
   matching-below All qs = accepted-below qs
   matching-below LeftmostFirst qs = first-below qs
 
+-- Each pattern stands once.
+
+-- each is greater than those before it, and none is below this number
+abbrev AscendsFrom : ℕ → List ℕ → Type 0
+AscendsFrom low [] = Unit {0}
+AscendsFrom low (x ∷ xs) = (low ≤ x) × AscendsFrom (x + 1) xs
+
+with_pattern-ascends : (low p : ℕ) (xs : List ℕ) → low ≤ p → AscendsFrom low xs → AscendsFrom low (with_pattern p xs)
+with_pattern-ascends low p [] le h = (le, tt)
+with_pattern-ascends low p (x ∷ xs) le h =
+    by_test (nat_lt p x)
+    (λ e. let lt : p + 1 ≤ x = grind (arith, nat_tests) in rw e (le, (lt, h.1)))
+    (λ e.
+    by_test (p == x)
+    (λ k. rw (e, k) h)
+    (λ k. let lt : x + 1 ≤ p = grind (arith, nat_tests) in rw (e, k) (h.0, with_pattern-ascends (x + 1) p xs lt h.1)))
+
+with-ascends : (ps : List ℕ) → AscendsFrom 0 ps → (o : Option ℕ) → AscendsFrom 0 (with_accepted o ps)
+with-ascends ps h None = h
+with-ascends ps h (Some p) = with_pattern-ascends 0 p ps (omega arith) h
+
+accepted-ascends : (states : List State) (qs : List ℕ) → AscendsFrom 0 (accepted_by states qs)
+accepted-ascends states [] = tt
+accepted-ascends states (q ∷ qs) = with-ascends (accepted_by states qs) (accepted-ascends states qs) (accepts_in states q)
+
+listed-ascends : (o : Option ℕ) → AscendsFrom 0 (listed o)
+listed-ascends None = tt
+listed-ascends (Some p) = (omega arith, tt)
+
+matching-ascends : (kind : MatchKind) (states : List State) (qs : List ℕ) → AscendsFrom 0 (matching kind states qs)
+matching-ascends All states qs = accepted-ascends states qs
+matching-ascends LeftmostFirst states qs = listed-ascends (first_told (accepts_in states) qs)
+
+-- so there are no more than there are numbers for them
+ascending-short : (n low : ℕ) (xs : List ℕ) → low ≤ n → AscendsFrom low xs → AreBelow n xs → length xs + low ≤ n
+ascending-short n low [] le h below = omega arith
+ascending-short n low (x ∷ xs) le h below =
+    let lt : x < n = All-head (λ q. q < n) x xs below in
+    let up : low ≤ x = h.0 in
+    let rest = ascending-short n (x + 1) xs (omega arith) h.1 (All-tail (λ q. q < n) x xs below) in
+    omega arith
+
+matching-few : (nfa : Nfa) → IsInRange nfa → (kind : MatchKind) (qs : List ℕ) → length (matching kind nfa.states qs) ≤ length nfa.starts
+matching-few nfa range kind qs =
+    let short =
+    ascending-short (length nfa.starts) 0 (matching kind nfa.states qs) (omega arith) (matching-ascends kind nfa.states qs) (matching-below nfa range kind qs)
+    in
+    omega arith
+
 module _ (d : Dfa) (sound : IsSound d) where
-  next-below : (k : Key) (byte : ℕ) → AreBelow (length d.nfa.starts) (next_key d k byte).matches
+  pub next-few : (k : Key) (byte : ℕ) → length (next_key d k byte).matches ≤ length d.nfa.starts
+  unfolding step_key
+  next-few k byte = matching-few d.nfa sound.in_range d.kind (threads_from d.nfa.states ((sight_of d).holds k.before (Some byte)) k.threads)
+
+  pub end-few : (k : Key) (after : Option ℕ) → length (end_of d k after).matches ≤ length d.nfa.starts
+  unfolding end_key
+  end-few k after = matching-few d.nfa sound.in_range d.kind (threads_from d.nfa.states ((sight_of d).holds k.before after) k.threads)
+
+  pub next-below : (k : Key) (byte : ℕ) → AreBelow (length d.nfa.starts) (next_key d k byte).matches
   unfolding step_key
   next-below k byte = matching-below d.nfa sound.in_range d.kind (threads_from d.nfa.states ((sight_of d).holds k.before (Some byte)) k.threads)
 
-  end-below : (k : Key) (after : Option ℕ) → AreBelow (length d.nfa.starts) (end_of d k after).matches
+  pub end-below : (k : Key) (after : Option ℕ) → AreBelow (length d.nfa.starts) (end_of d k after).matches
   unfolding end_key
   end-below k after = matching-below d.nfa sound.in_range d.kind (threads_from d.nfa.states ((sight_of d).holds k.before after) k.threads)
 

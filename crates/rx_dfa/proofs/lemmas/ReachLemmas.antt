@@ -18,7 +18,7 @@ use Rattle.rx_dfa.proofs.lemmas.StateLemmas.{next-dead, last-dead}
 read-none : (d : Dfa) → IsRead d.nfa None
 read-none d = record { is_byte = tt; readable = λ kind asked word. tt }
 
-reached-next : (d : Dfa) (k : Key) (byte : ℕ) → IsReached d k → IsRead d.nfa (Some byte) → IsReached d (next_key d k byte)
+pub reached-next : (d : Dfa) (k : Key) (byte : ℕ) → IsReached d k → IsRead d.nfa (Some byte) → IsReached d (next_key d k byte)
 unfolding key_after
 reached-next d k byte r read = record {
   anchor = r.anchor;
@@ -29,7 +29,7 @@ reached-next d k byte r read = record {
   is = ap (λ (x : Key). next_key d x byte) r.is;
 }
 
-reached-last : (d : Dfa) (k : Key) → IsReached d k → IsReached d (last_key d k)
+pub reached-last : (d : Dfa) (k : Key) → IsReached d k → IsReached d (last_key d k)
 unfolding key_after
 reached-last d k r = record {
   anchor = r.anchor;
@@ -40,7 +40,7 @@ reached-last d k r = record {
   is = ap (λ (x : Key). last_key d x) r.is;
 }
 
-reached-first : (d : Dfa) (anchor : Anchor) (beside : Option ℕ) → IsRead d.nfa beside → IsReached d (first_key d anchor beside)
+pub reached-first : (d : Dfa) (anchor : Anchor) (beside : Option ℕ) → IsRead d.nfa beside → IsReached d (first_key d anchor beside)
 unfolding key_after
 reached-first d anchor beside read = record {
   anchor = anchor;

@@ -1,6 +1,6 @@
 -- A walk of an NFA is a match of its patterns, and a match is a walk.
 use Rattle.std.proofs.Common.{◌≡◌, ◌≢◌, ℕ, zero, suc, ◌+◌, ◌≤◌, List, [], ◌∷◌, length, refl, sym, ◌∙◌, ap, subst, inl, inr, arith, true≢false}
-use Rattle.std.specs.Prelude.{true, false, if◌then◌else◌, ◌==◌, Option, Some, None, option_map, is_some, unwrap_or, slice_get, slice_index, slice_index_or}
+use Rattle.std.specs.Prelude.{true, false, if◌then◌else◌, ◌==◌, Option, Some, None, option_map, is_some, slice_get, slice_index, slice_index_or}
 use Rattle.std.proofs.lemmas.Bool.{and_parts}
 use Rattle.std.proofs.lemmas.Bool.Decides.{Decides-eqb}
 use Rattle.std.proofs.lemmas.Option.{get_or_from_slice_get, slice_get_within, slice_get-get_or}

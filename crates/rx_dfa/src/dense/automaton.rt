@@ -12,7 +12,7 @@ use crate::dense::numbers::QUIT;
 use crate::dense::starts::mode_of;
 use crate::search::parts::{byte_after, byte_before, place_before};
 use crate::step_error::StepError;
-use rx_search::{Anchored, Input, MatchError, PatternID, StateID, Steps};
+use rx_search::{Anchored, Input, MatchError, MatchKind, PatternID, StateID, Steps};
 use std::sync::ledger::Ledger;
 
 impl Automaton for Dense {
@@ -103,6 +103,10 @@ impl Automaton for Dense {
         let row = (state.as_usize() - self.dead.as_usize()) >> self.stride2;
         let patterns = &self.matches[row];
         pattern_at(patterns.as_slice(), index)
+    }
+
+    fn match_kind(&self) -> MatchKind {
+        self.kind
     }
 
     fn is_utf8(&self) -> bool {

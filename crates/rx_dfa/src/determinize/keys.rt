@@ -1,10 +1,12 @@
 //! How keys start, step and end.
-ghost use Rattle.std.specs.Prelude.{◌≡◌, ℕ, ◌<◌, [], ◌∷◌, ◌++◌, length, All, Some, None, OnOk, IfOk};
+ghost use Rattle.std.specs.Prelude.{◌≡◌, ℕ, ◌<◌, [], ◌∷◌, ◌++◌, length, All, Bool, true, Some, None, OnOk, IfOk};
+ghost use Rattle.rx_model.specs.Look.{Look};
 ghost use Rattle.rx_nfa.specs.Automaton.{NamesBelow};
 ghost use Rattle.rx_nfa.specs.Ordered.{AreBelow, threads_from as threads_of, targets, begun};
 ghost use Rattle.rx_determinize.specs.Key.{Sight, Key, arrived as arrived_of, settled, counting, looping, matching, start_key, step_key, end_key};
 ghost use Rattle.rx_determinize.specs.Sight.{holds_along};
 ghost use Rattle.rx_dfa.specs.Beside.{known};
+ghost use Rattle.rx_dfa.specs.Spread.{arrived_key};
 ghost use Rattle.rx_dfa.specs.StateKey.{key_of, StandsBelow};
 ghost use Rattle.rx_dfa.specs.Scratch.{room_of};
 ghost use Rattle.rx_dfa.specs.Source.{IsWhole};
@@ -39,6 +41,31 @@ fn threads_from(
     into.clear();
     step_parts::resting(states, walk.seen.items.as_slice(), into)?;
     Ok(())
+}
+
+/// Puts into `into` the states at which the threads stay that begin in these, whatever look-around holds, and tells whether there are
+/// such: none of the threads comes to look-around.
+fn threads_whatever(
+    states: &[State],
+    matcher: &LookMatcher,
+    from: &[StateID],
+    walk: &mut Walk,
+    into: &mut Vec<StateID>,
+) -> Result<bool, Memory>
+    requires names { All (NamesBelow (length states.now)) states.now }
+    requires from { AreBelow (length states.now) from.now }
+    requires room { length walk.old.seen.marks.items ≡ length states.now }
+    ensures threads { IfOk result (λ same. same ≡ true → (holding : Look → Bool) → into.new.items ≡ threads_of states.now holding from.now) }
+    ensures below { OnOk result (AreBelow (length states.now) into.new.items) }
+    ensures room { length walk.new.seen.marks.items ≡ length states.now }
+{
+    close(states, matcher, Beside::Unknown, from, walk)?;
+    into.clear();
+    if step_parts::one_asks(states, walk.seen.items.as_slice()) {
+        return Ok(false);
+    }
+    step_parts::resting(states, walk.seen.items.as_slice(), into)?;
+    Ok(true)
 }
 
 /// Puts into `into` what stands for these states before the next byte is known.
@@ -195,6 +222,60 @@ impl<'a> Source<'a> {
             &mut into.matches,
         )?;
         Ok(())
+    }
+
+    /// Makes `into` the key after a byte, where threads come to these states over it, and behind them that of the loop.
+    pub fn arrive(
+        &self,
+        reached: &StateKey,
+        scratch: &mut Scratch,
+        into: &mut StateKey,
+    ) -> Result<(), Memory>
+        requires below { StandsBelow (length self.now.states.now) reached.now }
+        requires whole { IsWhole self.now }
+        requires room { room_of scratch.old ≡ length self.now.states.now }
+        ensures key { OnOk result (key_of into.new ≡ arrived_key self.now.kind self.now.states.now self.now.start (key_of reached.now)) }
+        ensures below { OnOk result (StandsBelow (length self.now.states.now) into.new) }
+        ensures room { room_of scratch.new ≡ length self.now.states.now }
+    {
+        scratch.reached.clear();
+        scratch
+            .reached
+            .extend_from_slice(reached.threads.as_slice())?;
+        begin(self.start, reached.loops, &mut scratch.reached)?;
+        arrived(
+            self.states,
+            &self.matcher,
+            scratch.reached.as_slice(),
+            &mut scratch.walk,
+            &mut into.threads,
+        )?;
+        into.matches.clear();
+        into.matches.extend_from_slice(reached.matches.as_slice())?;
+        into.loops = reached.loops;
+        into.before = reached.before;
+        self.settle(into);
+        Ok(())
+    }
+
+    /// Puts into `scratch.threads` the states at which the key's threads stay whatever comes next, and tells whether there are
+    /// such: none of the threads comes to look-around.
+    pub fn stay_whatever(&self, key: &StateKey, scratch: &mut Scratch) -> Result<bool, Memory>
+        requires below { StandsBelow (length self.now.states.now) key.now }
+        requires whole { IsWhole self.now }
+        requires room { room_of scratch.old ≡ length self.now.states.now }
+        ensures threads { IfOk result (λ same. same ≡ true → (holding : Look → Bool)
+            → scratch.new.threads.items ≡ threads_of self.now.states.now holding key.now.threads.items) }
+        ensures below { OnOk result (AreBelow (length self.now.states.now) scratch.new.threads.items) }
+        ensures room { room_of scratch.new ≡ length self.now.states.now }
+    {
+        threads_whatever(
+            self.states,
+            &self.matcher,
+            key.threads.as_slice(),
+            &mut scratch.walk,
+            &mut scratch.threads,
+        )
     }
 
     /// Puts into `scratch.threads` the states at which the key's threads stay, where this is the next byte, or the text ends.

@@ -16,7 +16,7 @@ use crate::lazy::lazy_dfa::Lazy;
 use crate::lazy::numbers::{dead, is_dead_state, is_plain, place_of};
 use crate::search::parts::{byte_after, byte_before, place_before};
 use crate::step_error::StepError;
-use rx_search::{Anchored, Input, MatchError, PatternID, StateID, Steps};
+use rx_search::{Anchored, Input, MatchError, MatchKind, PatternID, StateID, Steps};
 use std::sync::ledger::Ledger;
 
 impl Automaton for Lazy {
@@ -170,6 +170,10 @@ impl Automaton for Lazy {
             .rows
             .keys
             .pattern(place_of(state) / self.stride(), index)
+    }
+
+    fn match_kind(&self) -> MatchKind {
+        self.kind
     }
 
     fn is_utf8(&self) -> bool {

@@ -5,6 +5,7 @@ ghost use Rattle.rx_determinize.specs.Key.{Key, is_dead};
 ghost use Rattle.rx_dfa.specs.Automaton.{IsReadable, StepFails};
 ghost use Rattle.rx_dfa.specs.Clearing.{IsGrown, CountsWhereGaveUp, RowsWhereGaveUp};
 ghost use Rattle.rx_dfa.specs.StateKey.{key_of, StandsBelow};
+ghost use Rattle.rx_dfa.specs.States.{IsReached};
 ghost use Rattle.rx_dfa.specs.Lazy.{StandsFor, IsLive, begun_key, key_after};
 ghost use Rattle.rx_dfa.specs.LazyCache.{IsCacheOf, GaveUpOn, RoomFails};
 
@@ -16,8 +17,9 @@ use crate::step_error::StepError;
 use rx_search::{Memory, StateID};
 
 impl Lazy {
-    /// The state after this byte, or after the end of input, where the search has taken so many steps.
-    #[inline(never)]
+    /// The state after this byte, or after the end of input, where the search has taken so many steps. It is put in line, so that a
+    /// result of its own is filled in where a new state is made, and the loop of a search keeps its result in a register.
+    #[inline(always)]
     pub(crate) fn step(
         &self,
         cache: &mut LazyCache,
@@ -58,6 +60,7 @@ impl Lazy {
     }
 
     /// The state after the key of this row, which is not known.
+    #[inline(never)]
     fn make_step(
         &self,
         cache: &mut LazyCache,
@@ -129,6 +132,7 @@ impl Lazy {
     ) -> Result<StateID, Memory>
         requires fits { IsCacheOf self.now cache.old }
         requires start { start < length self.now.dfa.nfa.states }
+        requires reached { ∥ IsReached self.now.dfa (begun_key self.now.dfa start loops before) ∥₁ }
         requires readable { IsReadable self.now.dfa.nfa before }
         requires byte { IfSome before (λ b. b < 256) }
         ensures state { IfOk result (λ state. StandsFor self.now.stride cache.new.rows.keys state (begun_key self.now.dfa start loops before)) }

@@ -1,21 +1,24 @@
 //! The search for the end of a match, from the start of a span.
-ghost use Rattle.std.specs.Prelude.{◌≡◌, ◌≤◌, ◌+◌, ◌<◌, false, None, IfOk, IfSome, length};
+ghost use Rattle.std.specs.Prelude.{◌≡◌, ◌≤◌, ◌+◌, ◌-◌, ◌<◌, ℕ, false, None, IfOk, IfSome, length, slice_index};
 ghost use Rattle.std.specs.Result.{IfErr};
 ghost use Rattle.rx_model.specs.Search.{Patterns, is_anchored};
-ghost use Rattle.rx_search.specs.Input.{IsSpanned};
+ghost use Rattle.rx_search.specs.Input.{InputValue, IsSpanned};
 ghost use Rattle.rx_search.specs.Matches.{half_match_value};
 ghost use Rattle.rx_search.specs.Promise.{Premises};
 ghost use Rattle.rx_search.specs.Told.{HalfLiesIn};
 ghost use Rattle.rx_search.specs.declared.anchored.MatchKind.TheVariants.{All, LeftmostFirst};
 ghost use Rattle.rx_nfa.specs.Nfa.{IsNfaOf};
+ghost use Rattle.rx_determinize.specs.Key.{Key, is_dead};
 ghost use Rattle.rx_dfa.specs.Automaton.{IsSound};
-ghost use Rattle.rx_dfa.specs.Course.{IsMetForwards};
+ghost use Rattle.rx_dfa.specs.Course.{IsMetForwards, IsPassed};
 ghost use Rattle.rx_dfa.specs.Search.{SearchFails, IsForwardAnswer, IsLastAnswer, IsAnswerFor};
 
 use crate::automaton::Automaton;
-use crate::search::parts::{byte_after, is_permitted_at, last_state, place_error, record};
+use crate::search::parts::{
+    byte_after, is_permitted_at, last_state, place_error, record, tells_every,
+};
 use crate::search::progress::Met;
-use rx_search::{HalfMatch, Input, MatchError, Steps};
+use rx_search::{HalfMatch, Input, MatchError, StateID, Steps};
 use std::marker::Brand;
 use std::sync::ledger::{Blank, Ledger};
 
@@ -52,7 +55,7 @@ pub fn try_search_half_fwd<A: Automaton>(
 }
 
 /// The same, counted on this ledger: where a search records no match, one begins again behind the first end that lies inside a
-/// character. Under `All` a search that begins again finds nothing, since the first one told every end.
+/// character. Under `All` none begins again, since the first one told every end.
 #[inline(never)]
 fn find_end<A: Automaton, L: Ledger>(
     blank: Blank,
@@ -86,6 +89,9 @@ fn find_end<A: Automaton, L: Ledger>(
             return Ok(Some(best));
         }
         if rest.get_anchored().is_anchored() {
+            return Ok(None);
+        }
+        if tells_every(dfa.match_kind()) {
             return Ok(None);
         }
         let Some(refused) = met.refused else {
@@ -125,12 +131,13 @@ fn run_forward<A: Automaton, L: Ledger>(
     }
     let mut at = input.start();
     'bytes: while at < end {
-        state = match dfa.next_state(cache, state, haystack[at], steps) {
-            Ok(next) => next,
-            Err(error) => return Err(place_error(error, at, at)),
+        let (next, place) = match ahead(dfa, cache, state, haystack, at, end, steps) {
+            Ok(passed) => passed,
+            Err(error) => return Err(error),
         };
-        if !dfa.is_special(cache, state) {
-            at += 1;
+        state = next;
+        at = place;
+        if at == end {
             continue;
         }
         let may = is_permitted_at(utf8, haystack, at);
@@ -151,4 +158,74 @@ fn run_forward<A: Automaton, L: Ledger>(
     let may_end = is_permitted_at(utf8, haystack, end);
     let all = record(dfa, cache, last, may_end, end, met);
     Ok(all)
+}
+
+/// Goes on from this state at the place `from`: over plain states to the end, or to the first byte that does not lead to one. Answers
+/// the state at the end, or behind that byte, with the place of the byte. From a state that is not plain it goes over one byte.
+#[inline(always)]
+fn ahead<A: Automaton, L: Ledger>(
+    dfa: &A,
+    cache: &mut A::Cache,
+    state: StateID,
+    haystack: &[u8],
+    from: usize,
+    end: usize,
+    steps: &mut Steps<L>,
+) -> Result<(StateID, usize), MatchError>
+    requires fits { A.fits dfa.now cache.old }
+    requires held { (key : Key) × A.holds dfa.now cache.old state key }
+    requires some { from < end }
+    requires within { end ≤ length haystack.now }
+    ensures passed { (key : Key) → A.holds dfa.now cache.old state key → is_dead key ≡ false
+        → IfOk result (λ p. IsPassed (A.holds dfa.now cache.new) (A.dfa dfa.now) (λ i. slice_index haystack.now (from + i)) key (p.1 - from) (end - from) p.0) }
+    ensures between { IfOk result (λ p. (from ≤ p.1) × (p.1 ≤ end)) }
+    ensures err { (v : InputValue) → v.haystack ≡ haystack.now → v.start ≤ from → end ≤ v.end
+        → IfErr result (SearchFails (A.dfa dfa.now).nfa v (A.gives_up dfa.now cache.new) (A.wants dfa.now)) }
+    ensures fits { A.fits dfa.now cache.new }
+{
+    if dfa.is_special(cache, state) {
+        return match dfa.next_state(cache, state, haystack[from], steps) {
+            Ok(next) => Ok((next, from)),
+            Err(error) => Err(place_error(error, from, from)),
+        };
+    }
+    pass(dfa, cache, state, haystack, from, end, steps)
+}
+
+/// The same from a plain state. So the compiler knows of each state from which this loop steps that it is plain.
+#[inline(always)]
+fn pass<A: Automaton, L: Ledger>(
+    dfa: &A,
+    cache: &mut A::Cache,
+    state: StateID,
+    haystack: &[u8],
+    from: usize,
+    end: usize,
+    steps: &mut Steps<L>,
+) -> Result<(StateID, usize), MatchError>
+    requires fits { A.fits dfa.now cache.old }
+    requires held { (key : Key) × A.holds dfa.now cache.old state key }
+    requires some { from < end }
+    requires within { end ≤ length haystack.now }
+    ensures passed { (key : Key) → A.holds dfa.now cache.old state key → is_dead key ≡ false
+        → IfOk result (λ p. IsPassed (A.holds dfa.now cache.new) (A.dfa dfa.now) (λ i. slice_index haystack.now (from + i)) key (p.1 - from) (end - from) p.0) }
+    ensures between { IfOk result (λ p. (from ≤ p.1) × (p.1 ≤ end)) }
+    ensures err { (v : InputValue) → v.haystack ≡ haystack.now → v.start ≤ from → end ≤ v.end
+        → IfErr result (SearchFails (A.dfa dfa.now).nfa v (A.gives_up dfa.now cache.new) (A.wants dfa.now)) }
+    ensures fits { A.fits dfa.now cache.new }
+{
+    let mut here = state;
+    let mut at = from;
+    'plain: while at < end {
+        let next = match dfa.next_state(cache, here, haystack[at], steps) {
+            Ok(next) => next,
+            Err(error) => return Err(place_error(error, at, at)),
+        };
+        if dfa.is_special(cache, next) {
+            return Ok((next, at));
+        }
+        here = next;
+        at += 1;
+    }
+    Ok((here, at))
 }

@@ -1,8 +1,9 @@
 //! What a search in either direction is made of.
-ghost use Rattle.std.specs.Prelude.{◌≡◌, ◌≤◌, ◌-◌, ℕ, Bool, false, length, IfOk, OnOk};
+ghost use Rattle.std.specs.Prelude.{◌≡◌, ◌≤◌, ◌-◌, ◌↔◌, ℕ, Bool, true, false, length, IfOk, OnOk, IsTrue};
 ghost use Rattle.std.specs.Result.{IfErr};
 ghost use Rattle.rx_model.specs.Look.{byte_before, byte_after};
 ghost use Rattle.rx_model.specs.Search.{is_permitted};
+ghost use Rattle.rx_search.specs.declared.anchored.MatchKind.TheVariants.{All};
 ghost use Rattle.rx_determinize.specs.Key.{Key, is_dead};
 ghost use Rattle.rx_determinize.specs.Permitted.{met_within};
 ghost use Rattle.rx_dfa.specs.Automaton.{IsReadable, StartFails};
@@ -11,7 +12,7 @@ ghost use Rattle.rx_dfa.specs.Course.{placed, end_of};
 use crate::automaton::Automaton;
 use crate::search::progress::Met;
 use crate::step_error::StepError;
-use rx_search::{MatchError, StateID, Steps, is_character_boundary};
+use rx_search::{MatchError, MatchKind, StateID, Steps, is_character_boundary};
 use std::sync::ledger::Ledger;
 
 /// The error of a search that is at `place`, where the step over the byte at `beside` had this one.
@@ -25,6 +26,16 @@ pub(crate) fn place_error(error: StepError, beside: usize, place: usize) -> Matc
         },
         StepError::GaveUp => MatchError::GaveUp { offset: place },
         StepError::Memory => MatchError::Memory,
+    }
+}
+
+/// Whether every match is told, and not the preferred one alone.
+pub(crate) fn tells_every(kind: MatchKind) -> bool
+    ensures { IsTrue result ↔ (kind ≡ All) }
+{
+    match kind {
+        MatchKind::All => true,
+        MatchKind::LeftmostFirst => false,
     }
 }
 

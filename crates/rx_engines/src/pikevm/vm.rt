@@ -5,7 +5,7 @@ ghost use Rattle.rx_search.specs.Input.{next_in};
 ghost use Rattle.rx_search.specs.Matches.{match_value};
 ghost use Rattle.rx_search.specs.PatternSet.{has};
 ghost use Rattle.rx_search.specs.declared.anchored.MatchKind.TheVariants.{All};
-ghost use Rattle.rx_engines.specs.Sets.{MatchesIn, KeepsMembers, GainsMatching, IsFilledFor};
+ghost use Rattle.rx_search.specs.Sets.{MatchesIn, KeepsMembers, GainsMatching, IsFilledFor};
 ghost use Rattle.rx_search.specs.Told.{IsMatchWith, HasSlots, AreWithin, LiesIn, matched_pattern};
 ghost use Rattle.rx_nfa.specs.Nfa.{IsNfaOf};
 ghost use Rattle.rx_nfa.specs.NextMatch.{next_match_in};

@@ -46,7 +46,7 @@ fn extend_or_push(row: &mut Vec<Transition>, byte: u8, next: StateID) -> Result<
 }
 
 /// The state that has these transitions.
-fn reader(row: Vec<Transition>) -> State
+pub fn reader(row: Vec<Transition>) -> State
     ensures { reading result ≡ Some row.items }
 {
     match row.len() {

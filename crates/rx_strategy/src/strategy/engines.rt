@@ -1,28 +1,36 @@
-//! The strategy that runs engines over an NFA.
-ghost use Rattle.std.specs.Prelude.{◌≡◌, ◌≤◌, ◌<◌, ◌+◌, ◌-◌, ◌*◌, ◌^◌, min, List, true, false, length, None, replicate, is_some};
-ghost use Rattle.std.specs.Prelude.{IfOk, OnOk, OnErr, IsOk, IfNone, IfSome, IsSomeAnd, IsTrue, MatchOption};
+//! The strategy that runs DFAs and engines over an NFA.
+ghost use Rattle.std.specs.Prelude.{◌≡◌, ◌≤◌, ◌<◌, List, true, false, length, None, replicate, is_some};
+ghost use Rattle.std.specs.Prelude.{Some, option_copied, IfOk, OnOk, OnErr, IsOk, IfNone, IfSome, IsSomeAnd, IsTrue, MatchOption};
 ghost use Rattle.rx_model.specs.Expression.{Expression, alternation};
-ghost use Rattle.rx_model.specs.Search.{Patterns};
+ghost use Rattle.rx_model.specs.Search.{Patterns, is_anchored};
 ghost use Rattle.rx_search.specs.Input.{IsSpanned, next_in, span_len};
-ghost use Rattle.rx_search.specs.Matches.{match_value};
-ghost use Rattle.rx_engines.specs.Sets.{KeepsMembers, AddsMatching, IsFilled};
-ghost use Rattle.rx_search.specs.Told.{tells, AreWithin, LiesIn};
-ghost use Rattle.rx_hir.specs.Cost.{state_size};
+ghost use Rattle.rx_search.specs.Matches.{match_value, half_match_value};
+ghost use Rattle.rx_search.specs.Promise.{Premises};
+ghost use Rattle.rx_search.specs.Told.{tells, AreWithin, LiesIn, HalfLiesIn};
+ghost use Rattle.rx_search.specs.declared.anchored.MatchKind.TheVariants.{LeftmostFirst};
+ghost use Rattle.rx_search.specs.Sets.{KeepsMembers, AddsMatching, IsFilled, IsFilledFor};
 ghost use Rattle.rx_hir.specs.Normal.{expressions};
 ghost use Rattle.rx_hir.specs.PropertiesViews.{AreOf};
 ghost use Rattle.rx_engines.specs.Bounded.{Fits as FitsBounded, max_len};
+ghost use Rattle.rx_dfa.specs.Search.{IsAnswerFor};
 ghost use Rattle.rx_engines.specs.Needles.{BeginsEachRun};
 ghost use Rattle.rx_search.specs.Answer.{IsAnswer, AreSlotsOfAnswer, TellsWhether};
-ghost use Rattle.rx_strategy.specs.Cache.{FitsCore, FitsBacktracker, FitsAsBefore, StillFits, backtrack_memory, memory_of, accounted_backtrack, accounted_core};
+ghost use Rattle.rx_strategy.specs.Cache.{FitsCore, FitsBacktracker, FitsAsBefore, StillFits, backtrack_memory, AccountsAlikeIn, HoldsNoStates};
+ghost use Rattle.rx_strategy.specs.Cache.{memory_of, accounted_backtrack, accounted_core};
+ghost use Rattle.rx_strategy.specs.Availability.{AreDfasBeside};
 ghost use Rattle.rx_strategy.specs.Config.{kind_of, captures_of, has_backtracker};
-ghost use Rattle.rx_strategy.specs.Core.{CoreValue, IsCoreFor, AreKnownOf, IsSearched};
-ghost use Rattle.rx_strategy.specs.Impossible.{is_impossible};
+ghost use Rattle.rx_strategy.specs.Core.{CoreValue, IsCoreFor, AreKnownOf, IsSearched, IsToldFor, core_memory, reverse_memory};
+ghost use Rattle.rx_strategy.specs.Dfas.{ServeNfa};
+ghost use Rattle.rx_strategy.specs.Impossible.{is_always_anchored_start, is_impossible};
+ghost use Rattle.rx_strategy.specs.Narrow.{IsLenOf};
 ghost use Rattle.rx_strategy.specs.Nofail.{IsAskedFor};
-ghost use Rattle.rx_strategy.specs.Prefilter.{prefilter_memory};
 
 use crate::cache::Cache;
 use crate::config::{Config, shared};
+use crate::dfas::{Dfas, NoAnswer};
+use crate::found::half_match;
 use crate::info::RegexInfo;
+use crate::narrow::{match_of_len, narrowed};
 use crate::prefilter::memory_usage as accounted;
 use crate::span::leave_span;
 use rx_engines::backtrack::{self, BoundedBacktracker};
@@ -31,19 +39,24 @@ use rx_engines::pikevm::PikeVM;
 use rx_hir::Properties;
 use rx_nfa::{NFA, WhichCaptures};
 use rx_prefilter::Prefilter;
-use rx_search::{Input, Match, Memory, NonMaxUsize, PatternSet};
+use rx_search::{Anchored, HalfMatch, Input, Match, MatchKind, Memory, NonMaxUsize, PatternSet};
 use std::alloc::Global;
 use std::marker::Model;
 
-/// The engines over one NFA: the bounded backtracker where it serves, and else the PikeVM. Which of them serves a
-/// search changes no answer that is promised.
+/// The DFAs and the engines over one NFA. A search asks the DFAs, where they are there; where they have no answer, it asks an engine
+/// that always answers: the bounded backtracker where it serves, and else the PikeVM. Which of them serves a search changes no
+/// answer that is promised.
 #[derive(Drop)]
 pub struct Core {
     pikevm: PikeVM,
+    kind: MatchKind,
     backtrack: Option<BoundedBacktracker>,
     which_captures: WhichCaptures,
     pre: Option<Prefilter>,
     info: RegexInfo,
+    /// The NFA that reads backwards, where DFAs are asked for.
+    reverse: Option<NFA>,
+    dfas: Dfas,
 }
 
 impl Model for Core {
@@ -51,6 +64,7 @@ impl Model for Core {
     ghost use Rattle.rx_search.specs.declared.anchored.MatchKind.TheVariants.{LeftmostFirst};
     ghost use Rattle.rx_nfa.specs.Config.{captures_kind};
     ghost use Rattle.rx_strategy.specs.Core.{CoreValue, AreKnownOf};
+    ghost use Rattle.rx_strategy.specs.Dfas.{ServeNfa};
 
     ghost Value = { CoreValue };
 
@@ -61,10 +75,13 @@ impl Model for Core {
       backtracks = is_some c.backtrack;
       pre = c.pre;
       properties = c.info.properties;
+      reverse = c.reverse;
+      dfas = c.dfas;
     } };
 
     ghost invariant = { λ c. IfSome c.backtrack (λ b. (b.nfa ≡ c.pikevm.nfa) × (b.pre ≡ c.pre) × (c.pikevm.kind ≡ LeftmostFirst))
-        × AreKnownOf c.info.properties c.pikevm.nfa × (c.pikevm.pre ≡ c.pre) };
+        × AreKnownOf c.info.properties c.pikevm.nfa × (c.pikevm.pre ≡ c.pre) × ServeNfa c.pikevm.nfa c.pikevm.kind c.reverse c.dfas
+        × (c.kind ≡ c.pikevm.kind) };
 }
 
 /// An engine that answers each search that it is asked for.
@@ -74,32 +91,43 @@ pub(crate) enum Nofail<'a> {
 }
 
 impl Core {
-    /// The core of this NFA, which was built under the configuration, with what is known of its patterns. It searches with
-    /// this prefilter, where there is one.
+    /// The core of this NFA and of the one that reads backwards, if it is there, which were built under the configuration, with what is
+    /// known of its patterns. It searches with this prefilter, where there is one.
     pub(crate) fn new(
+        alloc: Global,
         config: &Config,
         nfa: NFA,
+        reverse: Option<NFA>,
         info: RegexInfo,
         pre: Option<Prefilter>,
     ) -> Result<Core, Memory>
-        requires { AreKnownOf info.properties nfa }
-        ensures { IfOk result (λ core. core ≡ record {
+        requires known { AreKnownOf info.properties nfa }
+        requires reads { (nfa.reverse ≡ false) × IfSome reverse (λ back. (back.reverse ≡ true) × (back.utf8 ≡ nfa.utf8) × (back.accounted ≡ nfa.accounted)) }
+        ensures core { IfOk result (λ core. core ≡ record {
           nfa = nfa;
           kind = kind_of config.now;
           which_captures = captures_of config.now;
           backtracks = has_backtracker config.now;
           pre = pre;
           properties = info.properties;
+          reverse = reverse;
+          dfas = core.dfas;
         }) }
+        ensures dfas { IfOk result (λ core. AreDfasBeside config.now nfa reverse core.dfas) }
     {
+        let kind = config.get_match_kind();
         let backtrack = backtracker(config, &nfa, &pre)?;
+        let dfas = Dfas::new(alloc, config, &nfa, reverse.as_ref())?;
         let own = shared(pre.as_ref())?;
         Ok(Core {
-            pikevm: PikeVM::build_from_nfa(nfa, config.get_match_kind(), own),
+            pikevm: PikeVM::build_from_nfa(nfa, kind, own),
+            kind,
             backtrack,
             which_captures: config.get_which_captures(),
             pre,
             info,
+            reverse,
+            dfas,
         })
     }
 
@@ -110,11 +138,14 @@ impl Core {
         self.pikevm.get_nfa()
     }
 
-    /// The bytes that are accounted for the core itself: those of its prefilter and of its NFA.
+    /// The bytes that are accounted for the core itself: those of its prefilter, of its NFAs, and of the tables of full DFAs.
     pub(crate) fn memory_usage(&self) -> usize
-        ensures { result ≡ min (2 ^ 64 - 1) (prefilter_memory self.now.pre + state_size * self.now.nfa.accounted) }
+        ensures { result ≡ core_memory self.now }
     {
-        accounted(&self.pre).saturating_add(self.get_nfa().memory_usage())
+        accounted(&self.pre)
+            .saturating_add(self.get_nfa().memory_usage())
+            .saturating_add(reverse_memory(&self.reverse))
+            .saturating_add(self.dfas.memory_usage())
     }
 
     /// Whether it is known that there is no match in the input's span.
@@ -131,15 +162,18 @@ impl Core {
     pub(crate) fn create_cache(&self, alloc: Global) -> Result<Cache, Memory>
         ensures fits { IfOk result (FitsCore self.now) }
         ensures memory { IfOk result (λ c. memory_of c ≡ accounted_core self.now) }
+        ensures empty { IfOk result HoldsNoStates }
     {
         let pikevm = self.pikevm.create_cache(alloc)?;
         let backtrack = self.backtrack_cache(alloc)?;
+        let lazies = self.dfas.create_cache(alloc)?;
         let memory = pikevm
             .memory_usage()
             .saturating_add(memory_usage(&backtrack));
         Ok(Cache {
             pikevm,
             backtrack,
+            lazies,
             memory,
         })
     }
@@ -159,12 +193,15 @@ impl Core {
     pub(crate) fn reset_cache(&self, alloc: Global, cache: &mut Cache) -> Result<(), Memory>
         ensures fits { OnOk result (FitsCore self.now cache.new) }
         ensures memory { OnOk result (memory_of cache.new ≡ accounted_core self.now) }
+        ensures empty { OnOk result (HoldsNoStates cache.new) }
         ensures err { OnErr result (FitsAsBefore cache.old cache.new) }
         ensures sure { FitsCore self.now cache.old → IsOk result }
-        ensures kept { StillFits cache.old cache.new }
+        ensures kept { FitsCore self.now cache.old → StillFits cache.old cache.new }
     {
         cache.pikevm.reset(alloc, &self.pikevm)?;
         let backtrack = self.reset_backtrack(alloc, &mut cache.backtrack)?;
+        // What the lazy DFAs of another core left would be wrong here.
+        self.dfas.reset_cache(alloc, &mut cache.lazies)?;
         cache.memory = cache.pikevm.memory_usage().saturating_add(backtrack);
         Ok(())
     }
@@ -204,10 +241,46 @@ impl Core {
         requires spanned { IsSpanned input.now }
         ensures value { TellsWhether (IsCoreFor self.now) self.now.pre input.now result }
         ensures cache { FitsCore self.now cache.new }
-        ensures memory { memory_of cache.new ≡ memory_of cache.old }
+        ensures memory { AccountsAlikeIn self.now cache.old cache.new }
     {
-        // It can stop at the first match (DECISIONS: `is_match` always asks the `PikeVM`).
-        self.pikevm.is_match(&mut cache.pikevm, input)
+        match self.try_is_match(cache, input) {
+            Ok(there) => there,
+            // It can stop at the first match (DECISIONS: of the engines that always answer).
+            Err(_) => self.pikevm.is_match(&mut cache.pikevm, input),
+        }
+    }
+
+    /// The end of the next match in the input's span, with its pattern, where matches are told. A DFA reads nothing backwards for it.
+    pub(crate) fn search_half(&self, cache: &mut Cache, input: &Input<'_>) -> Option<HalfMatch>
+        requires fits { FitsCore self.now cache.old }
+        requires spanned { IsSpanned input.now }
+        ensures answer { IsAnswer (IsCoreFor self.now) self.now.pre self.now.kind input.now half_match_value result }
+        ensures within { IfSome result (HalfLiesIn input.now) }
+        ensures in_range { IfSome result (λ half. half.pattern < length self.now.nfa.starts) }
+        ensures cache { FitsCore self.now cache.new }
+        ensures memory { AccountsAlikeIn self.now cache.old cache.new }
+    {
+        if self.tells() {
+            return self.search_half_told(cache, input);
+        }
+        None
+    }
+
+    /// The same, where matches are told.
+    fn search_half_told(&self, cache: &mut Cache, input: &Input<'_>) -> Option<HalfMatch>
+        requires fits { FitsCore self.now cache.old }
+        requires spanned { IsSpanned input.now }
+        requires told { tells self.now.which_captures ≡ true }
+        ensures answer { IsAnswer (IsCoreFor self.now) self.now.pre self.now.kind input.now half_match_value result }
+        ensures within { IfSome result (HalfLiesIn input.now) }
+        ensures in_range { IfSome result (λ half. half.pattern < length self.now.nfa.starts) }
+        ensures cache { FitsCore self.now cache.new }
+        ensures memory { AccountsAlikeIn self.now cache.old cache.new }
+    {
+        match self.try_search_half(cache, input) {
+            Ok(found) => found,
+            Err(_) => half_match(self.search_nofail(cache, input, &mut [])),
+        }
     }
 
     /// Adds patterns that have a match in the input's span to the set, under each kind of captures.
@@ -224,7 +297,44 @@ impl Core {
         ensures matching { AddsMatching (IsCoreFor self.now) self.now.pre input.now set.old set.new }
         ensures filled { IsFilled (IsCoreFor self.now) self.now.pre input.now set.old set.new self.now.kind }
         ensures cache { FitsCore self.now cache.new }
-        ensures memory { memory_of cache.new ≡ memory_of cache.old }
+        ensures memory { AccountsAlikeIn self.now cache.old cache.new }
+    {
+        if let Ok(()) = self.try_which_overlapping(cache, input, set) {
+            return;
+        }
+        self.which_overlapping_nofail(cache, input, set);
+    }
+
+    /// The same by the DFA that reads forwards, or no answer. Then what was added stays.
+    fn try_which_overlapping(
+        &self,
+        cache: &mut Cache,
+        input: &Input<'_>,
+        set: &mut PatternSet,
+    ) -> Result<(), NoAnswer>
+        requires fits { FitsCore self.now cache.old }
+        requires room { length self.now.nfa.starts ≤ length set.old }
+        ensures kept { KeepsMembers set.old set.new }
+        ensures matching { AddsMatching (IsCoreFor self.now) self.now.pre input.now set.old set.new }
+        ensures filled { (r : Patterns) → Premises (IsCoreFor self.now r) self.now.pre r input.now
+            → OnOk result (IsFilledFor r input.now set.old set.new self.now.kind) }
+        ensures cache { FitsCore self.now cache.new }
+        ensures memory { AccountsAlikeIn self.now cache.old cache.new }
+    {
+        self.get_dfas()
+            .try_which_overlapping(&mut cache.lazies, input, set)
+    }
+
+    /// The same by an engine that always answers.
+    fn which_overlapping_nofail(&self, cache: &mut Cache, input: &Input<'_>, set: &mut PatternSet)
+        requires fits { FitsCore self.now cache.old }
+        requires room { length self.now.nfa.starts ≤ length set.old }
+        requires spanned { IsSpanned input.now }
+        ensures kept { KeepsMembers set.old set.new }
+        ensures matching { AddsMatching (IsCoreFor self.now) self.now.pre input.now set.old set.new }
+        ensures filled { IsFilled (IsCoreFor self.now) self.now.pre input.now set.old set.new self.now.kind }
+        ensures cache { FitsCore self.now cache.new }
+        ensures memory { AccountsAlikeIn self.now cache.old cache.new }
     {
         let threads = &mut cache.pikevm;
         self.pikevm.which_overlapping_matches(threads, input, set);
@@ -253,7 +363,7 @@ impl Core {
         ensures none { IfNone result (slots.new ≡ replicate (length slots.old) None) }
         ensures slots_within { AreWithin input.now slots.new }
         ensures cache { FitsCore self.now cache.new }
-        ensures memory { memory_of cache.new ≡ memory_of cache.old }
+        ensures memory { AccountsAlikeIn self.now cache.old cache.new }
     {
         if self.tells() {
             return self.search_told(cache, input, slots);
@@ -280,16 +390,272 @@ impl Core {
         ensures none { IfNone result (slots.new ≡ replicate (length slots.old) None) }
         ensures slots_within { AreWithin input.now slots.new }
         ensures cache { FitsCore self.now cache.new }
-        ensures memory { memory_of cache.new ≡ memory_of cache.old }
+        ensures memory { AccountsAlikeIn self.now cache.old cache.new }
     {
         // Two slots a pattern (DECISIONS: where a match's span is asked for alone, an engine keeps no slots).
         if slots.len() > 2 * self.get_nfa().pattern_len() {
-            return self.search_nofail(cache, input, slots);
+            return self.search_groups(cache, input, slots);
         }
         let _haystack = input.haystack();
-        let found = self.search_nofail(cache, input, &mut []);
+        let found = self.search_span(cache, input);
         leave_span(&found, slots);
         found
+    }
+
+    /// The next match in the input's span, without its slots, where matches are told.
+    fn search_span(&self, cache: &mut Cache, input: &Input<'_>) -> Option<Match>
+        requires fits { FitsCore self.now cache.old }
+        requires spanned { IsSpanned input.now }
+        requires told { tells self.now.which_captures ≡ true }
+        ensures answer { IsAnswer (IsCoreFor self.now) self.now.pre self.now.kind input.now match_value result }
+        ensures within { IfSome result (LiesIn input.now) }
+        ensures in_range { IfSome result (λ m. m.pattern < length self.now.nfa.starts) }
+        ensures cache { FitsCore self.now cache.new }
+        ensures memory { AccountsAlikeIn self.now cache.old cache.new }
+    {
+        match self.try_search_mayfail(cache, input) {
+            Ok(found) => found,
+            Err(_) => self.search_nofail(cache, input, &mut []),
+        }
+    }
+
+    /// The next match in the input's span, with slots of groups: the DFAs find the span of a match, and an engine that keeps slots reads
+    /// no more than that.
+    fn search_groups(
+        &self,
+        cache: &mut Cache,
+        input: &Input<'_>,
+        slots: &mut [Option<NonMaxUsize>],
+    ) -> Option<Match>
+        requires fits { FitsCore self.now cache.old }
+        requires spanned { IsSpanned input.now }
+        ensures told { (r : Patterns) → Premises (IsCoreFor self.now r) self.now.pre r input.now
+            → IsToldFor self.now.kind r input.now slots.new result }
+        ensures within { IfSome result (LiesIn input.now) }
+        ensures in_range { IfSome result (λ m. m.pattern < length self.now.nfa.starts) }
+        ensures none { IfNone result (slots.new ≡ replicate (length slots.old) None) }
+        ensures slots_within { AreWithin input.now slots.new }
+        ensures cache { FitsCore self.now cache.new }
+        ensures memory { AccountsAlikeIn self.now cache.old cache.new }
+    {
+        match self.try_search_mayfail(cache, input) {
+            Ok(found) => self.search_found(cache, input, &found, slots),
+            Err(_) => self.search_nofail(cache, input, slots),
+        }
+    }
+
+    /// A match with its slots, where the DFAs answered this one, if any: anchored to its pattern its span has a match, which is the same
+    /// where it is the next one.
+    fn search_found(
+        &self,
+        cache: &mut Cache,
+        input: &Input<'_>,
+        found: &Option<Match>,
+        slots: &mut [Option<NonMaxUsize>],
+    ) -> Option<Match>
+        requires fits { FitsCore self.now cache.old }
+        requires spanned { IsSpanned input.now }
+        requires lies { IfSome found.now (LiesIn input.now) }
+        ensures told { (r : Patterns) → IsCoreFor self.now r → IsAnswerFor self.now.kind r input.now match_value found.now
+            → IsToldFor self.now.kind r input.now slots.new result }
+        ensures within { IfSome result (LiesIn input.now) }
+        ensures in_range { IfSome result (λ m. m.pattern < length self.now.nfa.starts) }
+        ensures none { IfNone result (slots.new ≡ replicate (length slots.old) None) }
+        ensures slots_within { AreWithin input.now slots.new }
+        ensures cache { FitsCore self.now cache.new }
+        ensures memory { AccountsAlikeIn self.now cache.old cache.new }
+    {
+        match found {
+            Some(found) => {
+                let part = narrowed(input, found);
+                self.search_nofail(cache, &part, slots)
+            }
+            None => {
+                empty(slots);
+                None
+            }
+        }
+    }
+
+    /// Whether there is a match in the input's span, by a DFA that stops at the first one, or no answer.
+    fn try_is_match(&self, cache: &mut Cache, input: &Input<'_>) -> Result<bool, NoAnswer>
+        requires fits { FitsCore self.now cache.old }
+        ensures value { (r : Patterns) → Premises (IsCoreFor self.now r) self.now.pre r input.now → IfOk result (λ there. there ≡ is_some (next_in r input.now)) }
+        ensures cache { FitsCore self.now cache.new }
+        ensures memory { AccountsAlikeIn self.now cache.old cache.new }
+    {
+        let mut any = input.clone();
+        any.set_earliest(true);
+        match self.try_search_half(cache, &any) {
+            Ok(found) => Ok(found.is_some()),
+            Err(error) => Err(error),
+        }
+    }
+
+    /// A match in the input's span by the DFAs, or no answer: the next one, or where any will do, or under `All`, some match.
+    fn try_search_mayfail(
+        &self,
+        cache: &mut Cache,
+        input: &Input<'_>,
+    ) -> Result<Option<Match>, NoAnswer>
+        requires fits { FitsCore self.now cache.old }
+        requires spanned { IsSpanned input.now }
+        ensures answer { (r : Patterns) → Premises (IsCoreFor self.now r) self.now.pre r input.now
+            → IfOk result (IsAnswerFor self.now.kind r input.now match_value) }
+        ensures within { IfOk result (λ found. IfSome found (LiesIn input.now)) }
+        ensures in_range { IfOk result (λ found. IfSome found (λ m. m.pattern < length self.now.nfa.starts)) }
+        ensures cache { FitsCore self.now cache.new }
+        ensures memory { AccountsAlikeIn self.now cache.old cache.new }
+    {
+        match self.info.fixed_len() {
+            Some(len) => self.try_search_of_len(cache, input, len),
+            None => self.try_search_both(cache, input),
+        }
+    }
+
+    /// The same where all matches have this length: nothing is read backwards.
+    fn try_search_of_len(
+        &self,
+        cache: &mut Cache,
+        input: &Input<'_>,
+        len: usize,
+    ) -> Result<Option<Match>, NoAnswer>
+        requires fits { FitsCore self.now cache.old }
+        requires spanned { IsSpanned input.now }
+        requires len { (h : Expression) → AreOf h self.now.properties → IsLenOf h len }
+        ensures answer { (r : Patterns) → Premises (IsCoreFor self.now r) self.now.pre r input.now
+            → IfOk result (IsAnswerFor self.now.kind r input.now match_value) }
+        ensures within { IfOk result (λ found. IfSome found (LiesIn input.now)) }
+        ensures in_range { IfOk result (λ found. IfSome found (λ m. m.pattern < length self.now.nfa.starts)) }
+        ensures cache { FitsCore self.now cache.new }
+        ensures memory { AccountsAlikeIn self.now cache.old cache.new }
+    {
+        match self.try_search_half(cache, input) {
+            Ok(found) => Ok(match_of_len(input, found, len)),
+            Err(error) => Err(error),
+        }
+    }
+
+    /// The same by the DFA that reads forwards, for the end, and then by that which reads backwards, for the start.
+    fn try_search_both(
+        &self,
+        cache: &mut Cache,
+        input: &Input<'_>,
+    ) -> Result<Option<Match>, NoAnswer>
+        requires { FitsCore self.now cache.old }
+        ensures answer { (r : Patterns) → Premises (IsCoreFor self.now r) self.now.pre r input.now
+            → IfOk result (IsAnswerFor self.now.kind r input.now match_value) }
+        ensures within { IfOk result (λ found. IfSome found (LiesIn input.now)) }
+        ensures in_range { IfOk result (λ found. IfSome found (λ m. m.pattern < length self.now.nfa.starts)) }
+        ensures cache { FitsCore self.now cache.new }
+        ensures memory { AccountsAlikeIn self.now cache.old cache.new }
+    {
+        let found = match self.try_search_half(cache, input) {
+            Ok(found) => found,
+            Err(error) => return Err(error),
+        };
+        match found {
+            Some(end) => self.try_search_start(cache, input, end),
+            None => Ok(None),
+        }
+    }
+
+    /// The match that ends there, where `try_search_half` answered this end, or no answer.
+    fn try_search_start(
+        &self,
+        cache: &mut Cache,
+        input: &Input<'_>,
+        end: HalfMatch,
+    ) -> Result<Option<Match>, NoAnswer>
+        requires fits { FitsCore self.now cache.old }
+        requires lies { HalfLiesIn input.now end }
+        requires in_range { end.pattern < length self.now.nfa.starts }
+        ensures answer { (r : Patterns) → Premises (IsCoreFor self.now r) self.now.pre r input.now
+            → IsAnswerFor self.now.kind r input.now half_match_value (Some end) → IfOk result (IsAnswerFor self.now.kind r input.now match_value) }
+        ensures within { IfOk result (λ found. IfSome found (LiesIn input.now)) }
+        ensures in_range { IfOk result (λ found. IfSome found (λ m. m.pattern < length self.now.nfa.starts)) }
+        ensures cache { FitsCore self.now cache.new }
+        ensures memory { AccountsAlikeIn self.now cache.old cache.new }
+    {
+        self.get_dfas()
+            .try_search_start(&mut cache.lazies, input, end)
+    }
+
+    /// The end of the match that `try_search_mayfail` answers, by the DFA that reads forwards, or no answer.
+    fn try_search_half(
+        &self,
+        cache: &mut Cache,
+        input: &Input<'_>,
+    ) -> Result<Option<HalfMatch>, NoAnswer>
+        requires { FitsCore self.now cache.old }
+        ensures answer { (r : Patterns) → Premises (IsCoreFor self.now r) self.now.pre r input.now
+            → IfOk result (IsAnswerFor self.now.kind r input.now half_match_value) }
+        ensures within { IfOk result (λ found. IfSome found (HalfLiesIn input.now)) }
+        ensures in_range { IfOk result (λ found. IfSome found (λ half. half.pattern < length self.now.nfa.starts)) }
+        ensures cache { FitsCore self.now cache.new }
+        ensures memory { AccountsAlikeIn self.now cache.old cache.new }
+    {
+        // A DFA that may begin anywhere is never dead, so it would read the whole span.
+        if self.begins_once(input) {
+            let first = input.clone().anchored(Anchored::Yes);
+            return self.try_search_end(cache, &first);
+        }
+        self.try_search_end(cache, input)
+    }
+
+    /// Whether the search may begin anywhere, though each match begins at the start of the haystack.
+    fn begins_once(&self, input: &Input<'_>) -> bool
+        ensures { result ≡ true → (is_anchored input.now.anchor ≡ false)
+            × ((h : Expression) → AreOf h self.now.properties → is_always_anchored_start h ≡ true) }
+    {
+        if input.get_anchored().is_anchored() {
+            return false;
+        }
+        self.info.is_always_anchored_start()
+    }
+
+    /// As `try_search_half`, from where the input lets a match begin.
+    fn try_search_end(
+        &self,
+        cache: &mut Cache,
+        input: &Input<'_>,
+    ) -> Result<Option<HalfMatch>, NoAnswer>
+        requires { FitsCore self.now cache.old }
+        ensures answer { (r : Patterns) → Premises (IsCoreFor self.now r) self.now.pre r input.now
+            → IfOk result (IsAnswerFor self.now.kind r input.now half_match_value) }
+        ensures within { IfOk result (λ found. IfSome found (HalfLiesIn input.now)) }
+        ensures in_range { IfOk result (λ found. IfSome found (λ half. half.pattern < length self.now.nfa.starts)) }
+        ensures cache { FitsCore self.now cache.new }
+        ensures memory { AccountsAlikeIn self.now cache.old cache.new }
+    {
+        let pre = self.looks_for(input);
+        self.get_dfas()
+            .try_search_half(&mut cache.lazies, pre, input)
+    }
+
+    /// The prefilter by which a DFA goes from candidate to candidate. An anchored search has one place to look at, and under `All` the
+    /// end of the last match is sought, so each byte is read anyway.
+    fn looks_for(&self, input: &Input<'_>) -> Option<&Prefilter>
+        ensures begins { (r : Patterns) → Premises (IsCoreFor self.now r) self.now.pre r input.now
+            → Premises (IsCoreFor self.now r) (option_copied result) r input.now }
+        ensures leftmost { IfSome (option_copied result) (λ needles. self.now.kind ≡ LeftmostFirst) }
+        ensures free { IfSome (option_copied result) (λ needles. is_anchored input.now.anchor ≡ false) }
+    {
+        if input.get_anchored().is_anchored() {
+            return None;
+        }
+        match self.kind {
+            MatchKind::LeftmostFirst => self.pre.as_ref(),
+            MatchKind::All => None,
+        }
+    }
+
+    /// The DFAs.
+    fn get_dfas(&self) -> &Dfas
+        ensures value { result.now ≡ self.now.dfas }
+        ensures serve { ServeNfa self.now.nfa self.now.kind self.now.reverse result.now }
+    {
+        &self.dfas
     }
 
     /// Whether matches are told.
@@ -317,7 +683,7 @@ impl Core {
         ensures slots_within { AreWithin input.now slots.new }
         ensures none { IfNone result (slots.new ≡ replicate (length slots.old) None) }
         ensures cache { FitsCore self.now cache.new }
-        ensures memory { memory_of cache.new ≡ memory_of cache.old }
+        ensures memory { AccountsAlikeIn self.now cache.old cache.new }
     {
         // The choice, and then one call (DECISIONS: a core asks first which engine serves).
         match self.nofail_for(input) {
@@ -358,6 +724,16 @@ fn backtracker(
     }
     let pre = shared(pre.as_ref())?;
     Ok(Some(BoundedBacktracker::build_from_nfa(nfa.clone()?, pre)))
+}
+
+/// What is accounted for the NFA that reads backwards, where there is one.
+fn reverse_memory(reverse: &Option<NFA>) -> usize
+    ensures { result ≡ reverse_memory reverse.now }
+{
+    match reverse {
+        Some(nfa) => nfa.memory_usage(),
+        None => 0,
+    }
 }
 
 /// What is accounted for the backtracker's cache, where there is one.

@@ -166,7 +166,7 @@ fn admit(states: usize, stride: usize, limit: Option<usize>) -> Result<(), Build
 }
 
 /// The place of the key, if it is there.
-fn position(keys: &IndexSet<StateKey>, key: &StateKey) -> Option<usize>
+pub fn position(keys: &IndexSet<StateKey>, key: &StateKey) -> Option<usize>
     ensures some { IfSome result (λ row. slice_get (keys_in keys.now.keys) row ≡ Some (key_of key.now)) }
     ensures none { IfNone result (IsNew (keys_in keys.now.keys) (key_of key.now)) }
 {
@@ -174,7 +174,11 @@ fn position(keys: &IndexSet<StateKey>, key: &StateKey) -> Option<usize>
 }
 
 /// Appends the key, which is not there.
-fn append(alloc: Global, keys: &mut IndexSet<StateKey>, key: &StateKey) -> Result<usize, BuildError>
+pub fn append(
+    alloc: Global,
+    keys: &mut IndexSet<StateKey>,
+    key: &StateKey,
+) -> Result<usize, BuildError>
     requires { IsNew (keys_in keys.old.keys) (key_of key.now) }
     ensures row { IfOk result (λ row. slice_get (keys_in keys.new.keys) row ≡ Some (key_of key.now)) }
     ensures keys { OnOk result (keys_in keys.new.keys ≡ keys_in keys.old.keys ++ key_of key.now ∷ []) }

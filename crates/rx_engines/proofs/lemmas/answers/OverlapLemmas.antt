@@ -31,7 +31,7 @@ use Rattle.rx_engines.specs.Engine.{PikeVMValue, IsSearchOf, HasNoMatch, answer_
 use Rattle.rx_engines.specs.Needles.{BeginsEachRun}
 use Rattle.rx_engines.specs.Overlap.{of_pattern}
 use Rattle.rx_engines.specs.Search.{OffersAll, PassesNoRun, graph_until}
-use Rattle.rx_engines.specs.Sets.{MatchesIn, KeepsMembers, GainsMatching, IsFilledFor}
+use Rattle.rx_search.specs.Sets.{MatchesIn, KeepsMembers, GainsMatching, IsFilledFor}
 use Rattle.rx_engines.specs.declared.candidates.Candidates.{Candidates}
 use Rattle.rx_engines.specs.declared.search.Search.{Search}
 use Rattle.rx_engines.proofs.lemmas.candidates.CandidateLemmas.{passes-no_run}

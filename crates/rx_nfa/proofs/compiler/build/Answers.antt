@@ -18,6 +18,8 @@ use Rattle.rx_nfa.proofs.lemmas.runs.NextMatchLemmas.{written-none, writes-none}
 use Rattle.rx_nfa.proofs.lemmas.runs.PatternLemmas.{HasRuns-from, HasPatterns-forwards, StartsAll-kept}
 use Rattle.rx_nfa.proofs.lemmas.parts.SlotLemmas.{written-within}
 use Rattle.rx_nfa.proofs.lemmas.reverse.ReverseLemmas.{HasReverseRuns-from}
+use Rattle.rx_nfa.specs.Prefixes.{HasSameRuns}
+use Rattle.rx_nfa.proofs.lemmas.prefixes.SharedLemmas.{with_states, HasRuns-shared, HasReverseRuns-shared}
 use Rattle.rx_nfa.proofs.compiler.build.Goals as goal
 
 pub finish-requires-clause-slots : goal.finish-requires-clause-slots
@@ -30,10 +32,12 @@ finish-requires-clause-slots c =
     let all : StartsAll old new starts c.in_ok-start.start = subst (λ qs. StartsAll c.compile_patterns.new.builder c.start_of_all.new.builder qs
     c.in_ok-start.start) c.deref.ensures.value c.in_ok-start.ensures.starts in
     let kept = StartsAll-kept old new starts c.in_ok-start.start all in
-    let written : new.slots ≡ slots_written which exprs =
-    kept.1 ∙ c.in_ok-starts.ensures.extends.slots ∙ ap (λ (d : Draft). d.slots) c.new-builder.ensures ∙ c.slots_written.ensures in
-    let groups : new.groups ≡ groups_of exprs =
-    kept.0 ∙ c.in_ok-starts.ensures.extends.groups ∙ ap (λ (d : Draft). d.groups) c.new-builder.ensures ∙ c.in_ok-group_info.ensures in
+    let written : c.share_prefixes.new.builder.slots ≡ slots_written which exprs =
+    c.in_ok-share_prefixes.ensures.slots ∙ kept.1 ∙ c.in_ok-starts.ensures.extends.slots ∙ ap (λ (d : Draft). d.slots) c.new-builder.ensures
+    ∙ c.slots_written.ensures in
+    let groups : c.share_prefixes.new.builder.groups ≡ groups_of exprs =
+    c.in_ok-share_prefixes.ensures.groups ∙ kept.0 ∙ c.in_ok-starts.ensures.extends.groups ∙ ap (λ (d : Draft). d.groups) c.new-builder.ensures
+    ∙ c.in_ok-group_info.ensures in
     let within = written-within which exprs in
     let counted = slots-counted exprs ∙ sym (ap slot_count groups) in
     omega arith
@@ -46,8 +50,9 @@ finish-requires-clause-patterns c =
     let new = c.start_of_all.new.builder in
     let all : StartsAll old new starts c.in_ok-start.start = subst (λ qs. StartsAll c.compile_patterns.new.builder c.start_of_all.new.builder qs
     c.in_ok-start.start) c.deref.ensures.value c.in_ok-start.ensures.starts in
-    let groups : new.groups ≡ groups_of exprs =
-    (StartsAll-kept old new starts c.in_ok-start.start all).0 ∙ c.in_ok-starts.ensures.extends.groups ∙ ap (λ (d : Draft). d.groups) c.new-builder.ensures
+    let groups : c.share_prefixes.new.builder.groups ≡ groups_of exprs =
+    c.in_ok-share_prefixes.ensures.groups ∙ (StartsAll-kept old new starts c.in_ok-start.start all).0 ∙ c.in_ok-starts.ensures.extends.groups
+    ∙ ap (λ (d : Draft). d.groups) c.new-builder.ensures
     ∙ c.in_ok-group_info.ensures in
     c.in_ok-starts.ensures.len ∙ sym (ap length groups ∙ length-map exprs group_names)
 
@@ -59,8 +64,9 @@ finish-requires-clause-few c =
     let new = c.start_of_all.new.builder in
     let all : StartsAll old new starts c.in_ok-start.start = subst (λ qs. StartsAll c.compile_patterns.new.builder c.start_of_all.new.builder qs
     c.in_ok-start.start) c.deref.ensures.value c.in_ok-start.ensures.starts in
-    let groups : new.groups ≡ groups_of exprs =
-    (StartsAll-kept old new starts c.in_ok-start.start all).0 ∙ c.in_ok-starts.ensures.extends.groups ∙ ap (λ (d : Draft). d.groups) c.new-builder.ensures
+    let groups : c.share_prefixes.new.builder.groups ≡ groups_of exprs =
+    c.in_ok-share_prefixes.ensures.groups ∙ (StartsAll-kept old new starts c.in_ok-start.start all).0 ∙ c.in_ok-starts.ensures.extends.groups
+    ∙ ap (λ (d : Draft). d.groups) c.new-builder.ensures
     ∙ c.in_ok-group_info.ensures in
     let long = ap length groups ∙ length-map exprs group_names in
     let few = c.requires.few.patterns in
@@ -76,19 +82,22 @@ returns c =
     let starts = c.in_ok-starts.starts.items in
     let old = c.compile_patterns.new.builder in
     let new = c.start_of_all.new.builder in
+    let shared = c.share_prefixes.new.builder in
+    let sharing = c.in_ok-share_prefixes.ensures in
     let nfa = c.in_ok-nfa.nfa in
     let is = c.in_ok-nfa.ensures.value in
     let long = c.in_ok-starts.ensures.len in
     let all : StartsAll old new starts c.in_ok-start.start =
     subst (λ qs. StartsAll old new qs c.in_ok-start.start) c.deref.ensures.value c.in_ok-start.ensures.starts in
     let kept = StartsAll-kept old new starts c.in_ok-start.start all in
-    let written : new.slots ≡ slots_written which exprs =
+    let before : new.slots ≡ slots_written which exprs =
     kept.1 ∙ c.in_ok-starts.ensures.extends.slots ∙ ap (λ (d : Draft). d.slots) c.new-builder.ensures ∙ c.slots_written.ensures
     ∙ ap (λ w. slots_written w c.args.exprs.now) which_is in
-    let groups : new.groups ≡ groups_of exprs =
-    kept.0 ∙ c.in_ok-starts.ensures.extends.groups ∙ ap (λ (d : Draft). d.groups) c.new-builder.ensures ∙ c.in_ok-group_info.ensures in
+    let written : shared.slots ≡ slots_written which exprs = sharing.slots ∙ before in
+    let groups : shared.groups ≡ groups_of exprs =
+    sharing.groups ∙ kept.0 ∙ c.in_ok-starts.ensures.extends.groups ∙ ap (λ (d : Draft). d.groups) c.new-builder.ensures ∙ c.in_ok-group_info.ensures in
     let slots : nfa.slots ≡ slots_of exprs = ap (λ (n : Nfa). n.slots) is ∙ ap slot_count groups ∙ sym (slots-counted exprs) in
-    let states : nfa.states ≡ new.states = ap (λ (n : Nfa). n.states) is in
+    let states : nfa.states ≡ shared.states = ap (λ (n : Nfa). n.states) is in
     let terminator : nfa.terminator ≡ terminator_of c.args.config = ap (λ (n : Nfa). n.terminator) is ∙ c.get_look_matcher.ensures in
     let has : HasParts old.states (directed_part reverse (patterns_of exprs true 0 which)) exprs (length exprs) starts =
     subst (λ b. HasParts c.compile_patterns.new.builder.states (directed_part b (patterns_of c.args.exprs.now true 0 which)) c.args.exprs.now
@@ -96,11 +105,11 @@ returns c =
     (subst (λ w. HasParts c.compile_patterns.new.builder.states (directed_part c.get_reverse-reverse.result (patterns_of c.args.exprs.now true 0 w))
     c.args.exprs.now (length c.args.exprs.now) c.in_ok-starts.starts.items) which_is c.in_ok-starts.ensures.has) in
     let made : Nfa = record {
-      states = new.states;
+      states = shared.states;
       start_anchored = c.in_ok-start.start;
       starts = starts;
-      slots = slot_count new.groups;
-      groups = new.groups;
+      slots = slot_count shared.groups;
+      groups = shared.groups;
       utf8 = c.get_utf8.result;
       reverse = c.get_reverse-reverse.result;
       terminator = c.get_look_matcher.result;
@@ -110,6 +119,8 @@ returns c =
       has_empty = c.one_can_be_empty.result;
       accounted = c.args.states;
     } in
+    let each : All (HasSameRuns new.states shared.states) starts =
+    subst (All (HasSameRuns c.start_of_all.new.builder.states c.share_prefixes.new.builder.states)) c.deref-2.ensures.value sharing.starts in
     record {
       in_range = c.in_ok-nfa.ensures.in_range;
       few =
@@ -117,6 +128,7 @@ returns c =
           let none = ap (λ (d : Draft). length d.states) c.new-builder.ensures in
           let patterns = c.in_ok-starts.ensures.count in
           let last = c.in_ok-start.ensures.count in
+          let long' = sharing.long in
           omega arith);
       slots = slots;
       groups = ap (λ (n : Nfa). n.groups) is ∙ groups;
@@ -130,23 +142,28 @@ returns c =
       runs = λ ahead utf8_empty.
           (let same : which ≡ captures_of c.args.config = ap (λ b. written_in b (captures_of c.args.config)) ahead in
           subst (λ n. HasRuns n (patterns_of exprs utf8_empty (terminator_of c.args.config) (captures_of c.args.config))) (sym is)
-          (HasRuns-from (patterns_of exprs utf8_empty (terminator_of c.args.config) (captures_of c.args.config)) made old new
+          (HasRuns-shared (patterns_of exprs utf8_empty (terminator_of c.args.config) (captures_of c.args.config)) made new.states shared.states
+          sharing.start each
+          (HasRuns-from (patterns_of exprs utf8_empty (terminator_of c.args.config) (captures_of c.args.config)) (with_states made new.states) old new
           (HasPatterns-forwards (patterns_of exprs utf8_empty (terminator_of c.args.config) (captures_of c.args.config)) old.states (length exprs) starts
           (subst (λ w. HasParts old.states (directed_part false (patterns_of exprs true 0 w)) exprs (length exprs) starts) same
           (subst (λ b. HasParts old.states (directed_part b (patterns_of exprs true 0 which)) exprs (length exprs) starts) ahead has)))
           long c.get_look_matcher.ensures refl all
-          (λ none text end x. written-none (length new.groups) new.slots new.states (written ∙ ap (λ w. slots_written w exprs) (same ∙ none))
-          c.in_ok-nfa.ensures.within (terminator_of c.args.config) text end x)));
+          (λ none text end x. written-none (length new.groups) new.slots new.states (before ∙ ap (λ w. slots_written w exprs) (same ∙ none))
+          sharing.range.within (terminator_of c.args.config) text end x))));
       silent = λ behind.
-          (let none : new.slots ≡ 0 = written ∙ ap (λ b. slots_written (written_in b (captures_of c.args.config)) exprs) behind in
+          (let none : shared.slots ≡ 0 = written ∙ ap (λ b. slots_written (written_in b (captures_of c.args.config)) exprs) behind in
           subst (λ ss. All (λ (s : State). state_writes s ≡ Absent) ss) (sym states)
-          (All-weaker (IsWithin (length new.groups) new.slots) (λ s. state_writes s ≡ Absent) (λ s w. writes-none (length new.groups) new.slots s none w)
-          new.states c.in_ok-nfa.ensures.within));
+          (All-weaker (IsWithin (length shared.groups) shared.slots) (λ s. state_writes s ≡ Absent)
+          (λ s w. writes-none (length shared.groups) shared.slots s none w)
+          shared.states c.in_ok-nfa.ensures.within));
       reverse_runs = λ behind utf8_empty.
-          (let runs = HasReverseRuns-from (patterns_of exprs utf8_empty (terminator_of c.args.config) which) made old new
+          (let runs = HasReverseRuns-shared (patterns_of exprs utf8_empty (terminator_of c.args.config) which) made new.states shared.states
+          sharing.start each
+          (HasReverseRuns-from (patterns_of exprs utf8_empty (terminator_of c.args.config) which) (with_states made new.states) old new
           (subst (λ b. HasParts old.states (directed_part b (patterns_of exprs true 0 which)) exprs (length exprs) starts) behind has) long
           c.get_look_matcher.ensures refl all
-          (λ p h at. IsSound-ordered h (c.in_ok-starts.ensures.sound p h at)) in
+          (λ p h at. IsSound-ordered h (c.in_ok-starts.ensures.sound p h at))) in
           subst (λ n. HasReverseRuns n (patterns_of exprs utf8_empty (terminator_of c.args.config) (captures_of c.args.config))) (sym is)
           (record { patterns = runs.patterns; each = runs.each; all = runs.all }));
     }

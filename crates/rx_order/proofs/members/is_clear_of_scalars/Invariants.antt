@@ -1,6 +1,14 @@
-use Rattle.std.proofs.Common.{◌≡◌, drop}
+use Rattle.std.proofs.Common.{◌≡◌, ◌≤◌, ◌-◌, true, length, take, drop}
 use Rattle.rx_order.specs.Tests.{is_clear}
 use Rattle.rx_order.proofs.members.is_clear_of_scalars.Given as goal
 
-abbrev pub invariant-loop-first : goal.invariant-loop-first
-invariant-loop-first l = is_clear (drop l.first-index l.ranges) (l.low, l.high) ≡ is_clear l.ranges (l.low, l.high)
+abbrev pub invariant-scalars : goal.invariant-scalars
+invariant-scalars l = record {
+  bounds : l.from ≤ l.to;
+  within : l.to ≤ length l.ranges;
+  before : is_clear (take l.from l.ranges) (l.low, l.high) ≡ true;
+  after : is_clear (drop l.to l.ranges) (l.low, l.high) ≡ true;
+}
+
+abbrev pub decreases-scalars : goal.decreases-scalars
+decreases-scalars l = l.to - l.from

@@ -6,22 +6,43 @@ use Rattle.rx_dfa.specs.StateKey.{key_of}
 use Rattle.rx_dfa.specs.Job.{dfa_in}
 use Rattle.rx_dfa.specs.Table.{quit, IsCell}
 use Rattle.rx_dfa.specs.Found.{IsNumber}
+use Rattle.rx_dfa.specs.Spread.{IsSpread, AreKnown}
 use Rattle.rx_dfa.specs.Work.{IsPart}
 use Rattle.rx_dfa.specs.declared.state_key.StateKey.{StateKey}
 use Rattle.rx_dfa.proofs.lemmas.ErrorLemmas.{refused-before}
 use Rattle.rx_dfa.proofs.lemmas.RowLemmas.{number-grows, grows-same, grows-on, part-none, part-push}
 use Rattle.rx_dfa.proofs.lemmas.FindLemmas.{memory-refused}
 use Rattle.rx_dfa.proofs.lemmas.FilledLemmas.{row-made}
+use Rattle.rx_dfa.proofs.lemmas.KnownLemmas.{known-grows}
 use Rattle.rx_dfa.proofs.dense.rows.push_row.Goals as goal
 
 pub loop-class-init : goal.loop-class-init
 loop-class-init c = record {
-  room = c.requires.room;
+  room = c.in_ok-is_spread.ensures.room;
   row = refl;
   grows = grows-same c.args.found.now;
   found = c.requires.found;
+  count = c.in_ok-is_spread.ensures.count ∙ c.requires.count;
+  known = subst (AreKnown (dfa_in c.args.job.now) c.args.found.now) (sym c.in_ok-is_spread.ensures.known) c.requires.known;
+  spread = c.in_ok-is_spread.ensures.spread;
   part = part-none (dfa_in c.args.job.now) (IsNumber c.args.found.now) (key_of c.args.desk.now.row) c.args.cells.now.items;
 }
+
+pub returns-in_err-is_spread-clause-grows : goal.returns-in_err-is_spread-clause-grows
+returns-in_err-is_spread-clause-grows c = grows-same c.args.found.now
+
+pub returns-in_err-is_spread-clause-made : goal.returns-in_err-is_spread-clause-made
+returns-in_err-is_spread-clause-made c =
+    let e = err_from_is_err_and c.from_residual.result c.from_residual.ensures.1 in
+    record {
+      found = c.requires.found;
+      ok = rw (e.1) tt;
+      err = rw (e.1) (memory-refused (dfa_in c.args.job.now) c.args.found.now.stride c.args.found.now.limit e.0 e.2);
+    }
+
+pub returns-clause-known : goal.returns-clause-known
+returns-clause-known c =
+    known-grows (dfa_in c.args.job.now) c.loop-class.found c.any_end.new.found c.loop-class.spread.known c.in_ok-last.ensures.grows c.loop-class.invariant.known
 
 pub returns-in_err-cell-clause-grows : goal.returns-in_err-cell-clause-grows
 returns-in_err-cell-clause-grows c = grows-on _ _ _ c.loop-class.invariant.grows c.in_err-cell.ensures.grows
@@ -41,11 +62,15 @@ loop-class-preserved c =
       row = c.in_ok-cell.ensures.row ∙ c.loop-class.invariant.row;
       grows = grows-on _ _ _ c.loop-class.invariant.grows c.in_ok-cell.ensures.grows;
       found = c.in_ok-cell.ensures.made.found;
-      part = subst (IsPart d (IsNumber c.step_cell.new.found) (key_of c.args.desk.now.row) (class + 1) c.args.cells.now.items) (sym items)
-          (part-push d (IsNumber c.loop-class.found) (IsNumber c.step_cell.new.found) (number-grows _ _ c.in_ok-cell.ensures.grows)
+      count = c.in_ok-cell.ensures.count;
+      known = c.in_ok-cell.ensures.known;
+      spread = λ is. subst (λ (r : StateKey). IsSpread (dfa_in c.args.job.now) (key_of r) c.any_cell.new.spread) c.loop-class.invariant.row
+          (c.in_ok-cell.ensures.spread is);
+      part = subst (IsPart d (IsNumber c.any_cell.new.found) (key_of c.args.desk.now.row) (class + 1) c.args.cells.now.items) (sym items)
+          (part-push d (IsNumber c.loop-class.found) (IsNumber c.any_cell.new.found) (number-grows _ _ c.in_ok-cell.ensures.grows)
           (key_of c.args.desk.now.row) class
           c.args.cells.now.items c.loop-class.cells.items cell c.loop-class.invariant.part
-          (λ lt. subst (λ (r : StateKey). IsCell d (IsNumber c.step_cell.new.found) (slice_index d.bytes class) (key_of r) cell) c.loop-class.invariant.row
+          (λ lt. subst (λ (r : StateKey). IsCell d (IsNumber c.any_cell.new.found) (slice_index d.bytes class) (key_of r) cell) c.loop-class.invariant.row
           is));
     }
 
@@ -82,18 +107,18 @@ returns-clause-made c =
     omega (arith, c.args.job.now.alphabet.now.bytes.ok.0, c.loop-class-test.false, c.loop-class.auto.class-end) in
     record {
       found = c.in_ok-last.ensures.made.found;
-      ok = row-made d (IsNumber c.loop-class.found) (IsNumber c.end_cell.new.found) (number-grows _ _ c.in_ok-last.ensures.grows) k c.args.found.now.stride
+      ok = row-made d (IsNumber c.loop-class.found) (IsNumber c.any_end.new.found) (number-grows _ _ c.in_ok-last.ensures.grows) k c.args.found.now.stride
           c.args.cells.now.items c.loop-class.cells.items c.push-2.new.self.items c.resize.new.self.items last (c.len.result + c.args.found.now.stride)
           c.push-2.new.self.len quit c.requires.wide
           (subst (λ (n : ℕ). IsPart d (IsNumber c.loop-class.found) k n c.args.cells.now.items c.loop-class.cells.items) all part)
-          (subst (λ (r : StateKey). IsNumber c.end_cell.new.found last (last_key d (key_of r))) c.loop-class.invariant.row is) here
+          (subst (λ (r : StateKey). IsNumber c.any_end.new.found last (last_key d (key_of r))) c.loop-class.invariant.row is) here
           (omega (arith, c.args.cells.now.ok.0)) c.push-2.new.self.ok.0 c.in_ok-resize.ensures.items;
       err = tt;
     }
 
 pub returns-in_err-cell-clause-made : goal.returns-in_err-cell-clause-made
 returns-in_err-cell-clause-made c =
-    let e = err_from_is_err_and c.from_residual.result c.from_residual.ensures.1 in
+    let e = err_from_is_err_and c.from_residual-in_err-cell.result c.from_residual-in_err-cell.ensures.1 in
     record {
       found = c.in_err-cell.ensures.made.found;
       ok = rw (e.1) tt;

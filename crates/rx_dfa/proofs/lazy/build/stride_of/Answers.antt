@@ -1,4 +1,4 @@
-use Rattle.std.proofs.Common.{◌≡◌, ◌≤◌, ◌<◌, ◌^◌, ◌*◌, ◌%◌, sym, subst, arith}
+use Rattle.std.proofs.Common.{◌≤◌, ◌<◌, ◌^◌, sym, subst, arith}
 use Rattle.std.proofs.lemmas.Nat.{one_shl}
 use Rattle.rx_search.specs.ByteClasses.{alphabet_len}
 use Rattle.rx_dfa.proofs.lemmas.RowsLemmas.{pow-narrow}

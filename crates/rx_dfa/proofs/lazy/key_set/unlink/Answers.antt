@@ -1,4 +1,4 @@
-use Rattle.std.proofs.Common.{◌≡◌, ◌<◌, length, get_or, refl, arith}
+use Rattle.std.proofs.Common.{◌<◌, length, get_or, refl, arith}
 use Rattle.rx_dfa.proofs.lemmas.ChainLemmas.{emptied-more}
 use Rattle.rx_dfa.proofs.lazy.key_set.unlink.Goals as goal
 

@@ -6,6 +6,7 @@ use Rattle.rx_dfa.specs.Course.{IsMetForwards}
 use Rattle.rx_dfa.specs.Search.{SearchFails}
 use Rattle.rx_dfa.proofs.lemmas.ForwardLemmas.{Stands, stands-first, stands-next, forwards-between, answer-found, answer-anchored, answer-unrefused, nothing-past, fails-later}
 use Rattle.rx_dfa.proofs.lemmas.LastLemmas.{last-of-found, none-of-missing, answer-none, last-past}
+use Rattle.rx_dfa.proofs.lemmas.KindLemmas.{kinds-apart}
 use Rattle.rx_dfa.proofs.lemmas.PatternLemmas.{forwards-below}
 use Rattle.rx_dfa.proofs.search.forward.find_end.Goals as goal
 
@@ -67,6 +68,23 @@ returns-then-is_anchored-clause-answer g c = λ r p leftmost.
     let on : is_anchored v.anchor ≡ c.is_anchored.result =
     ap is_anchored (sym (c.get_anchored.ensures ∙ ap (λ (w : InputValue). w.anchor) i.rest)) ∙ sym c.is_anchored.ensures in
     answer-anchored d c.in-Ok.ensures.sound v spanned from i.stands c.in-Ok.met m (best_is ∙ c.in_default.is) (on ∙ c.if-is_anchored.true) r p leftmost
+
+pub returns-then-tells_every-clause-answer : goal.returns-then-tells_every-clause-answer
+returns-then-tells_every-clause-answer g c = λ r p leftmost.
+    kinds-apart (g.A.Automaton.dfa c.args.dfa.now).kind leftmost (sym c.match_kind.ensures ∙ c.tells_every.ensures.0 c.if-tells_every.true)
+
+pub returns-then-tells_every-clause-last : goal.returns-then-tells_every-clause-last
+returns-then-tells_every-clause-last g c = λ every.
+    let best_is = sym (ap (λ (x : Progress). x.best) c.met.view_is) in
+    let d = g.A.Automaton.dfa c.args.dfa.now in
+    let v = c.args.input.now in
+    let i = c.starts.invariant in
+    let from = c.starts.rest.start in
+    let spanned = c.clone-rest.ensures.spanned.end in
+    let m : IsMetForwards d (from_place from v) c.in-Ok.met = subst (λ (w : InputValue). IsMetForwards d w c.in-Ok.met) i.rest c.in-Ok.ensures.met in
+    answer-none d v
+    (none-of-missing d c.in-Ok.ensures.sound every v spanned from i.stands.low i.stands.begins (i.stands.over every) c.in-Ok.met m
+    (best_is ∙ c.in_default.is))
 
 pub returns-in_default-refused-clause-answer : goal.returns-in_default-refused-clause-answer
 returns-in_default-refused-clause-answer g c = λ r p leftmost.

@@ -1,15 +1,14 @@
-use Rattle.std.proofs.Common.{◌≡◌, ◌-◌, ◌<◌, sym, ◌∙◌, ap, subst, arith}
-use Rattle.std.specs.Prelude.{◌&&◌, Some, is_some, slice_get, slice_index}
+use Rattle.std.proofs.Common.{◌≡◌, ◌-◌, ◌<◌, length, refl, sym, ◌∙◌, ap, subst, arith}
+use Rattle.std.specs.Prelude.{◌&&◌, is_some, slice_get, slice_index}
 use Rattle.std.proofs.lemmas.List.Elements.{All-from_get_or}
-use Rattle.std.proofs.lemmas.Option.{slice_get-get_or}
 use Rattle.rx_model.specs.Look.{byte_before, byte_after}
 use Rattle.rx_model.specs.Search.{is_permitted}
 use Rattle.rx_determinize.specs.Permitted.{met_within}
 use Rattle.rx_determinize.specs.Sight.{AreBytes}
 use Rattle.rx_dfa.specs.Automaton.{IsReadable, next_key, first_key}
 use Rattle.rx_dfa.specs.Course.{end_of}
-use Rattle.rx_dfa.specs.Search.{SearchFails}
-use Rattle.rx_dfa.proofs.lemmas.ForwardLemmas.{key_ahead, GoingAhead, ahead-start, ahead-next, ahead-dead, ahead-early, ahead-end, ahead-none, start-fails, step-fails, before-there}
+use Rattle.rx_dfa.proofs.lemmas.CourseLemmas.{nothing_held}
+use Rattle.rx_dfa.proofs.lemmas.ForwardLemmas.{key_ahead, GoingAhead, ahead-start, ahead-dead, ahead-early, ahead-end, ahead-none, passed-end, passed-before, arrived-next, start-fails, before-there}
 use Rattle.rx_dfa.proofs.search.forward.run_forward.Goals as goal
 
 pub returns-then-is_dead-clause-met : goal.returns-then-is_dead-clause-met
@@ -48,65 +47,46 @@ bytes-init g c =
       fits = c.in-Ok.ensures.fits;
     }
 
-pub returns-in-Err-next_state-clause-err : goal.returns-in-Err-next_state-clause-err
-returns-in-Err-next_state-clause-err g c =
+pub ahead-requires-clause-held : goal.ahead-requires-clause-held
+ahead-requires-clause-held g c =
     let d = g.A.Automaton.dfa c.args.dfa.now in
-    let v = c.args.input.now in
-    let hay = c.haystack-haystack.ensures.value in
-    let spanned = c.haystack-haystack.ensures.spanned.end in
-    let at = c.bytes.at in
-    let byte = slice_index c.haystack-haystack.result.now at in
-    let byte_is : byte ≡ slice_index v.haystack at = ap (λ t. slice_index t at) hay in
-    let low = c.bytes.invariant.low in
-    let last : v.end ≡ c.end-end.result = sym c.end-end.ensures.value in
-    let lt : at < v.end = omega arith in
-    let gives_up = g.A.Automaton.gives_up c.args.dfa.now c.next_state.new.cache in
-    let wants = g.A.Automaton.wants c.args.dfa.now in
-    subst (SearchFails d.nfa v gives_up wants) (sym c.place_error.ensures)
-    (step-fails d.nfa v at at byte gives_up wants c.in-Err-next_state.error (omega arith) (omega arith) (omega arith) (omega arith)
-    (slice_get-get_or v.haystack at 0 (omega arith) ∙ ap Some (sym byte_is)) c.in-Err-next_state.ensures.err)
+    (key_ahead d c.args.input.now c.bytes.at, c.bytes.invariant.going.held)
 
-pub is_special-requires : goal.is_special-requires
-is_special-requires g c =
-    let d = g.A.Automaton.dfa c.args.dfa.now in
-    let v = c.args.input.now in
-    let hay = c.haystack-haystack.ensures.value in
+pub ahead-requires-clause-within : goal.ahead-requires-clause-within
+ahead-requires-clause-within g c =
     let spanned = c.haystack-haystack.ensures.spanned.end in
-    let at = c.bytes.at in
-    let byte = slice_index c.haystack-haystack.result.now at in
-    let byte_is : byte ≡ slice_index v.haystack at = ap (λ t. slice_index t at) hay in
-    let key = key_ahead d v at in
-    let going = c.bytes.invariant.going in
-    let held = c.in-Ok-next_state.ensures.next key going.held in
-    (next_key d key byte, held)
+    let long = ap length c.haystack-haystack.ensures.value in
+    let last = c.end-end.ensures.value in
+    omega arith
 
-pub bytes-preserved-then-not-is_special : goal.bytes-preserved-then-not-is_special
-bytes-preserved-then-not-is_special g c =
+pub returns-in-Err-ahead-clause-err : goal.returns-in-Err-ahead-clause-err
+returns-in-Err-ahead-clause-err g c =
+    let last = c.end-end.ensures.value in
+    c.in-Err-ahead.ensures.err c.args.input.now (sym c.haystack-haystack.ensures.value) c.bytes.invariant.low (omega arith)
+
+pub bytes-preserved-then-at-end : goal.bytes-preserved-then-at-end
+bytes-preserved-then-at-end g c =
     let d = g.A.Automaton.dfa c.args.dfa.now in
     let v = c.args.input.now in
     let hay = c.haystack-haystack.ensures.value in
     let spanned = c.haystack-haystack.ensures.spanned.end in
     let bytes = c.bytes.invariant.bytes in
     let at = c.bytes.at in
-    let byte = slice_index c.haystack-haystack.result.now at in
-    let byte_is : byte ≡ slice_index v.haystack at = ap (λ t. slice_index t at) hay in
-    let key = key_ahead d v at in
     let going = c.bytes.invariant.going in
-    let held = c.in-Ok-next_state.ensures.next key going.held in
-    let readable = c.in-Ok-next_state.ensures.readable key going.held going.alive in
-    let last : v.end ≡ c.end-end.result = sym c.end-end.ensures.value in
-    let lt : at < v.end = omega arith in
-    let nothing = c.is_special.ensures.no_match (next_key d key byte) held c.if-not-is_special.true in
     let low = c.bytes.invariant.low in
+    let next = c.in-Ok-ahead.passed.0 in
+    let place = c.in-Ok-ahead.passed.1 in
+    let between = c.in-Ok-ahead.ensures.between in
+    let passed = c.in-Ok-ahead.ensures.passed (key_ahead d v at) going.held going.alive in
+    let last : c.end-end.result ≡ v.end = c.end-end.ensures.value in
     record {
       low = omega arith;
       high = omega arith;
-      going = ahead-next d c.is_utf8-utf8.ensures.sound c.requires.forward v c.requires.in_order spanned bytes g.A.Automaton.holds c.args.dfa.now
-          c.bytes.cache c.next_state.new.cache c.bytes.state c.in-Ok-next_state.next at c.bytes.met c.bytes.met byte low lt byte_is going held readable
-          (c.is_special.ensures.live (next_key d key byte) held c.if-not-is_special.true)
-          (sym (ap (λ ms. met_within (is_permitted d.nfa.utf8 v.haystack) ms at c.bytes.met) nothing));
+      going = passed-end d c.is_utf8-utf8.ensures.sound c.requires.forward v c.requires.in_order spanned bytes g.A.Automaton.holds c.args.dfa.now
+          c.bytes.cache c.ahead.new.cache c.bytes.state next at place c.end-end.result c.bytes.met c.haystack-haystack.result.now hay last low between.0
+          between.1 passed going (omega arith);
       bytes = bytes;
-      fits = c.in-Ok-next_state.ensures.fits;
+      fits = c.in-Ok-ahead.ensures.fits;
     }
 
 pub record-met-requires : goal.record-met-requires
@@ -115,13 +95,22 @@ record-met-requires g c =
     let v = c.args.input.now in
     let hay = c.haystack-haystack.ensures.value in
     let spanned = c.haystack-haystack.ensures.spanned.end in
+    let bytes = c.bytes.invariant.bytes in
     let at = c.bytes.at in
-    let byte = slice_index c.haystack-haystack.result.now at in
-    let byte_is : byte ≡ slice_index v.haystack at = ap (λ t. slice_index t at) hay in
-    let key = key_ahead d v at in
     let going = c.bytes.invariant.going in
-    let held = c.in-Ok-next_state.ensures.next key going.held in
-    (next_key d key byte, held)
+    let low = c.bytes.invariant.low in
+    let next = c.in-Ok-ahead.passed.0 in
+    let place = c.in-Ok-ahead.passed.1 in
+    let between = c.in-Ok-ahead.ensures.between in
+    let passed = c.in-Ok-ahead.ensures.passed (key_ahead d v at) going.held going.alive in
+    let last : c.end-end.result ≡ v.end = c.end-end.ensures.value in
+    let inside : place < c.end-end.result = omega arith in
+    let there = passed-before d c.is_utf8-utf8.ensures.sound c.requires.forward v c.requires.in_order spanned bytes g.A.Automaton.holds c.args.dfa.now
+    c.bytes.cache c.ahead.new.cache c.bytes.state next at place c.end-end.result c.bytes.met c.haystack-haystack.result.now hay last low between.0 between.1
+    passed going inside in
+    let byte = slice_index v.haystack place in
+    let key = key_ahead d v place in
+    (next_key d key byte, there.held)
 
 pub is_dead-requires-in-bytes : goal.is_dead-requires-in-bytes
 is_dead-requires-in-bytes g c =
@@ -129,13 +118,22 @@ is_dead-requires-in-bytes g c =
     let v = c.args.input.now in
     let hay = c.haystack-haystack.ensures.value in
     let spanned = c.haystack-haystack.ensures.spanned.end in
+    let bytes = c.bytes.invariant.bytes in
     let at = c.bytes.at in
-    let byte = slice_index c.haystack-haystack.result.now at in
-    let byte_is : byte ≡ slice_index v.haystack at = ap (λ t. slice_index t at) hay in
-    let key = key_ahead d v at in
     let going = c.bytes.invariant.going in
-    let held = c.in-Ok-next_state.ensures.next key going.held in
-    (next_key d key byte, held)
+    let low = c.bytes.invariant.low in
+    let next = c.in-Ok-ahead.passed.0 in
+    let place = c.in-Ok-ahead.passed.1 in
+    let between = c.in-Ok-ahead.ensures.between in
+    let passed = c.in-Ok-ahead.ensures.passed (key_ahead d v at) going.held going.alive in
+    let last : c.end-end.result ≡ v.end = c.end-end.ensures.value in
+    let inside : place < c.end-end.result = omega arith in
+    let there = passed-before d c.is_utf8-utf8.ensures.sound c.requires.forward v c.requires.in_order spanned bytes g.A.Automaton.holds c.args.dfa.now
+    c.bytes.cache c.ahead.new.cache c.bytes.state next at place c.end-end.result c.bytes.met c.haystack-haystack.result.now hay last low between.0 between.1
+    passed going inside in
+    let byte = slice_index v.haystack place in
+    let key = key_ahead d v place in
+    (next_key d key byte, there.held)
 
 pub returns-then-is_dead-2-clause-met : goal.returns-then-is_dead-2-clause-met
 returns-then-is_dead-2-clause-met g c =
@@ -145,20 +143,25 @@ returns-then-is_dead-2-clause-met g c =
     let spanned = c.haystack-haystack.ensures.spanned.end in
     let bytes = c.bytes.invariant.bytes in
     let at = c.bytes.at in
-    let byte = slice_index c.haystack-haystack.result.now at in
-    let byte_is : byte ≡ slice_index v.haystack at = ap (λ t. slice_index t at) hay in
-    let key = key_ahead d v at in
     let going = c.bytes.invariant.going in
-    let held = c.in-Ok-next_state.ensures.next key going.held in
-    let readable = c.in-Ok-next_state.ensures.readable key going.held going.alive in
-    let last : v.end ≡ c.end-end.result = sym c.end-end.ensures.value in
-    let lt : at < v.end = omega arith in
-    let may : is_permitted d.nfa.utf8 v.haystack at ≡ c.is_permitted_at-may.result =
-    sym (c.is_permitted_at-may.ensures ∙ (λ j. is_permitted (c.is_utf8-utf8.ensures.value j) (hay j) at)) in
-    let met = c.record-met.ensures (next_key d key byte) held (is_permitted d.nfa.utf8 v.haystack) may in
-    ahead-dead d c.is_utf8-utf8.ensures.sound c.requires.forward v c.requires.in_order spanned bytes g.A.Automaton.holds c.args.dfa.now
-    c.bytes.cache c.bytes.state at c.bytes.met c.record-met.result byte c.bytes.invariant.low lt byte_is going readable
-    (sym (c.is_dead-in-bytes.ensures (next_key d key byte) held) ∙ c.if-is_dead-2.true) met
+    let low = c.bytes.invariant.low in
+    let next = c.in-Ok-ahead.passed.0 in
+    let place = c.in-Ok-ahead.passed.1 in
+    let between = c.in-Ok-ahead.ensures.between in
+    let passed = c.in-Ok-ahead.ensures.passed (key_ahead d v at) going.held going.alive in
+    let last : c.end-end.result ≡ v.end = c.end-end.ensures.value in
+    let inside : place < c.end-end.result = omega arith in
+    let there = passed-before d c.is_utf8-utf8.ensures.sound c.requires.forward v c.requires.in_order spanned bytes g.A.Automaton.holds c.args.dfa.now
+    c.bytes.cache c.ahead.new.cache c.bytes.state next at place c.end-end.result c.bytes.met c.haystack-haystack.result.now hay last low between.0 between.1
+    passed going inside in
+    let byte = slice_index v.haystack place in
+    let key = key_ahead d v place in
+    let may : is_permitted d.nfa.utf8 v.haystack place ≡ c.is_permitted_at-may.result =
+    sym (c.is_permitted_at-may.ensures ∙ (λ j. is_permitted (c.is_utf8-utf8.ensures.value j) (hay j) place)) in
+    let met = c.record-met.ensures (next_key d key byte) there.held (is_permitted d.nfa.utf8 v.haystack) may in
+    ahead-dead d c.is_utf8-utf8.ensures.sound c.requires.forward v c.requires.in_order spanned bytes nothing_held c.args.dfa.now
+    c.bytes.cache c.bytes.state place c.bytes.met c.record-met.result byte (omega arith) (omega arith) refl there.past there.readable
+    (sym (c.is_dead-in-bytes.ensures (next_key d key byte) there.held) ∙ c.if-is_dead-2.true) met
 
 pub returns-then-is_enough-clause-met : goal.returns-then-is_enough-clause-met
 returns-then-is_enough-clause-met g c =
@@ -168,19 +171,24 @@ returns-then-is_enough-clause-met g c =
     let spanned = c.haystack-haystack.ensures.spanned.end in
     let bytes = c.bytes.invariant.bytes in
     let at = c.bytes.at in
-    let byte = slice_index c.haystack-haystack.result.now at in
-    let byte_is : byte ≡ slice_index v.haystack at = ap (λ t. slice_index t at) hay in
-    let key = key_ahead d v at in
     let going = c.bytes.invariant.going in
-    let held = c.in-Ok-next_state.ensures.next key going.held in
-    let readable = c.in-Ok-next_state.ensures.readable key going.held going.alive in
-    let last : v.end ≡ c.end-end.result = sym c.end-end.ensures.value in
-    let lt : at < v.end = omega arith in
-    let may : is_permitted d.nfa.utf8 v.haystack at ≡ c.is_permitted_at-may.result =
-    sym (c.is_permitted_at-may.ensures ∙ (λ j. is_permitted (c.is_utf8-utf8.ensures.value j) (hay j) at)) in
-    let met = c.record-met.ensures (next_key d key byte) held (is_permitted d.nfa.utf8 v.haystack) may in
-    ahead-early d c.is_utf8-utf8.ensures.sound c.requires.forward v c.requires.in_order spanned bytes g.A.Automaton.holds c.args.dfa.now
-    c.bytes.cache c.bytes.state at c.bytes.met c.record-met.result byte c.bytes.invariant.low lt byte_is going readable met
+    let low = c.bytes.invariant.low in
+    let next = c.in-Ok-ahead.passed.0 in
+    let place = c.in-Ok-ahead.passed.1 in
+    let between = c.in-Ok-ahead.ensures.between in
+    let passed = c.in-Ok-ahead.ensures.passed (key_ahead d v at) going.held going.alive in
+    let last : c.end-end.result ≡ v.end = c.end-end.ensures.value in
+    let inside : place < c.end-end.result = omega arith in
+    let there = passed-before d c.is_utf8-utf8.ensures.sound c.requires.forward v c.requires.in_order spanned bytes g.A.Automaton.holds c.args.dfa.now
+    c.bytes.cache c.ahead.new.cache c.bytes.state next at place c.end-end.result c.bytes.met c.haystack-haystack.result.now hay last low between.0 between.1
+    passed going inside in
+    let byte = slice_index v.haystack place in
+    let key = key_ahead d v place in
+    let may : is_permitted d.nfa.utf8 v.haystack place ≡ c.is_permitted_at-may.result =
+    sym (c.is_permitted_at-may.ensures ∙ (λ j. is_permitted (c.is_utf8-utf8.ensures.value j) (hay j) place)) in
+    let met = c.record-met.ensures (next_key d key byte) there.held (is_permitted d.nfa.utf8 v.haystack) may in
+    ahead-early d c.is_utf8-utf8.ensures.sound c.requires.forward v c.requires.in_order spanned bytes nothing_held c.args.dfa.now
+    c.bytes.cache c.bytes.state place c.bytes.met c.record-met.result byte (omega arith) (omega arith) refl there.past there.readable met
     (ap (λ e. e && is_some c.record-met.result.best) (sym c.get_earliest.ensures) ∙ sym c.is_enough.ensures ∙ c.if-is_enough.true)
 
 pub bytes-preserved : goal.bytes-preserved
@@ -191,26 +199,30 @@ bytes-preserved g c =
     let spanned = c.haystack-haystack.ensures.spanned.end in
     let bytes = c.bytes.invariant.bytes in
     let at = c.bytes.at in
-    let byte = slice_index c.haystack-haystack.result.now at in
-    let byte_is : byte ≡ slice_index v.haystack at = ap (λ t. slice_index t at) hay in
-    let key = key_ahead d v at in
     let going = c.bytes.invariant.going in
-    let held = c.in-Ok-next_state.ensures.next key going.held in
-    let readable = c.in-Ok-next_state.ensures.readable key going.held going.alive in
-    let last : v.end ≡ c.end-end.result = sym c.end-end.ensures.value in
-    let lt : at < v.end = omega arith in
-    let may : is_permitted d.nfa.utf8 v.haystack at ≡ c.is_permitted_at-may.result =
-    sym (c.is_permitted_at-may.ensures ∙ (λ j. is_permitted (c.is_utf8-utf8.ensures.value j) (hay j) at)) in
-    let met = c.record-met.ensures (next_key d key byte) held (is_permitted d.nfa.utf8 v.haystack) may in
     let low = c.bytes.invariant.low in
+    let next = c.in-Ok-ahead.passed.0 in
+    let place = c.in-Ok-ahead.passed.1 in
+    let between = c.in-Ok-ahead.ensures.between in
+    let passed = c.in-Ok-ahead.ensures.passed (key_ahead d v at) going.held going.alive in
+    let last : c.end-end.result ≡ v.end = c.end-end.ensures.value in
+    let inside : place < c.end-end.result = omega arith in
+    let there = passed-before d c.is_utf8-utf8.ensures.sound c.requires.forward v c.requires.in_order spanned bytes g.A.Automaton.holds c.args.dfa.now
+    c.bytes.cache c.ahead.new.cache c.bytes.state next at place c.end-end.result c.bytes.met c.haystack-haystack.result.now hay last low between.0 between.1
+    passed going inside in
+    let byte = slice_index v.haystack place in
+    let key = key_ahead d v place in
+    let may : is_permitted d.nfa.utf8 v.haystack place ≡ c.is_permitted_at-may.result =
+    sym (c.is_permitted_at-may.ensures ∙ (λ j. is_permitted (c.is_utf8-utf8.ensures.value j) (hay j) place)) in
+    let met = c.record-met.ensures (next_key d key byte) there.held (is_permitted d.nfa.utf8 v.haystack) may in
     record {
       low = omega arith;
       high = omega arith;
-      going = ahead-next d c.is_utf8-utf8.ensures.sound c.requires.forward v c.requires.in_order spanned bytes g.A.Automaton.holds c.args.dfa.now
-          c.bytes.cache c.next_state.new.cache c.bytes.state c.in-Ok-next_state.next at c.bytes.met c.record-met.result byte low lt byte_is going held readable
-          (sym (c.is_dead-in-bytes.ensures (next_key d key byte) held) ∙ c.if-is_dead-2.false) met;
+      going = arrived-next d c.is_utf8-utf8.ensures.sound c.requires.forward v c.requires.in_order spanned bytes g.A.Automaton.holds c.args.dfa.now
+          c.bytes.cache c.ahead.new.cache c.bytes.state next place c.bytes.met c.record-met.result (omega arith) (omega arith) there
+          (sym (c.is_dead-in-bytes.ensures (next_key d key byte) there.held) ∙ c.if-is_dead-2.false) met;
       bytes = bytes;
-      fits = c.in-Ok-next_state.ensures.fits;
+      fits = c.in-Ok-ahead.ensures.fits;
     }
 
 pub returns-in-Err-last_state-clause-err : goal.returns-in-Err-last_state-clause-err

@@ -1,16 +1,15 @@
-use Rattle.std.proofs.Common.{◌≡◌, ◌-◌, ◌<◌, refl, sym, ◌∙◌, ap, subst, arith}
-use Rattle.std.specs.Prelude.{◌&&◌, Some, is_some, slice_get, slice_index}
+use Rattle.std.proofs.Common.{◌≡◌, ◌-◌, ◌<◌, length, refl, sym, ◌∙◌, ap, subst, arith}
+use Rattle.std.specs.Prelude.{◌&&◌, is_some, slice_get, slice_index}
 use Rattle.std.proofs.lemmas.List.Elements.{All-from_get_or}
-use Rattle.std.proofs.lemmas.Option.{slice_get-get_or}
 use Rattle.rx_model.specs.Look.{byte_before, byte_after}
 use Rattle.rx_model.specs.Search.{is_permitted}
 use Rattle.rx_determinize.specs.Permitted.{fresh, met_within}
 use Rattle.rx_determinize.specs.Sight.{AreBytes}
 use Rattle.rx_dfa.specs.Automaton.{IsReadable, next_key, first_key}
 use Rattle.rx_dfa.specs.Course.{end_of}
-use Rattle.rx_dfa.specs.Search.{SearchFails}
-use Rattle.rx_dfa.proofs.lemmas.ForwardLemmas.{first-before, start-fails, step-fails, before-there}
-use Rattle.rx_dfa.proofs.lemmas.BackwardLemmas.{key_behind, GoingBehind, back-start, back-next, back-dead, back-early, back-end, behind-none, met-of}
+use Rattle.rx_dfa.proofs.lemmas.CourseLemmas.{nothing_held}
+use Rattle.rx_dfa.proofs.lemmas.ForwardLemmas.{first-before, start-fails, before-there}
+use Rattle.rx_dfa.proofs.lemmas.BackwardLemmas.{key_behind, GoingBehind, back-start, back-dead, back-early, back-end, back-passed-end, back-passed-before, arrived-back, behind-none, met-of}
 use Rattle.rx_dfa.proofs.search.reverse.run_reverse.Goals as goal
 
 pub returns-then-is_dead-clause-met : goal.returns-then-is_dead-clause-met
@@ -56,42 +55,25 @@ bytes-init g c =
       fits = c.in-Ok.ensures.fits;
     }
 
-pub returns-in-Err-next_state-clause-err : goal.returns-in-Err-next_state-clause-err
-returns-in-Err-next_state-clause-err g c =
+pub back-requires-clause-held : goal.back-requires-clause-held
+back-requires-clause-held g c =
     let d = g.A.Automaton.dfa c.args.dfa.now in
-    let v = c.args.input.now in
-    let hay = c.haystack-haystack.ensures.value in
+    (key_behind d c.args.input.now c.bytes.at, c.bytes.invariant.going.going.held)
+
+pub back-requires-clause-within : goal.back-requires-clause-within
+back-requires-clause-within g c =
     let spanned = c.haystack-haystack.ensures.spanned.end in
-    let opening = first_key d v.anchor (byte_after v.haystack v.end) in
-    let at = c.bytes.at in
-    let byte = slice_index c.haystack-haystack.result.now (at - 1) in
-    let byte_is : byte ≡ slice_index v.haystack (at - 1) = ap (λ t. slice_index t (at - 1)) hay in
-    let low = c.bytes.invariant.low in
+    let long = ap length c.haystack-haystack.ensures.value in
     let high = c.bytes.invariant.high in
-    let last : v.start ≡ c.start-start.result = sym c.start-start.ensures.value in
-    let lt : v.start < at = omega arith in
-    let gives_up = g.A.Automaton.gives_up c.args.dfa.now c.next_state.new.cache in
-    let wants = g.A.Automaton.wants c.args.dfa.now in
-    subst (SearchFails d.nfa v gives_up wants) (sym c.place_error.ensures)
-    (step-fails d.nfa v (at - 1) at byte gives_up wants c.in-Err-next_state.error (omega arith) (omega arith) (omega arith) (omega arith)
-    (slice_get-get_or v.haystack (at - 1) 0 (omega arith) ∙ ap Some (sym byte_is)) c.in-Err-next_state.ensures.err)
+    omega arith
 
-pub is_special-requires : goal.is_special-requires
-is_special-requires g c =
-    let d = g.A.Automaton.dfa c.args.dfa.now in
-    let v = c.args.input.now in
-    let hay = c.haystack-haystack.ensures.value in
-    let spanned = c.haystack-haystack.ensures.spanned.end in
-    let opening = first_key d v.anchor (byte_after v.haystack v.end) in
-    let at = c.bytes.at in
-    let byte = slice_index c.haystack-haystack.result.now (at - 1) in
-    let byte_is : byte ≡ slice_index v.haystack (at - 1) = ap (λ t. slice_index t (at - 1)) hay in
-    let key = key_behind d v at in
-    let held = c.in-Ok-next_state.ensures.next key c.bytes.invariant.going.going.held in
-    (next_key d key byte, held)
+pub returns-in-Err-back-clause-err : goal.returns-in-Err-back-clause-err
+returns-in-Err-back-clause-err g c =
+    let first = c.start-start.ensures.value in
+    c.in-Err-back.ensures.err c.args.input.now (sym c.haystack-haystack.ensures.value) (omega arith) c.bytes.invariant.high
 
-pub bytes-preserved-then-not-is_special : goal.bytes-preserved-then-not-is_special
-bytes-preserved-then-not-is_special g c =
+pub bytes-preserved-then-at-start : goal.bytes-preserved-then-at-start
+bytes-preserved-then-at-start g c =
     let d = g.A.Automaton.dfa c.args.dfa.now in
     let v = c.args.input.now in
     let hay = c.haystack-haystack.ensures.value in
@@ -99,26 +81,21 @@ bytes-preserved-then-not-is_special g c =
     let opening = first_key d v.anchor (byte_after v.haystack v.end) in
     let bytes = c.bytes.invariant.bytes in
     let at = c.bytes.at in
-    let byte = slice_index c.haystack-haystack.result.now (at - 1) in
-    let byte_is : byte ≡ slice_index v.haystack (at - 1) = ap (λ t. slice_index t (at - 1)) hay in
-    let key = key_behind d v at in
-    let held = c.in-Ok-next_state.ensures.next key c.bytes.invariant.going.going.held in
-    let readable = c.in-Ok-next_state.ensures.readable key c.bytes.invariant.going.going.held c.bytes.invariant.going.going.alive in
-    let last : v.start ≡ c.start-start.result = sym c.start-start.ensures.value in
-    let lt : v.start < at = omega arith in
+    let going = c.bytes.invariant.going in
     let high = c.bytes.invariant.high in
-    let nothing = c.is_special.ensures.no_match (next_key d key byte) held c.if-not-is_special.true in
+    let next = c.in-Ok-back.passed.0 in
+    let place = c.in-Ok-back.passed.1 in
+    let between = c.in-Ok-back.ensures.between in
+    let passed = c.in-Ok-back.ensures.passed (key_behind d v at) going.going.held going.going.alive in
+    let first : c.start-start.result ≡ v.start = c.start-start.ensures.value in
     record {
       low = omega arith;
       high = omega arith;
-      going = back-next d c.is_utf8-utf8.ensures.sound c.requires.reverse v.haystack bytes v.start v.end c.requires.in_order spanned opening
-          (first-before d v.anchor (byte_after v.haystack v.end)) g.A.Automaton.holds c.args.dfa.now
-          c.bytes.cache c.next_state.new.cache c.bytes.state c.in-Ok-next_state.next at (at - 1) c.bytes.met c.bytes.met byte lt high refl byte_is
-          c.bytes.invariant.going held readable
-          (c.is_special.ensures.live (next_key d key byte) held c.if-not-is_special.true)
-          (sym (ap (λ ms. met_within (is_permitted d.nfa.utf8 v.haystack) ms at c.bytes.met) nothing));
+      going = back-passed-end d c.is_utf8-utf8.ensures.sound c.requires.reverse v bytes c.requires.in_order spanned g.A.Automaton.holds c.args.dfa.now
+          c.bytes.cache c.back.new.cache c.bytes.state next at place c.start-start.result c.bytes.met c.haystack-haystack.result.now hay first between.0
+          between.1 high passed going (omega arith);
       bytes = bytes;
-      fits = c.in-Ok-next_state.ensures.fits;
+      fits = c.in-Ok-back.ensures.fits;
     }
 
 pub record-met-requires : goal.record-met-requires
@@ -128,12 +105,22 @@ record-met-requires g c =
     let hay = c.haystack-haystack.ensures.value in
     let spanned = c.haystack-haystack.ensures.spanned.end in
     let opening = first_key d v.anchor (byte_after v.haystack v.end) in
+    let bytes = c.bytes.invariant.bytes in
     let at = c.bytes.at in
-    let byte = slice_index c.haystack-haystack.result.now (at - 1) in
-    let byte_is : byte ≡ slice_index v.haystack (at - 1) = ap (λ t. slice_index t (at - 1)) hay in
-    let key = key_behind d v at in
-    let held = c.in-Ok-next_state.ensures.next key c.bytes.invariant.going.going.held in
-    (next_key d key byte, held)
+    let going = c.bytes.invariant.going in
+    let high = c.bytes.invariant.high in
+    let next = c.in-Ok-back.passed.0 in
+    let place = c.in-Ok-back.passed.1 in
+    let between = c.in-Ok-back.ensures.between in
+    let passed = c.in-Ok-back.ensures.passed (key_behind d v at) going.going.held going.going.alive in
+    let first : c.start-start.result ≡ v.start = c.start-start.ensures.value in
+    let inside : c.start-start.result < place = omega arith in
+    let there = back-passed-before d c.is_utf8-utf8.ensures.sound c.requires.reverse v bytes c.requires.in_order spanned g.A.Automaton.holds c.args.dfa.now
+    c.bytes.cache c.back.new.cache c.bytes.state next at place c.start-start.result c.bytes.met c.haystack-haystack.result.now hay first between.0 between.1
+    high passed going inside in
+    let byte = slice_index v.haystack (place - 1) in
+    let key = key_behind d v place in
+    (next_key d key byte, there.held)
 
 pub is_dead-requires-in-bytes : goal.is_dead-requires-in-bytes
 is_dead-requires-in-bytes g c =
@@ -142,12 +129,22 @@ is_dead-requires-in-bytes g c =
     let hay = c.haystack-haystack.ensures.value in
     let spanned = c.haystack-haystack.ensures.spanned.end in
     let opening = first_key d v.anchor (byte_after v.haystack v.end) in
+    let bytes = c.bytes.invariant.bytes in
     let at = c.bytes.at in
-    let byte = slice_index c.haystack-haystack.result.now (at - 1) in
-    let byte_is : byte ≡ slice_index v.haystack (at - 1) = ap (λ t. slice_index t (at - 1)) hay in
-    let key = key_behind d v at in
-    let held = c.in-Ok-next_state.ensures.next key c.bytes.invariant.going.going.held in
-    (next_key d key byte, held)
+    let going = c.bytes.invariant.going in
+    let high = c.bytes.invariant.high in
+    let next = c.in-Ok-back.passed.0 in
+    let place = c.in-Ok-back.passed.1 in
+    let between = c.in-Ok-back.ensures.between in
+    let passed = c.in-Ok-back.ensures.passed (key_behind d v at) going.going.held going.going.alive in
+    let first : c.start-start.result ≡ v.start = c.start-start.ensures.value in
+    let inside : c.start-start.result < place = omega arith in
+    let there = back-passed-before d c.is_utf8-utf8.ensures.sound c.requires.reverse v bytes c.requires.in_order spanned g.A.Automaton.holds c.args.dfa.now
+    c.bytes.cache c.back.new.cache c.bytes.state next at place c.start-start.result c.bytes.met c.haystack-haystack.result.now hay first between.0 between.1
+    high passed going inside in
+    let byte = slice_index v.haystack (place - 1) in
+    let key = key_behind d v place in
+    (next_key d key byte, there.held)
 
 pub returns-then-is_dead-2-clause-met : goal.returns-then-is_dead-2-clause-met
 returns-then-is_dead-2-clause-met g c =
@@ -158,22 +155,27 @@ returns-then-is_dead-2-clause-met g c =
     let opening = first_key d v.anchor (byte_after v.haystack v.end) in
     let bytes = c.bytes.invariant.bytes in
     let at = c.bytes.at in
-    let byte = slice_index c.haystack-haystack.result.now (at - 1) in
-    let byte_is : byte ≡ slice_index v.haystack (at - 1) = ap (λ t. slice_index t (at - 1)) hay in
-    let key = key_behind d v at in
-    let held = c.in-Ok-next_state.ensures.next key c.bytes.invariant.going.going.held in
-    let readable = c.in-Ok-next_state.ensures.readable key c.bytes.invariant.going.going.held c.bytes.invariant.going.going.alive in
-    let last : v.start ≡ c.start-start.result = sym c.start-start.ensures.value in
-    let lt : v.start < at = omega arith in
+    let going = c.bytes.invariant.going in
     let high = c.bytes.invariant.high in
-    let may : is_permitted d.nfa.utf8 v.haystack at ≡ c.is_permitted_at-may.result =
-    sym (c.is_permitted_at-may.ensures ∙ (λ j. is_permitted (c.is_utf8-utf8.ensures.value j) (hay j) at)) in
-    let met = c.record-met.ensures (next_key d key byte) held (is_permitted d.nfa.utf8 v.haystack) may in
+    let next = c.in-Ok-back.passed.0 in
+    let place = c.in-Ok-back.passed.1 in
+    let between = c.in-Ok-back.ensures.between in
+    let passed = c.in-Ok-back.ensures.passed (key_behind d v at) going.going.held going.going.alive in
+    let first : c.start-start.result ≡ v.start = c.start-start.ensures.value in
+    let inside : c.start-start.result < place = omega arith in
+    let there = back-passed-before d c.is_utf8-utf8.ensures.sound c.requires.reverse v bytes c.requires.in_order spanned g.A.Automaton.holds c.args.dfa.now
+    c.bytes.cache c.back.new.cache c.bytes.state next at place c.start-start.result c.bytes.met c.haystack-haystack.result.now hay first between.0 between.1
+    high passed going inside in
+    let byte = slice_index v.haystack (place - 1) in
+    let key = key_behind d v place in
+    let may : is_permitted d.nfa.utf8 v.haystack place ≡ c.is_permitted_at-may.result =
+    sym (c.is_permitted_at-may.ensures ∙ (λ j. is_permitted (c.is_utf8-utf8.ensures.value j) (hay j) place)) in
+    let met = c.record-met.ensures (next_key d key byte) there.held (is_permitted d.nfa.utf8 v.haystack) may in
     met-of d v c.record-met.result
     (back-dead d c.is_utf8-utf8.ensures.sound c.requires.reverse v.haystack bytes v.start v.end c.requires.in_order spanned opening
-    (first-before d v.anchor (byte_after v.haystack v.end)) g.A.Automaton.holds c.args.dfa.now
-    v.earliest c.bytes.cache c.bytes.state at (at - 1) c.bytes.met c.record-met.result byte lt high refl byte_is c.bytes.invariant.going readable
-    (sym (c.is_dead-in-bytes.ensures (next_key d key byte) held) ∙ c.if-is_dead-2.true) met)
+    (first-before d v.anchor (byte_after v.haystack v.end)) nothing_held c.args.dfa.now
+    v.earliest c.bytes.cache c.bytes.state place (place - 1) c.bytes.met c.record-met.result byte (omega arith) (omega arith) refl refl there.past
+    there.readable (sym (c.is_dead-in-bytes.ensures (next_key d key byte) there.held) ∙ c.if-is_dead-2.true) met)
 
 pub returns-then-is_enough-clause-met : goal.returns-then-is_enough-clause-met
 returns-then-is_enough-clause-met g c =
@@ -184,21 +186,27 @@ returns-then-is_enough-clause-met g c =
     let opening = first_key d v.anchor (byte_after v.haystack v.end) in
     let bytes = c.bytes.invariant.bytes in
     let at = c.bytes.at in
-    let byte = slice_index c.haystack-haystack.result.now (at - 1) in
-    let byte_is : byte ≡ slice_index v.haystack (at - 1) = ap (λ t. slice_index t (at - 1)) hay in
-    let key = key_behind d v at in
-    let held = c.in-Ok-next_state.ensures.next key c.bytes.invariant.going.going.held in
-    let readable = c.in-Ok-next_state.ensures.readable key c.bytes.invariant.going.going.held c.bytes.invariant.going.going.alive in
-    let last : v.start ≡ c.start-start.result = sym c.start-start.ensures.value in
-    let lt : v.start < at = omega arith in
+    let going = c.bytes.invariant.going in
     let high = c.bytes.invariant.high in
-    let may : is_permitted d.nfa.utf8 v.haystack at ≡ c.is_permitted_at-may.result =
-    sym (c.is_permitted_at-may.ensures ∙ (λ j. is_permitted (c.is_utf8-utf8.ensures.value j) (hay j) at)) in
-    let met = c.record-met.ensures (next_key d key byte) held (is_permitted d.nfa.utf8 v.haystack) may in
+    let next = c.in-Ok-back.passed.0 in
+    let place = c.in-Ok-back.passed.1 in
+    let between = c.in-Ok-back.ensures.between in
+    let passed = c.in-Ok-back.ensures.passed (key_behind d v at) going.going.held going.going.alive in
+    let first : c.start-start.result ≡ v.start = c.start-start.ensures.value in
+    let inside : c.start-start.result < place = omega arith in
+    let there = back-passed-before d c.is_utf8-utf8.ensures.sound c.requires.reverse v bytes c.requires.in_order spanned g.A.Automaton.holds c.args.dfa.now
+    c.bytes.cache c.back.new.cache c.bytes.state next at place c.start-start.result c.bytes.met c.haystack-haystack.result.now hay first between.0 between.1
+    high passed going inside in
+    let byte = slice_index v.haystack (place - 1) in
+    let key = key_behind d v place in
+    let may : is_permitted d.nfa.utf8 v.haystack place ≡ c.is_permitted_at-may.result =
+    sym (c.is_permitted_at-may.ensures ∙ (λ j. is_permitted (c.is_utf8-utf8.ensures.value j) (hay j) place)) in
+    let met = c.record-met.ensures (next_key d key byte) there.held (is_permitted d.nfa.utf8 v.haystack) may in
     met-of d v c.record-met.result
     (back-early d c.is_utf8-utf8.ensures.sound c.requires.reverse v.haystack bytes v.start v.end c.requires.in_order spanned opening
-    (first-before d v.anchor (byte_after v.haystack v.end)) g.A.Automaton.holds c.args.dfa.now
-    v.earliest c.bytes.cache c.bytes.state at (at - 1) c.bytes.met c.record-met.result byte lt high refl byte_is c.bytes.invariant.going readable met
+    (first-before d v.anchor (byte_after v.haystack v.end)) nothing_held c.args.dfa.now
+    v.earliest c.bytes.cache c.bytes.state place (place - 1) c.bytes.met c.record-met.result byte (omega arith) (omega arith) refl refl there.past
+    there.readable met
     (ap (λ e. e && is_some c.record-met.result.best) (sym c.get_earliest.ensures) ∙ sym c.is_enough.ensures ∙ c.if-is_enough.true))
 
 pub bytes-preserved : goal.bytes-preserved
@@ -210,27 +218,30 @@ bytes-preserved g c =
     let opening = first_key d v.anchor (byte_after v.haystack v.end) in
     let bytes = c.bytes.invariant.bytes in
     let at = c.bytes.at in
-    let byte = slice_index c.haystack-haystack.result.now (at - 1) in
-    let byte_is : byte ≡ slice_index v.haystack (at - 1) = ap (λ t. slice_index t (at - 1)) hay in
-    let key = key_behind d v at in
-    let held = c.in-Ok-next_state.ensures.next key c.bytes.invariant.going.going.held in
-    let readable = c.in-Ok-next_state.ensures.readable key c.bytes.invariant.going.going.held c.bytes.invariant.going.going.alive in
-    let last : v.start ≡ c.start-start.result = sym c.start-start.ensures.value in
-    let lt : v.start < at = omega arith in
+    let going = c.bytes.invariant.going in
     let high = c.bytes.invariant.high in
-    let may : is_permitted d.nfa.utf8 v.haystack at ≡ c.is_permitted_at-may.result =
-    sym (c.is_permitted_at-may.ensures ∙ (λ j. is_permitted (c.is_utf8-utf8.ensures.value j) (hay j) at)) in
-    let met = c.record-met.ensures (next_key d key byte) held (is_permitted d.nfa.utf8 v.haystack) may in
+    let next = c.in-Ok-back.passed.0 in
+    let place = c.in-Ok-back.passed.1 in
+    let between = c.in-Ok-back.ensures.between in
+    let passed = c.in-Ok-back.ensures.passed (key_behind d v at) going.going.held going.going.alive in
+    let first : c.start-start.result ≡ v.start = c.start-start.ensures.value in
+    let inside : c.start-start.result < place = omega arith in
+    let there = back-passed-before d c.is_utf8-utf8.ensures.sound c.requires.reverse v bytes c.requires.in_order spanned g.A.Automaton.holds c.args.dfa.now
+    c.bytes.cache c.back.new.cache c.bytes.state next at place c.start-start.result c.bytes.met c.haystack-haystack.result.now hay first between.0 between.1
+    high passed going inside in
+    let byte = slice_index v.haystack (place - 1) in
+    let key = key_behind d v place in
+    let may : is_permitted d.nfa.utf8 v.haystack place ≡ c.is_permitted_at-may.result =
+    sym (c.is_permitted_at-may.ensures ∙ (λ j. is_permitted (c.is_utf8-utf8.ensures.value j) (hay j) place)) in
+    let met = c.record-met.ensures (next_key d key byte) there.held (is_permitted d.nfa.utf8 v.haystack) may in
     record {
       low = omega arith;
       high = omega arith;
-      going = back-next d c.is_utf8-utf8.ensures.sound c.requires.reverse v.haystack bytes v.start v.end c.requires.in_order spanned opening
-          (first-before d v.anchor (byte_after v.haystack v.end)) g.A.Automaton.holds c.args.dfa.now
-          c.bytes.cache c.next_state.new.cache c.bytes.state c.in-Ok-next_state.next at (at - 1) c.bytes.met c.record-met.result byte lt high refl byte_is
-          c.bytes.invariant.going held readable
-          (sym (c.is_dead-in-bytes.ensures (next_key d key byte) held) ∙ c.if-is_dead-2.false) met;
+      going = arrived-back d c.is_utf8-utf8.ensures.sound c.requires.reverse v bytes c.requires.in_order spanned g.A.Automaton.holds c.args.dfa.now
+          c.bytes.cache c.back.new.cache c.bytes.state next place c.bytes.met c.record-met.result (omega arith) (omega arith) there
+          (sym (c.is_dead-in-bytes.ensures (next_key d key byte) there.held) ∙ c.if-is_dead-2.false) met;
       bytes = bytes;
-      fits = c.in-Ok-next_state.ensures.fits;
+      fits = c.in-Ok-back.ensures.fits;
     }
 
 pub returns-in-Err-last_state-clause-err : goal.returns-in-Err-last_state-clause-err

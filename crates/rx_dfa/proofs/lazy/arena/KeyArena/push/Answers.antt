@@ -1,6 +1,4 @@
-use Rattle.std.proofs.Common.{◌≡◌, ℕ, ◌+◌, ◌∷◌, ◌++◌, [], List, length, map, sym, ◌∙◌, ap, arith}
-use Rattle.std.specs.Prelude.{Option}
-use Rattle.rx_determinize.specs.Key.{Key}
+use Rattle.std.proofs.Common.{◌≡◌, ◌∷◌, ◌++◌, [], length, map, ◌∙◌, ap, arith}
 use Rattle.rx_dfa.specs.KeyRow.{key_in}
 use Rattle.rx_dfa.specs.StateKey.{key_of}
 use Rattle.rx_dfa.specs.declared.lazy.key_row.KeyRow.{KeyRow}

@@ -1,6 +1,5 @@
-use Rattle.std.proofs.Common.{true, ◌≡◌, ◌≢◌, ℕ, sym, ◌∙◌, ap, subst, true≢false}
+use Rattle.std.proofs.Common.{true, ◌≡◌, ◌≢◌, sym, ◌∙◌, ap, true≢false}
 use Rattle.std.proofs.lemmas.Bool.Decides.{Decides-eqb}
-use Rattle.rx_dfa.specs.Automaton.{IsStartKey}
 use Rattle.rx_dfa.specs.Lazy.{LazyValue, dead_state, begun_key}
 use Rattle.rx_dfa.proofs.lemmas.SameLemmas.{held-same}
 use Rattle.rx_dfa.proofs.lemmas.RowsLemmas.{wide}

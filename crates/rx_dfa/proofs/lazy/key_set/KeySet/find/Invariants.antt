@@ -1,4 +1,4 @@
-use Rattle.std.proofs.Common.{◌≡◌, ◌<◌, length}
+use Rattle.std.proofs.Common.{length}
 use Rattle.rx_dfa.specs.Hash.{bucket_of}
 use Rattle.rx_dfa.specs.StateKey.{key_of}
 use Rattle.rx_dfa.proofs.lemmas.ChainLemmas.{Seeks}

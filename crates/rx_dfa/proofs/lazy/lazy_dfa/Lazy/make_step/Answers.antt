@@ -51,24 +51,28 @@ make_room-requires-clause-live c =
     let l = c.args.self.now in
     let new = c.make_key.new.cache in
     let ok : is_err c.make_key.result ≡ false = sym c.is_err.ensures.value ∙ c.if-is_err.false in
+    let from : slice_get new.rows.keys c.args.row ≡ Some (key_of new.from) = ok-then c.make_key.result _ ok c.make_key.ensures.from in
     let into : key_of new.into ≡ key_after l.dfa (key_of new.from) c.args.byte = ok-then c.make_key.result _ ok c.make_key.ensures.into in
     let below : All (λ q. q < length l.dfa.nfa.states) (key_of new.into).threads = ok-then c.make_key.result _ ok c.make_key.ensures.below in
     subst (IsLive l.dfa) (sym into)
     (live-after l.dfa c.column-column.ensures.sound.dfa (key_of new.from) c.args.byte c.requires.small c.requires.readable
     (ap is_dead (sym into) ∙ c.in_default.ensures.0)
-    (subst (λ (x : Key). All (λ q. q < length l.dfa.nfa.states) x.threads) into below))
+    (subst (λ (x : Key). All (λ q. q < length l.dfa.nfa.states) x.threads) into below)
+    (c.make_key.ensures.fits.rows.keys c.args.row (key_of new.from) from).reached)
 
 pub add-requires-clause-live : goal.add-requires-clause-live
 add-requires-clause-live c =
     let l = c.args.self.now in
     let new = c.make_key.new.cache in
     let ok : is_err c.make_key.result ≡ false = sym c.is_err.ensures.value ∙ c.if-is_err.false in
+    let from : slice_get new.rows.keys c.args.row ≡ Some (key_of new.from) = ok-then c.make_key.result _ ok c.make_key.ensures.from in
     let into : key_of new.into ≡ key_after l.dfa (key_of new.from) c.args.byte = ok-then c.make_key.result _ ok c.make_key.ensures.into in
     let below : All (λ q. q < length l.dfa.nfa.states) (key_of new.into).threads = ok-then c.make_key.result _ ok c.make_key.ensures.below in
     subst (IsLive l.dfa) (sym into)
     (live-after l.dfa c.column-column.ensures.sound.dfa (key_of new.from) c.args.byte c.requires.small c.requires.readable
     (ap is_dead (sym into) ∙ c.in_default.ensures.0)
-    (subst (λ (x : Key). All (λ q. q < length l.dfa.nfa.states) x.threads) into below))
+    (subst (λ (x : Key). All (λ q. q < length l.dfa.nfa.states) x.threads) into below)
+    (c.make_key.ensures.fits.rows.keys c.args.row (key_of new.from) from).reached)
 
 pub set-requires-in-Ok-add-clause-row : goal.set-requires-in-Ok-add-clause-row
 set-requires-in-Ok-add-clause-row c =

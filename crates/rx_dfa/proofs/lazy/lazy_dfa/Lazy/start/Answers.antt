@@ -22,7 +22,7 @@ enter-requires-clause-live c alive =
     subst (λ (ss : List State). All (λ q. q < length ss) into.threads) c.source.ensures.states c.in_ok-start.ensures.below in
     subst (IsLive d) (sym is)
     (live-start d start loops before (ap is_dead (sym is) ∙ alive) (subst (λ (x : Key). All (λ q. q < length d.nfa.states) x.threads) is below)
-    c.requires.byte c.requires.readable)
+    c.requires.byte c.requires.readable c.requires.reached)
 
 pub returns-in-Some-clause-grown : goal.returns-in-Some-clause-grown
 returns-in-Some-clause-grown c =

@@ -4,7 +4,7 @@ use Rattle.rx_search.specs.Anchored.{anchor_of}
 use Rattle.rx_nfa.specs.NextMatch.{start_of}
 use Rattle.rx_dfa.specs.Automaton.{IsReadable, first_key}
 use Rattle.rx_dfa.proofs.lemmas.ClearingLemmas.{grown-kept, grown-first}
-use Rattle.rx_dfa.proofs.lemmas.LazyLemmas.{beside-readable}
+use Rattle.rx_dfa.proofs.lemmas.LazyLemmas.{beside-readable, begun-reached}
 use Rattle.rx_dfa.proofs.lazy.lazy_dfa.Lazy.start_at.Goals as goal
 
 pub start-requires-clause-readable : goal.start-requires-clause-readable
@@ -13,6 +13,13 @@ start-requires-clause-readable c =
     let small : IfSome c.args.beside (λ b. b < 256) = search rules in
     subst (IsReadable d.nfa) (sym c.kept_beside-before.ensures)
     (beside-readable d c.refused.ensures.sound.dfa c.args.beside small c.in_default.ensures.none)
+
+pub start-requires-clause-reached : goal.start-requires-clause-reached
+start-requires-clause-reached c =
+    let d = c.args.self.now.dfa in
+    let small : IfSome c.args.beside (λ b. b < 256) = search rules in
+    begun-reached d (anchor_of c.args.mode) c.args.beside c.in-Some-start_of.start (not c.is_anchored.result) c.kept_beside-before.result
+    c.in-Some-start_of.ensures.value (ap not c.is_anchored.ensures) c.kept_beside-before.ensures small c.in_default.ensures.none
 
 pub returns-in-Some-clause-grown : goal.returns-in-Some-clause-grown
 returns-in-Some-clause-grown c =

@@ -1,4 +1,4 @@
-use Rattle.std.proofs.Common.{ℕ, ◌<◌, length, ap, subst}
+use Rattle.std.proofs.Common.{◌<◌, length, ap, subst}
 use Rattle.std.specs.Prelude.{IfSome}
 use Rattle.rx_dfa.specs.Lazy.{LazyValue}
 use Rattle.rx_dfa.proofs.lemmas.RowsLemmas.{start-below}

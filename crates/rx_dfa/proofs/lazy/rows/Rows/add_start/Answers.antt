@@ -27,5 +27,5 @@ returns-clause-grown c =
     let key = key_of c.args.key.now in
     let a = c.add-2.ensures in
     grown-begun l key c.args.self.now.since None c.args.self.now c.clear.new.self c.add-2.new.self c.add-2.result
-    (full-from l key c.args.self.now c.has_room.result c.requires.new c.has_room.ensures.room c.if-has_room.false) c.clear.ensures.empty a.ok a.err
+    (full-from l key c.args.self.now c.has_room.result c.requires.live.alive c.requires.new c.has_room.ensures.room c.if-has_room.false) c.clear.ensures.empty a.ok a.err
     (a.counts ∙ c.clear.ensures.counts)

@@ -33,7 +33,7 @@ returns-then-is_to_give_up-clause-err c =
     let l = c.args.lazy.now in
     let r = c.args.self.now in
     let into = key_of c.args.into.now in
-    let full = full-from l into r c.has_room.result c.requires.into c.has_room.ensures.room c.if-has_room.false in
+    let full = full-from l into r c.has_room.result c.requires.live.alive c.requires.into c.has_room.ensures.room c.if-has_room.false in
     let same : c.is_to_give_up.new.self.size ≡ r.size = ap (λ (x : Rows). x.size) c.is_to_give_up.ensures.same in
     record {
       key = into;
@@ -46,7 +46,7 @@ returns-then-is_to_give_up-clause-err c =
 
 pub returns-then-is_to_give_up-clause-full : goal.returns-then-is_to_give_up-clause-full
 returns-then-is_to_give_up-clause-full c = (
-  full-from c.args.lazy.now (key_of c.args.into.now) c.args.self.now c.has_room.result c.requires.into c.has_room.ensures.room c.if-has_room.false,
+  full-from c.args.lazy.now (key_of c.args.into.now) c.args.self.now c.has_room.result c.requires.live.alive c.requires.into c.has_room.ensures.room c.if-has_room.false,
   c.is_to_give_up.ensures.same,
 )
 
@@ -72,7 +72,7 @@ returns-then-is_err-clause-grown c =
     let into = key_of c.args.into.now in
     let keys = err-then c.add.result _ (sym c.is_err.ensures.value ∙ c.if-is_err.true) c.add.ensures.err in
     inr (record {
-      full = full-from l into c.args.self.now c.has_room.result c.requires.into c.has_room.ensures.room c.if-has_room.false;
+      full = full-from l into c.args.self.now c.has_room.result c.requires.live.alive c.requires.into c.has_room.ensures.room c.if-has_room.false;
       held = 0;
       keys = keys ∙ c.clear.ensures.empty;
       counts = c.add.ensures.counts ∙ c.clear.ensures.counts ∙ ap (λ (r : Rows). (one_more r.clears, Some c.args.taken)) c.is_to_give_up.ensures.same;
@@ -107,7 +107,7 @@ returns-clause-made c =
     let into = key_of c.args.into.now in
     let keys = ok-then c.add.result _ (sym c.is_err.ensures.value ∙ c.if-is_err.false) c.add.ensures.ok in
     inr (
-      full-from l into c.args.self.now c.has_room.result c.requires.into c.has_room.ensures.room c.if-has_room.false,
+      full-from l into c.args.self.now c.has_room.result c.requires.live.alive c.requires.into c.has_room.ensures.room c.if-has_room.false,
       keys ∙ ap (λ (ks : List Key). ks ++ from ∷ []) c.clear.ensures.empty,
       c.add.ensures.counts ∙ c.clear.ensures.counts ∙ ap (λ (r : Rows). (one_more r.clears, Some c.args.taken)) c.is_to_give_up.ensures.same,
     )

@@ -1,4 +1,4 @@
-use Rattle.std.proofs.Common.{◌≡◌, ℕ, ◌+◌, ◌*◌, set, refl, ap}
+use Rattle.std.proofs.Common.{◌+◌, ◌*◌, set, refl, ap}
 use Rattle.rx_dfa.proofs.lemmas.RowsLemmas.{rows-set}
 use Rattle.rx_dfa.proofs.lazy.rows.Rows.set.Goals as goal
 

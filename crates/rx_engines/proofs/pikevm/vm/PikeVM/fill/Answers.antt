@@ -4,7 +4,7 @@ use Rattle.std.specs.Prelude.{true, nat_lt}
 use Rattle.rx_model.proofs.lemmas.runs.RunLemmas.{by_test}
 use Rattle.rx_search.specs.PatternSet.{has}
 use Rattle.rx_engines.specs.Engine.{PikeVMValue}
-use Rattle.rx_engines.specs.Sets.{MatchesIn}
+use Rattle.rx_search.specs.Sets.{MatchesIn}
 use Rattle.rx_engines.proofs.lemmas.answers.OverlapLemmas.{keeps-same, keeps-twice, gains-same, gains-twice, matches-there}
 use Rattle.rx_engines.proofs.pikevm.vm.PikeVM.fill.Goals as goal
 

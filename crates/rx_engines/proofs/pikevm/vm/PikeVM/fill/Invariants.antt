@@ -5,7 +5,7 @@ use Rattle.rx_search.specs.PatternSet.{has}
 use Rattle.rx_nfa.specs.Nfa.{IsNfaOf}
 use Rattle.rx_engines.specs.Engine.{Fits}
 use Rattle.rx_engines.specs.Needles.{BeginsEachRun}
-use Rattle.rx_engines.specs.Sets.{MatchesIn, KeepsMembers, GainsMatching}
+use Rattle.rx_search.specs.Sets.{MatchesIn, KeepsMembers, GainsMatching}
 use Rattle.rx_engines.proofs.pikevm.vm.PikeVM.fill.Given as goal
 
 abbrev pub invariant-loop-k : goal.invariant-loop-k

@@ -1,7 +1,7 @@
 use Rattle.std.proofs.Common.{◌≡◌, length, sym, ◌∙◌, ap, subst, true≢false}
 use Rattle.std.specs.Prelude.{List, Bool}
 use Rattle.rx_search.specs.PatternSet.{has}
-use Rattle.rx_engines.specs.Sets.{KeepsMembers, GainsMatching}
+use Rattle.rx_search.specs.Sets.{KeepsMembers, GainsMatching}
 use Rattle.rx_engines.proofs.lemmas.answers.OverlapLemmas.{keeps-same, keeps-set, gains-same, gains-set, set-there}
 use Rattle.rx_engines.proofs.pikevm.vm.PikeVM.try_pattern.Goals as goal
 

@@ -7,8 +7,8 @@ use Rattle.rx_strategy.specs.Core.{CoreValue}
 use Rattle.rx_strategy.proofs.AnswerLemmas.{core-whether}
 use Rattle.rx_strategy.proofs.strategy.engines.Core.is_match.Goals as goal
 
-pub returns-clause-value : goal.returns-clause-value
-returns-clause-value c =
+pub returns-in-Err-clause-value : goal.returns-in-Err-clause-value
+returns-in-Err-clause-value c =
     let core = c.args.self.now in
     let v = c.args.input.now in
     let nfa : c.self.inside.pikevm.nfa ≡ core.nfa = ap (λ (k : CoreValue). k.nfa) c.self.view_is in

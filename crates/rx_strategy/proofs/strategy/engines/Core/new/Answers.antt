@@ -1,16 +1,25 @@
 use Rattle.std.proofs.Common.{◌≡◌, sym, ap, ◌∙◌, subst}
+use Rattle.std.specs.Prelude.{Option}
+use Rattle.rx_nfa.specs.Nfa.{Nfa}
+use Rattle.rx_search.specs.declared.anchored.MatchKind.{MatchKind}
 use Rattle.rx_engines.specs.Engine.{PikeVMValue}
+use Rattle.rx_strategy.specs.Availability.{AreDfasBeside}
 use Rattle.rx_strategy.specs.Core.{AreKnownOf}
-use Rattle.rx_strategy.proofs.CoreLemmas.{engines-agree}
+use Rattle.rx_strategy.specs.Dfas.{ServeNfa}
+use Rattle.rx_strategy.proofs.CoreLemmas.{engines-agree, dfas-serve}
 use Rattle.rx_strategy.proofs.strategy.engines.Core.new.Goals as goal
 
 pub invariant_of-result : goal.invariant_of-result
 invariant_of-result c =
     let is = c.build_from_nfa.ensures in
     let same : c.build_from_nfa.result.nfa ≡ c.args.nfa = ap (λ (e : PikeVMValue). e.nfa) is in
-    let kind = ap (λ (e : PikeVMValue). e.kind) is ∙ c.get_match_kind.ensures in
-    let pre = ap (λ (e : PikeVMValue). e.pre) is ∙ c.in_ok-own.ensures ∙ c.as_ref.ensures.value in (
+    let kind = ap (λ (e : PikeVMValue). e.kind) is ∙ c.get_match_kind-kind.ensures in
+    let pre = ap (λ (e : PikeVMValue). e.pre) is ∙ c.in_ok-own.ensures ∙ c.as_ref-2.ensures.value in
+    let dfas = subst (λ (o : Option Nfa). AreDfasBeside c.args.config.now c.args.nfa o c.in_ok-dfas.dfas) c.as_ref.ensures.value c.in_ok-dfas.ensures in (
       engines-agree c.args.config.now c.in_ok-backtrack.backtrack c.build_from_nfa.result c.args.nfa c.args.pre same kind c.in_ok-backtrack.ensures,
-      subst (AreKnownOf c.args.info.properties) (sym same) c.requires,
+      subst (AreKnownOf c.args.info.properties) (sym same) c.requires.known,
       pre,
+      subst (λ (p : Nfa × MatchKind). ServeNfa p.0 p.1 c.args.reverse c.in_ok-dfas.dfas) (λ i. (sym same i, sym kind i))
+          (dfas-serve c.args.config.now c.args.nfa c.args.reverse c.in_ok-dfas.dfas dfas c.requires.reads.0 c.requires.reads.1),
+      sym (ap (λ (e : PikeVMValue). e.kind) is),
     )

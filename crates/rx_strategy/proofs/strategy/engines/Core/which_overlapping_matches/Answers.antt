@@ -1,37 +1,30 @@
-use Rattle.std.proofs.Common.{◌≡◌, ℕ, ◌≤◌, List, length, ap, sym, ◌∙◌, subst}
-use Rattle.std.specs.Prelude.{Option}
-use Rattle.rx_model.specs.Search.{Patterns}
-use Rattle.rx_search.specs.declared.anchored.MatchKind.{MatchKind}
-use Rattle.rx_nfa.specs.Nfa.{Nfa, IsNfaOf}
-use Rattle.rx_engines.specs.Needles.{BeginsEachRun}
-use Rattle.rx_engines.specs.Sets.{GainsMatching, IsFilledFor}
-use Rattle.rx_strategy.specs.Core.{CoreValue}
-use Rattle.rx_strategy.proofs.AnswerLemmas.{core-adds, core-fills}
+use Rattle.std.proofs.Common.{◌≤◌, length, arith}
+use Rattle.rx_engines.proofs.lemmas.answers.OverlapLemmas.{keeps-twice, gains-twice}
+use Rattle.rx_strategy.proofs.CacheLemmas.{alike-then}
 use Rattle.rx_strategy.proofs.strategy.engines.Core.which_overlapping_matches.Goals as goal
 
-pub which_overlapping_matches-requires-clause-room : goal.which_overlapping_matches-requires-clause-room
-which_overlapping_matches-requires-clause-room c =
-    subst (λ (core : CoreValue). length core.nfa.starts ≤ length c.args.set.now) (sym c.self.view_is) c.requires.room
+pub which_overlapping_nofail-requires-clause-room : goal.which_overlapping_nofail-requires-clause-room
+which_overlapping_nofail-requires-clause-room c =
+    let room = c.requires.room in
+    let same = c.try_which_overlapping.ensures.kept.room in
+    omega arith
+
+pub returns-clause-kept : goal.returns-clause-kept
+returns-clause-kept c =
+    keeps-twice c.args.set.now c.try_which_overlapping.new.set c.which_overlapping_nofail.new.set c.try_which_overlapping.ensures.kept
+    c.which_overlapping_nofail.ensures.kept
 
 pub returns-clause-matching : goal.returns-clause-matching
-returns-clause-matching c =
-    let core = c.args.self.now in
-    let v = c.args.input.now in
-    let called = c.which_overlapping_matches in
-    let nfa : c.self.inside.pikevm.nfa ≡ core.nfa = ap (λ (k : CoreValue). k.nfa) c.self.view_is in
-    let pre : c.self.inside.pikevm.pre ≡ core.pre = c.self.invariant.2 ∙ ap (λ (k : CoreValue). k.pre) c.self.view_is in
-    core-adds core v c.args.set.now called.new.set c.requires.spanned.end
-    (subst (λ (p : Option (List (List ℕ)) × Nfa). (r : Patterns) → IsNfaOf p.1 r → BeginsEachRun p.0 p.1 v
-    → GainsMatching r v c.args.set.now called.new.set) (λ i. (pre i, nfa i)) called.ensures.matching)
+returns-clause-matching c r p =
+    gains-twice r c.args.input.now c.args.set.now c.try_which_overlapping.new.set c.which_overlapping_nofail.new.set
+    (c.try_which_overlapping.ensures.matching r p) (c.which_overlapping_nofail.ensures.matching r p)
 
 pub returns-clause-filled : goal.returns-clause-filled
-returns-clause-filled c =
-    let core = c.args.self.now in
-    let v = c.args.input.now in
-    let called = c.which_overlapping_matches in
-    let nfa : c.self.inside.pikevm.nfa ≡ core.nfa = ap (λ (k : CoreValue). k.nfa) c.self.view_is in
-    let pre : c.self.inside.pikevm.pre ≡ core.pre = c.self.invariant.2 ∙ ap (λ (k : CoreValue). k.pre) c.self.view_is in
-    let kind : c.self.inside.pikevm.kind ≡ core.kind = ap (λ (k : CoreValue). k.kind) c.self.view_is in
-    core-fills core v c.args.set.now called.new.set c.requires.spanned.end core.kind
-    (subst (λ (p : (Option (List (List ℕ)) × Nfa) × MatchKind). (r : Patterns) → IsNfaOf p.0.1 r → BeginsEachRun p.0.0 p.0.1 v
-    → IsFilledFor r v c.args.set.now called.new.set p.1) (λ i. ((pre i, nfa i), kind i)) called.ensures.filled)
+returns-clause-filled c r p =
+    let f = c.which_overlapping_nofail.ensures.filled r p in
+    record { all = f.all; next = f.next; some = f.some }
+
+pub returns-clause-memory : goal.returns-clause-memory
+returns-clause-memory c =
+    alike-then c.args.self.now c.args.cache.now c.try_which_overlapping.new.cache c.which_overlapping_nofail.new.cache c.try_which_overlapping.ensures.memory
+    c.which_overlapping_nofail.ensures.memory

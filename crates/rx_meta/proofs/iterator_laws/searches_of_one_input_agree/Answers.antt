@@ -1,0 +1,16 @@
+use Rattle.std.proofs.Common.{sym, ◌∙◌}
+use Rattle.rx_search.specs.Input.{next_in}
+use Rattle.rx_meta.proofs.IteratorLemmas.{half-agrees, pattern-agrees, there-agrees}
+use Rattle.rx_meta.proofs.iterator_laws.searches_of_one_input_agree.Goals as goal
+
+pub returns-clause-again : goal.returns-clause-again
+returns-clause-again c = λ regex r v p found other is again. again.value r p ∙ sym (is.value r p)
+
+pub returns-clause-half : goal.returns-clause-half
+returns-clause-half c = λ regex r v p found half is other. other.value r p ∙ half-agrees (next_in r v) found (is.value r p)
+
+pub returns-clause-pattern : goal.returns-clause-pattern
+returns-clause-pattern c = λ regex r v p found pattern is other. other.value r p ∙ pattern-agrees (next_in r v) found (is.value r p)
+
+pub returns-clause-whether : goal.returns-clause-whether
+returns-clause-whether c = λ regex r v p found there is tells. tells r p.premises ∙ there-agrees (next_in r v) found (is.value r p)

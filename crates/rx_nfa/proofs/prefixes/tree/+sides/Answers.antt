@@ -1,0 +1,166 @@
+use Rattle.std.proofs.Common.{◌≡◌, ◌<◌, ◌+◌, ◌-◌, [], ◌∷◌, ◌++◌, ◌∙◌, sym, ap, subst, arith, length, take, drop}
+use Rattle.std.specs.Prelude.{All, map}
+use Rattle.std.specs.Vec.{vec_items}
+use Rattle.std.proofs.lemmas.List.{take_all, append_assoc}
+use Rattle.std.proofs.lemmas.List.Elements.{All-map}
+use Rattle.rx_nfa.specs.Prefixes.{IsWord, rests}
+use Rattle.rx_nfa.specs.Row.{Ascends}
+use Rattle.rx_nfa.specs.Trees.{IsTargetOf, ReadsByTree, LeadsByTree}
+use Rattle.rx_nfa.proofs.lemmas.prefixes.GrowLemmas.{Grown-same, Grown-trans, reads-both, reads-grown, reads-nothing, rests-words, row-reads, reader-branch, led-targets, led-more, map-more, map-split, sub-words, between-none}
+use Rattle.rx_nfa.proofs.prefixes.tree.+sides.Goals as goal
+
+pub chunk-returns-then-levels-gt0-clause-reads : goal.chunk-returns-then-levels-gt0-clause-reads
+chunk-returns-then-levels-gt0-clause-reads t c = λ before h.
+    let words = map vec_items c.args.words.now in
+    subst (λ qs. ReadsByTree c.branches.new.tree qs (before ++ words)) (sym c.in_ok-push.ensures.items)
+    (reads-both c.branches.new.tree c.args.starts.now.items (c.in_ok-start.start ∷ []) before words
+    (reads-grown c.args.tree.now c.branches.new.tree c.in_ok-start.ensures.grown c.args.starts.now.items before h) c.in_ok-start.ensures.reads)
+
+pub chunk-loop-word-preserved : goal.chunk-loop-word-preserved
+chunk-loop-word-preserved t c =
+    let inv = c.loop-word.invariant in
+    let words = c.args.words.now in
+    let k = c.loop-word.word-index in
+    let item = c.word-item.result in
+    let old = c.loop-word.tree in
+    let new = c.chain.new.tree in
+    let qs = c.loop-word.starts.items in
+    let start = c.in_ok-start-2.start in
+    let grown = c.in_ok-start-2.ensures.grown in
+    let read : ReadsByTree c.chain.new.tree (c.in_ok-start-2.start ∷ []) (vec_items c.word-item.result ∷ []) =
+    subst (λ w. ReadsByTree c.chain.new.tree (c.in_ok-start-2.start ∷ []) (w ∷ [])) c.deref.ensures.value c.in_ok-start-2.ensures.reads in
+    let more = map-more vec_items c.args.words.now c.loop-word.word-index c.word-item.result (omega arith) c.word-item.is in
+    record {
+      tree = c.in_ok-start-2.ensures.tree;
+      grown = Grown-trans c.args.tree.now old new inv.grown grown;
+      reads = λ before h.
+          subst (λ rs. ReadsByTree c.chain.new.tree rs (before ++ map vec_items (take (c.loop-word.word-index + 1) c.args.words.now)))
+          (sym c.in_ok-push-2.ensures.items)
+          (subst (ReadsByTree c.chain.new.tree (c.loop-word.starts.items ++ c.in_ok-start-2.start ∷ []))
+          (append_assoc before (map vec_items (take c.loop-word.word-index c.args.words.now)) (vec_items c.word-item.result ∷ [])
+          ∙ ap (λ ws. before ++ ws) (sym more))
+          (reads-both new qs (start ∷ []) (before ++ map vec_items (take k words)) (vec_items item ∷ [])
+          (reads-grown old new grown qs (before ++ map vec_items (take k words)) (inv.reads before h)) read));
+    }
+
+pub chunk-returns-clause-reads : goal.chunk-returns-clause-reads
+chunk-returns-clause-reads t c = λ before h.
+    subst (λ ws. ReadsByTree c.loop-word.tree c.loop-word.starts.items (before ++ map vec_items ws))
+    (take_all c.loop-word.word-index c.args.words.now (omega arith)) (c.loop-word.invariant.reads before h)
+
+pub branches-loop-byte-preserved : goal.branches-loop-byte-preserved
+branches-loop-byte-preserved t c =
+    let inv = c.loop-byte.invariant in
+    let words = map vec_items c.args.words.now in
+    let here : LeadsByTree c.branch-alloc.new.tree c.in_ok-target.target (rests c.loop-byte.byte (map vec_items c.args.words.now)) =
+    subst (LeadsByTree c.branch-alloc.new.tree c.in_ok-target.target) (ap (map vec_items) c.deref.ensures.value ∙ c.in_ok-left.ensures)
+    c.in_ok-target.ensures.reads in
+    record {
+      tree = c.in_ok-target.ensures.tree;
+      grown = Grown-trans c.args.tree.now c.loop-byte.tree c.branch-alloc.new.tree inv.grown c.in_ok-target.ensures.grown;
+      ascends = c.in_ok-add_target.ensures.ascends;
+      led = λ b lt. led-more c.loop-byte.tree c.branch-alloc.new.tree c.loop-byte.row.items c.add_target.new.row.items c.loop-byte.byte c.in_ok-target.target
+          words c.in_ok-target.ensures.grown c.in_ok-add_target.ensures.routes inv.led here b lt;
+    }
+
+pub branches-push-requires-clause-branch : goal.branches-push-requires-clause-branch
+branches-push-requires-clause-branch t c =
+    let inv = c.loop-byte.invariant in
+    let full : c.loop-byte.byte ≡ 256 = omega arith in
+    let up = subst (λ n. Ascends 0 n c.loop-byte.row.items) full inv.ascends in
+    reader-branch (IsTargetOf c.loop-byte.tree) c.reader.result c.loop-byte.row.items c.reader.ensures up
+    (led-targets c.loop-byte.tree c.loop-byte.row.items (map vec_items c.args.words.now) up (λ b lt. inv.led b (omega arith)))
+
+pub branches-returns-clause-reads : goal.branches-returns-clause-reads
+branches-returns-clause-reads t c =
+    let inv = c.loop-byte.invariant in
+    let full : c.loop-byte.byte ≡ 256 = omega arith in
+    let up = subst (λ n. Ascends 0 n c.loop-byte.row.items) full inv.ascends in
+    row-reads c.loop-byte.tree c.push.new.self c.reader.result c.loop-byte.row.items (map vec_items c.args.words.now) c.in_ok-start.start
+    c.in_ok-start.ensures.grown c.in_ok-start.ensures.states c.in_ok-start.ensures.id c.in_ok-start.ensures.tree c.reader.ensures up c.requires.words
+    (λ b lt. inv.led b (omega arith))
+
+pub branches-branch-alloc-requires : goal.branches-branch-alloc-requires
+branches-branch-alloc-requires t c = (
+  omega arith,
+  (
+    c.loop-byte.invariant.tree,
+    subst (All IsWord) (sym (ap (map vec_items) c.deref.ensures.value ∙ c.in_ok-left.ensures))
+        (rests-words c.loop-byte.byte (map vec_items c.args.words.now) c.requires.words c.requires.long),
+  ),
+)
+
+pub end_chunk-chunk-requires : goal.end_chunk-chunk-requires
+end_chunk-chunk-requires t c = (
+  omega arith,
+  (
+    c.requires.tree,
+    (
+      sub-words vec_items IsWord c.args.words.now c.args.from (c.args.last - c.args.from) c.requires.words,
+      λ some. All-map (λ w. 1 < length w) vec_items (take (c.args.last - c.args.from) (drop c.args.from c.args.words.now)) c.requires.long,
+    ),
+  ),
+)
+
+pub end_chunk-chunk-requires-2 : goal.end_chunk-chunk-requires-2
+end_chunk-chunk-requires-2 t c = (
+  omega arith,
+  (
+    c.in_ok-chunk.ensures.tree,
+    (
+      sub-words vec_items IsWord c.args.words.now c.args.last (c.args.last + 1 - c.args.last) c.requires.words,
+      λ some. absurd (omega arith),
+    ),
+  ),
+)
+
+pub end_chunk-returns-clause-reads : goal.end_chunk-returns-clause-reads
+end_chunk-returns-clause-reads t c = λ h.
+    let words = c.args.words.now in
+    let first = c.in_ok-chunk.ensures.reads (map vec_items (take c.args.from c.args.words.now)) h in
+    let second = c.in_ok-chunk-2.ensures.reads
+    (map vec_items (take c.args.from c.args.words.now) ++ map vec_items (take (c.args.last - c.args.from) (drop c.args.from c.args.words.now))) first in
+    subst (ReadsByTree c.chunk-2.new.tree c.chunk-2.new.starts.items)
+    (ap (λ ws. ws ++ map vec_items (take (c.args.last + 1 - c.args.last) (drop c.args.last c.args.words.now)))
+    (sym (map-split vec_items words c.args.from c.args.last c.requires.upto))
+    ∙ sym (map-split vec_items words c.args.last (c.args.last + 1) (omega arith)))
+    second
+
+pub sides-loop-last-init : goal.sides-loop-last-init
+sides-loop-last-init t c = record {
+  tree = c.requires.tree;
+  grown = Grown-same c.args.tree.now;
+  upto = omega arith;
+  reads = subst (λ qs. ReadsByTree c.args.tree.now qs []) (sym c.new-starts.ensures.items) (reads-nothing c.args.tree.now);
+  long = between-none vec_items (λ w. 1 < length (vec_items w)) c.args.words.now 0 0 (omega arith);
+}
+
+pub sides-chunk-requires : goal.sides-chunk-requires
+sides-chunk-requires t c =
+    let inv = c.loop-last.invariant in
+    let words = c.args.words.now in
+    let from = c.loop-last.from in
+    let whole : c.loop-last.last ≡ length c.args.words.now = omega arith in (
+      omega arith,
+      (
+        inv.tree,
+        (
+          sub-words vec_items IsWord words from (length words - from) c.requires.words,
+          λ some. All-map (λ w. 1 < length w) vec_items (take (length c.args.words.now - c.loop-last.from) (drop c.loop-last.from c.args.words.now))
+              (subst (λ n. All (λ w. 1 < length (vec_items w)) (take (n - c.loop-last.from) (drop c.loop-last.from c.args.words.now))) whole inv.long),
+        ),
+      ),
+    )
+
+pub sides-returns-clause-reads : goal.sides-returns-clause-reads
+sides-returns-clause-reads t c =
+    let inv = c.loop-last.invariant in
+    let upto = inv.upto in
+    let read = c.in_ok-chunk.ensures.reads (map vec_items (take c.loop-last.from c.args.words.now)) inv.reads in
+    subst (ReadsByTree c.chunk.new.tree c.chunk.new.starts.items)
+    (sym (map-split vec_items c.args.words.now c.loop-last.from (length c.args.words.now) (omega arith))
+    ∙ ap (map vec_items) (take_all (length c.args.words.now) c.args.words.now (omega arith)))
+    read
+
+pub chunk-branches-requires : goal.chunk-branches-requires
+chunk-branches-requires t c = (omega arith, (c.requires.tree, (c.requires.words, c.requires.long (omega arith))))

@@ -1,0 +1,9 @@
+pub mod WalkLemmas
+pub mod TreeLemmas
+pub mod BitLemmas
+pub mod SetLemmas
+pub mod RowLemmas
+pub mod StepLemmas
+pub mod AlongLemmas
+pub mod SearchLemmas
+pub mod CellLemmas

@@ -1,0 +1,17 @@
+use Rattle.std.proofs.Common.{◌≡◌, ◌≤◌, ◌<◌, ◌-◌, length}
+use Rattle.rx_model.specs.Runs.{everywhere}
+use Rattle.rx_onepass_table.specs.Along.{walk}
+use Rattle.rx_onepass_table.specs.Search.{IsSearching}
+use Rattle.rx_onepass_table.proofs.table.Table.walk.Given as goal
+
+abbrev pub invariant-loop-at : goal.invariant-loop-at
+invariant-loop-at l = record {
+  inside : l.current < l.self.rows;
+  room : length l.places ≡ length l.out;
+  places_len : length l.places ≡ length l.initial.places;
+  out_len : length l.out ≡ length l.initial.out;
+  within : l.end ≤ length l.text;
+  left : l.at ≤ l.end;
+  searching : IsSearching l.nfa l.self l.may_win l.text
+      (walk l.nfa l.self l.may_win everywhere l.text (l.end - l.initial.at) l.initial.at l.row) (l.end - l.at) l.at l.current l.places l.best l.out;
+}

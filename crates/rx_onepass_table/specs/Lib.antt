@@ -1,0 +1,6 @@
+pub mod Words
+pub mod Walks
+pub mod Entry
+pub mod Rows
+pub mod Along
+pub mod Search

@@ -1,0 +1,4 @@
+pub mod Literals
+pub mod Whole
+pub mod Found
+pub mod Pre

@@ -1,0 +1,539 @@
+//! Tests of captures, and of the iterators of a regex. What is wanted was found by hand.
+ghost use Rattle.std.specs.Prelude.{◌≡◌};
+ghost use Rattle.rx_meta.specs.Regex.{groups_in};
+
+use rx_meta::{CapturesMatches, Config, FindMatches, Regex, Split, SplitN, WhichCaptures};
+use rx_search::{Captures, Input, Span};
+use std::alloc::Global;
+use std::process::Abort;
+use std::sync::Wait;
+
+/// The regex of these patterns under this configuration.
+fn regex_of(rt: &impl Abort, alloc: Global, config: Config, patterns: &[&str]) -> Regex {
+    let mut builder = Regex::builder();
+    builder.configure(config);
+    builder
+        .build_many(alloc, patterns)
+        .ok()
+        .expect(rt, "a regex")
+}
+
+/// The text, from this place to that.
+pub(crate) fn within(rt: &impl Abort, text: &'static str, span: (usize, usize)) -> Input<'static> {
+    let (start, end) = span;
+    assert!(rt; end <= text.len());
+    assert!(rt; start <= end + 1);
+    Input::new(text.as_bytes()).span(Span { start, end })
+}
+
+/// A span as two places.
+fn places(span: Span) -> (usize, usize) {
+    (span.start, span.end)
+}
+
+/// The span of a group.
+fn group(captures: &Captures, number: usize) -> Option<(usize, usize)> {
+    match captures.get_group(number) {
+        Some(span) => Some(places(span)),
+        None => None,
+    }
+}
+
+/// A pattern, a text with a span of it, and the spans that are to be given.
+type Row = (
+    &'static str,
+    &'static str,
+    (usize, usize),
+    &'static [(usize, usize)],
+);
+
+const MATCHES: [Row; 14] = [
+    ("[a-zA-Z]+ing", "tingling", (0, 8), &[(0, 8)]),
+    ("a*", "ba", (0, 2), &[(0, 0), (1, 2)]),
+    ("a*", "", (0, 0), &[(0, 0)]),
+    ("a*", "aab", (0, 3), &[(0, 2), (3, 3)]),
+    ("a*", "☃", (0, 3), &[(0, 0), (3, 3)]),
+    ("a*", "b", (0, 1), &[(0, 0), (1, 1)]),
+    ("a*", "baab", (1, 3), &[(1, 3)]),
+    ("a{2,3}?", "aaaa", (0, 4), &[(0, 2), (2, 4)]),
+    ("", "a☃", (0, 4), &[(0, 0), (1, 1), (4, 4)]),
+    ("", "a☃", (2, 3), &[]),
+    ("a", "xayaz", (2, 5), &[(3, 4)]),
+    ("^a|b", "aab", (0, 3), &[(0, 1), (2, 3)]),
+    (r"\b", "ab cd", (0, 5), &[(0, 0), (2, 2), (3, 3), (5, 5)]),
+    ("c", "ab", (0, 2), &[]),
+];
+
+const MATCHES_INSIDE_CHARACTERS: [Row; 4] = [
+    ("a*", "☃", (0, 3), &[(0, 0), (1, 1), (2, 2), (3, 3)]),
+    ("", "a☃", (2, 3), &[(2, 2), (3, 3)]),
+    ("☃|", "☃☃", (1, 6), &[(1, 1), (2, 2), (3, 6)]),
+    (r"(?-u:\B)", "☃", (0, 3), &[(0, 0), (1, 1), (2, 2), (3, 3)]),
+];
+
+const GAPS: [Row; 10] = [
+    (",", "a,b,c", (0, 5), &[(0, 1), (2, 3), (4, 5)]),
+    (",", "a,b", (1, 2), &[(0, 1), (2, 3)]),
+    (",", "a,b", (0, 1), &[(0, 3)]),
+    (",", ",a,", (0, 3), &[(0, 0), (1, 2), (3, 3)]),
+    (",", "", (0, 0), &[(0, 0)]),
+    (",", ",", (0, 1), &[(0, 0), (1, 1)]),
+    (",", "ab", (0, 2), &[(0, 2)]),
+    ("", "ab", (0, 2), &[(0, 0), (0, 1), (1, 2), (2, 2)]),
+    ("", "☃", (0, 3), &[(0, 0), (0, 3), (3, 3)]),
+    (r"\s*,\s*", "a , ,b", (0, 6), &[(0, 1), (4, 4), (5, 6)]),
+];
+
+/// Whether it gives matches at these spans, and nothing further.
+fn gives_matches(matches: &mut FindMatches<'_, '_>, spans: &[(usize, usize)]) -> bool {
+    for span in spans {
+        let Some(Ok(found)) = matches.next() else {
+            return false;
+        };
+        if places(found.span()) != *span {
+            return false;
+        }
+    }
+    matches.next().is_none() && matches.next().is_none()
+}
+
+/// Whether it gives captures of matches at these spans, and nothing further.
+fn gives_captures(captures: &mut CapturesMatches<'_, '_>, spans: &[(usize, usize)]) -> bool {
+    for span in spans {
+        let Some(Ok(given)) = captures.next() else {
+            return false;
+        };
+        if group(&given, 0) != Some(*span) {
+            return false;
+        }
+    }
+    captures.next().is_none() && captures.next().is_none()
+}
+
+/// Whether it gives gaps at these spans, and nothing further.
+fn gives_gaps(gaps: &mut Split<'_, '_>, spans: &[(usize, usize)]) -> bool {
+    for span in spans {
+        let Some(Ok(gap)) = gaps.next() else {
+            return false;
+        };
+        if places(gap) != *span {
+            return false;
+        }
+    }
+    gaps.next().is_none() && gaps.next().is_none()
+}
+
+/// Whether it gives pieces at these spans, of this number at most, and nothing further.
+fn gives_pieces(pieces: &mut SplitN<'_, '_>, limit: usize, spans: &[(usize, usize)]) -> bool {
+    let mut left = limit;
+    for span in spans {
+        if pieces.size_hint() != (0, Some(left)) || left == 0 {
+            return false;
+        }
+        left -= 1;
+        let Some(Ok(piece)) = pieces.next() else {
+            return false;
+        };
+        if places(piece) != *span {
+            return false;
+        }
+    }
+    pieces.next().is_none() && pieces.next().is_none()
+}
+
+/// Whether the iterator over matches gives these, and counts them.
+fn are_matches<R: Abort + Wait>(
+    rt: &R,
+    alloc: Global,
+    regex: &Regex,
+    input: &Input<'_>,
+    spans: &[(usize, usize)],
+) -> bool {
+    let mut matches = regex.find_iter(rt, alloc, input).ok().expect(rt, "memory");
+    let are = gives_matches(&mut matches, spans);
+    matches.finish(rt);
+    let matches = regex.find_iter(rt, alloc, input).ok().expect(rt, "memory");
+    let count = matches.count(rt).ok();
+    are && count == Some(spans.len())
+}
+
+/// Whether the iterator over captures gives these matches, and counts them.
+fn are_captured<R: Abort + Wait>(
+    rt: &R,
+    alloc: Global,
+    regex: &Regex,
+    input: &Input<'_>,
+    spans: &[(usize, usize)],
+) -> bool {
+    let mut matches = regex
+        .captures_iter(rt, alloc, input)
+        .ok()
+        .expect(rt, "memory");
+    let are = gives_captures(&mut matches, spans);
+    matches.finish(rt);
+    let matches = regex
+        .captures_iter(rt, alloc, input)
+        .ok()
+        .expect(rt, "memory");
+    let count = matches.count(rt).ok();
+    are && count == Some(spans.len())
+}
+
+/// Whether the iterators give the matches of the row.
+fn is_told<R: Abort + Wait>(rt: &R, alloc: Global, utf8_empty: bool, row: Row) -> bool {
+    let (pattern, text, span, spans) = row;
+    let regex = regex_of(rt, alloc, Config::new().utf8_empty(utf8_empty), &[pattern]);
+    let input = within(rt, text, span);
+    are_matches(rt, alloc, &regex, &input, spans) && are_captured(rt, alloc, &regex, &input, spans)
+}
+
+/// The number of the first row of which the iterators give other matches.
+fn first_wrong<R: Abort + Wait>(
+    rt: &R,
+    alloc: Global,
+    utf8_empty: bool,
+    rows: &[Row],
+) -> Option<usize> {
+    for k in 0..rows.len() {
+        if !is_told(rt, alloc, utf8_empty, rows[k]) {
+            return Some(k);
+        }
+    }
+    None
+}
+
+#[test]
+fn matches_come_one_after_another(rt: HostRuntime) {
+    assert_eq!(rt; first_wrong(&rt, rt.alloc(), true, &MATCHES), None);
+}
+
+#[test]
+fn matches_may_lie_inside_a_character(rt: HostRuntime) {
+    let wrong = first_wrong(&rt, rt.alloc(), false, &MATCHES_INSIDE_CHARACTERS);
+    assert_eq!(rt; wrong, None);
+}
+
+/// Whether the split gives the gaps of the row.
+fn is_split<R: Abort + Wait>(rt: &R, alloc: Global, row: Row) -> bool {
+    let (pattern, text, span, spans) = row;
+    let regex = regex_of(rt, alloc, Config::new(), &[pattern]);
+    let input = within(rt, text, span);
+    let mut gaps = regex.split(rt, alloc, &input).ok().expect(rt, "memory");
+    let is_split = gives_gaps(&mut gaps, spans);
+    gaps.finish(rt);
+    is_split
+}
+
+/// The number of the first row of which the split gives other gaps.
+fn first_wrong_split<R: Abort + Wait>(rt: &R, alloc: Global, rows: &[Row]) -> Option<usize> {
+    for k in 0..rows.len() {
+        if !is_split(rt, alloc, rows[k]) {
+            return Some(k);
+        }
+    }
+    None
+}
+
+#[test]
+fn gaps_lie_between_matches(rt: HostRuntime) {
+    assert_eq!(rt; first_wrong_split(&rt, rt.alloc(), &GAPS), None);
+}
+
+/// Whether the split of `a,b,c` at commas into at most so many pieces gives these.
+fn is_split_into<R: Abort + Wait>(
+    rt: &R,
+    alloc: Global,
+    limit: usize,
+    spans: &[(usize, usize)],
+) -> bool {
+    let regex = regex_of(rt, alloc, Config::new(), &[","]);
+    let input = Input::new(b"a,b,c");
+    let mut pieces = regex
+        .splitn(rt, alloc, &input, limit)
+        .ok()
+        .expect(rt, "memory");
+    let is_split = gives_pieces(&mut pieces, limit, spans);
+    pieces.finish(rt);
+    is_split
+}
+
+#[test]
+fn a_split_has_so_many_pieces_at_most(rt: HostRuntime) {
+    let alloc = rt.alloc();
+    assert!(rt; is_split_into(&rt, alloc, 0, &[]));
+    assert!(rt; is_split_into(&rt, alloc, 1, &[(0, 5)]));
+    assert!(rt; is_split_into(&rt, alloc, 2, &[(0, 1), (2, 5)]));
+    assert!(rt; is_split_into(&rt, alloc, 3, &[(0, 1), (2, 3), (4, 5)]));
+    assert!(rt; is_split_into(&rt, alloc, 9, &[(0, 1), (2, 3), (4, 5)]));
+}
+
+/// Where the next search begins: at first, after a match, and after none.
+type Places = (usize, usize, usize);
+
+/// The places of an iterator over matches.
+fn searched_from(matches: &mut FindMatches<'_, '_>) -> Places {
+    let first = matches.input().start();
+    let _found = matches.next();
+    let second = matches.input().start();
+    let _none = matches.next();
+    (first, second, matches.input().start())
+}
+
+/// The places of an iterator over captures.
+fn captured_from(matches: &mut CapturesMatches<'_, '_>) -> Places {
+    let first = matches.input().start();
+    let _found = matches.next();
+    let second = matches.input().start();
+    let _none = matches.next();
+    (first, second, matches.input().start())
+}
+
+/// The places of a split.
+fn split_from(gaps: &mut Split<'_, '_>) -> Places {
+    let first = gaps.input().start();
+    let _gap = gaps.next();
+    let second = gaps.input().start();
+    let _last = gaps.next();
+    (first, second, gaps.input().start())
+}
+
+/// The places of a split that has a limit.
+fn pieces_from(pieces: &mut SplitN<'_, '_>) -> Places {
+    let first = pieces.input().start();
+    let _piece = pieces.next();
+    let second = pieces.input().start();
+    let _last = pieces.next();
+    (first, second, pieces.input().start())
+}
+
+/// The places of `find_iter`, and how many patterns its regex has.
+fn of_matches<R: Abort + Wait>(
+    rt: &R,
+    alloc: Global,
+    regex: &Regex,
+    input: &Input<'_>,
+) -> (Places, usize) {
+    let mut matches = regex.find_iter(rt, alloc, input).ok().expect(rt, "memory");
+    (searched_from(&mut matches), matches.regex().pattern_len())
+}
+
+/// The places of `captures_iter`, and how many patterns its regex has.
+fn of_captures<R: Abort + Wait>(
+    rt: &R,
+    alloc: Global,
+    regex: &Regex,
+    input: &Input<'_>,
+) -> (Places, usize) {
+    let mut matches = regex
+        .captures_iter(rt, alloc, input)
+        .ok()
+        .expect(rt, "memory");
+    (captured_from(&mut matches), matches.regex().pattern_len())
+}
+
+/// The places of `split`.
+fn of_gaps<R: Abort + Wait>(rt: &R, alloc: Global, regex: &Regex, input: &Input<'_>) -> Places {
+    let mut gaps = regex.split(rt, alloc, input).ok().expect(rt, "memory");
+    split_from(&mut gaps)
+}
+
+/// The places of `splitn` up to one piece.
+fn of_one_piece<R: Abort + Wait>(
+    rt: &R,
+    alloc: Global,
+    regex: &Regex,
+    input: &Input<'_>,
+) -> Places {
+    let mut pieces = regex.splitn(rt, alloc, input, 1).ok().expect(rt, "memory");
+    pieces_from(&mut pieces)
+}
+
+#[test]
+fn an_iterator_tells_where_it_searches(rt: HostRuntime) {
+    let alloc = rt.alloc();
+    let regex = regex_of(&rt, alloc, Config::new(), &["b", "ab"]);
+    let input = Input::new(b"xxabx").range(1..5);
+    assert!(rt; of_matches(&rt, alloc, &regex, &input) == ((1, 4, 4), 2));
+    assert!(rt; of_captures(&rt, alloc, &regex, &input) == ((1, 4, 4), 2));
+    assert!(rt; of_gaps(&rt, alloc, &regex, &input) == (1, 4, 4));
+    assert!(rt; of_one_piece(&rt, alloc, &regex, &input) == (1, 1, 1));
+}
+
+const SETTINGS: [&str; 4] = [
+    r#"(?m)^(?<key>[[:word:]]+)=(?<val>[[:word:]]+)$"#,
+    r#"(?m)^(?<key>[[:word:]]+)="(?<val>[^"]+)"$"#,
+    r#"(?m)^(?<key>[[:word:]]+)='(?<val>[^']+)'$"#,
+    r"(?m)^(?<key>[[:word:]]+):\s*(?<val>[[:word:]]+)$",
+];
+
+const SET: &str = r#"best_album="Blow Your Face Out"
+best_quote='"then as it was, then again it will be"'
+best_year=1973
+best_simpsons_episode: HOMR
+"#;
+
+const KEYS_AND_VALUES: [(&str, &str); 4] = [
+    ("best_album", "Blow Your Face Out"),
+    ("best_quote", r#""then as it was, then again it will be""#),
+    ("best_year", "1973"),
+    ("best_simpsons_episode", "HOMR"),
+];
+
+/// Whether the group of this name has this text.
+fn has_text(captures: &Captures, text: &str, name: &str, wanted: &str) -> bool {
+    let Some(span) = captures.get_group_by_name(name) else {
+        return false;
+    };
+    text.as_bytes().get(span.start..span.end) == Some(wanted.as_bytes())
+}
+
+/// Whether it gives these keys with their values, and nothing further.
+fn gives_settings(
+    captures: &mut CapturesMatches<'_, '_>,
+    text: &str,
+    settings: &[(&str, &str)],
+) -> bool {
+    for setting in settings {
+        let (key, value) = *setting;
+        let Some(Ok(given)) = captures.next() else {
+            return false;
+        };
+        if !has_text(&given, text, "key", key) || !has_text(&given, text, "val", value) {
+            return false;
+        }
+    }
+    captures.next().is_none()
+}
+
+#[test]
+fn settings_are_read_by_the_names_of_groups(rt: HostRuntime) {
+    let alloc = rt.alloc();
+    let regex = regex_of(&rt, alloc, Config::new(), &SETTINGS);
+    let input = Input::new(SET.as_bytes());
+    let mut captures = regex
+        .captures_iter(&rt, alloc, &input)
+        .ok()
+        .expect(&rt, "memory");
+    assert!(rt; gives_settings(&mut captures, SET, &KEYS_AND_VALUES));
+}
+
+/// What captures hold: the number of the pattern, and the spans of two groups.
+type Held = (
+    Option<usize>,
+    Option<(usize, usize)>,
+    Option<(usize, usize)>,
+);
+
+/// What the captures hold.
+fn held(captures: &Captures) -> Held {
+    let pattern = match captures.pattern() {
+        Some(pattern) => Some(pattern.as_usize()),
+        None => None,
+    };
+    (pattern, group(captures, 0), group(captures, 1))
+}
+
+/// Captures for the searches of the regex.
+fn captures_of(rt: &impl Abort, alloc: Global, regex: &Regex) -> Captures
+    ensures { result.groups ≡ groups_in regex.now }
+{
+    regex.create_captures(alloc).ok().expect(rt, "memory")
+}
+
+/// What captures hold after a search of `ab`, and then one of this input, with a cache.
+fn held_with(
+    rt: &impl Abort,
+    alloc: Global,
+    regex: &Regex,
+    captures: &mut Captures,
+    input: &Input<'_>,
+) -> Held
+    requires { captures.old.groups ≡ groups_in regex.now }
+    ensures { captures.new.groups ≡ groups_in regex.now }
+{
+    let mut cache = regex.create_cache(alloc).ok().expect(rt, "memory");
+    let _before = regex.search_captures_with(&mut cache, &Input::new(b"ab"), captures);
+    let _now = regex.search_captures_with(&mut cache, input, captures);
+    held(captures)
+}
+
+/// The same without a cache.
+fn held_after<R: Wait>(
+    rt: &R,
+    alloc: Global,
+    regex: &Regex,
+    captures: &mut Captures,
+    input: &Input<'_>,
+) -> Held
+    requires { captures.old.groups ≡ groups_in regex.now }
+    ensures { captures.new.groups ≡ groups_in regex.now }
+{
+    let _before = regex.search_captures(rt, alloc, &Input::new(b"ab"), captures);
+    let _now = regex.captures(rt, alloc, input, captures);
+    held(captures)
+}
+
+/// The same by the calls in the other order.
+fn held_again<R: Wait>(
+    rt: &R,
+    alloc: Global,
+    regex: &Regex,
+    captures: &mut Captures,
+    input: &Input<'_>,
+) -> Held
+    requires { captures.old.groups ≡ groups_in regex.now }
+    ensures { captures.new.groups ≡ groups_in regex.now }
+{
+    let _before = regex.captures(rt, alloc, &Input::new(b"ab"), captures);
+    let _now = regex.search_captures(rt, alloc, input, captures);
+    held(captures)
+}
+
+/// What captures hold after a search of this text for `a(b)?`, under this kind of captures; None where the calls disagree.
+fn held_under<R: Abort + Wait>(
+    rt: &R,
+    alloc: Global,
+    which: WhichCaptures,
+    text: &'static str,
+) -> Option<Held> {
+    let regex = regex_of(rt, alloc, Config::new().which_captures(which), &["a(b)?"]);
+    let mut captures = captures_of(rt, alloc, &regex);
+    let input = Input::new(text.as_bytes());
+    let first = held_with(rt, alloc, &regex, &mut captures, &input);
+    let second = held_after(rt, alloc, &regex, &mut captures, &input);
+    let third = held_again(rt, alloc, &regex, &mut captures, &input);
+    if first == second && first == third {
+        Some(first)
+    } else {
+        None
+    }
+}
+
+#[test]
+fn captures_hold_what_a_search_tells(rt: HostRuntime) {
+    let alloc = rt.alloc();
+    let nothing = Some((None, None, None));
+    assert!(rt; held_under(&rt, alloc, WhichCaptures::All, "xb") == nothing);
+    assert!(rt; held_under(&rt, alloc, WhichCaptures::Implicit, "xb") == nothing);
+    let told = held_under(&rt, alloc, WhichCaptures::All, "xab");
+    assert!(rt; told == Some((Some(0), Some((1, 3)), Some((2, 3)))));
+    let told = held_under(&rt, alloc, WhichCaptures::All, "xa");
+    assert!(rt; told == Some((Some(0), Some((1, 2)), None)));
+    let told = held_under(&rt, alloc, WhichCaptures::Implicit, "xab");
+    assert!(rt; told == Some((Some(0), Some((1, 3)), None)));
+    assert!(rt; held_under(&rt, alloc, WhichCaptures::None, "xab") == nothing);
+}
+
+/// What is known of the groups of these patterns: how many there are, and how many are told of each match.
+fn counted(rt: &impl Abort, alloc: Global, patterns: &[&str]) -> (usize, Option<usize>) {
+    let regex = regex_of(rt, alloc, Config::new(), patterns);
+    (regex.captures_len(), regex.static_captures_len())
+}
+
+#[test]
+fn groups_are_counted(rt: HostRuntime) {
+    let alloc = rt.alloc();
+    assert!(rt; counted(&rt, alloc, &["a(b)?"]) == (2, None));
+    assert!(rt; counted(&rt, alloc, &["(a)(b)", "(a)|b(c)", "a"]) == (7, None));
+    assert!(rt; counted(&rt, alloc, &["(a)|(b)", "(?<k>a)"]) == (5, Some(2)));
+}
