@@ -34,7 +34,7 @@ def main():
                 shutil.copy(place, copy)
         for name in names:
             folder = os.path.join(copy, 'crates', name, 'must-fail')
-            shutil.rmtree(folder)
+            shutil.rmtree(folder, ignore_errors=True)
             shutil.copytree(os.path.join(MORE, name), folder)
             if subprocess.run(['rt', 'must-fail', name], cwd=copy).returncode:
                 failed.append(name)
