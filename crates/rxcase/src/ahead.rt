@@ -1,0 +1,66 @@
+//! Searches for an end, by a DFA that reads forwards.
+ghost use Rattle.std.specs.Prelude.{◌≡◌, false};
+
+use crate::ask::Ask;
+use crate::compile::prefilter;
+use crate::failure::Failure;
+use crate::tell::tell_half;
+use rx_dfa::{Automaton, try_search_half_fwd, try_search_half_fwd_by};
+use rx_prefilter::Prefilter;
+use rx_search::MatchKind;
+use std::alloc::Global;
+
+/// Appends the end that the automaton finds in each haystack, with one cache.
+pub fn tell<A: Automaton>(
+    alloc: Global,
+    ask: &Ask<'_>,
+    dfa: &A,
+    cache: &mut A::Cache,
+    told: &mut String,
+) -> Result<(), Failure>
+    requires fits { A.fits dfa.now cache.old }
+    requires forward { (A.dfa dfa.now).nfa.reverse ≡ false }
+{
+    match prefilter(alloc, ask)? {
+        Some(pre) => tell_by(ask, dfa, cache, &pre, told),
+        None => tell_each(ask, dfa, cache, told),
+    }
+}
+
+/// Appends the end in each haystack.
+fn tell_each<A: Automaton>(
+    ask: &Ask<'_>,
+    dfa: &A,
+    cache: &mut A::Cache,
+    told: &mut String,
+) -> Result<(), Failure>
+    requires fits { A.fits dfa.now cache.old }
+    requires forward { (A.dfa dfa.now).nfa.reverse ≡ false }
+{
+    let lines = ask.searching.lines;
+    'haystacks: for haystack in ask.input.split(|byte| lines && *byte == b'\n') {
+        let input = ask.searching.input(haystack)?;
+        tell_half(told, try_search_half_fwd(dfa, cache, &input))?;
+    }
+    Ok(())
+}
+
+/// Appends the end in the input, from candidate to candidate.
+fn tell_by<A: Automaton>(
+    ask: &Ask<'_>,
+    dfa: &A,
+    cache: &mut A::Cache,
+    pre: &Prefilter,
+    told: &mut String,
+) -> Result<(), Failure>
+    requires fits { A.fits dfa.now cache.old }
+    requires forward { (A.dfa dfa.now).nfa.reverse ≡ false }
+{
+    let input = ask.searching.free_input(ask.input)?;
+    match dfa.match_kind() {
+        MatchKind::LeftmostFirst => {
+            tell_half(told, try_search_half_fwd_by(dfa, cache, pre, &input))
+        }
+        MatchKind::All => Err(Failure::Usage),
+    }
+}

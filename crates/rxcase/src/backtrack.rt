@@ -1,0 +1,115 @@
+//! The bounded backtracker, and what it is asked for.
+ghost use Rattle.rx_engines.specs.Bounded.{Fits};
+
+use crate::ask::Ask;
+use crate::call::Call;
+use crate::compile::{prefilter, source};
+use crate::failure::Failure;
+use crate::tell::{tell_end, tell_error, tell_match, tell_none, tell_places, tell_slots};
+use rx_engines::backtrack::{BoundedBacktracker, Cache};
+use rx_search::{Input, NonMaxUsize};
+use std::alloc::Global;
+
+/// Appends what the backtracker tells of each haystack, with one cache.
+pub fn tell(alloc: Global, ask: &Ask<'_>, told: &mut String) -> Result<(), Failure> {
+    let backtracker = made(alloc, ask)?;
+    let mut cache = backtracker.create_cache(alloc)?;
+    tell_each(alloc, ask, &backtracker, &mut cache, told)
+}
+
+/// The backtracker that is asked for.
+fn made(alloc: Global, ask: &Ask<'_>) -> Result<BoundedBacktracker, Failure> {
+    let pre = prefilter(alloc, ask)?;
+    let nfa = source(alloc, ask)?;
+    Ok(BoundedBacktracker::build_from_nfa(nfa, pre))
+}
+
+fn tell_each(
+    alloc: Global,
+    ask: &Ask<'_>,
+    backtracker: &BoundedBacktracker,
+    cache: &mut Cache,
+    told: &mut String,
+) -> Result<(), Failure>
+    requires { Fits backtracker.now.nfa cache.old }
+{
+    let lines = ask.searching.lines;
+    'haystacks: for haystack in ask.input.split(|byte| lines && *byte == b'\n') {
+        let input = ask.searching.input(haystack)?;
+        tell_input(alloc, ask, backtracker, cache, &input, told)?;
+    }
+    Ok(())
+}
+
+/// Appends what it tells of an input.
+fn tell_input(
+    alloc: Global,
+    ask: &Ask<'_>,
+    backtracker: &BoundedBacktracker,
+    cache: &mut Cache,
+    input: &Input<'_>,
+    told: &mut String,
+) -> Result<(), Failure>
+    requires { Fits backtracker.now.nfa cache.old }
+    ensures { Fits backtracker.now.nfa cache.new }
+{
+    match ask.call {
+        Call::Span => tell_match(told, backtracker.try_find_slots(cache, input, &mut [])),
+        Call::End => tell_end(told, backtracker.try_find_slots(cache, input, &mut [])),
+        Call::Slots => {
+            let mut slots = slots(alloc, ask, backtracker)?;
+            tell_found(backtracker, cache, input, &mut slots, told)
+        }
+        Call::Places => {
+            let mut slots = slots(alloc, ask, backtracker)?;
+            tell_places_found(backtracker, cache, input, &mut slots, told)
+        }
+        _ => Err(Failure::Usage),
+    }
+}
+
+/// Appends the next match with these slots.
+fn tell_found(
+    backtracker: &BoundedBacktracker,
+    cache: &mut Cache,
+    input: &Input<'_>,
+    slots: &mut [Option<NonMaxUsize>],
+    told: &mut String,
+) -> Result<(), Failure>
+    requires { Fits backtracker.now.nfa cache.old }
+    ensures { Fits backtracker.now.nfa cache.new }
+{
+    match backtracker.try_find_slots(cache, input, slots) {
+        Ok(Some(found)) => tell_slots(told, found.pattern(), slots),
+        Ok(None) => tell_none(told),
+        Err(error) => tell_error(told, error),
+    }
+}
+
+/// Appends what stands in these slots after a search.
+fn tell_places_found(
+    backtracker: &BoundedBacktracker,
+    cache: &mut Cache,
+    input: &Input<'_>,
+    slots: &mut [Option<NonMaxUsize>],
+    told: &mut String,
+) -> Result<(), Failure>
+    requires { Fits backtracker.now.nfa cache.old }
+    ensures { Fits backtracker.now.nfa cache.new }
+{
+    match backtracker.try_search_slots(cache, input, slots) {
+        Ok(found) => tell_places(told, found, slots),
+        Err(error) => tell_error(told, error),
+    }
+}
+
+/// As many slots as are asked for.
+fn slots(
+    alloc: Global,
+    ask: &Ask<'_>,
+    backtracker: &BoundedBacktracker,
+) -> Result<Vec<Option<NonMaxUsize>>, Failure> {
+    let none = None;
+    let len = ask.searching.slots.unwrap_or(backtracker.get_nfa().slot_len());
+    Ok(vec![in alloc; none; len]?)
+}
