@@ -38,7 +38,7 @@ fn tell_each<A: Automaton>(
     requires forward { (A.dfa dfa.now).nfa.reverse ≡ false }
 {
     let lines = ask.searching.lines;
-    'haystacks: for haystack in ask.input.split(|byte| lines && *byte == b'\n') {
+    'haystacks: for haystack in ask.haystacks().split(|byte| lines && *byte == b'\n') {
         let input = ask.searching.input(haystack)?;
         tell_half(told, try_search_half_fwd(dfa, cache, &input))?;
     }

@@ -4,6 +4,8 @@ use crate::build::Building;
 use crate::call::{Call, Engine};
 use crate::failure::Failure;
 use crate::search::Searching;
+use rx_search::{Memory, NonMaxUsize};
+use std::alloc::Global;
 
 /// What the words ask for.
 #[derive(Clone, Copy)]
@@ -29,6 +31,24 @@ impl<'w> Ask<'w> {
             Some(ask) => Ok(ask),
             None => Err(Failure::Usage),
         }
+    }
+
+    /// The haystacks, each of which is a line if the words say so. The end of the last line begins no other one.
+    pub fn haystacks(&self) -> &'w [u8] {
+        if !self.searching.lines {
+            return self.input;
+        }
+        self.input.strip_suffix(b"\n").unwrap_or(self.input)
+    }
+
+    /// As many slots as are asked for, or else this number. A place in each of them shows that a search writes to all.
+    ///
+    /// # Errors
+    ///
+    /// `Memory`.
+    pub fn slots(&self, alloc: Global, len: usize) -> Result<Vec<Option<NonMaxUsize>>, Memory> {
+        let filled = NonMaxUsize::new(9);
+        Ok(vec![in alloc; filled; self.searching.slots.unwrap_or(len)]?)
     }
 
     /// What stands behind `needle:` in the option of this number.

@@ -34,7 +34,7 @@ fn tell_each(
     requires { Fits backtracker.now.nfa cache.old }
 {
     let lines = ask.searching.lines;
-    'haystacks: for haystack in ask.input.split(|byte| lines && *byte == b'\n') {
+    'haystacks: for haystack in ask.haystacks().split(|byte| lines && *byte == b'\n') {
         let input = ask.searching.input(haystack)?;
         tell_input(alloc, ask, backtracker, cache, &input, told)?;
     }
@@ -57,11 +57,11 @@ fn tell_input(
         Call::Span => tell_match(told, backtracker.try_find_slots(cache, input, &mut [])),
         Call::End => tell_end(told, backtracker.try_find_slots(cache, input, &mut [])),
         Call::Slots => {
-            let mut slots = slots(alloc, ask, backtracker)?;
+            let mut slots = ask.slots(alloc, backtracker.get_nfa().slot_len())?;
             tell_found(backtracker, cache, input, &mut slots, told)
         }
         Call::Places => {
-            let mut slots = slots(alloc, ask, backtracker)?;
+            let mut slots = ask.slots(alloc, backtracker.get_nfa().slot_len())?;
             tell_places_found(backtracker, cache, input, &mut slots, told)
         }
         _ => Err(Failure::Usage),
@@ -101,15 +101,4 @@ fn tell_places_found(
         Ok(found) => tell_places(told, found, slots),
         Err(error) => tell_error(told, error),
     }
-}
-
-/// As many slots as are asked for.
-fn slots(
-    alloc: Global,
-    ask: &Ask<'_>,
-    backtracker: &BoundedBacktracker,
-) -> Result<Vec<Option<NonMaxUsize>>, Failure> {
-    let none = None;
-    let len = ask.searching.slots.unwrap_or(backtracker.get_nfa().slot_len());
-    Ok(vec![in alloc; none; len]?)
 }

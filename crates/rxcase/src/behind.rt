@@ -17,7 +17,7 @@ pub fn tell<A: Automaton>(
     requires backward { (A.dfa dfa.now).nfa.reverse ≡ true }
 {
     let lines = ask.searching.lines;
-    'haystacks: for haystack in ask.input.split(|byte| lines && *byte == b'\n') {
+    'haystacks: for haystack in ask.haystacks().split(|byte| lines && *byte == b'\n') {
         let input = ask.searching.bound_input(haystack)?;
         tell_half(told, try_search_half_rev(dfa, cache, &input))?;
     }

@@ -23,7 +23,7 @@ pub fn tell<A: Automaton>(
     requires backward { (A.dfa backward.now).nfa.reverse ≡ true }
 {
     let lines = ask.searching.lines;
-    'haystacks: for haystack in ask.input.split(|byte| lines && *byte == b'\n') {
+    'haystacks: for haystack in ask.haystacks().split(|byte| lines && *byte == b'\n') {
         tell_haystack(ask, forward, cache, backward, second, haystack, told)?;
     }
     Ok(())
@@ -47,8 +47,10 @@ fn tell_haystack<A: Automaton>(
     ensures second { A.fits backward.now second.new }
 {
     if ask.call == Call::Matches {
+        let before = told.len();
         let ended = tell_all(forward, cache, backward, second, haystack, told);
-        return tell_rest(told, ended);
+        let parting = if told.len() == before { "" } else { " " };
+        return tell_rest(told, parting, ended);
     }
     let input = ask.searching.input(haystack)?;
     tell_match(told, try_search(forward, cache, backward, second, &input))
@@ -96,14 +98,18 @@ fn tell_all<A: Automaton>(
 }
 
 /// Appends the end of the line, before it why a search came to no end.
-fn tell_rest(told: &mut String, ended: Result<(), MatchError>) -> Result<(), Failure> {
+fn tell_rest(
+    told: &mut String,
+    parting: &str,
+    ended: Result<(), MatchError>,
+) -> Result<(), Failure> {
     match ended {
         Ok(()) => {
             told.push('\n')?;
             Ok(())
         }
         Err(error) => {
-            told.push(' ')?;
+            told.push_str(parting)?;
             tell_error(told, error)
         }
     }

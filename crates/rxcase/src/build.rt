@@ -1,6 +1,32 @@
 //! How an engine is built.
 
+use rx_nfa::WhichCaptures;
 use rx_search::MatchKind;
+
+/// What a strategy is to do without: `off:` and the letters.
+#[derive(Clone, Copy)]
+pub struct Off {
+    /// The full DFA: `d`.
+    pub dfa: bool,
+    /// The lazy DFA: `h`.
+    pub hybrid: bool,
+    /// The backtracker: `b`.
+    pub backtrack: bool,
+    /// Automatic prefilters: `p`.
+    pub auto_prefilter: bool,
+}
+
+impl Off {
+    /// What these letters name. Others name nothing.
+    fn of(letters: &str) -> Off {
+        Off {
+            dfa: letters.contains('d'),
+            hybrid: letters.contains('h'),
+            backtrack: letters.contains('b'),
+            auto_prefilter: letters.contains('p'),
+        }
+    }
+}
 
 /// What an engine is built of.
 #[derive(Clone, Copy, PartialEq, Eq)]
@@ -27,8 +53,12 @@ pub struct Building {
     pub backwards: bool,
     /// The bytes that a cache of a lazy DFA may account: `capacity:N`.
     pub capacity: usize,
-    /// The bytes that the table of a full DFA may have: `limit:N`.
+    /// The bytes that the table of a full DFA may have, or those that are accounted for the NFA of a strategy: `limit:N`.
     pub limit: Option<usize>,
+    /// What a strategy is to do without.
+    pub off: Off,
+    /// Which captures a strategy tells: `captures:implicit`, `captures:none`.
+    pub captures: WhichCaptures,
 }
 
 impl Building {
@@ -42,6 +72,8 @@ impl Building {
             backwards: false,
             capacity: 1 << 20,
             limit: None,
+            off: Off::of(""),
+            captures: WhichCaptures::All,
         }
     }
 
@@ -51,6 +83,11 @@ impl Building {
             "capacity" => self.with_capacity(value),
             "limit" => self.with_limit(value),
             "nfa" => self.of_source(value),
+            "captures" => self.with_captures(value),
+            "off" => Some(Building {
+                off: Off::of(value),
+                ..self
+            }),
             _ => self.with_choice(name, value),
         }
     }
@@ -75,6 +112,15 @@ impl Building {
             _ => return None,
         };
         Some(Building { source, ..self })
+    }
+
+    fn with_captures(self, value: &str) -> Option<Building> {
+        let captures = match value {
+            "implicit" => WhichCaptures::Implicit,
+            "none" => WhichCaptures::None,
+            _ => return None,
+        };
+        Some(Building { captures, ..self })
     }
 
     fn with_choice(self, name: &str, value: &str) -> Option<Building> {

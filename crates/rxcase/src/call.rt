@@ -11,6 +11,8 @@ pub enum Engine {
     PikeVM,
     /// The bounded backtracker.
     Backtrack,
+    /// The strategy of a regex.
+    Core,
 }
 
 impl Engine {
@@ -21,6 +23,7 @@ impl Engine {
             "lazy" => Some(Engine::Lazy),
             "pikevm" => Some(Engine::PikeVM),
             "backtrack" => Some(Engine::Backtrack),
+            "core" => Some(Engine::Core),
             _ => None,
         }
     }
@@ -45,7 +48,7 @@ pub enum Call {
     Places,
     /// The patterns that have a match: `0 2`.
     Set,
-    /// The bytes of a full DFA's table.
+    /// The bytes of a full DFA's table, or those that are accounted for a strategy.
     Size,
 }
 

@@ -46,7 +46,7 @@ fn compiler(utf8: bool, reverse: bool) -> Compiler
 }
 
 /// The words as texts.
-fn texts<'w>(alloc: Global, words: &'w [String]) -> Result<Vec<&'w str>, Memory> {
+pub fn texts<'w>(alloc: Global, words: &'w [String]) -> Result<Vec<&'w str>, Memory> {
     let mut texts = Vec::new(alloc);
     for word in words {
         texts.push(word.as_str())?;

@@ -15,6 +15,7 @@ mod failure;
 mod pikevm;
 mod search;
 mod sets;
+mod strategy;
 mod tell;
 
 use ask::Ask;
@@ -66,6 +67,7 @@ fn tell_asked(alloc: Global, ask: &Ask<'_>, told: &mut String) -> Result<(), Fai
         Engine::Lazy => dfa::by_lazy(alloc, ask, told),
         Engine::PikeVM => pikevm::tell(alloc, ask, told),
         Engine::Backtrack => backtrack::tell(alloc, ask, told),
+        Engine::Core => strategy::tell(alloc, ask, told),
     }
 }
 

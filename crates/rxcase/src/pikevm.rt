@@ -34,7 +34,7 @@ fn tell_each(
     requires { Fits vm.now cache.old }
 {
     let lines = ask.searching.lines;
-    'haystacks: for haystack in ask.input.split(|byte| lines && *byte == b'\n') {
+    'haystacks: for haystack in ask.haystacks().split(|byte| lines && *byte == b'\n') {
         let input = ask.searching.input(haystack)?;
         tell_input(alloc, ask, vm, cache, &input, told)?;
     }
@@ -59,11 +59,11 @@ fn tell_input(
         Call::Test => tell_test(told, vm.is_match(cache, input)),
         Call::Set => tell_filled(alloc, vm, cache, input, told),
         Call::Slots => {
-            let mut slots = slots(alloc, ask, vm)?;
+            let mut slots = ask.slots(alloc, vm.get_nfa().slot_len())?;
             tell_found(vm, cache, input, &mut slots, told)
         }
         Call::Places => {
-            let mut slots = slots(alloc, ask, vm)?;
+            let mut slots = ask.slots(alloc, vm.get_nfa().slot_len())?;
             let found = vm.search_slots(cache, input, &mut slots);
             tell_places(told, found, &slots)
         }
@@ -102,15 +102,4 @@ fn tell_found(
         Some(found) => tell_slots(told, found.pattern(), slots),
         None => tell_none(told),
     }
-}
-
-/// As many slots as are asked for.
-fn slots(
-    alloc: Global,
-    ask: &Ask<'_>,
-    vm: &PikeVM,
-) -> Result<Vec<Option<NonMaxUsize>>, Failure> {
-    let none = None;
-    let len = ask.searching.slots.unwrap_or(vm.get_nfa().slot_len());
-    Ok(vec![in alloc; none; len]?)
 }

@@ -1,7 +1,7 @@
 //! How answers are written.
 
 use crate::failure::Failure;
-use rx_search::{HalfMatch, Match, MatchError, NonMaxUsize, PatternID, PatternSet};
+use rx_search::{HalfMatch, Match, MatchError, Memory, NonMaxUsize, PatternID, PatternSet};
 use std::alloc::AllocError;
 use std::fmt::Write;
 
@@ -47,6 +47,14 @@ pub fn tell_end(told: &mut String, found: Result<Option<Match>, MatchError>) -> 
         }
         Ok(None) => tell_none(told),
         Err(error) => tell_error(told, error),
+    }
+}
+
+/// What a search found that may fail for want of memory alone.
+pub fn without_memory<T: Drop>(found: Result<T, Memory>) -> Result<T, MatchError> {
+    match found {
+        Ok(found) => Ok(found),
+        Err(_) => Err(MatchError::Memory),
     }
 }
 
