@@ -17,6 +17,8 @@ pub struct Ask<'w> {
     /// The options, among which the needles stand.
     pub options: &'w [String],
     pub patterns: &'w [String],
+    /// The patterns of an earlier engine, whose cache is reset.
+    pub earlier: Option<&'w [String]>,
     pub input: &'w [u8],
 }
 
@@ -39,6 +41,12 @@ impl<'w> Ask<'w> {
             return self.input;
         }
         self.input.strip_suffix(b"\n").unwrap_or(self.input)
+    }
+
+    /// What is asked of the earlier engine.
+    pub fn earlier(&self) -> Option<Ask<'w>> {
+        let patterns = self.earlier?;
+        Some(Ask { patterns, ..*self })
     }
 
     /// As many slots as are asked for, or else this number. A place in each of them shows that a search writes to all.
@@ -68,9 +76,25 @@ fn read<'w>(words: &'w [String], input: &'w [u8]) -> Option<Ask<'w>> {
         searching: Searching::new(),
         options,
         patterns,
+        earlier: None,
         input,
     };
-    with_options(ask)
+    with_earlier(with_options(ask)?)
+}
+
+/// The same with the patterns of the earlier engine apart.
+fn with_earlier(ask: Ask<'_>) -> Option<Ask<'_>> {
+    let Some(count) = ask.searching.reset else {
+        return Some(ask);
+    };
+    if count > ask.patterns.len() {
+        return None;
+    }
+    Some(Ask {
+        earlier: Some(&ask.patterns[..count]),
+        patterns: &ask.patterns[count..],
+        ..ask
+    })
 }
 
 /// The words before `--`, and those behind it.

@@ -48,6 +48,8 @@ pub enum Call {
     Places,
     /// The patterns that have a match: `0 2`.
     Set,
+    /// The bytes that are accounted for a cache; of a lazy DFA before a search for an end, what that tells, and those after it.
+    Memory,
     /// The bytes of a full DFA's table, or those that are accounted for a strategy.
     Size,
 }
@@ -64,6 +66,7 @@ impl Call {
             "slots" => Some(Call::Slots),
             "places" => Some(Call::Places),
             "set" => Some(Call::Set),
+            "memory" => Some(Call::Memory),
             "size" => Some(Call::Size),
             _ => None,
         }

@@ -2,21 +2,18 @@
 ghost use Rattle.std.specs.Prelude.{◌≡◌, ◌≤◌, IfOk, length, false};
 ghost use Rattle.rx_dfa.specs.LazyCache.{IsCacheOf};
 
-use crate::ahead;
 use crate::ask::Ask;
-use crate::behind;
-use crate::both;
-use crate::call::Call;
 use crate::build::Building;
+use crate::call::Call;
 use crate::compile::nfa;
 use crate::failure::Failure;
-use crate::sets;
+use crate::tell::{tell_bytes, tell_half};
+use crate::{ahead, behind, both, sets};
 use rx_dfa::lazy::{Lazy, LazyCache};
-use rx_dfa::{Dense, dense, lazy};
-use rx_search::{MatchKind, PatternSet};
+use rx_dfa::{Dense, dense, lazy, try_search_half_fwd};
+use rx_search::{Input, MatchKind, PatternSet};
 use rx_thompson::NFA;
 use std::alloc::Global;
-use std::fmt::Write;
 
 /// Appends what the full DFA tells.
 pub fn by_dense(alloc: Global, ask: &Ask<'_>, told: &mut String) -> Result<(), Failure> {
@@ -34,6 +31,7 @@ pub fn by_dense(alloc: Global, ask: &Ask<'_>, told: &mut String) -> Result<(), F
 pub fn by_lazy(alloc: Global, ask: &Ask<'_>, told: &mut String) -> Result<(), Failure> {
     match ask.call {
         Call::End => lazy_ahead(alloc, ask, told),
+        Call::Memory => lazy_memory(alloc, ask, told),
         Call::Set => lazy_set(alloc, ask, told),
         Call::Start => lazy_behind(alloc, ask, told),
         Call::Span | Call::Matches => lazy_both(alloc, ask, told),
@@ -70,8 +68,58 @@ fn dense_from(
 
 fn lazy_ahead(alloc: Global, ask: &Ask<'_>, told: &mut String) -> Result<(), Failure> {
     let dfa = on_demand(alloc, ask, ask.building.kind, false)?;
-    let mut cache = LazyCache::new(alloc, &dfa)?;
+    let mut cache = lazy_cache(alloc, ask, &dfa)?;
     ahead::tell(alloc, ask, &dfa, &mut cache, told)
+}
+
+fn lazy_memory(alloc: Global, ask: &Ask<'_>, told: &mut String) -> Result<(), Failure> {
+    let dfa = on_demand(alloc, ask, ask.building.kind, false)?;
+    let mut cache = lazy_cache(alloc, ask, &dfa)?;
+    lazy_accounted(ask, &dfa, &mut cache, told)
+}
+
+/// Appends the bytes that are accounted for the cache, what a search for an end tells, and the bytes after it.
+fn lazy_accounted(
+    ask: &Ask<'_>,
+    dfa: &Lazy,
+    cache: &mut LazyCache,
+    told: &mut String,
+) -> Result<(), Failure>
+    requires fits { IsCacheOf dfa.now cache.old }
+    requires forward { dfa.now.dfa.nfa.reverse ≡ false }
+{
+    tell_bytes(told, cache.memory_usage())?;
+    tell_half(
+        told,
+        try_search_half_fwd(dfa, cache, &Input::new(ask.input)),
+    )?;
+    tell_bytes(told, cache.memory_usage())
+}
+
+/// A cache for the DFA: a new one, or that of the earlier engine, reset.
+fn lazy_cache(alloc: Global, ask: &Ask<'_>, dfa: &Lazy) -> Result<LazyCache, Failure>
+    ensures { IfOk result (IsCacheOf dfa.now) }
+{
+    match ask.earlier() {
+        None => Ok(LazyCache::new(alloc, dfa)?),
+        Some(earlier) => lazy_reset(alloc, &earlier, dfa),
+    }
+}
+
+fn lazy_reset(alloc: Global, earlier: &Ask<'_>, dfa: &Lazy) -> Result<LazyCache, Failure>
+    ensures { IfOk result (IsCacheOf dfa.now) }
+{
+    let mut cache = lazy_used(alloc, earlier)?;
+    cache.reset(alloc, dfa)?;
+    Ok(cache)
+}
+
+/// A cache that served a search of the input.
+fn lazy_used(alloc: Global, ask: &Ask<'_>) -> Result<LazyCache, Failure> {
+    let dfa = on_demand(alloc, ask, ask.building.kind, false)?;
+    let mut cache = LazyCache::new(alloc, &dfa)?;
+    let _found = try_search_half_fwd(&dfa, &mut cache, &Input::new(ask.input));
+    Ok(cache)
 }
 
 fn lazy_behind(alloc: Global, ask: &Ask<'_>, told: &mut String) -> Result<(), Failure> {
@@ -172,6 +220,5 @@ fn on_demand_of(alloc: Global, how: Building, nfa: NFA, kind: MatchKind) -> Resu
 /// Appends the bytes of a full DFA's table.
 fn size(alloc: Global, ask: &Ask<'_>, told: &mut String) -> Result<(), Failure> {
     let dfa = full(alloc, ask, ask.building.kind, ask.building.backwards)?;
-    write!(told, "{} bytes\n", dfa.memory_usage())?;
-    Ok(())
+    tell_bytes(told, dfa.memory_usage())
 }

@@ -1,11 +1,14 @@
 //! The PikeVM, and what it is asked for.
+ghost use Rattle.std.specs.Prelude.{IfOk};
 ghost use Rattle.rx_engines.specs.Engine.{Fits};
 
 use crate::ask::Ask;
 use crate::call::Call;
 use crate::compile::{prefilter, source};
 use crate::failure::Failure;
-use crate::tell::{tell_end, tell_match, tell_none, tell_places, tell_set, tell_slots, tell_test};
+use crate::tell::{
+    tell_bytes, tell_end, tell_match, tell_none, tell_places, tell_set, tell_slots, tell_test,
+};
 use rx_engines::pikevm::{Cache, PikeVM};
 use rx_search::{Input, NonMaxUsize, PatternSet};
 use std::alloc::Global;
@@ -13,7 +16,7 @@ use std::alloc::Global;
 /// Appends what the PikeVM tells of each haystack, with one cache.
 pub fn tell(alloc: Global, ask: &Ask<'_>, told: &mut String) -> Result<(), Failure> {
     let vm = made(alloc, ask)?;
-    let mut cache = vm.create_cache(alloc)?;
+    let mut cache = cache_for(alloc, ask, &vm)?;
     tell_each(alloc, ask, &vm, &mut cache, told)
 }
 
@@ -22,6 +25,32 @@ fn made(alloc: Global, ask: &Ask<'_>) -> Result<PikeVM, Failure> {
     let pre = prefilter(alloc, ask)?;
     let nfa = source(alloc, ask)?;
     Ok(PikeVM::build_from_nfa(nfa, ask.building.kind, pre))
+}
+
+/// A cache for it: a new one, or that of the earlier engine, reset.
+fn cache_for(alloc: Global, ask: &Ask<'_>, vm: &PikeVM) -> Result<Cache, Failure>
+    ensures { IfOk result (Fits vm.now) }
+{
+    match ask.earlier() {
+        None => Ok(vm.create_cache(alloc)?),
+        Some(earlier) => reset_for(alloc, &earlier, vm),
+    }
+}
+
+fn reset_for(alloc: Global, earlier: &Ask<'_>, vm: &PikeVM) -> Result<Cache, Failure>
+    ensures { IfOk result (Fits vm.now) }
+{
+    let mut cache = used(alloc, earlier)?;
+    cache.reset(alloc, vm)?;
+    Ok(cache)
+}
+
+/// A cache that served a search of the input.
+fn used(alloc: Global, ask: &Ask<'_>) -> Result<Cache, Failure> {
+    let vm = made(alloc, ask)?;
+    let mut cache = vm.create_cache(alloc)?;
+    let _found = vm.find(&mut cache, &Input::new(ask.input));
+    Ok(cache)
 }
 
 fn tell_each(
@@ -54,6 +83,7 @@ fn tell_input(
     ensures { Fits vm.now cache.new }
 {
     match ask.call {
+        Call::Memory => tell_bytes(told, cache.memory_usage()),
         Call::Span => tell_match(told, Ok(vm.find(cache, input))),
         Call::End => tell_end(told, Ok(vm.find(cache, input))),
         Call::Test => tell_test(told, vm.is_match(cache, input)),

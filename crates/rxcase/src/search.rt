@@ -26,6 +26,8 @@ pub struct Searching {
     pub earliest: bool,
     /// Whether each line is a haystack, for which the same cache serves: `lines`.
     pub lines: bool,
+    /// How many of the patterns are those of an earlier engine, whose cache is reset for that of the others: `reset:N`.
+    pub reset: Option<usize>,
     /// The number of slots, if they are not as many as there are: `slots:N`.
     pub slots: Option<usize>,
 }
@@ -38,6 +40,7 @@ impl Searching {
             span: None,
             earliest: false,
             lines: false,
+            reset: None,
             slots: None,
         }
     }
@@ -48,6 +51,7 @@ impl Searching {
             "span" => self.with_span(value),
             "pattern" => self.with_pattern(value),
             "slots" => self.with_slots(value),
+            "reset" => self.with_reset(value),
             _ => {
                 if !value.is_empty() {
                     return None;
@@ -79,6 +83,14 @@ impl Searching {
         let slots = value.parse::<usize>().ok()?;
         Some(Searching {
             slots: Some(slots),
+            ..self
+        })
+    }
+
+    fn with_reset(self, value: &str) -> Option<Searching> {
+        let reset = value.parse::<usize>().ok()?;
+        Some(Searching {
+            reset: Some(reset),
             ..self
         })
     }

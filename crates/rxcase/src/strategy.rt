@@ -1,4 +1,5 @@
 //! The strategy of a regex, and what it is asked for.
+ghost use Rattle.std.specs.Prelude.{IfOk};
 ghost use Rattle.rx_strategy.specs.Cache.{Fits};
 
 use crate::ask::Ask;
@@ -6,7 +7,8 @@ use crate::call::Call;
 use crate::compile::{prefilter, texts};
 use crate::failure::Failure;
 use crate::tell::{
-    tell_half, tell_match, tell_none, tell_places, tell_slots, tell_test, without_memory,
+    tell_bytes, tell_half, tell_match, tell_none, tell_places, tell_slots, tell_test,
+    without_memory,
 };
 use rx_hir::Hir;
 use rx_nfa::BuildError;
@@ -14,14 +16,12 @@ use rx_search::{Input, NonMaxUsize};
 use rx_strategy::{Cache, Config, Strategy};
 use rx_syntax::{ParseError, parse_many};
 use std::alloc::Global;
-use std::fmt::Write;
 
 /// Appends what the strategy tells of each haystack, with one cache.
 pub fn tell(alloc: Global, ask: &Ask<'_>, told: &mut String) -> Result<(), Failure> {
     let strategy = made(alloc, ask)?;
     if ask.call == Call::Size {
-        write!(told, "{} bytes\n", strategy.memory_usage())?;
-        return Ok(());
+        return tell_bytes(told, strategy.memory_usage());
     }
     tell_by(alloc, ask, &strategy, told)
 }
@@ -32,7 +32,7 @@ fn tell_by(
     strategy: &Strategy,
     told: &mut String,
 ) -> Result<(), Failure> {
-    let mut cache = Cache::new(alloc, strategy)?;
+    let mut cache = cache_for(alloc, ask, strategy)?;
     tell_each(alloc, ask, strategy, &mut cache, told)
 }
 
@@ -78,6 +78,32 @@ fn config(alloc: Global, ask: &Ask<'_>) -> Result<Config, Failure> {
     Ok(config.prefilter(pre))
 }
 
+/// A cache for it: a new one, or that of the earlier engine, reset.
+fn cache_for(alloc: Global, ask: &Ask<'_>, strategy: &Strategy) -> Result<Cache, Failure>
+    ensures { IfOk result (Fits strategy.now) }
+{
+    match ask.earlier() {
+        None => Ok(Cache::new(alloc, strategy)?),
+        Some(earlier) => reset_for(alloc, &earlier, strategy),
+    }
+}
+
+fn reset_for(alloc: Global, earlier: &Ask<'_>, strategy: &Strategy) -> Result<Cache, Failure>
+    ensures { IfOk result (Fits strategy.now) }
+{
+    let mut cache = used(alloc, earlier)?;
+    cache.reset(alloc, strategy)?;
+    Ok(cache)
+}
+
+/// A cache that served a search of the input.
+fn used(alloc: Global, ask: &Ask<'_>) -> Result<Cache, Failure> {
+    let strategy = made(alloc, ask)?;
+    let mut cache = Cache::new(alloc, &strategy)?;
+    let _found = strategy.search(&mut cache, &Input::new(ask.input));
+    Ok(cache)
+}
+
 fn tell_each(
     alloc: Global,
     ask: &Ask<'_>,
@@ -108,6 +134,7 @@ fn tell_input(
     ensures { Fits strategy.now cache.new }
 {
     match ask.call {
+        Call::Memory => tell_bytes(told, cache.memory_usage()),
         Call::Span => tell_match(told, without_memory(strategy.search(cache, input))),
         Call::End => tell_half(told, without_memory(strategy.search_half(cache, input))),
         Call::Test => match strategy.is_match(cache, input) {

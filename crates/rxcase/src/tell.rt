@@ -38,7 +38,10 @@ pub fn tell_half(
 }
 
 /// Appends the end of a match.
-pub fn tell_end(told: &mut String, found: Result<Option<Match>, MatchError>) -> Result<(), Failure> {
+pub fn tell_end(
+    told: &mut String,
+    found: Result<Option<Match>, MatchError>,
+) -> Result<(), Failure> {
     match found {
         Ok(Some(found)) => {
             let pattern = found.pattern().as_usize();
@@ -56,6 +59,12 @@ pub fn without_memory<T: Drop>(found: Result<T, Memory>) -> Result<T, MatchError
         Ok(found) => Ok(found),
         Err(_) => Err(MatchError::Memory),
     }
+}
+
+/// Appends a number of bytes.
+pub fn tell_bytes(told: &mut String, bytes: usize) -> Result<(), Failure> {
+    write!(told, "{bytes} bytes\n")?;
+    Ok(())
 }
 
 /// Appends whether there is a match.
@@ -90,7 +99,12 @@ pub fn tell_error(told: &mut String, error: MatchError) -> Result<(), Failure> {
 pub fn tell_one(told: &mut String, found: Match, is_first: bool) -> Result<(), AllocError> {
     let parting = if is_first { "" } else { " " };
     let pattern = found.pattern().as_usize();
-    write!(told, "{parting}{pattern}:{}..{}", found.start(), found.end())
+    write!(
+        told,
+        "{parting}{pattern}:{}..{}",
+        found.start(),
+        found.end()
+    )
 }
 
 /// Appends the numbers of the patterns: `0 2`.
