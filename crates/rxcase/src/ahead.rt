@@ -10,7 +10,7 @@ use rx_prefilter::Prefilter;
 use rx_search::MatchKind;
 use std::alloc::Global;
 
-/// Appends the end that the automaton finds in each haystack, with one cache.
+/// Appends the end that the automaton finds in the input.
 pub fn tell<A: Automaton>(
     alloc: Global,
     ask: &Ask<'_>,
@@ -21,28 +21,11 @@ pub fn tell<A: Automaton>(
     requires fits { A.fits dfa.now cache.old }
     requires forward { (A.dfa dfa.now).nfa.reverse ≡ false }
 {
-    match prefilter(alloc, ask)? {
-        Some(pre) => tell_by(ask, dfa, cache, &pre, told),
-        None => tell_each(ask, dfa, cache, told),
+    if let Some(pre) = prefilter(alloc, ask)? {
+        return tell_by(ask, dfa, cache, &pre, told);
     }
-}
-
-/// Appends the end in each haystack.
-fn tell_each<A: Automaton>(
-    ask: &Ask<'_>,
-    dfa: &A,
-    cache: &mut A::Cache,
-    told: &mut String,
-) -> Result<(), Failure>
-    requires fits { A.fits dfa.now cache.old }
-    requires forward { (A.dfa dfa.now).nfa.reverse ≡ false }
-{
-    let lines = ask.searching.lines;
-    'haystacks: for haystack in ask.haystacks().split(|byte| lines && *byte == b'\n') {
-        let input = ask.searching.input(haystack)?;
-        tell_half(told, try_search_half_fwd(dfa, cache, &input))?;
-    }
-    Ok(())
+    let input = ask.searching.input(ask.input)?;
+    tell_half(told, try_search_half_fwd(dfa, cache, &input))
 }
 
 /// Appends the end in the input, from candidate to candidate.

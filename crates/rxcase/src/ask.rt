@@ -6,6 +6,7 @@ use crate::failure::Failure;
 use crate::search::Searching;
 use rx_search::{Memory, NonMaxUsize};
 use std::alloc::Global;
+use std::str;
 
 /// What the words ask for.
 #[derive(Clone, Copy)]
@@ -23,15 +24,16 @@ pub struct Ask<'w> {
 }
 
 impl<'w> Ask<'w> {
-    /// What these words ask for, of this input.
+    /// The text whose lines are haystacks. The end of the last line begins no other one.
     ///
     /// # Errors
     ///
-    /// `Usage` where they are not those of a case.
-    pub fn of(words: &'w [String], input: &'w [u8]) -> Result<Ask<'w>, Failure> {
-        match read(words, input) {
-            Some(ask) => Ok(ask),
-            None => Err(Failure::Usage),
+    /// `Usage` where the input is no text.
+    pub fn text(&self) -> Result<&'w str, Failure> {
+        let input = self.input.strip_suffix(b"\n").unwrap_or(self.input);
+        match str::from_utf8(input) {
+            Ok(text) => Ok(text),
+            Err(_) => Err(Failure::Usage),
         }
     }
 
@@ -65,35 +67,22 @@ impl<'w> Ask<'w> {
     }
 }
 
-fn read<'w>(words: &'w [String], input: &'w [u8]) -> Option<Ask<'w>> {
-    let (before, patterns) = parted(words)?;
+/// What these words ask for, of this input, if they are those of a case.
+pub fn read<'w>(words: &'w [String], input: &'w [u8]) -> Option<Ask<'w>> {
+    let (before, all) = parted(words)?;
     let (engine, rest) = before.split_first()?;
     let (call, options) = rest.split_first()?;
-    let ask = Ask {
+    let ways = Ways::of(options)?;
+    let (earlier, patterns) = without_earlier(all, ways.searching.reset)?;
+    Some(Ask {
         engine: Engine::of(engine)?,
         call: Call::of(call)?,
-        building: Building::new(),
-        searching: Searching::new(),
+        building: ways.building,
+        searching: ways.searching,
         options,
         patterns,
-        earlier: None,
+        earlier,
         input,
-    };
-    with_earlier(with_options(ask)?)
-}
-
-/// The same with the patterns of the earlier engine apart.
-fn with_earlier(ask: Ask<'_>) -> Option<Ask<'_>> {
-    let Some(count) = ask.searching.reset else {
-        return Some(ask);
-    };
-    if count > ask.patterns.len() {
-        return None;
-    }
-    Some(Ask {
-        earlier: Some(&ask.patterns[..count]),
-        patterns: &ask.patterns[count..],
-        ..ask
     })
 }
 
@@ -107,24 +96,50 @@ fn parted(words: &[String]) -> Option<(&[String], &[String])> {
     None
 }
 
-/// The same with its options.
-fn with_options(ask: Ask<'_>) -> Option<Ask<'_>> {
-    let mut all = ask;
-    for option in ask.options {
-        all = with(all, option)?;
+/// The patterns of an earlier engine, if there are so many, and those of the other one.
+fn without_earlier(
+    patterns: &[String],
+    reset: Option<usize>,
+) -> Option<(Option<&[String]>, &[String])> {
+    let Some(count) = reset else {
+        return Some((None, patterns));
+    };
+    if count > patterns.len() {
+        return None;
     }
-    Some(all)
+    Some((Some(&patterns[..count]), &patterns[count..]))
 }
 
-/// The same with this option.
-fn with<'w>(ask: Ask<'w>, option: &str) -> Option<Ask<'w>> {
-    let (name, value) = option.split_once(':').unwrap_or((option, ""));
-    if name == "needle" {
-        return Some(ask);
+/// What the options say.
+#[derive(Clone, Copy)]
+struct Ways {
+    building: Building,
+    searching: Searching,
+}
+
+impl Ways {
+    /// What these options say, if they are some.
+    fn of(options: &[String]) -> Option<Ways> {
+        let mut ways = Ways {
+            building: Building::new(),
+            searching: Searching::new(),
+        };
+        for option in options {
+            ways = ways.with(option)?;
+        }
+        Some(ways)
     }
-    if let Some(building) = ask.building.with(name, value) {
-        return Some(Ask { building, ..ask });
+
+    /// The same with this option.
+    fn with(self, option: &str) -> Option<Ways> {
+        let (name, value) = option.split_once(':').unwrap_or((option, ""));
+        if name == "needle" {
+            return Some(self);
+        }
+        if let Some(building) = self.building.with(name, value) {
+            return Some(Ways { building, ..self });
+        }
+        let searching = self.searching.with(name, value)?;
+        Some(Ways { searching, ..self })
     }
-    let searching = ask.searching.with(name, value)?;
-    Some(Ask { searching, ..ask })
 }

@@ -6,7 +6,7 @@ use crate::failure::Failure;
 use crate::tell::tell_half;
 use rx_dfa::{Automaton, try_search_half_rev};
 
-/// Appends the start that the automaton finds in each haystack, with one cache.
+/// Appends the start that the automaton finds in the input.
 pub fn tell<A: Automaton>(
     ask: &Ask<'_>,
     dfa: &A,
@@ -16,10 +16,6 @@ pub fn tell<A: Automaton>(
     requires fits { A.fits dfa.now cache.old }
     requires backward { (A.dfa dfa.now).nfa.reverse ≡ true }
 {
-    let lines = ask.searching.lines;
-    'haystacks: for haystack in ask.haystacks().split(|byte| lines && *byte == b'\n') {
-        let input = ask.searching.bound_input(haystack)?;
-        tell_half(told, try_search_half_rev(dfa, cache, &input))?;
-    }
-    Ok(())
+    let input = ask.searching.bound_input(ask.input)?;
+    tell_half(told, try_search_half_rev(dfa, cache, &input))
 }

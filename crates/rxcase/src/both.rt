@@ -8,7 +8,8 @@ use crate::tell::{tell_error, tell_match, tell_one};
 use rx_dfa::{Automaton, try_search};
 use rx_search::{Input, MatchError};
 
-/// Appends what the automata tell of each haystack, with one cache each.
+/// Appends what the automata tell of the input: the next match, or the successive matches in each line, for all of which the same caches
+/// serve.
 pub fn tell<A: Automaton>(
     ask: &Ask<'_>,
     forward: &A,
@@ -22,21 +23,40 @@ pub fn tell<A: Automaton>(
     requires forward { (A.dfa forward.now).nfa.reverse ≡ false }
     requires backward { (A.dfa backward.now).nfa.reverse ≡ true }
 {
-    let lines = ask.searching.lines;
-    'haystacks: for haystack in ask.haystacks().split(|byte| lines && *byte == b'\n') {
-        tell_haystack(ask, forward, cache, backward, second, haystack, told)?;
+    if ask.call == Call::Matches {
+        return tell_lines(forward, cache, backward, second, ask.text()?, told);
     }
-    Ok(())
+    let input = ask.searching.input(ask.input)?;
+    tell_match(told, try_search(forward, cache, backward, second, &input))
 }
 
-/// Appends what they tell of this haystack.
-fn tell_haystack<A: Automaton>(
-    ask: &Ask<'_>,
+/// Appends the successive matches in each line.
+fn tell_lines<A: Automaton>(
     forward: &A,
     cache: &mut A::Cache,
     backward: &A,
     second: &mut A::Cache,
-    haystack: &[u8],
+    text: &str,
+    told: &mut String,
+) -> Result<(), Failure>
+    requires fits { A.fits forward.now cache.old }
+    requires second { A.fits backward.now second.old }
+    requires forward { (A.dfa forward.now).nfa.reverse ≡ false }
+    requires backward { (A.dfa backward.now).nfa.reverse ≡ true }
+{
+    'lines: for line in text.split('\n') {
+        tell_line(forward, cache, backward, second, line.as_bytes(), told)?;
+    }
+    Ok(())
+}
+
+/// Appends the successive matches in a line, and why a search came to no end, if one did not.
+fn tell_line<A: Automaton>(
+    forward: &A,
+    cache: &mut A::Cache,
+    backward: &A,
+    second: &mut A::Cache,
+    line: &[u8],
     told: &mut String,
 ) -> Result<(), Failure>
     requires fits { A.fits forward.now cache.old }
@@ -46,14 +66,9 @@ fn tell_haystack<A: Automaton>(
     ensures fits { A.fits forward.now cache.new }
     ensures second { A.fits backward.now second.new }
 {
-    if ask.call == Call::Matches {
-        let before = told.len();
-        let ended = tell_all(forward, cache, backward, second, haystack, told);
-        let parting = if told.len() == before { "" } else { " " };
-        return tell_rest(told, parting, ended);
-    }
-    let input = ask.searching.input(haystack)?;
-    tell_match(told, try_search(forward, cache, backward, second, &input))
+    let before = told.len();
+    let ended = tell_all(forward, cache, backward, second, line, told);
+    tell_rest(told, before, ended)
 }
 
 /// Appends the successive matches, up to the first search that does not come to its end.
@@ -97,20 +112,18 @@ fn tell_all<A: Automaton>(
     Ok(())
 }
 
-/// Appends the end of the line, before it why a search came to no end.
+/// Appends the end of the line that begins behind so many bytes, before it why a search came to no end.
 fn tell_rest(
     told: &mut String,
-    parting: &str,
+    before: usize,
     ended: Result<(), MatchError>,
 ) -> Result<(), Failure> {
-    match ended {
-        Ok(()) => {
-            told.push('\n')?;
-            Ok(())
-        }
-        Err(error) => {
-            told.push_str(parting)?;
-            tell_error(told, error)
-        }
+    let Err(error) = ended else {
+        told.push('\n')?;
+        return Ok(());
+    };
+    if told.len() > before {
+        told.push(' ')?;
     }
+    tell_error(told, error)
 }

@@ -18,7 +18,7 @@ mod sets;
 mod strategy;
 mod tell;
 
-use ask::Ask;
+use ask::{Ask, read};
 use call::Engine;
 use failure::Failure;
 use std::alloc::Global;
@@ -51,11 +51,22 @@ fn answer_words<R: Runtime + AllocGlobal>(rt: &R, words: &[String]) -> Result<()
     answer(rt, words, &input)
 }
 
+/// Answers the words over this input.
+fn answer<'w, R: Runtime + AllocGlobal>(
+    rt: &R,
+    words: &'w [String],
+    input: &'w [u8],
+) -> Result<(), Failure> {
+    match read(words, input) {
+        Some(ask) => print(rt, &ask),
+        None => Err(Failure::Usage),
+    }
+}
+
 /// Prints what is told.
-fn answer<R: Runtime + AllocGlobal>(rt: &R, words: &[String], input: &[u8]) -> Result<(), Failure> {
-    let ask = Ask::of(words, input)?;
+fn print<R: Runtime + AllocGlobal>(rt: &R, ask: &Ask<'_>) -> Result<(), Failure> {
     let mut told = String::new(rt.alloc());
-    tell_asked(rt.alloc(), &ask, &mut told)?;
+    tell_asked(rt.alloc(), ask, &mut told)?;
     print!(rt; "{told}")?;
     Ok(())
 }

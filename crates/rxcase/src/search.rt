@@ -1,6 +1,6 @@
 //! How a haystack is searched.
-ghost use Rattle.std.specs.Prelude.{◌≡◌, IfOk, true};
-ghost use Rattle.rx_search.specs.Input.{is_anchored};
+ghost use Rattle.std.specs.Prelude.{◌≡◌, IfOk, true, false};
+ghost use Rattle.rx_model.specs.Search.{is_anchored};
 
 use crate::failure::Failure;
 use rx_search::{Anchored, Input, PatternID, Span};
@@ -24,7 +24,8 @@ pub struct Searching {
     pub span: Option<(usize, usize)>,
     /// Whether any match will do: `earliest`.
     pub earliest: bool,
-    /// Whether each line is a haystack, for which the same cache serves: `lines`.
+    /// Whether each line is a haystack, for which the same cache serves, of the PikeVM and the backtracker: `lines`. For `matches` it
+    /// always is.
     pub lines: bool,
     /// How many of the patterns are those of an earlier engine, whose cache is reset for that of the others: `reset:N`.
     pub reset: Option<usize>,

@@ -17,7 +17,7 @@ use rx_strategy::{Cache, Config, Strategy};
 use rx_syntax::{ParseError, parse_many};
 use std::alloc::Global;
 
-/// Appends what the strategy tells of each haystack, with one cache.
+/// Appends what the strategy tells.
 pub fn tell(alloc: Global, ask: &Ask<'_>, told: &mut String) -> Result<(), Failure> {
     let strategy = made(alloc, ask)?;
     if ask.call == Call::Size {
@@ -33,7 +33,8 @@ fn tell_by(
     told: &mut String,
 ) -> Result<(), Failure> {
     let mut cache = cache_for(alloc, ask, strategy)?;
-    tell_each(alloc, ask, strategy, &mut cache, told)
+    let input = ask.searching.input(ask.input)?;
+    tell_input(alloc, ask, strategy, &mut cache, &input, told)
 }
 
 /// The strategy that is asked for.
@@ -102,23 +103,6 @@ fn used(alloc: Global, ask: &Ask<'_>) -> Result<Cache, Failure> {
     let mut cache = Cache::new(alloc, &strategy)?;
     let _found = strategy.search(&mut cache, &Input::new(ask.input));
     Ok(cache)
-}
-
-fn tell_each(
-    alloc: Global,
-    ask: &Ask<'_>,
-    strategy: &Strategy,
-    cache: &mut Cache,
-    told: &mut String,
-) -> Result<(), Failure>
-    requires { Fits strategy.now cache.old }
-{
-    let lines = ask.searching.lines;
-    'haystacks: for haystack in ask.haystacks().split(|byte| lines && *byte == b'\n') {
-        let input = ask.searching.input(haystack)?;
-        tell_input(alloc, ask, strategy, cache, &input, told)?;
-    }
-    Ok(())
 }
 
 /// Appends what it tells of an input.

@@ -112,13 +112,18 @@ pub fn tell_set(told: &mut String, set: &PatternSet) -> Result<(), Failure> {
     if set.is_empty() {
         return tell_none(told);
     }
-    let mut parting = "";
+    let mut is_first = true;
     for pattern in set.iter() {
-        write!(told, "{parting}{}", pattern.as_usize())?;
-        parting = " ";
+        tell_number(told, pattern, is_first)?;
+        is_first = false;
     }
     told.push('\n')?;
     Ok(())
+}
+
+fn tell_number(told: &mut String, pattern: PatternID, is_first: bool) -> Result<(), AllocError> {
+    let parting = if is_first { "" } else { " " };
+    write!(told, "{parting}{}", pattern.as_usize())
 }
 
 /// Appends the pattern and, for each two slots, their span: `0: 3..5 -`.

@@ -1,4 +1,0 @@
-use Rattle.rxcase.proofs.ahead.tell_each.Given as goal
-
-abbrev pub invariant-haystacks : goal.invariant-haystacks
-invariant-haystacks g l = record { fits : g.A.Automaton.fits l.dfa l.cache }
