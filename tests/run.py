@@ -1,22 +1,24 @@
 #!/usr/bin/env python3
-"""Runs a built rxscan on the tables of this folder.
+"""Runs built programs on the tables of this folder.
 
-usage: tests/run.py PROGRAM [TABLE..]   (every .txt file beside this script, if none is named)
+usage: tests/run.py PROGRAM.. [TABLE..]   (every .txt file beside this script, if none is named)
 
 A table is a text of cases with an empty line between them. A case is made of these lines:
 
     # TEXT            a remark
-    $ rxscan WORD..   a run with these words, quoted as for a shell. Several such lines are several runs with the same
-                      input, which end alike; without one there are five: `rxscan scan`, and with `off:p`, `off:d`, `off:h` and
-                      `off:dhobp`
+    $ PROGRAM WORD..  a run of a program with these words, quoted as for a shell. Several such lines are several runs with the same
+                      input, which end alike; without one there are five of rxscan: `scan`, and with `off:p`, `off:d`, `off:h` and
+                      `off:dhobp`. The first word of rxcase names engines, with commas between them: a run for each
     < TEXT            a line of the input
     <= LITERAL * N    bytes of the input, N times, with no newline after them: a string of Python's, as "a\\t\\u00e9", or
                       bytes, as b"\\xff"; N is 1 if left out
     > TEXT            a line of the output that is wanted, and `>= LITERAL * N` as above
+    ~ TEXT            a line of the output, or some of its first words with `quit B at N` behind them: the search stopped at a byte B
+                      that is not ASCII, and what it had told by then is right
     ? N               the exit status that is wanted, 0 without one
 
-Each run that ends otherwise is printed with the place of its case. The last line is `N passed, M failed`, and the exit
-status is 1 where one failed, and 2 where a table cannot be read.
+Cases of a program that is not named are left out. Each run that ends otherwise is printed with the place of its case. The last
+line is `N passed, M failed`, and the exit status is 1 where one failed, and 2 where a table cannot be read.
 """
 import ast
 import os
@@ -30,7 +32,9 @@ SECONDS = 1200
 
 # The runs of a case that names no words: with all engines, without automatic prefilters, without either sort of DFAs, and
 # without all that can be switched off.
-WITHOUT_WORDS = [['scan'], ['scan', 'off:p'], ['scan', 'off:d'], ['scan', 'off:h'], ['scan', 'off:dhobp']]
+WITHOUT_WORDS = [['rxscan', 'scan'] + off for off in ([], ['off:p'], ['off:d'], ['off:h'], ['off:dhobp'])]
+
+QUIT = re.compile(rb'(.*)\bquit (\d+) at \d+')
 
 
 class BadTable(Exception):
@@ -45,6 +49,7 @@ class Case:
         self.runs = []
         self.input = bytearray()
         self.output = bytearray()
+        self.loose = set()
         self.status = 0
 
     def read(self, line):
@@ -56,8 +61,11 @@ class Case:
             self.bytes_of(mark).extend(rest.encode() + b'\n')
         elif mark in ('<=', '>='):
             self.bytes_of(mark[0]).extend(literal(rest))
-        elif line.startswith('$ rxscan'):
-            self.runs.append(shlex.split(rest)[1:])
+        elif mark == '~':
+            self.loose.add(self.output.count(b'\n'))
+            self.output.extend(rest.encode() + b'\n')
+        elif mark == '$':
+            self.runs.extend(runs_of(shlex.split(rest)))
         elif mark == '?' and rest.isdecimal():
             self.status = int(rest)
         else:
@@ -65,6 +73,29 @@ class Case:
 
     def bytes_of(self, mark):
         return self.input if mark == '<' else self.output
+
+    def is_wanted(self, output):
+        """Whether this is the output that is wanted."""
+        if not self.loose:
+            return output == self.output
+        got, want = output.split(b'\n'), bytes(self.output).split(b'\n')
+        return len(got) == len(want) and all(
+            a == b or (k in self.loose and is_front(a, b)) for k, (a, b) in enumerate(zip(got, want)))
+
+
+def runs_of(words):
+    """The runs that a line of a case asks for, each with its program first."""
+    if words[:1] == ['rxcase'] and len(words) > 1:
+        return [['rxcase', engine] + words[2:] for engine in words[1].split(',')]
+    if words[:1] == ['rxscan']:
+        return [words]
+    raise BadTable('no program of a case: ' + ' '.join(words))
+
+
+def is_front(line, whole):
+    """Whether a line is made of the first words of another one, and tells that the search quit at a byte that is not ASCII."""
+    quit = QUIT.fullmatch(line)
+    return bool(quit) and int(quit.group(2)) >= 128 and (whole + b' ').startswith(quit.group(1))
 
 
 def literal(text):
@@ -124,7 +155,7 @@ def fault(program, words, case):
     faults = []
     if done.returncode != case.status:
         faults.append('the status is %d, and %d is wanted' % (done.returncode, case.status))
-    if done.stdout != case.output:
+    if not case.is_wanted(done.stdout):
         faults.append(difference(done.stdout, case.output))
     return '; '.join(faults)
 
@@ -132,16 +163,19 @@ def fault(program, words, case):
 def main():
     if len(sys.argv) < 2:
         sys.exit(__doc__)
-    program = os.path.abspath(sys.argv[1])
-    tables = sys.argv[2:] or sorted(os.path.join(FOLDER, name) for name in os.listdir(FOLDER) if name.endswith('.txt'))
+    programs = {os.path.basename(name): os.path.abspath(name) for name in sys.argv[1:] if not name.endswith('.txt')}
+    tables = [name for name in sys.argv[1:] if name.endswith('.txt')]
+    tables = tables or sorted(os.path.join(FOLDER, name) for name in os.listdir(FOLDER) if name.endswith('.txt'))
     passed = failed = 0
     try:
         for case in [case for table in tables for case in cases_of(table)]:
-            for words in case.runs or WITHOUT_WORDS:
-                wrong = fault(program, words, case)
+            for program, *words in case.runs or WITHOUT_WORDS:
+                if program not in programs:
+                    continue
+                wrong = fault(programs[program], words, case)
                 passed, failed = passed + (not wrong), failed + bool(wrong)
                 if wrong:
-                    print('%s: %s: %s' % (case.place, shlex.join(['rxscan'] + words), wrong), flush=True)
+                    print('%s: %s: %s' % (case.place, shlex.join([program] + words), wrong), flush=True)
     except (BadTable, OSError) as error:
         print(error)
         print('%d passed, %d failed' % (passed, failed + 1))

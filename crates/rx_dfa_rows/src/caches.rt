@@ -1,12 +1,12 @@
-//! The caches of lazy DFAs: what fits, and that they are cleared. What is wanted was counted by hand.
+//! The caches of lazy DFAs in which the states of a text do not fit at once: that they are cleared, and stay within their capacity. What
+//! is wanted was counted by hand.
 ghost use Rattle.std.specs.Prelude.{◌≡◌, false, IfOk};
 ghost use Rattle.rx_dfa.specs.LazyCache.{IsCacheOf};
 
-use crate::automata::{cache, nfa};
-use crate::table::{Told, told_half};
 use rx_dfa::lazy::{BuildError, Lazy, LazyCache};
 use rx_dfa::try_search_half_fwd;
-use rx_search::{Input, MatchKind};
+use rx_search::{HalfMatch, Input, MatchError, MatchKind};
+use rx_thompson::{Compiler, NFA};
 use std::alloc::Global;
 use std::process::Abort;
 
@@ -16,34 +16,48 @@ const MANY_STATES: &str = "[ab]*a[ab]{10}";
 /// A capacity at which no cache is cleared.
 const ROOMY: usize = 1 << 24;
 
-/// An automaton of this capacity.
-fn lazy(
+/// The NFA of many states.
+fn nfa(rt: &impl Abort, alloc: Global) -> NFA
+    ensures { result.reverse ≡ false }
+{
+    let nfa = Compiler::new().build(alloc, MANY_STATES);
+    nfa.ok().expect(rt, "an NFA")
+}
+
+/// Its automaton of this capacity.
+fn built(
     rt: &impl Abort,
     alloc: Global,
-    pattern: &str,
     byte_classes: bool,
     capacity: usize,
 ) -> Result<Lazy, BuildError>
     ensures { IfOk result (λ l. l.dfa.nfa.reverse ≡ false) }
 {
-    let nfa = nfa(rt, alloc, &[pattern], false, false);
+    let nfa = nfa(rt, alloc);
     Lazy::build_from_nfa(alloc, nfa, MatchKind::LeftmostFirst, byte_classes, capacity)
 }
 
-/// The automaton of many states, of this capacity.
+/// The same, if there is one.
 fn many(rt: &impl Abort, alloc: Global, byte_classes: bool, capacity: usize) -> Lazy
     ensures { result.dfa.nfa.reverse ≡ false }
 {
-    let lazy = lazy(rt, alloc, MANY_STATES, byte_classes, capacity);
+    let lazy = built(rt, alloc, byte_classes, capacity);
     lazy.ok().expect(rt, "a lazy DFA")
 }
 
-/// The least capacity for an automaton of the pattern.
-fn least(rt: &impl Abort, alloc: Global, pattern: &str) -> usize {
-    match lazy(rt, alloc, pattern, true, 0) {
+/// The least capacity for it.
+fn least(rt: &impl Abort, alloc: Global) -> usize {
+    match built(rt, alloc, true, 0) {
         Err(BuildError::CacheTooSmall { minimum, .. }) => minimum,
         _ => 0,
     }
+}
+
+/// A cache for the automaton.
+fn cache(rt: &impl Abort, alloc: Global, lazy: &Lazy) -> LazyCache
+    ensures { IsCacheOf lazy.now result }
+{
+    LazyCache::new(alloc, lazy).ok().expect(rt, "a cache")
 }
 
 /// Letters `a` and `b`, which follow no rule that a search could tell.
@@ -107,43 +121,41 @@ struct Seen {
     gave_up: usize,
 }
 
-impl Seen {
-    /// With one search more.
-    fn with(self, told: Told) -> Seen {
-        if gave_up(told) {
-            return Seen {
-                answers: self.answers,
-                gave_up: self.gave_up.saturating_add(1),
-            };
+/// What is seen with one search more, if it told the end that is wanted, or gave up.
+fn seen_with(
+    seen: Seen,
+    found: Result<Option<HalfMatch>, MatchError>,
+    want: Option<usize>,
+) -> Option<Seen> {
+    let Seen { answers, gave_up } = seen;
+    let end = match found {
+        Ok(Some(half)) => Some(half.offset()),
+        Ok(None) => None,
+        Err(MatchError::GaveUp { .. }) => {
+            return Some(Seen {
+                answers,
+                gave_up: gave_up.saturating_add(1),
+            });
         }
-        Seen {
-            answers: self.answers.saturating_add(1),
-            gave_up: self.gave_up,
-        }
+        Err(_) => return None,
+    };
+    if end != want {
+        return None;
     }
+    Some(Seen {
+        answers: answers.saturating_add(1),
+        gave_up,
+    })
 }
 
-/// Whether the search gave up.
-fn gave_up(told: Told) -> bool {
-    matches!(told, Told::GaveUp(_))
-}
-
-/// Whether that is told which is wanted, unless the search gave up.
-fn is_answer(told: Told, want: Told) -> bool {
-    if gave_up(told) {
-        return true;
-    }
-    told == want
-}
-
-/// What is seen of so many searches with the cache, if each one that does not give up tells what is wanted, and the cache keeps within
-/// the capacity.
+/// What is seen of so many searches with the cache, if each one that does not give up tells the end that is wanted, and the cache keeps
+/// within the capacity.
 fn turns(
     lazy: &Lazy,
     cache: &mut LazyCache,
     text: &[u8],
     times: usize,
-    want: Told,
+    want: Option<usize>,
     capacity: usize,
 ) -> Option<Seen>
     requires fits { IsCacheOf lazy.now cache.old }
@@ -155,33 +167,30 @@ fn turns(
         gave_up: 0,
     };
     'turns: for _ in 0..times {
-        let told = told_half(try_search_half_fwd(lazy, cache, &input));
-        if !is_answer(told, want) {
-            return None;
-        }
+        let found = try_search_half_fwd(lazy, cache, &input);
+        seen = seen_with(seen, found, want)?;
         if cache.memory_usage() > capacity {
             return None;
         }
-        seen = seen.with(told);
     }
     Some(seen)
 }
 
-/// What a search of the text is to tell, which has the letters `a` and `b` alone: the match begins with the text, and ends ten letters
-/// behind the last `a` that has as many behind it.
-fn wanted(text: &[u8]) -> Told {
+/// The end that a search of the text is to tell, which has the letters `a` and `b` alone: the match begins with the text, and ends ten
+/// letters behind the last `a` that has as many behind it.
+fn wanted(text: &[u8]) -> Option<usize> {
     for behind in 10..text.len() {
         if text[text.len() - 1 - behind] == b'a' {
-            return Told::Half(0, text.len() - behind + 10);
+            return Some(text.len() - behind + 10);
         }
     }
-    Told::Nothing
+    None
 }
 
 /// Searches the text so often, with one cache of the least capacity, in which the states of the text do not fit at once. Where a
 /// search does not give up, it tells what is wanted.
 fn searched(rt: &impl Abort, alloc: Global, byte_classes: bool, text: &[u8], times: usize) -> Seen {
-    let capacity = least(rt, alloc, MANY_STATES);
+    let capacity = least(rt, alloc);
     assert!(rt; capacity < needed(rt, alloc, byte_classes, text));
     let want = wanted(text);
     let lazy = many(rt, alloc, byte_classes, capacity);
@@ -195,8 +204,7 @@ fn searched(rt: &impl Abort, alloc: Global, byte_classes: bool, text: &[u8], tim
 fn rows_of_512_cells(rt: HostRuntime) {
     let text = text(&rt, rt.alloc(), 1, 25, 1);
     let seen = searched(&rt, rt.alloc(), false, &text, 5);
-    assert!(rt; seen.answers > 0);
-    assert!(rt; seen.gave_up > 0);
+    assert!(rt; seen.answers > 0 && seen.gave_up > 0);
 }
 
 /// Nearly each letter leads to a state that was not met before, so that searches give up.
@@ -217,91 +225,4 @@ fn words_that_come_again(rt: HostRuntime) {
         gave_up: 0,
     };
     assert!(rt; seen == all);
-}
-
-/// A word of forty letters: each of them leads to a state of its own.
-const LETTERS: &str = "abcdefghijklmnopqrstuvwxyzABCDEFGHIJKLMN";
-
-/// What is told of a search of these letters.
-fn told_of_letters(lazy: &Lazy, cache: &mut LazyCache) -> Told
-    requires fits { IsCacheOf lazy.now cache.old }
-    requires forward { lazy.now.dfa.nfa.reverse ≡ false }
-{
-    told_half(try_search_half_fwd(lazy, cache, &Input::new(LETTERS.as_bytes())))
-}
-
-/// With a column for each byte, a state accounts 2076 bytes, that at the start 2072. So a cache of the least capacity, which lies between
-/// 17000 and 17400, has room for eight: the letters 7, 14 and 21 clear it, and two states stay. The next time it gives up.
-#[test]
-fn where_a_search_gives_up(rt: HostRuntime) {
-    let capacity = least(&rt, rt.alloc(), LETTERS);
-    assert!(rt; 17000 < capacity);
-    assert!(rt; capacity < 17400);
-    let lazy = lazy(&rt, rt.alloc(), LETTERS, false, capacity).ok();
-    let lazy = lazy.expect(&rt, "a lazy DFA");
-    let mut cache = cache(&rt, rt.alloc(), &lazy);
-    assert!(rt; told_of_letters(&lazy, &mut cache) == Told::GaveUp(28));
-}
-
-/// Why there is no lazy DFA of `a` of this capacity.
-fn refusal(rt: &impl Abort, alloc: Global, given: usize) -> Option<BuildError> {
-    lazy(rt, alloc, "a", true, given).err()
-}
-
-#[test]
-fn a_cache_below_the_minimum(rt: HostRuntime) {
-    let minimum = 16512;
-    for given in [0, 16511] {
-        let wanted = BuildError::CacheTooSmall { minimum, given };
-        assert_eq!(rt; refusal(&rt, rt.alloc(), given), Some(wanted));
-    }
-}
-
-/// What a cache accounts after a search of `a`, which was empty. There are the state at the start, which stands for two states of the
-/// NFA, one that stands for one, and that after the end, which stands for none; each has a row of 4 cells.
-const OF_A: usize = 3 * (4 * 4 + 16) + 4 * (2 + 1);
-
-/// What the cache accounts before a search of `a`, what is told of the search, and what the cache accounts after it.
-fn served(lazy: &Lazy, cache: &mut LazyCache) -> (usize, Told, usize)
-    requires fits { IsCacheOf lazy.now cache.old }
-    requires forward { lazy.now.dfa.nfa.reverse ≡ false }
-{
-    let before = cache.memory_usage();
-    let told = told_half(try_search_half_fwd(lazy, cache, &Input::new(b"a")));
-    (before, told, cache.memory_usage())
-}
-
-/// The same after a reset, if there is memory for it.
-fn served_anew(alloc: Global, lazy: &Lazy, cache: &mut LazyCache) -> Option<(usize, Told, usize)>
-    requires forward { lazy.now.dfa.nfa.reverse ≡ false }
-{
-    match cache.reset(alloc, lazy) {
-        Ok(()) => Some(served(lazy, cache)),
-        Err(_) => None,
-    }
-}
-
-/// Whether it serves a new cache of the automaton of `a`, and the same cache after a reset.
-fn serves_twice(alloc: Global, lazy: &Lazy, cache: &mut LazyCache) -> bool
-    requires fits { IsCacheOf lazy.now cache.old }
-    requires forward { lazy.now.dfa.nfa.reverse ≡ false }
-{
-    let wanted = (0, Told::Half(0, 1), OF_A);
-    if served(lazy, cache) != wanted {
-        return false;
-    }
-    served_anew(alloc, lazy, cache) == Some(wanted)
-}
-
-/// Whether an automaton of `a` of this capacity serves its cache so.
-fn serves(rt: &impl Abort, alloc: Global, capacity: usize) -> bool {
-    let lazy = lazy(rt, alloc, "a", true, capacity).ok();
-    let lazy = lazy.expect(rt, "a lazy DFA");
-    let mut cache = cache(rt, alloc, &lazy);
-    serves_twice(alloc, &lazy, &mut cache)
-}
-
-#[test]
-fn a_cache_of_the_minimum(rt: HostRuntime) {
-    assert!(rt; serves(&rt, rt.alloc(), 16512));
 }

@@ -1,25 +1,5 @@
-//! Tests of the DFAs and of their searches, below the regex that hides them.
+//! Tests of the caches of lazy DFAs, below the regex that hides them. Searches by DFAs are cases of `tests/`.
 #![tactic(auto)]
 
 #[cfg(test)]
-mod automata;
-#[cfg(test)]
 mod caches;
-#[cfg(test)]
-mod candidates;
-#[cfg(test)]
-mod forward;
-#[cfg(test)]
-mod last;
-#[cfg(test)]
-mod loops;
-#[cfg(test)]
-mod reverse;
-#[cfg(test)]
-mod sets;
-#[cfg(test)]
-mod sizes;
-#[cfg(test)]
-mod table;
-#[cfg(test)]
-mod texts;

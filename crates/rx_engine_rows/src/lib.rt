@@ -1,13 +1,7 @@
-//! Tests of engines and strategies, below the regex that hides them.
+//! Tests of strategies and their configuration, below the regex that hides them. Searches are cases of `tests/`.
 #![tactic(auto)]
 
 #[cfg(test)]
-mod backtrack;
-#[cfg(test)]
-mod pikevm;
-#[cfg(test)]
-mod rows;
-#[cfg(test)]
-mod slots;
+mod config;
 #[cfg(test)]
 mod strategy;

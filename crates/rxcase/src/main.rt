@@ -1,0 +1,92 @@
+//! `rxcase ENGINE CALL [OPTION..] -- [PATTERN..]` asks one engine about standard input, and prints what it tells. The tables in `tests/`
+//! are made of such runs.
+#![tactic(auto)]
+
+mod ahead;
+mod ask;
+mod backtrack;
+mod behind;
+mod both;
+mod build;
+mod call;
+mod compile;
+mod dfa;
+mod failure;
+mod pikevm;
+mod search;
+mod sets;
+mod strategy;
+mod tell;
+
+use ask::{Ask, read};
+use call::Engine;
+use failure::Failure;
+use std::alloc::Global;
+use std::io::Read;
+use std::process::ExitCode;
+use std::rt::{Env, Runtime};
+use std::{env, io};
+
+fn main(rt: HostRuntime) -> ExitCode {
+    match run(&rt) {
+        Ok(()) => ExitCode::SUCCESS,
+        Err(failure) => {
+            // Where this can't be printed, the status still tells.
+            let _printed = println!(rt; "{failure}");
+            ExitCode::from(failure.status())
+        }
+    }
+}
+
+/// Reads the words, and answers them.
+fn run<R: Runtime + AllocGlobal>(rt: &R) -> Result<(), Failure> {
+    let words = words(rt)?;
+    answer_words(rt, &words)
+}
+
+/// Reads standard input, and answers the words.
+fn answer_words<R: Runtime + AllocGlobal>(rt: &R, words: &[String]) -> Result<(), Failure> {
+    let mut input = Vec::new(rt.alloc());
+    rt.reader().read_to_end(&mut input)?;
+    answer(rt, words, &input)
+}
+
+/// Answers the words over this input.
+fn answer<'w, R: Runtime + AllocGlobal>(
+    rt: &R,
+    words: &'w [String],
+    input: &'w [u8],
+) -> Result<(), Failure> {
+    match read(words, input) {
+        Some(ask) => print(rt, &ask),
+        None => Err(Failure::Usage),
+    }
+}
+
+/// Prints what is told.
+fn print<R: Runtime + AllocGlobal>(rt: &R, ask: &Ask<'_>) -> Result<(), Failure> {
+    let mut told = String::new(rt.alloc());
+    tell_asked(rt.alloc(), ask, &mut told)?;
+    print!(rt; "{told}")?;
+    Ok(())
+}
+
+/// Appends what the engine tells.
+fn tell_asked(alloc: Global, ask: &Ask<'_>, told: &mut String) -> Result<(), Failure> {
+    match ask.engine {
+        Engine::Dense => dfa::by_dense(alloc, ask, told),
+        Engine::Lazy => dfa::by_lazy(alloc, ask, told),
+        Engine::PikeVM => pikevm::tell(alloc, ask, told),
+        Engine::Backtrack => backtrack::tell(alloc, ask, told),
+        Engine::Core => strategy::tell(alloc, ask, told),
+    }
+}
+
+/// The words after the program's name.
+fn words(rt: &(impl Env + AllocGlobal)) -> io::Result<Vec<String>> {
+    let mut words = Vec::new(rt.alloc());
+    for word in env::args(rt)?.skip(1) {
+        words.push(word)?;
+    }
+    Ok(words)
+}

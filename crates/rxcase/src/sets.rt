@@ -1,0 +1,29 @@
+//! Searches for all patterns that have a match.
+ghost use Rattle.std.specs.Prelude.{◌≡◌, ◌≤◌, length, false};
+
+use crate::ask::Ask;
+use crate::failure::Failure;
+use crate::tell::{tell_error, tell_set};
+use rx_dfa::{Automaton, try_which_overlapping};
+use rx_search::PatternSet;
+
+/// Appends the patterns that the automaton puts into the set, and why the search came to no end, if it did not.
+pub fn tell<A: Automaton>(
+    ask: &Ask<'_>,
+    dfa: &A,
+    cache: &mut A::Cache,
+    set: &mut PatternSet,
+    told: &mut String,
+) -> Result<(), Failure>
+    requires fits { A.fits dfa.now cache.old }
+    requires forward { (A.dfa dfa.now).nfa.reverse ≡ false }
+    requires room { length (A.dfa dfa.now).nfa.starts ≤ length set.old }
+{
+    let input = ask.searching.input(ask.input)?;
+    let ended = try_which_overlapping(dfa, cache, &input, set);
+    tell_set(told, set)?;
+    match ended {
+        Ok(()) => Ok(()),
+        Err(error) => tell_error(told, error),
+    }
+}
