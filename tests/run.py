@@ -12,6 +12,7 @@ A table is a text of cases with an empty line between them. A case is made of th
     < TEXT            a line of the input
     <= LITERAL * N    bytes of the input, N times, with no newline after them: a string of Python's, as "a\\t\\u00e9", or
                       bytes, as b"\\xff"; N is 1 if left out
+    <% LITERAL * N    the same, N times, with the numbers from 0 on in place of `%d`
     > TEXT            a line of the output that is wanted, and `>= LITERAL * N` as above
     ? N               the exit status that is wanted, 0 without one
 
@@ -55,7 +56,12 @@ class Case:
         if mark in ('<', '>'):
             self.bytes_of(mark).extend(rest.encode() + b'\n')
         elif mark in ('<=', '>='):
-            self.bytes_of(mark[0]).extend(literal(rest))
+            text, count = parts_of(rest)
+            self.bytes_of(mark[0]).extend(literal(text) * count)
+        elif mark == '<%':
+            text, count = parts_of(rest)
+            text = literal(text)
+            self.input.extend(b''.join(text % k for k in range(count)))
         elif line.startswith('$ rxscan'):
             self.runs.append(shlex.split(rest)[1:])
         elif mark == '?' and rest.isdecimal():
@@ -67,9 +73,14 @@ class Case:
         return self.input if mark == '<' else self.output
 
 
-def literal(text):
-    """The bytes of a literal, repeated as often as it says."""
+def parts_of(text):
+    """A literal, and how often it is repeated."""
     text, count = re.fullmatch(r'(.*?)(?: \* (\d+))?', text).groups()
+    return text, int(count or 1)
+
+
+def literal(text):
+    """The bytes of a literal."""
     try:
         value = ast.literal_eval(text)
     except (SyntaxError, ValueError):
@@ -78,7 +89,7 @@ def literal(text):
         value = value.encode()
     if not isinstance(value, bytes):
         raise BadTable('no literal: ' + text)
-    return value * int(count or 1)
+    return value
 
 
 def cases_of(path):
