@@ -12,6 +12,7 @@ A table is a text of cases with an empty line between them. A case is made of th
     < TEXT            a line of the input
     <= LITERAL * N    bytes of the input, N times, with no newline after them: a string of Python's, as "a\\t\\u00e9", or
                       bytes, as b"\\xff"; N is 1 if left out
+    <% LITERAL * N    the same, N times, with the numbers from 0 on in place of `%d`
     > TEXT            a line of the output that is wanted, and `>= LITERAL * N` as above
     ~ TEXT            a line of the output, or some of its first words with `quit B at N` behind them: the search stopped at a byte B
                       that is not ASCII, and what it had told by then is right
@@ -60,7 +61,12 @@ class Case:
         if mark in ('<', '>'):
             self.bytes_of(mark).extend(rest.encode() + b'\n')
         elif mark in ('<=', '>='):
-            self.bytes_of(mark[0]).extend(literal(rest))
+            text, count = parts_of(rest)
+            self.bytes_of(mark[0]).extend(literal(text) * count)
+        elif mark == '<%':
+            text, count = parts_of(rest)
+            text = literal(text)
+            self.input.extend(b''.join(text % k for k in range(count)))
         elif mark == '~':
             self.loose.add(self.output.count(b'\n'))
             self.output.extend(rest.encode() + b'\n')
@@ -98,9 +104,14 @@ def is_front(line, whole):
     return bool(quit) and int(quit.group(2)) >= 128 and (whole + b' ').startswith(quit.group(1))
 
 
-def literal(text):
-    """The bytes of a literal, repeated as often as it says."""
+def parts_of(text):
+    """A literal, and how often it is repeated."""
     text, count = re.fullmatch(r'(.*?)(?: \* (\d+))?', text).groups()
+    return text, int(count or 1)
+
+
+def literal(text):
+    """The bytes of a literal."""
     try:
         value = ast.literal_eval(text)
     except (SyntaxError, ValueError):
@@ -109,7 +120,7 @@ def literal(text):
         value = value.encode()
     if not isinstance(value, bytes):
         raise BadTable('no literal: ' + text)
-    return value * int(count or 1)
+    return value
 
 
 def cases_of(path):
