@@ -1,5 +1,5 @@
 -- How far a template is filled in, and where that ends for want of memory.
-use Rattle.std.proofs.Common.{◌≡◌, ℕ, ◌+◌, ◌⊎◌, inl, inr, ⊎_elim, List, [], ◌∷◌, ◌++◌, take, drop, Option, Some, None, Result, Ok, Err, MatchResult, MutBor, Bor, sym, refl, ap, ◌∙◌, subst, append_assoc, append-nil, drop-drop, zero, suc, ◌-◌, ◌<◌, ◌≤◌, length, get_or, slice_index, IsUtf8, IsCharBoundary, arith}
+use Rattle.std.proofs.Common.{◌≡◌, ℕ, ◌+◌, ◌⊎◌, inl, inr, ⊎_elim, List, [], ◌++◌, take, drop, Option, Some, None, Result, Ok, Err, MatchResult, MutBor, Bor, sym, refl, ap, ◌∙◌, subst, append_assoc, append-nil, drop-drop, zero, suc, ◌-◌, ◌<◌, ◌≤◌, length, get_or, slice_index, IsUtf8, IsCharBoundary, arith}
 use Rattle.std.specs.Fn.{Mut, Called}
 use Rattle.std.proofs.lemmas.Str.{IsUtf8-drop, IsCharBoundary-after_ascii}
 use Rattle.std.specs.List.{position}

@@ -1,13 +1,12 @@
 -- The machine of a pool's stack: each event keeps it sound.
-use Rattle.std.proofs.Common.{◌≡◌, ℕ, suc, ◌+◌, ◌-◌, ◌<◌, ◌≤◌, List, [], ◌∷◌, ◌++◌, length, take, drop, get_or, refl, ap, sym, ◌∙◌, arith, length-append, length-drop}
-use Rattle.std.specs.Prelude.{Option, Some, None, IfSome, unwrap_or, ◌==◌, nat_lt, if◌then◌else◌}
+use Rattle.std.proofs.Common.{◌≡◌, ◌≢◌, ℕ, zero, suc, ◌+◌, ◌-◌, ◌<◌, ◌≤◌, List, [], ◌∷◌, ◌++◌, length, take, drop, get_or, slice_index, subst, eqb-true, eq-eqb, ne_eqb, true≢false, refl, ap, sym, ◌∙◌, arith, length-append, length-drop}
+use Rattle.std.specs.Prelude.{Bool, true, false, Option, Some, None, IfSome, is_some, unwrap_or, ◌==◌, nat_lt, if◌then◌else◌}
 use Rattle.std.specs.List.{remove}
 use Rattle.std.proofs.lemmas.List.{take_more, take_all, drop_more, take-append-drop, length-take-le}
 use Rattle.std.proofs.lemmas.List.Sums.{sum_by-append}
-use Rattle.std.proofs.lemmas.List.Quantifiers.{position-Some}
 use Rattle.std.proofs.lemmas.Option.{slice_get_within, unwrap_or-slice_get}
 use Rattle.std.proofs.lemmas.Bool.Decides.{nat_tests}
-use Rattle.rx_util.specs.PoolMachine.{Numbers, Event, Take, Make, Put, Drop, at_first, last_of, but_last, times, place_of, taken, made, put_from, happens, lends, run, IsSound, NoneIsLentTwice, StaysSound}
+use Rattle.rx_util.specs.PoolMachine.{Numbers, Event, Take, Make, Put, Drop, at_first, last_of, but_last, times, last_place, place_of, taken, made, put_from, happens, lends, run, IsSound, NoneIsLentTwice, StaysSound}
 
 -- how often a number stands at one place that holds another
 abbrev pub one : (number other : ℕ) → ℕ
@@ -38,11 +37,34 @@ pub record IsPlace (n : ℕ) (xs : List ℕ) (i : ℕ) : Type 0 where
   pub there : i < length xs
   pub rest : drop i xs ≡ n ∷ drop (suc i) xs
 
+-- by the test of the last of the first numbers, and what is known of those before it
+place_step : (n count : ℕ) (xs : List ℕ) (i : ℕ) (test : Bool) → (slice_index xs count == n) ≡ test
+    → (if test then Some count else last_place n count xs) ≡ Some i
+    → (last_place n count xs ≡ Some i → (i < count) × (slice_index xs i ≡ n)) → (i < suc count) × (slice_index xs i ≡ n)
+place_step n count xs i true is e before =
+    let same : count ≡ i = ap (λ (o : Option ℕ). unwrap_or o 0) e in
+    (omega (arith, same), subst (λ k. slice_index xs k ≡ n) same (eqb-true _ _ is))
+place_step n count xs i false is e before = let found = before e in (omega (arith, found.0), found.1)
+
+place_within : (n count : ℕ) (xs : List ℕ) (i : ℕ) → last_place n count xs ≡ Some i → (i < count) × (slice_index xs i ≡ n)
+place_within n zero xs i e = absurd (true≢false (sym (ap (λ (o : Option ℕ). is_some o) e)))
+place_within n (suc count) xs i e = place_step n count xs i (slice_index xs count == n) refl e (place_within n count xs i)
+
+-- the last of the first numbers is the one that is looked for
+pub last-found : (n k count : ℕ) (xs : List ℕ) → count ≡ suc k → slice_index xs k ≡ n → last_place n count xs ≡ Some k
+last-found n k count xs e here =
+    ap (λ c. last_place n c xs) e ∙ ap (λ (test : Bool). if test then Some k else last_place n k xs) (eq-eqb _ _ here)
+
+-- or it is another one
+pub last-other : (n k count : ℕ) (xs : List ℕ) → count ≡ suc k → slice_index xs k ≢ n → last_place n count xs ≡ last_place n k xs
+last-other n k count xs e other =
+    ap (λ c. last_place n c xs) e ∙ ap (λ (test : Bool). if test then Some k else last_place n k xs) (ne_eqb _ _ other)
+
 pub place-found : (n : ℕ) (xs : List ℕ) (i : ℕ) → place_of n xs ≡ Some i → IsPlace n xs i
 place-found n xs i is =
-    let found = position-Some (λ (x : ℕ). x == n) xs i 0 is in
+    let found = place_within n (length xs) xs i is in
     let there : i < length xs = found.0 in
-    let same : get_or xs i 0 ≡ n = grind (arith, nat_tests, found.1) in
+    let same : get_or xs i 0 ≡ n = found.1 in
     let next : i + 1 ≡ suc i = omega arith in
     record {
       there = there;

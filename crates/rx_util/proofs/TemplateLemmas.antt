@@ -1,18 +1,17 @@
 -- How the parts of a template are read, and what they stand for.
-use Rattle.std.proofs.Common.{◌≡◌, ◌≢◌, ℕ, ◌+◌, ◌-◌, ◌<◌, ◌≤◌, ◌^◌, ◌==◌, ◌&&◌, Bool, true, false, nat_lt, List, [], ◌∷◌, ◌++◌, length, take, drop, get_or, slice_index, Option, Some, None, IfSome, Result, Ok, Err, MatchResult, IsUtf8, Bor, sym, refl, ap, ◌∙◌, zero, suc, arith, lt-ltb, ltb-true, eqb-true, true≢false, length-drop, get_or-drop, get_or-take, ⊎_elim, subst, append_assoc, drop-drop}
+use Rattle.std.proofs.Common.{◌≡◌, ℕ, ◌+◌, ◌-◌, ◌<◌, ◌≤◌, ◌^◌, ◌==◌, ◌&&◌, Bool, true, false, nat_lt, List, [], ◌∷◌, ◌++◌, length, take, drop, get_or, slice_index, Option, Some, None, IfSome, Result, Ok, Err, MatchResult, IsUtf8, Bor, sym, refl, ap, ◌∙◌, zero, suc, arith, lt-ltb, ltb-true, eqb-true, true≢false, length-drop, get_or-drop, get_or-take, ⊎_elim, subst}
 use Rattle.std.proofs.lemmas.Bool.{false_from_ne_true, cases_lt, and_from, and_parts, cond-false}
 use Rattle.std.proofs.lemmas.Bool.Decides.{nat_tests}
 use Rattle.std.proofs.lemmas.List.{get_or_past}
 use Rattle.std.proofs.lemmas.List.Folds.{length-prefix_len}
-use Rattle.std.proofs.lemmas.List.Sums.{prefix_len_passes, prefix_len-le-length}
+use Rattle.std.proofs.lemmas.List.Sums.{prefix_len_passes}
 use Rattle.std.proofs.lemmas.List.Quantifiers.{position-Some}
 use Rattle.std.proofs.lemmas.Str.{IsUtf8-from_ascii, IsUtf8-from_is_utf8, is_utf8-from_IsUtf8}
 use Rattle.std.specs.Char.{is_digit, digit_value}
 use Rattle.std.specs.List.{list_all, position, prefix_len}
-use Rattle.std.specs.Option.{option_or}
 use Rattle.std.specs.Str.{is_utf8}
 use Rattle.std.specs.Str.Parse.{AllDigits, ParsesUnsigned, without_leading_plus, digits_value}
-use Rattle.rx_util.specs.Template.{Reference, is_dollar, is_closing_brace, is_name_byte, braced, bare, reference_in, number_of, piece_of, referenced, at_dollar, IsTextOf, HasOneText}
+use Rattle.rx_util.specs.Template.{Reference, is_dollar, is_name_byte, braced, number_of, at_dollar, IsTextOf, HasOneText}
 use Rattle.rx_util.specs.Template.IsTextOf.{plain, dollar}
 
 -- References

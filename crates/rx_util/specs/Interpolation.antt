@@ -1,5 +1,5 @@
 -- What the calls that fill in a template append, and where they end for want of memory.
-use Rattle.std.specs.Prelude.{◌≡◌, ℕ, ◌++◌, ◌⊎◌, List, Option, Result, Ok, Err, MatchResult, OnOk}
+use Rattle.std.specs.Prelude.{◌≡◌, ℕ, ◌++◌, ◌⊎◌, List, Option, Result, Err, MatchResult, OnOk}
 use denote.Ref.{Bor, MutBor}
 use Rattle.std.specs.Fn.{Mut, Called}
 use Rattle.rx_search.specs.declared.memory.Memory.{Memory}

@@ -1,6 +1,6 @@
 -- The machine of one stack of a pool: the numbers that are stored, those that are lent, and the next number.
-use Rattle.std.specs.Prelude.{◌≡◌, ℕ, ◌+◌, ◌-◌, ◌==◌, nat_lt, List, [], ◌∷◌, ◌++◌, length, take, Option, Some, None, IfSome, count_by, slice_get, if◌then◌else◌}
-use Rattle.std.specs.List.{position, remove}
+use Rattle.std.specs.Prelude.{◌≡◌, ℕ, zero, suc, ◌+◌, ◌-◌, ◌==◌, nat_lt, List, [], ◌∷◌, ◌++◌, length, take, Option, Some, None, IfSome, count_by, slice_get, slice_index, if◌then◌else◌}
+use Rattle.std.specs.List.{remove}
 
 pub record Numbers : Type 0 where
   pub stored : List ℕ
@@ -30,9 +30,14 @@ but_last xs = take (length xs - 1) xs
 abbrev pub times : (number : ℕ) → List ℕ → ℕ
 times number xs = count_by (λ x. x == number) xs
 
--- the place of a number
+-- the last place of a number among the first ones, so many of them
+abbrev pub last_place : (number count : ℕ) → List ℕ → Option ℕ
+last_place number zero xs = None
+last_place number (suc count) xs = if slice_index xs count == number then Some count else last_place number count xs
+
+-- the last place of a number
 abbrev pub place_of : (number : ℕ) → List ℕ → Option ℕ
-place_of number xs = position (λ x. x == number) xs
+place_of number xs = last_place number (length xs) xs
 
 -- the last number that is stored becomes lent; where nothing is stored there is no change
 abbrev pub taken : Numbers → Option ℕ → Numbers

@@ -1,5 +1,5 @@
 -- What a replacement template stands for: by cases on its first `$`.
-use Rattle.std.specs.Prelude.{◌≡◌, ℕ, ◌+◌, ◌^◌, Bool, not, ◌&&◌, ◌||◌, ◌==◌, nat_lt, List, [], ◌∷◌, ◌++◌, length, take, drop, Option, Some, None, slice_index, if◌then◌else◌}
+use Rattle.std.specs.Prelude.{◌≡◌, ℕ, ◌+◌, ◌^◌, Bool, ◌&&◌, ◌||◌, ◌==◌, nat_lt, List, [], ◌∷◌, ◌++◌, length, take, drop, Option, Some, None, slice_index, if◌then◌else◌}
 use Rattle.std.specs.List.{list_all, position, prefix_len}
 use Rattle.std.specs.Option.{option_or}
 use Rattle.std.specs.Char.{is_digit, is_ascii_alphanumeric}

@@ -7,6 +7,7 @@
 
 pub mod interpolate;
 mod lazy;
+mod lock;
 mod maker;
 mod pool;
 mod stack;

@@ -1,5 +1,5 @@
 //! What makes a value when it is asked for.
-ghost use Rattle.std.specs.Prelude.{◌≡◌};
+ghost use Rattle.std.specs.Prelude.{◌≡◌, IfOk};
 
 use rx_search::Memory;
 
@@ -12,13 +12,17 @@ pub trait Maker {
     /// What a maker needs of itself for a call.
     ghost can_make: { Self → Type 0 } = { λ _. Unit {0} };
 
+    /// Which values it stands for: each that it makes, and what may become of one before it is put back.
+    ghost stands_for: { Self → Self.Value → Type 0 } = { λ _ _. Unit {0} };
+
     /// A new value.
     ///
     /// # Errors
     ///
     /// Only want of memory.
     fn make(&self) -> Result<Self::Value, Memory>
-        requires { can_make self.now };
+        requires { can_make self.now }
+        ensures { IfOk result (stands_for self.now) };
 }
 
 /// A maker that asks a closure.

@@ -1,12 +1,13 @@
 //! Pools of values that many threads use in turn.
-ghost use Rattle.std.specs.Prelude.{◌≡◌, ◌<◌, IfOk, max, vec_len};
+ghost use Rattle.std.specs.Prelude.{◌≡◌, ◌<◌, All, IfOk, max, vec_len};
+ghost use Rattle.rx_util.specs.Held.{maker_of};
 
+use crate::lock::Lock;
 use crate::maker::Maker;
-use crate::stack::Stack;
 use rx_search::Memory;
 use std::alloc::Global;
+use std::sync::Wait;
 use std::sync::atomic::{AtomicUsize, Ordering};
-use std::sync::{Mutex, Wait};
 
 /// How many stacks a pool has, where nothing else is said.
 const STACKS: usize = 8;
@@ -15,11 +16,12 @@ const STACKS: usize = 8;
 ///
 /// The values lie on some stacks, each behind a lock of its own. A call picks a stack by its turn.
 #[derive(Drop)]
-pub struct Pool<T, M> {
-    stacks: Vec<Mutex<Stack<T>>>,
+pub struct Pool<T: Drop, M: Maker<Value = T>> {
+    stacks: Vec<Lock<T, M>>,
     turn: AtomicUsize,
     maker: M,
     ghost some: { 0 < vec_len stacks },
+    ghost alike: { All (λ lock. maker_of lock ≡ maker) stacks.items },
 }
 
 impl<T: Drop, M: Maker<Value = T> + Drop> Pool<T, M> {
@@ -46,7 +48,7 @@ impl<T: Drop, M: Maker<Value = T> + Drop> Pool<T, M> {
     {
         let mut all = Vec::new(alloc);
         for _count in 0..stacks.max(1) {
-            all.push(Mutex::new(Stack::new(alloc)))?;
+            all.push(Lock::new(alloc, &maker)?)?;
         }
         Ok(Pool {
             stacks: all,
@@ -71,41 +73,53 @@ impl<T: Drop, M: Maker<Value = T> + Drop> Pool<T, M> {
         Pool::with_capacity(alloc, parallelism, maker)
     }
 
-    /// A value of the pool, or else a new one. It may wait for a lock.
+    /// The maker of its values.
+    pub fn maker(&self) -> &M
+        ensures { result.now ≡ self.now.maker }
+    {
+        &self.maker
+    }
+
+    /// A value of the pool, or else a new one: one that the maker stands for. It may wait for a lock.
     ///
     /// # Errors
     ///
     /// Only want of memory, of this call or of the maker. The pool then serves as before.
-    pub fn get<R: Wait>(&self, rt: &R) -> Result<PoolGuard<'_, T>, Memory>
+    pub fn get<R: Wait>(&self, rt: &R) -> Result<PoolGuard<'_, T, M>, Memory>
         requires { M.can_make self.now.maker }
-        ensures { IfOk result (λ guard. guard.index < vec_len self.now.stacks) }
+        ensures stack { IfOk result (λ guard. guard.index < vec_len self.now.stacks) }
+        ensures maker { IfOk result (λ guard. maker_of guard.stack.now ≡ self.now.maker) }
+        ensures value { IfOk result (λ guard. M.stands_for self.now.maker guard.value) }
     {
         let turn = self.turn.fetch_add(1, Ordering::SeqCst);
         let index = turn % self.stacks.len();
         let stack = &self.stacks[index];
-        let taken = stack.lock(rt).take();
-        let (number, value) = match taken {
-            Ok(taken) => taken,
+        match stack.take(rt) {
+            Ok((number, value)) => Ok(PoolGuard {
+                stack,
+                index,
+                number,
+                value,
+            }),
             Err(empty) => {
                 let value = self.maker.make()?;
-                (stack.lock(rt).make(empty)?, value)
+                let number = stack.make(rt, empty)?;
+                Ok(PoolGuard {
+                    stack,
+                    index,
+                    number,
+                    value,
+                })
             }
-        };
-        Ok(PoolGuard {
-            stack,
-            index,
-            number,
-            value,
-        })
+        }
     }
 }
 
-// No maker in its type (DECISIONS: a guard borrows the lock of its stack).
 /// A value that was taken from a pool. Where it is dropped and not put back, the value is freed, and its number is never
 /// lent again.
 #[derive(Drop)]
-pub struct PoolGuard<'p, T> {
-    stack: &'p Mutex<Stack<T>>,
+pub struct PoolGuard<'p, T: Drop, M: Maker<Value = T>> {
+    stack: &'p Lock<T, M>,
     index: usize,
     number: u128,
     // A proof follows what is written to a field (DECISIONS: a guard borrows the lock of its stack).
@@ -113,7 +127,7 @@ pub struct PoolGuard<'p, T> {
     pub value: T,
 }
 
-impl<'p, T: Drop> PoolGuard<'p, T> {
+impl<'p, T: Drop, M: Maker<Value = T>> PoolGuard<'p, T, M> {
     /// The value.
     pub fn value(&self) -> &T
         ensures { result.now ≡ self.now.value }
@@ -142,8 +156,10 @@ impl<'p, T: Drop> PoolGuard<'p, T> {
         self.number
     }
 
-    /// Puts the value back on its stack. It takes no memory, and may wait for a lock.
-    pub fn put<R: Wait>(guard: PoolGuard<'p, T>, rt: &R) {
+    /// Puts the value back on its stack, where the maker stands for it still. It takes no memory, and may wait for a lock.
+    pub fn put<R: Wait>(guard: PoolGuard<'p, T, M>, rt: &R)
+        requires { M.stands_for (maker_of guard.stack.now) guard.value }
+    {
         let PoolGuard {
             stack,
             index: _,
@@ -151,6 +167,6 @@ impl<'p, T: Drop> PoolGuard<'p, T> {
             value,
         } = guard;
         // The lock's type alone does not tell that the number is lent; a value that is handed back is freed.
-        let _handed_back = stack.lock(rt).put(number, value);
+        let _handed_back = stack.put(rt, number, value);
     }
 }

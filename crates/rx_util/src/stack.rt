@@ -113,11 +113,18 @@ impl<T: Drop> Stack<T> {
     }
 }
 
-/// The place of a number.
+/// The last place of a number. It is looked for from the back, where a number stands that was lent just before.
 fn place_in(numbers: &[u128], number: u128) -> Option<usize>
     ensures { result ≡ place_of number numbers.now }
 {
-    numbers.iter().position(|other| *other == number)
+    let mut count = numbers.len();
+    while count > 0 {
+        count -= 1;
+        if numbers[count] == number {
+            return Some(count);
+        }
+    }
+    None
 }
 
 /// Over every list of events of the machine no number is lent twice.

@@ -21,7 +21,10 @@ fn lazy_values_cross_threads<T: Send + Sync + Drop, M: Maker<Value = T> + Send +
     cross_threads(lazy);
 }
 
-fn stacks_and_guards_go_to_threads<T: Send + Drop>(stack: &Stack<T>, guard: &PoolGuard<'_, T>) {
+fn stacks_and_guards_go_to_threads<T: Send + Drop, M: Maker<Value = T> + Send + Sync>(
+    stack: &Stack<T>,
+    guard: &PoolGuard<'_, T, M>,
+) {
     go_to_threads(stack);
     go_to_threads(guard);
 }

@@ -2,8 +2,14 @@ use Rattle.std.proofs.Common.{◌≡◌, refl, rules, arith}
 use Rattle.std.specs.Prelude.{Some}
 use Rattle.rx_util.specs.PoolMachine.{place_of}
 use Rattle.rx_util.specs.Stack.{StackValue}
+use Rattle.rx_util.proofs.MachineLemmas.{place-found}
 use Rattle.rx_util.proofs.StackLemmas.{Puts, put-answer, put-event, put-sound}
 use Rattle.rx_util.proofs.stack.Stack.put.Goals as goal
+
+pub remove-requires : goal.remove-requires
+remove-requires g c =
+    let found : place_of c.args.number c.self.inside.lent.items ≡ Some c.in-Some.place = cc in
+    omega (arith, (place-found c.args.number c.self.inside.lent.items c.in-Some.place found).there, c.self.inside.lent.ok.0)
 
 pub invariant_of-self : goal.invariant_of-self
 invariant_of-self g c =
