@@ -1,0 +1,84 @@
+//! All works, by many threads.
+ghost use Rattle.std.specs.Prelude.{◌≡◌, ◌<◌, ℕ, IfOk};
+ghost use Rattle.rx_slots.specs.DrawSeats.{limit_of};
+ghost use Rattle.rx_slots.specs.SlotSeats.{IsSlotSeat, slots_of};
+ghost use Rattle.std.specs.List.{All};
+ghost use Rattle.rx_workers.specs.Places.{IsPlace, IsLeft};
+ghost use Rattle.rx_workers.specs.Answers.{AreAnswers};
+
+use crate::answers::{complete, gather};
+use crate::place::{Left, Place, places};
+use crate::task::Task;
+use crate::worker::work;
+use rx_search::Memory;
+use rx_slots::{Draws, SlotPool, SlotSeat};
+use std::alloc::Global;
+use std::thread::{Threads, map_vec};
+
+/// The answer to each work of a task, in order.
+///
+/// There are so many workers, but no more than works, and at least one. Each draws one number after another, until none is left, and works with
+/// a scratch value from a slot; of these there are so many as workers, but no more than `slots`, and at least one. Where the
+/// slot of a worker is in another one's hand, it makes a scratch value of its own. A worker for which no thread could be started works
+/// on the caller's. What no worker found the caller looks for, once all have ended.
+///
+/// # Errors
+///
+/// Only want of memory, of a worker or of this call, once all workers have ended.
+pub fn do_all<R: Threads + Sync, T: Task + Sync>(
+    rt: &R,
+    alloc: Global,
+    task: &T,
+    workers: usize,
+    slots: usize,
+) -> Result<Vec<T::Value>, Memory>
+    ensures { IfOk result (λ all. AreAnswers (T.size task.now) (T.answers task.now) all.items) }
+{
+    let count = task.count();
+    let workers = workers.min(count).max(1);
+    let slots = workers.min(slots).max(1);
+    let (pool, mut seat) = scratches(alloc, task, slots)?;
+    let (draws, first) = Draws::new(alloc, count as u64, workers as u64)?;
+    let places = places(alloc, &pool, slots, &mut seat, &draws, first, workers)?;
+    let left = work_all(rt, alloc, task, &pool, &draws, places)?;
+    let found = gather(alloc, task, &pool, &mut seat, left)?;
+    complete(alloc, task, found)
+}
+
+/// A pool of so many scratch values.
+fn scratches<T: Task>(
+    alloc: Global,
+    task: &T,
+    slots: usize,
+) -> Result<(SlotPool<T::Scratch>, SlotSeat<T::Scratch>), Memory>
+    requires { 0 < slots }
+    ensures slots { IfOk result (λ made. slots_of made.0 ≡ slots) }
+    ensures seat { IfOk result (λ made. IsSlotSeat made.0 made.1) }
+{
+    let mut all = Vec::with_capacity(alloc, slots)?;
+    for _slot in 0..slots {
+        all.push(task.make(alloc)?)?;
+    }
+    SlotPool::new(alloc, all)
+}
+
+/// What each worker found, each in a thread of its own where one can be started.
+fn work_all<R: Threads + Sync, T: Task + Sync>(
+    rt: &R,
+    alloc: Global,
+    task: &T,
+    pool: &SlotPool<T::Scratch>,
+    draws: &Draws,
+    places: Vec<Place<T::Scratch>>,
+) -> Result<Vec<Left<T::Value, T::Scratch>>, Memory>
+    requires places { All (IsPlace pool.now draws.now) places.items }
+    requires size { limit_of draws.now ≡ T.size task.now }
+    ensures { IfOk result (λ all. All (IsLeft pool.now (T.size task.now) (T.answers task.now)) all.items) }
+{
+    let one = move |place: Place<T::Scratch>| -> Left<T::Value, T::Scratch>
+        requires { IsPlace pool.now draws.now place × (limit_of draws.now ≡ T.size task.now) }
+        ensures { IsLeft pool.entry.now (T.size task.entry.now) (T.answers task.entry.now) result }
+    { work(alloc, task, pool, draws, place) };
+    let left = map_vec(rt, places, &one)?;
+    Ok(left)
+}

@@ -1,0 +1,104 @@
+//! What a worker does.
+ghost use Rattle.std.specs.Prelude.{◌≡◌, ◌<◌, ◌∷◌, [], ℕ, IfOk, IfSome};
+ghost use Rattle.rx_slots.specs.DrawSeats.{limit_of};
+ghost use Rattle.rx_slots.specs.SlotSeats.{IsSlotSeat, slot_view, slots_of};
+ghost use Rattle.rx_workers.specs.Places.{IsDrawer, IsPlace, IsLeft, IsFree};
+ghost use Rattle.rx_workers.specs.Answers.{AreFound};
+
+use crate::found::Found;
+use crate::place::{Left, Place};
+use crate::task::Task;
+use rx_search::Memory;
+use rx_slots::{DrawSeat, Draws, SlotPool, SlotSeat};
+use std::alloc::Global;
+
+/// Works from a place on until no number is left, with what the slot of the place has, if no other worker has it.
+pub fn work<T: Task>(
+    alloc: Global,
+    task: &T,
+    pool: &SlotPool<T::Scratch>,
+    draws: &Draws,
+    place: Place<T::Scratch>,
+) -> Left<T::Value, T::Scratch>
+    requires place { IsPlace pool.now draws.now place }
+    requires size { limit_of draws.now ≡ T.size task.now }
+    ensures { IsLeft pool.now (T.size task.now) (T.answers task.now) result }
+{
+    let Place {
+        slot,
+        mut seat,
+        mut drawer,
+    } = place;
+    let Ok((turn, mut scratch)) = pool.take(&mut seat, slot) else {
+        let found = work_alone(alloc, task, draws, &mut drawer);
+        return Left {
+            found,
+            seat: Some(seat),
+        };
+    };
+    let found = work_with(alloc, task, draws, &mut drawer, &mut scratch);
+    let seat = put_back(pool, seat, slot, turn, scratch);
+    Left { found, seat }
+}
+
+/// Puts a value back into its slot. There is no seat where the slot is at its greatest turn, at which the seat keeps it.
+fn put_back<S: Drop>(
+    pool: &SlotPool<S>,
+    seat: SlotSeat<S>,
+    slot: usize,
+    turn: u64,
+    scratch: S,
+) -> Option<SlotSeat<S>>
+    requires of { IsSlotSeat pool.now seat }
+    requires slot { slot < slots_of pool.now }
+    requires held { (slot_view seat).held ≡ (slot, turn) ∷ [] }
+    ensures { IfSome result (IsFree pool.now) }
+{
+    let mut seat = seat;
+    pool.put(&mut seat, slot, turn, scratch);
+    if turn == u64::MAX {
+        return None;
+    }
+    Some(seat)
+}
+
+/// Works with a scratch value of the worker's own.
+fn work_alone<T: Task>(
+    alloc: Global,
+    task: &T,
+    draws: &Draws,
+    drawer: &mut DrawSeat,
+) -> Result<Vec<Found<T::Value>>, Memory>
+    requires drawer { IsDrawer draws.now drawer.old }
+    requires size { limit_of draws.now ≡ T.size task.now }
+    ensures { IfOk result (λ all. AreFound (T.size task.now) (T.answers task.now) all.items) }
+{
+    let mut scratch = task.make(alloc)?;
+    work_with(alloc, task, draws, drawer, &mut scratch)
+}
+
+/// Draws one number after another, and answers each, until none is left.
+fn work_with<T: Task>(
+    alloc: Global,
+    task: &T,
+    draws: &Draws,
+    drawer: &mut DrawSeat,
+    scratch: &mut T::Scratch,
+) -> Result<Vec<Found<T::Value>>, Memory>
+    requires drawer { IsDrawer draws.now drawer.old }
+    requires size { limit_of draws.now ≡ T.size task.now }
+    ensures { IfOk result (λ all. AreFound (T.size task.now) (T.answers task.now) all.items) }
+{
+    task.fit(alloc, scratch)?;
+    let mut all = Vec::new(alloc);
+    // No clause of a draw bounds the draws (DECISIONS: a worker draws at most 2 ^ 64 - 1 numbers).
+    'draws: for _ in 0..u64::MAX {
+        let Some(number) = draws.draw(drawer) else {
+            break;
+        };
+        let index = number as usize;
+        let value = task.answer(alloc, index, scratch)?;
+        all.push(Found { index, value })?;
+    }
+    Ok(all)
+}
