@@ -1,5 +1,5 @@
 #!/usr/bin/env python3
-"""Prints how many checks `rt ci` may run side by side, where this machine has memory for one on each processor; else nothing.
+"""Prints how many checks `rt ci` may run side by side on this machine, where these are two or more; else nothing.
 
 Left alone, `rt ci` counts for each check the most memory that one of its size may take: 12.7 GB for rx_dfa, where 2 were
 seen. So it leaves processors idle (DECISIONS: every processor has a check). Both the machine's and the group's limits count.
@@ -7,8 +7,8 @@ seen. So it leaves processors idle (DECISIONS: every processor has a check). Bot
 import os
 import re
 
-# What a check of this repository takes, with room to spare, in bytes.
-A_CHECK = 3_500_000_000
+# The most that a check of this repository was seen to take is 3.9 GB, for the tests of rx_regex_rows. In bytes, with room to spare.
+A_CHECK = 4_500_000_000
 
 
 def number(path, pattern):
@@ -21,18 +21,24 @@ def number(path, pattern):
     return int(found.group(1)) if found else None
 
 
-def main():
-    processors = len(os.sched_getaffinity(0))
-    quota = number('/sys/fs/cgroup/cpu.max', r'^(\d+) ')
-    period = number('/sys/fs/cgroup/cpu.max', r'^\S+ (\d+)')
-    if quota and period:
-        processors = min(processors, max(quota // period, 1))
-    memory = 1024 * (number('/proc/meminfo', r'^MemAvailable:\s+(\d+)') or 0)
+def processors():
+    """How many there are for this process, by its group's quota too."""
+    found = len(os.sched_getaffinity(0))
+    quota, period = number('/sys/fs/cgroup/cpu.max', r'^(\d+) '), number('/sys/fs/cgroup/cpu.max', r'^\S+ (\d+)')
+    return min(found, max(quota // period, 1)) if quota and period else found
+
+
+def memory():
+    """How many bytes are free, by the group's limit too."""
+    found = 1024 * (number('/proc/meminfo', r'^MemAvailable:\s+(\d+)') or 0)
     limit, held = number('/sys/fs/cgroup/memory.max', r'^(\d+)'), number('/sys/fs/cgroup/memory.current', r'^(\d+)')
-    if limit:
-        memory = min(memory, limit - (held or 0))
-    if memory >= processors * A_CHECK:
-        print(processors)
+    return min(found, limit - (held or 0)) if limit else found
+
+
+def main():
+    lanes = min(processors(), memory() // A_CHECK)
+    if lanes >= 2:
+        print(lanes)
 
 
 if __name__ == '__main__':
