@@ -1,31 +1,36 @@
 //! Matches one after another, and what lies between them.
 
-use rx_meta::{BuildError, CapturesMatches, Regex};
-use rx_search::{Input, Memory, Span};
+use rx_meta::{CapturesMatches, FindMatches, Regex, Split};
+use rx_search::{Captures, Input, Memory, Span};
 use std::alloc::Global;
 use std::process::Abort;
 use std::sync::Wait;
 use std::test::Fail;
 
-/// Adds where each word stands.
-fn spans_of<R: Wait>(
-    rt: &R,
-    alloc: Global,
-    regex: &Regex,
-    spans: &mut Vec<Span>,
-) -> Result<(), Memory> {
-    let mut matches = regex.find_iter(&rt, alloc, &Input::new(b"one two"))?;
+/// Adds where each match stands.
+fn spans_of(matches: &mut FindMatches<'_, '_>, spans: &mut Vec<Span>) -> Result<(), Memory> {
     while let Some(found) = matches.next() {
         spans.push(found?.span())?;
     }
     Ok(())
 }
 
+/// Adds where each of two words stands.
+fn two_words<R: Wait>(
+    rt: &R,
+    alloc: Global,
+    regex: &Regex,
+    spans: &mut Vec<Span>,
+) -> Result<(), Memory> {
+    let mut matches = regex.find_iter(rt, alloc, &Input::new(b"one two"))?;
+    spans_of(&mut matches, spans)
+}
+
 #[test]
 fn match_after_match(rt: HostRuntime) -> Result<(), Fail> {
     let mut spans = Vec::new(rt.alloc());
     let regex = Regex::new(rt.alloc(), "[a-z]+")?;
-    spans_of(&rt, rt.alloc(), &regex, &mut spans)?;
+    two_words(&rt, rt.alloc(), &regex, &mut spans)?;
     let words = [Span { start: 0, end: 3 }, Span { start: 4, end: 7 }];
     assert_eq!(rt; spans.as_slice(), words.as_slice());
     Ok(())
@@ -41,14 +46,18 @@ fn matches_counted(rt: HostRuntime) -> Result<(), Fail> {
     Ok(())
 }
 
+/// Where the value of a setting stands.
+fn value_of(captures: Result<Captures, Memory>) -> Result<Option<Span>, Memory> {
+    Ok(captures?.get_group_by_name("value"))
+}
+
 /// Adds where the value of each setting stands.
 fn values_of(
     settings: &mut CapturesMatches<'_, '_>,
     values: &mut Vec<Option<Span>>,
 ) -> Result<(), Memory> {
     while let Some(captures) = settings.next() {
-        let value = captures?.get_group_by_name("value");
-        values.push(value)?;
+        values.push(value_of(captures)?)?;
     }
     Ok(())
 }
@@ -77,20 +86,30 @@ fn groups_of_each_match(rt: HostRuntime) -> Result<(), Fail> {
     Ok(())
 }
 
-/// Adds where the fields between commas stand.
-fn fields_of<R: Wait>(rt: &R, alloc: Global, spans: &mut Vec<Span>) -> Result<(), BuildError> {
-    let comma = Regex::new(alloc, ",")?;
-    let mut fields = comma.split(&rt, alloc, &Input::new(b"a,b"))?;
+/// Adds where each field stands.
+fn fields_of(fields: &mut Split<'_, '_>, spans: &mut Vec<Span>) -> Result<(), Memory> {
     while let Some(field) = fields.next() {
         spans.push(field?)?;
     }
     Ok(())
 }
 
+/// Adds where two fields between commas stand.
+fn two_fields<R: Wait>(
+    rt: &R,
+    alloc: Global,
+    comma: &Regex,
+    spans: &mut Vec<Span>,
+) -> Result<(), Memory> {
+    let mut fields = comma.split(rt, alloc, &Input::new(b"a,b"))?;
+    fields_of(&mut fields, spans)
+}
+
 #[test]
 fn fields_between_commas(rt: HostRuntime) -> Result<(), Fail> {
     let mut spans = Vec::new(rt.alloc());
-    fields_of(&rt, rt.alloc(), &mut spans)?;
+    let comma = Regex::new(rt.alloc(), ",")?;
+    two_fields(&rt, rt.alloc(), &comma, &mut spans)?;
     let both = [Span { start: 0, end: 1 }, Span { start: 2, end: 3 }];
     assert_eq!(rt; spans.as_slice(), both.as_slice());
     Ok(())

@@ -22,7 +22,6 @@ impl Regex {
     /// # Examples
     ///
     /// ```
-    /// let mut matches = regex.find_iter(&rt, alloc, &Input::new(b"one two"))?;
     /// while let Some(found) = matches.next() {
     ///     spans.push(found?.span())?;
     /// }
@@ -63,8 +62,6 @@ impl Regex {
     /// # Examples
     ///
     /// ```
-    /// let comma = Regex::new(alloc, ",")?;
-    /// let mut fields = comma.split(&rt, alloc, &Input::new(b"a,b"))?;
     /// while let Some(field) = fields.next() {
     ///     spans.push(field?)?;
     /// }
