@@ -1,0 +1,4 @@
+pub mod StrategyLemmas
+pub mod EndLemmas
+pub mod MadeLemmas
+pub mod CacheLemmas
