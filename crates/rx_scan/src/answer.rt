@@ -10,7 +10,7 @@ ghost use Rattle.rx_scan.specs.Answer.{too_long, not_utf8, refused, too_big, all
 ghost use Rattle.rx_scan.specs.Input.{lines};
 ghost use Rattle.rx_scan.specs.Patterns.{MeanUtf8, StandForUtf8};
 
-use crate::arguments::{Command, Off};
+use crate::arguments::{Command, Off, Scan};
 use crate::haystacks::scan;
 use crate::input::{INPUT_LIMIT, read_patterns, split_lines};
 use crate::output::{print_haystacks, push_number};
@@ -55,7 +55,7 @@ pub fn answer_input<R: Threads + Wait + Sync, G: Gate + Sync>(
     input: &[u8],
     gate: &G,
 ) -> Result<Answer, Memory>
-    requires { 0 < command.now.workers }
+    requires { HasWorkers command.now }
     ensures { IfOk result (λ a. a ≡ answer_input input.now) }
 {
     // The first cause in this order decides (DECISIONS: where causes stand together).
@@ -76,7 +76,7 @@ fn answer_text<R: Threads + Wait + Sync, G: Gate + Sync>(
     text: &str,
     gate: &G,
 ) -> Result<Answer, Memory>
-    requires { 0 < command.now.workers }
+    requires { HasWorkers command.now }
     ensures { IfOk result (λ a. a ≡ answer_text text.now) }
 {
     match read_patterns(alloc, text) {
@@ -95,7 +95,7 @@ fn answer_read<R: Threads + Wait + Sync, G: Gate + Sync>(
     haystacks: &str,
     gate: &G,
 ) -> Result<Answer, Memory>
-    requires workers { 0 < command.now.workers }
+    requires workers { HasWorkers command.now }
     requires utf8 { StandForUtf8 asts.items }
     ensures { IfOk result (λ a. a ≡ answer_patterns (all_translated default asts.items) (lines haystacks.now)) }
 {
@@ -116,7 +116,7 @@ fn answer_weighed<R: Threads + Wait + Sync, G: Gate + Sync>(
     haystacks: &str,
     gate: &G,
 ) -> Result<Answer, Memory>
-    requires workers { 0 < command.now.workers }
+    requires workers { HasWorkers command.now }
     requires utf8 { StandForUtf8 asts.items }
     requires weights { AreWeightsOf (all_translated default asts.items) (length asts.items) weights }
     ensures { IfOk result (λ a. a ≡ answer_patterns (all_translated default asts.items) (lines haystacks.now)) }
@@ -158,16 +158,59 @@ fn answer_patterns<R: Threads + Wait + Sync, G: Gate + Sync>(
     haystacks: &str,
     gate: &G,
 ) -> Result<Answer, Memory>
-    requires workers { 0 < command.now.workers }
+    requires workers { HasWorkers command.now }
     requires utf8 { MeanUtf8 expressions.now }
     ensures { IfOk result (λ a. a ≡ answer_patterns (Ok expressions.now) (lines haystacks.now)) }
 {
     // No pattern is read twice (DECISIONS: `run` reads the patterns itself and builds the regex from their expressions).
-    match builder_without(&command.off).build_many_from_hir(alloc, expressions) {
-        Ok(regex) => all_rows(rt, alloc, command, &regex, haystacks, gate),
+    match command {
+        Command::Scan(scan) => answer_scan(rt, alloc, scan, expressions, haystacks, gate),
+        Command::Explain => answer_explain(alloc, expressions),
+    }
+}
+
+/// The answer of a scan to the expressions of the patterns and the text of the haystacks.
+fn answer_scan<R: Threads + Wait + Sync, G: Gate + Sync>(
+    rt: &R,
+    alloc: Global,
+    asked: &Scan,
+    expressions: &[Hir],
+    haystacks: &str,
+    gate: &G,
+) -> Result<Answer, Memory>
+    requires workers { 0 < asked.now.workers }
+    requires utf8 { MeanUtf8 expressions.now }
+    ensures { IfOk result (λ a. a ≡ answer_patterns (Scan asked.now) (Ok expressions.now) (lines haystacks.now)) }
+{
+    match builder_without(&asked.off).build_many_from_hir(alloc, expressions) {
+        Ok(regex) => all_rows(rt, alloc, asked, &regex, haystacks, gate),
         Err(BuildError::NFA(_)) => too_big(alloc),
         Err(_) => Err(Memory),
     }
+}
+
+/// The answer to what explains the search for the expressions.
+fn answer_explain(alloc: Global, expressions: &[Hir]) -> Result<Answer, Memory>
+    ensures { (texts : List (List ℕ)) → IfOk result (λ a. a ≡ answer_patterns Explain (Ok expressions.now) texts) }
+{
+    match Regex::builder().build_many_from_hir(alloc, expressions) {
+        Ok(regex) => explained(alloc, &regex),
+        Err(BuildError::NFA(_)) => too_big(alloc),
+        Err(_) => Err(Memory),
+    }
+}
+
+/// The name of the regex's strategy.
+fn explained(alloc: Global, regex: &Regex) -> Result<Answer, Memory>
+    ensures { (hs : List Expression) → IsBuilt nothing_set hs regex.now → IfOk result (λ a. a ≡ explained hs) }
+{
+    let mut text = Vec::from_slice(alloc, b"strategy ")?;
+    text.extend_from_slice(regex.strategy_name().as_bytes())?;
+    text.extend_from_slice(b"\n")?;
+    Ok(Answer {
+        status: Status::Rows,
+        text,
+    })
 }
 
 /// A builder of regexes that do without these.
@@ -183,17 +226,17 @@ fn builder_without(off: &Off) -> Builder
 fn all_rows<R: Threads + Wait + Sync, G: Gate + Sync>(
     rt: &R,
     alloc: Global,
-    command: &Command,
+    asked: &Scan,
     regex: &Regex,
     haystacks: &str,
     gate: &G,
 ) -> Result<Answer, Memory>
-    requires { 0 < command.now.workers }
-    ensures { (hs : List Expression) → IsBuilt (config_without command.now.off) hs regex.now → MeanUtf8 hs
+    requires { 0 < asked.now.workers }
+    ensures { (hs : List Expression) → IsBuilt (config_without asked.now.off) hs regex.now → MeanUtf8 hs
         → IfOk result (λ a. a ≡ all_rows hs (lines haystacks.now)) }
 {
     let haystacks = split_lines(alloc, haystacks)?;
-    let rows = scan(rt, alloc, regex, &haystacks, command.workers, gate)?;
+    let rows = scan(rt, alloc, regex, &haystacks, asked.workers, gate)?;
     let mut text = Vec::new(alloc);
     print_haystacks(&mut text, &rows)?;
     Ok(Answer {

@@ -1,0 +1,19 @@
+-- A strategy may go to other threads, and be shared with them, since what it holds may.
+use denote.Param.Send.{IsSend, IsSync, sendable}
+use Rattle.std.proofs.Crossing.{crosses}
+use Rattle.rx_pre.proofs.pre.Pre.TheSendSync as pre
+use Rattle.rx_strategy.proofs.ThreadLemmas as core
+use Rattle.rx_strategies.specs.contracts.anchored.ReverseAnchored as anchored
+use Rattle.rx_strategies.specs.contracts.strategy.Strategy as strategy
+
+anchored_send : IsSend anchored.the_row
+anchored_send = search (sendable, crosses, core.strategy_send) fits 5000 depth 40
+
+anchored_sync : IsSync anchored.the_row
+anchored_sync = search (sendable, crosses, core.strategy_sync) fits 5000 depth 40
+
+pub strategy_send : IsSend strategy.the_row
+strategy_send = search (sendable, crosses, core.strategy_send, pre.the_send, anchored_send) fits 5000 depth 40
+
+pub strategy_sync : IsSync strategy.the_row
+strategy_sync = search (sendable, crosses, core.strategy_sync, pre.the_sync, anchored_sync) fits 5000 depth 40
