@@ -12,7 +12,7 @@ ghost use Rattle.rx_meta.specs.Build.{IsBuiltOf, IsRefusedFor};
 ghost use Rattle.rx_meta.specs.Cache.{Fits, AccountsAlike, memory_of, accounted_for, states_memory};
 ghost use Rattle.rx_meta.specs.Config.{nothing_set};
 ghost use Rattle.rx_meta.specs.Impossible.{IsKnownImpossible};
-ghost use Rattle.rx_meta.specs.Regex.{Serves, groups_in, pattern_count, regex_memory};
+ghost use Rattle.rx_meta.specs.Regex.{Serves, groups_in, pattern_count, regex_memory, name_of, is_accelerated};
 ghost use Rattle.rx_meta.specs.Search.{IsAnswer, AreSlotsOfAnswer, TellsWhether};
 
 use crate::builder::Builder;

@@ -1,7 +1,8 @@
 //! The words of the command line.
-ghost use Rattle.std.specs.Prelude.{◌≡◌, ◌<◌, ◌∷◌, [], codes, map, IfSome};
+ghost use Rattle.std.specs.Prelude.{◌≡◌, ◌<◌, ◌∷◌, [], Some, None, codes, map, IfSome, if◌then◌else◌};
 ghost use Rattle.std.specs.String.{string_bytes};
-ghost use Rattle.rx_scan.specs.Arguments.{command_of, options_of, digit, is_digit_from, workers_of, off_of, are_letters, is_letter, has, switched_off, config_without};
+ghost use Rattle.rx_scan.specs.declared.arguments.Command.TheVariants.{Explain};
+ghost use Rattle.rx_scan.specs.Arguments.{HasWorkers, has_none, command_of, options_of, digit, is_digit_from, workers_of, off_of, are_letters, is_letter, has, switched_off, config_without};
 
 use rx_meta::Config;
 
@@ -34,14 +35,14 @@ pub struct Scan {
 #[derive(Clone, Copy, Debug, PartialEq, Eq)]
 pub enum Command {
     /// The rows of all matches.
-    Scan(Scan),
+    Scanning(Scan),
     /// The name of the strategy that would find them.
     Explain,
 }
 
 impl Off {
     /// Nothing is switched off.
-    const NOTHING: Off = Off {
+    pub const NOTHING: Off = Off {
         dfa: false,
         hybrid: false,
         onepass: false,
@@ -72,9 +73,22 @@ pub fn command_of(words: &[String]) -> Option<Command>
     ensures workers { IfSome result HasWorkers }
 {
     let (name, options) = words.split_first()?;
-    match name.as_str() {
-        "scan" => Some(Command::Scan(options_of(options)?)),
-        "explain" if options.is_empty() => Some(Command::Explain),
+    if name.as_str() == "scan" {
+        return Some(Command::Scanning(options_of(options)?));
+    }
+    if name.as_str() == "explain" {
+        return explain_of(options);
+    }
+    None
+}
+
+/// What explains a search, which has no options.
+fn explain_of(options: &[String]) -> Option<Command>
+    ensures value { result ≡ (if has_none (map string_bytes options.now) then Some Explain else None) }
+    ensures workers { IfSome result HasWorkers }
+{
+    match options {
+        [] => Some(Command::Explain),
         _ => None,
     }
 }

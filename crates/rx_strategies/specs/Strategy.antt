@@ -88,6 +88,12 @@ tables_in (Pre p) = 0
 tables_in (Core c) = core.tables_in c
 tables_in (ReverseAnchored c) = core.tables_in c
 
+-- it has DFAs
+abbrev pub has_dfas : Strategy → Bool
+has_dfas (Pre p) = false
+has_dfas (Core c) = core.has_dfas c
+has_dfas (ReverseAnchored c) = core.has_dfas c
+
 -- it has lazy DFAs
 abbrev pub has_lazy : Strategy → Bool
 has_lazy (Pre p) = false
