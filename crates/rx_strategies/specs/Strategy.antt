@@ -76,12 +76,6 @@ strategy_memory (Pre p) = accounted (chosen p.needles) p.needles
 strategy_memory (Core c) = core_memory c
 strategy_memory (ReverseAnchored c) = core_memory c
 
--- the core, if there is one
-abbrev pub core_in : Strategy → Option CoreStrategy
-core_in (Pre p) = None
-core_in (Core c) = Some c
-core_in (ReverseAnchored c) = Some c
-
 -- what is accounted for the tables of its full DFAs, if it has some
 abbrev pub tables_in : Strategy → ℕ
 tables_in (Pre p) = 0

@@ -35,12 +35,13 @@ impl Cache {
         ensures memory { IfOk result (λ c. memory_of c ≡ accounted_for strategy.now) }
         ensures empty { IfOk result (λ c. states_in c ≡ 0) }
     {
-        match strategy.core() {
-            Some(core) => Cache::for_core(alloc, core),
-            None => Ok(Cache {
+        match strategy {
+            Strategy::Pre(_) => Ok(Cache {
                 rooms: None,
                 in_use: false,
             }),
+            Strategy::ReverseAnchored(anchored) => Cache::for_core(alloc, anchored.core()),
+            Strategy::Core(core) => Cache::for_core(alloc, core),
         }
     }
 
@@ -67,12 +68,13 @@ impl Cache {
         ensures sure { Fits strategy.now self.old → IsOk result }
         ensures kept { Fits strategy.now self.old → StillFits self.old self.new }
     {
-        match strategy.core() {
-            Some(core) => self.reset_for(alloc, core),
-            None => {
+        match strategy {
+            Strategy::Pre(_) => {
                 self.in_use = false;
                 Ok(())
             }
+            Strategy::ReverseAnchored(anchored) => self.reset_for(alloc, anchored.core()),
+            Strategy::Core(core) => self.reset_for(alloc, core),
         }
     }
 

@@ -1,5 +1,5 @@
 //! How the searches of a regex are answered.
-ghost use Rattle.std.specs.Prelude.{◌≡◌, ◌<◌, ◌≤◌, List, length, None, replicate, true, false, option_copied, IfOk, IfErr, OnOk, OnErr, IsOk, IfNone, IfSome, IsTrue};
+ghost use Rattle.std.specs.Prelude.{◌≡◌, ◌<◌, ◌≤◌, List, length, None, replicate, true, false, IfOk, IfErr, OnOk, OnErr, IsOk, IfNone, IfSome, IsTrue};
 ghost use Rattle.rx_model.specs.Expression.{Expression, alternation};
 ghost use Rattle.rx_model.specs.Search.{Patterns};
 ghost use Rattle.rx_search.specs.Answer.{IsAnswer, AreSlotsOfAnswer, TellsWhether};
@@ -16,7 +16,7 @@ ghost use Rattle.rx_strategy.specs.Impossible.{is_impossible, IsKnownImpossible}
 ghost use Rattle.rx_strategy.specs.Strategy as lower;
 ghost use Rattle.rx_strategies.specs.Cache.{Fits, AccountsAlike, memory_of, states_in, accounted_for};
 ghost use Rattle.rx_strategies.specs.Strategy.{IsFor, IsMadeOf, IsPlainOf, kind_in, groups_in, pattern_count, properties_of, prefilter_in, strategy_memory, core_memory};
-ghost use Rattle.rx_strategies.specs.Strategy.{backtracks, is_accelerated, name_of, IsFew, core_in};
+ghost use Rattle.rx_strategies.specs.Strategy.{backtracks, is_accelerated, name_of, IsFew};
 
 mod cores;
 
@@ -192,17 +192,6 @@ impl Strategy {
                 set,
             ),
             Strategy::Core(core) => core_set(core, &mut cache.rooms, input, set),
-        }
-    }
-
-    /// The core, if there is one.
-    pub(crate) fn core(&self) -> Option<&rx_strategy::Strategy>
-        ensures { option_copied result ≡ core_in self.now }
-    {
-        match self {
-            Strategy::Pre(_) => None,
-            Strategy::ReverseAnchored(anchored) => Some(anchored.core()),
-            Strategy::Core(core) => Some(core),
         }
     }
 
