@@ -127,7 +127,7 @@ module _ (d : Dfa) (r : Patterns) (v : InputValue) (starts : TellsStarts d r) (e
       record {
         value = λ leftmost whole. ap Some (next-value s back whole n.0 n.1) ∙ sym (ap (option_map match_value) n.1);
         exists = sym (ap is_some n.1);
-        is_match = ((found s back).0, ((found s back).1, sym (found-value s back) ∙ sym (match-told r.which_captures (found s back).0)));
+        is_match = ((found s back).0, (found s back).1, sym (found-value s back) ∙ sym (match-told r.which_captures (found s back).0));
       }
 
   pub ending-answer : (kind : MatchKind) (o : Option HalfMatchValue) → IsReverseAnswer d.nfa r (from_end v) o
@@ -159,8 +159,8 @@ back-pattern pattern (Some both) paired small = subst (λ n. pattern < n) paired
 pub back-patterns : {E : Type 0} (dfas : Dfas) (backward : Dfa) (forward : Dfa) → pair_of dfas ≡ Some (forward, backward) → IfSome (pair_of dfas) ArePair
     → (result : Result (Option MatchValue) E) → IfOk result (λ found. IfSome found (λ m. m.pattern < length backward.nfa.starts))
     → IfOk result (λ found. IfSome found (λ m. IsPatternOf dfas m.pattern))
-back-patterns dfas backward forward is paired (Err e) small = tt
-back-patterns dfas backward forward is paired (Ok None) small = tt
-back-patterns dfas backward forward is paired (Ok (Some m)) small =
+back-patterns dfas backward forward same paired (Err e) small = tt
+back-patterns dfas backward forward same paired (Ok None) small = tt
+back-patterns dfas backward forward same paired (Ok (Some m)) small =
     back-pattern m.pattern (pair_of dfas) paired
-    (subst (λ (o : Option (Dfa × Dfa)). IsSomeAnd o (λ both. m.pattern < length both.1.nfa.starts)) (sym is) small)
+    (subst (λ (o : Option (Dfa × Dfa)). IsSomeAnd o (λ both. m.pattern < length both.1.nfa.starts)) (sym same) small)
