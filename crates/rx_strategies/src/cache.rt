@@ -79,6 +79,7 @@ impl Cache {
     }
 
     /// Makes any cache one that serves this core.
+    #[tactic(auto, using(crate::proofs::CacheLemmas::no-states))]
     fn reset_for(&mut self, alloc: Global, core: &rx_strategy::Strategy) -> Result<(), Memory>
         ensures fits { OnOk result (FitsCore core.now self.new) }
         ensures memory { OnOk result (memory_of self.new ≡ lower.accounted_for core.now) }
@@ -87,12 +88,13 @@ impl Cache {
         ensures sure { FitsCore core.now self.old → IsOk result }
         ensures kept { FitsCore core.now self.old → StillFits self.old self.new }
     {
-        match &mut self.rooms {
-            Some(rooms) => rooms.reset(alloc, core)?,
-            None => {
-                self.rooms = Some(core.create_cache(alloc)?);
-            }
+        if let Some(rooms) = &mut self.rooms {
+            rooms.reset(alloc, core)?;
+            self.in_use = true;
+            return Ok(());
         }
+        let made = core.create_cache(alloc)?;
+        self.rooms = Some(made);
         self.in_use = true;
         Ok(())
     }

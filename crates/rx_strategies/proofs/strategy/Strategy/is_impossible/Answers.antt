@@ -1,8 +1,12 @@
-use Rattle.std.proofs.Common.{◌≡◌, sym, ◌∙◌}
+use Rattle.std.proofs.Common.{sym, ◌∙◌, subst}
+use Rattle.rx_pre.specs.Pre.{IsPreFor}
+use Rattle.rx_strategies.specs.Strategy.{IsFor}
+use Rattle.rx_strategies.specs.declared.strategy.Strategy.{Strategy}
 use Rattle.rx_strategies.proofs.StrategyLemmas.{pre-none}
 use Rattle.rx_strategies.proofs.strategy.Strategy.is_impossible.Goals as goal
 
 pub returns-in-Pre-clause-none : goal.returns-in-Pre-clause-none
 returns-in-Pre-clause-none c impossible r of =
-    pre-none c.in-Pre.pre c.args.input.now c.is_impossible_by.ensures.spanned.end r of
-    (sym (c.is_impossible_by.ensures.value r.expressions of.properties) ∙ impossible)
+    let own : IsPreFor c.in-Pre.pre r = subst (λ (s : Strategy). IsFor s r) c.in-Pre.is of in
+    pre-none c.in-Pre.pre c.args.input.now c.is_impossible_by.ensures.spanned.end r own
+    (sym (c.is_impossible_by.ensures.value r.expressions own.properties) ∙ impossible)
