@@ -69,8 +69,8 @@ alike-memory (Core c) old new off alike = memory-in c old new off alike
 alike-memory (ReverseAnchored c) old new off alike = memory-in c old new off alike
 
 -- caches without states account none
-pub no-states : (rooms : core.CacheValue) → core.HoldsNoStates rooms → rooms_states (Some rooms) ≡ 0
-no-states rooms none = lower.no-states rooms.lazies none
+pub no_states : (rooms : core.CacheValue) → core.HoldsNoStates rooms → rooms_states (Some rooms) ≡ 0
+no_states rooms none = lower.no-states rooms.lazies none
 
 -- as before, by the room alone
 pub as-before : (old new : core.CacheValue) (b : Bool) → core.FitsAsBefore old new

@@ -2,4 +2,3 @@ pub mod StrategyLemmas
 pub mod EndLemmas
 pub mod MadeLemmas
 pub mod CacheLemmas
-pub mod ThreadLemmas

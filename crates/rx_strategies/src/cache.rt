@@ -79,7 +79,7 @@ impl Cache {
     }
 
     /// Makes any cache one that serves this core.
-    #[tactic(auto, using(crate::proofs::CacheLemmas::no-states))]
+    #[tactic(auto, using(crate::proofs::CacheLemmas::no_states))]
     fn reset_for(&mut self, alloc: Global, core: &rx_strategy::Strategy) -> Result<(), Memory>
         ensures fits { OnOk result (FitsCore core.now self.new) }
         ensures memory { OnOk result (memory_of self.new ≡ lower.accounted_for core.now) }

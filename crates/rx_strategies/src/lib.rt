@@ -10,7 +10,6 @@ mod cache;
 mod laws;
 mod literal;
 mod strategy;
-mod threads;
 
 pub use anchored::ReverseAnchored;
 pub use cache::Cache;
