@@ -1,11 +1,10 @@
 -- What is accounted for caches, and what they serve.
-use Rattle.std.proofs.Common.{◌≡◌, ℕ, ◌-◌, ◌+◌, ◌^◌, refl, sym, ap, ◌∙◌, subst, true, false, arith}
+use Rattle.std.proofs.Common.{◌≡◌, ◌-◌, ◌+◌, ◌^◌, refl, ap, true, false}
 use Rattle.std.specs.Prelude.{Bool, Option, Some, None, IsSomeAnd, min, if◌then◌else◌}
 use Rattle.rx_strategy.specs.Cache as core
-use Rattle.rx_strategy.specs.Dfas as dfas
 use Rattle.rx_strategy.proofs.CacheLemmas as lower
 use Rattle.rx_strategy.specs.declared.strategy.Strategy.{Strategy as CoreStrategy}
-use Rattle.rx_strategies.specs.Cache.{CacheValue, Fits, FitsCore, FitsAsBefore, StillFits, AreAlike, AccountsAlike, AccountsAlikeIn, memory_of, states_in, fixed_in, rooms_memory, rooms_states, rooms_fixed}
+use Rattle.rx_strategies.specs.Cache.{CacheValue, FitsAsBefore, StillFits, AreAlike, AccountsAlike, AccountsAlikeIn, memory_of, states_in, fixed_in, rooms_memory, rooms_states, rooms_fixed}
 use Rattle.rx_strategy.specs.Strategy.{has_lazy as core_lazy}
 use Rattle.rx_strategies.specs.Strategy.{has_lazy}
 use Rattle.rx_strategies.specs.declared.strategy.Strategy.{Strategy}

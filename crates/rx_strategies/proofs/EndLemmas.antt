@@ -1,12 +1,11 @@
 -- Where each match ends at the end of the haystack.
-use Rattle.std.proofs.Common.{◌≡◌, ℕ, ◌≤◌, List, length, refl, sym, ap, ◌∙◌, subst, true, arith}
+use Rattle.std.proofs.Common.{◌≡◌, ℕ, List, length, sym, ◌∙◌, true, arith}
 use Rattle.std.proofs.lemmas.Bool.Decides.{nat_tests}
-use Rattle.std.specs.Prelude.{◌==◌, Option, Some, slice_get, option_map}
+use Rattle.std.specs.Prelude.{◌==◌, Option}
 use Rattle.rx_model.specs.Expression.{Expression, alternation}
 use Rattle.rx_model.specs.Look.{end_text, holds}
-use Rattle.rx_model.specs.Meaning.{Means}
 use Rattle.rx_model.specs.Search.{Patterns, Match}
-use Rattle.rx_search.specs.Answer.{IsAnswer, TellsWhether}
+use Rattle.rx_search.specs.Answer.{IsAnswer}
 use Rattle.rx_search.specs.Input.{InputValue}
 use Rattle.rx_search.specs.Promise.{Premises}
 use Rattle.rx_hir.specs.Normal.{expressions}

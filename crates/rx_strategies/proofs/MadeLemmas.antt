@@ -1,6 +1,6 @@
 -- Which strategy is made.
-use Rattle.std.proofs.Common.{◌≡◌, ℕ, List, refl, sym, ap, ◌∙◌, subst, true, false, true≢false}
-use Rattle.std.specs.Prelude.{Bool, Option, Some, None, Result, Ok, Err, IfSome, ◌&&◌}
+use Rattle.std.proofs.Common.{◌≡◌, ℕ, List, refl, sym, ap, ◌∙◌, subst, true, false}
+use Rattle.std.specs.Prelude.{Bool, Some, ◌&&◌}
 use Rattle.rx_model.specs.Expression.{Expression, alternation}
 use Rattle.rx_search.specs.PatternGroups.{pattern_groups}
 use Rattle.rx_search.specs.Told.{tells}
@@ -10,12 +10,12 @@ use Rattle.rx_hir.specs.Normal.{expressions}
 use Rattle.rx_hir.specs.PropertiesViews.{AreOf}
 use Rattle.rx_pre.specs.Pre.{PreValue}
 use Rattle.rx_pre.specs.Whole.{AreWholeOf}
-use Rattle.rx_strategy.specs.Config.{kind_of, captures_of, backtrack_of, is_leftmost, has_backtracker}
+use Rattle.rx_strategy.specs.Config.{kind_of, captures_of, backtrack_of, is_leftmost}
 use Rattle.rx_strategy.specs.Strategy as core
 use Rattle.rx_strategy.specs.declared.config.Config.{Config}
 use Rattle.rx_strategy.specs.declared.strategy.Strategy.{Strategy as CoreStrategy}
 use Rattle.rx_strategy.specs.declared.strategy.Strategy.TheVariants.{Core as TheCore}
-use Rattle.rx_strategies.specs.Choice.{literals_for, is_from_end, IsFromEnd}
+use Rattle.rx_strategies.specs.Choice.{literals_for, is_from_end}
 use Rattle.rx_strategies.specs.Strategy.{IsMadeOf, IsPlainOf, IsPreOf, backtracks}
 use Rattle.rx_strategies.specs.declared.strategy.Strategy.{Strategy}
 use Rattle.rx_strategies.specs.declared.strategy.Strategy.TheVariants.{Pre, Core, ReverseAnchored}

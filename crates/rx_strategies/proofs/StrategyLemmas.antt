@@ -1,8 +1,8 @@
 -- What is said of each strategy, case by case.
-use Rattle.std.proofs.Common.{◌≡◌, ℕ, zero, suc, ◌≤◌, List, [], ◌∷◌, length, refl, sym, ap, ◌∙◌, subst, true}
+use Rattle.std.proofs.Common.{◌≡◌, ℕ, zero, suc, ◌≤◌, List, [], ◌∷◌, length, sym, ap, ◌∙◌, subst, true}
 use Rattle.std.proofs.lemmas.Option.{none-some, same_Some}
-use Rattle.std.specs.Prelude.{Option, Some, None, slice_get}
-use Rattle.rx_model.specs.Expression.{Expression, AreOrdered, alternation}
+use Rattle.std.specs.Prelude.{Some, None, slice_get}
+use Rattle.rx_model.specs.Expression.{Expression, AreOrdered}
 use Rattle.rx_model.specs.Search.{Patterns}
 use Rattle.rx_search.specs.Input.{InputValue, next_in}
 use Rattle.rx_search.specs.Promise.{Premises}

@@ -1,7 +1,6 @@
 -- Which strategy there is, in the order in which they are tried.
 use Rattle.std.specs.Prelude.{◌≡◌, ℕ, Bool, true, false, not, ◌&&◌, List, Option, None, is_some, if◌then◌else◌, Result, Ok, Err}
-use Rattle.rx_model.specs.Expression.{Expression, alternation}
-use Rattle.rx_hir.specs.Normal.{expressions}
+use Rattle.rx_model.specs.Expression.{Expression}
 use Rattle.rx_hir.specs.PropertiesViews.{AreOf}
 use Rattle.rx_pre.specs.Literals.{literal_needles}
 use Rattle.rx_strategy.specs.Config.{kind_of, auto_prefilter_of, prefilter_of}

@@ -1,5 +1,5 @@
 -- What a strategy is to a contract: data by cases, one for each way to search.
-use Rattle.std.specs.Prelude.{◌≡◌, ℕ, ◌+◌, ◌-◌, ◌*◌, ◌^◌, ◌≤◌, min, Bool, true, false, List, length, Option, Some, None, Result, Ok, Err, codes}
+use Rattle.std.specs.Prelude.{◌≡◌, ℕ, ◌+◌, ◌-◌, ◌*◌, ◌^◌, ◌≤◌, min, Bool, true, false, List, Option, Some, None, Result, Ok, Err, codes}
 use Rattle.rx_model.specs.Expression.{Expression, alternation}
 use Rattle.rx_model.specs.Search.{Patterns, Match}
 use Rattle.rx_search.specs.Input.{InputValue}
@@ -17,7 +17,7 @@ use Rattle.rx_prefilter.specs.declared.choice.Choice.TheVariants.{Memchr, Memchr
 use Rattle.rx_pre.specs.Pre.{PreValue, IsPreFor}
 use Rattle.rx_pre.specs.Pre as pre
 use Rattle.rx_pre.specs.Whole.{AreWholeOf}
-use Rattle.rx_strategy.specs.Config.{captures_of, kind_of}
+use Rattle.rx_strategy.specs.Config.{captures_of}
 use Rattle.rx_strategy.specs.Strategy as core
 use Rattle.rx_strategy.specs.declared.config.Config.{Config}
 use Rattle.rx_strategy.specs.declared.strategy.Strategy.{Strategy as CoreStrategy}

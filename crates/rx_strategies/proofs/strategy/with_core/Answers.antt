@@ -1,4 +1,4 @@
-use Rattle.std.proofs.Common.{◌≡◌, subst}
+use Rattle.std.proofs.Common.{subst}
 use Rattle.std.specs.Prelude.{Result}
 use Rattle.rx_strategy.specs.declared.strategy.Strategy.{Strategy as CoreStrategy}
 use Rattle.rx_strategies.specs.Choice.{IsFromEnd}
