@@ -2,3 +2,4 @@ pub mod StrategyLemmas
 pub mod EndLemmas
 pub mod MadeLemmas
 pub mod CacheLemmas
+pub mod ThreadLemmas

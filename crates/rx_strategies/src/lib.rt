@@ -10,6 +10,7 @@ mod cache;
 mod laws;
 mod literal;
 mod strategy;
+mod threads;
 
 pub use anchored::ReverseAnchored;
 pub use cache::Cache;
