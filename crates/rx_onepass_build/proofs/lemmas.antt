@@ -1,0 +1,11 @@
+pub mod ListLemmas
+pub mod OrderLemmas
+pub mod WayLemmas
+pub mod TreeLemmas
+pub mod FillingLemmas
+pub mod FilledLemmas
+pub mod EntryLemmas
+pub mod RowsLemmas
+pub mod SwapLemmas
+pub mod FinishLemmas
+pub mod BuildLemmas

@@ -1,0 +1,96 @@
+-- What a build answers, from what its parts answer.
+use Rattle.std.proofs.Common.{◌≡◌, ◌⊎◌, ℕ, zero, suc, ◌+◌, ◌^◌, ◌<◌, ◌≤◌, List, [], ◌∷◌, length, refl, sym, ◌∙◌, ap, subst, arith, slice_index, if◌then◌else◌}
+use Rattle.std.specs.Prelude.{Bool, true, false, Option, Some, None, All, slice_get}
+use Rattle.rx_search.specs.ByteClasses.{alphabet_len, class_count, IsLeastPower, AreRepresentatives}
+use Rattle.rx_nfa.specs.Automaton.{state_at}
+use Rattle.rx_nfa.specs.Nfa.{Nfa}
+use Rattle.rx_nfa.specs.Row.{HasSortedTransitions}
+use Rattle.rx_onepass_table.specs.Entry.{Reads, IsEntry}
+use Rattle.rx_onepass_table.specs.Entry.IsEntry.{common as is_common, start as begins, after as comes_after}
+use Rattle.rx_onepass_table.specs.Rows.{IsRowOf}
+use Rattle.rx_onepass_table.specs.Words.{Step, Final}
+use Rattle.rx_onepass_build.specs.Build.{IsAdmitted, AreClassesFor, IsLayoutOf, AreStarts, IsOnePass, IsMadeInVain, IsInVain, IsRefusalOf, IsBuiltOf, start_count}
+use Rattle.rx_onepass_build.specs.Config.{each_of, shares_of, size_limit_of}
+use Rattle.rx_onepass_build.specs.Entries.{AreEntries, AreMet, IsWithin}
+use Rattle.rx_onepass_build.specs.Finished.{IsFinished, IsTableFor}
+use Rattle.rx_onepass_build.specs.Rows.{AreFilled}
+use Rattle.rx_onepass_build.specs.declared.built.Built.{Built}
+use Rattle.rx_onepass_build.specs.declared.config.Config.{Config}
+use Rattle.rx_onepass_build.specs.declared.entries.Entries.{Entries}
+use Rattle.rx_onepass_build.specs.declared.entries.Layout.{Layout}
+use Rattle.rx_onepass_build.specs.declared.job.Job.{Job}
+use Rattle.rx_onepass_build.specs.declared.build_error.NotOnePass.{NotOnePass}
+use Rattle.rx_onepass_build.specs.declared.build_error.NotOnePass.TheVariants.{Slots, State as Twice, Match, Transition}
+use Rattle.rx_onepass_build.specs.declared.build_error.BuildError.{BuildError}
+use Rattle.rx_onepass_build.specs.declared.build_error.BuildError.TheVariants.{UnsupportedLook, TooManyPatterns, TooManyStates, ExceededSizeLimit, NotOnePass as Ambiguous, Memory}
+use Rattle.rx_onepass_build.proofs.lemmas.FilledLemmas.{byte-small, state-sorted}
+use Rattle.rx_onepass_build.proofs.lemmas.RowsLemmas.{there-is}
+use Rattle.rx_onepass_build.proofs.lemmas.ListLemmas.{get-within}
+
+-- a state among the entries
+abbrev pub IsThere : List ℕ → ℕ → Type 0
+IsThere entries q = (k : ℕ) × (slice_get entries k ≡ Some q)
+
+row-there : (entries : List ℕ) (row q : ℕ) → IsRowOf entries row q → IsThere entries q
+row-there entries row q r = (r.before, r.there)
+
+module _ (j : Job) (sorted : All HasSortedTransitions j.nfa.now.states) (entries starts : List ℕ)
+    (steps : List Step) (finals : List Final) (filled : AreFilled j entries steps finals) (count : length finals ≡ length entries)
+    (first : AreStarts j.nfa.now j.each entries starts) where
+  -- each entry has a row
+  pub all-there : (q : ℕ) → IsEntry j.nfa.now j.each q → IsThere entries q
+  all-there _ is_common = row-there entries first.common.row j.nfa.now.start_anchored first.common.is
+  all-there _ (begins p q yes there) =
+      let s = first.of_each p q yes there in row-there entries s.row q s.is
+  all-there _ (comes_after entry byte q way is r) =
+      let e = all-there entry is in
+      let lt = get-within entries e.0 entry e.1 in
+      let row = filled.rows e.0 entry (omega arith) e.1 in
+      let small = byte-small (state_at j.nfa.now.states r.reader) byte q (state-sorted j.nfa.now.states sorted r.reader) r.goes in
+      row-there entries _ q ((row.steps_are byte small).row way q r)
+
+  pub table-for : (layout : Layout) (b : Built) → AreEntries j.nfa.now j.each entries → IsFinished j entries layout.stride b
+      → IsWithin layout (suc (length entries)) → IsTableFor j layout b
+  table-for layout b are f within = record {
+    entries = f.settled;
+    table = f.table;
+    rows = f.rows ∙ ap suc (sym f.count);
+    starts = f.starts;
+    are = λ k q e. (let own = f.own k q e in are own.0 q own.1);
+    all = λ q is. (let e = all-there q is in f.kept e.0 q e.1);
+    one_pass = λ q is. (let e = all-there q is in f.one_pass e.0 q e.1);
+    stride = f.stride_is;
+    classes = f.classes;
+    within = subst (IsWithin layout) (sym f.rows) within;
+  }
+
+-- the table of an NFA
+pub built-of : (config : Config) (j : Job) (layout : Layout) (b : Built) → j.each ≡ each_of config → IsAdmitted j.nfa.now
+    → AreClassesFor j.nfa.now (shares_of config) j.classes.now → IsLayoutOf config j.nfa.now layout → IsTableFor j layout b → IsBuiltOf config j.nfa.now b
+built-of config j layout b each admitted classes laid t = record {
+  admitted = admitted;
+  entries = t.entries;
+  table = t.table;
+  rows = t.rows;
+  starts = subst (λ x. AreStarts j.nfa.now x t.entries b.starts.items) each t.starts;
+  are = subst (λ x. AreEntries j.nfa.now x t.entries) each t.are;
+  all = λ q is. t.all q (subst (λ x. IsEntry j.nfa.now x q) (sym each) is);
+  one_pass = λ q is. t.one_pass q (subst (λ x. IsEntry j.nfa.now x q) (sym each) is);
+  layout = layout;
+  layout_is = laid;
+  stride = t.stride;
+  classes = subst (AreClassesFor j.nfa.now (shares_of config)) (sym t.classes) classes;
+  within = t.within;
+}
+
+-- the refusals of states that were made in vain
+pub refusal-of : (config : Config) (nfa : Nfa) (e : BuildError) → IsInVain config nfa e → IsRefusalOf config nfa e
+refusal-of config nfa (UnsupportedLook look) h = absurd h.2
+refusal-of config nfa (TooManyPatterns limit) h = absurd h.2
+refusal-of config nfa (TooManyStates limit) h = h
+refusal-of config nfa (ExceededSizeLimit limit size) h = h
+refusal-of config nfa (Ambiguous (Slots given)) h = absurd h.2
+refusal-of config nfa (Ambiguous (Twice state)) h = h
+refusal-of config nfa (Ambiguous (Match first second)) h = h
+refusal-of config nfa (Ambiguous (Transition state byte)) h = h
+refusal-of config nfa Memory h = tt
