@@ -5,6 +5,8 @@ pub mod TreeLemmas
 pub mod FillingLemmas
 pub mod FilledLemmas
 pub mod EntryLemmas
+pub mod StateLemmas
+pub mod WalkingLemmas
 pub mod RowsLemmas
 pub mod SwapLemmas
 pub mod FinishLemmas

@@ -37,7 +37,7 @@ pub record IsReaderOn (j : Job) (r : Reader) (way : List ℕ) : Type 0 where
 -- The step stands in the cell now, or another one stood there.
 pub record IsPut (old step new : Step) (is_put : Bool) : Type 0 where
   pub put : is_put ≡ true → new ≡ step
-  pub old : is_put ≡ true → (old.target ≡ dead → ⊥) → old ≡ step
+  pub kept : is_put ≡ true → (old.target ≡ dead → ⊥) → old ≡ step
   pub other : is_put ≡ false → (old.target ≡ dead → ⊥) × (old ≡ step → ⊥)
 
 -- a match was told before, and this one is the second

@@ -1,6 +1,6 @@
 //! What an entry leads to: the search that makes its row.
 ghost use Rattle.std.specs.Int.{bit_at};
-ghost use Rattle.std.specs.Prelude.{◌^◌, ◌==◌, if◌then◌else◌, ◌≡◌, ℕ, suc, ◌+◌, ◌<◌, ◌≤◌, [], ◌∷◌, ◌++◌, List, Bool, Some, None, true, false, length, map, reverse, IfOk, OnOk, IfErr, Contains, is_some, slice_get, slice_set};
+ghost use Rattle.std.specs.Prelude.{◌^◌, ◌==◌, if◌then◌else◌, ◌≡◌, ℕ, suc, ◌+◌, ◌<◌, ◌≤◌, [], ◌∷◌, ◌++◌, List, Bool, Some, None, true, false, length, map, reverse, IfOk, OnOk, IfErr, IfSome, IfNone, Contains, is_some, slice_get, slice_set};
 ghost use Rattle.rx_search.specs.ByteClasses.{class_count};
 ghost use Rattle.rx_nfa.specs.Automaton.{state_at};
 ghost use Rattle.rx_nfa.specs.Ordered.{target};
@@ -130,7 +130,7 @@ impl Closure {
         ensures walking { OnOk result (IsWalking job.now entries.new.items.items self.new) }
         ensures err { IfErr result (IsMadeInVain job.now.nfa.now job.now.each entries.old.layout) }
     {
-        let Some(frame) = self.frames.pop() else {
+        let Some(frame) = pop_frame(&mut self.frames) else {
             return Ok(false);
         };
         mark(&mut self.marks, self.row, frame.state)?;
@@ -245,6 +245,15 @@ fn mark(marks: &mut Vec<usize>, row: usize, state: StateID) -> Result<(), BuildE
     }
     marks[state.as_usize()] = row;
     Ok(())
+}
+
+/// Takes the frame on top from the stack.
+fn pop_frame(frames: &mut Vec<Frame>) -> Option<Frame>
+    ensures some { IfSome result (λ f. reverse frames.old.items ≡ f ∷ reverse frames.new.items) }
+    ensures none { IfNone result (frames.old.items ≡ []) }
+    ensures same { IfNone result (frames.new.items ≡ frames.old.items) }
+{
+    frames.pop()
 }
 
 /// Puts the state on the stack.

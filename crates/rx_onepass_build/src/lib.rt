@@ -11,6 +11,7 @@ mod closure;
 mod config;
 mod entries;
 mod job;
+mod laws;
 mod rows;
 mod settled;
 
@@ -20,3 +21,4 @@ pub use builder::Builder;
 pub use built::Built;
 pub use config::Config;
 pub use entries::STATE_LIMIT;
+pub use laws::a_second_match_is_of_another_pattern;

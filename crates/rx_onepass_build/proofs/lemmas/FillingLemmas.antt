@@ -46,7 +46,7 @@ row-one entries numbers row other entry are r s =
 
 bits-one : (a b : ℕ) → a < 2 → b < 2 → (a ≡ 1 → b ≡ 1) → (b ≡ 1 → a ≡ 1) → a ≡ b
 bits-one zero zero h k to back = refl
-bits-one zero (suc zero) h k to back = sym (back refl) ∙ refl
+bits-one zero (suc zero) h k to back = back refl
 bits-one (suc zero) zero h k to back = sym (to refl)
 bits-one (suc zero) (suc zero) h k to back = refl
 bits-one (suc (suc a)) b h k to back = absurd (omega arith)
@@ -200,7 +200,7 @@ module _ (nfa : Nfa) (classes : List ℕ) (entry : ℕ) where
               subst (λ x. IsStepOn nfa entries entry step x to) here (subst (λ n. IsStepOn nfa entries entry step way n) same on))
               (λ there.
               let before = h.steps byte other to lt is there r in
-              subst (λ s. IsStepOn nfa entries entry s other to) (put.old refl (row-live entries old.target to before.row)) before)
+              subst (λ s. IsStepOn nfa entries entry s other to) (put.kept refl (row-live entries old.target to before.row)) before)
               (split-among way other done m)
 
           cell : IsCell nfa classes entries entry (way ∷ done) c step

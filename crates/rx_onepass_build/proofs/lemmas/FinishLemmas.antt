@@ -163,7 +163,7 @@ module _ (entries before after : List ℕ) (h : AreInverse (suc (length entries)
         let is = old.row_is in
         let within = get-within entries old.before entry old.there in
         let place : slice_index before row - 1 ≡ old.before = omega arith in
-        let at = filled.rows old.before entry (omega arith) old.there in
+        let old_row = filled.rows old.before entry (omega arith) old.there in
         let here = are row o.inside in
         record {
           inside = inside_states old.before entry old.there;
@@ -173,11 +173,11 @@ module _ (entries before after : List ℕ) (h : AreInverse (suc (length entries)
               ∙ ap (settled_step after) (before-step row (slice_index j.classes.now byte) o.live)
               ∙ ap (λ n. settled_step after (step_at steps (n * class_count j.classes.now + slice_index j.classes.now byte))) place))
               (step-settled j.nfa.now entry byte (step_at steps (old.before * class_count j.classes.now + slice_index j.classes.now byte))
-              (at.steps_are byte lt));
+              (old_row.steps_are byte lt));
           final =
               subst (λ f. IsFinal j.nfa.now entry f)
-              (sym (here.final ∙ before-final row o.live ∙ ap (λ n. slice_index_or finals n no_match) place)) at.final;
-          clear = at.one_pass.clear;
+              (sym (here.final ∙ before-final row o.live ∙ ap (λ n. slice_index_or finals n no_match) place)) old_row.final;
+          clear = old_row.one_pass.clear;
         }
 
 -- The parts fit together.

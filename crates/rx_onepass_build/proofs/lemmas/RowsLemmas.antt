@@ -48,9 +48,6 @@ length-two (x ∷ xs) ys = ap suc (length-two xs ys)
 module _ (j : Job) (classes : AreClasses j.classes.now) (old new : List ℕ) (steps cells : List Step) (finals : List Final) (told : Final) (entry : ℕ)
     (stays : Stays old new) (h : AreFilled j old steps finals) (there : slice_get new (length finals) ≡ Some entry)
     (filled : IsFilled j new entry cells told) where
-  width : ℕ
-  width = class_count j.classes.now
-
   row-before : (k e : ℕ) → k < length finals → slice_get old k ≡ Some e → IsRowAt j new e k (steps ++ cells) (finals ++ told ∷ [])
   row-before k e lt is =
       let r = h.rows k e lt is in
@@ -70,10 +67,10 @@ module _ (j : Job) (classes : AreClasses j.classes.now) (old new : List ℕ) (st
   row-last : (k e : ℕ) → k ≡ length finals → e ≡ entry → IsRowAt j new e k (steps ++ cells) (finals ++ told ∷ [])
   row-last k e last is = subst (λ x. IsRowAt j new x k (steps ++ cells) (finals ++ told ∷ [])) (sym is) (record {
     steps_are = λ byte small.
-        (let at : k * class_count j.classes.now + slice_index j.classes.now byte ≡ length steps + slice_index j.classes.now byte =
+        (let place : k * class_count j.classes.now + slice_index j.classes.now byte ≡ length steps + slice_index j.classes.now byte =
         ap (λ n. n * class_count j.classes.now + slice_index j.classes.now byte) last ∙ ap (λ n. n + slice_index j.classes.now byte) (sym h.len) in
         subst (λ s. IsStep j.nfa.now new entry byte s)
-        (sym (ap (λ i. get_or (steps ++ cells) i no_step) at ∙ get_or-append-add steps cells (slice_index j.classes.now byte) no_step))
+        (sym (ap (λ i. get_or (steps ++ cells) i no_step) place ∙ get_or-append-add steps cells (slice_index j.classes.now byte) no_step))
         (filled.steps byte small));
     final =
         subst (λ f. IsFinal j.nfa.now entry f)

@@ -46,9 +46,6 @@ module _ (nfa : Nfa) (entry : ℕ) where
 
   module _ (done : List (List ℕ)) (way : List ℕ) (others : List (List ℕ)) (f : Frame) (frames : List Frame)
       (s : IsSearched nfa entry done (way ∷ others) (f ∷ frames)) where
-    targets : List ℕ
-    targets = epsilon_targets (state_at nfa.states f.state)
-
     goes-covered : (n : ℕ) → n ≡ length (epsilon_targets (state_at nfa.states f.state)) → (other : List ℕ) (q : ℕ) → WalksTo nfa.states entry other q
         → Contains (way ∷ done) other ⊎ GoesOnFrom (going_on way 0 n ++ others) other
     goes-covered n count other q leads =
@@ -71,7 +68,10 @@ module _ (nfa : Nfa) (entry : ℕ) where
             let lt = walks-next nfa.states entry way f.state k rest q s.frames_are.0.leads (subst (λ w. WalksTo nfa.states entry w q) e leads) in
             inr (record {
               from = way ++ k ∷ [];
-              among = front-among (going_on way 0 n) others (way ++ k ∷ []) (going-among way 0 n k (omega arith));
+              among =
+                  front-among (going_on way 0 n) others (way ++ k ∷ [])
+                  (let e : 0 + k ≡ k = omega arith in
+                  subst (λ i. Contains (going_on way 0 n) (way ++ i ∷ [])) e (going-among way 0 n k (omega arith)));
               rest = rest;
               is = e ∙ sym (append_assoc way (k ∷ []) rest);
             })
@@ -83,8 +83,10 @@ module _ (nfa : Nfa) (entry : ℕ) where
           subst (λ fs. AreWays nfa entry fs (going_on way 0 (length (epsilon_targets (state_at nfa.states f.state))) ++ others)) (sym g.frames)
           (ways-next nfa entry way g.later 0 (epsilon_targets (state_at nfa.states f.state)) frames others
           (λ j q lt e.
-          way-next nfa entry way f g.later j (get_or (epsilon_targets (state_at nfa.states f.state)) j q) s.frames_are.0 g.tells lt
-          (get_or_default (epsilon_targets (state_at nfa.states f.state)) j f.state q lt))
+          let is : j ≡ 0 + j = omega arith in
+          subst (λ i. IsWay nfa entry (way ++ i ∷ []) (frame_at g.later (get_or (epsilon_targets (state_at nfa.states f.state)) j q))) is
+          (way-next nfa entry way f g.later j (get_or (epsilon_targets (state_at nfa.states f.state)) j q) s.frames_are.0 g.tells lt
+          (get_or_default (epsilon_targets (state_at nfa.states f.state)) j f.state q lt)))
           s.frames_are.1);
       covered = goes-covered (length (epsilon_targets (state_at nfa.states f.state))) refl;
       before = before;

@@ -1,0 +1,63 @@
+//! Why there is no one-pass DFA of patterns.
+ghost use Rattle.std.specs.Prelude.{◌≡◌};
+ghost use Rattle.rx_onepass.specs.declared.build_error.BuildError.TheVariants.{Memory as OutOfMemory};
+ghost use Rattle.rx_onepass.specs.Error.{error_of, refusal_of};
+
+use rx_onepass_build::NotOnePass;
+use rx_search::{Look, Memory};
+use std::alloc::{AllocError, AllocFailed};
+use std::fmt;
+
+// The refusals of an NFA stand in the error of rx_onepass_build too (DECISIONS: the build of a table knows no patterns).
+/// Why there is no one-pass DFA.
+#[derive(Clone, Copy, Debug, PartialEq, Eq)]
+pub enum BuildError {
+    /// There is no NFA of the patterns.
+    NFA(rx_thompson::BuildError),
+    /// The NFA asks for this kind of look-around, the first that has no bit in a transition.
+    UnsupportedLook { look: Look },
+    /// More patterns than a table tells apart.
+    TooManyPatterns { limit: usize },
+    /// More states than a transition tells apart.
+    TooManyStates { limit: usize },
+    /// A table of more bytes than the configured limit, with so many when it was given up.
+    ExceededSizeLimit { limit: usize, size: usize },
+    /// The NFA leaves more than one way on.
+    NotOnePass(NotOnePass),
+    /// There was no memory.
+    Memory,
+}
+
+impl From<rx_onepass_build::BuildError> for BuildError {
+    ghost from_gives = { λ cause e. e ≡ refusal_of cause };
+
+    fn from(error: rx_onepass_build::BuildError) -> BuildError {
+        match error {
+            rx_onepass_build::BuildError::UnsupportedLook { look } => {
+                BuildError::UnsupportedLook { look }
+            }
+            rx_onepass_build::BuildError::TooManyPatterns { limit } => {
+                BuildError::TooManyPatterns { limit }
+            }
+            rx_onepass_build::BuildError::TooManyStates { limit } => {
+                BuildError::TooManyStates { limit }
+            }
+            rx_onepass_build::BuildError::ExceededSizeLimit { limit, size } => {
+                BuildError::ExceededSizeLimit { limit, size }
+            }
+            rx_onepass_build::BuildError::NotOnePass(cause) => BuildError::NotOnePass(cause),
+            rx_onepass_build::BuildError::Memory => BuildError::Memory,
+        }
+    }
+}
+
+impl From<rx_thompson::BuildError> for BuildError {
+    ghost from_gives = { λ cause e. e ≡ error_of cause };
+
+    fn from(error: rx_thompson::BuildError) -> BuildError {
+        match error {
+            rx_thompson::BuildError::Memory => BuildError::Memory,
+            other => BuildError::NFA(other),
+        }
+    }
+}
