@@ -1,5 +1,6 @@
 pub mod Config
 pub mod Error
+pub mod Stop
 pub mod Order
 pub mod Entries
 pub mod Build

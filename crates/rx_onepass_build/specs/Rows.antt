@@ -10,13 +10,12 @@ use Rattle.rx_onepass_build.specs.Entries.{Stays}
 use Rattle.rx_onepass_build.specs.Filling.{IsRowBy, IsToldBy, step_at}
 use Rattle.rx_onepass_build.specs.Told.{IsWay}
 use Rattle.rx_onepass_build.specs.Tree.{IsSearched, AreMarked}
-use Rattle.rx_onepass_build.specs.declared.build_error.BuildError.{BuildError}
-use Rattle.rx_onepass_build.specs.declared.build_error.BuildError.TheVariants.{NotOnePass as Ambiguous}
-use Rattle.rx_onepass_build.specs.declared.build_error.NotOnePass.TheVariants.{Match}
 use Rattle.rx_onepass_build.specs.declared.closure.Closure.{Closure}
 use Rattle.rx_onepass_build.specs.declared.closure.Reader.{Reader}
 use Rattle.rx_onepass_build.specs.declared.entries.Entries.{Entries}
 use Rattle.rx_onepass_build.specs.declared.job.Job.{Job}
+use Rattle.rx_onepass_build.specs.declared.stop.Stop.{Stop}
+use Rattle.rx_onepass_build.specs.declared.stop.Stop.TheVariants.{Match}
 
 -- entries may be more, and the layout is the same
 pub record AreOf (old new : Entries) : Type 0 where
@@ -41,10 +40,10 @@ pub record IsPut (old step new : Step) (is_put : Bool) : Type 0 where
   pub other : is_put ≡ false → (old.target ≡ dead → ⊥) × (old ≡ step → ⊥)
 
 -- a match was told before, and this one is the second
-pub record IsSecond (f : Final) (second : ℕ) (e : BuildError) : Type 0 where
+pub record IsSecond (f : Final) (second : ℕ) (stop : Stop) : Type 0 where
   pub first : ℕ
   pub told : f.pattern ≡ Some first
-  pub error : e ≡ Ambiguous (Match first second)
+  pub is : stop ≡ Match first second
 
 -- What the search keeps: the walks that were looked at, and those that are still to be.
 pub record IsWalking (j : Job) (entries : List ℕ) (c : Closure) : Type 0 where

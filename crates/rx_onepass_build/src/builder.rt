@@ -1,13 +1,14 @@
 //! How the table of a one-pass DFA is built.
-ghost use Rattle.std.specs.Prelude.{◌≡◌, ℕ, suc, ◌+◌, ◌*◌, ◌^◌, ◌<◌, ◌≤◌, true, List, [], length, map, All, IfOk, OnOk, IfErr, slice_index};
-ghost use Rattle.rx_search.specs.ByteClasses.{alphabet_len, class_count, IsLeastPower};
+ghost use Rattle.std.specs.Prelude.{◌≡◌, ℕ, suc, ◌+◌, ◌*◌, ◌^◌, ◌<◌, ◌≤◌, true, false, EachIndex, List, [], length, map, All, IfOk, OnOk, IfErr, Some, slice_get, slice_index};
+ghost use Rattle.rx_search.specs.ByteClasses.{AreClasses, alphabet_len, class_count, IsLeastPower};
 ghost use Rattle.rx_nfa.specs.Automaton.{state_at};
 ghost use Rattle.rx_nfa.specs.ByteClasses.{AreOfOneClass};
 ghost use Rattle.rx_nfa.specs.Ordered.{target};
-ghost use Rattle.rx_onepass_build.specs.Build.{IsBuiltOf, IsRefusalOf, IsAdmitted, IsInVain, IsMadeInVain, AreClassesFor, AreStarts, IsStartAt, start_count};
+ghost use Rattle.rx_onepass_build.specs.Build.{IsBuiltOf, IsRefusalOf, IsAdmitted, IsInVain, IsMadeInVain, AreStarts, IsStartAt, start_count};
 ghost use Rattle.rx_onepass_build.specs.Config.{overwritten, nothing_set};
 ghost use Rattle.rx_onepass_build.specs.Entries.{AreMet, AreEntries};
 ghost use Rattle.rx_onepass_build.specs.Filling.{IsJob};
+ghost use Rattle.rx_onepass_build.specs.Stop.{error_of};
 ghost use Rattle.rx_onepass_build.specs.Rows.{AreOf, AreFilled};
 ghost use Rattle.rx_onepass_build.specs.Settled.{LeadInside};
 ghost use Rattle.rx_onepass_build.specs.Finished.{IsFinished, IsTableFor};
@@ -21,6 +22,7 @@ use crate::entries::{Entries, Layout};
 use crate::job::Job;
 use crate::rows::{Rows, fill};
 use crate::settled::{Order, settle};
+use crate::stop::Stop;
 use rx_nfa::NFA;
 use rx_onepass_table::Table;
 use rx_search::{ByteClasses, Memory};
@@ -64,13 +66,18 @@ impl Builder {
         ensures refused { IfErr result (IsRefusalOf self.now.config nfa.now) }
     {
         admit(nfa)?;
-        make(alloc, nfa, &self.config)
+        match make(alloc, nfa, &self.config) {
+            Ok(built) => Ok(built),
+            Err(stop) => Err(stop.error()),
+        }
     }
 }
 
 /// The classes of the NFA, or one for each byte.
 fn classes_of(nfa: &NFA, shared: bool) -> ByteClasses
-    ensures are { AreClassesFor nfa.now shared result }
+    ensures own { shared ≡ true → result ≡ nfa.now.classes }
+    ensures single { shared ≡ false → EachIndex result (λ b. slice_index result b ≡ b) }
+    ensures classes { AreClasses result }
     ensures alike { (q b c : ℕ) → AreOfOneClass result b c → target (state_at nfa.now.states q) b ≡ target (state_at nfa.now.states q) c }
 {
     if shared {
@@ -87,27 +94,35 @@ fn start_count(nfa: &NFA, each: bool) -> usize
     if each { 1 + nfa.pattern_len() } else { 1 }
 }
 
-/// How many cells a row has.
-fn stride_of(classes: &ByteClasses) -> usize
-    ensures power { (stride2 : ℕ) × IsLeastPower (alphabet_len classes.now) stride2 × (result ≡ 2 ^ stride2) }
-    ensures narrow { result ≤ 512 }
-    ensures wide { class_count classes.now < result }
+/// How many cells a row has: 2 to this power.
+fn stride2_of(classes: &ByteClasses) -> usize
+    ensures power { IsLeastPower (alphabet_len classes.now) result }
+    ensures small { result ≤ 9 }
 {
     // That there are at most 257 is what this call ensures.
     let _len = classes.alphabet_len();
-    1 << classes.stride2()
+    classes.stride2()
+}
+
+/// How many cells a row has.
+fn stride_of(stride2: usize) -> usize
+    requires { stride2 ≤ 9 }
+    ensures power { result ≡ 2 ^ stride2 }
+    ensures narrow { result ≤ 512 }
+{
+    1 << stride2
 }
 
 /// The table of an NFA that was admitted, with its starts.
-fn make(alloc: Global, nfa: &NFA, config: &Config) -> Result<Built, BuildError>
+fn make(alloc: Global, nfa: &NFA, config: &Config) -> Result<Built, Stop>
     requires { IsAdmitted nfa.now }
     ensures built { IfOk result (IsBuiltOf config.now nfa.now) }
-    ensures refused { IfErr result (IsInVain config.now nfa.now) }
+    ensures refused { IfErr result (λ stop. IsInVain config.now nfa.now (error_of stop)) }
 {
     let classes = classes_of(nfa, config.get_byte_classes());
     let each = config.get_starts_for_each_pattern();
     let layout = Layout {
-        stride: stride_of(&classes),
+        stride: stride_of(stride2_of(&classes)),
         starts: start_count(nfa, each),
         limit: config.get_size_limit(),
     };
@@ -123,17 +138,13 @@ fn make(alloc: Global, nfa: &NFA, config: &Config) -> Result<Built, BuildError>
 }
 
 /// The table in this layout, with its starts.
-fn make_table(
-    alloc: Global,
-    job: &Job<'_>,
-    layout: Layout,
-) -> Result<Built, BuildError>
+fn make_table(alloc: Global, job: &Job<'_>, layout: Layout) -> Result<Built, Stop>
     requires job { IsJob job.now }
     requires narrow { layout.stride ≤ 512 }
     requires wide { class_count job.now.classes.now < layout.stride }
     requires starts { layout.starts ≤ 2 ^ 31 }
     ensures built { IfOk result (IsTableFor job.now layout) }
-    ensures refused { IfErr result (IsMadeInVain job.now.nfa.now job.now.each layout) }
+    ensures refused { IfErr result (λ stop. IsMadeInVain job.now.nfa.now job.now.each layout (error_of stop)) }
 {
     let states = job.nfa.states_len();
     let mut entries = Entries::new(alloc, layout, states)?;
@@ -146,11 +157,7 @@ fn make_table(
 }
 
 /// Appends the rows of the starts.
-fn push_starts(
-    job: &Job<'_>,
-    entries: &mut Entries,
-    starts: &mut Vec<usize>,
-) -> Result<(), BuildError>
+fn push_starts(job: &Job<'_>, entries: &mut Entries, starts: &mut Vec<usize>) -> Result<(), Stop>
     requires job { IsJob job.now }
     requires none { entries.old.items.items ≡ [] }
     requires empty { starts.old.items ≡ [] }
@@ -160,7 +167,7 @@ fn push_starts(
     ensures of { OnOk result (AreOf entries.old entries.new) }
     ensures are { OnOk result (AreEntries job.now.nfa.now job.now.each entries.new.items.items) }
     ensures starts { OnOk result (AreStarts job.now.nfa.now job.now.each entries.new.items.items starts.new.items) }
-    ensures err { IfErr result (IsMadeInVain job.now.nfa.now job.now.each entries.old.layout) }
+    ensures err { IfErr result (λ stop. IsMadeInVain job.now.nfa.now job.now.each entries.old.layout (error_of stop)) }
 {
     let common = entries.row_of(job.nfa.start_anchored())?;
     starts.push(common)?;
@@ -171,11 +178,7 @@ fn push_starts(
 }
 
 /// Appends the row of the start of each pattern.
-fn push_each(
-    job: &Job<'_>,
-    entries: &mut Entries,
-    starts: &mut Vec<usize>,
-) -> Result<(), BuildError>
+fn push_each(job: &Job<'_>, entries: &mut Entries, starts: &mut Vec<usize>) -> Result<(), Stop>
     requires job { IsJob job.now }
     requires each { job.now.each ≡ true }
     requires met { AreMet entries.old }
@@ -187,7 +190,7 @@ fn push_each(
     ensures of { OnOk result (AreOf entries.old entries.new) }
     ensures are { OnOk result (AreEntries job.now.nfa.now job.now.each entries.new.items.items) }
     ensures starts { OnOk result (AreStarts job.now.nfa.now job.now.each entries.new.items.items starts.new.items) }
-    ensures err { IfErr result (IsMadeInVain job.now.nfa.now job.now.each entries.old.layout) }
+    ensures err { IfErr result (λ stop. IsMadeInVain job.now.nfa.now job.now.each entries.old.layout (error_of stop)) }
 {
     let of_each = job.nfa.starts();
     for pattern in 0..of_each.len() {
@@ -213,6 +216,7 @@ fn finish(
     requires lead { LeadInside rows.now.steps.items (class_count job.now.classes.now) (length rows.now.finals.items) }
     requires len { length rows.now.steps.items ≡ length rows.now.finals.items * class_count job.now.classes.now }
     ensures built { IfOk result (λ b. (entries : List ℕ) → length entries ≡ length rows.now.finals.items
+        → ((k q : ℕ) → slice_get entries k ≡ Some q → q < length job.now.nfa.now.states)
         → AreFilled job.now entries rows.now.steps.items rows.now.finals.items
         → AreStarts job.now.nfa.now job.now.each entries starts.now
         → IsFinished job.now entries stride b) }

@@ -6,18 +6,18 @@ ghost use Rattle.rx_nfa.specs.Automaton.{state_at};
 ghost use Rattle.rx_nfa.specs.Ordered.{target};
 ghost use Rattle.rx_onepass_table.specs.Entry.{IsEntry, explicit_start};
 ghost use Rattle.rx_onepass_table.specs.Words.{Step, few_looks, slot_limit, no_match, no_pattern};
-ghost use Rattle.rx_onepass_build.specs.declared.build_error.NotOnePass.TheVariants.{State as Twice};
-ghost use Rattle.rx_onepass_build.specs.declared.build_error.BuildError.TheVariants.{NotOnePass as Ambiguous};
+ghost use Rattle.rx_onepass_build.specs.declared.stop.Stop.TheVariants.{State as Twice};
 ghost use Rattle.rx_onepass_build.specs.Build.{IsMadeInVain, IsOnePass};
 ghost use Rattle.rx_onepass_build.specs.Entries.{AreMet, Stays, AreEntries};
 ghost use Rattle.rx_onepass_build.specs.Told.{IsSmall, TellsPast, frame_at};
 ghost use Rattle.rx_onepass_build.specs.Tree.{IsTaken, GoesOn};
-ghost use Rattle.rx_onepass_build.specs.Filling.{IsJob, IsFilling, IsRowBy, IsToldBy, step_at};
+ghost use Rattle.rx_onepass_build.specs.Filling.{IsJob, IsFilling, IsRowBy, IsToldBy, no_step, step_at};
+ghost use Rattle.rx_onepass_build.specs.Stop.{error_of};
 ghost use Rattle.rx_onepass_build.specs.Rows.{IsWalking, IsFilled, AreOf, unmarked, IsReaderOn, IsPut, IsSecond};
 
-use crate::build_error::{BuildError, NotOnePass};
 use crate::entries::Entries;
 use crate::job::Job;
+use crate::stop::Stop;
 use rx_nfa::{State, matches_byte};
 use rx_onepass_table::{Epsilons, PatternEpsilons, Transition};
 use rx_search::{Memory, PatternID, StateID};
@@ -72,7 +72,7 @@ impl Closure {
         entries: &mut Entries,
         row: usize,
         entry: StateID,
-    ) -> Result<(), BuildError>
+    ) -> Result<(), Stop>
         requires job { IsJob job.now }
         requires entry { IsEntry job.now.nfa.now job.now.each entry }
         requires inside { entry < length job.now.nfa.now.states }
@@ -87,7 +87,7 @@ impl Closure {
         ensures marks { OnOk result (length self.new.marks.items ≡ length job.now.nfa.now.states) }
         ensures row { OnOk result ((q mark : ℕ) → slice_get self.new.marks.items q ≡ Some mark → mark ≤ row) }
         ensures filled { OnOk result (IsFilled job.now entries.new.items.items entry self.new.cells.items self.new.told) }
-        ensures err { IfErr result (IsMadeInVain job.now.nfa.now job.now.each entries.old.layout) }
+        ensures err { IfErr result (λ stop. IsMadeInVain job.now.nfa.now job.now.each entries.old.layout (error_of stop)) }
     {
         self.begin(job, row, entry)?;
         'walk: while self.advance(job, entries)? {}
@@ -108,14 +108,13 @@ impl Closure {
         self.entry = entry;
         self.told = PatternEpsilons::empty();
         self.cells.clear();
-        self.cells
-            .resize(job.bytes.len(), Transition::of_word(0))?;
+        self.cells.resize(job.bytes.len(), Transition::of_word(0))?;
         self.frames.clear();
         push_frame(&mut self.frames, entry, Epsilons::empty())
     }
 
     /// Looks at the next state; false where there is none.
-    fn advance(&mut self, job: &Job<'_>, entries: &mut Entries) -> Result<bool, BuildError>
+    fn advance(&mut self, job: &Job<'_>, entries: &mut Entries) -> Result<bool, Stop>
         requires job { IsJob job.now }
         requires inside { self.old.entry < length job.now.nfa.now.states }
         requires met { AreMet entries.old }
@@ -128,7 +127,7 @@ impl Closure {
         ensures more { IfOk result (λ more. more ≡ true → unmarked self.old.row self.new.marks.items < unmarked self.old.row self.old.marks.items) }
         ensures over { IfOk result (λ more. more ≡ false → self.new.frames.items ≡ []) }
         ensures walking { OnOk result (IsWalking job.now entries.new.items.items self.new) }
-        ensures err { IfErr result (IsMadeInVain job.now.nfa.now job.now.each entries.old.layout) }
+        ensures err { IfErr result (λ stop. IsMadeInVain job.now.nfa.now job.now.each entries.old.layout (error_of stop)) }
     {
         let Some(frame) = pop_frame(&mut self.frames) else {
             return Ok(false);
@@ -139,12 +138,7 @@ impl Closure {
     }
 
     /// Does what the state asks for: it goes on, or puts into the row what is told.
-    fn look_at(
-        &mut self,
-        job: &Job<'_>,
-        entries: &mut Entries,
-        frame: Frame,
-    ) -> Result<(), BuildError>
+    fn look_at(&mut self, job: &Job<'_>, entries: &mut Entries, frame: Frame) -> Result<(), Stop>
         requires job { IsJob job.now }
         requires inside { frame.state < length job.now.nfa.now.states }
         requires small { IsSmall frame.epsilons }
@@ -153,7 +147,7 @@ impl Closure {
         requires width { length self.old.cells.items ≡ class_count job.now.classes.now }
         ensures met { OnOk result (AreMet entries.new) }
         ensures of { OnOk result (AreOf entries.old entries.new) }
-        ensures marks { OnOk result (self.new.marks ≡ self.old.marks) }
+        ensures marks { OnOk result (self.new.marks.items ≡ self.old.marks.items) }
         ensures entry { OnOk result (self.new.entry ≡ self.old.entry) }
         ensures row { OnOk result (self.new.row ≡ self.old.row) }
         ensures on { OnOk result (GoesOn job.now.nfa.now frame (reverse self.old.frames.items) (reverse self.new.frames.items)) }
@@ -164,7 +158,7 @@ impl Closure {
             → IsToldBy job.now.nfa.now self.old.entry done self.old.told → IsToldBy job.now.nfa.now self.old.entry (way ∷ done) self.new.told) }
         ensures err { (done : List (List ℕ)) (way : List ℕ) → IsTaken job.now.nfa.now self.old.entry done way frame
             → IsToldBy job.now.nfa.now self.old.entry done self.old.told → IsRowBy job.now entries.old.items.items self.old.entry done self.old.cells.items
-            → IfErr result (IsMadeInVain job.now.nfa.now job.now.each entries.old.layout) }
+            → IfErr result (λ stop. IsMadeInVain job.now.nfa.now job.now.each entries.old.layout (error_of stop)) }
     {
         match job.nfa.state(frame.state) {
             State::ByteRange { .. } => self.read(job, entries, frame),
@@ -188,12 +182,7 @@ impl Closure {
     }
 
     /// Puts the steps of a state that reads into the row.
-    fn read(
-        &mut self,
-        job: &Job<'_>,
-        entries: &mut Entries,
-        frame: Frame,
-    ) -> Result<(), BuildError>
+    fn read(&mut self, job: &Job<'_>, entries: &mut Entries, frame: Frame) -> Result<(), Stop>
         requires job { IsJob job.now }
         requires inside { frame.state < length job.now.nfa.now.states }
         requires small { IsSmall frame.epsilons }
@@ -202,17 +191,17 @@ impl Closure {
         requires width { length self.old.cells.items ≡ class_count job.now.classes.now }
         ensures met { OnOk result (AreMet entries.new) }
         ensures of { OnOk result (AreOf entries.old entries.new) }
-        ensures marks { OnOk result (self.new.marks ≡ self.old.marks) }
+        ensures marks { OnOk result (self.new.marks.items ≡ self.old.marks.items) }
         ensures entry { OnOk result (self.new.entry ≡ self.old.entry) }
         ensures row { OnOk result (self.new.row ≡ self.old.row) }
-        ensures frames { OnOk result (self.new.frames ≡ self.old.frames) }
+        ensures frames { OnOk result (self.new.frames.items ≡ self.old.frames.items) }
         ensures told { OnOk result (self.new.told ≡ self.old.told) }
         ensures cells { OnOk result ((done : List (List ℕ)) (way : List ℕ) → IsTaken job.now.nfa.now self.old.entry done way frame
             → IsToldBy job.now.nfa.now self.old.entry done self.old.told → IsRowBy job.now entries.old.items.items self.old.entry done self.old.cells.items
             → IsRowBy job.now entries.new.items.items self.old.entry (way ∷ done) self.new.cells.items) }
         ensures err { (done : List (List ℕ)) (way : List ℕ) → IsTaken job.now.nfa.now self.old.entry done way frame
             → IsToldBy job.now.nfa.now self.old.entry done self.old.told → IsRowBy job.now entries.old.items.items self.old.entry done self.old.cells.items
-            → IfErr result (IsMadeInVain job.now.nfa.now job.now.each entries.old.layout) }
+            → IfErr result (λ stop. IsMadeInVain job.now.nfa.now job.now.each entries.old.layout (error_of stop)) }
     {
         let wins = self.told.pattern().is_some();
         let reader = Reader {
@@ -233,15 +222,30 @@ pub struct Reader {
     pub wins: bool,
 }
 
+/// Leaves no step in each of so many cells.
+fn clear_cells(cells: &mut Vec<Transition>, count: usize) -> Result<(), Memory>
+    requires { count < 2 ^ 63 }
+    ensures len { OnOk result (length cells.new.items ≡ count) }
+    ensures value { OnOk result ((k : ℕ) → k < count → step_at cells.new.items k ≡ no_step) }
+{
+    cells.clear();
+    let mut number = 0;
+    while number < count {
+        cells.push(Transition::of_word(0))?;
+        number += 1;
+    }
+    Ok(())
+}
+
 /// Marks the state as looked at for this row. One that was looked at before is refused.
-fn mark(marks: &mut Vec<usize>, row: usize, state: StateID) -> Result<(), BuildError>
+fn mark(marks: &mut Vec<usize>, row: usize, state: StateID) -> Result<(), Stop>
     requires { state < length marks.old.items }
     ensures marks { OnOk result (marks.new.items ≡ slice_set marks.old.items state row) }
     ensures new { OnOk result (slice_get marks.old.items state ≡ Some row → ⊥) }
-    ensures err { IfErr result (λ e. (e ≡ Ambiguous (Twice state)) × (slice_get marks.old.items state ≡ Some row)) }
+    ensures err { IfErr result (λ e. (e ≡ Twice state) × (slice_get marks.old.items state ≡ Some row)) }
 {
     if marks[state.as_usize()] == row {
-        return Err(BuildError::NotOnePass(NotOnePass::State { state }));
+        return Err(Stop::State { state });
     }
     marks[state.as_usize()] = row;
     Ok(())
@@ -281,22 +285,18 @@ fn push_frames(
 }
 
 /// Puts the match into the row. A second one is refused.
-fn accept(
-    told: &mut PatternEpsilons,
-    pattern: PatternID,
-    epsilons: Epsilons,
-) -> Result<(), BuildError>
+fn accept(told: &mut PatternEpsilons, pattern: PatternID, epsilons: Epsilons) -> Result<(), Stop>
     requires pattern { pattern < no_pattern }
     requires looks { epsilons.looks < 2 ^ 10 }
-    ensures none { OnOk result (told.old.pattern ≡ None) }
-    ensures told { OnOk result (told.new ≡ record { pattern = Some pattern; slots = epsilons.slots; looks = epsilons.looks }) }
+    ensures told { OnOk result ((told.old.pattern ≡ None) ×
+        (told.new ≡ record { pattern = Some pattern; slots = epsilons.slots; looks = epsilons.looks })) }
     ensures err { IfErr result (IsSecond told.old pattern) }
 {
     if let Some(first) = told.pattern() {
-        return Err(BuildError::NotOnePass(NotOnePass::Match {
+        return Err(Stop::Match {
             first,
             second: pattern,
-        }));
+        });
     }
     *told = PatternEpsilons::new(pattern, epsilons);
     Ok(())
@@ -308,7 +308,7 @@ fn add_steps(
     entries: &mut Entries,
     reader: &Reader,
     cells: &mut Vec<Transition>,
-) -> Result<(), BuildError>
+) -> Result<(), Stop>
     requires job { IsJob job.now }
     requires inside { reader.now.frame.state < length job.now.nfa.now.states }
     requires small { IsSmall reader.now.frame.epsilons }
@@ -322,7 +322,7 @@ fn add_steps(
         → IsFilling job.now entries.new.items.items reader.now.entry done (way ∷ done) (class_count job.now.classes.now) cells.new.items) }
     ensures err { (done : List (List ℕ)) (way : List ℕ) → IsReaderOn job.now reader.now way
         → IsRowBy job.now entries.old.items.items reader.now.entry done cells.old.items
-        → IfErr result (IsMadeInVain job.now.nfa.now job.now.each entries.old.layout) }
+        → IfErr result (λ stop. IsMadeInVain job.now.nfa.now job.now.each entries.old.layout (error_of stop)) }
 {
     for class in 0..job.bytes.len() {
         add_step(job, entries, reader, class, cells)?;
@@ -337,7 +337,7 @@ fn add_step(
     reader: &Reader,
     class: usize,
     cells: &mut Vec<Transition>,
-) -> Result<(), BuildError>
+) -> Result<(), Stop>
     requires job { IsJob job.now }
     requires inside { reader.now.frame.state < length job.now.nfa.now.states }
     requires small { IsSmall reader.now.frame.epsilons }
@@ -353,7 +353,7 @@ fn add_step(
         → IsFilling job.now entries.new.items.items reader.now.entry done (way ∷ done) (class + 1) cells.new.items) }
     ensures err { (done : List (List ℕ)) (way : List ℕ) → IsReaderOn job.now reader.now way
         → IsFilling job.now entries.old.items.items reader.now.entry done (way ∷ done) class cells.old.items
-        → IfErr result (IsMadeInVain job.now.nfa.now job.now.each entries.old.layout) }
+        → IfErr result (λ stop. IsMadeInVain job.now.nfa.now job.now.each entries.old.layout (error_of stop)) }
 {
     let byte = job.bytes[class];
     let frame = reader.frame;
@@ -365,10 +365,10 @@ fn add_step(
     if add(cells, class, step) {
         return Ok(());
     }
-    Err(BuildError::NotOnePass(NotOnePass::Transition {
+    Err(Stop::Transition {
         state: reader.entry,
         byte,
-    }))
+    })
 }
 
 /// Puts the step into the cell, where none stands there. False where another one does.

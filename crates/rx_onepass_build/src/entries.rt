@@ -2,8 +2,9 @@
 ghost use Rattle.std.specs.Prelude.{◌≡◌, ℕ, suc, ◌^◌, ◌<◌, ◌≤◌, IfOk, OnOk, IfErr, Some, length, [], slice_get};
 ghost use Rattle.rx_onepass_table.specs.Rows.{IsRowOf};
 ghost use Rattle.rx_onepass_build.specs.Entries.{AreMet, Grows, HasNoRoom, IsFull, IsWithin, state_limit, size_of};
+ghost use Rattle.rx_onepass_build.specs.Stop.{error_of};
 
-use crate::build_error::BuildError;
+use crate::stop::Stop;
 use rx_search::StateID;
 use std::alloc::Global;
 
@@ -46,48 +47,48 @@ fn size_of(layout: &Layout, rows: usize) -> usize
 }
 
 /// Refuses a table of so many rows, where there are too many or its size is above the limit.
-fn admit(layout: &Layout, rows: usize) -> Result<(), BuildError>
+fn admit(layout: &Layout, rows: usize) -> Result<(), Stop>
     requires rows { rows ≤ suc state_limit }
     requires narrow { layout.now.stride ≤ 512 }
     requires few_starts { layout.now.starts ≤ 2 ^ 31 }
     ensures few { OnOk result (rows ≤ state_limit) }
     ensures within { OnOk result (IsWithin layout.now rows) }
-    ensures err { IfErr result (IsFull layout.now rows) }
+    ensures err { IfErr result (λ stop. IsFull layout.now rows (error_of stop)) }
 {
     if rows > STATE_LIMIT {
-        return Err(BuildError::TooManyStates { limit: STATE_LIMIT });
+        return Err(Stop::TooManyStates { limit: STATE_LIMIT });
     }
     admit_size(layout, rows)
 }
 
 /// Refuses a table of so many rows, where its size is above the limit.
-fn admit_size(layout: &Layout, rows: usize) -> Result<(), BuildError>
+fn admit_size(layout: &Layout, rows: usize) -> Result<(), Stop>
     requires rows { rows ≤ suc state_limit }
     requires narrow { layout.now.stride ≤ 512 }
     requires few_starts { layout.now.starts ≤ 2 ^ 31 }
     ensures within { OnOk result (IsWithin layout.now rows) }
-    ensures err { IfErr result (IsFull layout.now rows) }
+    ensures err { IfErr result (λ stop. IsFull layout.now rows (error_of stop)) }
 {
     let Some(limit) = layout.limit else {
         return Ok(());
     };
     let size = size_of(layout, rows);
     if size > limit {
-        return Err(BuildError::ExceededSizeLimit { limit, size });
+        return Err(Stop::ExceededSizeLimit { limit, size });
     }
     Ok(())
 }
 
 impl Entries {
     /// No entry was met yet, of an NFA of so many states.
-    pub fn new(alloc: Global, layout: Layout, states: usize) -> Result<Entries, BuildError>
+    pub fn new(alloc: Global, layout: Layout, states: usize) -> Result<Entries, Stop>
         requires narrow { layout.stride ≤ 512 }
         requires few_starts { layout.starts ≤ 2 ^ 31 }
         ensures met { IfOk result AreMet }
         ensures none { IfOk result (λ e. e.items.items ≡ []) }
         ensures layout { IfOk result (λ e. e.layout ≡ layout) }
         ensures states { IfOk result (λ e. length e.numbers.items ≡ states) }
-        ensures err { IfErr result (IsFull layout 1) }
+        ensures err { IfErr result (λ stop. IsFull layout 1 (error_of stop)) }
     {
         admit(&layout, 1)?;
         let items = Vec::new(alloc);
@@ -100,14 +101,14 @@ impl Entries {
     }
 
     /// The row of this state of the NFA. One that was not met before gets a row.
-    pub fn row_of(&mut self, state: StateID) -> Result<usize, BuildError>
+    pub fn row_of(&mut self, state: StateID) -> Result<usize, Stop>
         requires met { AreMet self.old }
         requires state { state < length self.old.numbers.items }
         ensures met { OnOk result (AreMet self.new) }
         ensures row { IfOk result (λ row. IsRowOf self.new.items.items row state) }
         ensures small { IfOk result (λ row. row < state_limit) }
         ensures grows { OnOk result (Grows self.old self.new state) }
-        ensures err { IfErr result (HasNoRoom self.old state) }
+        ensures err { IfErr result (λ stop. HasNoRoom self.old state (error_of stop)) }
     {
         let row = self.numbers[state.as_usize()];
         if row > 0 {
@@ -117,14 +118,14 @@ impl Entries {
     }
 
     /// One more row, of a state that has none.
-    fn push(&mut self, state: StateID) -> Result<usize, BuildError>
+    fn push(&mut self, state: StateID) -> Result<usize, Stop>
         requires met { AreMet self.old }
         requires new { slice_get self.old.numbers.items state ≡ Some 0 }
         ensures met { OnOk result (AreMet self.new) }
         ensures row { IfOk result (λ row. IsRowOf self.new.items.items row state) }
         ensures small { IfOk result (λ row. row < state_limit) }
         ensures grows { OnOk result (Grows self.old self.new state) }
-        ensures err { IfErr result (HasNoRoom self.old state) }
+        ensures err { IfErr result (λ stop. HasNoRoom self.old state (error_of stop)) }
     {
         let row = self.items.len() + 1;
         admit(&self.layout, row + 1)?;

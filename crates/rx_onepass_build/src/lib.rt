@@ -14,6 +14,7 @@ mod job;
 mod laws;
 mod rows;
 mod settled;
+mod stop;
 
 pub use admit::SLOT_LIMIT;
 pub use build_error::{BuildError, NotOnePass};

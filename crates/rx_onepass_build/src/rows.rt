@@ -3,12 +3,13 @@ ghost use Rattle.std.specs.Prelude.{◌≡◌, ℕ, ◌+◌, ◌<◌, ◌≤◌,
 ghost use Rattle.rx_onepass_build.specs.Build.{IsMadeInVain};
 ghost use Rattle.rx_onepass_build.specs.Entries.{AreMet, AreEntries};
 ghost use Rattle.rx_onepass_build.specs.Filling.{IsJob};
+ghost use Rattle.rx_onepass_build.specs.Stop.{error_of};
 ghost use Rattle.rx_onepass_build.specs.Rows.{AreOf, AreFilled};
 
-use crate::build_error::BuildError;
 use crate::closure::Closure;
 use crate::entries::Entries;
 use crate::job::Job;
+use crate::stop::Stop;
 use rx_onepass_table::{PatternEpsilons, Transition};
 use rx_search::Memory;
 use std::alloc::Global;
@@ -50,7 +51,7 @@ pub fn fill(
     closure: &mut Closure,
     entries: &mut Entries,
     rows: &mut Rows,
-) -> Result<(), BuildError>
+) -> Result<(), Stop>
     requires job { IsJob job.now }
     requires met { AreMet entries.old }
     requires numbers { length entries.old.numbers.items ≡ length job.now.nfa.now.states }
@@ -62,7 +63,7 @@ pub fn fill(
     ensures of { OnOk result (AreOf entries.old entries.new) }
     ensures are { OnOk result (AreEntries job.now.nfa.now job.now.each entries.new.items.items) }
     ensures filled { OnOk result (AreFilled job.now entries.new.items.items rows.new.steps.items rows.new.finals.items) }
-    ensures err { IfErr result (IsMadeInVain job.now.nfa.now job.now.each entries.old.layout) }
+    ensures err { IfErr result (λ stop. IsMadeInVain job.now.nfa.now job.now.each entries.old.layout (error_of stop)) }
     ensures all { OnOk result (length rows.new.finals.items ≡ length entries.new.items.items) }
 {
     'rows: while fill_next(job, closure, entries, rows)? {}
@@ -75,7 +76,7 @@ fn fill_next(
     closure: &mut Closure,
     entries: &mut Entries,
     rows: &mut Rows,
-) -> Result<bool, BuildError>
+) -> Result<bool, Stop>
     requires job { IsJob job.now }
     requires met { AreMet entries.old }
     requires numbers { length entries.old.numbers.items ≡ length job.now.nfa.now.states }
@@ -87,7 +88,7 @@ fn fill_next(
     ensures of { OnOk result (AreOf entries.old entries.new) }
     ensures are { OnOk result (AreEntries job.now.nfa.now job.now.each entries.new.items.items) }
     ensures filled { OnOk result (AreFilled job.now entries.new.items.items rows.new.steps.items rows.new.finals.items) }
-    ensures err { IfErr result (IsMadeInVain job.now.nfa.now job.now.each entries.old.layout) }
+    ensures err { IfErr result (λ stop. IsMadeInVain job.now.nfa.now job.now.each entries.old.layout (error_of stop)) }
     ensures marks { OnOk result (length closure.new.marks.items ≡ length job.now.nfa.now.states) }
     ensures row { OnOk result ((q mark : ℕ) → slice_get closure.new.marks.items q ≡ Some mark → mark ≤ length rows.new.finals.items) }
     ensures more { IfOk result (λ more. more ≡ true → length rows.new.finals.items ≡ length rows.old.finals.items + 1) }

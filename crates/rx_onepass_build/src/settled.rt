@@ -130,7 +130,14 @@ pub fn settle(
     let mut cells = Vec::new(alloc);
     for row in 0..order.before.len() {
         let before = order.before[row];
-        push_row(rows, order.after.as_slice(), classes, stride, before, &mut cells)?;
+        push_row(
+            rows,
+            order.after.as_slice(),
+            classes,
+            stride,
+            before,
+            &mut cells,
+        )?;
     }
     Ok(cells)
 }

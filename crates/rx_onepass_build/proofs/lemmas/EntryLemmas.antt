@@ -1,7 +1,8 @@
 -- One entry more.
-use Rattle.std.proofs.Common.{◌≡◌, ◌≢◌, ◌⊎◌, ℕ, zero, suc, ◌+◌, ◌<◌, ◌≤◌, ◌==◌, List, [], ◌∷◌, ◌++◌, length, refl, sym, ◌∙◌, ap, subst, inl, inr, ⊎_elim, arith}
+use Rattle.std.proofs.Common.{◌≡◌, ◌≢◌, ◌⊎◌, ℕ, zero, suc, ◌+◌, ◌-◌, ◌<◌, ◌≤◌, ◌==◌, List, [], ◌∷◌, ◌++◌, length, get_or, refl, sym, ◌∙◌, ap, subst, inl, inr, ⊎_elim, arith}
 use Rattle.std.specs.Prelude.{Bool, Option, Some, None, slice_get, slice_set}
 use Rattle.std.proofs.lemmas.Bool.Decides.{nat_tests}
+use Rattle.std.proofs.lemmas.Option.{slice_get-get_or}
 use Rattle.rx_model.proofs.lemmas.runs.RunLemmas.{by_test}
 use Rattle.rx_model.proofs.lemmas.runs.FirstLemmas.{none-is-some, some-is}
 use Rattle.rx_nfa.specs.Nfa.{Nfa}
@@ -110,13 +111,15 @@ no-room nfa each e q (TooManyPatterns limit) met all is h = h.full
 no-room nfa each e q (TooManyStates limit) met all is h =
     let rows = h.full.1 in
     (h.full.0, one-more nfa each e.items.items e.numbers.items q state_limit met.numbered h.new all is (omega arith))
-no-room nfa each e q (ExceededSizeLimit limit size) met all is h =
-    (h.full.0, record {
-      entries = suc (length e.items.items);
-      has_entries = one-more nfa each e.items.items e.numbers.items q (suc (length e.items.items)) met.numbered h.new all is refl;
-      size_is = h.full.1;
-      above = h.full.2;
-    })
+no-room nfa each e q (ExceededSizeLimit limit size) met all is h = (
+  h.full.0,
+  record {
+    entries = suc (length e.items.items);
+    has_entries = one-more nfa each e.items.items e.numbers.items q (suc (length e.items.items)) met.numbered h.new all is refl;
+    size_is = h.full.1;
+    above = h.full.2;
+  },
+)
 no-room nfa each e q (NotOnePass cause) met all is h = absurd h.full
 no-room nfa each e q Memory met all is h = tt
 
@@ -132,3 +135,30 @@ of-of a b c f g = record {
 
 pub grows-of : (a b : Entries) (q : ℕ) → Grows a b q → AreOf a b
 grows-of a b q g = record { stays = g.stays; layout = g.layout; states = g.states }
+
+-- What is read of the numbers.
+
+number-read : (numbers : List ℕ) (q place row : ℕ) → q < length numbers → place ≡ q → row ≡ get_or numbers place row → slice_get numbers q ≡ Some row
+number-read numbers q place row lt is read =
+    slice_get-get_or numbers q row lt ∙ ap (λ i. Some (get_or numbers i row)) (sym is) ∙ ap Some (sym read)
+
+pub row-found : (entries numbers : List ℕ) (q place row : ℕ) → AreNumbered entries numbers → q < length numbers → place ≡ q → row ≡ get_or numbers place row
+    → 0 < row → IsRowOf entries row q
+row-found entries numbers q place row are lt is read some =
+    let same : suc (row - 1) ≡ row = omega arith in
+    record {
+      before = row - 1;
+      row_is = sym same;
+      there = are.back (row - 1) q (number-read numbers q place row lt is read ∙ ap Some (sym same));
+    }
+
+pub row-small : (e : Entries) (row q : ℕ) → AreMet e → IsRowOf e.items.items row q → row < state_limit
+row-small e row q met r =
+    let is = r.row_is in
+    let few = met.few in
+    let within = get-within e.items.items r.before q r.there in
+    omega arith
+
+pub row-none : (numbers : List ℕ) (q place row : ℕ) → q < length numbers → place ≡ q → row ≡ get_or numbers place row → row ≤ 0 → slice_get numbers q ≡ Some 0
+row-none numbers q place row lt is read none =
+    let zero-row : row ≡ 0 = omega arith in number-read numbers q place row lt is read ∙ ap Some zero-row

@@ -47,22 +47,24 @@ step-alike nfa entries entry byte s h c =
 
     write : (slot : ℕ) → explicit_start nfa ≤ slot → Contains (written_on nfa.states entry c.one) slot ↔ Contains (written_on nfa.states entry c.other) slot
     write slot le =
-        let k : explicit_start nfa + (slot - explicit_start nfa) ≡ slot = omega arith in
-        ((λ m.
-        let bit = ((h.slots c.one c.next c.reads).all (slot - explicit_start nfa)
-        (subst (λ x. Contains (written_on nfa.states entry c.one) x) (sym k) m)).1 in
-        subst (λ x. Contains (written_on nfa.states entry c.other) x) k
-        ((h.slots c.other c.next_too c.reads_too).told (slot - explicit_start nfa) bit)),
-        (λ m.
-        let bit = ((h.slots c.other c.next_too c.reads_too).all (slot - explicit_start nfa)
-        (subst (λ x. Contains (written_on nfa.states entry c.other) x) (sym k) m)).1 in
-        subst (λ x. Contains (written_on nfa.states entry c.one) x) k
-        ((h.slots c.one c.next c.reads).told (slot - explicit_start nfa) bit)))
+        let k : explicit_start nfa + (slot - explicit_start nfa) ≡ slot = omega arith in (
+          (λ m.
+              let bit = ((h.slots c.one c.next c.reads).all (slot - explicit_start nfa)
+              (subst (λ x. Contains (written_on nfa.states entry c.one) x) (sym k) m)).1 in
+              subst (λ x. Contains (written_on nfa.states entry c.other) x) k
+              ((h.slots c.other c.next_too c.reads_too).told (slot - explicit_start nfa) bit)),
+          (λ m.
+              let bit = ((h.slots c.other c.next_too c.reads_too).all (slot - explicit_start nfa)
+              (subst (λ x. Contains (written_on nfa.states entry c.other) x) (sym k) m)).1 in
+              subst (λ x. Contains (written_on nfa.states entry c.one) x) k
+              ((h.slots c.one c.next c.reads).told (slot - explicit_start nfa) bit)),
+        )
 
     ask : (kind : _) → Contains (asked_on nfa.states entry c.one) kind ↔ Contains (asked_on nfa.states entry c.other) kind
-    ask kind =
-        ((λ m. (h.looks c.other c.next_too c.reads_too).told kind ((h.looks c.one c.next c.reads).all kind m).1),
-        (λ m. (h.looks c.one c.next c.reads).told kind ((h.looks c.other c.next_too c.reads_too).all kind m).1))
+    ask kind = (
+      (λ m. (h.looks c.other c.next_too c.reads_too).told kind ((h.looks c.one c.next c.reads).all kind m).1),
+      (λ m. (h.looks c.one c.next c.reads).told kind ((h.looks c.other c.next_too c.reads_too).all kind m).1),
+    )
 
     out : IsOutdone nfa entry c.one → IsOutdone nfa entry c.other
     out o = (h.wins c.other c.next_too c.reads_too).0 ((h.wins c.one c.next c.reads).1 o)

@@ -217,3 +217,41 @@ table-whole j steps finals before after stride least cells classes wide few orde
         subst (λ (s : Step). s.target < suc (length finals)) (sym ((are row lt).steps_are column inside))
         (order.inverse.above (step_before steps (class_count j.classes.now) (slice_index before row) column).target
         (step-lead (slice_index before row) column (order.inverse.below row lt) inside))
+
+-- the table of these rows
+pub finished : (j : Job) (entries : List ℕ) (steps : List Step) (finals : List Final) (before after starts : List ℕ) (stride least rows : ℕ) (cells : List ℕ)
+    (b : Built) → AreClasses j.classes.now → IsOrder finals before after least → length entries ≡ length finals
+    → ((k q : ℕ) → slice_get entries k ≡ Some q → q < length j.nfa.now.states) → AreFilled j entries steps finals
+    → AreStarts j.nfa.now j.each entries starts
+    → ((k : ℕ) → k < suc (length finals) → AreCellsOf steps finals after (class_count j.classes.now) (slice_index before k) cells (k * stride))
+    → rows ≡ suc (length finals)
+    → b.table ≡ record { classes = j.classes.now; stride = stride; cells = cells; rows = rows; least_match = least }
+    → b.starts.items ≡ map (slice_index after) starts → IsFinished j entries stride b
+finished j entries steps finals before after starts stride least rows cells b classes order count inside filled begun are rows_are table_is starts_are = record {
+  settled = settled-entries entries before after h order.first;
+  count = settled-length entries before after h order.first;
+  kept = λ k q e.
+      (let r = row-settled entries before after h order.first (suc k) q (record { before = k; row_is = refl; there = e }) in (r.before, r.there));
+  own = λ i q e.
+      (let o = settled-row entries before after h order.first (suc i) q (record { before = i; row_is = refl; there = e }) in (o.is.before, o.is.there));
+  table =
+      subst (λ t. IsTableOf j.nfa.now (settled-entries entries before after h order.first) t) (sym same)
+      (table-settled entries before after h order.first j steps finals stride least cells classes inside filled (sym count)
+      (λ k lt. are k (omega arith)));
+  rows = ap (λ (t : TableValue). t.rows) same;
+  stride_is = ap (λ (t : TableValue). t.stride) same;
+  classes = ap (λ (t : TableValue). t.classes) same;
+  starts =
+      subst (λ xs. AreStarts j.nfa.now j.each (settled-entries entries before after h order.first) xs) (sym starts_are)
+      (starts-settled entries before after h order.first j.nfa.now j.each starts begun);
+  one_pass = λ k q e. (let lt = get-within entries k q e in (filled.rows k q (omega arith) e).one_pass);
+}
+  where
+    h : AreInverse (suc (length entries)) before after
+    h = subst (λ n. AreInverse (suc n) before after) (sym count) order.inverse
+
+    same : b.table ≡ record { classes = j.classes.now; stride = stride; cells = cells; rows = suc (length entries); least_match = least }
+    same =
+        table_is
+        ∙ ap (λ n. record { classes = j.classes.now; stride = stride; cells = cells; rows = n; least_match = least })
+        (rows_are ∙ ap suc (sym count))

@@ -105,13 +105,14 @@ among-going way k (suc n) other m =
 pub going-in_order : (way : List ℕ) (k n : ℕ) (ways : List (List ℕ)) → AreInOrder ways
     → ((other : List ℕ) → Contains ways other → IsPreferred way other) → AreInOrder (going_on way k n ++ ways)
 going-in_order way k zero ways order before = order
-going-in_order way k (suc n) ways order before =
-    ((λ other m.
-    ⊎_elim
-    (λ here.
-    let g = among-going way (suc k) n other here in
-    let low = g.low in
-    subst (λ x. IsPreferred (way ++ k ∷ []) x) g.is (preferred-children way k g.choice (omega arith)))
-    (λ there. preferred-left way (k ∷ []) other (before other there))
-    (either-among (going_on way (suc k) n) ways other m)),
-    going-in_order way (suc k) n ways order before)
+going-in_order way k (suc n) ways order before = (
+  (λ other m.
+      ⊎_elim
+      (λ here.
+      let g = among-going way (suc k) n other here in
+      let low = g.low in
+      subst (λ x. IsPreferred (way ++ k ∷ []) x) g.is (preferred-children way k g.choice (omega arith)))
+      (λ there. preferred-left way (k ∷ []) other (before other there))
+      (either-among (going_on way (suc k) n) ways other m)),
+  going-in_order way (suc k) n ways order before,
+)

@@ -4,6 +4,7 @@ use Rattle.std.specs.Prelude.{Bool, Option, Some, None, slice_get, slice_index_o
 use Rattle.std.proofs.lemmas.Bool.Decides.{nat_tests}
 use Rattle.std.proofs.lemmas.List.{get_or_append_left, get_or-append-add}
 use Rattle.std.proofs.lemmas.Nat.{mul-add-lt}
+use Rattle.std.proofs.Math.Nat.{suc-mul}
 use Rattle.rx_model.proofs.lemmas.runs.RunLemmas.{by_test}
 use Rattle.rx_model.proofs.lemmas.runs.FirstLemmas.{none-is-some, some-is}
 use Rattle.rx_search.specs.ByteClasses.{AreClasses, AreRepresentatives, class_count}
@@ -91,7 +92,7 @@ module _ (j : Job) (classes : AreClasses j.classes.now) (old new : List ℕ) (st
   }
     where
       next : length finals * class_count j.classes.now + class_count j.classes.now ≡ suc (length finals) * class_count j.classes.now
-      next = omega arith
+      next = sym (suc-mul (length finals) (class_count j.classes.now))
 
       rows : (k e : ℕ) → k < length (finals ++ told ∷ []) → slice_get new k ≡ Some e → IsRowAt j new e k (steps ++ cells) (finals ++ told ∷ [])
       rows k e lt is =

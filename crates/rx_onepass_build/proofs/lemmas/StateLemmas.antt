@@ -48,9 +48,10 @@ tells-look : (nfa : Nfa) (look : LookKind) (next : ℕ) (e later : Epsilons) →
     → ((k : ℕ) → bit_at later.looks k ≡ (if k == look_number (kind_of look) then 1 else bit_at e.looks k)) → look_number (kind_of look) < few_looks
     → IsSmall e → later.looks < 2 ^ 10 → TellsPast nfa (Look look next) e later
 tells-look nfa look next e later slots bits few small fits = record {
-  slots = λ k.
-      ((λ bit. inl (ap (λ n. bit_at n k) (sym slots) ∙ bit)),
-      (λ either. ⊎_elim (λ bit. ap (λ n. bit_at n k) slots ∙ bit) (λ w. none-is-some w) either));
+  slots = λ k. (
+    (λ bit. inl (ap (λ n. bit_at n k) (sym slots) ∙ bit)),
+    (λ either. ⊎_elim (λ bit. ap (λ n. bit_at n k) slots ∙ bit) (λ w. none-is-some w) either),
+  );
   few_slots = λ k w. none-is-some w;
   looks = λ kind. (to kind, back kind);
   few = λ kind a. subst (λ x. look_number x < few_looks) (some-is a) few;
@@ -85,9 +86,10 @@ tells-slot : (nfa : Nfa) (next pattern slot : ℕ) (e later : Epsilons) → late
 tells-slot nfa next pattern slot e later looks bits few small fits = record {
   slots = λ k. (to k, back k);
   few_slots = λ k w. (let is = some-is w in omega arith);
-  looks = λ kind.
-      ((λ bit. inl (ap (λ n. bit_at n (look_number kind)) (sym looks) ∙ bit)),
-      (λ either. ⊎_elim (λ bit. ap (λ n. bit_at n (look_number kind)) looks ∙ bit) (λ a. none-is-some a) either));
+  looks = λ kind. (
+    (λ bit. inl (ap (λ n. bit_at n (look_number kind)) (sym looks) ∙ bit)),
+    (λ either. ⊎_elim (λ bit. ap (λ n. bit_at n (look_number kind)) looks ∙ bit) (λ a. none-is-some a) either),
+  );
   few = λ kind a. none-is-some a;
   small = record { slots = fits; looks = subst (λ n. n < 2 ^ 10) (sym looks) small.looks };
 }

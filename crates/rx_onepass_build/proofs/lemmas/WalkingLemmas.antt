@@ -86,7 +86,7 @@ module _ (j : Job) (entries : List ℕ) (c : Closure) (w : IsWalking j entries c
 -- nothing was looked at
 pub walking-start : (j : Job) (entries : List ℕ) (c : Closure) (f : Frame) → IsEntry j.nfa.now j.each c.entry → AreEntries j.nfa.now j.each entries
     → reverse c.frames.items ≡ f ∷ [] → f.state ≡ c.entry → f.epsilons ≡ record { slots = 0; looks = 0 } → c.told ≡ no_match
-    → length c.cells.items ≡ class_count j.classes.now → ((k : ℕ) → step_at c.cells.items k ≡ no_step)
+    → length c.cells.items ≡ class_count j.classes.now → ((k : ℕ) → k < class_count j.classes.now → step_at c.cells.items k ≡ no_step)
     → length c.marks.items ≡ length j.nfa.now.states → ((q mark : ℕ) → slice_get c.marks.items q ≡ Some mark → mark < c.row) → IsWalking j entries c
 walking-start j entries c f is are frames state nothing told width cells len marks = record {
   done = [];
@@ -99,7 +99,7 @@ walking-start j entries c f is are frames state nothing told width cells len mar
     width = width;
     below = λ k lt less. absurd (omega arith);
     rest = λ k lt le.
-        subst (λ s. IsCell j.nfa.now j.classes.now entries c.entry [] k s) (sym (cells k))
+        subst (λ s. IsCell j.nfa.now j.classes.now entries c.entry [] k s) (sym (cells k lt))
         (record { there = λ byte small same live. absurd (live refl); steps = λ byte way next small same m r. absurd (none-among way m) });
   };
   told = subst (λ t. IsToldBy j.nfa.now c.entry [] t) (sym told) (record {

@@ -2,7 +2,7 @@
 use Rattle.std.proofs.Common.{◌≡◌, ◌↔◌, ◌⊎◌, ℕ, zero, suc, ◌+◌, ◌<◌, List, [], ◌∷◌, ◌++◌, length, get_or, refl, sym, ◌∙◌, ap, subst, inl, inr, ⊎_elim, arith}
 use Rattle.std.specs.Prelude.{true, All, Option, Some, None, Contains, map, option_to_list, slice_index_or}
 use Rattle.std.specs.Int.{bit_at}
-use Rattle.std.proofs.Math.Seq.{append_assoc}
+use Rattle.std.proofs.Common.{append_assoc}
 use Rattle.std.proofs.lemmas.List.Elements.{All-get_or}
 use Rattle.std.proofs.lemmas.Nat.Bits.{bit_at-zero}
 use Rattle.rx_model.specs.Look.{Look, look_number}
@@ -155,7 +155,8 @@ module _ (nfa : Nfa) (entry : ℕ) where
       → ((j q : ℕ) → j < length targets → get_or targets j q ≡ q → IsWay nfa entry (way ++ (k + j) ∷ []) (frame_at later (get_or targets j q)))
       → AreWays nfa entry fs ways → AreWays nfa entry (map (frame_at later) targets ++ fs) (going_on way k (length targets) ++ ways)
   ways-next way later k [] fs ways each are = are
-  ways-next way later k (t ∷ targets) fs ways each are =
-      (subst (λ i. IsWay nfa entry (way ++ i ∷ []) (frame_at later t)) (omega arith) (each 0 t (omega arith) refl),
-      ways-next way later (suc k) targets fs ways
-      (λ j q lt e. subst (λ i. IsWay nfa entry (way ++ i ∷ []) (frame_at later (get_or targets j q))) (omega arith) (each (suc j) q (omega arith) e)) are)
+  ways-next way later k (t ∷ targets) fs ways each are = (
+    subst (λ i. IsWay nfa entry (way ++ i ∷ []) (frame_at later t)) (omega arith) (each 0 t (omega arith) refl),
+    ways-next way later (suc k) targets fs ways
+        (λ j q lt e. subst (λ i. IsWay nfa entry (way ++ i ∷ []) (frame_at later (get_or targets j q))) (omega arith) (each (suc j) q (omega arith) e)) are,
+  )

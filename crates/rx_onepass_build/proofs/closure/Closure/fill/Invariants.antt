@@ -7,10 +7,10 @@ abbrev pub invariant-walk : goal.invariant-walk
 invariant-walk l = record {
   met : AreMet l.entries;
   of : AreOf l.fn.entries l.entries;
-  entry : l.self.entry ≡ l.entry;
-  row : l.self.row ≡ l.row;
+  entry : l.self.entry ≡ l.fn.entry;
+  row : l.self.row ≡ l.fn.row;
   walking : IsWalking l.job l.entries.items.items l.self;
 }
 
 abbrev pub decreases-walk : goal.decreases-walk
-decreases-walk l = unmarked l.row l.self.marks.items
+decreases-walk l = unmarked l.fn.row l.self.marks.items
