@@ -13,4 +13,5 @@ pub mod StepLemmas
 pub mod RowsLemmas
 pub mod SwapLemmas
 pub mod FinishLemmas
+pub mod StartLemmas
 pub mod BuildLemmas

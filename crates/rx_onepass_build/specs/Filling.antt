@@ -1,6 +1,6 @@
 -- A row in the making: its cells are those of the walks that were looked at.
 use Rattle.std.specs.Prelude.{◌≡◌, ◌↔◌, ℕ, ◌^◌, ◌<◌, ◌≤◌, Bool, false, List, [], ◌∷◌, length, Option, Some, IfSome, IsTrue, Contains, slice_index, slice_index_or}
-use Rattle.rx_search.specs.ByteClasses.{class_count, AreRepresentatives}
+use Rattle.rx_search.specs.ByteClasses.{AreClasses, class_count, AreRepresentatives}
 use Rattle.rx_nfa.specs.Automaton.{state_at}
 use Rattle.rx_nfa.specs.ByteClasses.{AreOfOneClass}
 use Rattle.rx_nfa.specs.Nfa.{Nfa, IsInRange}
@@ -16,6 +16,7 @@ use Rattle.rx_onepass_build.specs.declared.job.Job.{Job}
 pub record IsJob (j : Job) : Type 0 where
   pub in_range : IsInRange j.nfa.now
   pub admitted : IsAdmitted j.nfa.now
+  pub classes : AreClasses j.classes.now
   pub bytes : AreRepresentatives j.classes.now j.bytes.now
   pub alike : (q b c : ℕ) → AreOfOneClass j.classes.now b c → target (state_at j.nfa.now.states q) b ≡ target (state_at j.nfa.now.states q) c
   pub first : j.explicit_start ≡ explicit_start j.nfa.now

@@ -119,19 +119,27 @@ fn make(alloc: Global, nfa: &NFA, config: &Config) -> Result<Built, Stop>
     ensures built { IfOk result (IsBuiltOf config.now nfa.now) }
     ensures refused { IfErr result (λ stop. IsInVain config.now nfa.now (error_of stop)) }
 {
-    let classes = classes_of(nfa, config.get_byte_classes());
+    // That its parts fit together is what this call ensures.
+    let _states = nfa.states_len();
+    let shared = config.get_byte_classes();
     let each = config.get_starts_for_each_pattern();
+    let classes = classes_of(nfa, shared);
+    let stride2 = stride2_of(&classes);
+    let stride = stride_of(stride2);
+    let starts = start_count(nfa, each);
+    let limit = config.get_size_limit();
     let layout = Layout {
-        stride: stride_of(stride2_of(&classes)),
-        starts: start_count(nfa, each),
-        limit: config.get_size_limit(),
+        stride,
+        starts,
+        limit,
     };
+    let first = explicit_start(nfa);
     let bytes = classes.representatives(alloc)?;
     let job = Job {
         nfa,
         classes: &classes,
         bytes: bytes.as_slice(),
-        explicit_start: explicit_start(nfa),
+        explicit_start: first,
         each,
     };
     make_table(alloc, &job, layout)

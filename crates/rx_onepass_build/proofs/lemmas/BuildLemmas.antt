@@ -1,6 +1,8 @@
 -- What a build answers, from what its parts answer.
-use Rattle.std.proofs.Common.{◌≡◌, ◌⊎◌, ℕ, zero, suc, ◌+◌, ◌^◌, ◌<◌, ◌≤◌, List, [], ◌∷◌, length, refl, sym, ◌∙◌, ap, subst, arith, slice_index, if◌then◌else◌}
+use Rattle.std.proofs.Common.{◌≡◌, ◌⊎◌, ℕ, zero, suc, ◌+◌, ◌^◌, ◌<◌, ◌≤◌, List, [], ◌∷◌, length, get_or, refl, sym, ◌∙◌, ap, subst, arith, slice_index, if◌then◌else◌}
 use Rattle.std.specs.Prelude.{Bool, true, false, Option, Some, None, All, slice_get}
+use Rattle.std.proofs.lemmas.List.Elements.{All-from_get_or}
+use Rattle.std.proofs.lemmas.Option.{get_or_from_slice_get}
 use Rattle.rx_search.specs.ByteClasses.{alphabet_len, class_count, IsLeastPower, AreRepresentatives}
 use Rattle.rx_nfa.specs.Automaton.{state_at}
 use Rattle.rx_nfa.specs.Nfa.{Nfa}
@@ -9,9 +11,9 @@ use Rattle.rx_onepass_table.specs.Entry.{Reads, IsEntry}
 use Rattle.rx_onepass_table.specs.Entry.IsEntry.{common as is_common, start as begins, after as comes_after}
 use Rattle.rx_onepass_table.specs.Rows.{IsRowOf}
 use Rattle.rx_onepass_table.specs.Words.{Step, Final}
-use Rattle.rx_onepass_build.specs.Build.{IsAdmitted, AreClassesFor, IsLayoutOf, AreStarts, IsOnePass, IsMadeInVain, IsInVain, IsRefusalOf, IsBuiltOf, start_count}
+use Rattle.rx_onepass_build.specs.Build.{IsAdmitted, AreClassesFor, IsLayoutOf, AreStarts, IsStartAt, IsOnePass, IsMadeInVain, IsInVain, IsRefusalOf, IsBuiltOf, start_count}
 use Rattle.rx_onepass_build.specs.Config.{each_of, shares_of, size_limit_of}
-use Rattle.rx_onepass_build.specs.Entries.{AreEntries, AreMet, IsWithin}
+use Rattle.rx_onepass_build.specs.Entries.{AreEntries, AreMet, IsWithin, Stays}
 use Rattle.rx_onepass_build.specs.Finished.{IsFinished, IsTableFor}
 use Rattle.rx_onepass_build.specs.Rows.{AreFilled}
 use Rattle.rx_onepass_build.specs.declared.built.Built.{Built}
@@ -24,6 +26,7 @@ use Rattle.rx_onepass_build.specs.declared.build_error.NotOnePass.TheVariants.{S
 use Rattle.rx_onepass_build.specs.declared.build_error.BuildError.{BuildError}
 use Rattle.rx_onepass_build.specs.declared.build_error.BuildError.TheVariants.{UnsupportedLook, TooManyPatterns, TooManyStates, ExceededSizeLimit, NotOnePass as Ambiguous, Memory}
 use Rattle.rx_onepass_build.proofs.lemmas.FilledLemmas.{byte-small, state-sorted}
+use Rattle.rx_onepass_build.proofs.lemmas.FillingLemmas.{row-grows}
 use Rattle.rx_onepass_build.proofs.lemmas.RowsLemmas.{there-is}
 use Rattle.rx_onepass_build.proofs.lemmas.ListLemmas.{get-within}
 
@@ -94,3 +97,37 @@ refusal-of config nfa (Ambiguous (Twice state)) h = h
 refusal-of config nfa (Ambiguous (Match first second)) h = h
 refusal-of config nfa (Ambiguous (Transition state byte)) h = h
 refusal-of config nfa Memory h = tt
+
+-- Starts.
+
+start-stays : (old new starts : List ℕ) (place q : ℕ) → Stays old new → IsStartAt old starts place q → IsStartAt new starts place q
+start-stays old new starts place q stays s = record { row = s.row; there = s.there; is = row-grows old new s.row q stays s.is }
+
+pub starts-stay : (nfa : Nfa) (each : Bool) (old new starts : List ℕ) → Stays old new → AreStarts nfa each old starts → AreStarts nfa each new starts
+starts-stay nfa each old new starts stays s = record {
+  count = s.count;
+  common = start-stays old new starts 0 nfa.start_anchored stays s.common;
+  of_each = λ p q yes there. start-stays old new starts (suc p) q stays (s.of_each p q yes there);
+}
+
+start-inside : (entries starts : List ℕ) (place q n : ℕ) → length entries ≡ n → IsStartAt entries starts place q → get_or starts place 0 < suc n
+start-inside entries starts place q n len s =
+    let is = s.is in
+    let row_is = is.row_is in
+    let within = get-within entries is.before q is.there in
+    let read : get_or starts place 0 ≡ s.row = get_or_from_slice_get starts place s.row 0 s.there in
+    omega arith
+
+pub starts-inside : (nfa : Nfa) (each : Bool) (entries starts : List ℕ) (n : ℕ) → length entries ≡ n → AreStarts nfa each entries starts
+    → All (λ row. row < suc n) starts
+starts-inside nfa each entries starts n len s = All-from_get_or (λ row. row < suc n) starts 0 (inside each refl)
+  where
+    inside : (e : Bool) → each ≡ e → (i : ℕ) → i < length starts → get_or starts i 0 < suc n
+    inside e is zero lt = start-inside entries starts 0 nfa.start_anchored n len s.common
+    inside true is (suc p) lt =
+        let count : length starts ≡ 1 + length nfa.starts = s.count ∙ ap (λ b. if b then 1 + length nfa.starts else 1) is in
+        let q = there-is nfa.starts p (omega arith) in
+        start-inside entries starts (suc p) q.0 n len (s.of_each p q.0 is q.1)
+    inside false is (suc p) lt =
+        let count : length starts ≡ 1 = s.count ∙ ap (λ b. if b then 1 + length nfa.starts else 1) is in
+        absurd (omega arith)

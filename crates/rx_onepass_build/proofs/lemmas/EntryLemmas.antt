@@ -162,3 +162,11 @@ row-small e row q met r =
 pub row-none : (numbers : List ℕ) (q place row : ℕ) → q < length numbers → place ≡ q → row ≡ get_or numbers place row → row ≤ 0 → slice_get numbers q ≡ Some 0
 row-none numbers q place row lt is read none =
     let zero-row : row ≡ 0 = omega arith in number-read numbers q place row lt is read ∙ ap Some zero-row
+
+-- each entry is a state that is there
+pub met-inside : (e : Entries) (n : ℕ) → AreMet e → length e.numbers.items ≡ n → (k q : ℕ) → slice_get e.items.items k ≡ Some q → q < n
+met-inside e n met len k q h = subst (λ m. q < m) len (get-within e.numbers.items q (suc k) (met.numbered.told k q h))
+
+-- where a list was read
+pub place-read : (xs : List ℕ) (place x : ℕ) → place < length xs → x ≡ get_or xs place x → slice_get xs place ≡ Some x
+place-read xs place x lt read = slice_get-get_or xs place x lt ∙ ap Some (sym read)

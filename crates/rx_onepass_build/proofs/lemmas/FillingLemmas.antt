@@ -32,7 +32,7 @@ use Rattle.rx_onepass_build.proofs.lemmas.WayLemmas.{walks-one}
 
 -- Rows of entries.
 
-row-grows : (old new : List ℕ) (row entry : ℕ) → Stays old new → IsRowOf old row entry → IsRowOf new row entry
+pub row-grows : (old new : List ℕ) (row entry : ℕ) → Stays old new → IsRowOf old row entry → IsRowOf new row entry
 row-grows old new row entry stays r = record { before = r.before; row_is = r.row_is; there = stays r.before entry r.there }
 
 pub row-live : (entries : List ℕ) (row entry : ℕ) → IsRowOf entries row entry → row ≡ dead → ⊥

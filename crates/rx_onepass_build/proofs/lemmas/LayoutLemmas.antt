@@ -4,7 +4,7 @@ use Rattle.std.specs.Prelude.{Bool, true, false, Option, Some, None, EachIndex}
 use Rattle.std.proofs.lemmas.Bool.{cases_lt}
 use Rattle.std.proofs.lemmas.Nat.{pow_below}
 use Rattle.std.proofs.Math.Nat.{mul-le-mul_left, mul-le-mul_right}
-use Rattle.rx_search.specs.ByteClasses.{AreClasses}
+use Rattle.rx_search.specs.ByteClasses.{AreClasses, alphabet_len, class_count, IsLeastPower}
 use Rattle.rx_nfa.specs.Automaton.{state_at, route}
 use Rattle.rx_nfa.specs.ByteClasses.{AreOfOneClass}
 use Rattle.rx_nfa.specs.Nfa.{Nfa, IsInRange}
@@ -14,7 +14,10 @@ use Rattle.rx_nfa.specs.declared.state.Transition.{Transition}
 use Rattle.rx_nfa.specs.declared.state.State.{State}
 use Rattle.rx_nfa.specs.declared.state.State.TheVariants.{ByteRange, Sparse, Look, Union, Capture, Fail, Match}
 use Rattle.rx_nfa.proofs.lemmas.classes.ApartLemmas.{one-class-routes}
-use Rattle.rx_onepass_build.specs.Build.{AreClassesFor}
+use Rattle.rx_onepass_build.specs.Build.{AreClassesFor, IsLayoutOf, start_count}
+use Rattle.rx_onepass_build.specs.Config.{each_of, shares_of, size_limit_of}
+use Rattle.rx_onepass_build.specs.declared.config.Config.{Config}
+use Rattle.rx_onepass_build.specs.declared.entries.Layout.{Layout}
 
 pub pow-narrow : (k : ℕ) → k ≤ 9 → 2 ^ k ≤ 512
 pow-narrow k le =
@@ -54,6 +57,27 @@ target-single nfa classes single len q b c of =
     let two : slice_index classes c ≡ c = single c (omega arith) in
     ap (λ x. target (state_at nfa.states q) x) (sym one ∙ of.same ∙ two)
 
--- the classes of the NFA
-pub classes-own : (nfa : Nfa) (classes : List ℕ) → AreClasses classes → classes ≡ nfa.classes → AreClassesFor nfa true classes
-classes-own nfa classes are own = record { are = are; own = λ yes. own; single = λ no. absurd (true≢false no) }
+-- the classes that the configuration asks for
+pub classes-for : (config : Config) (nfa : Nfa) (classes : List ℕ) (shared : Bool) → shared ≡ shares_of config → AreClasses classes
+    → (shared ≡ true → classes ≡ nfa.classes) → (shared ≡ false → EachIndex classes (λ b. slice_index classes b ≡ b))
+    → AreClassesFor nfa (shares_of config) classes
+classes-for config nfa classes shared is are own single = record { are = are; own = λ yes. own (is ∙ yes); single = λ no. single (is ∙ no) }
+
+-- the layout that it asks for
+pub laid-out : (config : Config) (nfa : Nfa) (classes : List ℕ) (each : Bool) (stride2 stride starts : ℕ) (limit : Option ℕ)
+    → AreClassesFor nfa (shares_of config) classes → each ≡ each_of config → IsLeastPower (alphabet_len classes) stride2 → stride ≡ 2 ^ stride2
+    → starts ≡ start_count nfa each → limit ≡ size_limit_of config
+    → IsLayoutOf config nfa (record { stride = stride; starts = starts; limit = limit })
+laid-out config nfa classes each stride2 stride starts limit are each_is power stride_is starts_is limit_is = record {
+  classes = classes;
+  classes_are = are;
+  stride2 = stride2;
+  power = power;
+  stride_is = stride_is;
+  starts_are = starts_is ∙ ap (start_count nfa) each_is;
+  limit_is = limit_is;
+}
+
+-- a row has room for the cell of each class, and for that of a match
+pub layout-wide : (classes : List ℕ) (stride2 stride : ℕ) → IsLeastPower (alphabet_len classes) stride2 → stride ≡ 2 ^ stride2 → class_count classes < stride
+layout-wide classes stride2 stride power is = subst (λ n. class_count classes < n) (sym is) (power.enough)

@@ -48,10 +48,11 @@ returns-then-add-clause-cells c done way on h =
 
 pub returns-clause-err : goal.returns-clause-err
 returns-clause-err c done way on h =
-    let goes = ap (λ s. target s (slice_index c.args.job.now.bytes.now c.args.class)) (sym c.state.ensures.value) ∙ sym c.target_of.ensures ∙ c.in-Some.is in
-    (h.is_entry,
-    step-conflict c.args.job.now c.requires.job c.args.reader.now c.args.class c.requires.class c.args.entries.now.items.items done way
-    c.args.cells.now.items c.in-Some.next goes on h c.row_of.new.self.items.items c.in_ok-row.ensures.grows.stays c.in_ok-row.row c.in_ok-row.ensures.row
-    c.new-step.result c.new-step.ensures c.row_of.new.self.numbers.items c.in_ok-row.ensures.met.numbered (step_at c.add.new.cells.items c.args.class)
-    (subst (IsPut (step_at c.args.cells.now.items c.args.class) c.new-step.result (step_at c.add.new.cells.items c.args.class)) c.if-add.false
-    c.add.ensures.value))
+    let goes = ap (λ s. target s (slice_index c.args.job.now.bytes.now c.args.class)) (sym c.state.ensures.value) ∙ sym c.target_of.ensures ∙ c.in-Some.is in (
+      h.is_entry,
+      step-conflict c.args.job.now c.requires.job c.args.reader.now c.args.class c.requires.class c.args.entries.now.items.items done way
+          c.args.cells.now.items c.in-Some.next goes on h c.row_of.new.self.items.items c.in_ok-row.ensures.grows.stays c.in_ok-row.row c.in_ok-row.ensures.row
+          c.new-step.result c.new-step.ensures c.row_of.new.self.numbers.items c.in_ok-row.ensures.met.numbered (step_at c.add.new.cells.items c.args.class)
+          (subst (IsPut (step_at c.args.cells.now.items c.args.class) c.new-step.result (step_at c.add.new.cells.items c.args.class)) c.if-add.false
+          c.add.ensures.value),
+    )

@@ -43,10 +43,12 @@ pub returns-in_err-mark-clause-err : goal.returns-in_err-mark-clause-err
 returns-in_err-mark-clause-err c =
     let w = c.requires.walking in
     let e = err_from_is_err_and c.from_residual.result c.from_residual.ensures.1 in
-    rw (e.1, e.2, c.in_err-mark.ensures.err.0)
-    (c.args.self.now.entry, w.cells.is_entry,
-    top-twice c.args.job.now c.args.entries.now.items.items c.args.self.now w c.in-Some.frame (reverse c.pop_frame.new.frames.items)
-    c.in-Some.ensures.some c.in_err-mark.ensures.err.1)
+    rw (e.1, e.2, c.in_err-mark.ensures.err.0) (
+      c.args.self.now.entry,
+      w.cells.is_entry,
+      top-twice c.args.job.now c.args.entries.now.items.items c.args.self.now w c.in-Some.frame (reverse c.pop_frame.new.frames.items)
+          c.in-Some.ensures.some c.in_err-mark.ensures.err.1,
+    )
 
 pub returns-in_err-look_at-clause-err : goal.returns-in_err-look_at-clause-err
 returns-in_err-look_at-clause-err c =

@@ -92,8 +92,10 @@ pub returns-in-Match-clause-err : goal.returns-in-Match-clause-err
 returns-in-Match-clause-err c done way taken told h =
     IfErr-weaker c.accept.result _ _
     (λ stop second.
-    subst (λ s. IsMadeInVain c.args.job.now.nfa.now c.args.job.now.each c.args.entries.now.layout (error_of s)) (sym second.is)
-    (c.args.self.now.entry, h.is_entry,
-    told-twice c.args.job.now.nfa.now c.args.self.now.entry way c.args.frame taken.is_way done c.args.self.now.told second.first c.in-Match.pattern.now second.told
-    (ap state_accepts (sym c.state.ensures.value ∙ c.in-Match.is)) told taken.new))
+    subst (λ s. IsMadeInVain c.args.job.now.nfa.now c.args.job.now.each c.args.entries.now.layout (error_of s)) (sym second.is) (
+      c.args.self.now.entry,
+      h.is_entry,
+      told-twice c.args.job.now.nfa.now c.args.self.now.entry way c.args.frame taken.is_way done c.args.self.now.told second.first c.in-Match.pattern.now second.told
+          (ap state_accepts (sym c.state.ensures.value ∙ c.in-Match.is)) told taken.new,
+    ))
     c.accept.ensures.err
