@@ -2,8 +2,8 @@
 use Rattle.std.specs.Prelude.{◌≡◌, ℕ, ◌-◌, ◌≤◌, List}
 use Rattle.rx_nfa.specs.Nfa.{Nfa}
 use Rattle.rx_onepass_table.specs.Entry.{explicit_start}
-use Rattle.rx_onepass_table.specs.Rows.{TableValue, IsWhole}
-use Rattle.rx_onepass_build.specs.Build.{IsBuilt}
+use Rattle.rx_onepass_table.specs.Rows.{TableValue}
+use Rattle.rx_onepass_build.specs.Build.{IsBuiltOf}
 use Rattle.rx_onepass_build.specs.declared.config.Config.{Config}
 
 pub record Dfa : Type 0 where
@@ -15,7 +15,7 @@ pub record Dfa : Type 0 where
 
 -- its table is the one that is built of the NFA
 abbrev pub IsSound : Dfa → Type 0
-IsSound d = IsBuilt d.config d.nfa d.table d.starts
+IsSound d = IsBuiltOf d.config d.nfa d.table d.starts
 
 -- how many slots explicit groups have, whether they are told or not
 abbrev pub explicit_slots : Nfa → ℕ

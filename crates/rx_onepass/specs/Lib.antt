@@ -1,2 +1,4 @@
 pub mod Dfa
 pub mod Error
+pub mod Patterns
+pub mod Search

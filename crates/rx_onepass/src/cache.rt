@@ -1,6 +1,6 @@
 //! What a search writes to.
 ghost use Rattle.std.specs.Prelude.{◌≡◌, ◌*◌, ◌-◌, ◌≤◌, ◌<◌, ◌^◌, length, IfOk, OnOk, OnErr, IsOk};
-ghost use Rattle.rx_onepass.specs.Cache.{explicit_slots, Fits};
+ghost use Rattle.rx_onepass.specs.Dfa.{explicit_slots, Fits};
 
 use crate::dfa::DFA;
 use rx_search::{Memory, NonMaxUsize};

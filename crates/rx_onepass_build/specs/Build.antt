@@ -17,7 +17,6 @@ use Rattle.rx_onepass_build.specs.Config.{each_of, shares_of, size_limit_of}
 use Rattle.rx_onepass_build.specs.Entries.{state_limit, size_of, IsWithin, AreEntries, HasEntries, IsAbove}
 use Rattle.rx_onepass_build.specs.declared.config.Config.{Config}
 use Rattle.rx_onepass_build.specs.declared.entries.Layout.{Layout}
-use Rattle.rx_onepass_build.specs.declared.built.Built.{Built}
 use Rattle.rx_onepass_build.specs.declared.build_error.NotOnePass.{NotOnePass}
 use Rattle.rx_onepass_build.specs.declared.build_error.NotOnePass.TheVariants.{Slots, State as Twice, Match, Transition}
 use Rattle.rx_onepass_build.specs.declared.build_error.BuildError.{BuildError}
@@ -150,18 +149,18 @@ pub record AreStarts (nfa : Nfa) (each : Bool) (entries starts : List ℕ) : Typ
   pub common : IsStartAt entries starts 0 nfa.start_anchored
   pub of_each : (p q : ℕ) → each ≡ true → slice_get nfa.starts p ≡ Some q → IsStartAt entries starts (suc p) q
 
--- What is built of an NFA: a row for each entry, within the limits, and nothing is ambiguous.
-pub record IsBuiltOf (config : Config) (nfa : Nfa) (b : Built) : Type 0 where
+-- What is built of an NFA, the table and its starts: a row for each entry, within the limits, and nothing is ambiguous.
+pub record IsBuiltOf (config : Config) (nfa : Nfa) (t : TableValue) (starts : List ℕ) : Type 0 where
   pub admitted : IsAdmitted nfa
   pub entries : List ℕ
-  pub table : IsTableOf nfa entries b.table
-  pub rows : b.table.rows ≡ suc (length entries)
-  pub starts : AreStarts nfa (each_of config) entries b.starts.items
+  pub table : IsTableOf nfa entries t
+  pub rows : t.rows ≡ suc (length entries)
+  pub starts_are : AreStarts nfa (each_of config) entries starts
   pub are : AreEntries nfa (each_of config) entries
   pub all : (q : ℕ) → IsEntry nfa (each_of config) q → (k : ℕ) × (slice_get entries k ≡ Some q)
   pub one_pass : (q : ℕ) → IsEntry nfa (each_of config) q → IsOnePass nfa q
   pub layout : Layout
   pub layout_is : IsLayoutOf config nfa layout
-  pub stride : b.table.stride ≡ layout.stride
-  pub classes : AreClassesFor nfa (shares_of config) b.table.classes
-  pub within : IsWithin layout b.table.rows
+  pub stride : t.stride ≡ layout.stride
+  pub classes : AreClassesFor nfa (shares_of config) t.classes
+  pub within : IsWithin layout t.rows

@@ -62,7 +62,7 @@ impl Builder {
     ///
     /// `UnsupportedLook`, `TooManyPatterns`, `NotOnePass`, `TooManyStates`, `ExceededSizeLimit`, as above; `Memory`.
     pub fn build_from_nfa(&self, alloc: Global, nfa: &NFA) -> Result<Built, BuildError>
-        ensures built { IfOk result (IsBuiltOf self.now.config nfa.now) }
+        ensures built { IfOk result (λ b. IsBuiltOf self.now.config nfa.now b.table b.starts.items) }
         ensures refused { IfErr result (IsRefusalOf self.now.config nfa.now) }
     {
         admit(nfa)?;
@@ -116,7 +116,7 @@ fn stride_of(stride2: usize) -> usize
 /// The table of an NFA that was admitted, with its starts.
 fn make(alloc: Global, nfa: &NFA, config: &Config) -> Result<Built, Stop>
     requires { IsAdmitted nfa.now }
-    ensures built { IfOk result (IsBuiltOf config.now nfa.now) }
+    ensures built { IfOk result (λ b. IsBuiltOf config.now nfa.now b.table b.starts.items) }
     ensures refused { IfErr result (λ stop. IsInVain config.now nfa.now (error_of stop)) }
 {
     // That its parts fit together is what this call ensures.

@@ -10,3 +10,8 @@ pub fn a_second_match_is_of_another_pattern()
     ensures { (nfa : Nfa) → ((p q r : ℕ) → state_accepts (state_at nfa.states q) ≡ Some p → state_accepts (state_at nfa.states r) ≡ Some p → q ≡ r)
         → (entry first second : ℕ) → AcceptsTwice nfa entry first second → AcceptsBoth nfa entry first second }
 {}
+
+/// For the time of its proof: cites all lemmas.
+fn lemmas()
+    ensures { (n : ℕ) → n ≡ n }
+{}

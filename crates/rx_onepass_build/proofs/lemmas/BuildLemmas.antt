@@ -43,8 +43,8 @@ module _ (j : Job) (sorted : All HasSortedTransitions j.nfa.now.states) (entries
   -- each entry has a row
   pub all-there : (q : ℕ) → IsEntry j.nfa.now j.each q → IsThere entries q
   all-there _ is_common = row-there entries first.common.row j.nfa.now.start_anchored first.common.is
-  all-there _ (begins p q yes there) =
-      let s = first.of_each p q yes there in row-there entries s.row q s.is
+  all-there _ (begins p q asked there) =
+      let s = first.of_each p q asked there in row-there entries s.row q s.is
   all-there _ (comes_after entry byte q way is r) =
       let e = all-there entry is in
       let lt = get-within entries e.0 entry e.1 in
@@ -69,13 +69,14 @@ module _ (j : Job) (sorted : All HasSortedTransitions j.nfa.now.states) (entries
 
 -- the table of an NFA
 pub built-of : (config : Config) (j : Job) (layout : Layout) (b : Built) → j.each ≡ each_of config → IsAdmitted j.nfa.now
-    → AreClassesFor j.nfa.now (shares_of config) j.classes.now → IsLayoutOf config j.nfa.now layout → IsTableFor j layout b → IsBuiltOf config j.nfa.now b
+    → AreClassesFor j.nfa.now (shares_of config) j.classes.now → IsLayoutOf config j.nfa.now layout → IsTableFor j layout b
+    → IsBuiltOf config j.nfa.now b.table b.starts.items
 built-of config j layout b each admitted classes laid t = record {
   admitted = admitted;
   entries = t.entries;
   table = t.table;
   rows = t.rows;
-  starts = subst (λ x. AreStarts j.nfa.now x t.entries b.starts.items) each t.starts;
+  starts_are = subst (λ x. AreStarts j.nfa.now x t.entries b.starts.items) each t.starts;
   are = subst (λ x. AreEntries j.nfa.now x t.entries) each t.are;
   all = λ q is. t.all q (subst (λ x. IsEntry j.nfa.now x q) (sym each) is);
   one_pass = λ q is. t.one_pass q (subst (λ x. IsEntry j.nfa.now x q) (sym each) is);
@@ -88,11 +89,11 @@ built-of config j layout b each admitted classes laid t = record {
 
 -- the refusals of states that were made in vain
 pub refusal-of : (config : Config) (nfa : Nfa) (e : BuildError) → IsInVain config nfa e → IsRefusalOf config nfa e
-refusal-of config nfa (UnsupportedLook look) h = absurd h.2
-refusal-of config nfa (TooManyPatterns limit) h = absurd h.2
+refusal-of config nfa (UnsupportedLook look) h = absurd h.1.2
+refusal-of config nfa (TooManyPatterns limit) h = absurd h.1.2
 refusal-of config nfa (TooManyStates limit) h = h
 refusal-of config nfa (ExceededSizeLimit limit size) h = h
-refusal-of config nfa (Ambiguous (Slots given)) h = absurd h.2
+refusal-of config nfa (Ambiguous (Slots given)) h = absurd h.1.2
 refusal-of config nfa (Ambiguous (Twice state)) h = h
 refusal-of config nfa (Ambiguous (Match first second)) h = h
 refusal-of config nfa (Ambiguous (Transition state byte)) h = h

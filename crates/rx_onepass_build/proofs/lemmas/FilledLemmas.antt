@@ -79,7 +79,7 @@ transitions-small ts byte next sorted e =
     (λ lt. grind (arith, nat_tests))
     (λ past. let le : 256 ≤ byte = grind (arith, nat_tests) in none-is-some (sym (route-outside 0 256 ts byte sorted (inr le)) ∙ e))
 
-byte-small : (s : State) (byte next : ℕ) → HasSortedTransitions s → target s byte ≡ Some next → byte < 256
+pub byte-small : (s : State) (byte next : ℕ) → HasSortedTransitions s → target s byte ≡ Some next → byte < 256
 byte-small (ByteRange low high to) byte next sorted e = transitions-small (record { start = low; end = high; next = to } ∷ []) byte next sorted e
 byte-small (Sparse transitions) byte next sorted e = transitions-small transitions byte next sorted e
 byte-small (Look look to) byte next sorted e = none-is-some e
@@ -88,7 +88,7 @@ byte-small (Capture to pattern slot) byte next sorted e = none-is-some e
 byte-small Fail byte next sorted e = none-is-some e
 byte-small (Match pattern) byte next sorted e = none-is-some e
 
-state-sorted : (states : List State) → All HasSortedTransitions states → (q : ℕ) → HasSortedTransitions (state_at states q)
+pub state-sorted : (states : List State) → All HasSortedTransitions states → (q : ℕ) → HasSortedTransitions (state_at states q)
 state-sorted states sorted q =
     by_test (nat_lt q (length states))
     (λ e. let lt : q < length states = grind (arith, nat_tests) in All-get_or HasSortedTransitions states q Fail lt sorted)

@@ -18,11 +18,11 @@ use Rattle.rx_onepass_build.specs.Rows.{IsRowAt, AreFilled}
 use Rattle.rx_onepass_build.specs.Settled.{AreInverse, IsOrder, AreCellsOf, LeadInside, final_before, step_before, settled_step}
 use Rattle.rx_onepass_build.specs.declared.built.Built.{Built}
 use Rattle.rx_onepass_build.specs.declared.job.Job.{Job}
-use Rattle.rx_onepass_build.proofs.lemmas.ListLemmas.{get-within}
+use Rattle.rx_onepass_build.proofs.lemmas.ListLemmas.{get-within, test-apart, apart-test}
 use Rattle.rx_onepass_build.proofs.lemmas.RowsLemmas.{there-is}
 
 -- the values of a function at the n numbers from k on
-spread : (f : ℕ → ℕ) → (n k : ℕ) → List ℕ
+abbrev spread : (f : ℕ → ℕ) → (n k : ℕ) → List ℕ
 spread f zero k = []
 spread f (suc n) k = f k ∷ spread f n (suc k)
 
@@ -32,16 +32,20 @@ length-spread f (suc n) k = ap suc (length-spread f n (suc k))
 
 get-spread : (f : ℕ → ℕ) (n k i : ℕ) → i < n → slice_get (spread f n k) i ≡ Some (f (k + i))
 get-spread f zero k i lt = absurd (omega arith)
-get-spread f (suc n) k zero lt = ap (λ j. Some (f j)) (omega arith)
-get-spread f (suc n) k (suc i) lt = get-spread f n (suc k) i (omega arith) ∙ ap (λ j. Some (f j)) (omega arith)
+get-spread f (suc n) k zero lt = let e : k ≡ k + 0 = omega arith in ap (λ j. Some (f j)) e
+get-spread f (suc n) k (suc i) lt =
+    let e : suc k + i ≡ k + suc i = omega arith in get-spread f n (suc k) i (omega arith) ∙ ap (λ j. Some (f j)) e
+
+get-from-zero : (f : ℕ → ℕ) (n i : ℕ) → i < n → slice_get (spread f n 0) i ≡ Some (f i)
+get-from-zero f n i lt = let e : 0 + i ≡ i = omega arith in get-spread f n 0 i lt ∙ ap (λ j. Some (f j)) e
 
 module _ (entries before after : List ℕ) (h : AreInverse (suc (length entries)) before after) (first : slice_index before 0 ≡ 0) where
   -- the entry of the row that has this number in the end, counted from the first entry
-  settled-at : (i : ℕ) → ℕ
+  abbrev settled-at : (i : ℕ) → ℕ
   settled-at i = slice_index entries (slice_index before (suc i) - 1)
 
   -- the entries in the order of their rows in the end
-  pub settled-entries : List ℕ
+  abbrev pub settled-entries : List ℕ
   settled-entries = spread settled-at (length entries) 0
 
   pub settled-length : length settled-entries ≡ length entries
@@ -74,7 +78,7 @@ module _ (entries before after : List ℕ) (h : AreInverse (suc (length entries)
         before = slice_index after row - 1;
         row_is = sym place;
         there =
-            get-spread settled-at (length entries) 0 (slice_index after row - 1) (omega arith)
+            get-from-zero settled-at (length entries) (slice_index after row - 1) (omega arith)
             ∙ ap (λ x. Some (slice_index entries x)) there
             ∙ ap Some (get_or_from_slice_get entries r.before q 0 r.there);
       }
@@ -93,7 +97,7 @@ module _ (entries before after : List ℕ) (h : AreInverse (suc (length entries)
       let live = before-live row (omega arith) lt in
       let inside = h.below row lt in
       let same : slice_index entries (slice_index before (suc r.before) - 1) ≡ q =
-      some-is (sym (get-spread settled-at (length entries) 0 r.before (omega arith)) ∙ r.there) in
+      some-is (sym (get-from-zero settled-at (length entries) r.before (omega arith)) ∙ r.there) in
       let place : suc (slice_index before row - 1) ≡ slice_index before row = omega arith in
       record {
         inside = lt;
@@ -151,10 +155,10 @@ module _ (entries before after : List ℕ) (h : AreInverse (suc (length entries)
 
     before-step : (row c : ℕ) → slice_index before row ≢ 0
         → step_before steps (class_count j.classes.now) (slice_index before row) c ≡ step_at steps ((slice_index before row - 1) * class_count j.classes.now + c)
-    before-step row c live = let e : (slice_index before row == 0) ≡ false = grind (arith, nat_tests) in rw e refl
+    before-step row c live = let e = apart-test (slice_index before row) 0 live in rw e refl
 
     before-final : (row : ℕ) → slice_index before row ≢ 0 → final_before finals (slice_index before row) ≡ slice_index_or finals (slice_index before row - 1) no_match
-    before-final row live = let e : (slice_index before row == 0) ≡ false = grind (arith, nat_tests) in rw e refl
+    before-final row live = let e = apart-test (slice_index before row) 0 live in rw e refl
 
     pub table-settled : IsTableOf j.nfa.now settled-entries value
     table-settled row entry r =
@@ -209,7 +213,7 @@ table-whole j steps finals before after stride least cells classes wide few orde
     step-lead b c lt inside =
         by_test (b == 0)
         (λ e. rw e (omega arith))
-        (λ e. let live : b ≢ 0 = grind (arith, nat_tests) in rw e (lead (b - 1) c (omega arith) inside))
+        (λ e. let live = test-apart b 0 e in rw e (lead (b - 1) c (omega arith) inside))
 
     targets : (row column : ℕ) → row < suc (length finals) → column < class_count j.classes.now
         → (step_of (slice_index cells (row * stride + column))).target < suc (length finals)

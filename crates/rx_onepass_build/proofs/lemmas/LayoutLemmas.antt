@@ -80,4 +80,6 @@ laid-out config nfa classes each stride2 stride starts limit are each_is power s
 
 -- a row has room for the cell of each class, and for that of a match
 pub layout-wide : (classes : List ℕ) (stride2 stride : ℕ) → IsLeastPower (alphabet_len classes) stride2 → stride ≡ 2 ^ stride2 → class_count classes < stride
-layout-wide classes stride2 stride power is = subst (λ n. class_count classes < n) (sym is) (power.enough)
+layout-wide classes stride2 stride power is =
+    let enough : alphabet_len classes ≤ 2 ^ stride2 = power.enough in
+    subst (λ n. class_count classes < n) (sym is) (omega arith)

@@ -58,3 +58,17 @@ unmarked-less row (mark ∷ marks) zero lt new =
 unmarked-less row (mark ∷ marks) (suc q) lt new =
     let less = unmarked-less row marks q (omega arith) new in
     by_test (mark == row) (λ e. rw e (omega arith)) (λ e. rw e (omega arith))
+
+-- What a test of two numbers says.
+
+pub test-same : (a b : ℕ) → (a == b) ≡ true → a ≡ b
+test-same a b e = grind (arith, nat_tests)
+
+pub test-apart : (a b : ℕ) → (a == b) ≡ false → a ≢ b
+test-apart a b e = grind (arith, nat_tests)
+
+pub apart-test : (a b : ℕ) → a ≢ b → (a == b) ≡ false
+apart-test a b e = grind (arith, nat_tests)
+
+pub same-test : (a b : ℕ) → a ≡ b → (a == b) ≡ true
+same-test a b e = grind (arith, nat_tests)

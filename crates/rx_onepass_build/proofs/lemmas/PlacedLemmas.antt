@@ -2,7 +2,7 @@
 use Rattle.std.proofs.Common.{◌≡◌, ◌≢◌, ℕ, suc, ◌+◌, ◌-◌, ◌*◌, ◌<◌, ◌≤◌, ◌==◌, List, length, refl, sym, ◌∙◌, ap, subst, arith, slice_index}
 use Rattle.std.proofs.lemmas.Bool.Decides.{nat_tests}
 use Rattle.std.proofs.lemmas.Nat.{mul-add-lt}
-use Rattle.std.proofs.Math.Nat.{suc-mul}
+use Rattle.std.proofs.Math.Nat.{suc-mul, mul_comm}
 use Rattle.rx_model.proofs.lemmas.runs.RunLemmas.{by_test}
 use Rattle.rx_onepass_table.specs.Words.{Step, step_of, Final, final_of}
 use Rattle.rx_onepass_build.specs.Settled.{AreCellsOf, final_before, step_before, settled_step}
@@ -35,7 +35,8 @@ rows-placed steps finals after before classes stride row this old new wide len t
     (λ e.
     let apart : k ≢ row = grind (arith, nat_tests) in
     let less : k < row = omega arith in
-    let inside : k * stride + (stride - 1) < row * stride = mul-add-lt k stride (stride - 1) row less (omega arith) in
+    let comm = mul_comm stride row in
+    let inside : k * stride + (stride - 1) < stride * row = mul-add-lt k stride (stride - 1) row less (omega arith) in
     cells-kept steps finals after classes (slice_index before k) old new (k * stride) stride wide (omega arith) kept (each k less))
 
 pub length-placed : (row stride : ℕ) (old new : List ℕ) → length old ≡ row * stride → length new ≡ length old + stride → length new ≡ (row + 1) * stride

@@ -2,9 +2,9 @@
 use Rattle.std.proofs.Common.{◌≡◌, ◌≢◌, ◌⊎◌, ℕ, zero, suc, ◌+◌, ◌-◌, ◌*◌, ◌/◌, ◌%◌, ◌<◌, ◌≤◌, ◌==◌, List, [], ◌∷◌, ◌++◌, length, get_or, refl, sym, ◌∙◌, ap, subst, inl, inr, ⊎_elim, arith, slice_index}
 use Rattle.std.specs.Prelude.{Bool, Option, Some, None, slice_get, slice_index_or}
 use Rattle.std.proofs.lemmas.Bool.Decides.{nat_tests}
-use Rattle.std.proofs.lemmas.List.{get_or_append_left, get_or-append-add}
+use Rattle.std.proofs.lemmas.List.{length-append, get_or_append_left, get_or-append-add}
 use Rattle.std.proofs.lemmas.Nat.{mul-add-lt}
-use Rattle.std.proofs.Math.Nat.{suc-mul}
+use Rattle.std.proofs.Math.Nat.{suc-mul, zero-mul}
 use Rattle.rx_model.proofs.lemmas.runs.RunLemmas.{by_test}
 use Rattle.rx_model.proofs.lemmas.runs.FirstLemmas.{none-is-some, some-is}
 use Rattle.rx_search.specs.ByteClasses.{AreClasses, AreRepresentatives, class_count}
@@ -18,7 +18,7 @@ use Rattle.rx_onepass_build.specs.Rows.{IsFilled, IsRowAt, AreFilled}
 use Rattle.rx_onepass_build.specs.Settled.{LeadInside}
 use Rattle.rx_onepass_build.specs.declared.job.Job.{Job}
 use Rattle.rx_onepass_build.proofs.lemmas.FillingLemmas.{row-grows}
-use Rattle.rx_onepass_build.proofs.lemmas.ListLemmas.{get-within}
+use Rattle.rx_onepass_build.proofs.lemmas.ListLemmas.{get-within, test-same, test-apart}
 
 pub step-stays : (nfa : Nfa) (old new : List ℕ) (entry byte : ℕ) (s : Step) → Stays old new → IsStep nfa old entry byte s → IsStep nfa new entry byte s
 step-stays nfa old new entry byte s stays h = record {
@@ -33,7 +33,7 @@ step-stays nfa old new entry byte s stays h = record {
 pub rows-none : (j : Job) (entries : List ℕ) (steps : List Step) (finals : List Final) → steps ≡ [] → finals ≡ [] → AreFilled j entries steps finals
 rows-none j entries steps finals none nothing = record {
   count = (let e = ap length nothing in omega arith);
-  len = ap length none ∙ ap (λ fs. length fs * class_count j.classes.now) (sym nothing);
+  len = ap length none ∙ sym (zero-mul (class_count j.classes.now)) ∙ ap (λ fs. length fs * class_count j.classes.now) (sym nothing);
   rows = λ k entry lt e. (let n = ap length nothing in absurd (omega arith));
 }
 
@@ -41,14 +41,22 @@ pub length-last : {A : Type 0} (xs : List A) (x : A) → length (xs ++ x ∷ [])
 length-last [] x = refl
 length-last (y ∷ xs) x = ap suc (length-last xs x)
 
-length-two : {A : Type 0} (xs ys : List A) → length (xs ++ ys) ≡ length xs + length ys
-length-two [] ys = refl
-length-two (x ∷ xs) ys = ap suc (length-two xs ys)
+-- a state that has a row
+pub there-is : (entries : List ℕ) (k : ℕ) → k < length entries → (q : ℕ) × (slice_get entries k ≡ Some q)
+there-is [] k lt = absurd (omega arith)
+there-is (x ∷ entries) zero lt = (x, refl)
+there-is (x ∷ entries) (suc k) lt = there-is entries k (omega arith)
 
 -- One row more.
 module _ (j : Job) (classes : AreClasses j.classes.now) (old new : List ℕ) (steps cells : List Step) (finals : List Final) (told : Final) (entry : ℕ)
     (stays : Stays old new) (h : AreFilled j old steps finals) (there : slice_get new (length finals) ≡ Some entry)
     (filled : IsFilled j new entry cells told) where
+  old-there : (k e : ℕ) → k < length finals → slice_get new k ≡ Some e → slice_get old k ≡ Some e
+  old-there k e less is =
+      let count = h.count in
+      let x = there-is old k (omega arith) in
+      x.1 ∙ ap Some (some-is (sym (stays k x.0 x.1) ∙ is))
+
   row-before : (k e : ℕ) → k < length finals → slice_get old k ≡ Some e → IsRowAt j new e k (steps ++ cells) (finals ++ told ∷ [])
   row-before k e lt is =
       let r = h.rows k e lt is in
@@ -86,7 +94,7 @@ module _ (j : Job) (classes : AreClasses j.classes.now) (old new : List ℕ) (st
   rows-more = record {
     count = (let lt = get-within new (length finals) entry there in let len = length-last finals told in omega arith);
     len =
-        (length-two steps cells ∙ ap (λ n. n + length cells) h.len ∙ ap (λ n. length finals * class_count j.classes.now + n) filled.width
+        (length-append steps cells ∙ ap (λ n. n + length cells) h.len ∙ ap (λ n. length finals * class_count j.classes.now + n) filled.width
         ∙ next ∙ ap (λ n. n * class_count j.classes.now) (sym (length-last finals told)));
     rows = rows;
   }
@@ -99,33 +107,12 @@ module _ (j : Job) (classes : AreClasses j.classes.now) (old new : List ℕ) (st
           let len = length-last finals told in
           by_test (k == length finals)
           (λ same.
-          let last : k ≡ length finals = grind (arith, nat_tests) in
+          let last : k ≡ length finals = test-same k (length finals) same in
           row-last k e last (some-is (sym is ∙ ap (slice_get new) last ∙ there)))
           (λ apart.
-          let differ : k ≢ length finals = grind (arith, nat_tests) in
+          let differ : k ≢ length finals = test-apart k (length finals) apart in
           let less : k < length finals = omega arith in
           row-before k e less (old-there k e less is))
-        where
-          old-there : (k e : ℕ) → k < length finals → slice_get new k ≡ Some e → slice_get old k ≡ Some e
-          old-there k e less is = by (slice_get old k) refl
-            where
-              by : (o : Option ℕ) → slice_get old k ≡ o → slice_get old k ≡ Some e
-              by None none = absurd (no-less (slice-none old k none))
-                where
-                  slice-none : (xs : List ℕ) (i : ℕ) → slice_get xs i ≡ None → length xs ≤ i
-                  slice-none [] i e = omega arith
-                  slice-none (x ∷ xs) zero e = none-is-some (sym e)
-                  slice-none (x ∷ xs) (suc i) e = let le = slice-none xs i e in omega arith
-
-                  no-less : length old ≤ k → ⊥
-                  no-less le = let count = h.count in omega arith
-              by (Some x) some = some ∙ ap Some (some-is (sym (stays k x some) ∙ is))
-
--- a state that has a row
-there-is : (entries : List ℕ) (k : ℕ) → k < length entries → (q : ℕ) × (slice_get entries k ≡ Some q)
-there-is [] k lt = absurd (omega arith)
-there-is (x ∷ entries) zero lt = (x, refl)
-there-is (x ∷ entries) (suc k) lt = there-is entries k (omega arith)
 
 -- where all rows are made, each step leads to a row
 pub rows-lead : (j : Job) (bytes : List ℕ) → AreRepresentatives j.classes.now bytes → (entries : List ℕ) (steps : List Step) (finals : List Final)
@@ -138,9 +125,9 @@ rows-lead j bytes reps entries steps finals h all k c lt inside =
     subst (λ i. IsStep j.nfa.now entries e.0 (slice_index bytes c) (step_at steps (k * class_count j.classes.now + i))) (reps.own c c-there)
     (row.steps_are (slice_index bytes c) (reps.inside c c-there)) in
     by_test ((step_at steps (k * class_count j.classes.now + c)).target == dead)
-    (λ e. let none : (step_at steps (k * class_count j.classes.now + c)).target ≡ dead = grind (arith, nat_tests) in omega arith)
+    (λ e. let none : (step_at steps (k * class_count j.classes.now + c)).target ≡ dead = test-same _ dead e in omega arith)
     (λ e.
-    let live : (step_at steps (k * class_count j.classes.now + c)).target ≢ dead = grind (arith, nat_tests) in
+    let live : (step_at steps (k * class_count j.classes.now + c)).target ≢ dead = test-apart _ dead e in
     let way = step.there live in
     let r = step.row way.0 way.1 way.2 in
     let is = r.row_is in

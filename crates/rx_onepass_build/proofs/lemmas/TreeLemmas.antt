@@ -1,6 +1,6 @@
 -- The search of all that an entry leads to: how it starts, goes on and ends.
 use Rattle.std.proofs.Common.{◌≡◌, ◌≢◌, ◌⊎◌, ℕ, zero, suc, ◌+◌, ◌<◌, ◌≤◌, List, [], ◌∷◌, ◌++◌, length, get_or, refl, sym, ◌∙◌, ap, subst, inl, inr, ⊎_elim, arith, ◌==◌}
-use Rattle.std.specs.Prelude.{Option, Some, None, Contains, map, slice_get, slice_set}
+use Rattle.std.specs.Prelude.{true, Option, Some, None, Contains, map, slice_get, slice_set}
 use Rattle.std.proofs.Common.{append_assoc}
 use Rattle.std.proofs.lemmas.Bool.Decides.{nat_tests}
 use Rattle.std.proofs.lemmas.List.{get_or_default, length-set}

@@ -1,6 +1,7 @@
 -- One step of the search, and its start.
 use Rattle.std.proofs.Common.{◌≡◌, ◌≢◌, ℕ, suc, ◌<◌, ◌≤◌, List, [], ◌∷◌, ◌++◌, length, reverse, refl, sym, ◌∙◌, ap, subst, arith}
-use Rattle.std.specs.Prelude.{Bool, true, Option, Some, None, Contains, All, slice_get, slice_set}
+use Rattle.std.specs.Prelude.{Bool, true, ◌&&◌, nat_le, Option, Some, None, Contains, All, slice_get, slice_set}
+use Rattle.rx_model.proofs.lemmas.runs.RunLemmas.{by_test}
 use Rattle.rx_model.proofs.lemmas.runs.FirstLemmas.{none-is-some, some-is}
 use Rattle.rx_model.proofs.lemmas.runs.MemberLemmas.{none-among, first-among}
 use Rattle.rx_search.specs.ByteClasses.{class_count}
@@ -33,7 +34,9 @@ target-inside states names q byte next lt e = by (state_at states q) (All-get_or
   where
     by : (s : State) → NamesBelow (length states) s → target s byte ≡ Some next → next < length states
     by (ByteRange low high to) names e =
-        route-below (length states) (record { start = low; end = high; next = to } ∷ []) byte next (names, tt) e
+        by_test (nat_le low byte && nat_le byte high)
+        (λ t. let is : to ≡ next = some-is (rw t at e) in omega arith)
+        (λ t. none-is-some (rw t at e))
     by (Sparse transitions) names e = route-below (length states) transitions byte next names e
     by (Look look to) names e = none-is-some e
     by (Union alternates) names e = none-is-some e

@@ -155,8 +155,14 @@ module _ (nfa : Nfa) (entry : ℕ) where
       → ((j q : ℕ) → j < length targets → get_or targets j q ≡ q → IsWay nfa entry (way ++ (k + j) ∷ []) (frame_at later (get_or targets j q)))
       → AreWays nfa entry fs ways → AreWays nfa entry (map (frame_at later) targets ++ fs) (going_on way k (length targets) ++ ways)
   ways-next way later k [] fs ways each are = are
-  ways-next way later k (t ∷ targets) fs ways each are = (
-    subst (λ i. IsWay nfa entry (way ++ i ∷ []) (frame_at later t)) (omega arith) (each 0 t (omega arith) refl),
-    ways-next way later (suc k) targets fs ways
-        (λ j q lt e. subst (λ i. IsWay nfa entry (way ++ i ∷ []) (frame_at later (get_or targets j q))) (omega arith) (each (suc j) q (omega arith) e)) are,
-  )
+  ways-next way later k (t ∷ targets) fs ways each are =
+      let first : k + 0 ≡ k = omega arith in (
+        subst (λ i. IsWay nfa entry (way ++ i ∷ []) (frame_at later t)) first (each 0 t (omega arith) refl),
+        ways-next way later (suc k) targets fs ways (others each) are,
+      )
+    where
+      others : ((j q : ℕ) → j < length (t ∷ targets) → get_or (t ∷ targets) j q ≡ q → IsWay nfa entry (way ++ (k + j) ∷ []) (frame_at later (get_or (t ∷ targets) j q)))
+          → (j q : ℕ) → j < length targets → get_or targets j q ≡ q → IsWay nfa entry (way ++ (suc k + j) ∷ []) (frame_at later (get_or targets j q))
+      others each j q lt e =
+          let next : k + suc j ≡ suc k + j = omega arith in
+          subst (λ i. IsWay nfa entry (way ++ i ∷ []) (frame_at later (get_or targets j q))) next (each (suc j) q (omega arith) e)

@@ -14,7 +14,7 @@ returns-in_err-bytes-clause-refused c =
     let laid = laid-out c.args.config.now c.args.nfa.now c.classes_of-classes.result c.get_starts_for_each_pattern-each.result c.stride2_of-stride2.result
     c.stride_of-stride.result c.start_count-starts.result c.get_size_limit-limit.result of c.get_starts_for_each_pattern-each.ensures
     c.stride2_of-stride2.ensures.power c.stride_of-stride.ensures.power c.start_count-starts.ensures.value c.get_size_limit-limit.ensures in
-    rw (e.1, e.2) (c.requires, _, laid, tt)
+    rw (e.1, e.2) (c.requires, (_, laid, tt))
 
 pub make_table-requires-clause-job : goal.make_table-requires-clause-job
 make_table-requires-clause-job c = record {
@@ -50,5 +50,5 @@ returns-clause-refused c =
     c.stride_of-stride.result c.start_count-starts.result c.get_size_limit-limit.result of c.get_starts_for_each_pattern-each.ensures
     c.stride2_of-stride2.ensures.power c.stride_of-stride.ensures.power c.start_count-starts.ensures.value c.get_size_limit-limit.ensures in
     IfErr-weaker c.make_table.result _ _
-    (λ stop h. (c.requires, _, laid, h))
+    (λ stop h. (c.requires, (_, laid, h)))
     c.make_table.ensures.refused
