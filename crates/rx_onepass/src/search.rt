@@ -257,7 +257,7 @@ fn empty(slots: &mut [Option<NonMaxUsize>])
 
 /// Puts the span of the whole match into the slots of its pattern, as far as there is room.
 fn tell_span(slots: &mut [Option<NonMaxUsize>], pattern: PatternID, span: Span)
-    requires { span.end < usize.MAX }
+    requires end { span.end < usize.MAX }
     requires start { span.start < usize.MAX }
     ensures { slots.new ≡ slice_set (slice_set slots.old (2 * pattern) (Some span.start)) (2 * pattern + 1) (Some span.end) }
 {

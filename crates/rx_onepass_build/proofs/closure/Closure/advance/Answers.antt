@@ -62,7 +62,7 @@ returns-in_err-look_at-clause-err c =
     w.told w.cells)
 
 pub returns-clause-more : goal.returns-clause-more
-returns-clause-more c yes =
+returns-clause-more c asked =
     let w = c.requires.walking in
     let marks = c.in_ok-look_at.ensures.marks ∙ c.in_ok-mark.ensures.marks in
     subst (λ ms. unmarked c.args.self.now.row ms < unmarked c.args.self.now.row c.args.self.now.marks.items) (sym marks)
