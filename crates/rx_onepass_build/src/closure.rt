@@ -107,8 +107,7 @@ impl Closure {
         self.row = row;
         self.entry = entry;
         self.told = PatternEpsilons::empty();
-        self.cells.clear();
-        self.cells.resize(job.bytes.len(), Transition::of_word(0))?;
+        clear_cells(&mut self.cells, job.bytes.len())?;
         self.frames.clear();
         push_frame(&mut self.frames, entry, Epsilons::empty())
     }

@@ -39,7 +39,7 @@ pub returns-in_err-fill_next-clause-err : goal.returns-in_err-fill_next-clause-e
 returns-in_err-fill_next-clause-err c =
     let e = err_from_is_err_and c.from_residual.result c.from_residual.ensures.1 in
     rw (e.1, e.2)
-    (subst (λ l. IsMadeInVain c.args.job.now.nfa.now c.args.job.now.each l (error_of _)) c.rows.invariant.of.layout c.in_err-fill_next.ensures.err)
+    (subst (λ l. IsMadeInVain c.args.job.now.nfa.now c.args.job.now.each l (error_of c.in_err-fill_next.field-0)) c.rows.invariant.of.layout c.in_err-fill_next.ensures.err)
 
 pub returns-clause-of : goal.returns-clause-of
 returns-clause-of c = of-of c.args.entries.now c.rows.entries c.fill_next.new.entries c.rows.invariant.of c.in_ok-fill_next.ensures.of

@@ -40,7 +40,7 @@ pub returns-in_err-advance-clause-err : goal.returns-in_err-advance-clause-err
 returns-in_err-advance-clause-err c =
     let e = err_from_is_err_and c.from_residual-in_err-advance.result c.from_residual-in_err-advance.ensures.1 in
     rw (e.1, e.2)
-    (subst (λ l. IsMadeInVain c.args.job.now.nfa.now c.args.job.now.each l (error_of _)) c.walk.invariant.of.layout c.in_err-advance.ensures.err)
+    (subst (λ l. IsMadeInVain c.args.job.now.nfa.now c.args.job.now.each l (error_of c.in_err-advance.field-0)) c.walk.invariant.of.layout c.in_err-advance.ensures.err)
 
 pub returns-clause-of : goal.returns-clause-of
 returns-clause-of c = of-of c.args.entries.now c.walk.entries c.advance.new.entries c.walk.invariant.of c.in_ok-advance.ensures.of

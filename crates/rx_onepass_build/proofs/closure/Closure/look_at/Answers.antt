@@ -13,11 +13,11 @@ use Rattle.rx_onepass_build.proofs.closure.Closure.look_at.Goals as goal
 
 pub returns-in-ByteRange-clause-told : goal.returns-in-ByteRange-clause-told
 returns-in-ByteRange-clause-told c =
-    IfOk-weaker c.read-in-ByteRange.result _ _
+    IfOk-weaker c.read.result _ _
     (λ u same done way taken told.
     subst (IsToldBy c.args.job.now.nfa.now c.args.self.now.entry (way ∷ done)) (sym same)
     (told-kept c.args.job.now.nfa.now c.args.self.now.entry way c.args.frame taken.is_way done c.args.self.now.told (ap state_accepts (sym c.state.ensures.value ∙ c.in-ByteRange.is)) told))
-    c.read-in-ByteRange.ensures.told
+    c.read.ensures.told
 
 pub returns-in-Sparse-clause-told : goal.returns-in-Sparse-clause-told
 returns-in-Sparse-clause-told c =
@@ -65,8 +65,8 @@ returns-in-Fail-clause-told c done way taken told =
 
 pub returns-in_ok-push_frame-in-Look-clause-on : goal.returns-in_ok-push_frame-in-Look-clause-on
 returns-in_ok-push_frame-in-Look-clause-on c =
-    goes-look c.args.job.now.nfa.now c.args.frame _ _ c.in-Look.look.now c.in-Look.next.now c.with_look.result (sym c.state.ensures.value ∙ c.in-Look.is) c.with_look.ensures.slots c.with_look.ensures.looks
-    (few-look c.args.job.now.nfa.now c.requires.job.in_range c.requires.job.admitted c.args.frame.state c.requires.inside c.in-Look.look.now c.in-Look.next.now (sym c.state.ensures.value ∙ c.in-Look.is))
+    goes-look c.args.job.now.nfa.now c.args.frame _ _ c.in-Look.look c.in-Look.next c.with_look.result (sym c.state.ensures.value ∙ c.in-Look.is) c.with_look.ensures.slots c.with_look.ensures.looks
+    (few-look c.args.job.now.nfa.now c.requires.job.in_range c.requires.job.admitted c.args.frame.state c.requires.inside c.in-Look.look c.in-Look.next (sym c.state.ensures.value ∙ c.in-Look.is))
     c.requires.small c.with_look.ensures.fits c.in_ok-push_frame.ensures
 
 pub returns-in_ok-push_frame-in-Capture-clause-on : goal.returns-in_ok-push_frame-in-Capture-clause-on
@@ -84,7 +84,7 @@ pub returns-in-Match-clause-told : goal.returns-in-Match-clause-told
 returns-in-Match-clause-told c =
     IfOk-weaker c.accept.result _ _
     (λ u p done way taken told.
-    told-new c.args.job.now.nfa.now c.args.self.now.entry way c.args.frame taken.is_way done c.args.self.now.told c.accept.new.told c.in-Match.pattern.now
+    told-new c.args.job.now.nfa.now c.args.self.now.entry way c.args.frame taken.is_way done c.args.self.now.told c.accept.new.told c.in-Match.pattern
     (ap state_accepts (sym c.state.ensures.value ∙ c.in-Match.is)) p.0 p.1 told)
     c.accept.ensures.told
 
@@ -95,7 +95,7 @@ returns-in-Match-clause-err c done way taken told h =
     subst (λ s. IsMadeInVain c.args.job.now.nfa.now c.args.job.now.each c.args.entries.now.layout (error_of s)) (sym second.is) (
       c.args.self.now.entry,
       h.is_entry,
-      told-twice c.args.job.now.nfa.now c.args.self.now.entry way c.args.frame taken.is_way done c.args.self.now.told second.first c.in-Match.pattern.now second.told
+      told-twice c.args.job.now.nfa.now c.args.self.now.entry way c.args.frame taken.is_way done c.args.self.now.told second.first c.in-Match.pattern second.told
           (ap state_accepts (sym c.state.ensures.value ∙ c.in-Match.is)) told taken.new,
     ))
     c.accept.ensures.err
