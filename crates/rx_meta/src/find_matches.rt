@@ -6,16 +6,14 @@ ghost use Rattle.rx_meta.specs.Iterators.{begun, matches_to_come, PromisesEach, 
 use crate::match_finder::MatchFinder;
 use crate::regex::Regex;
 use rx_search::{Input, Match, Memory, Searcher};
-use std::alloc::Global;
 use std::marker::Model;
 use std::sync::Wait;
 
-// It owns its cache (DECISIONS: an iterator owns its cache until there is a pool).
 /// The successive matches in an input. Each search begins where the last match ended; an empty match at the end of the match
 /// before it is passed over.
 ///
 /// An item is an error where there was no memory for a search. After an error, and after the last match, there is no further
-/// item.
+/// item. Where it is dropped, and not finished or counted, its cache is freed.
 #[derive(Drop)]
 pub struct FindMatches<'r, 'h> {
     finder: MatchFinder<'r>,
@@ -33,15 +31,15 @@ impl<'r, 'h> Model for FindMatches<'r, 'h> {
 
 impl<'r, 'h> FindMatches<'r, 'h> {
     /// Before the first match in the input.
-    pub(crate) fn new(
-        alloc: Global,
+    pub(crate) fn new<R: Wait>(
+        rt: &R,
         regex: &'r Regex,
         input: &Input<'h>,
     ) -> Result<FindMatches<'r, 'h>, Memory>
         ensures { IfOk result (λ it. it ≡ begun regex.now input.now) }
     {
         Ok(FindMatches {
-            finder: MatchFinder::new(alloc, regex)?,
+            finder: MatchFinder::new(rt, regex)?,
             searcher: Searcher::new(input.clone()),
             is_ended: false,
         })
@@ -110,7 +108,7 @@ impl<'r, 'h> FindMatches<'r, 'h> {
     /// let count = matches.count(&rt)?;
     /// assert_eq!(rt; count, 2);
     /// ```
-    pub fn count<R: Wait>(self, _rt: &R) -> Result<usize, Memory>
+    pub fn count<R: Wait>(self, rt: &R) -> Result<usize, Memory>
         ensures value { PromisesEach self.entry → IfOk result (λ n. n ≡ length (matches_to_come self.entry)) }
         ensures none { self.entry.ended ≡ true → IfOk result (λ n. n ≡ 0) }
     {
@@ -120,11 +118,21 @@ impl<'r, 'h> FindMatches<'r, 'h> {
             is_ended,
         } = self;
         if is_ended {
+            finder.finish(rt);
             return Ok(0);
         }
-        searcher.count(&mut finder)
+        let count = searcher.count(&mut finder);
+        finder.finish(rt);
+        count
     }
 
-    /// Gives up the iterator, and what it searched with.
-    pub fn finish<R: Wait>(self, _rt: &R) {}
+    /// Gives up the iterator, and gives its cache back to the regex.
+    pub fn finish<R: Wait>(self, rt: &R) {
+        let FindMatches {
+            finder,
+            searcher: _,
+            is_ended: _,
+        } = self;
+        finder.finish(rt);
+    }
 }

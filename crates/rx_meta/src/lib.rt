@@ -7,6 +7,7 @@
 
 mod builder;
 mod cache;
+mod caches;
 mod capture_laws;
 mod captures_finder;
 mod captures_matches;
