@@ -8,7 +8,8 @@ ghost use Rattle.rx_meta.specs.Finder.{PromisesFor, MayFail};
 ghost use Rattle.rx_meta.specs.Regex.{searches, groups_in};
 
 use crate::cache::Cache;
-use crate::caches::{CacheMaker, give_back};
+use crate::cache_maker::CacheMaker;
+use crate::caches::give_back;
 use crate::regex::Regex;
 use rx_search::{Captures, Finder, Input, Match, Memory};
 use rx_util::PoolGuard;

@@ -7,7 +7,8 @@ ghost use Rattle.rx_meta.specs.Iterators.{IsFoundIn};
 ghost use Rattle.rx_meta.specs.Regex.{searches};
 
 use crate::cache::Cache;
-use crate::caches::{CacheMaker, give_back};
+use crate::cache_maker::CacheMaker;
+use crate::caches::give_back;
 use crate::regex::Regex;
 use rx_search::{Finder, Input, Match, Memory};
 use rx_util::PoolGuard;

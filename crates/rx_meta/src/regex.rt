@@ -18,7 +18,8 @@ ghost use Rattle.rx_meta.specs.Search.{IsAnswer, AreSlotsOfAnswer, TellsWhether}
 
 use crate::builder::Builder;
 use crate::cache::Cache;
-use crate::caches::{CacheMaker, give_back};
+use crate::cache_maker::CacheMaker;
+use crate::caches::give_back;
 use crate::error::BuildError;
 use crate::found::pattern;
 use rx_engines::empty;
