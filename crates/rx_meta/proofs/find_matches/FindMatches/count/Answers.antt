@@ -7,5 +7,5 @@ use Rattle.rx_meta.proofs.find_matches.FindMatches.count.Goals as goal
 pub returns-clause-value : goal.returns-clause-value
 returns-clause-value g c =
     let it = c.self.inside in
-    subst (λ (before : MatchesValue). PromisesEach before → IfOk c.count.result (λ n. n ≡ length (matches_to_come before))) c.self.view_is
-    (λ promised. counted it.finder.regex.now it.searcher it.is_ended c.if-is_ended.false c.count.result (c.count.ensures.value promised))
+    subst (λ (before : MatchesValue). PromisesEach before → IfOk c.count-count.result (λ n. n ≡ length (matches_to_come before))) c.self.view_is
+    (λ promised. counted it.finder.regex.now it.searcher it.is_ended c.if-is_ended.false c.count-count.result (c.count-count.ensures.value promised))
