@@ -10,3 +10,4 @@ pub mod CapturedLemmas
 pub mod IteratorLemmas
 pub mod CacheLemmas
 pub mod SuccessiveLemmas
+pub mod CountLemmas
