@@ -1,11 +1,11 @@
 #!/usr/bin/env python3
-"""Counts the allocations of a reset of a cache, of a clone of a prefilter, of a row, and of a match and a gap of an iterator.
+"""Counts the allocations of a reset of a cache, of a clone of a prefilter and of a regex, of a row, and of what an iterator gives.
 
 It makes a program of bench/allocations.txt in a copy of the repository, and runs it by `rt try` with the 500th allocation
 failing, once for each number of allocations that the program is to make first. At one of these numbers the allocation that
 fails is the one after the job, and the status 4 says so: by its distance from that of another job the two are compared.
-Ends with status 1 where a reset of a cache that fits, a clone, a row without groups, a match of an iterator or a gap takes
-memory, or a row with groups takes it more than once. The program is built twice.
+Ends with status 1 where a reset of a cache that fits, a clone, a row without groups, a match of an iterator, one that is
+counted or a gap takes memory, or a row with groups or the captures of a match take it more than once. The program is built twice.
 """
 import os
 import re
@@ -21,8 +21,9 @@ STEP = 5
 CASE = re.compile(rb'^case=(\S+) run=ended status=([0-9]+)', re.MULTILINE)
 
 # Jobs, each with how often it is done: resets for the same regex and for a larger one, clones of a prefilter, rows without
-# groups and with one, matches and gaps of an iterator.
-JOBS = ['s0', 's9', 'l0', 'l1', 'l9', 'c1', 'c9', 'w5', 'w8', 'g5', 'g8', 'i5', 'i8', 'p5', 'p8']
+# groups and with one, matches and gaps of an iterator, captures that it gives and that it counts, clones of a regex.
+JOBS = ['s0', 's9', 'l0', 'l1', 'l9', 'c1', 'c9', 'w5', 'w8', 'g5', 'g8', 'i5', 'i8', 'p5', 'p8', 'k5', 'k8', 'n5', 'n8',
+        'r1', 'r9']
 
 
 def copy_to(folder):
@@ -47,7 +48,8 @@ def statuses(crate, cases):
         for job, number in cases:
             with open(os.path.join(folder, '%s-%d' % (job, number)), 'w') as file:
                 file.write('%s%03d%s' % (job[0], number, job[1]))
-        command = ['rt', 'try', '--fail-alloc', str(FAILING), '--cases', folder]
+        # The compiled program alone: an interpreted one takes seconds for each case.
+        command = ['rt', 'try', '--steps', '1', '--fail-alloc', str(FAILING), '--cases', folder]
         done = subprocess.run(command, cwd=crate, stdout=subprocess.PIPE, stderr=subprocess.STDOUT)
     ended = {}
     for name, status in CASE.findall(done.stdout):
@@ -87,8 +89,12 @@ def main():
     print('three rows more: %d without groups, %d with one' % (whole, group))
     matches, gaps = places['i8'] - places['i5'], places['p8'] - places['p5']
     print('three matches more of an iterator: %d; three gaps more: %d' % (matches, gaps))
-    none = (*again, clones, whole, matches, gaps)
-    return 0 if not any(none) and group <= 3 else 1
+    captures, counted = places['k8'] - places['k5'], places['n8'] - places['n5']
+    print('captures of three matches more: %d; counted alone: %d' % (captures, counted))
+    copies = places['r9'] - places['r1']
+    print('eight clones more of a regex: %d' % copies)
+    none = (*again, clones, whole, matches, gaps, counted, copies)
+    return 0 if not any(none) and group <= 3 and captures <= 3 else 1
 
 
 if __name__ == '__main__':
