@@ -40,6 +40,23 @@ impl<'r> RegexFinder<'r> {
         })
     }
 
+    /// Makes any finder one for this regex: its cache is reset and keeps the room that it has. Where there is no memory, it is
+    /// as before but for what its cache held.
+    ///
+    /// # Errors
+    ///
+    /// `Memory`, where there was no memory for the slots or for more room.
+    pub fn refit(&mut self, alloc: Global, regex: &'r Regex) -> Result<(), Memory>
+        ensures { OnOk result (self.new.regex.now ≡ regex.now) }
+    {
+        let none = None;
+        let slots = vec![in alloc; none; regex.group_info().slot_len()]?;
+        self.cache.reset(alloc, regex)?;
+        self.slots = slots;
+        self.regex = regex;
+        Ok(())
+    }
+
     /// The regex.
     pub fn regex(&self) -> &'r Regex
         ensures { result.now ≡ self.now.regex.now }

@@ -54,7 +54,7 @@ impl Off {
 }
 
 /// The number of workers where the words name none.
-const WORKERS: usize = 1;
+const WORKERS: usize = 4;
 
 /// What the words ask for: `scan`, then the number of workers, then what is switched off. Both may be left out.
 /// None where they are not those of a command.
