@@ -1,5 +1,5 @@
 //! What searches one input after another with a regex.
-ghost use Rattle.std.specs.Prelude.{◌≡◌, length, None, IfOk};
+ghost use Rattle.std.specs.Prelude.{◌≡◌, length, None, IfOk, OnOk};
 ghost use Rattle.rx_search.specs.GroupInfo.{slot_count};
 ghost use Rattle.rx_meta.specs.Cache.{Fits, Fits-prop};
 ghost use Rattle.rx_meta.specs.Finder.{PromisesFor, MayFail, AreSlotsOf, IsAnswerWith};

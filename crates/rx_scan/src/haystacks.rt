@@ -1,5 +1,5 @@
 //! The rows of haystacks.
-ghost use Rattle.std.specs.Prelude.{◌≡◌, ◌<◌, [], ℕ, List, true, map, IfOk, OnOk};
+ghost use Rattle.std.specs.Prelude.{◌≡◌, ◌<◌, [], ℕ, List, true, length, map, IfOk, OnOk};
 ghost use Rattle.std.specs.List.{All};
 ghost use Rattle.std.specs.Vec.{vec_items};
 ghost use Rattle.rx_model.specs.Expression.{Expression};
@@ -11,7 +11,7 @@ ghost use Rattle.rx_search.specs.declared.anchored.MatchKind.TheVariants.{Leftmo
 ghost use Rattle.rx_meta.specs.Build.{IsBuilt, patterns_for};
 ghost use Rattle.rx_meta.specs.Config.{ConfigValue, kind_of, utf8_of, prefilter_of, captures_of};
 ghost use Rattle.rx_meta.specs.Regex.{groups_in};
-ghost use Rattle.rx_scan.specs.Haystacks.{FindsRows};
+ghost use Rattle.rx_scan.specs.Haystacks.{FindsRows, HasRows};
 ghost use Rattle.rx_scan.specs.Row.{scan_rows};
 
 use crate::row::{Layout, Row};
@@ -121,9 +121,6 @@ struct Works<'a, G> {
 }
 
 impl<'a, G: Gate> Task for Works<'a, G> {
-    ghost use Rattle.std.specs.Prelude.{length};
-    ghost use Rattle.rx_scan.specs.Haystacks.{HasRows};
-
     type Value = Vec<Row>;
     type Scratch = RegexFinder<'a>;
 
