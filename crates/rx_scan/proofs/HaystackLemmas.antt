@@ -4,7 +4,7 @@ use Rattle.std.specs.List.{All}
 use Rattle.std.specs.Prelude.{map, MatchOption}
 use denote.Ref.{Bor}
 use Rattle.std.proofs.Math.Seq.{take-suc}
-use Rattle.std.proofs.lemmas.List.{get_or_read, map-append}
+use Rattle.std.proofs.lemmas.List.{get_or_default, map-append}
 use Rattle.rx_model.specs.Search.{Patterns, Match, next_match, matches, free, is_empty_at, next_after}
 use Rattle.rx_model.specs.Utf8.{MeansUtf8}
 use Rattle.rx_search.specs.Input.{InputValue, from_place, next_in, whole}
@@ -132,12 +132,12 @@ all-rows items regex r (h ∷ hs) (v ∷ vs) answers finds =
     let after = all-rows items regex r hs vs rest others in λ k. first k ∷ after k
 
 -- the rows that a search found in the haystack of a number, under the regex that it had
-pub found-at : {V E : Type 0} (items : V → List RowValue) (result : Result V E) (now first : RegexValue) (hs : List (Bor (List ℕ))) (i : ℕ) (h : Bor (List ℕ))
-    → now ≡ first → i < length hs → h ≡ get_or hs i h
-    → ((r : Patterns) → FindsRows now r h.now → IfOk result (λ v. items v ≡ scan_rows r h.now))
+pub found-at : {V E : Type 0} (items : V → List RowValue) (result : Result V E) (now first : RegexValue) (hs : List (Bor (List ℕ))) (i : ℕ) (e : Bor (List ℕ))
+    → now ≡ first → i < length hs
+    → ((r : Patterns) → FindsRows now r (get_or hs i e).now → IfOk result (λ v. items v ≡ scan_rows r (get_or hs i e).now))
     → IfOk result (λ v. HasRows first hs i (items v))
-found-at items (Err e) now first hs i h same below read rows = tt
-found-at items (Ok v) now first hs i h same below read rows = λ r d finds.
-    let there : h ≡ get_or hs i d = get_or_read hs i h below read d in
-    let here : FindsRows first r h.now = subst (λ (b : Bor (List ℕ)). FindsRows first r b.now) (sym there) finds in
-    subst (λ (b : Bor (List ℕ)). items v ≡ scan_rows r b.now) there (rows r (same-finds now first r h.now same here))
+found-at items (Err error) now first hs i e same below rows = tt
+found-at items (Ok v) now first hs i e same below rows = λ r d finds.
+    let there : get_or hs i e ≡ get_or hs i d = get_or_default hs i e d below in
+    let here : FindsRows first r (get_or hs i e).now = subst (λ (b : Bor (List ℕ)). FindsRows first r b.now) (sym there) finds in
+    subst (λ (b : Bor (List ℕ)). items v ≡ scan_rows r b.now) there (rows r (same-finds now first r (get_or hs i e).now same here))

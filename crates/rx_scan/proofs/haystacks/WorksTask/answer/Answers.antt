@@ -9,5 +9,4 @@ find_rows-requires g c = c.args.self.now.own ∙ ap groups_in (sym c.requires.fi
 
 pub returns-clause-answer : goal.returns-clause-answer
 returns-clause-answer g c =
-    found-at vec_items c.find_rows.result _ c.args.self.now.regex.now c.args.self.now.haystacks.now c.args.index _ c.requires.fit c.requires.there ?
-    c.find_rows.ensures.rows
+    found-at vec_items c.find_rows.result _ c.args.self.now.regex.now c.args.self.now.haystacks.now c.args.index _ c.requires.fit c.requires.there c.find_rows.ensures.rows
