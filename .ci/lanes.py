@@ -1,7 +1,7 @@
 #!/usr/bin/env python3
 """Prints how many checks `rt ci` may run side by side on this machine, where these are two or more; else nothing.
 
-Left alone, `rt ci` counts for each check the most memory that one of its size may take: 12.7 GB for rx_dfa, where 2 were
+Left alone, `rt ci` counts for each check the most memory that one of its size may take: 12.7 GB for rx_dfa, where 2.8 were
 seen. So it leaves processors idle (DECISIONS: every processor has a check). Both the machine's and the group's limits count.
 """
 import os
