@@ -10,10 +10,11 @@ use Rattle.rx_search.specs.Matches.{MatchValue, match_value}
 use Rattle.rx_search.specs.Promise.{Premises, Promised}
 use Rattle.rx_search.specs.Told.{tells, told_in, HasSlots, AreWithin}
 use Rattle.rx_strategy.proofs.AnswerLemmas.{told-yes}
-use Rattle.rx_strategy.proofs.StrategyLemmas.{finds-told}
+use Rattle.rx_strategies.proofs.StrategyLemmas.{finds-told}
 use Rattle.rx_meta.specs.Finder.{IsExactFor, AreSlotsOf, IsAnswerWith}
 use Rattle.rx_meta.specs.Regex.{RegexValue, Serves, searches, given_needles, kind_in, pattern_count}
 use Rattle.rx_meta.specs.Search.{IsAnswer, AreSlotsOfAnswer}
+use Rattle.rx_meta.proofs.ServeLemmas.{premises-of}
 
 -- nothing is told where matches are not
 pub untold-none : (r : Patterns) (v : InputValue) → tells r.which_captures ≡ false → told_in r v ≡ None
@@ -27,8 +28,8 @@ exact-next regex r v p = record { premises = p.premises; next = λ told. (p.left
 module _ (regex : RegexValue) (v : InputValue) (within : v.end ≤ length v.haystack) (r : Patterns) where
   -- what is searched for is the next match, where matches are told
   pub searches-told : Premises (Serves regex r) (given_needles regex) r v → searches regex v ≡ told_in r v
-  unfolding searches Serves
-  searches-told premises = finds-told regex.strategy v within r premises.is_for.0
+  unfolding searches
+  searches-told premises = finds-told regex.strategy r v within (premises-of regex v r premises)
 
   pub searches-next : Premises (Serves regex r) (given_needles regex) r v → tells r.which_captures ≡ true → searches regex v ≡ next_in r v
   searches-next premises told = searches-told premises ∙ told-yes r v told

@@ -8,5 +8,4 @@ pub mod GapLemmas
 pub mod CapturingLemmas
 pub mod CapturedLemmas
 pub mod IteratorLemmas
-pub mod CacheLemmas
 pub mod SuccessiveLemmas

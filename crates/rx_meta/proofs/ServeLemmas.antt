@@ -7,9 +7,9 @@ use Rattle.rx_search.specs.Input.{InputValue, next_in}
 use Rattle.rx_search.specs.Promise.{Premises, Promised}
 use Rattle.rx_search.specs.Sets as sets
 use Rattle.rx_search.specs.Told.{HasSlots}
-use Rattle.rx_strategy.specs.Strategy as strategy
+use Rattle.rx_strategies.specs.Strategy as strategy
 use Rattle.rx_strategy.proofs.AnswerLemmas as lower
-use Rattle.rx_strategy.specs.declared.strategy.Strategy.{Strategy}
+use Rattle.rx_strategies.specs.declared.strategy.Strategy.{Strategy}
 use Rattle.rx_meta.specs.Regex.{RegexValue, Serves, given_needles, kind_in}
 use Rattle.rx_meta.specs.Search.{IsAnswer, AreSlotsOfAnswer, TellsWhether}
 use Rattle.rx_meta.specs.Sets.{AddsMatching, IsFilled}
@@ -23,7 +23,7 @@ pub with_strategy : (regex : RegexValue) {s : Strategy} → s ≡ regex.strategy
 with_strategy regex is = ap (λ (s : Strategy). record { config = regex.config; strategy = s }) is
 
 module _ (regex : RegexValue) (v : InputValue) where
-  premises-of : (r : Patterns) → Premises (Serves regex r) (given_needles regex) r v
+  pub premises-of : (r : Patterns) → Premises (Serves regex r) (given_needles regex) r v
       → Premises (strategy.IsFor regex.strategy r) (strategy.prefilter_in regex.strategy) r v
   unfolding Serves
   premises-of r p = record { is_for = p.is_for.0; begins = λ loose. p.is_for.1 (p.begins loose); utf8 = p.utf8 }

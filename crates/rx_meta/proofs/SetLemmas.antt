@@ -19,17 +19,26 @@ use Rattle.rx_search.specs.Promise.{Premises}
 use Rattle.rx_search.specs.declared.anchored.MatchKind.TheVariants.{All}
 use Rattle.rx_search.specs.Sets.{MatchesIn}
 use Rattle.rx_engines.proofs.lemmas.answers.OverlapLemmas.{run-matches}
-use Rattle.rx_strategy.specs.Strategy as strategy
-use Rattle.rx_strategy.specs.declared.strategy.Strategy.{Strategy}
-use Rattle.rx_strategy.specs.declared.strategy.Strategy.TheVariants.{Core}
+use Rattle.rx_strategy.specs.Strategy as lower
+use Rattle.rx_strategy.specs.declared.strategy.Strategy.{Strategy as CoreStrategy}
+use Rattle.rx_strategy.specs.declared.strategy.Strategy.TheVariants.{Core as TheCore}
+use Rattle.rx_strategies.specs.Strategy as strategy
+use Rattle.rx_strategies.specs.declared.strategy.Strategy.{Strategy}
+use Rattle.rx_strategies.specs.declared.strategy.Strategy.TheVariants.{Pre, Core, ReverseAnchored}
+use Rattle.rx_strategies.proofs.StrategyLemmas.{pre-ordered}
 use Rattle.rx_meta.specs.Laws.{MeansInSpan, MeansFromPermitted, HasNoEmptyMatch}
 use Rattle.rx_meta.specs.Regex.{RegexValue, Serves, given_needles, kind_in}
 use Rattle.rx_meta.specs.Sets.{AddsMatching, IsFilled}
 
 -- the counts of the expressions of a regex are in order
 
+core-ordered : (s : CoreStrategy) (r : Patterns) → lower.IsFor s r → (p : ℕ) (h : Expression) → slice_get r.expressions p ≡ Some h → AreOrdered h
+core-ordered (TheCore core) r is = is.ordered
+
 strategy-ordered : (s : Strategy) (r : Patterns) → strategy.IsFor s r → (p : ℕ) (h : Expression) → slice_get r.expressions p ≡ Some h → AreOrdered h
-strategy-ordered (Core core) r is = is.ordered
+strategy-ordered (Pre p) r is = pre-ordered p r is
+strategy-ordered (Core core) r is = core-ordered core r is
+strategy-ordered (ReverseAnchored core) r is = core-ordered core r is
 
 serves-ordered : (regex : RegexValue) (r : Patterns) → Serves regex r → (p : ℕ) (h : Expression) → slice_get r.expressions p ≡ Some h → AreOrdered h
 unfolding Serves

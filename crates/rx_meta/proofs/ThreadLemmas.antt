@@ -1,7 +1,7 @@
 -- A regex may go to other threads, and be shared with them, since its strategy may.
 use denote.Param.Send.{IsSend, IsSync, sendable}
 use Rattle.std.proofs.Crossing.{crosses}
-use Rattle.rx_strategy.proofs.ThreadLemmas.{strategy_send, strategy_sync}
+use Rattle.rx_strategies.proofs.ThreadLemmas.{strategy_send, strategy_sync}
 use Rattle.rx_strategy.proofs.config.Config.TheSendSync as config
 use Rattle.rx_meta.specs.contracts.regex.Regex as regex
 

@@ -1,5 +1,5 @@
 -- What a build answers.
-use Rattle.std.specs.Prelude.{◌≡◌, ℕ, true, false, ◌+◌, ◌-◌, ◌*◌, ◌^◌, ◌/◌, ◌<◌, ◌≤◌, min, List, length, Some, IfSome, slice_get, Ok, Err, if◌then◌else◌}
+use Rattle.std.specs.Prelude.{◌≡◌, ℕ, true, false, ◌+◌, ◌-◌, ◌*◌, ◌^◌, ◌/◌, ◌<◌, ◌≤◌, min, List, length, Option, Some, None, IfSome, IsSomeAnd, slice_get, Ok, Err, if◌then◌else◌}
 use Rattle.rx_model.specs.Expression.{Expression, alternation, AreOrdered}
 use Rattle.rx_model.specs.Search.{Patterns}
 use Rattle.rx_search.specs.Input.{InputValue}
@@ -14,11 +14,12 @@ use Rattle.rx_thompson.specs.declared.error.BuildError.{BuildError as CompilerEr
 use Rattle.rx_thompson.specs.declared.error.BuildError.TheVariants.{Syntax as Refused, TooManyPatterns, TooManyGroups, TooManyStates}
 use Rattle.rx_thompson.specs.declared.error.BuildError.TheVariants.{ExceededSizeLimit, Memory as NoMemory}
 use Rattle.rx_meta.specs.Cache.{CacheValue, Fits, accounted_for, states_memory}
-use Rattle.rx_meta.specs.Config.{Config, kind_of, utf8_of, terminator_of, captures_of, size_limit_of, has_backtracker, asks_for_dfas, dfa_of, hybrid_of, dfa_size_limit_of, hybrid_cache_capacity_of}
+use Rattle.rx_meta.specs.Config.{Config, kind_of, utf8_of, terminator_of, captures_of, size_limit_of, has_backtracker, asks_for_dfas, dfa_of, hybrid_of, dfa_size_limit_of, dfa_state_limit_of, hybrid_cache_capacity_of}
 use Rattle.rx_meta.specs.Impossible.{is_impossible, IsKnownImpossible}
+use Rattle.rx_meta.specs.Name.{literals_for, literal_name, chosen, accounted, plain_name}
 use Rattle.rx_meta.specs.Prefilter.{prefilter_for, prefilter_memory}
 use Rattle.rx_meta.specs.Reading.{reading_of}
-use Rattle.rx_meta.specs.Regex.{RegexValue, Serves, kind_in, groups_in, pattern_count, properties_in, prefilter_in, regex_memory, tables_memory, has_lazy, IsMadeUnder}
+use Rattle.rx_meta.specs.Regex.{RegexValue, Serves, kind_in, groups_in, pattern_count, properties_in, prefilter_in, regex_memory, tables_memory, has_lazy, has_dfas, name_of, IsMadeUnder}
 use Rattle.rx_meta.specs.declared.error.BuildError.{BuildError}
 use Rattle.rx_meta.specs.declared.error.BuildError.TheVariants.{Syntax, NFA, Memory}
 
@@ -50,6 +51,37 @@ cache_memory c hs = min (2 ^ 64 - 1) (engine_memory hs + (if has_backtracker c t
 abbrev pub nfas_memory : Config → List Expression → ℕ
 nfas_memory c hs = state_size * nfa_states hs + (if asks_for_dfas c then state_size * nfa_states hs else 0)
 
+-- what is accounted for the regex: where it looks for literals alone, what is accounted for that search
+abbrev pub memory_by : Option (List (List ℕ)) → Config → List Expression → (tables : ℕ) → ℕ
+memory_by (Some needles) c hs tables = accounted (chosen needles) needles
+memory_by None c hs tables = min (2 ^ 64 - 1) (64 * (length hs + 1) + prefilter_memory (prefilter_for c hs) + nfas_memory c hs + tables)
+
+-- and for a cache of it, which is nothing there
+abbrev pub cache_memory_by : Option (List (List ℕ)) → Config → List Expression → ℕ
+cache_memory_by (Some needles) c hs = 0
+cache_memory_by None c hs = cache_memory c hs
+
+-- the needles of the prefilter beside its engines, which it has none of there
+abbrev pub prefilter_by : Option (List (List ℕ)) → Config → List Expression → Option (List (List ℕ))
+prefilter_by (Some needles) c hs = None
+prefilter_by None c hs = prefilter_for c hs
+
+-- the least capacity of a lazy DFA of these expressions
+abbrev pub least_capacity : List Expression → ℕ
+least_capacity hs = 16384 + 16 * nfa_states hs
+
+-- Which strategy the regex of these expressions has, by its name.
+pub record IsNamed (c : Config) (hs : List Expression) (regex : RegexValue) : Type 0 where
+  -- the literals, where they stand for all that the expressions are
+  pub literals : IfSome (literals_for c hs) (λ needles. name_of regex ≡ literal_name (chosen needles))
+  -- else it depends on whether DFAs are there
+  pub plain : literals_for c hs ≡ None → name_of regex ≡ plain_name hs (has_dfas regex)
+  -- which they are where lazy ones are asked for, and have room
+  pub dfas : literals_for c hs ≡ None → hybrid_of c ≡ true → least_capacity hs ≤ hybrid_cache_capacity_of c → has_dfas regex ≡ true
+  -- and not where neither these have room, nor so few states are accounted that full ones are made
+  pub no_dfas : literals_for c hs ≡ None → hybrid_cache_capacity_of c < least_capacity hs → IsSomeAnd (dfa_state_limit_of c) (λ limit. limit < nfa_states hs)
+      → has_dfas regex ≡ false
+
 -- the regex of these expressions
 pub record IsBuilt (c : Config) (hs : List Expression) (regex : RegexValue) : Type 0 where
   pub config : regex.config ≡ c
@@ -73,14 +105,15 @@ pub record IsBuilt (c : Config) (hs : List Expression) (regex : RegexValue) : Ty
   -- no count and no cost passes its limit
   pub allowed : AreAllowed c hs
   -- what is accounted for it, and for its caches
-  pub memory : regex_memory regex
-      ≡ min (2 ^ 64 - 1) (64 * (length hs + 1) + prefilter_memory (prefilter_for c hs) + nfas_memory c hs + tables_memory regex)
-  pub cache : accounted_for regex ≡ cache_memory c hs
+  pub memory : regex_memory regex ≡ memory_by (literals_for c hs) c hs (tables_memory regex)
+  pub cache : accounted_for regex ≡ cache_memory_by (literals_for c hs) c hs
   -- its properties are those of the expressions together, so that it is known where no match is possible
   pub properties : AreOf (alternation (expressions hs)) (properties_in regex)
   pub impossible : (v : InputValue) → is_impossible hs v ≡ true → IsKnownImpossible regex v
   -- it searches with the prefilter that these expressions have under the configuration
-  pub pre : prefilter_in regex ≡ prefilter_for c hs
+  pub pre : prefilter_in regex ≡ prefilter_by (literals_for c hs) c hs
+  -- which strategy it has
+  pub named : IsNamed c hs regex
 
 -- Why so many patterns, of which the first ones read as these expressions, pass a limit. Numbers are told up to the
 -- greatest of 64 bits. Neither what the grammar refuses nor want of memory is told so.

@@ -1,7 +1,6 @@
 -- What the searches of a regex write to. What is in it is the strategy's own: a contract sees it by these definitions alone.
 use Rattle.std.specs.Prelude.{◌≡◌, ℕ}
-use Rattle.rx_strategy.specs.Cache as strategy
-use Rattle.rx_strategy.specs.Dfas as dfas
+use Rattle.rx_strategies.specs.Cache as strategy
 use Rattle.rx_meta.specs.Regex.{RegexValue}
 
 pub record CacheValue : Type 0 where
@@ -22,11 +21,11 @@ memory_of cache = strategy.memory_of cache.rooms
 
 -- what is accounted for the states of lazy DFAs that it holds
 unfoldable pub states_memory : CacheValue → ℕ
-states_memory cache = dfas.states_memory cache.rooms.lazies
+states_memory cache = strategy.states_in cache.rooms
 
 -- what is accounted for it but for those
 unfoldable pub fixed_memory : CacheValue → ℕ
-fixed_memory cache = cache.rooms.memory
+fixed_memory cache = strategy.fixed_in cache.rooms
 
 -- what is accounted for a cache that is made for the regex
 unfoldable pub accounted_for : RegexValue → ℕ

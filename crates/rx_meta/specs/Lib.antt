@@ -1,5 +1,6 @@
 pub mod Config
 pub mod Prefilter
+pub mod Name
 pub mod Error
 pub mod Reading
 pub mod Regex

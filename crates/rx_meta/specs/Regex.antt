@@ -1,6 +1,6 @@
 -- What a regex is to a contract. How it searches is its strategy's own: a contract sees it by these definitions alone, which do
 -- not unfold by themselves.
-use Rattle.std.specs.Prelude.{ℕ, ◌+◌, ◌-◌, ◌*◌, ◌^◌, min, Bool, List, Option}
+use Rattle.std.specs.Prelude.{ℕ, Bool, List, Option}
 use Rattle.rx_model.specs.Expression.{Expression}
 use Rattle.rx_model.specs.Search.{Patterns, Match}
 use Rattle.rx_search.specs.Input.{InputValue}
@@ -8,9 +8,9 @@ use Rattle.rx_search.specs.Needles.{BeginsEachMatch}
 use Rattle.rx_search.specs.declared.anchored.MatchKind.{MatchKind}
 use Rattle.rx_hir.specs.declared.hir.properties.Properties.{Properties}
 use Rattle.rx_strategy.specs.Config.{prefilter_of}
-use Rattle.rx_strategy.specs.Strategy as strategy
 use Rattle.rx_strategy.specs.declared.config.Config.{Config}
-use Rattle.rx_strategy.specs.declared.strategy.Strategy.{Strategy}
+use Rattle.rx_strategies.specs.Strategy as strategy
+use Rattle.rx_strategies.specs.declared.strategy.Strategy.{Strategy}
 
 pub record RegexValue : Type 0 where
   pub config : Config
@@ -48,10 +48,21 @@ given_needles regex = prefilter_of regex.config
 unfoldable pub Serves : RegexValue → Patterns → Type 0
 Serves regex r = strategy.IsFor regex.strategy r × (BeginsEachMatch (given_needles regex) r → BeginsEachMatch (strategy.prefilter_in regex.strategy) r)
 
--- What is accounted for a regex, up to the greatest number of 64 bits: 64 for the properties of each pattern, 64 for those
--- of all of them, and what is accounted for its strategy.
+-- what is accounted for a regex
 unfoldable pub regex_memory : RegexValue → ℕ
-regex_memory regex = min (2 ^ 64 - 1) (64 * (strategy.pattern_count regex.strategy + 1) + strategy.strategy_memory regex.strategy)
+regex_memory regex = strategy.strategy_memory regex.strategy
+
+-- the name of its strategy
+unfoldable pub name_of : RegexValue → List ℕ
+name_of regex = strategy.name_of regex.strategy
+
+-- a search of it may leave out much of the haystack
+unfoldable pub is_accelerated : RegexValue → Bool
+is_accelerated regex = strategy.is_accelerated regex.strategy
+
+-- it has DFAs
+unfoldable pub has_dfas : RegexValue → Bool
+has_dfas regex = strategy.has_dfas regex.strategy
 
 -- what is accounted for the tables of its full DFAs, if it has some
 unfoldable pub tables_memory : RegexValue → ℕ

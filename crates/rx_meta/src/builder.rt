@@ -9,7 +9,8 @@ use crate::reading::read_patterns;
 use crate::regex::Regex;
 use rx_hir::Hir;
 use rx_search::Memory;
-use rx_strategy::{Config, Strategy};
+use rx_strategies::Strategy;
+use rx_strategy::Config;
 use std::alloc::Global;
 use std::{mem, slice};
 

@@ -12,7 +12,7 @@ use std::marker::Model;
 /// What the searches of a regex write to. It is made once, and serves one search after another.
 #[derive(Drop)]
 pub struct Cache {
-    pub(crate) rooms: rx_strategy::Cache,
+    pub(crate) rooms: rx_strategies::Cache,
 }
 
 impl Model for Cache {

@@ -12,7 +12,7 @@ ghost use Rattle.rx_meta.specs.Build.{IsBuiltOf, IsRefusedFor};
 ghost use Rattle.rx_meta.specs.Cache.{Fits, AccountsAlike, memory_of, accounted_for, states_memory};
 ghost use Rattle.rx_meta.specs.Config.{nothing_set};
 ghost use Rattle.rx_meta.specs.Impossible.{IsKnownImpossible};
-ghost use Rattle.rx_meta.specs.Regex.{Serves, groups_in, pattern_count, regex_memory};
+ghost use Rattle.rx_meta.specs.Regex.{Serves, groups_in, pattern_count, regex_memory, name_of, is_accelerated};
 ghost use Rattle.rx_meta.specs.Search.{IsAnswer, AreSlotsOfAnswer, TellsWhether};
 
 use crate::builder::Builder;
@@ -21,13 +21,11 @@ use crate::error::BuildError;
 use crate::found::pattern;
 use rx_engines::empty;
 use rx_search::{GroupInfo, HalfMatch, Input, Match, Memory, NonMaxUsize, PatternID};
-use rx_strategy::{Config, Strategy};
+use rx_strategies::Strategy;
+use rx_strategy::Config;
 use std::alloc::Global;
 use std::marker::Model;
 use std::sync::{Arc, Wait};
-
-/// The bytes that are accounted for the properties of a pattern.
-const PROPERTIES_SIZE: usize = 64;
 
 /// Patterns that are searched for together. It is built once, and may be searched from many threads at once.
 ///
@@ -408,16 +406,31 @@ impl Regex {
         self.strategy().pattern_len()
     }
 
-    /// The bytes that are accounted for the regex: 64 for the properties of each pattern and for those of all of them
-    /// together, and what is accounted for its prefilter, its NFAs and its full DFAs; or the greatest `usize` where they are
-    /// more.
+    /// The bytes that are accounted for the regex. Where it looks for literals alone they are those of that search. Else they are 64 for
+    /// the properties of each pattern and for those of all of them together, and what is accounted for its prefilter, its NFAs and its
+    /// full DFAs; or the greatest `usize` where they are more.
     #[tactic(auto, unfolding(crate::specs::Regex::regex_memory))]
     pub fn memory_usage(&self) -> usize
         ensures { result ≡ regex_memory self.now }
     {
-        let properties = PROPERTIES_SIZE * (self.strategy().pattern_len() + 1);
-        // Needles may be of any length (DECISIONS: what is accounted for a regex stops at the greatest number of 64 bits).
-        properties.saturating_add(self.strategy().memory_usage())
+        self.strategy().memory_usage()
+    }
+
+    /// The name of the strategy by which it searches: `core`, `reverse anchored`, or `prefilter` and the kind of search for literals.
+    /// It may change from version to version.
+    #[tactic(auto, unfolding(crate::specs::Regex::name_of))]
+    pub fn strategy_name(&self) -> &'static str
+        ensures { result.now ≡ name_of self.now }
+    {
+        self.strategy().name()
+    }
+
+    /// Whether a search may leave out much of the haystack: by a prefilter that is expected to be fast, or since it reads from the end.
+    #[tactic(auto, unfolding(crate::specs::Regex::is_accelerated))]
+    pub fn is_accelerated(&self) -> bool
+        ensures { result ≡ is_accelerated self.now }
+    {
+        self.strategy().is_accelerated()
     }
 
     /// The groups of each pattern. A group that the configuration leaves out has slots too, which stay empty.

@@ -4,6 +4,7 @@ pub mod HaystackLemmas
 pub mod LayoutLemmas
 pub mod LineLemmas
 pub mod PatternLemmas
+pub mod NameLemmas
 pub mod ReadingLemmas
 pub mod RunLemmas
 pub mod SizeLemmas

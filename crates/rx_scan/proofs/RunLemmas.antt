@@ -17,12 +17,12 @@ pub Gave-none : (left : Option (List ℕ)) → Gave left left [] Usage
 Gave-none left = record { bytes = Consumes-nil left; limit = omega arith; whole = λ e. absurd (false≢true e) }
 
 -- the whole input was given, or more than the limit
-pub Gave-input : (left left' : Option (List ℕ)) (given : List ℕ) (a : AnswerValue) → a ≡ answer_input given → Consumes left left' given
+pub Gave-input : (command : Command) (left left' : Option (List ℕ)) (given : List ℕ) (a : AnswerValue) → a ≡ answer_input command given → Consumes left left' given
     → length given ≤ 16777217
     → (length given ≤ 16777216 → IsAtEnd left') → Gave left left' given a.status
-Gave-input left left' given a e bytes limit whole =
+Gave-input command left left' given a e bytes limit whole =
     let P : AnswerValue → Type 0 = λ b. Gave left left' given b.status in
-    subst P (sym e) (record { bytes = bytes; limit = limit; whole = λ all. whole (answer_input-short given all) })
+    subst P (sym e) (record { bytes = bytes; limit = limit; whole = λ all. whole (answer_input-short command given all) })
 
 module _ (words : List (List ℕ)) (left left' held held' : Option (List ℕ)) (faults faults' result : ℕ) (a : AnswerValue) (given : List ℕ)
     (same : answer words given ≡ a) (gave : Gave left left' given a.status) (few : code a.status ≤ 5) where
@@ -41,14 +41,14 @@ module _ (words : List (List ℕ)) (left left' held held' : Option (List ℕ)) (
       (failed.1, (given, p.0, p.1))
 
 -- the answer to what was given, where the words are those of a command
-pub same-scan : (words : List (List ℕ)) (given : List ℕ) (a : AnswerValue) (command : Command) → Some command ≡ command_of words → a ≡ answer_input given
+pub same-scan : (words : List (List ℕ)) (given : List ℕ) (a : AnswerValue) (command : Command) → Some command ≡ command_of words → a ≡ answer_input command given
     → answer words given ≡ a
 same-scan words given a command scan e = answer-scan words given command (sym scan) ∙ sym e
 
-pub few-scan : (given : List ℕ) (a : AnswerValue) → a ≡ answer_input given → code a.status ≤ 5
-few-scan given a e =
+pub few-scan : (command : Command) (given : List ℕ) (a : AnswerValue) → a ≡ answer_input command given → code a.status ≤ 5
+few-scan command given a e =
     let P : AnswerValue → Type 0 = λ b. code b.status ≤ 5 in
-    subst P (sym e) (answer_input-few given)
+    subst P (sym e) (answer_input-few command given)
 
 module _ (a : AnswerValue) (held held' : Option (List ℕ)) (faults faults' result : ℕ) (few : code a.status ≤ 5) where
   pub finished-few : Finished a held held' faults faults' result → (result ≤ 5) ⊎ (result ≡ 7)

@@ -1,17 +1,21 @@
 -- The answer to words and an input: a status and a text.
-use Rattle.std.specs.Prelude.{ℕ, List, ◌++◌, length, map, Option, Some, None, codes, decimal, nat_lt, Result, Ok, Err, if◌then◌else◌}
+use Rattle.std.specs.Prelude.{ℕ, List, ◌++◌, length, map, Option, Some, None, codes, decimal, nat_lt, nat_le, Result, Ok, Err, if◌then◌else◌}
 use Rattle.std.specs.Str.{is_utf8}
 use Rattle.std.specs.Str.Lossy.{utf8_valid_len}
 use Rattle.rx_model.specs.Expression.{Expression}
+use Rattle.rx_search.specs.declared.anchored.MatchKind.TheVariants.{LeftmostFirst}
+use Rattle.rx_hir.specs.Cost.{nfa_states}
 use Rattle.rx_reader.specs.Config.{default}
 use Rattle.rx_reader.specs.Refusal.{text_of}
 use Rattle.rx_reader.specs.declared.error.SyntaxErrorKind.{SyntaxErrorKind}
 use Rattle.rx_syntax.specs.Patterns.{Refusal, all_read}
+use Rattle.rx_meta.specs.Name.{literal_needles, literal_name, chosen, plain_name}
 use Rattle.rx_scan.specs.Arguments.{command_of}
 use Rattle.rx_scan.specs.Input.{lines, patterns, haystacks}
 use Rattle.rx_scan.specs.Patterns.{patterns_of, are_small}
 use Rattle.rx_scan.specs.Row.{scan_rows, rows_text}
 use Rattle.rx_scan.specs.declared.arguments.Command.{Command}
+use Rattle.rx_scan.specs.declared.arguments.Command.TheVariants.{Scanning, Explain}
 use Rattle.rx_scan.specs.declared.status.Status.{Status}
 use Rattle.rx_scan.specs.declared.status.Status.TheVariants.{Rows, Pattern, Usage, NotUtf8, TooLong, TooBig}
 
@@ -40,26 +44,44 @@ too_big = record { status = TooBig; text = codes "patterns too big\n" }
 abbrev pub all_rows : List Expression → (haystacks : List (List ℕ)) → AnswerValue
 all_rows hs texts = record { status = Rows; text = rows_text 1 (map (scan_rows (patterns_of hs)) texts) }
 
+-- The name of the strategy that a regex of these has under the default configuration, where a DFA is there for so many accounted states
+-- alone.
+abbrev pub name_by : Option (List (List ℕ)) → List Expression → List ℕ
+name_by (Some needles) hs = literal_name (chosen needles)
+name_by None hs = plain_name hs (nat_le (nfa_states hs) 130048)
+
+unfoldable pub strategy_name : List Expression → List ℕ
+strategy_name hs = name_by (literal_needles LeftmostFirst hs) hs
+
+-- how the matches would be found
+abbrev pub explained : List Expression → AnswerValue
+explained hs = record { status = Rows; text = codes "strategy " ++ strategy_name hs ++ codes "\n" }
+
+-- what is told of these expressions
+abbrev pub told : Command → List Expression → (haystacks : List (List ℕ)) → AnswerValue
+told (Scanning scan) hs texts = all_rows hs texts
+told Explain hs texts = explained hs
+
 -- the answer to what the patterns read as, and haystacks
-unfoldable pub answer_patterns : Result (List Expression) Refusal → List (List ℕ) → AnswerValue
-answer_patterns (Err refusal) texts = refused refusal.pattern refusal.error.kind
-answer_patterns (Ok hs) texts = if are_small hs then all_rows hs texts else too_big
+unfoldable pub answer_patterns : Command → Result (List Expression) Refusal → List (List ℕ) → AnswerValue
+answer_patterns command (Err refusal) texts = refused refusal.pattern refusal.error.kind
+answer_patterns command (Ok hs) texts = if are_small hs then told command hs texts else too_big
 
 -- the answer to a text, which is UTF-8 and not too long
-unfoldable pub answer_text : List ℕ → AnswerValue
-answer_text text = answer_patterns (all_read default (patterns (lines text))) (haystacks (lines text))
+unfoldable pub answer_text : Command → List ℕ → AnswerValue
+answer_text command text = answer_patterns command (all_read default (patterns (lines text))) (haystacks (lines text))
 
 -- the answer to an input
-unfoldable pub answer_input : List ℕ → AnswerValue
-answer_input input =
+unfoldable pub answer_input : Command → List ℕ → AnswerValue
+answer_input command input =
     if nat_lt 16777216 (length input) then too_long
-    else if is_utf8 input then answer_text input
+    else if is_utf8 input then answer_text command input
     else not_utf8 (utf8_valid_len input)
 
 -- the answer to a command, if there is one, and an input
 abbrev pub answer_command : Option Command → (input : List ℕ) → AnswerValue
 answer_command None input = usage
-answer_command (Some command) input = answer_input input
+answer_command (Some command) input = answer_input command input
 
 -- the answer to words and an input
 unfoldable pub answer : (words : List (List ℕ)) → (input : List ℕ) → AnswerValue

@@ -1,13 +1,15 @@
 -- The words of the command line.
 use Prim.Native.String.{String}
-use Rattle.std.specs.Prelude.{ℕ, ◌+◌, ◌-◌, ◌*◌, Bool, true, false, not, ◌&&◌, ◌==◌, nat_eq, nat_le, List, [], ◌∷◌, Option, Some, None, option_map, codes, drop, if◌then◌else◌}
+use Rattle.std.specs.Prelude.{ℕ, ◌+◌, ◌-◌, ◌*◌, ◌<◌, Bool, true, false, not, ◌&&◌, ◌==◌, nat_eq, nat_le, List, [], ◌∷◌, Option, Some, None, option_map, codes, drop, if◌then◌else◌}
 use Rattle.std.specs.List.{list_any, starts_with}
 use Rattle.std.specs.Option.{option_or}
 use Rattle.std.specs.Str.{bytes_eq}
 use Rattle.rx_reader.specs.Reading.{◌∈◌}
 use Rattle.rx_meta.specs.Config.{ConfigValue, nothing_set}
 use Rattle.rx_scan.specs.declared.arguments.Command.{Command}
+use Rattle.rx_scan.specs.declared.arguments.Command.TheVariants.{Scanning, Explain}
 use Rattle.rx_scan.specs.declared.arguments.Off.{Off}
+use Rattle.rx_scan.specs.declared.arguments.Scan.{Scan}
 
 -- what a decimal digit counts
 abbrev pub digit : ℕ → ℕ
@@ -70,26 +72,38 @@ off_of word =
     if starts_with nat_eq word (codes "off:") && is_nonempty (drop 4 word) && are_letters (drop 4 word) then Some (switched_off (drop 4 word)) else None
 
 -- a scan with so many workers, and with all that there is; one with one worker, and without this
-abbrev pub with_workers : ℕ → Command
+abbrev pub with_workers : ℕ → Scan
 with_workers n = record { workers = n; off = switched_off [] }
 
-abbrev pub without : Off → Command
+abbrev pub without : Off → Scan
 without off = record { workers = 1; off = off }
 
 -- both are there
-abbrev pub both_of : Option ℕ → Option Off → Option Command
+abbrev pub both_of : Option ℕ → Option Off → Option Scan
 both_of (Some n) (Some off) = Some (record { workers = n; off = off })
 both_of (Some n) None = None
 both_of None off = None
 
 -- what a scan's options ask for: the number of workers, then what is switched off; both may be left out
-abbrev pub options_of : List (List ℕ) → Option Command
+abbrev pub options_of : List (List ℕ) → Option Scan
 options_of [] = Some (with_workers 1)
 options_of (option ∷ []) = option_or (option_map with_workers (workers_of option)) (option_map without (off_of option))
 options_of (workers ∷ off ∷ []) = both_of (workers_of workers) (off_of off)
 options_of (workers ∷ off ∷ other ∷ words) = None
 
--- what the words ask for: `scan`, and its options
+-- there are workers, where it is a scan
+abbrev pub HasWorkers : Command → Type 0
+HasWorkers (Scanning scan) = 0 < scan.workers
+HasWorkers Explain = Unit {0}
+
+abbrev pub has_none : List (List ℕ) → Bool
+has_none [] = true
+has_none (word ∷ words) = false
+
+-- what the words ask for: `scan`, and its options; or `explain` alone
 abbrev pub command_of : List (List ℕ) → Option Command
 command_of [] = None
-command_of (word ∷ options) = if bytes_eq word (codes "scan") then options_of options else None
+command_of (word ∷ options) =
+    if bytes_eq word (codes "scan") then option_map Scanning (options_of options)
+    else if bytes_eq word (codes "explain") then (if has_none options then Some Explain else None)
+    else None

@@ -1,16 +1,18 @@
 //! The answer to an input.
-ghost use Rattle.std.specs.Prelude.{◌≡◌, ◌<◌, ℕ, length, Result, Ok, IfOk, MatchResult, List};
+ghost use Rattle.std.specs.Prelude.{◌≡◌, ◌<◌, ℕ, [], length, Result, Ok, IfOk, MatchResult, List};
 ghost use Rattle.rx_model.specs.Expression.{Expression};
 ghost use Rattle.rx_meta.specs.Build.{IsBuilt};
 ghost use Rattle.rx_reader.specs.Config.{default};
 ghost use Rattle.rx_syntax.specs.Patterns.{Refusal, RefusesAll, all_translated};
 ghost use Rattle.rx_syntax.specs.Weight.{AreWeightsOf};
-ghost use Rattle.rx_scan.specs.Arguments.{config_without};
-ghost use Rattle.rx_scan.specs.Answer.{too_long, not_utf8, refused, too_big, all_rows, answer_patterns, answer_text, answer_input};
+ghost use Rattle.rx_scan.specs.declared.arguments.Command.{Command};
+ghost use Rattle.rx_scan.specs.declared.arguments.Command.TheVariants.{Scanning, Explain};
+ghost use Rattle.rx_scan.specs.Arguments.{HasWorkers, switched_off, config_without};
+ghost use Rattle.rx_scan.specs.Answer.{too_long, not_utf8, refused, too_big, all_rows, explained, answer_patterns, answer_text, answer_input};
 ghost use Rattle.rx_scan.specs.Input.{lines};
 ghost use Rattle.rx_scan.specs.Patterns.{MeanUtf8, StandForUtf8};
 
-use crate::arguments::{Command, Off};
+use crate::arguments::{Command, Off, Scan};
 use crate::haystacks::scan;
 use crate::input::{INPUT_LIMIT, read_patterns, split_lines};
 use crate::output::{print_haystacks, push_number};
@@ -55,8 +57,8 @@ pub fn answer_input<R: Threads + Wait + Sync, G: Gate + Sync>(
     input: &[u8],
     gate: &G,
 ) -> Result<Answer, Memory>
-    requires { 0 < command.now.workers }
-    ensures { IfOk result (λ a. a ≡ answer_input input.now) }
+    requires { HasWorkers command.now }
+    ensures { IfOk result (λ a. a ≡ answer_input command.now input.now) }
 {
     // The first cause in this order decides (DECISIONS: where causes stand together).
     if input.len() > INPUT_LIMIT {
@@ -76,8 +78,8 @@ fn answer_text<R: Threads + Wait + Sync, G: Gate + Sync>(
     text: &str,
     gate: &G,
 ) -> Result<Answer, Memory>
-    requires { 0 < command.now.workers }
-    ensures { IfOk result (λ a. a ≡ answer_text text.now) }
+    requires { HasWorkers command.now }
+    ensures { IfOk result (λ a. a ≡ answer_text command.now text.now) }
 {
     match read_patterns(alloc, text) {
         Ok((asts, haystacks)) => answer_read(rt, alloc, command, asts, haystacks, gate),
@@ -95,9 +97,9 @@ fn answer_read<R: Threads + Wait + Sync, G: Gate + Sync>(
     haystacks: &str,
     gate: &G,
 ) -> Result<Answer, Memory>
-    requires workers { 0 < command.now.workers }
+    requires workers { HasWorkers command.now }
     requires utf8 { StandForUtf8 asts.items }
-    ensures { IfOk result (λ a. a ≡ answer_patterns (all_translated default asts.items) (lines haystacks.now)) }
+    ensures { IfOk result (λ a. a ≡ answer_patterns command.now (all_translated default asts.items) (lines haystacks.now)) }
 {
     // What passes a limit is refused before an expression is made (DECISIONS: `run` weighs before it translates).
     match weigh_all(alloc, &asts, &Config::new()) {
@@ -116,10 +118,10 @@ fn answer_weighed<R: Threads + Wait + Sync, G: Gate + Sync>(
     haystacks: &str,
     gate: &G,
 ) -> Result<Answer, Memory>
-    requires workers { 0 < command.now.workers }
+    requires workers { HasWorkers command.now }
     requires utf8 { StandForUtf8 asts.items }
     requires weights { AreWeightsOf (all_translated default asts.items) (length asts.items) weights }
-    ensures { IfOk result (λ a. a ≡ answer_patterns (all_translated default asts.items) (lines haystacks.now)) }
+    ensures { IfOk result (λ a. a ≡ answer_patterns command.now (all_translated default asts.items) (lines haystacks.now)) }
 {
     if !are_small(asts.len(), weights) {
         return too_big(alloc);
@@ -141,7 +143,7 @@ fn translate_last(alloc: Global, asts: Vec<Ast>) -> Result<Vec<Hir>, PatternsErr
 
 /// What is answered where a pattern is refused, or where there is no memory.
 fn refusal(alloc: Global, error: PatternsError) -> Result<Answer, Memory>
-    ensures { (r : Result (List Expression) Refusal) (texts : List (List ℕ)) → RefusesAll error r → IfOk result (λ a. a ≡ answer_patterns r texts) }
+    ensures { (command : Command) (r : Result (List Expression) Refusal) (texts : List (List ℕ)) → RefusesAll error r → IfOk result (λ a. a ≡ answer_patterns command r texts) }
 {
     match error {
         PatternsError::Syntax { pattern, error } => refused(alloc, pattern, error.kind),
@@ -158,16 +160,59 @@ fn answer_patterns<R: Threads + Wait + Sync, G: Gate + Sync>(
     haystacks: &str,
     gate: &G,
 ) -> Result<Answer, Memory>
-    requires workers { 0 < command.now.workers }
+    requires workers { HasWorkers command.now }
     requires utf8 { MeanUtf8 expressions.now }
-    ensures { IfOk result (λ a. a ≡ answer_patterns (Ok expressions.now) (lines haystacks.now)) }
+    ensures { IfOk result (λ a. a ≡ answer_patterns command.now (Ok expressions.now) (lines haystacks.now)) }
 {
     // No pattern is read twice (DECISIONS: `run` reads the patterns itself and builds the regex from their expressions).
-    match builder_without(&command.off).build_many_from_hir(alloc, expressions) {
-        Ok(regex) => all_rows(rt, alloc, command, &regex, haystacks, gate),
+    match command {
+        Command::Scanning(asked) => answer_scan(rt, alloc, asked, expressions, haystacks, gate),
+        Command::Explain => answer_explain(alloc, expressions),
+    }
+}
+
+/// The answer of a scan to the expressions of the patterns and the text of the haystacks.
+fn answer_scan<R: Threads + Wait + Sync, G: Gate + Sync>(
+    rt: &R,
+    alloc: Global,
+    asked: &Scan,
+    expressions: &[Hir],
+    haystacks: &str,
+    gate: &G,
+) -> Result<Answer, Memory>
+    requires workers { 0 < asked.now.workers }
+    requires utf8 { MeanUtf8 expressions.now }
+    ensures { IfOk result (λ a. a ≡ answer_patterns (Scanning asked.now) (Ok expressions.now) (lines haystacks.now)) }
+{
+    match builder_without(&asked.off).build_many_from_hir(alloc, expressions) {
+        Ok(regex) => all_rows(rt, alloc, asked, &regex, haystacks, gate),
         Err(BuildError::NFA(_)) => too_big(alloc),
         Err(_) => Err(Memory),
     }
+}
+
+/// The answer to what explains the search for the expressions.
+fn answer_explain(alloc: Global, expressions: &[Hir]) -> Result<Answer, Memory>
+    ensures { (texts : List (List ℕ)) → IfOk result (λ a. a ≡ answer_patterns Explain (Ok expressions.now) texts) }
+{
+    match builder_without(&Off::NOTHING).build_many_from_hir(alloc, expressions) {
+        Ok(regex) => explained(alloc, &regex),
+        Err(BuildError::NFA(_)) => too_big(alloc),
+        Err(_) => Err(Memory),
+    }
+}
+
+/// The name of the regex's strategy.
+fn explained(alloc: Global, regex: &Regex) -> Result<Answer, Memory>
+    ensures { (hs : List Expression) → IsBuilt (config_without (switched_off [])) hs regex.now → IfOk result (λ a. a ≡ explained hs) }
+{
+    let mut text = Vec::from_slice(alloc, b"strategy ")?;
+    text.extend_from_slice(regex.strategy_name().as_bytes())?;
+    text.extend_from_slice(b"\n")?;
+    Ok(Answer {
+        status: Status::Rows,
+        text,
+    })
 }
 
 /// A builder of regexes that do without these.
@@ -183,17 +228,17 @@ fn builder_without(off: &Off) -> Builder
 fn all_rows<R: Threads + Wait + Sync, G: Gate + Sync>(
     rt: &R,
     alloc: Global,
-    command: &Command,
+    asked: &Scan,
     regex: &Regex,
     haystacks: &str,
     gate: &G,
 ) -> Result<Answer, Memory>
-    requires { 0 < command.now.workers }
-    ensures { (hs : List Expression) → IsBuilt (config_without command.now.off) hs regex.now → MeanUtf8 hs
+    requires { 0 < asked.now.workers }
+    ensures { (hs : List Expression) → IsBuilt (config_without asked.now.off) hs regex.now → MeanUtf8 hs
         → IfOk result (λ a. a ≡ all_rows hs (lines haystacks.now)) }
 {
     let haystacks = split_lines(alloc, haystacks)?;
-    let rows = scan(rt, alloc, regex, &haystacks, command.workers, gate)?;
+    let rows = scan(rt, alloc, regex, &haystacks, asked.workers, gate)?;
     let mut text = Vec::new(alloc);
     print_haystacks(&mut text, &rows)?;
     Ok(Answer {

@@ -1,7 +1,8 @@
 //! The words of the command line.
-ghost use Rattle.std.specs.Prelude.{◌≡◌, ◌<◌, ◌∷◌, [], codes, map, IfSome};
+ghost use Rattle.std.specs.Prelude.{◌≡◌, ◌<◌, ◌∷◌, [], Some, None, codes, map, IfSome, if◌then◌else◌};
 ghost use Rattle.std.specs.String.{string_bytes};
-ghost use Rattle.rx_scan.specs.Arguments.{command_of, options_of, digit, is_digit_from, workers_of, off_of, are_letters, is_letter, has, switched_off, config_without};
+ghost use Rattle.rx_scan.specs.declared.arguments.Command.TheVariants.{Explain};
+ghost use Rattle.rx_scan.specs.Arguments.{HasWorkers, has_none, command_of, options_of, digit, is_digit_from, workers_of, off_of, are_letters, is_letter, has, switched_off, config_without};
 
 use rx_meta::Config;
 
@@ -21,18 +22,27 @@ pub struct Off {
     pub auto_prefilter: bool,
 }
 
-/// What the words ask for, which is a scan.
+/// A scan that is asked for.
 #[derive(Clone, Copy, Debug, PartialEq, Eq)]
-pub struct Command {
+pub struct Scan {
     /// How many workers it has.
     pub workers: usize,
     /// What is switched off.
     pub off: Off,
 }
 
+/// What the words ask for.
+#[derive(Clone, Copy, Debug, PartialEq, Eq)]
+pub enum Command {
+    /// The rows of all matches.
+    Scanning(Scan),
+    /// The name of the strategy that would find them.
+    Explain,
+}
+
 impl Off {
     /// Nothing is switched off.
-    const NOTHING: Off = Off {
+    pub const NOTHING: Off = Off {
         dfa: false,
         hybrid: false,
         onepass: false,
@@ -56,31 +66,45 @@ impl Off {
 /// The number of workers where the words name none.
 const WORKERS: usize = 1;
 
-/// What the words ask for: `scan`, then the number of workers, then what is switched off. Both may be left out.
-/// None where they are not those of a command.
+/// What the words ask for: `explain` alone; or `scan`, then the number of workers, then what is switched off, of which both may be left
+/// out. None where they are not those of a command.
 pub fn command_of(words: &[String]) -> Option<Command>
     ensures value { result ≡ command_of (map string_bytes words.now) }
-    ensures workers { IfSome result (λ command. 0 < command.workers) }
+    ensures workers { IfSome result HasWorkers }
 {
     let (name, options) = words.split_first()?;
-    if name.as_str() != "scan" {
-        return None;
+    if name.as_str() == "scan" {
+        return Some(Command::Scanning(options_of(options)?));
     }
-    options_of(options)
+    if name.as_str() == "explain" {
+        return explain_of(options);
+    }
+    None
+}
+
+/// What explains a search, which has no options.
+fn explain_of(options: &[String]) -> Option<Command>
+    ensures value { result ≡ (if has_none (map string_bytes options.now) then Some Explain else None) }
+    ensures workers { IfSome result HasWorkers }
+{
+    match options {
+        [] => Some(Command::Explain),
+        _ => None,
+    }
 }
 
 /// What the options of a scan ask for.
-fn options_of(options: &[String]) -> Option<Command>
+fn options_of(options: &[String]) -> Option<Scan>
     ensures value { result ≡ options_of (map string_bytes options.now) }
-    ensures workers { IfSome result (λ command. 0 < command.workers) }
+    ensures workers { IfSome result (λ scan. 0 < scan.workers) }
 {
     match options {
-        [] => Some(Command {
+        [] => Some(Scan {
             workers: WORKERS,
             off: Off::NOTHING,
         }),
         [option] => one_option(option.as_bytes()),
-        [workers, off] => Some(Command {
+        [workers, off] => Some(Scan {
             workers: workers_of(workers.as_bytes())?,
             off: off_of(off.as_bytes())?,
         }),
@@ -89,18 +113,18 @@ fn options_of(options: &[String]) -> Option<Command>
 }
 
 /// The same where there is one option.
-fn one_option(option: &[u8]) -> Option<Command>
+fn one_option(option: &[u8]) -> Option<Scan>
     ensures value { result ≡ options_of (option.now ∷ []) }
-    ensures workers { IfSome result (λ command. 0 < command.workers) }
+    ensures workers { IfSome result (λ scan. 0 < scan.workers) }
 {
     if let Some(workers) = workers_of(option) {
-        return Some(Command {
+        return Some(Scan {
             workers,
             off: Off::NOTHING,
         });
     }
     let off = off_of(option)?;
-    Some(Command {
+    Some(Scan {
         workers: WORKERS,
         off,
     })

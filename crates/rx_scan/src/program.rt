@@ -2,7 +2,7 @@
 ghost use Rattle.std.specs.Prelude.{◌≡◌, ◌<◌, ◌≤◌, ◌⊎◌, ℕ, List, map, IfOk, IsErrOf, IsSome, IsNone};
 ghost use Rattle.std.specs.String.{string_bytes};
 ghost use Rattle.rx_scan.specs.Answer.{answer_input};
-ghost use Rattle.rx_scan.specs.Arguments.{command_of};
+ghost use Rattle.rx_scan.specs.Arguments.{HasWorkers, command_of};
 ghost use Rattle.rx_scan.specs.Ends.{HasRisen, CountsAtMost, GivesAtMost};
 ghost use Rattle.rx_scan.specs.Run.{Gave, Answers, BreaksOff, Finished};
 
@@ -23,7 +23,7 @@ const USAGE: &str = "usage: rxscan scan [W] [off:LETTERS]\n";
 ///
 /// | Status | Text | When |
 /// |---|---|---|
-/// | 0 | the rows of all matches | the input was read to its end |
+/// | 0 | the rows of all matches, or under `explain` the name of the strategy | the input was read to its end |
 /// | 1 | `pattern P: KIND` | pattern P is refused: the first whose reading is refused, and else the first whose translation is |
 /// | 2 | the usage line | the words are not those of a command; nothing is read, and 8 never comes in its place |
 /// | 3 | `input is not UTF-8 at byte N` | N is the length of the input's longest UTF-8 prefix |
@@ -115,8 +115,8 @@ fn answer_source<R: Threads + Wait + Sync, S: Source, G: Gate + Sync>(
     source: &mut S,
     gate: &G,
 ) -> Result<Answer, ReadError>
-    requires { 0 < command.now.workers }
-    ensures answered { IfOk result (λ a. (given : List ℕ) × Gave (S.left source.old) (S.left source.new) given a.status × (a ≡ answer_input given)) }
+    requires { HasWorkers command.now }
+    ensures answered { IfOk result (λ a. (given : List ℕ) × Gave (S.left source.old) (S.left source.new) given a.status × (a ≡ answer_input command.now given)) }
     ensures failed { IsErrOf result ReadError.Source → HasRisen (S.faults source.old) (S.faults source.new) }
     ensures reads { CountsAtMost (S.reads source.old) (S.reads source.new) 16777217 }
     ensures takes { GivesAtMost (S.left source.old) (S.left source.new) 16777217 }

@@ -1,5 +1,5 @@
 -- The engines of a core, and its DFAs.
-use Rattle.std.proofs.Common.{◌≡◌, ℕ, true, false, List, Option, Some, None, refl, sym, ap, ◌∙◌, subst, true≢false}
+use Rattle.std.proofs.Common.{◌≡◌, ℕ, true, false, List, length, Option, Some, None, refl, sym, ap, ◌∙◌, subst, true≢false}
 use Rattle.std.proofs.lemmas.Bool.{and_parts}
 use Rattle.std.specs.Prelude.{MatchOption, IfSome, is_some}
 use Rattle.rx_model.specs.Expression.{Expression, alternation}
@@ -38,7 +38,7 @@ engines-agree config (Some b) vm nfa pre same kind made =
 
 -- what is asked of the NFA that reads backwards beside the other one
 abbrev pub ReadsBack : Nfa → Nfa → Type 0
-ReadsBack nfa back = (back.reverse ≡ true) × (back.utf8 ≡ nfa.utf8) × (back.accounted ≡ nfa.accounted)
+ReadsBack nfa back = (back.reverse ≡ true) × (back.utf8 ≡ nfa.utf8) × (back.accounted ≡ nfa.accounted) × (length back.starts ≡ length nfa.starts)
 
 -- two DFAs of the NFAs serve
 module _ (nfa reverse : Nfa) (kind : MatchKind) (on : nfa.reverse ≡ false) (back : ReadsBack nfa reverse) (both : Dfa × Dfa)
@@ -49,6 +49,7 @@ module _ (nfa reverse : Nfa) (kind : MatchKind) (on : nfa.reverse ≡ false) (ba
     reads_back = ap (λ (n : Nfa). n.reverse) second ∙ back.0;
     backward_kind = second_kind;
     utf8 = ap (λ (n : Nfa). n.utf8) first ∙ sym back.1 ∙ sym (ap (λ (n : Nfa). n.utf8) second);
+    patterns = ap (λ (n : Nfa). length n.starts) second ∙ back.3 ∙ sym (ap (λ (n : Nfa). length n.starts) first);
   }
 
   pair-of : IsPairOf nfa kind (Some reverse) both
@@ -85,7 +86,8 @@ pub reads-back : (c : Config) (hs : List Expression) (nfa : Nfa) (o : Option Nfa
     → (nfa.reverse ≡ false) × IfSome o (ReadsBack nfa)
 reads-back c hs nfa None compiled back = (compiled.reverse, tt)
 reads-back c hs nfa (Some reverse) compiled back =
-    (compiled.reverse, (back.1.reverse, back.1.utf8 ∙ sym compiled.utf8, back.1.accounted ∙ sym compiled.accounted))
+    let patterns = (back.1.reverse_runs refl true).patterns ∙ sym (compiled.runs refl true).patterns in
+    (compiled.reverse, (back.1.reverse, back.1.utf8 ∙ sym compiled.utf8, back.1.accounted ∙ sym compiled.accounted, patterns))
 
 asked : (c : Config) (hs : List Expression) (o : Option Nfa) → IsCompiledBack c hs o → is_some o ≡ asks_for_dfas c
 asked c hs None back = sym back

@@ -6,6 +6,7 @@ pub mod ImpossibleLemmas
 pub mod AnchorLemmas
 pub mod InfoLemmas
 pub mod DfaLemmas
+pub mod EndingLemmas
 pub mod CacheLemmas
 pub mod CoreLemmas
 pub mod ThreadLemmas

@@ -28,11 +28,11 @@ dfas_send = search (sendable, crosses, dense_send, lazy.the_send) fits 5000 dept
 dfas_sync : IsSync (dfas.the_field).row
 dfas_sync = search (sendable, crosses, dense_sync, lazy.the_sync) fits 5000 depth 40
 
-core_send : IsSend core.the_row
+pub core_send : IsSend core.the_row
 core_send =
     search (sendable, crosses, pikevm.the_send, backtracker.the_send, prefilter.the_send, info.the_field_send, nfa.the_send, dfas_send) fits 5000 depth 40
 
-core_sync : IsSync core.the_row
+pub core_sync : IsSync core.the_row
 core_sync =
     search (sendable, crosses, pikevm.the_sync, backtracker.the_sync, prefilter.the_sync, info.the_field_sync, nfa.the_sync, dfas_sync) fits 5000 depth 40
 

@@ -21,12 +21,13 @@ pair_of Absent = None
 pair_of (Full forward backward) = Some (forward.dfa, backward.dfa)
 pair_of (Lazy forward backward) = Some (forward.dfa, backward.dfa)
 
--- The first one reads forwards, and the second one backwards, under `All`; both permit the same starts.
+-- The first one reads forwards, and the second one backwards, under `All`; both permit the same starts, and have as many patterns.
 pub record ArePair (both : Dfa × Dfa) : Type 0 where
   pub reads_on : both.0.nfa.reverse ≡ false
   pub reads_back : both.1.nfa.reverse ≡ true
   pub backward_kind : both.1.kind ≡ All
   pub utf8 : both.0.nfa.utf8 ≡ both.1.nfa.utf8
+  pub patterns : length both.1.nfa.starts ≡ length both.0.nfa.starts
 
 -- what their searches ask of them, if they are there
 abbrev pub ArePaired : Dfas → Type 0

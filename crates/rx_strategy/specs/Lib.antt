@@ -6,6 +6,7 @@ pub mod Dfas
 pub mod Core
 pub mod Nofail
 pub mod Narrow
+pub mod Ending
 pub mod Span
 pub mod Strategy
 pub mod Cache

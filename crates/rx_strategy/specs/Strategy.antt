@@ -1,13 +1,15 @@
 -- What a strategy is to a contract: data by cases, one for each way to search.
-use Rattle.std.specs.Prelude.{ℕ, ◌≤◌, Bool, List, length, Option}
+use Rattle.std.specs.Prelude.{ℕ, ◌≤◌, Bool, List, length, Option, is_some}
 use Rattle.rx_model.specs.Expression.{Expression}
 use Rattle.rx_model.specs.Search.{Patterns, Match}
 use Rattle.rx_search.specs.Input.{InputValue}
 use Rattle.rx_search.specs.Limits.{id_limit}
+use Rattle.rx_search.specs.Told.{tells}
 use Rattle.rx_search.specs.declared.anchored.MatchKind.{MatchKind}
 use Rattle.rx_hir.specs.declared.hir.properties.Properties.{Properties}
 use Rattle.rx_strategy.specs.Core.{IsCoreFor, IsCoreOf, core_finds, core_memory}
-use Rattle.rx_strategy.specs.Dfas.{tables_memory, are_lazy}
+use Rattle.rx_strategy.specs.Dfas.{tables_memory, are_lazy, pair_of}
+use Rattle.rx_strategy.specs.Ending.{is_fast_by}
 use Rattle.rx_strategy.specs.declared.config.Config.{Config}
 use Rattle.rx_strategy.specs.declared.strategy.Strategy.{Strategy}
 use Rattle.rx_strategy.specs.declared.strategy.Strategy.TheVariants.{Core}
@@ -51,6 +53,18 @@ tables_in (Core core) = tables_memory core.dfas
 -- it has lazy DFAs
 abbrev pub has_lazy : Strategy → Bool
 has_lazy (Core core) = are_lazy core.dfas
+
+-- matches are told
+abbrev pub tells_in : Strategy → Bool
+tells_in (Core core) = tells core.which_captures
+
+-- there are DFAs
+abbrev pub has_dfas : Strategy → Bool
+has_dfas (Core core) = is_some (pair_of core.dfas)
+
+-- it has a prefilter that is expected to be fast
+abbrev pub is_accelerated : Strategy → Bool
+is_accelerated (Core core) = is_fast_by core.pre
 
 -- there are no more patterns than identifiers tell apart
 abbrev pub IsFew : Strategy → Type 0

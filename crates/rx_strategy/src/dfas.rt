@@ -15,6 +15,7 @@ ghost use Rattle.rx_dfa.specs.Search.{IsAnswerFor, TellsStarts, AreAllOrdered};
 ghost use Rattle.rx_strategy.specs.Dfas.{ArePaired, AreLeftmost, HaveRoomIn, SearchFor, are_lazy, FitsLazies, IsPatternOf, tables_memory};
 
 mod build;
+mod ending;
 
 use crate::lazies::Lazies;
 use rx_dfa::lazy::Lazy;
@@ -39,7 +40,7 @@ pub(crate) enum Dfas {
 
 /// No DFA is there, or it quit, gave up or wanted memory.
 #[derive(Clone, Copy, Debug, Drop, PartialEq, Eq)]
-pub(crate) struct NoAnswer;
+pub struct NoAnswer;
 
 impl Dfas {
     /// The end of the next match in the input's span, with its pattern, or no answer. With `earliest`, or under `All`, it is that of

@@ -12,6 +12,17 @@ use rx_hir::{Hir, Properties};
 use rx_search::{Input, Look, Memory};
 use std::alloc::Global;
 
+/// Whether it is known, by the properties of patterns together, that none of them has a match in the input's span.
+pub fn is_impossible_by(properties: &Properties, input: &Input<'_>) -> bool
+    ensures value { (hs : List Expression) → AreOf (alternation (expressions hs)) properties.now → result ≡ is_impossible hs input.now }
+    ensures spanned { IsSpanned input.now }
+{
+    let info = RegexInfo {
+        properties: *properties,
+    };
+    info.is_impossible(input)
+}
+
 /// The properties of the patterns together, which are those of an alternation of them.
 #[derive(Drop)]
 pub(crate) struct RegexInfo {

@@ -19,5 +19,7 @@ mod threads;
 
 pub use cache::Cache;
 pub use config::Config;
+pub use dfas::NoAnswer;
+pub use info::is_impossible_by;
 pub use laws::impossible_inputs_have_no_match;
 pub use strategy::{Core, Strategy};

@@ -25,6 +25,8 @@ ghost use Rattle.rx_strategy.specs.Impossible.{is_always_anchored_start, is_impo
 ghost use Rattle.rx_strategy.specs.Narrow.{IsLenOf};
 ghost use Rattle.rx_strategy.specs.Nofail.{IsAskedFor};
 
+mod ending;
+
 use crate::cache::Cache;
 use crate::config::{Config, shared};
 use crate::dfas::{Dfas, NoAnswer};
@@ -102,7 +104,8 @@ impl Core {
         pre: Option<Prefilter>,
     ) -> Result<Core, Memory>
         requires known { AreKnownOf info.properties nfa }
-        requires reads { (nfa.reverse ≡ false) × IfSome reverse (λ back. (back.reverse ≡ true) × (back.utf8 ≡ nfa.utf8) × (back.accounted ≡ nfa.accounted)) }
+        requires reads { (nfa.reverse ≡ false) × IfSome reverse (λ back. (back.reverse ≡ true) × (back.utf8 ≡ nfa.utf8) × (back.accounted ≡ nfa.accounted)
+            × (length back.starts ≡ length nfa.starts)) }
         ensures core { IfOk result (λ core. core ≡ record {
           nfa = nfa;
           kind = kind_of config.now;
@@ -659,7 +662,7 @@ impl Core {
     }
 
     /// Whether matches are told.
-    fn tells(&self) -> bool
+    pub(crate) fn tells(&self) -> bool
         ensures { result ≡ tells self.now.which_captures }
     {
         match self.which_captures {

@@ -1,4 +1,4 @@
-use Rattle.rx_strategy.proofs.CacheLemmas.{alike-memory}
+use Rattle.rx_strategies.proofs.CacheLemmas.{alike-memory}
 use Rattle.rx_meta.specs.Cache.{AccountsAlike, memory_of}
 use Rattle.rx_meta.specs.Regex.{has_lazy}
 use Rattle.rx_meta.proofs.laws.a_search_without_lazy_dfas_accounts_nothing.Goals as goal

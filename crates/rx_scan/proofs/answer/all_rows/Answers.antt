@@ -13,7 +13,7 @@ pub returns : goal.returns
 returns g c = λ hs built utf8.
     let each = subst (All (λ line. IsUtf8 line.now)) (sym c.deref.ensures.value) c.in_ok-haystacks.ensures.utf8 in
     let scanned =
-    ap (map vec_items) c.deref-2.ensures.value ∙ c.in_ok-rows.ensures (config_without c.args.command.now.off) hs built refl tt
+    ap (map vec_items) c.deref-2.ensures.value ∙ c.in_ok-rows.ensures (config_without c.args.asked.now.off) hs built refl tt
     (λ _ k d below. utf8 _ (each k d below)) in
     let told = ap (map (λ line. line.now)) c.deref.ensures.value ∙ c.in_ok-haystacks.ensures.lines in
     let text =

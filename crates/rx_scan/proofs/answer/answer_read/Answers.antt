@@ -15,6 +15,6 @@ answer_weighed-requires-clause-weights g c =
 
 pub returns-in-Err : goal.returns-in-Err
 returns-in-Err g c =
-    c.refusal.ensures (all_translated default c.args.asts.items) (lines c.args.haystacks.now)
+    c.refusal.ensures c.args.command.now (all_translated default c.args.asts.items) (lines c.args.haystacks.now)
     (subst (λ (k : Config). RefusesAll c.in-Err.error (all_translated k c.args.asts.items)) c.new.ensures
     (subst (λ (ss : List Syntax). RefusesAll c.in-Err.error (all_translated c.new.result ss)) c.deref.ensures.value c.in-Err.ensures.value))

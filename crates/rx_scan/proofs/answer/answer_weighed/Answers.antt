@@ -14,18 +14,18 @@ returns-then-not-are_small g c =
     let texts = lines c.args.haystacks.now in
     let counted : length own.expressions ≡ c.len.result = omega (arith, own.counted, c.len.ensures, c.args.asts.ok.0) in
     let big = sym (c.are_small.ensures own.expressions own.weights counted) ∙ c.if-not-are_small.true in
-    IfOk-weaker c.too_big.result _ _ (λ a e. e ∙ sym (ap (λ r. answer_patterns r texts) own.are ∙ answer_patterns-big own.expressions texts big))
+    IfOk-weaker c.too_big.result _ _ (λ a e. e ∙ sym (ap (λ r. answer_patterns c.args.command.now r texts) own.are ∙ answer_patterns-big c.args.command.now own.expressions texts big))
     c.too_big.ensures
 
 pub returns-in-Ok : goal.returns-in-Ok
 returns-in-Ok g c =
     let texts = lines c.args.haystacks.now in
     IfOk-weaker c.answer_patterns.result _ _
-    (λ a e. e ∙ ap (λ hs. answer_patterns (Ok hs) texts) c.deref.ensures.value ∙ ap (λ r. answer_patterns r texts) (sym c.in-Ok.ensures))
+    (λ a e. e ∙ ap (λ hs. answer_patterns c.args.command.now (Ok hs) texts) c.deref.ensures.value ∙ ap (λ r. answer_patterns c.args.command.now r texts) (sym c.in-Ok.ensures))
     c.answer_patterns.ensures
 
 pub returns-in-Err : goal.returns-in-Err
-returns-in-Err g c = c.refusal.ensures (all_translated default c.args.asts.items) (lines c.args.haystacks.now) c.in-Err.ensures
+returns-in-Err g c = c.refusal.ensures c.args.command.now (all_translated default c.args.asts.items) (lines c.args.haystacks.now) c.in-Err.ensures
 
 pub answer_patterns-requires-clause-utf8 : goal.answer_patterns-requires-clause-utf8
 answer_patterns-requires-clause-utf8 g c = λ lifetimes bounds. subst MeanUtf8 (sym c.deref.ensures.value)

@@ -33,25 +33,25 @@ pub returns-in-Ok-clause-answered : goal.returns-in-Ok-clause-answered
 returns-in-Ok-clause-answered g c =
     let h = c.in-Ok.ensures.answered in
     Answers-finished (map string_bytes c.args.words.now) _ _ _ _ _ _ _ c.in-Ok.answer h.0
-    (same-scan _ h.0 _ c.in-Some.command (sym c.in-Some.is ∙ c.command_of.ensures.value) h.2) h.1 (few-scan h.0 _ h.2) c.finish_answer.ensures
+    (same-scan _ h.0 _ c.in-Some.command (sym c.in-Some.is ∙ c.command_of.ensures.value) h.2) h.1 (few-scan c.in-Some.command h.0 _ h.2) c.finish_answer.ensures
 
 pub returns-in-Ok-clause-source_failed : goal.returns-in-Ok-clause-source_failed
 returns-in-Ok-clause-source_failed g c =
     let h = c.in-Ok.ensures.answered in
-    λ e. absurd (finished-not _ _ _ _ _ _ (few-scan h.0 _ h.2) 6 (lit< tt) (omega arith) c.finish_answer.ensures e)
+    λ e. absurd (finished-not _ _ _ _ _ _ (few-scan c.in-Some.command h.0 _ h.2) 6 (lit< tt) (omega arith) c.finish_answer.ensures e)
 
 pub returns-in-Ok-clause-sink_failed : goal.returns-in-Ok-clause-sink_failed
 returns-in-Ok-clause-sink_failed g c =
     let h = c.in-Ok.ensures.answered in
     BreaksOff-finished (map string_bytes c.args.words.now) _ _ _ _ _ _ _ c.in-Ok.answer h.0
-    (same-scan _ h.0 _ c.in-Some.command (sym c.in-Some.is ∙ c.command_of.ensures.value) h.2) h.1 (few-scan h.0 _ h.2) c.finish_answer.ensures
+    (same-scan _ h.0 _ c.in-Some.command (sym c.in-Some.is ∙ c.command_of.ensures.value) h.2) h.1 (few-scan c.in-Some.command h.0 _ h.2) c.finish_answer.ensures
 
 pub returns-in-Ok-clause-out_of_memory : goal.returns-in-Ok-clause-out_of_memory
 returns-in-Ok-clause-out_of_memory g c =
     let h = c.in-Ok.ensures.answered in
-    λ e. absurd (finished-not _ _ _ _ _ _ (few-scan h.0 _ h.2) 8 (lit< tt) (omega arith) c.finish_answer.ensures e)
+    λ e. absurd (finished-not _ _ _ _ _ _ (few-scan c.in-Some.command h.0 _ h.2) 8 (lit< tt) (omega arith) c.finish_answer.ensures e)
 
 pub returns-in-Ok-clause-complete : goal.returns-in-Ok-clause-complete
 returns-in-Ok-clause-complete g c =
     let h = c.in-Ok.ensures.answered in
-    λ _ none. finished-complete c.in-Ok.answer _ _ _ _ _ (few-scan h.0 _ h.2) c.finish_answer.ensures none
+    λ _ none. finished-complete c.in-Ok.answer _ _ _ _ _ (few-scan c.in-Some.command h.0 _ h.2) c.finish_answer.ensures none

@@ -1,5 +1,5 @@
 use Rattle.std.proofs.Common.{◌≡◌, ap, ◌∙◌, arith}
-use Rattle.rx_strategy.specs.Strategy as strategy
+use Rattle.rx_strategies.specs.Strategy as strategy
 use Rattle.rx_meta.specs.Regex.{properties_in}
 use Rattle.rx_hir.specs.declared.hir.properties.Properties.{Properties}
 use Rattle.rx_meta.proofs.regex.Regex.captures_len.Goals as goal

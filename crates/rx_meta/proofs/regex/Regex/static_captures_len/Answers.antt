@@ -1,6 +1,6 @@
 use Rattle.std.proofs.Common.{◌≡◌, ℕ, ◌+◌, sym, ap, ◌∙◌, arith}
 use Rattle.std.specs.Prelude.{◌-◌, ◌^◌, min, Some, None, option_map}
-use Rattle.rx_strategy.specs.Strategy as strategy
+use Rattle.rx_strategies.specs.Strategy as strategy
 use Rattle.rx_meta.specs.Regex.{properties_in}
 use Rattle.rx_hir.specs.declared.hir.properties.Properties.{Properties}
 use Rattle.rx_meta.proofs.regex.Regex.static_captures_len.Goals as goal

@@ -1,0 +1,5 @@
+pub mod StrategyLemmas
+pub mod EndLemmas
+pub mod MadeLemmas
+pub mod CacheLemmas
+pub mod ThreadLemmas

@@ -1,0 +1,29 @@
+use Rattle.std.proofs.Common.{◌≡◌, true, ap, ◌∙◌, subst}
+use Rattle.rx_model.specs.Search.{Patterns}
+use Rattle.rx_search.specs.Answer.{TellsWhether}
+use Rattle.rx_search.specs.Input.{InputValue}
+use Rattle.rx_search.specs.Matches.{match_value}
+use Rattle.rx_search.specs.Promise.{Premises}
+use Rattle.rx_dfa.specs.Search.{IsAnswerFor}
+use Rattle.rx_strategy.specs.Ending.{EndsWithSpan}
+use Rattle.rx_strategy.specs.Strategy.{IsFor, kind_in, prefilter_in}
+use Rattle.rx_strategy.specs.declared.strategy.Strategy.{Strategy}
+use Rattle.rx_strategies.proofs.EndLemmas.{ends-with-span}
+use Rattle.rx_strategies.proofs.anchored.ReverseAnchored.is_match.Goals as goal
+
+pub returns-in-Ok-clause-value : goal.returns-in-Ok-clause-value
+returns-in-Ok-clause-value c =
+    let s = c.self.inside.core in
+    let v = c.args.input.now in
+    let any : InputValue = record v { earliest = true } in
+    let is_any : c.set_earliest.new.self ≡ any = c.set_earliest.ensures ∙ ap (λ (x : InputValue). record x { earliest = true }) c.clone-any.ensures.value in
+    let told =
+    subst
+    (λ (w : InputValue). (r : Patterns) → Premises (IsFor s r) (prefilter_in s) r w → EndsWithSpan r w → IsAnswerFor (kind_in s) r w match_value c.in-Ok.found)
+    is_any c.in-Ok.ensures.answer in
+    subst (λ (k : Strategy). TellsWhether (λ r. IsFor k r) (prefilter_in k) v c.is_some.result) c.self.view_is
+    (λ r p.
+    let ends = ends-with-span s c.self.invariant v (c.is_from_end.ensures.end c.if-not-is_from_end.false) r p.is_for in
+    let asked : Premises (IsFor s r) (prefilter_in s) r any = record { is_for = p.is_for; begins = p.begins; utf8 = p.utf8 } in
+    let same : EndsWithSpan r any = record { ends = ends.ends } in
+    c.is_some.ensures ∙ (told r asked same).exists)

@@ -1,0 +1,141 @@
+//! What the searches of a strategy write to.
+ghost use Rattle.std.specs.Prelude.{◌≡◌, true, false, IfOk, OnOk, OnErr, IsOk};
+ghost use Rattle.rx_strategies.specs.Cache.{Fits, FitsCore, FitsAsBefore, StillFits, memory_of, states_in, fixed_in, accounted_for, rooms_memory};
+ghost use Rattle.rx_strategy.specs.Cache as lower;
+
+use crate::strategy::Strategy;
+use rx_search::Memory;
+use std::alloc::Global;
+use std::marker::Model;
+
+/// What the searches of a strategy write to. It is made once, and serves one search after another.
+///
+/// A cache that is reset keeps the room that it has, also where its new strategy looks for literals alone, which needs none. For that
+/// strategy nothing is accounted.
+#[derive(Drop)]
+pub struct Cache {
+    /// The cache of a core, once there was one.
+    pub(crate) rooms: Option<rx_strategy::Cache>,
+    /// Its strategy has a core.
+    pub(crate) in_use: bool,
+}
+
+impl Model for Cache {
+    ghost use Rattle.rx_strategies.specs.Cache.{CacheValue};
+
+    ghost Value = { CacheValue };
+
+    ghost view = { λ c. record { rooms = c.rooms; in_use = c.in_use } };
+}
+
+impl Cache {
+    /// A cache that serves this strategy.
+    pub fn new(alloc: Global, strategy: &Strategy) -> Result<Cache, Memory>
+        ensures fits { IfOk result (Fits strategy.now) }
+        ensures memory { IfOk result (λ c. memory_of c ≡ accounted_for strategy.now) }
+        ensures empty { IfOk result (λ c. states_in c ≡ 0) }
+    {
+        match strategy {
+            Strategy::Pre(_) => Ok(Cache {
+                rooms: None,
+                in_use: false,
+            }),
+            Strategy::ReverseAnchored(anchored) => Cache::for_core(alloc, anchored.core()),
+            Strategy::Core(core) => Cache::for_core(alloc, core),
+        }
+    }
+
+    /// A cache that serves this core.
+    fn for_core(alloc: Global, core: &rx_strategy::Strategy) -> Result<Cache, Memory>
+        ensures fits { IfOk result (FitsCore core.now) }
+        ensures memory { IfOk result (λ c. memory_of c ≡ lower.accounted_for core.now) }
+        ensures empty { IfOk result (λ c. states_in c ≡ 0) }
+    {
+        Ok(Cache {
+            rooms: Some(core.create_cache(alloc)?),
+            in_use: true,
+        })
+    }
+
+    /// Makes any cache one that serves this strategy. It takes memory where its room does not suffice, and keeps what it
+    /// has. A cache that serves the strategy already takes no memory, and still serves what it served. Where there is no
+    /// memory, it serves what it served before, with its number as before.
+    pub fn reset(&mut self, alloc: Global, strategy: &Strategy) -> Result<(), Memory>
+        ensures fits { OnOk result (Fits strategy.now self.new) }
+        ensures memory { OnOk result (memory_of self.new ≡ accounted_for strategy.now) }
+        ensures empty { OnOk result (states_in self.new ≡ 0) }
+        ensures err { OnErr result (FitsAsBefore self.old self.new) }
+        ensures sure { Fits strategy.now self.old → IsOk result }
+        ensures kept { Fits strategy.now self.old → StillFits self.old self.new }
+    {
+        match strategy {
+            Strategy::Pre(_) => {
+                self.in_use = false;
+                Ok(())
+            }
+            Strategy::ReverseAnchored(anchored) => self.reset_for(alloc, anchored.core()),
+            Strategy::Core(core) => self.reset_for(alloc, core),
+        }
+    }
+
+    /// Makes any cache one that serves this core.
+    #[tactic(auto, using(crate::proofs::CacheLemmas::no_states))]
+    fn reset_for(&mut self, alloc: Global, core: &rx_strategy::Strategy) -> Result<(), Memory>
+        ensures fits { OnOk result (FitsCore core.now self.new) }
+        ensures memory { OnOk result (memory_of self.new ≡ lower.accounted_for core.now) }
+        ensures empty { OnOk result (states_in self.new ≡ 0) }
+        ensures err { OnErr result (FitsAsBefore self.old self.new) }
+        ensures sure { FitsCore core.now self.old → IsOk result }
+        ensures kept { FitsCore core.now self.old → StillFits self.old self.new }
+    {
+        if let Some(rooms) = &mut self.rooms {
+            rooms.reset(alloc, core)?;
+            self.in_use = true;
+            return Ok(());
+        }
+        let made = core.create_cache(alloc)?;
+        self.rooms = Some(made);
+        self.in_use = true;
+        Ok(())
+    }
+
+    /// The bytes that are accounted for the caches of the engines of its strategy, or the greatest `usize` where they are
+    /// more. What the lazy DFAs account grows and falls with the states that a search makes; the rest is fixed when the cache is
+    /// made or reset.
+    pub fn memory_usage(&self) -> usize
+        ensures { result ≡ memory_of self.now }
+    {
+        if self.in_use {
+            return rooms_memory(&self.rooms);
+        }
+        0
+    }
+
+    /// A cache of its own with the same room. It holds no states of lazy DFAs.
+    pub fn clone(&self, alloc: Global) -> Result<Cache, Memory>
+        ensures fits { IfOk result (StillFits self.now) }
+        ensures fixed { IfOk result (λ copy. fixed_in copy ≡ fixed_in self.now) }
+        ensures empty { IfOk result (λ copy. states_in copy ≡ 0) }
+    {
+        match &self.rooms {
+            Some(rooms) => Ok(Cache {
+                rooms: Some(rooms.clone(alloc)?),
+                in_use: self.in_use,
+            }),
+            None => Ok(Cache {
+                rooms: None,
+                in_use: self.in_use,
+            }),
+        }
+    }
+}
+
+/// What is accounted for the cache of a core, if there is one.
+fn rooms_memory(rooms: &Option<rx_strategy::Cache>) -> usize
+    ensures { result ≡ rooms_memory rooms.now }
+{
+    match rooms {
+        Some(rooms) => rooms.memory_usage(),
+        None => 0,
+    }
+}
