@@ -208,6 +208,7 @@ module _ (c : Config) (hs : List Expression) (core : CoreValue) (made : IsCoreOf
       of-rooms false (Some rooms) fits = omega arith
 
   core-accounted : min (2 ^ 64 - 1) (64 * (length core.nfa.starts + 1) + core_memory core) ≡ memory_by None c hs (full_memory core.dfas)
+  unfolding states
   core-accounted =
       let back : reverse_memory core.reverse ≡ (if asks_for_dfas c then states else 0) =
       back-memory (reverse_compiler_of c) hs core.reverse (asks_for_dfas c) made.asked made.reverse in
@@ -243,6 +244,7 @@ built-core : (c : Config) (hs : List Expression) (core : CoreValue) → IsPlainO
     → is_from_end (TheCore core) (alternation (expressions hs)) ≡ b → AreAllowedStates (compiler_of c) hs
     → IsBuilt c hs (record { config = c; strategy = over b (TheCore core) })
 unfolding kind_in Serves pattern_count groups_in regex_memory tables_memory has_lazy has_dfas name_of IsMadeUnder accounted_for Fits states_memory properties_in prefilter_in IsKnownImpossible
+  over strategy_name plain_by
 built-core c hs core plain true is allowed =
     let made = plain.core in
     record {
@@ -355,6 +357,7 @@ built-pre c hs p made allowed =
 
 pub built : (c : Config) (hs : List Expression) (s : Strategy) (regex : RegexValue) → IsMadeOf c hs s → AreAllowedStates (compiler_of c) hs
     → regex ≡ record { config = c; strategy = s } → IsBuilt c hs regex
+unfolding over
 built c hs (Pre p) regex made allowed is = subst (IsBuilt c hs) (sym is) (built-pre c hs p made allowed)
 built c hs (Core (TheCore core)) regex made allowed is = subst (IsBuilt c hs) (sym is) (built-core c hs core made.0 false made.1 allowed)
 built c hs (ReverseAnchored (TheCore core)) regex made allowed is = subst (IsBuilt c hs) (sym is) (built-core c hs core made.0 true made.1 allowed)

@@ -20,7 +20,7 @@ use Rattle.rx_search.specs.Promise.{Premises, Promised}
 use Rattle.rx_search.specs.Told.{tells, IsMatchWith, matched_pattern, HasSlots}
 use Rattle.rx_search.specs.declared.span.Span.{Span}
 use Rattle.rx_meta.specs.Captures.{emptied, AreTold, IsToldWith}
-use Rattle.rx_meta.specs.Laws.{HaveRoomFor, AreImplicitAlone}
+use Rattle.rx_meta.specs.Laws.{HaveRoomFor, AreImplicitAlone, AreOfPatternAlone, HoldAlike, HoldSpanOf}
 use Rattle.rx_meta.specs.Regex.{RegexValue, Serves, given_needles, kind_in}
 use Rattle.rx_meta.specs.Search.{IsAnswer, AreSlotsOfAnswer}
 use Rattle.rx_meta.proofs.FinderLemmas.{untold-none}
@@ -180,3 +180,46 @@ module _ (regex : RegexValue) (r : Patterns) (v : InputValue) (premises : Premis
         by_pattern : (o : Option ℕ) → c.pattern ≡ o → AreImplicitAlone r c.slots
         by_pattern None none = λ k le lt. ap (λ (x : CapturesValue). slice_index_or x.slots k None) (are.none none) ∙ empty-slot (length c.slots) k
         by_pattern (Some p) some = subst (λ (o : Option ℕ). IfSome o (λ _. AreImplicitAlone r c.slots)) some (implicit-alone c.slots c.pattern are.slots)
+
+-- What slots hold after two searches of one input, where the next match is promised.
+module _ (regex : RegexValue) (r : Patterns) (v : InputValue) (p : Promised (Serves regex r) (given_needles regex) (kind_in regex) r v) where
+  abbrev pub AreOfNext : List (Option ℕ) → Type 0
+  AreOfNext slots = IfSome (next_in r v) (HasSlots slots)
+
+  pub alike : {T : Type 0} (part : Match → T) (found : Option T) (slots others : List (Option ℕ)) → IsAnswer regex v part found → AreOfNext slots
+      → AreOfNext others → IfSome found (λ _. HoldAlike slots others)
+  alike {T} part found slots others answer first second =
+      subst (λ (o : Option T). IfSome o (λ _. HoldAlike slots others)) (sym (answer.value r p)) (by_next (next_in r v) first second)
+    where
+      by_next : (o : Option Match) → IfSome o (HasSlots slots) → IfSome o (HasSlots others) → IfSome (option_map part o) (λ _. HoldAlike slots others)
+      by_next None first second = tt
+      by_next (Some m) first second = λ k lt lt'. first k lt ∙ sym (second k lt')
+
+  pub span-held : (found : Option MatchValue) (slots : List (Option ℕ)) → IsAnswer regex v match_value found → AreOfNext slots
+      → IfSome found (HoldSpanOf slots)
+  span-held found slots answer held =
+      subst (λ (o : Option MatchValue). IfSome o (HoldSpanOf slots)) (sym (answer.value r p)) (by_next (next_in r v) refl held)
+    where
+      by_next : (o : Option Match) → next_in r v ≡ o → IfSome o (HasSlots slots) → IfSome (option_map match_value o) (HoldSpanOf slots)
+      by_next None none held = tt
+      by_next (Some m) some held =
+          let own = match-slots r v.haystack v.anchor v.end v.start m (next-run r v.haystack v.anchor v.end v.start m some) in
+          record {
+            start = λ lt. held (2 * m.trace.pattern) lt ∙ own.1;
+            end = λ lt. held (2 * m.trace.pattern + 1) lt ∙ own.2;
+          }
+
+-- No slot of another pattern than the one that is found holds a place.
+module _ (regex : RegexValue) (r : Patterns) (v : InputValue) (premises : Premises (Serves regex r) (given_needles regex) r v) where
+  pub of-pattern-alone : (slots : List (Option ℕ)) (found : Option ℕ) → AreSlotsOfAnswer regex v matched_pattern slots found
+      → IfSome found (AreOfPatternAlone r slots)
+  of-pattern-alone slots found are = by_found found (are.is_match r premises)
+    where
+      by_found : (o : Option ℕ) → IfSome o (λ answer. IsMatchWith r v (λ m. (answer ≡ matched_pattern m) × HasSlots slots m))
+          → IfSome o (AreOfPatternAlone r slots)
+      by_found None known = tt
+      by_found (Some p) (m, is, tells_it) =
+          let same : p ≡ m.trace.pattern = tells_it.0 ∙ told-pattern r.which_captures m in
+          subst (AreOfPatternAlone r slots) (sym same)
+          (λ h there k lt other.
+          tells_it.1 k lt ∙ told-nothing r.which_captures m k (match-others r v.haystack v.anchor v.end v.start m is h there k other))

@@ -9,3 +9,4 @@ pub mod CapturingLemmas
 pub mod CapturedLemmas
 pub mod IteratorLemmas
 pub mod SuccessiveLemmas
+pub mod CountLemmas

@@ -1,6 +1,6 @@
 -- The iterators over the matches of a regex and over what lies between them. A contract sees what is still to come of each as a
 -- whole list.
-use Rattle.std.specs.Prelude.{◌≡◌, ℕ, ◌+◌, ◌≤◌, ◌<◌, ◌⊎◌, Bool, true, false, not, is_ok, List, [], ◌∷◌, length, Option, Some, None, Result, Ok, Err, IfOk, IfSome, OnErr, if◌then◌else◌}
+use Rattle.std.specs.Prelude.{◌≡◌, ℕ, zero, suc, ◌+◌, ◌≤◌, ◌<◌, ◌⊎◌, Bool, true, false, not, is_ok, List, [], ◌∷◌, length, Option, Some, None, Result, Ok, Err, IfOk, IfSome, OnErr, if◌then◌else◌}
 use Rattle.rx_model.specs.Search.{Match}
 use Rattle.rx_search.specs.Captures.{CapturesValue}
 use Rattle.rx_meta.specs.Gaps.{gaps_from, gaps_up_to, span_between}
@@ -74,6 +74,13 @@ NoneIsFound it = IsAnsweredBy (IsFoundIn it.regex) it.searcher None
 abbrev pub IsOfSearch : {E : Type 0} → MatchesValue → Option (Result MatchValue E) → Type 0
 IsOfSearch it None = NoneIsFound it
 IsOfSearch it (Some item) = IfOk item (IsGiven it)
+
+-- So many matches come before a search answers none, promised or not: each is what a search answers, and the next one is searched for
+-- from its end on.
+abbrev pub ComeBeforeNone : RegexValue → SearcherValue → ℕ → Type 0
+ComeBeforeNone regex s zero = IsAnsweredBy (IsFoundIn regex) s None
+ComeBeforeNone regex s (suc n) =
+    (m : MatchValue) × LiesIn s.input m × IsAnsweredBy (IsFoundIn regex) s (Some m) × ComeBeforeNone regex (moved_past m s) n
 
 -- Where the searches have come to after a call: past the match that was given, and else where they were.
 abbrev pub IsMovedBy : {E : Type 0} → (old new : SearcherValue) → Result MatchValue E → Type 0

@@ -1,11 +1,12 @@
 -- What the laws of a regex's searches say.
-use Rattle.std.specs.Prelude.{◌≡◌, ℕ, ◌*◌, ◌≤◌, ◌<◌, true, List, [], ◌∷◌, length, Option, Some, None, slice_get, slice_index_or, IsTrue}
+use Rattle.std.specs.Prelude.{◌≡◌, ℕ, ◌+◌, ◌*◌, ◌≤◌, ◌<◌, true, List, [], ◌∷◌, length, Option, Some, None, slice_get, slice_index_or, IsTrue}
 use Rattle.rx_model.specs.Expression.{Expression}
-use Rattle.rx_model.specs.Matches.{IsSought}
+use Rattle.rx_model.specs.Matches.{IsSought, IsSlotOf}
 use Rattle.rx_model.specs.Meaning.{Means}
 use Rattle.rx_model.specs.Search.{Patterns, Match, is_anchored, is_permitted}
 use Rattle.rx_search.specs.Captures.{CapturesValue}
 use Rattle.rx_search.specs.Input.{InputValue, from_place}
+use Rattle.rx_search.specs.Matches.{MatchValue}
 use Rattle.rx_search.specs.PatternGroups.{pattern_groups}
 use Rattle.rx_search.specs.declared.span.Span.{Span}
 
@@ -49,6 +50,20 @@ pub record HaveRoomFor (r : Patterns) (c : CapturesValue) : Type 0 where
 -- no slot of an explicit group holds a place
 abbrev pub AreImplicitAlone : Patterns → List (Option ℕ) → Type 0
 AreImplicitAlone r slots = (k : ℕ) → 2 * length r.expressions ≤ k → k < length slots → slice_index_or slots k None ≡ None
+
+-- each slot that both lists have holds the same in both
+abbrev pub HoldAlike : (slots others : List (Option ℕ)) → Type 0
+HoldAlike slots others = (k : ℕ) → k < length slots → k < length others → slice_index_or slots k None ≡ slice_index_or others k None
+
+-- the slots of the whole match, as far as they are there, hold where this match starts and ends
+pub record HoldSpanOf (slots : List (Option ℕ)) (m : MatchValue) : Type 0 where
+  pub start : 2 * m.pattern < length slots → slice_index_or slots (2 * m.pattern) None ≡ Some m.start
+  pub end : 2 * m.pattern + 1 < length slots → slice_index_or slots (2 * m.pattern + 1) None ≡ Some m.end
+
+-- no slot holds a place but those of this pattern's groups
+abbrev pub AreOfPatternAlone : Patterns → List (Option ℕ) → (p : ℕ) → Type 0
+AreOfPatternAlone r slots p =
+    (h : Expression) → slice_get r.expressions p ≡ Some h → (k : ℕ) → k < length slots → (IsSlotOf r p h k → ⊥) → slice_index_or slots k None ≡ None
 
 -- the pattern means a part of the input's span, which begins where a search may look for it
 pub record MeansInSpan (r : Patterns) (v : InputValue) (p : ℕ) : Type 0 where

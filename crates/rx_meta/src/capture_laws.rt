@@ -7,7 +7,7 @@ ghost use Rattle.rx_search.specs.Matches.{MatchValue, match_value};
 ghost use Rattle.rx_search.specs.Promise.{Premises, Promised};
 ghost use Rattle.rx_search.specs.Told.{tells, matched_pattern};
 ghost use Rattle.rx_meta.specs.Captures.{emptied, AreTold, IsToldWith};
-ghost use Rattle.rx_meta.specs.Laws.{HaveRoomFor, AreImplicitAlone};
+ghost use Rattle.rx_meta.specs.Laws.{HaveRoomFor, AreImplicitAlone, AreOfPatternAlone};
 ghost use Rattle.rx_meta.specs.Regex.{RegexValue, Serves, given_needles, kind_in};
 ghost use Rattle.rx_meta.specs.Search.{IsAnswer, AreSlotsOfAnswer};
 
@@ -38,4 +38,14 @@ pub fn groups_that_are_not_told_stay_empty()
         → AreSlotsOfAnswer regex v matched_pattern slots found → IfSome found (λ _. AreImplicitAlone r slots) }
     ensures implicit_captures { (regex : RegexValue) (r : Patterns) (v : InputValue) → Premises (Serves regex r) (given_needles regex) r v
         → has_explicit_groups r.which_captures ≡ false → (c : CapturesValue) → AreTold regex v c → AreImplicitAlone r c.slots }
+{}
+
+/// A search that finds something leaves no place in a slot of another pattern than the one that is found; and where groups are
+/// not told, in none of theirs. So it is of captures too.
+pub fn slots_of_other_patterns_stay_empty()
+    ensures slots { (regex : RegexValue) (r : Patterns) (v : InputValue) → Premises (Serves regex r) (given_needles regex) r v
+        → (slots : List (Option ℕ)) (found : Option ℕ) → AreSlotsOfAnswer regex v matched_pattern slots found
+        → IfSome found (AreOfPatternAlone r slots) }
+    ensures captures { (regex : RegexValue) (r : Patterns) (v : InputValue) → Premises (Serves regex r) (given_needles regex) r v
+        → (c : CapturesValue) → AreTold regex v c → IfSome c.pattern (AreOfPatternAlone r c.slots) }
 {}

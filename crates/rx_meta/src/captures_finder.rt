@@ -7,6 +7,7 @@ ghost use Rattle.rx_meta.specs.Finder.{PromisesFor, MayFail};
 ghost use Rattle.rx_meta.specs.Regex.{searches, groups_in};
 
 use crate::cache::Cache;
+use crate::match_finder::MatchFinder;
 use crate::regex::Regex;
 use rx_search::{Captures, Finder, Input, Match, Memory};
 use std::alloc::Global;
@@ -35,6 +36,18 @@ impl<'r> CapturesFinder<'r> {
             captures,
             cache,
         })
+    }
+
+    /// What searches with the same regex and cache, and keeps no groups.
+    pub(crate) fn without_captures(self) -> MatchFinder<'r>
+        ensures { result.regex.now ≡ self.entry.regex.now }
+    {
+        let CapturesFinder {
+            regex,
+            captures: _captures,
+            cache,
+        } = self;
+        MatchFinder::with_cache(regex, cache)
     }
 }
 

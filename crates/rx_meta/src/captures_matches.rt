@@ -2,10 +2,11 @@
 ghost use Rattle.std.specs.Prelude.{◌≡◌, ◌<◌, true, false, length, None, IfOk, IfSome};
 ghost use Rattle.rx_search.specs.GroupInfo.{slot_count};
 ghost use Rattle.rx_meta.specs.Captures.{AreOfMatch};
-ghost use Rattle.rx_meta.specs.Iterators.{begun, matches_to_come, PromisesEach, most_left, GivesNext, AreOfSearch, IsEndedAfter};
+ghost use Rattle.rx_meta.specs.Iterators.{begun, matches_to_come, PromisesEach, most_left, GivesNext, AreOfSearch, IsEndedAfter, ComeBeforeNone};
 ghost use Rattle.rx_meta.specs.Regex.{groups_in};
 
 use crate::captures_finder::CapturesFinder;
+use crate::find_matches::FindMatches;
 use crate::regex::Regex;
 use rx_search::{Captures, Input, Memory, Searcher};
 use std::alloc::Global;
@@ -105,19 +106,18 @@ impl<'r, 'h> CapturesMatches<'r, 'h> {
     /// # Errors
     ///
     /// `Memory`, where there was no memory for a search.
-    pub fn count<R: Wait>(self, _rt: &R) -> Result<usize, Memory>
+    pub fn count<R: Wait>(self, rt: &R) -> Result<usize, Memory>
         ensures value { PromisesEach self.entry → IfOk result (λ n. n ≡ length (matches_to_come self.entry)) }
+        ensures any { self.entry.ended ≡ false → IfOk result (ComeBeforeNone self.entry.regex self.entry.searcher) }
         ensures none { self.entry.ended ≡ true → IfOk result (λ n. n ≡ 0) }
     {
         let CapturesMatches {
-            mut finder,
+            finder,
             searcher,
             is_ended,
         } = self;
-        if is_ended {
-            return Ok(0);
-        }
-        searcher.count(&mut finder)
+        // A number needs no captures (DECISIONS: captures are counted by searches that keep no slots).
+        FindMatches::from_parts(finder.without_captures(), searcher, is_ended).count(rt)
     }
 
     /// Gives up the iterator, and what it searched with.

@@ -1,7 +1,7 @@
 //! The matches in an input, one after another.
 ghost use Rattle.std.specs.Prelude.{◌≡◌, ◌<◌, true, false, length, None, IfOk, IfSome};
 ghost use Rattle.rx_search.specs.Told.{LiesIn};
-ghost use Rattle.rx_meta.specs.Iterators.{begun, matches_to_come, PromisesEach, most_left, GivesNext, IsReported, IsOfSearch, IsMoved, IsEndedAfter};
+ghost use Rattle.rx_meta.specs.Iterators.{begun, matches_to_come, PromisesEach, most_left, GivesNext, IsReported, IsOfSearch, IsMoved, IsEndedAfter, ComeBeforeNone};
 
 use crate::match_finder::MatchFinder;
 use crate::regex::Regex;
@@ -45,6 +45,21 @@ impl<'r, 'h> FindMatches<'r, 'h> {
             searcher: Searcher::new(input.clone()),
             is_ended: false,
         })
+    }
+
+    /// The iterator over what this finder finds, as far as the searcher has come.
+    pub(crate) fn from_parts(
+        finder: MatchFinder<'r>,
+        searcher: Searcher<'h>,
+        is_ended: bool,
+    ) -> FindMatches<'r, 'h>
+        ensures { result ≡ record { regex = finder.entry.regex.now; searcher = searcher.entry; ended = is_ended } }
+    {
+        FindMatches {
+            finder,
+            searcher,
+            is_ended,
+        }
     }
 
     /// The next match; None where there is none, and after an error.
@@ -110,19 +125,19 @@ impl<'r, 'h> FindMatches<'r, 'h> {
     /// let count = matches.count(&rt)?;
     /// assert_eq!(rt; count, 2);
     /// ```
-    pub fn count<R: Wait>(self, _rt: &R) -> Result<usize, Memory>
+    pub fn count<R: Wait>(mut self, _rt: &R) -> Result<usize, Memory>
         ensures value { PromisesEach self.entry → IfOk result (λ n. n ≡ length (matches_to_come self.entry)) }
+        ensures any { self.entry.ended ≡ false → IfOk result (ComeBeforeNone self.entry.regex self.entry.searcher) }
         ensures none { self.entry.ended ≡ true → IfOk result (λ n. n ≡ 0) }
     {
-        let FindMatches {
-            mut finder,
-            searcher,
-            is_ended,
-        } = self;
-        if is_ended {
-            return Ok(0);
+        // Each match ends at a place of its own, and the number of places fits a `usize`.
+        let _haystack = self.input().haystack();
+        let mut count = 0;
+        while let Some(item) = self.next() {
+            let _found = item?;
+            count += 1;
         }
-        searcher.count(&mut finder)
+        Ok(count)
     }
 
     /// Gives up the iterator, and what it searched with.

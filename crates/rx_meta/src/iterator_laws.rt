@@ -1,5 +1,5 @@
 //! Laws of the searches of a regex and of its iterators.
-ghost use Rattle.std.specs.Prelude.{◌≡◌, ◌≤◌, ℕ, suc, Bool, false, List, [], length, map, Option, option_map, is_some, All, AllPairs};
+ghost use Rattle.std.specs.Prelude.{◌≡◌, ◌≤◌, ℕ, suc, Bool, false, List, [], length, map, Option, option_map, is_some, IfSome, All, AllPairs};
 ghost use Rattle.rx_model.specs.Matches.{AreSuccessive};
 ghost use Rattle.rx_model.specs.Search.{Patterns, Match, matches};
 ghost use Rattle.rx_search.specs.Answer.{half_of};
@@ -11,13 +11,13 @@ ghost use Rattle.rx_search.specs.Searcher.{AnswersWithin, search_from, successiv
 ghost use Rattle.rx_search.specs.Told.{tells, matched_pattern};
 ghost use Rattle.rx_meta.specs.Finder.{IsExactFor};
 ghost use Rattle.rx_meta.specs.Iterators.{begun, matches_to_come, PromisesEach};
-ghost use Rattle.rx_meta.specs.Laws.{EndsBehind, IsBehind, IsInSpan, FindsAgain, LeadFrom, in_turn};
+ghost use Rattle.rx_meta.specs.Laws.{EndsBehind, IsBehind, IsInSpan, FindsAgain, LeadFrom, HoldAlike, HoldSpanOf, in_turn};
 ghost use Rattle.rx_meta.specs.Regex.{RegexValue, Serves, given_needles, kind_in, searches};
-ghost use Rattle.rx_meta.specs.Search.{IsAnswer, TellsWhether};
+ghost use Rattle.rx_meta.specs.Search.{IsAnswer, AreSlotsOfAnswer, TellsWhether};
 
 /// What any two searches of one input answer agrees: the match of the one is that of the other, its half is that half, its
-/// pattern that pattern, and there is a match exactly where one is found. So each call agrees with its form that takes a
-/// cache, whichever serves, and with the same call of a clone.
+/// pattern that pattern, there is a match exactly where one is found, slots hold alike, and those of the whole match hold its
+/// span. So each call agrees with its form that takes a cache, whichever serves, and with the same call of a clone.
 pub fn searches_of_one_input_agree()
     ensures again { (regex : RegexValue) (r : Patterns) (v : InputValue) → Promised (Serves regex r) (given_needles regex) (kind_in regex) r v
         → (found other : Option MatchValue) → IsAnswer regex v match_value found → IsAnswer regex v match_value other → other ≡ found }
@@ -30,6 +30,17 @@ pub fn searches_of_one_input_agree()
     ensures whether { (regex : RegexValue) (r : Patterns) (v : InputValue) → Promised (Serves regex r) (given_needles regex) (kind_in regex) r v
         → (found : Option MatchValue) (there : Bool) → IsAnswer regex v match_value found
         → TellsWhether regex v there → there ≡ is_some found }
+    ensures slots { (regex : RegexValue) (r : Patterns) (v : InputValue) → Promised (Serves regex r) (given_needles regex) (kind_in regex) r v
+        → (slots others : List (Option ℕ)) (pattern other : Option ℕ) → IsAnswer regex v matched_pattern pattern
+        → AreSlotsOfAnswer regex v matched_pattern slots pattern → AreSlotsOfAnswer regex v matched_pattern others other
+        → IfSome pattern (λ _. HoldAlike slots others) }
+    ensures of_match { (regex : RegexValue) (r : Patterns) (v : InputValue) → Promised (Serves regex r) (given_needles regex) (kind_in regex) r v
+        → (slots others : List (Option ℕ)) (found : Option MatchValue) (pattern : Option ℕ) → IsAnswer regex v match_value found
+        → AreSlotsOfAnswer regex v match_value slots found → AreSlotsOfAnswer regex v matched_pattern others pattern
+        → IfSome found (λ _. HoldAlike slots others) }
+    ensures span { (regex : RegexValue) (r : Patterns) (v : InputValue) → Promised (Serves regex r) (given_needles regex) (kind_in regex) r v
+        → (found : Option MatchValue) (slots : List (Option ℕ)) (pattern : Option ℕ) → IsAnswer regex v match_value found
+        → AreSlotsOfAnswer regex v matched_pattern slots pattern → IfSome found (HoldSpanOf slots) }
 {}
 
 /// What an iterator has to come at first is the successive matches of the patterns, and nothing where matches are not told. Each

@@ -28,7 +28,10 @@ mod threads;
 
 pub use builder::Builder;
 pub use cache::Cache;
-pub use capture_laws::{captures_tell_the_match, groups_that_are_not_told_stay_empty};
+pub use capture_laws::{
+    captures_tell_the_match, groups_that_are_not_told_stay_empty,
+    slots_of_other_patterns_stay_empty,
+};
 pub use captures_matches::CapturesMatches;
 pub use error::BuildError;
 pub use find_matches::FindMatches;

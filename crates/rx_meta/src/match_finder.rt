@@ -25,7 +25,15 @@ impl<'r> MatchFinder<'r> {
         ensures { IfOk result (λ f. f.regex.now ≡ regex.now) }
     {
         let cache = regex.create_cache(alloc)?;
-        Ok(MatchFinder { regex, cache })
+        Ok(MatchFinder::with_cache(regex, cache))
+    }
+
+    /// With a cache that serves the regex.
+    pub(crate) fn with_cache(regex: &'r Regex, cache: Cache) -> MatchFinder<'r>
+        requires { Fits regex.now cache }
+        ensures { result.regex.now ≡ regex.now }
+    {
+        MatchFinder { regex, cache }
     }
 }
 

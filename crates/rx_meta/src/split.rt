@@ -65,6 +65,7 @@ impl<'r, 'h> Split<'r, 'h> {
         ensures ended { AfterLast result (self.new.rest ≡ None) }
         ensures none { self.old.rest ≡ None → result ≡ None }
         ensures fewer_left { IfSome result (λ _. most_gaps_left self.new < most_gaps_left self.old) }
+        ensures regex { self.new.matches.regex ≡ self.old.matches.regex }
         ensures haystack { self.new.matches.searcher.input.haystack ≡ self.old.matches.searcher.input.haystack }
     {
         let Some(start) = self.rest else {
@@ -171,6 +172,10 @@ impl<'r, 'h> SplitN<'r, 'h> {
         ensures any { 1 < self.old.limit → IfSome result (λ item. IfOk item (IsCut self.old.splits self.new.splits)) }
         ensures last { self.old.limit ≡ 1 → result ≡ last_from (text_len self.old.splits) self.old.splits.rest }
         ensures still { self.old.limit ≡ 1 → self.new.splits.matches ≡ self.old.splits.matches }
+        ensures from { IfSome result (λ item. IfOk item (λ span. self.old.splits.rest ≡ Some span.start)) }
+        ensures later { IfSome result (λ item. IfOk item (λ span. IfSome self.new.splits.rest (λ i. span.end ≤ i))) }
+        ensures fewer_left { IfSome result (λ _. self.new.limit < self.old.limit) }
+        ensures regex { self.new.splits.matches.regex ≡ self.old.splits.matches.regex }
         ensures haystack { self.new.splits.matches.searcher.input.haystack ≡ self.old.splits.matches.searcher.input.haystack }
     {
         if self.limit == 0 {
