@@ -1,5 +1,5 @@
 //! What searches one input after another with a regex.
-ghost use Rattle.std.specs.Prelude.{◌≡◌, length, None, IfOk};
+ghost use Rattle.std.specs.Prelude.{◌≡◌, length, None, IfOk, OnOk};
 ghost use Rattle.rx_search.specs.GroupInfo.{slot_count};
 ghost use Rattle.rx_meta.specs.Cache.{Fits, Fits-prop};
 ghost use Rattle.rx_meta.specs.Finder.{PromisesFor, MayFail, AreSlotsOf, IsAnswerWith};
@@ -38,6 +38,23 @@ impl<'r> RegexFinder<'r> {
             cache,
             slots,
         })
+    }
+
+    /// Makes any finder one for this regex: its cache is reset and keeps the room that it has. Where there is no memory, it is
+    /// as before but for what its cache held.
+    ///
+    /// # Errors
+    ///
+    /// `Memory`, where there was no memory for the slots or for more room.
+    pub fn refit(&mut self, alloc: Global, regex: &'r Regex) -> Result<(), Memory>
+        ensures { OnOk result (self.new.regex.now ≡ regex.now) }
+    {
+        let none = None;
+        let slots = vec![in alloc; none; regex.group_info().slot_len()]?;
+        self.cache.reset(alloc, regex)?;
+        self.slots = slots;
+        self.regex = regex;
+        Ok(())
     }
 
     /// The regex.
