@@ -9,11 +9,12 @@ use std::process::Abort;
 /// A pattern, the name of its strategy, and whether a search may leave out much of the haystack.
 type Row = (&'static str, &'static str, bool);
 
-const ROWS: [Row; 8] = [
+const ROWS: [Row; 9] = [
     ("foo", "prefilter memmem", true),
     ("a|b|c", "prefilter memchr3", true),
     ("a|b|c|d", "prefilter byteset", false),
-    ("ab|c", "prefilter multi", false),
+    ("ab|cd", "prefilter multi", false),
+    ("ab|c", "prefilter aho-corasick", false),
     ("foo$", "reverse anchored", true),
     ("^foo$", "core", false),
     (r"Holmes\w+", "core", true),
@@ -40,8 +41,9 @@ fn a_regex_tells_its_strategy(rt: HostRuntime) {
 #[test]
 fn what_is_switched_off_makes_no_strategy(rt: HostRuntime) {
     let alloc = rt.alloc();
+    // Its prefilter is fast all the same.
     let no_dfas = Config::new().dfa(false).hybrid(false);
-    assert!(rt; is_named(&rt, alloc, no_dfas, ("foo$", "core", false)));
+    assert!(rt; is_named(&rt, alloc, no_dfas, ("foo$", "core", true)));
     let no_prefilter = Config::new().auto_prefilter(false);
     assert!(rt; is_named(&rt, alloc, no_prefilter, ("foo", "core", false)));
 }
