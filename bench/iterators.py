@@ -31,14 +31,19 @@ def copy_to(folder, program, below):
         file.write('%s: %s\n' % (program, below))
 
 
+def build(folder, program, below):
+    """Builds the program for measuring in a copy of the repository, and gives its path."""
+    copy_to(folder, program, below)
+    built = os.path.join(folder, program)
+    measuring = os.path.join(TOP, 'bench', 'measuring.py')
+    subprocess.run([sys.executable, measuring, folder, program, built], check=True)
+    return built
+
+
 def rows_of(program, below):
     """The words of each line that a measuring build of the program prints."""
     with tempfile.TemporaryDirectory() as folder:
-        copy_to(folder, program, below)
-        built = os.path.join(folder, program)
-        measuring = os.path.join(TOP, 'bench', 'measuring.py')
-        subprocess.run([sys.executable, measuring, folder, program, built], check=True)
-        done = subprocess.run([built], input=b't\n', stdout=subprocess.PIPE)
+        done = subprocess.run([build(folder, program, below)], input=b't\n', stdout=subprocess.PIPE)
     rows = [line.split() for line in done.stdout.decode().splitlines()]
     if done.returncode or not rows:
         sys.exit('no figures: status %d' % done.returncode)
