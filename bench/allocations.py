@@ -21,7 +21,7 @@ extern void *__libc_realloc(void *, size_t);
 static unsigned long calls;
 void *malloc(size_t size) { calls++; return __libc_malloc(size); }
 void *realloc(void *old, size_t size) { calls++; return __libc_realloc(old, size); }
-__attribute__((destructor)) static void tell(void) { fprintf(stderr, "%lu\\n", calls); }
+__attribute__((destructor)) static void tell(void) { fprintf(stderr, "%lu\n", calls); }
 """
 
 # Jobs, each with how often it is done, and what is done so much more often.
