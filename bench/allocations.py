@@ -1,94 +1,61 @@
 #!/usr/bin/env python3
-"""Counts the allocations of a reset of a cache, of a clone of a prefilter, of a row, and of a match and a gap of an iterator.
+"""Counts the allocations of a reset of a cache, of a clone of a prefilter and of a regex, of a row, and of what an iterator gives.
 
-It makes a program of bench/allocations.txt in a copy of the repository, and runs it by `rt try` with the 500th allocation
-failing, once for each number of allocations that the program is to make first. At one of these numbers the allocation that
-fails is the one after the job, and the status 4 says so: by its distance from that of another job the two are compared.
-Ends with status 1 where a reset of a cache that fits, a clone, a row without groups, a match of an iterator or a gap takes
-memory, or a row with groups takes it more than once. The program is built twice.
+It makes a program of bench/allocations.txt in a copy of the repository, builds it for measuring, without a proof
+(bench/measuring.py), and runs each job with two numbers of times, beneath a library that counts the calls of the system's
+allocator. Ends with status 1 where a reset of a cache that fits, a clone of a prefilter, a row without groups, a match of an
+iterator, one that is counted or a gap takes memory, or a row with groups or the captures of a match take it more than once.
 """
 import os
-import re
-import shutil
 import subprocess
 import sys
 import tempfile
 
-TOP = os.path.dirname(os.path.dirname(os.path.abspath(__file__)))
-FAILING = 500
-LEAST = 300
-STEP = 5
-CASE = re.compile(rb'^case=(\S+) run=ended status=([0-9]+)', re.MULTILINE)
+from iterators import build
 
-# Jobs, each with how often it is done: resets for the same regex and for a larger one, clones of a prefilter, rows without
-# groups and with one, matches and gaps of an iterator.
-JOBS = ['s0', 's9', 'l0', 'l1', 'l9', 'c1', 'c9', 'w5', 'w8', 'g5', 'g8', 'i5', 'i8', 'p5', 'p8']
+COUNTER = r"""
+#include <stddef.h>
+#include <stdio.h>
+extern void *__libc_malloc(size_t);
+extern void *__libc_realloc(void *, size_t);
+static unsigned long calls;
+void *malloc(size_t size) { calls++; return __libc_malloc(size); }
+void *realloc(void *old, size_t size) { calls++; return __libc_realloc(old, size); }
+__attribute__((destructor)) static void tell(void) { fprintf(stderr, "%lu\n", calls); }
+"""
 
+# Jobs, each with how often it is done, and what is done so much more often.
+JOBS = [('s', 0, 9, 'nine resets for the same regex'), ('l', 1, 9, 'eight resets more for a larger regex'),
+        ('c', 1, 9, 'eight clones more of a prefilter'), ('w', 5, 8, 'three rows more without groups'),
+        ('g', 5, 8, 'three rows more with a group'), ('i', 5, 8, 'three matches more of an iterator'),
+        ('p', 5, 8, 'three gaps more'), ('k', 5, 8, 'the captures of three matches more'),
+        ('n', 5, 8, 'three matches more that are counted'), ('r', 1, 9, 'eight clones more of a regex')]
 
-def copy_to(folder):
-    for name in ('crates.txt', 'HANDLES'):
-        shutil.copy(os.path.join(TOP, name), folder)
-    for crate in os.listdir(os.path.join(TOP, 'crates')):
-        for part in ('src', 'specs', 'proofs'):
-            place = os.path.join(TOP, 'crates', crate, part)
-            if os.path.isdir(place):
-                shutil.copytree(place, os.path.join(folder, 'crates', crate, part))
-    crate = os.path.join(folder, 'crates', 'allocations')
-    os.makedirs(os.path.join(crate, 'src'))
-    shutil.copy(os.path.join(TOP, 'bench', 'allocations.txt'), os.path.join(crate, 'src', 'main.rt'))
-    with open(os.path.join(folder, 'crates.txt'), 'a') as file:
-        file.write('allocations: rx_search rx_meta rx_scan\n')
-    return crate
+# Those of which each time may take memory once.
+ONCE = ('g', 'k', 'r')
 
 
-def statuses(crate, cases):
-    """The status of each case, a job with the number of allocations that are made first."""
-    with tempfile.TemporaryDirectory() as folder:
-        for job, number in cases:
-            with open(os.path.join(folder, '%s-%d' % (job, number)), 'w') as file:
-                file.write('%s%03d%s' % (job[0], number, job[1]))
-        command = ['rt', 'try', '--fail-alloc', str(FAILING), '--cases', folder]
-        done = subprocess.run(command, cwd=crate, stdout=subprocess.PIPE, stderr=subprocess.STDOUT)
-    ended = {}
-    for name, status in CASE.findall(done.stdout):
-        job, number = name.decode().split('-')
-        ended[job, int(number)] = int(status)
-    if len(ended) != len(cases):
-        sys.exit('no answer of %d cases\n%s' % (len(cases) - len(ended), done.stdout.decode(errors='replace')))
-    return ended
-
-
-def first_failing(ended, job):
-    return min(number for (of, number), status in ended.items() if of == job and status)
+def allocations(program, counter, job, times):
+    done = subprocess.run([program], input=b'%s%d' % (job.encode(), times), stderr=subprocess.PIPE,
+                          env=dict(os.environ, LD_PRELOAD=counter))
+    if done.returncode:
+        sys.exit('%s%d: status %d' % (job, times, done.returncode))
+    return int(done.stderr.split()[-1])
 
 
 def main():
+    is_well = True
     with tempfile.TemporaryDirectory() as folder:
-        crate = copy_to(folder)
-        coarse = statuses(crate, [(job, number) for job in JOBS for number in range(LEAST, FAILING, STEP)])
-        fine = []
-        for job in JOBS:
-            last = first_failing(coarse, job)
-            fine += [(job, number) for number in range(last - STEP + 1, last + 1)]
-        ended = statuses(crate, fine)
-    places = {}
-    for job in JOBS:
-        place = first_failing(ended, job)
-        if ended[job, place] != 4:
-            sys.exit('%s: status %d' % (job, ended[job, place]))
-        places[job] = FAILING - place
-    print(' '.join('%s %d' % (job, places[job]) for job in JOBS))
-    again = places['s9'] - places['s0'], places['l9'] - places['l1']
-    whole, group = places['w8'] - places['w5'], places['g8'] - places['g5']
-    print('a reset of a cache that fits: %d and %d in 9 and 8 resets' % again)
-    print('a reset for a larger regex: %d' % (places['l1'] - places['l0']))
-    clones = places['c9'] - places['c1']
-    print('eight clones more of a prefilter: %d' % clones)
-    print('three rows more: %d without groups, %d with one' % (whole, group))
-    matches, gaps = places['i8'] - places['i5'], places['p8'] - places['p5']
-    print('three matches more of an iterator: %d; three gaps more: %d' % (matches, gaps))
-    none = (*again, clones, whole, matches, gaps)
-    return 0 if not any(none) and group <= 3 else 1
+        source, counter = os.path.join(folder, 'counter.c'), os.path.join(folder, 'counter.so')
+        with open(source, 'w') as file:
+            file.write(COUNTER)
+        subprocess.run(['gcc', '-shared', '-fPIC', '-O1', '-o', counter, source], check=True)
+        program = build(folder, 'allocations', 'rx_search rx_meta rx_scan')
+        for job, few, many, name in JOBS:
+            more = allocations(program, counter, job, many) - allocations(program, counter, job, few)
+            print('%s: %d' % (name, more))
+            is_well = is_well and more <= (many - few if job in ONCE else 0)
+    return 0 if is_well else 1
 
 
 if __name__ == '__main__':

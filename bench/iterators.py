@@ -15,7 +15,8 @@ TOP = os.path.dirname(os.path.dirname(os.path.abspath(__file__)))
 MOST = 1.3
 
 
-def copy_to(folder):
+def copy_to(folder, program, below):
+    """Copies the repository's crates, and makes a crate of the program's text, which stands on these."""
     for name in ('crates.txt', 'HANDLES'):
         shutil.copy(os.path.join(TOP, name), folder)
     for crate in os.listdir(os.path.join(TOP, 'crates')):
@@ -23,28 +24,34 @@ def copy_to(folder):
             place = os.path.join(TOP, 'crates', crate, part)
             if os.path.isdir(place):
                 shutil.copytree(place, os.path.join(folder, 'crates', crate, part))
-    crate = os.path.join(folder, 'crates', 'iterators')
+    crate = os.path.join(folder, 'crates', program)
     os.makedirs(os.path.join(crate, 'src'))
-    shutil.copy(os.path.join(TOP, 'bench', 'iterators.txt'), os.path.join(crate, 'src', 'main.rt'))
+    shutil.copy(os.path.join(TOP, 'bench', program + '.txt'), os.path.join(crate, 'src', 'main.rt'))
     with open(os.path.join(folder, 'crates.txt'), 'a') as file:
-        file.write('iterators: rx_search rx_meta\n')
+        file.write('%s: %s\n' % (program, below))
 
 
-def rows_of(folder):
-    copy_to(folder)
-    program = os.path.join(folder, 'iterators')
+def build(folder, program, below):
+    """Builds the program for measuring in a copy of the repository, and gives its path."""
+    copy_to(folder, program, below)
+    built = os.path.join(folder, program)
     measuring = os.path.join(TOP, 'bench', 'measuring.py')
-    subprocess.run([sys.executable, measuring, folder, 'iterators', program], check=True)
-    done = subprocess.run([program], input=b't\n', stdout=subprocess.PIPE)
+    subprocess.run([sys.executable, measuring, folder, program, built], check=True)
+    return built
+
+
+def rows_of(program, below):
+    """The words of each line that a measuring build of the program prints."""
+    with tempfile.TemporaryDirectory() as folder:
+        done = subprocess.run([build(folder, program, below)], input=b't\n', stdout=subprocess.PIPE)
     rows = [line.split() for line in done.stdout.decode().splitlines()]
     if done.returncode or not rows:
         sys.exit('no figures: status %d' % done.returncode)
-    return [(name, int(count), int(bare), int(iterator)) for name, count, bare, iterator in rows]
+    return rows
 
 
 def main():
-    with tempfile.TemporaryDirectory() as folder:
-        rows = rows_of(folder)
+    rows = [(name, int(count), int(bare), int(iterator)) for name, count, bare, iterator in rows_of('iterators', 'rx_search rx_meta')]
     for name, count, bare, iterator in rows:
         print('%-10s %7d matches: bare %6.1f ns, find_iter %6.1f ns, ratio %.2f'
               % (name, count, bare / count, iterator / count, iterator / bare))

@@ -50,9 +50,9 @@ use Rattle.rx_meta.specs.Cache.{CacheValue, Fits, accounted_for, states_memory}
 use Rattle.rx_meta.specs.Impossible.{IsKnownImpossible}
 use Rattle.rx_meta.specs.Build.{patterns_for, AreFew, AreAllowed, engine_memory, cache_memory, memory_by, cache_memory_by, prefilter_by, least_capacity, IsBuilt, IsBuiltOf, IsRefusal, IsRefused, IsRefusedFor}
 use Rattle.rx_meta.specs.Error.{error_of}
-use Rattle.rx_meta.specs.Name.{chosen}
+use Rattle.rx_meta.specs.Name.{chosen, end_alone, accelerated_by, is_fast_by}
 use Rattle.rx_meta.specs.Reading.{reading_of}
-use Rattle.rx_meta.specs.Regex.{RegexValue, Serves, kind_in, groups_in, pattern_count, properties_in, prefilter_in, regex_memory, tables_memory, has_lazy, has_dfas, name_of, IsMadeUnder}
+use Rattle.rx_meta.specs.Regex.{RegexValue, Serves, kind_in, groups_in, pattern_count, properties_in, prefilter_in, regex_memory, tables_memory, has_lazy, has_dfas, name_of, is_accelerated, IsMadeUnder}
 use Rattle.rx_meta.specs.declared.error.BuildError.{BuildError}
 use Rattle.rx_meta.specs.declared.error.BuildError.TheVariants.{Syntax, NFA, Memory}
 
@@ -166,16 +166,18 @@ within-not : (n : ℕ) (o : Option ℕ) → IsSomeAnd o (λ limit. limit < n) �
 within-not n None above is = above
 within-not n (Some limit) above is = let test = is in let lt : limit < n = above in grind (arith, nat_tests)
 
--- and none where these have no room, and too many states are accounted for full ones
-dfas-gone : (c : Config) (nfa : Nfa) (reverse : Option Nfa) (dfas : Dfas) → AreDfasBeside c nfa reverse dfas → hybrid_cache_capacity_of c < minimum nfa
-    → IsSomeAnd (dfa_state_limit_of c) (λ limit. limit < nfa.accounted) → is_some (pair_of dfas) ≡ false
+-- and none where those that are asked for have no room, and too many states are accounted for full ones
+dfas-gone : (c : Config) (nfa : Nfa) (reverse : Option Nfa) (dfas : Dfas) → AreDfasBeside c nfa reverse dfas
+    → (hybrid_of c ≡ true → hybrid_cache_capacity_of c < minimum nfa)
+    → (dfa_of c ≡ true → IsSomeAnd (dfa_state_limit_of c) (λ limit. limit < nfa.accounted)) → is_some (pair_of dfas) ≡ false
 dfas-gone c nfa None dfas are small many = ap (λ (d : Dfas). is_some (pair_of d)) are
 dfas-gone c nfa (Some back) Absent are small many = refl
 dfas-gone c nfa (Some back) (Full forward backward) are small many =
-    absurd (within-not nfa.accounted (dfa_state_limit_of c) many (and_parts (dfa_of c) (is_within nfa.accounted (dfa_state_limit_of c)) are.0).1)
+    let parts = and_parts (dfa_of c) (is_within nfa.accounted (dfa_state_limit_of c)) are.0 in
+    absurd (within-not nfa.accounted (dfa_state_limit_of c) (many parts.0) parts.1)
 dfas-gone c nfa (Some back) (Lazy forward backward) are small many =
-    let test = (and_parts (hybrid_of c) (nat_le (minimum nfa) (hybrid_cache_capacity_of c)) are.1.0).1 in
-    absurd (le-not (minimum nfa) (hybrid_cache_capacity_of c) small test)
+    let parts = and_parts (hybrid_of c) (nat_le (minimum nfa) (hybrid_cache_capacity_of c)) are.1.0 in
+    absurd (le-not (minimum nfa) (hybrid_cache_capacity_of c) (small parts.0) parts.1)
 
 -- what is known of the core of these expressions
 module _ (c : Config) (hs : List Expression) (core : CoreValue) (made : IsCoreOf c hs core) where
@@ -227,11 +229,12 @@ module _ (c : Config) (hs : List Expression) (core : CoreValue) (made : IsCoreOf
       dfas-there c core.nfa core.reverse core.dfas made.dfas made.asked on
       (subst (λ n. 16384 + 16 * n ≤ hybrid_cache_capacity_of c) (sym made.compiled.accounted) fits)
 
-  core-gone : hybrid_cache_capacity_of c < least_capacity hs → IsSomeAnd (dfa_state_limit_of c) (λ limit. limit < nfa_states hs)
-      → is_some (pair_of core.dfas) ≡ false
+  core-gone : (hybrid_of c ≡ true → hybrid_cache_capacity_of c < least_capacity hs)
+      → (dfa_of c ≡ true → IsSomeAnd (dfa_state_limit_of c) (λ limit. limit < nfa_states hs)) → is_some (pair_of core.dfas) ≡ false
   core-gone small many =
-      dfas-gone c core.nfa core.reverse core.dfas made.dfas (subst (λ n. hybrid_cache_capacity_of c < 16384 + 16 * n) (sym made.compiled.accounted) small)
-      (subst (λ n. IsSomeAnd (dfa_state_limit_of c) (λ limit. limit < n)) (sym made.compiled.accounted) many)
+      dfas-gone c core.nfa core.reverse core.dfas made.dfas
+      (λ on. subst (λ n. hybrid_cache_capacity_of c < 16384 + 16 * n) (sym made.compiled.accounted) (small on))
+      (λ on. subst (λ n. IsSomeAnd (dfa_state_limit_of c) (λ limit. limit < n)) (sym made.compiled.accounted) (many on))
 
 -- where no literals stand for all that the expressions are
 without : {A : Type 0} (f : Option (List (List ℕ)) → A) (c : Config) (hs : List Expression) → literals_for c hs ≡ None → f None ≡ f (literals_for c hs)
@@ -243,8 +246,8 @@ none-named P o none = subst (λ (x : Option (List (List ℕ))). IfSome x P) (sym
 built-core : (c : Config) (hs : List Expression) (core : CoreValue) → IsPlainOf c hs (TheCore core) → (b : Bool)
     → is_from_end (TheCore core) (alternation (expressions hs)) ≡ b → AreAllowedStates (compiler_of c) hs
     → IsBuilt c hs (record { config = c; strategy = over b (TheCore core) })
-unfolding kind_in Serves pattern_count groups_in regex_memory tables_memory has_lazy has_dfas name_of IsMadeUnder accounted_for Fits states_memory properties_in prefilter_in IsKnownImpossible
-  over strategy_name plain_by
+unfolding kind_in Serves pattern_count groups_in regex_memory tables_memory has_lazy has_dfas name_of is_accelerated IsMadeUnder accounted_for Fits states_memory properties_in prefilter_in IsKnownImpossible
+    over strategy_name plain_by
 built-core c hs core plain true is allowed =
     let made = plain.core in
     record {
@@ -271,6 +274,7 @@ built-core c hs core plain true is allowed =
         dfas = λ none. core-there c hs core made;
         no_dfas = λ none. core-gone c hs core made;
       };
+      accelerated = ap (λ b. accelerated_by None b (prefilter_for c hs)) (sym is) ∙ without (λ o. accelerated_by o (is_from_end (TheCore core) (alternation (expressions hs))) (prefilter_for c hs)) c hs plain.literals;
     }
 built-core c hs core plain false is allowed =
     let made = plain.core in
@@ -298,6 +302,7 @@ built-core c hs core plain false is allowed =
         dfas = λ none. core-there c hs core made;
         no_dfas = λ none. core-gone c hs core made;
       };
+      accelerated = ap is_fast_by made.pre ∙ ap (λ b. accelerated_by None b (prefilter_for c hs)) (sym is) ∙ without (λ o. accelerated_by o (is_from_end (TheCore core) (alternation (expressions hs))) (prefilter_for c hs)) c hs plain.literals;
     }
 
 -- a search for literals is leftmost-first
@@ -324,7 +329,7 @@ some-not-none o needles some none = none-is-some (sym none ∙ some)
 
 built-pre : (c : Config) (hs : List Expression) (p : PreValue) → IsPreOf c hs p → AreAllowedStates (compiler_of c) hs
     → IsBuilt c hs (record { config = c; strategy = Pre p })
-unfolding kind_in Serves pattern_count groups_in regex_memory tables_memory has_lazy has_dfas name_of IsMadeUnder accounted_for Fits states_memory properties_in prefilter_in IsKnownImpossible strategy_name
+unfolding kind_in Serves pattern_count groups_in regex_memory tables_memory has_lazy has_dfas name_of is_accelerated IsMadeUnder accounted_for Fits states_memory properties_in prefilter_in IsKnownImpossible strategy_name
 built-pre c hs p made allowed =
     let one = one-of p.needles hs made.whole in
     let of : IsPreFor p (patterns_for c hs) =
@@ -353,6 +358,7 @@ built-pre c hs p made allowed =
         dfas = λ none. some-not-none (literals_for c hs) p.needles made.literals none;
         no_dfas = λ none. some-not-none (literals_for c hs) p.needles made.literals none;
       };
+      accelerated = with-literals (λ o. accelerated_by o (false && end_alone hs) (prefilter_for c hs)) c hs p.needles made.literals;
     }
 
 pub built : (c : Config) (hs : List Expression) (s : Strategy) (regex : RegexValue) → IsMadeOf c hs s → AreAllowedStates (compiler_of c) hs

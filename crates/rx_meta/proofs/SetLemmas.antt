@@ -110,7 +110,9 @@ module _ (r : Patterns) (v : InputValue) (ordered : (p : ℕ) (h : Expression) �
   means-permitted utf8 full p m =
       let h = m.expression in
       let order = m.within.1 in
-      let lt = longer m.start m.end order (λ same. full p h m.start m.is_there (subst (λ j. Means r.terminator v.haystack h m.start j) same m.meant)) in
+      let high = m.within.2 in
+      let place : m.start ≤ v.end = omega arith in
+      let lt = longer m.start m.end order (λ same. full p h m.start m.is_there m.sought m.within.0 place (subst (λ j. Means r.terminator v.haystack h m.start j) same m.meant)) in
       (m, meant-permitted utf8 p h m.is_there m.start m.end lt m.meant)
 
 module _ (regex : RegexValue) (r : Patterns) (v : InputValue) (old new : List Bool) (premises : Premises (Serves regex r) (given_needles regex) r v)

@@ -1,5 +1,5 @@
 -- What a build answers.
-use Rattle.std.specs.Prelude.{◌≡◌, ℕ, true, false, ◌+◌, ◌-◌, ◌*◌, ◌^◌, ◌/◌, ◌<◌, ◌≤◌, min, List, length, Option, Some, None, IfSome, IsSomeAnd, slice_get, Ok, Err, if◌then◌else◌}
+use Rattle.std.specs.Prelude.{◌≡◌, ℕ, true, false, ◌&&◌, ◌+◌, ◌-◌, ◌*◌, ◌^◌, ◌/◌, ◌<◌, ◌≤◌, min, List, length, Option, Some, None, IfSome, IsSomeAnd, slice_get, Ok, Err, if◌then◌else◌}
 use Rattle.rx_model.specs.Expression.{Expression, alternation, AreOrdered}
 use Rattle.rx_model.specs.Search.{Patterns}
 use Rattle.rx_search.specs.Input.{InputValue}
@@ -16,10 +16,10 @@ use Rattle.rx_thompson.specs.declared.error.BuildError.TheVariants.{ExceededSize
 use Rattle.rx_meta.specs.Cache.{CacheValue, Fits, accounted_for, states_memory}
 use Rattle.rx_meta.specs.Config.{Config, kind_of, utf8_of, terminator_of, captures_of, size_limit_of, has_backtracker, asks_for_dfas, dfa_of, hybrid_of, dfa_size_limit_of, dfa_state_limit_of, hybrid_cache_capacity_of}
 use Rattle.rx_meta.specs.Impossible.{is_impossible, IsKnownImpossible}
-use Rattle.rx_meta.specs.Name.{literals_for, literal_name, chosen, accounted, plain_name}
+use Rattle.rx_meta.specs.Name.{literals_for, literal_name, chosen, accounted, plain_name, end_alone, accelerated_by}
 use Rattle.rx_meta.specs.Prefilter.{prefilter_for, prefilter_memory}
 use Rattle.rx_meta.specs.Reading.{reading_of}
-use Rattle.rx_meta.specs.Regex.{RegexValue, Serves, kind_in, groups_in, pattern_count, properties_in, prefilter_in, regex_memory, tables_memory, has_lazy, has_dfas, name_of, IsMadeUnder}
+use Rattle.rx_meta.specs.Regex.{RegexValue, Serves, kind_in, groups_in, pattern_count, properties_in, prefilter_in, regex_memory, tables_memory, has_lazy, has_dfas, name_of, is_accelerated, IsMadeUnder}
 use Rattle.rx_meta.specs.declared.error.BuildError.{BuildError}
 use Rattle.rx_meta.specs.declared.error.BuildError.TheVariants.{Syntax, NFA, Memory}
 
@@ -78,9 +78,9 @@ pub record IsNamed (c : Config) (hs : List Expression) (regex : RegexValue) : Ty
   pub plain : literals_for c hs ≡ None → name_of regex ≡ plain_name hs (has_dfas regex)
   -- which they are where lazy ones are asked for, and have room
   pub dfas : literals_for c hs ≡ None → hybrid_of c ≡ true → least_capacity hs ≤ hybrid_cache_capacity_of c → has_dfas regex ≡ true
-  -- and not where neither these have room, nor so few states are accounted that full ones are made
-  pub no_dfas : literals_for c hs ≡ None → hybrid_cache_capacity_of c < least_capacity hs → IsSomeAnd (dfa_state_limit_of c) (λ limit. limit < nfa_states hs)
-      → has_dfas regex ≡ false
+  -- and not where neither sort may be made: lazy ones that are asked for have no room, and for full ones too many states are accounted
+  pub no_dfas : literals_for c hs ≡ None → (hybrid_of c ≡ true → hybrid_cache_capacity_of c < least_capacity hs)
+      → (dfa_of c ≡ true → IsSomeAnd (dfa_state_limit_of c) (λ limit. limit < nfa_states hs)) → has_dfas regex ≡ false
 
 -- the regex of these expressions
 pub record IsBuilt (c : Config) (hs : List Expression) (regex : RegexValue) : Type 0 where
@@ -114,6 +114,8 @@ pub record IsBuilt (c : Config) (hs : List Expression) (regex : RegexValue) : Ty
   pub pre : prefilter_in regex ≡ prefilter_by (literals_for c hs) c hs
   -- which strategy it has
   pub named : IsNamed c hs regex
+  -- whether a search may leave out much of the haystack: by its literals, by reading from the end, or by its prefilter
+  pub accelerated : is_accelerated regex ≡ accelerated_by (literals_for c hs) (has_dfas regex && end_alone hs) (prefilter_for c hs)
 
 -- Why so many patterns, of which the first ones read as these expressions, pass a limit. Numbers are told up to the
 -- greatest of 64 bits. Neither what the grammar refuses nor want of memory is told so.

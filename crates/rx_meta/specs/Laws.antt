@@ -80,7 +80,8 @@ pub record MeansInSpan (r : Patterns) (v : InputValue) (p : ℕ) : Type 0 where
 abbrev pub MeansFromPermitted : Patterns → InputValue → (p : ℕ) → Type 0
 MeansFromPermitted r v p = (m : MeansInSpan r v p) × IsTrue (is_permitted r.utf8_empty v.haystack m.start)
 
--- no pattern means an empty part of the text
+-- no pattern that is sought means an empty part of the input's span
 abbrev pub HasNoEmptyMatch : Patterns → InputValue → Type 0
 HasNoEmptyMatch r v =
-    (p : ℕ) (h : Expression) (i : ℕ) → slice_get r.expressions p ≡ Some h → Means r.terminator v.haystack h i i → ⊥
+    (p : ℕ) (h : Expression) (i : ℕ) → slice_get r.expressions p ≡ Some h → IsSought v.anchor p → v.start ≤ i → i ≤ v.end
+    → Means r.terminator v.haystack h i i → ⊥

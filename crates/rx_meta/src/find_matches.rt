@@ -75,6 +75,7 @@ impl<'r, 'h> FindMatches<'r, 'h> {
         ensures moved { IsMoved self.old.searcher self.new.searcher result }
         ensures ended { IsEndedAfter result self.new.ended }
         ensures none { self.old.ended ≡ true → result ≡ None }
+        ensures stays { self.old.ended ≡ true → self.new ≡ self.old }
         ensures fewer_left { IfSome result (λ _. most_left self.new < most_left self.old) }
         ensures regex { self.new.regex ≡ self.old.regex }
         ensures haystack { self.new.searcher.input.haystack ≡ self.old.searcher.input.haystack }

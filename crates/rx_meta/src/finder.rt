@@ -1,5 +1,5 @@
 //! What searches one input after another with a regex.
-ghost use Rattle.std.specs.Prelude.{◌≡◌, length, None, IfOk, OnOk};
+ghost use Rattle.std.specs.Prelude.{◌≡◌, length, None, IfOk, OnOk, OnErr};
 ghost use Rattle.rx_search.specs.GroupInfo.{slot_count};
 ghost use Rattle.rx_meta.specs.Cache.{Fits, Fits-prop};
 ghost use Rattle.rx_meta.specs.Finder.{PromisesFor, MayFail, AreSlotsOf, IsAnswerWith};
@@ -47,7 +47,9 @@ impl<'r> RegexFinder<'r> {
     ///
     /// `Memory`, where there was no memory for the slots or for more room.
     pub fn refit(&mut self, alloc: Global, regex: &'r Regex) -> Result<(), Memory>
-        ensures { OnOk result (self.new.regex.now ≡ regex.now) }
+        ensures made { OnOk result (self.new.regex.now ≡ regex.now) }
+        ensures empty { OnOk result (AreSlotsOf self.new.slots.items None) }
+        ensures err { OnErr result ((self.new.regex.now ≡ self.old.regex.now) × (self.new.slots.items ≡ self.old.slots.items)) }
     {
         let none = None;
         let slots = vec![in alloc; none; regex.group_info().slot_len()]?;

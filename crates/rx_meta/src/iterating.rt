@@ -23,6 +23,7 @@ impl Regex {
     ///
     /// ```
     /// let mut matches = regex.find_iter(&rt, alloc, &Input::new(b"one two"))?;
+    ///
     /// while let Some(found) = matches.next() {
     ///     spans.push(found?.span())?;
     /// }
@@ -64,7 +65,9 @@ impl Regex {
     ///
     /// ```
     /// let comma = Regex::new(alloc, ",")?;
+    ///
     /// let mut fields = comma.split(&rt, alloc, &Input::new(b"a,b"))?;
+    ///
     /// while let Some(field) = fields.next() {
     ///     spans.push(field?)?;
     /// }

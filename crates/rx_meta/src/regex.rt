@@ -382,8 +382,8 @@ impl Regex {
     ///
     /// ```
     /// let mut cache = regex.create_cache(alloc)?;
-    /// let first = regex.search_with(&mut cache, &Input::new(b"Error: 1"))?;
-    /// let second = regex.search_with(&mut cache, &Input::new(b"an ERROR"))?;
+    /// let first = regex.search_with(&mut cache, &Input::new(b"Error: 1"));
+    /// let second = regex.search_with(&mut cache, &Input::new(b"an ERROR"));
     /// ```
     #[tactic(auto, unfolding(crate::specs::Cache::Fits, crate::specs::Cache::memory_of, crate::specs::Cache::accounted_for, crate::specs::Cache::states_memory))]
     pub fn create_cache(&self, alloc: Global) -> Result<Cache, Memory>

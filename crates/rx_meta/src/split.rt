@@ -1,5 +1,5 @@
 //! What lies between the matches in a text.
-ghost use Rattle.std.specs.Prelude.{◌≡◌, ℕ, suc, ◌≤◌, ◌-◌, ◌<◌, length, Some, None, option_map, IfOk, IfSome};
+ghost use Rattle.std.specs.Prelude.{◌≡◌, ℕ, suc, ◌≤◌, ◌-◌, ◌<◌, length, Some, None, option_map, IfOk, IfSome, OnErr};
 ghost use Rattle.rx_meta.specs.Gaps.{span_between};
 ghost use Rattle.rx_meta.specs.Iterators.{split_begun, gaps_to_come, pieces_up_to, pieces_to_come, PromisesEach, most_gaps_left, GivesNext, IsSpan, IsPieceOf, IsCut, IsOver, AfterLast, last_from, text_len};
 
@@ -64,6 +64,8 @@ impl<'r, 'h> Split<'r, 'h> {
         ensures any { IfSome result (λ item. IfOk item (IsCut self.old self.new)) }
         ensures ended { AfterLast result (self.new.rest ≡ None) }
         ensures none { self.old.rest ≡ None → result ≡ None }
+        ensures stays { self.old.rest ≡ None → self.new ≡ self.old }
+        ensures failed { IfSome result (λ item. OnErr item (self.new.matches.searcher ≡ self.old.matches.searcher)) }
         ensures fewer_left { IfSome result (λ _. most_gaps_left self.new < most_gaps_left self.old) }
         ensures regex { self.new.matches.regex ≡ self.old.matches.regex }
         ensures haystack { self.new.matches.searcher.input.haystack ≡ self.old.matches.searcher.input.haystack }
@@ -172,6 +174,8 @@ impl<'r, 'h> SplitN<'r, 'h> {
         ensures any { 1 < self.old.limit → IfSome result (λ item. IfOk item (IsCut self.old.splits self.new.splits)) }
         ensures last { self.old.limit ≡ 1 → result ≡ last_from (text_len self.old.splits) self.old.splits.rest }
         ensures still { self.old.limit ≡ 1 → self.new.splits.matches ≡ self.old.splits.matches }
+        ensures stays { IsOver self.old → self.new.splits ≡ self.old.splits }
+        ensures failed { IfSome result (λ item. OnErr item (self.new.splits.matches.searcher ≡ self.old.splits.matches.searcher)) }
         ensures from { IfSome result (λ item. IfOk item (λ span. self.old.splits.rest ≡ Some span.start)) }
         ensures later { IfSome result (λ item. IfOk item (λ span. IfSome self.new.splits.rest (λ i. span.end ≤ i))) }
         ensures fewer_left { IfSome result (λ _. self.new.limit < self.old.limit) }

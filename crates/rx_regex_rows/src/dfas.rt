@@ -260,6 +260,14 @@ fn a_lazy_dfa_makes_states(rt: HostRuntime) {
     }
 }
 
+/// A match that ends at the end of the text is searched from there: the search for its end finds its start too.
+#[test]
+fn the_end_of_the_text_is_read_from_first(rt: HostRuntime) {
+    let input = Input::new(b"aab");
+    let seen = seen(&rt, rt.alloc(), alone(LAZY), "[a-z]+b$", &input);
+    assert!(rt; seen == (Some((0, 3)), true, false));
+}
+
 #[test]
 fn a_start_that_is_known_is_not_sought(rt: HostRuntime) {
     let input = Input::new(b"aab");

@@ -9,3 +9,5 @@ mod iterators;
 mod regex;
 #[cfg(test)]
 mod sets;
+#[cfg(test)]
+mod strategies;

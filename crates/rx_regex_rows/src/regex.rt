@@ -81,7 +81,7 @@ fn number(found: Option<PatternID>) -> Option<usize> {
 /// What the searches of an input tell: the match, the same by another call, its half, its pattern, and what it leaves in
 /// four slots that held places before.
 #[derive(Clone, Copy)]
-struct Told {
+pub(crate) struct Told {
     found: Option<(usize, usize, usize)>,
     again: Option<(usize, usize, usize)>,
     half: Option<(usize, usize)>,
@@ -91,7 +91,12 @@ struct Told {
 }
 
 /// By the calls that make a cache.
-fn told_by<R: Abort + Wait>(rt: &R, alloc: Global, regex: &Regex, input: &Input<'_>) -> Told {
+pub(crate) fn told_by<R: Abort + Wait>(
+    rt: &R,
+    alloc: Global,
+    regex: &Regex,
+    input: &Input<'_>,
+) -> Told {
     let searched = regex.search(rt, alloc, input).ok();
     let found = regex.find(rt, alloc, input).ok();
     let ended = regex.search_half(rt, alloc, input).ok();
@@ -139,7 +144,7 @@ fn is_told(rt: &impl Abort, told: &Told) {
 }
 
 /// They tell nothing.
-fn is_silent(rt: &impl Abort, told: &Told) {
+pub(crate) fn is_silent(rt: &impl Abort, told: &Told) {
     assert!(rt; told.found == None);
     assert!(rt; told.again == None);
     assert!(rt; told.half == None);
@@ -149,7 +154,12 @@ fn is_silent(rt: &impl Abort, told: &Told) {
 }
 
 /// Whether there is a match.
-fn matches_in<R: Abort + Wait>(rt: &R, alloc: Global, regex: &Regex, input: &Input<'_>) -> bool {
+pub(crate) fn matches_in<R: Abort + Wait>(
+    rt: &R,
+    alloc: Global,
+    regex: &Regex,
+    input: &Input<'_>,
+) -> bool {
     regex.is_match(rt, alloc, input).ok().expect(rt, "memory")
 }
 

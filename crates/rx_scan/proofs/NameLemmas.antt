@@ -21,7 +21,7 @@ module _ (hs : List Expression) (regex : RegexValue) (named : IsNamed (config_wi
       named.dfas none refl (omega arith) ∙ sym e)
       (λ e.
       let lt : 130048 < nfa_states hs = grind (arith, nat_tests) in
-      named.no_dfas none (omega arith) (omega arith) ∙ sym e)
+      named.no_dfas none (λ on. omega arith) (λ on. omega arith) ∙ sym e)
 
   by-literals : (o : Option (List (List ℕ))) → literal_needles LeftmostFirst hs ≡ o → name_of regex ≡ name_by o hs
   by-literals None e = named.plain e ∙ ap (plain_name hs) (dfas e)
