@@ -3,7 +3,6 @@ use Rattle.std.proofs.Common.{◌≡◌, ℕ, zero, suc, ◌+◌, ◌-◌, ◌*�
 use Rattle.std.specs.Prelude.{map, nat_lt}
 use Rattle.std.proofs.lemmas.Bool.{ltb-true, ltb-false}
 use Rattle.std.proofs.lemmas.List.{length-map, get_or_append_left}
-use Rattle.std.proofs.lemmas.List.FromFn.{length-map-range_with_len}
 use Rattle.std.proofs.Math.Seq.{get_or-append_seam}
 use Rattle.rx_model.specs.Expression.{Expression}
 use Rattle.rx_model.specs.Matches.{IsMatch}
@@ -14,7 +13,7 @@ use Rattle.rx_search.specs.GroupInfo.{groups_at, slot_of_group, explicit_before,
 use Rattle.rx_search.specs.Told.{HasSlots}
 use Rattle.rx_search.specs.declared.span.Span.{Span}
 use Rattle.rx_search.proofs.GroupSlotLemmas.{slot_written}
-use Rattle.rx_search.specs.PatternGroups.{name_in, group_names, pattern_groups}
+use Rattle.rx_search.specs.PatternGroups.{group_names, pattern_groups}
 use Rattle.rx_scan.specs.Layout.{explicit_slots, all_explicit_slots, slots_in, own_slots, HaveImplicit}
 use Rattle.rx_scan.specs.Row.{group_count, group_slots, slots_from, row_of}
 use Rattle.rx_hir.proofs.GroupLemmas.{length-group_names}

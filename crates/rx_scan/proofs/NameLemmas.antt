@@ -1,7 +1,7 @@
 -- The name of the strategy of a regex under the configuration of a scan that switches nothing off.
-use Rattle.std.proofs.Common.{◌≡◌, ℕ, ◌+◌, ◌*◌, ◌<◌, ◌≤◌, List, [], refl, sym, ap, ◌∙◌, subst, arith}
+use Rattle.std.proofs.Common.{◌≡◌, ℕ, ◌<◌, ◌≤◌, List, [], refl, sym, ap, ◌∙◌, subst, arith}
 use Rattle.std.proofs.lemmas.Bool.Decides.{nat_tests}
-use Rattle.std.specs.Prelude.{Bool, true, false, Option, Some, None, IfSome, nat_le}
+use Rattle.std.specs.Prelude.{Option, Some, None, IfSome, nat_le}
 use Rattle.rx_model.specs.Expression.{Expression}
 use Rattle.rx_model.proofs.lemmas.runs.RunLemmas.{by_test}
 use Rattle.rx_search.specs.declared.anchored.MatchKind.TheVariants.{LeftmostFirst}

@@ -1,6 +1,4 @@
-use Rattle.std.proofs.Common.{◌≡◌, ◌++◌, List, ℕ, sym, ap, ◌∙◌, rules}
-use Rattle.std.specs.Prelude.{codes}
-use Rattle.rx_scan.specs.declared.status.Status.TheVariants.{Rows}
+use Rattle.std.proofs.Common.{rules, ◌∙◌}
 use Rattle.rx_scan.proofs.NameLemmas.{built-name}
 use Rattle.rx_scan.proofs.answer.explained.Goals as goal
 
