@@ -1,6 +1,6 @@
-//! Rows of attempts by full DFAs. What is wanted was worked out by hand.
+//! Rows of attempts by lazy DFAs. What is wanted was worked out by hand.
 use rx_attempts::{reverse_inner_attempt, reverse_suffix_attempt};
-use rx_dfa::Dense;
+use rx_dfa::lazy::{Lazy, LazyCache};
 use rx_limited::{Quadratic, RetryError};
 use rx_literal::{longest_common_suffix, suffixes};
 use rx_order::{
@@ -24,23 +24,31 @@ struct Attempt {
     taken: u64,
 }
 
-fn dense(rt: &impl Abort, alloc: Global, config: Config, kind: MatchKind, hir: &Hir) -> Dense {
+/// A capacity at which no cache is cleared.
+const ROOMY: usize = 1 << 24;
+
+fn lazy(rt: &impl Abort, alloc: Global, config: Config, kind: MatchKind, hir: &Hir) -> Lazy {
     let mut compiler = Compiler::new();
     compiler.configure(config);
     let nfa = compiler.build_from_hir(alloc, hir).ok().expect(rt, "an NFA");
-    Dense::build_from_nfa(alloc, nfa, kind, true, None)
+    Lazy::build_from_nfa(alloc, nfa, kind, true, ROOMY)
         .ok()
-        .expect(rt, "a DFA")
+        .expect(rt, "a lazy DFA")
 }
 
 /// The DFA of the expression that reads forwards.
-fn forward(rt: &impl Abort, alloc: Global, hir: &Hir) -> Dense {
-    dense(rt, alloc, Config::new(), MatchKind::LeftmostFirst, hir)
+fn forward(rt: &impl Abort, alloc: Global, hir: &Hir) -> Lazy {
+    lazy(rt, alloc, Config::new(), MatchKind::LeftmostFirst, hir)
 }
 
 /// That which reads it backwards.
-fn backward(rt: &impl Abort, alloc: Global, utf8: bool, hir: &Hir) -> Dense {
-    dense(rt, alloc, Config::new().reverse(true).utf8(utf8), MatchKind::All, hir)
+fn backward(rt: &impl Abort, alloc: Global, utf8: bool, hir: &Hir) -> Lazy {
+    lazy(rt, alloc, Config::new().reverse(true).utf8(utf8), MatchKind::All, hir)
+}
+
+/// A cache for the automaton.
+fn cache(rt: &impl Abort, alloc: Global, lazy: &Lazy) -> LazyCache {
+    LazyCache::new(alloc, lazy).ok().expect(rt, "a cache")
 }
 
 /// By the longest suffix of all matches.
@@ -61,8 +69,12 @@ fn by_suffix(rt: &impl Abort, alloc: Global, pattern: &str, input: &Input<'_>) -
         .expect(rt, "a prefilter");
     let fwd = forward(rt, alloc, &hir);
     let rev = backward(rt, alloc, true, &hir);
+    let mut fwd_cache = cache(rt, alloc, &fwd);
+    let mut rev_cache = cache(rt, alloc, &rev);
     let mut steps = Steps::<Brand>::open(Blank::new(1));
-    let answer = reverse_suffix_attempt(&pre, &fwd, &mut (), &rev, &mut (), input, &mut steps);
+    let answer = reverse_suffix_attempt(
+        &pre, &fwd, &mut fwd_cache, &rev, &mut rev_cache, input, &mut steps,
+    );
     Attempt {
         answer,
         taken: steps.taken(),
@@ -79,9 +91,12 @@ fn by_inner(rt: &impl Abort, alloc: Global, pattern: &str, input: &Input<'_>) ->
     assert!(rt; inner_has_no_earlier_match(&inner.prefix, &inner.literals));
     let fwd = forward(rt, alloc, &hir);
     let rev = backward(rt, alloc, false, &inner.prefix);
+    let mut fwd_cache = cache(rt, alloc, &fwd);
+    let mut rev_cache = cache(rt, alloc, &rev);
     let mut steps = Steps::<Brand>::open(Blank::new(1));
-    let answer =
-        reverse_inner_attempt(&inner.pre, &fwd, &mut (), &rev, &mut (), input, &mut steps);
+    let answer = reverse_inner_attempt(
+        &inner.pre, &fwd, &mut fwd_cache, &rev, &mut rev_cache, input, &mut steps,
+    );
     Attempt {
         answer,
         taken: steps.taken(),
@@ -159,7 +174,7 @@ fn attempts_by_inner_literals_find_the_next_match(rt: HostRuntime) -> Result<(),
         ("[a-z]+@[a-z]+[0-9]", "a@b c@d", None),
         ("[a-z]+@[a-z]+[0-9]", "@b5", None),
         ("[a-z]+@[a-z]+[0-9]", "ab@c5", Some((0, 5))),
-        ("[0-9][a-z]@[0-9]*", "@1a@ 2b@77", Some((1, 4))),
+        ("[0-9][a-z]@[0-9]*", "@.1a@ 2b@77", Some((2, 5))),
     ] {
         let attempt = by_inner(&rt, rt.alloc(), pattern, &Input::new(text.as_bytes()));
         assert!(rt; is_within(&attempt, text.len()));

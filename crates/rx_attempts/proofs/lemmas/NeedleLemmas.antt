@@ -1,9 +1,9 @@
 -- Candidates, as a search for needles has them and as the order of candidates does.
-use Rattle.std.proofs.Common.{◌≡◌, ℕ, zero, suc, ◌+◌, ◌-◌, ◌<◌, ◌≤◌, List, [], ◌∷◌, ◌++◌, length, take, drop, refl, sym, ◌∙◌, ap, subst, arith, true≢false, get_or, get_or-take, get_or-drop, length-take-le, length-drop}
+use Rattle.std.proofs.Common.{◌≡◌, ℕ, zero, suc, ◌+◌, ◌-◌, ◌<◌, ◌≤◌, List, [], ◌∷◌, ◌++◌, length, take, drop, refl, sym, ◌∙◌, ap, arith, get_or, get_or-take, get_or-drop, length-take-le, length-drop}
 use Rattle.std.proofs.lemmas.Grind.{same_number_lists}
 use Rattle.std.proofs.lemmas.List.{get_or_append_left, take-append-drop}
 use Rattle.std.proofs.lemmas.List.Elements.{All-contains}
-use Rattle.std.specs.Prelude.{true, false, Option, Some, None, Contains}
+use Rattle.std.specs.Prelude.{true, Option, Some, None, Contains}
 use Rattle.memchr.specs.Find.{OccursAt, occurs_at}
 use Rattle.memchr.proofs.lemmas.MatchLemmas.{occurs_at-true, OccursAt-true}
 use Rattle.rx_model.specs.Text.{stands_at}
@@ -77,17 +77,14 @@ module _ (text : List ℕ) (end i : ℕ) (within : end ≤ length text) where
   span_at-none : (needles : List (List ℕ)) → span_at needles (take end text) i ≡ None → (needle : List ℕ) (k : ℕ) → k < length needles
       → get_or needles k needle ≡ needle → stands_at text i needle ≡ true → i + length needle ≤ end → ⊥
   span_at-none [] none needle k lt is stand le = omega arith
-  span_at-none (x ∷ needles) none needle k lt is stand le =
+  span_at-none (x ∷ needles) none needle zero lt is stand le =
+      let o = occurs_at-true (take end text) needle i (occurs needle stand le) in
+      let here : occurs_at (take end text) x i ≡ true = ap (λ n. occurs_at (take end text) n i) is ∙ o in
+      none-is-some (sym none ∙ span_at-here (take end text) i x needles here)
+  span_at-none (x ∷ needles) none needle (suc k) lt is stand le =
       by_test (occurs_at (take end text) x i)
       (λ e. none-is-some (sym none ∙ span_at-here (take end text) i x needles e))
-      (λ e. by_place k lt is e)
-    where
-      by_place : (k : ℕ) → k < length (x ∷ needles) → get_or (x ∷ needles) k needle ≡ needle → occurs_at (take end text) x i ≡ false → ⊥
-      by_place zero lt is e =
-          let o = occurs_at-true (take end text) needle i (occurs needle stand le) in
-          true≢false (sym o ∙ ap (λ n. occurs_at (take end text) n i) (sym is) ∙ e)
-      by_place (suc k) lt is e =
-          span_at-none needles (sym (span_at-next (take end text) i x needles e) ∙ none) needle k (omega arith) is stand le
+      (λ e. span_at-none needles (sym (span_at-next (take end text) i x needles e) ∙ none) needle k (omega arith) is stand le)
 
 module _ (needles : List (List ℕ)) (v : InputValue) (within : v.end ≤ length v.haystack) where
   -- a needle lies where one is taken
