@@ -158,7 +158,7 @@ fn attempts_by_suffixes_find_the_next_match(rt: HostRuntime) -> Result<(), Fail>
         ("\\w+\\s+Holmes", "Holmes", None),
         ("\\w+\\s+Holmes", "", None),
         ("[a-z][0-9]ing", "x1in y2ing z3ing", Some((5, 10))),
-        ("[a-z]{2}b", "ab xbxab", Some((5, 8))),
+        ("[a-z]{2}b", "ab xb..xab", Some((7, 10))),
     ] {
         let attempt = by_suffix(&rt, rt.alloc(), pattern, &Input::new(text.as_bytes()));
         assert!(rt; is_within(&attempt, text.len()));
@@ -174,7 +174,7 @@ fn attempts_by_inner_literals_find_the_next_match(rt: HostRuntime) -> Result<(),
         ("[a-z]+@[a-z]+[0-9]", "a@b c@d", None),
         ("[a-z]+@[a-z]+[0-9]", "@b5", None),
         ("[a-z]+@[a-z]+[0-9]", "ab@c5", Some((0, 5))),
-        ("[0-9][a-z]@[0-9]*", "@.1a@ 2b@77", Some((2, 5))),
+        ("[0-9][a-z]@[0-9]*", "@..1a@ 2b@77", Some((3, 6))),
     ] {
         let attempt = by_inner(&rt, rt.alloc(), pattern, &Input::new(text.as_bytes()));
         assert!(rt; is_within(&attempt, text.len()));

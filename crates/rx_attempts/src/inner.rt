@@ -124,6 +124,7 @@ fn try_candidate<F: Automaton, B: Automaton, L: Ledger>(
     ensures fwd_fits { F.fits fwd.now fwd_cache.new }
     ensures rev_fits { B.fits rev.now rev_cache.new }
 {
+    let _haystack = input.haystack();
     if found.start < guards.stopped {
         return Err(RetryError::Quadratic(Quadratic::Candidate {
             start: found.start,

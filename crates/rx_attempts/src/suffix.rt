@@ -63,10 +63,13 @@ pub fn reverse_suffix_attempt<F: Automaton, B: Automaton, L: Ledger>(
     if input.is_done() {
         return Ok(None);
     }
-    match first_start(pre, rev, rev_cache, input, steps) {
-        Ok(Some(start)) => match_from(fwd, fwd_cache, input, start, steps),
-        Ok(None) => Ok(None),
-        Err(error) => Err(error),
+    let begins = match first_start(pre, rev, rev_cache, input, steps) {
+        Ok(begins) => begins,
+        Err(error) => return Err(error),
+    };
+    match begins {
+        Some(start) => match_from(fwd, fwd_cache, input, start, steps),
+        None => Ok(None),
     }
 }
 

@@ -1,5 +1,5 @@
 -- A search forwards from the start of the next match finds that match.
-use Rattle.std.proofs.Common.{◌≡◌, ℕ, ◌≤◌, List, [], ◌∷◌, length, refl, sym, ◌∙◌, ap, subst, arith, true≢false}
+use Rattle.std.proofs.Common.{◌≡◌, ℕ, ◌≤◌, ◌<◌, List, [], ◌∷◌, length, refl, sym, ◌∙◌, ap, subst, arith, true≢false}
 use Rattle.std.specs.Prelude.{true, false, Option, Some, None, option_map, is_some, slice_get}
 use Rattle.rx_model.specs.Expression.{Expression, AreOrdered}
 use Rattle.rx_model.specs.Meaning.{Means}
@@ -21,6 +21,7 @@ use Rattle.rx_dfa.specs.Search.{IsAnswerFor}
 use Rattle.rx_dfa.proofs.lemmas.WalkLemmas.{RunsTo}
 use Rattle.rx_dfa.proofs.lemmas.AnswerLemmas.{half-told, match-told, start-in, run-match}
 use Rattle.rx_order.specs.Order.{IsMatchStart}
+use Rattle.rx_order.proofs.lemmas.NextLemmas.{none-next}
 use Rattle.rx_attempts.specs.Inputs.{from_start, ended_from}
 use Rattle.rx_attempts.specs.Whole.{IsWhole}
 use Rattle.rx_attempts.proofs.lemmas.StartLemmas.{only}
@@ -139,3 +140,15 @@ nothing-answer kind r v is_free none =
       exists = sym (ap is_some e);
       is_match = tt;
     }
+
+-- in a span that begins behind its end there is none
+pub past-nothing : (kind : MatchKind) (r : Patterns) (h : Expression) → r.expressions ≡ h ∷ [] → AreOrdered h → (v : InputValue) → v.anchor ≡ free → v.end < v.start
+    → IsAnswerFor kind r v match_value None
+past-nothing kind r h one ordered v is_free past =
+    nothing-answer kind r v is_free
+    (none-next r h one ordered v.haystack v.end v.start
+    (λ i low m. let up = means-rises r.terminator v.haystack h i m.0 m.2 in let le = m.1 in absurd (gone i m.0 low up le))
+    (λ i low m. let up = means-rises r.terminator v.haystack h i m.0 m.2 in let le = m.1 in gone i m.0 low up le))
+  where
+    gone : (i j : ℕ) → v.start ≤ i → i ≤ j → j ≤ v.end → ⊥
+    gone i j low up le = omega arith

@@ -1,6 +1,7 @@
 -- How the search for the first confirmed candidate of literals within goes on, and what it comes to.
 use Rattle.std.proofs.Common.{◌≡◌, ◌⊎◌, ℕ, ◌+◌, ◌-◌, ◌*◌, ◌<◌, ◌≤◌, List, [], ◌∷◌, length, refl, sym, ◌∙◌, ap, subst, inl, inr, arith, true≢false}
-use Rattle.std.specs.Prelude.{true, false, Option, Some, None, is_some, nat_lt}
+use Rattle.std.specs.Prelude.{true, false, Option, Some, None, is_some, nat_lt, Result, Ok, Err, IfOk}
+use Rattle.std.specs.Result.{IfErr}
 use Rattle.std.proofs.lemmas.Bool.Decides.{nat_tests}
 use Rattle.rx_model.specs.Meaning.{Means}
 use Rattle.rx_model.specs.Search.{free, Patterns}
@@ -13,18 +14,17 @@ use Rattle.rx_search.specs.declared.span.Span.{Span}
 use Rattle.rx_nfa.specs.Nfa.{IsNfaOf}
 use Rattle.rx_dfa.specs.Automaton.{Dfa}
 use Rattle.rx_dfa.specs.Search.{IsAnswerFor}
-use Rattle.rx_limited.specs.Calls.{calls_backwards}
 use Rattle.rx_limited.specs.Limited.{FindsStart}
 use Rattle.rx_limited.specs.Stopat.{stop_forwards}
-use Rattle.rx_limited.proofs.lemmas.CountLemmas.{backwards-few}
+use Rattle.rx_limited.specs.declared.retry_error.RetryError.{RetryError}
 use Rattle.rx_order.specs.Order.{IsLeast, IsMatchStart}
 use Rattle.rx_order.proofs.lemmas.NextLemmas.{least-next, none-next}
 use Rattle.rx_attempts.specs.Inputs.{up_to, from_start}
 use Rattle.rx_attempts.specs.Candidates.{AreNotEmpty, IsCandidate, IsTaken, IsNextCandidate, NoneBetween, IsLeastRead}
 use Rattle.rx_attempts.specs.Premises.{IsByInner, IsInnerOf, NoInnerBefore}
 use Rattle.rx_attempts.specs.Refusals.{IsStopped}
-use Rattle.rx_attempts.specs.Whole.{IsWhole}
-use Rattle.rx_attempts.specs.Inner.{HasStopped, IsTurn, IsPrefixStart, IsMatchAt, IsPassed, ReadsFrom, TakesFew, IsCourse, GoesOn}
+use Rattle.rx_attempts.specs.Whole.{match_found, IsWhole}
+use Rattle.rx_attempts.specs.Inner.{HasStopped, IsTurn, IsPrefixStart, IsMatchAt, IsPassed, IsTried, ReadsFrom, TakesFew, IsCourse, GoesOn}
 use Rattle.rx_attempts.proofs.lemmas.NeedleLemmas.{taken-long}
 use Rattle.rx_attempts.proofs.lemmas.StartLemmas.{inner-permitted, prefix-none, prefix-some}
 use Rattle.rx_attempts.proofs.lemmas.EndLemmas.{finds, whole-starts, whole-answer, nothing-answer}
@@ -89,10 +89,20 @@ module _ (fwd rev : Dfa) (needles : List (List ℕ)) (some : AreNotEmpty needles
         });
       }
 
-      pub inner-matched : (m : MatchValue)
+      inner-matched : (m : MatchValue)
           → ((r : Patterns) → Premises (IsNfaOf fwd.nfa r) None r (from_start v start) → IsWhole fwd.kind r v start (Some m))
           → IsMatchAt fwd rev needles v now m
       inner-matched m whole = record { start = start; least = begins; whole = whole }
+
+      -- what the search forwards told of it
+      pub inner-tried : (result : Result (Result MatchValue ℕ) RetryError)
+          → ((r : Patterns) → Premises (IsNfaOf fwd.nfa r) None r (from_start v start)
+          → IfOk result (λ told. IsWhole fwd.kind r v start (match_found told)))
+          → IfOk result (λ told. IfErr told (λ place. place ≡ stop_forwards fwd (from_start v start)))
+          → IfOk result (IsTried fwd rev needles v now stopped)
+      inner-tried (Err e) whole stop = tt
+      inner-tried (Ok (Ok m)) whole stop = inner-matched m whole
+      inner-tried (Ok (Err place)) whole stop = inner-stopped place stop whole
 
   -- a search forwards that stopped is still one that did
   stopped-later : (before after stopped : ℕ) → before ≤ after → IsStopped fwd rev needles v before stopped → IsStopped fwd rev needles v after stopped
@@ -280,3 +290,13 @@ module _ (fwd rev : Dfa) (needles : List (List ℕ)) (some : AreNotEmpty needles
     inner-answer =
         let n = least-next r p.expression p.is p.ordered v.haystack v.end v.start (inner-permitted rev needles some v within r p) at.start.offset least in
         whole-answer r p.expression p.is p.ordered v at.start begins-there.1 fwd.kind m whole is_free least.inside n.0 n.1 n.2
+
+-- the steps of a candidate's two searches
+pub ended-few : (v : InputValue) (at min_start old mid new offset : ℕ)
+    → ((place : ℕ) → new ≤ mid + (place - offset) + 1 → TakesFew v at min_start old new place)
+    → (result : Result (Result MatchValue ℕ) RetryError)
+    → IfOk result (λ told. IfErr told (λ place. (place ≤ v.end) × (new ≤ mid + (place - offset) + 1)))
+    → IfOk result (λ told. IfErr told (λ place. TakesFew v at min_start old new place))
+ended-few v at min_start old mid new offset few (Err e) h = tt
+ended-few v at min_start old mid new offset few (Ok (Ok m)) h = tt
+ended-few v at min_start old mid new offset few (Ok (Err place)) h = few place h.1

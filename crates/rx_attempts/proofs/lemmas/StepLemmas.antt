@@ -1,5 +1,5 @@
 -- A search forwards takes no more steps than there are bytes up to the place where it stops, and one.
-use Rattle.std.proofs.Common.{◌≡◌, ℕ, zero, suc, ◌+◌, ◌-◌, ◌≤◌, ◌<◌, length, refl, arith}
+use Rattle.std.proofs.Common.{◌≡◌, ℕ, zero, suc, ◌+◌, ◌-◌, ◌≤◌, ◌<◌, length, refl, inl, inr, arith}
 use Rattle.std.specs.Prelude.{Bool, true, false, nat_le, if◌then◌else◌}
 use Rattle.std.proofs.lemmas.Bool.Decides.{nat_tests}
 use Rattle.rx_model.specs.Look.{byte_before}
@@ -10,6 +10,11 @@ use Rattle.rx_determinize.specs.Key.{Key, is_dead}
 use Rattle.rx_dfa.specs.Automaton.{Dfa, first_key, next_key}
 use Rattle.rx_limited.specs.Calls.{calls, calls_forwards}
 use Rattle.rx_limited.specs.Stopat.{left_dead, stop_forwards}
+use Rattle.rx_search.specs.Matches.{HalfMatchValue}
+use Rattle.rx_attempts.specs.Inputs.{up_to, from_start}
+use Rattle.rx_attempts.specs.Inner.{ReadsFrom, TakesFew}
+use Rattle.rx_limited.specs.Calls.{calls_backwards}
+use Rattle.rx_limited.proofs.lemmas.CountLemmas.{backwards-few, forwards-few}
 use Rattle.rx_limited.proofs.lemmas.CallLemmas.{calls-step, calls-last, calls-dead, left-on, left-here, left-end, left-first}
 
 module _ (d : Dfa) (around : Surroundings) where
@@ -75,3 +80,34 @@ module _ (d : Dfa) (v : InputValue) (in_order : v.start ≤ v.end) where
       let f = calls-are in
       let few = calls-stop d around (v.end - v.start) v.start first in
       omega (arith, e, f, few)
+
+-- The steps of a search forwards from a start of the span.
+module _ (d : Dfa) (v : InputValue) (h : HalfMatchValue) (low : v.start ≤ h.offset) (high : h.offset ≤ v.end) (old new : ℕ)
+    (most : new ≤ old + calls_forwards d (from_start v h)) where
+  pub end-most : new ≤ old + (v.end - v.start) + 1
+  end-most = let few = forwards-few d (from_start v h) in omega (arith, most, few)
+
+  pub end-few : (place : ℕ) → place ≡ stop_forwards d (from_start v h) → (place ≤ v.end) × (new ≤ old + (place - h.offset) + 1)
+  end-few place stop =
+      let few = calls-to-stop d (from_start v h) high in
+      let to = (stop-inside d (from_start v h) high).1 in
+      (omega (arith, stop, to), omega (arith, most, stop, few))
+
+-- Those of a search backwards from a place of the span.
+module _ (d : Dfa) (v : InputValue) (at : ℕ) (low : v.start ≤ at) (high : at ≤ v.end) (old mid : ℕ)
+    (most : mid ≤ old + calls_backwards d (up_to v at)) where
+  pub back-most : mid ≤ old + (v.end - v.start) + 1
+  back-most = let few = backwards-few d (up_to v at) in omega (arith, most, few)
+
+  module _ (min_start : ℕ) (few : mid ≤ old + (at - min_start) + 2) where
+    pub back-few : (place : ℕ) → TakesFew v at min_start old mid place
+    back-few place from from_low from_high (inl first) = let all = backwards-few d (up_to v at) in omega (arith, most, all, first)
+    back-few place from from_low from_high (inr later) = omega (arith, few, later)
+
+    -- and of one forwards from the start that it found
+    pub both-few : (offset : ℕ) → v.start ≤ offset → at ≤ offset + (at - min_start) + 1 → (new place : ℕ) → new ≤ mid + (place - offset) + 1
+        → TakesFew v at min_start old new place
+    both-few offset start near new place taken from from_low from_high (inl first) =
+        let all = backwards-few d (up_to v at) in
+        omega (arith, most, all, first, taken)
+    both-few offset start near new place taken from from_low from_high (inr later) = omega (arith, few, later, near, taken)

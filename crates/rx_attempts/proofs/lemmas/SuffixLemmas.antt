@@ -2,6 +2,7 @@
 use Rattle.std.proofs.Common.{◌≡◌, ◌⊎◌, ℕ, ◌+◌, ◌-◌, ◌*◌, ◌<◌, ◌≤◌, List, [], ◌∷◌, length, refl, sym, ◌∙◌, ap, subst, inl, inr, arith, true≢false}
 use Rattle.std.specs.Prelude.{Option, Some, None, All, Contains, nat_lt, slice_get}
 use Rattle.std.proofs.lemmas.Bool.Decides.{nat_tests}
+use Rattle.std.proofs.lemmas.List.Elements.{All-nil, All-cons}
 use Rattle.rx_model.specs.Expression.{AreOrdered}
 use Rattle.rx_model.specs.Search.{free, Patterns}
 use Rattle.rx_model.proofs.lemmas.runs.RunLemmas.{by_test}
@@ -38,10 +39,7 @@ suffix-fresh rev needles v in_order old = record {
 module _ (rev : Dfa) (needles : List (List ℕ)) (s : List ℕ) (one : needles ≡ s ∷ []) (bytes : 0 < length s) (v : InputValue)
     (within : v.end ≤ length v.haystack) where
   pub not-empty : AreNotEmpty needles
-  not-empty = subst AreNotEmpty (sym one) (λ k lt. one-long k lt)
-    where
-      one-long : (k : ℕ) → k < length (s ∷ []) → 0 < length s
-      one-long k lt = bytes
+  not-empty = subst AreNotEmpty (sym one) (All-cons (λ (needle : List ℕ). 0 < length needle) s [] bytes (All-nil (λ (needle : List ℕ). 0 < length needle)))
 
   -- each candidate is as long as the suffix
   long : (now : Span) → IsTaken needles v now → now.end ≡ now.start + length s
@@ -61,6 +59,21 @@ module _ (rev : Dfa) (needles : List (List ℕ)) (s : List ℕ) (one : needles �
         by_test (nat_lt c from)
         (λ e. on.none r p c i (grind (arith, nat_tests)) conf)
         (λ e. none c (grind (arith, nat_tests)) lt (confirmed-lies r p c i conf))
+
+    -- the steps so far
+    pub suffix-ended : mid ≤ old + 4 * (v.end - v.start)
+    suffix-ended = by_course on.course
+      where
+        by_course : IsFresh v from min_start old mid ⊎ IsBehind needles v from min_start old mid → mid ≤ old + 4 * (v.end - v.start)
+        by_course (inl f) = let same = f.steps in omega (arith, same)
+        by_course (inr b) =
+            let ends = taken-long needles v within not-empty b.last b.taken in
+            let lt = ends.0 in
+            let le = ends.1 in
+            let inside = b.taken.inside in
+            let at = b.from_is in
+            let taken = b.steps in
+            omega arith
 
     -- .. and none at all, where there is no next one
     pub suffix-over : IsNextCandidate needles v from None → FirstSuffix rev needles v None
