@@ -5,3 +5,4 @@ pub mod StartLemmas
 pub mod EndLemmas
 pub mod SuffixLemmas
 pub mod InnerLemmas
+pub mod CountLemmas

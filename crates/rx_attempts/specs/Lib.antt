@@ -5,3 +5,4 @@ pub mod Refusals
 pub mod Whole
 pub mod Suffix
 pub mod Inner
+pub mod Counts

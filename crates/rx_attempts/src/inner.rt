@@ -12,6 +12,7 @@ ghost use Rattle.rx_attempts.specs.Premises.{IsByInner};
 ghost use Rattle.rx_attempts.specs.Refusals.{InnerFails};
 ghost use Rattle.rx_attempts.specs.Whole.{match_found};
 ghost use Rattle.rx_attempts.specs.Inner.{IsTurn, IsTried, TakesFew};
+ghost use Rattle.rx_attempts.specs.Counts.{HasCounted, HasTried};
 
 use crate::parts::{match_or_stop, next_candidate, up_to};
 use rx_dfa::Automaton;
@@ -54,6 +55,8 @@ pub fn reverse_inner_attempt<F: Automaton, B: Automaton, L: Ledger>(
     ensures in_range { IfOk result (λ found. IfSome found (λ m. m.pattern < length (F.dfa fwd.now).nfa.starts)) }
     ensures err { IfErr result (InnerFails (F.dfa fwd.now) (B.dfa rev.now) pre.now input.now (F.gives_up fwd.now fwd_cache.new) (F.wants fwd.now)
         (B.gives_up rev.now rev_cache.new) (B.wants rev.now)) }
+    ensures ticks { input.now.earliest ≡ false
+        → IfOk result (HasCounted (F.dfa fwd.now) (B.dfa rev.now) pre.now input.now (λ s. s.start) steps.old steps.new) }
     ensures few { steps.new ≤ steps.old + 8 * (span_len input.now + 1) }
     ensures fwd_fits { F.fits fwd.now fwd_cache.new }
     ensures rev_fits { B.fits rev.now rev_cache.new }
@@ -119,6 +122,8 @@ fn try_candidate<F: Automaton, B: Automaton, L: Ledger>(
     ensures err { (needles : List (List ℕ)) → IsTurn (F.dfa fwd.now) (B.dfa rev.now) needles input.now found guards.min_start guards.stopped
         → IfErr result (InnerFails (F.dfa fwd.now) (B.dfa rev.now) needles input.now (F.gives_up fwd.now fwd_cache.new) (F.wants fwd.now)
         (B.gives_up rev.now rev_cache.new) (B.wants rev.now)) }
+    ensures ticks { (needles : List (List ℕ)) → input.now.earliest ≡ false
+        → IfOk result (HasTried (F.dfa fwd.now) (B.dfa rev.now) needles input.now (λ s. s.start) found steps.old steps.new) }
     ensures few { IfOk result (λ told. IfErr told (λ place. TakesFew input.now found.start guards.min_start steps.old steps.new place)) }
     ensures most { steps.new ≤ steps.old + 2 * span_len input.now + 2 }
     ensures fwd_fits { F.fits fwd.now fwd_cache.new }

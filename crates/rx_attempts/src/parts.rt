@@ -1,11 +1,12 @@
 //! What an attempt is made of.
-ghost use Rattle.std.specs.Prelude.{◌≡◌, ◌≤◌, ◌<◌, ◌+◌, ◌-◌, false, None, IfOk, IfSome, length};
+ghost use Rattle.std.specs.Prelude.{◌≡◌, ◌≤◌, ◌<◌, ◌+◌, ◌-◌, false, None, IfOk, OnOk, IfSome, length};
 ghost use Rattle.std.specs.Result.{IfErr};
 ghost use Rattle.rx_model.specs.Search.{Patterns};
 ghost use Rattle.rx_search.specs.Input.{span_len};
 ghost use Rattle.rx_search.specs.Promise.{Premises};
 ghost use Rattle.rx_search.specs.Told.{LiesIn, HalfLiesIn};
 ghost use Rattle.rx_nfa.specs.Nfa.{IsNfaOf};
+ghost use Rattle.rx_limited.specs.Calls.{calls_forwards};
 ghost use Rattle.rx_limited.specs.Retry.{JustFails};
 ghost use Rattle.rx_limited.specs.Stopat.{stop_forwards};
 ghost use Rattle.rx_attempts.specs.Inputs.{up_to, from_start, ended_from};
@@ -86,6 +87,8 @@ pub(crate) fn match_or_stop<F: Automaton, L: Ledger>(
     ensures within { IfOk result (λ told. IfSome (match_found told) (LiesIn input.now)) }
     ensures in_range { IfOk result (λ told. IfSome (match_found told) (λ m. m.pattern < length (F.dfa fwd.now).nfa.starts)) }
     ensures err { IfErr result (JustFails (F.dfa fwd.now).nfa input.now (F.gives_up fwd.now fwd_cache.new) (F.wants fwd.now)) }
+    ensures begins { IfOk result (λ told. IfSome (match_found told) (λ m. m.start ≡ start.offset)) }
+    ensures ticks { input.now.earliest ≡ false → OnOk result (steps.new ≡ steps.old + calls_forwards (F.dfa fwd.now) (from_start input.now start)) }
     ensures most { steps.new ≤ steps.old + span_len input.now + 1 }
     ensures few { IfOk result (λ told. IfErr told (λ place. (place ≤ input.now.end) × (steps.new ≤ steps.old + (place - start.offset) + 1))) }
     ensures fits { F.fits fwd.now fwd_cache.new }

@@ -1,5 +1,5 @@
 //! An attempt by a literal at the end of each match.
-ghost use Rattle.std.specs.Prelude.{◌≡◌, ◌≤◌, ◌<◌, ◌+◌, ◌*◌, ◌∷◌, [], List, ℕ, true, false, None, IfOk, IfSome, length};
+ghost use Rattle.std.specs.Prelude.{◌≡◌, ◌≤◌, ◌<◌, ◌+◌, ◌*◌, ◌∷◌, [], List, ℕ, true, false, None, IfOk, OnOk, IfSome, length};
 ghost use Rattle.std.specs.Result.{IfErr};
 ghost use Rattle.rx_model.specs.Search.{Patterns, is_anchored};
 ghost use Rattle.rx_search.specs.Input.{span_len};
@@ -8,12 +8,15 @@ ghost use Rattle.rx_search.specs.Promise.{Premises};
 ghost use Rattle.rx_search.specs.Told.{LiesIn, HalfLiesIn};
 ghost use Rattle.rx_nfa.specs.Nfa.{IsNfaOf};
 ghost use Rattle.rx_dfa.specs.Search.{IsAnswerFor};
+ghost use Rattle.rx_dfa.specs.Automaton.{Dfa};
+ghost use Rattle.rx_limited.specs.Calls.{calls_forwards};
 ghost use Rattle.rx_limited.specs.Retry.{JustFails};
 ghost use Rattle.rx_attempts.specs.Inputs.{from_start};
 ghost use Rattle.rx_attempts.specs.Premises.{IsBySuffix};
 ghost use Rattle.rx_attempts.specs.Refusals.{SuffixFails};
 ghost use Rattle.rx_attempts.specs.Whole.{IsWhole};
 ghost use Rattle.rx_attempts.specs.Suffix.{FirstSuffix, BackFails};
+ghost use Rattle.rx_attempts.specs.Counts.{HasCounted, HasCountedBack};
 
 use crate::parts::{match_or_stop, next_candidate, up_to};
 use rx_dfa::Automaton;
@@ -55,6 +58,8 @@ pub fn reverse_suffix_attempt<F: Automaton, B: Automaton, L: Ledger>(
     ensures in_range { IfOk result (λ found. IfSome found (λ m. m.pattern < length (F.dfa fwd.now).nfa.starts)) }
     ensures err { IfErr result (SuffixFails (F.dfa fwd.now) (B.dfa rev.now) pre.now input.now (F.gives_up fwd.now fwd_cache.new) (F.wants fwd.now)
         (B.gives_up rev.now rev_cache.new) (B.wants rev.now)) }
+    ensures ticks { input.now.earliest ≡ false
+        → IfOk result (HasCounted (F.dfa fwd.now) (B.dfa rev.now) pre.now input.now (λ s. s.end) steps.old steps.new) }
     ensures few { steps.new ≤ steps.old + 8 * (span_len input.now + 1) }
     ensures fwd_fits { F.fits fwd.now fwd_cache.new }
     ensures rev_fits { B.fits rev.now rev_cache.new }
@@ -88,6 +93,7 @@ fn first_start<B: Automaton, L: Ledger>(
     ensures first { IfOk result (FirstSuffix (B.dfa rev.now) pre.now input.now) }
     ensures lies { IfOk result (λ found. IfSome found (HalfLiesIn input.now)) }
     ensures err { IfErr result (BackFails (B.dfa rev.now) pre.now input.now (B.gives_up rev.now rev_cache.new) (B.wants rev.now)) }
+    ensures ticks { (fwd : Dfa) → IfOk result (HasCountedBack fwd (B.dfa rev.now) pre.now input.now (λ s. s.end) steps.old steps.new) }
     ensures few { steps.new ≤ steps.old + 4 * span_len input.now }
     ensures fits { B.fits rev.now rev_cache.new }
 {
@@ -125,6 +131,8 @@ fn match_from<F: Automaton, L: Ledger>(
     ensures within { IfOk result (λ found. IfSome found (LiesIn input.now)) }
     ensures in_range { IfOk result (λ found. IfSome found (λ m. m.pattern < length (F.dfa fwd.now).nfa.starts)) }
     ensures err { IfErr result (JustFails (F.dfa fwd.now).nfa input.now (F.gives_up fwd.now fwd_cache.new) (F.wants fwd.now)) }
+    ensures begins { IfOk result (λ found. IfSome found (λ m. m.start ≡ start.offset)) }
+    ensures ticks { input.now.earliest ≡ false → OnOk result (steps.new ≡ steps.old + calls_forwards (F.dfa fwd.now) (from_start input.now start)) }
     ensures most { steps.new ≤ steps.old + span_len input.now + 1 }
     ensures fits { F.fits fwd.now fwd_cache.new }
 {

@@ -1,4 +1,4 @@
-use Rattle.std.proofs.Common.{◌≡◌, ◌≤◌, ◌+◌, ◌-◌, subst, arith}
+use Rattle.std.proofs.Common.{◌≡◌, ◌≤◌, ◌+◌, ◌-◌, ◌∙◌, ap, subst, arith}
 use Rattle.std.specs.Prelude.{Option, Some, None, IfSome}
 use Rattle.rx_search.specs.Input.{InputValue}
 use Rattle.rx_search.specs.Matches.{HalfMatchValue}
@@ -7,6 +7,8 @@ use Rattle.rx_limited.specs.Calls.{calls_backwards}
 use Rattle.rx_limited.specs.Limited.{FindsStart}
 use Rattle.rx_attempts.specs.Inputs.{up_to}
 use Rattle.rx_attempts.proofs.lemmas.StepLemmas.{back-most, back-few, both-few}
+use Rattle.rx_search.specs.declared.span.Span.{Span}
+use Rattle.rx_attempts.proofs.lemmas.CountLemmas.{result-tried, tried-nothing}
 use Rattle.rx_attempts.proofs.lemmas.InnerLemmas.{inner-without, inner-tried, ended-few}
 use Rattle.rx_attempts.proofs.inner.try_candidate.Goals as goal
 
@@ -120,3 +122,35 @@ returns-in-None-clause-most g c =
     let most = subst (λ (w : InputValue). mid ≤ old + calls_backwards rev w) part c.rev_limited.ensures.most in
     let all = back-most rev v now.start c.requires.low c.requires.high old mid most in
     omega (arith, all)
+
+pub returns-in-Some-clause-ticks : goal.returns-in-Some-clause-ticks
+returns-in-Some-clause-ticks g c =
+    let fwd = g.F.Automaton.dfa c.args.fwd.now in
+    let rev = g.B.Automaton.dfa c.args.rev.now in
+    let v = c.args.input.now in
+    let now = c.args.found in
+    let old = c.args.steps.now in
+    let mid = c.rev_limited.new.steps in
+    let part = c.up_to-part.ensures in
+    let back = subst (λ (w : InputValue). FindsStart rev w c.in-Ok.begins) part c.in-Ok.ensures.answer in
+    let taken : mid ≡ old + calls_backwards rev (up_to v now.start) =
+    c.in-Ok.ensures.ticks ∙ ap (λ (w : InputValue). old + calls_backwards rev w) part in
+    let found = subst (FindsStart rev (up_to v now.start)) c.in-Some.is back in
+    λ needles every.
+    result-tried fwd rev needles v (λ (s : Span). s.start) now old mid c.match_or_stop.new.steps c.in-Some.start found taken c.match_or_stop.result
+    (c.match_or_stop.ensures.ticks every) c.match_or_stop.ensures.begins
+
+pub returns-in-None-clause-ticks : goal.returns-in-None-clause-ticks
+returns-in-None-clause-ticks g c =
+    let fwd = g.F.Automaton.dfa c.args.fwd.now in
+    let rev = g.B.Automaton.dfa c.args.rev.now in
+    let v = c.args.input.now in
+    let now = c.args.found in
+    let old = c.args.steps.now in
+    let mid = c.rev_limited.new.steps in
+    let part = c.up_to-part.ensures in
+    let back = subst (λ (w : InputValue). FindsStart rev w c.in-Ok.begins) part c.in-Ok.ensures.answer in
+    let taken : mid ≡ old + calls_backwards rev (up_to v now.start) =
+    c.in-Ok.ensures.ticks ∙ ap (λ (w : InputValue). old + calls_backwards rev w) part in
+    let found = subst (FindsStart rev (up_to v now.start)) c.in-None.is back in
+    λ needles every. tried-nothing fwd rev needles v (λ (s : Span). s.start) now old mid c.args.guards.stopped found taken

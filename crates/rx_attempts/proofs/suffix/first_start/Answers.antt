@@ -1,4 +1,4 @@
-use Rattle.std.proofs.Common.{◌≡◌, ◌≤◌, ◌+◌, ◌-◌, length, ap, subst, arith}
+use Rattle.std.proofs.Common.{◌≡◌, ◌≤◌, ◌+◌, ◌-◌, length, ◌∙◌, ap, subst, arith}
 use Rattle.std.specs.Prelude.{Option, Some, None, IfSome}
 use Rattle.rx_search.specs.Input.{InputValue}
 use Rattle.rx_search.specs.Matches.{HalfMatchValue}
@@ -10,6 +10,8 @@ use Rattle.rx_attempts.specs.Candidates.{IsNextCandidate}
 use Rattle.rx_attempts.proofs.lemmas.NeedleLemmas.{taken-long}
 use Rattle.rx_attempts.proofs.lemmas.FailLemmas.{suffix-back}
 use Rattle.rx_attempts.proofs.lemmas.SuffixLemmas.{not-empty, suffix-ended, suffix-over, suffix-before, suffix-least, suffix-few, suffix-total, suffix-on, suffix-found}
+use Rattle.rx_search.specs.declared.span.Span.{Span}
+use Rattle.rx_attempts.proofs.lemmas.CountLemmas.{counts-to, counts-add}
 use Rattle.rx_attempts.proofs.suffix.first_start.Goals as goal
 
 pub up_to-part-requires-clause-low : goal.up_to-part-requires-clause-low
@@ -233,10 +235,46 @@ candidates-preserved g c =
     let few = subst (λ (w : InputValue). new ≤ mid + (w.end - min_start) + 2) c.up_to-part.ensures c.rev_limited.ensures.few in
     let taken = suffix-few rev needles s one bytes v spanned from min_start old mid on now next new most few in
     let back = subst (λ (w : InputValue). FindsStart rev w c.in-Ok.begins) c.up_to-part.ensures c.in-Ok.ensures.answer in
+    let ticks : new ≡ mid + calls_backwards rev (up_to v now.end) =
+    c.in-Ok.ensures.ticks ∙ ap (λ (w : InputValue). mid + calls_backwards rev w) c.up_to-part.ensures in
     record {
+      counts = λ fwd.
+          counts-add fwd rev needles v (λ (s : Span). s.end) from old mid (c.candidates.invariant.counts fwd) now next None
+          (subst (FindsStart rev (up_to v now.end)) c.in_default-begins.is back) new (omega (arith, ticks));
       on = suffix-on rev needles s one bytes v spanned from min_start old mid on now next (subst (FindsStart rev (up_to v now.end)) c.in_default-begins.is back) new taken;
       fits = c.rev_limited.ensures.fits;
     }
+
+pub returns-in-Some-begins-clause-ticks : goal.returns-in-Some-begins-clause-ticks
+returns-in-Some-begins-clause-ticks g c =
+    let rev = g.B.Automaton.dfa c.args.rev.now in
+    let needles = c.args.pre.now in
+    let v = c.args.input.now in
+    let spanned = c.haystack-haystack.ensures.spanned.end in
+    let s = c.requires.suffix.0 in
+    let one = c.requires.suffix.1 in
+    let bytes = c.requires.suffix.2 in
+    let from = c.candidates.from in
+    let min_start = c.candidates.min_start in
+    let old = c.args.steps.now in
+    let mid = c.candidates.steps in
+    let on = c.candidates.invariant.on in
+    let now = c.in-Some.found in
+    let next = subst (IsNextCandidate needles v from) c.in-Some.is c.next_candidate.ensures in
+    let ends = taken-long needles v spanned (not-empty rev needles s one bytes v spanned) now next.0 in
+    let inside = next.0.inside in
+    let lt = ends.0 in
+    let le = ends.1 in
+    let new = c.rev_limited.new.steps in
+    let most = subst (λ (w : InputValue). new ≤ mid + calls_backwards rev w) c.up_to-part.ensures c.rev_limited.ensures.most in
+    let few = subst (λ (w : InputValue). new ≤ mid + (w.end - min_start) + 2) c.up_to-part.ensures c.rev_limited.ensures.few in
+    let taken = suffix-few rev needles s one bytes v spanned from min_start old mid on now next new most few in
+    let back = subst (λ (w : InputValue). FindsStart rev w c.in-Ok.begins) c.up_to-part.ensures c.in-Ok.ensures.answer in
+    let ticks : new ≡ mid + calls_backwards rev (up_to v now.end) =
+    c.in-Ok.ensures.ticks ∙ ap (λ (w : InputValue). mid + calls_backwards rev w) c.up_to-part.ensures in
+    λ fwd.
+    (now, mid, counts-to fwd rev needles v (λ (s : Span). s.end) from old mid (c.candidates.invariant.counts fwd) now next, next.0,
+    subst (FindsStart rev (up_to v now.end)) c.in-Some-begins.is back, ticks)
 
 pub returns-clause-first : goal.returns-clause-first
 returns-clause-first g c =
@@ -269,3 +307,6 @@ returns-clause-few g c =
     let mid = c.candidates.steps in
     let on = c.candidates.invariant.on in
     suffix-ended rev needles s one bytes v spanned from min_start old mid on
+
+pub returns-clause-ticks : goal.returns-clause-ticks
+returns-clause-ticks g c = λ fwd. (c.candidates.from, c.candidates.invariant.counts fwd)

@@ -7,6 +7,9 @@ use Rattle.rx_dfa.proofs.lemmas.BothLemmas.{not-anchored}
 use Rattle.rx_attempts.specs.Suffix.{FirstSuffix}
 use Rattle.rx_attempts.proofs.lemmas.EndLemmas.{past-nothing}
 use Rattle.rx_attempts.proofs.lemmas.SuffixLemmas.{suffix-nothing, suffix-answer}
+use Rattle.rx_search.specs.declared.span.Span.{Span}
+use Rattle.rx_attempts.specs.Counts.{HasCountedBack}
+use Rattle.rx_attempts.proofs.lemmas.CountLemmas.{counts-fresh, counted-nothing, result-counted}
 use Rattle.rx_attempts.proofs.suffix.reverse_suffix_attempt.Goals as goal
 
 pub returns-then-is_done-clause-answer : goal.returns-then-is_done-clause-answer
@@ -54,3 +57,32 @@ returns-in-None-clause-answer g c =
     let is_free = not-anchored v.anchor c.requires.free in
     let first = subst (FirstSuffix rev needles v) c.in-None.is c.in-Ok.ensures.first in
     λ r nfa p. suffix-nothing rev needles s one bytes v spanned fwd.kind is_free r p first
+
+pub returns-then-is_done-clause-ticks : goal.returns-then-is_done-clause-ticks
+returns-then-is_done-clause-ticks g c =
+    let fwd = g.F.Automaton.dfa c.args.fwd.now in
+    let rev = g.B.Automaton.dfa c.args.rev.now in
+    let needles = c.args.pre.now in
+    let v = c.args.input.now in
+    λ every. counted-nothing fwd rev needles v (λ (s : Span). s.end) v.start c.args.steps.now c.args.steps.now
+    (counts-fresh fwd rev needles v (λ (s : Span). s.end) c.args.steps.now)
+
+pub returns-in-Some-clause-ticks : goal.returns-in-Some-clause-ticks
+returns-in-Some-clause-ticks g c =
+    let fwd = g.F.Automaton.dfa c.args.fwd.now in
+    let rev = g.B.Automaton.dfa c.args.rev.now in
+    let needles = c.args.pre.now in
+    let v = c.args.input.now in
+    let back = subst (HasCountedBack fwd rev needles v (λ (s : Span). s.end) c.args.steps.now c.first_start.new.steps) c.in-Some.is (c.in-Ok.ensures.ticks fwd) in
+    λ every.
+    result-counted fwd rev needles v (λ (s : Span). s.end) c.args.steps.now c.first_start.new.steps c.match_from.new.steps c.in-Some.start back
+    c.match_from.result (c.match_from.ensures.ticks every) c.match_from.ensures.begins
+
+pub returns-in-None-clause-ticks : goal.returns-in-None-clause-ticks
+returns-in-None-clause-ticks g c =
+    let fwd = g.F.Automaton.dfa c.args.fwd.now in
+    let rev = g.B.Automaton.dfa c.args.rev.now in
+    let needles = c.args.pre.now in
+    let v = c.args.input.now in
+    let back = subst (HasCountedBack fwd rev needles v (λ (s : Span). s.end) c.args.steps.now c.first_start.new.steps) c.in-None.is (c.in-Ok.ensures.ticks fwd) in
+    λ every. counted-nothing fwd rev needles v (λ (s : Span). s.end) back.0 c.args.steps.now c.first_start.new.steps back.1
