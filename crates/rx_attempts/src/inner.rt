@@ -70,8 +70,9 @@ pub fn reverse_inner_attempt<F: Automaton, B: Automaton, L: Ledger>(
     let mut stopped = 0;
     'candidates: while let Some(found) = next_candidate(pre, input, from) {
         let guards = Guards { min_start, stopped };
-        let tried = match try_candidate(fwd, fwd_cache, rev, rev_cache, input, found, guards, steps)
-        {
+        let tried = match try_candidate(
+            fwd, fwd_cache, rev, rev_cache, input, found, guards, steps,
+        ) {
             Ok(tried) => tried,
             Err(error) => return Err(error),
         };

@@ -48,7 +48,7 @@ module _ (fwd rev : Dfa) (needles : List (List ℕ)) (v : InputValue) (place : S
           tried = (
             record { taken = next.0; before = omega arith; last = λ c low lt x. omega arith },
             back,
-            counts-to.tried,
+            tried-later from now.start next.1 next.2 counts.trials counts.tried,
           );
           steps = added old mid new (steps_of fwd rev needles v place counts.trials) (steps_at fwd rev needles v place now start) so_far taken;
         }
@@ -59,6 +59,7 @@ module _ (fwd rev : Dfa) (needles : List (List ℕ)) (v : InputValue) (place : S
     -- where it gave this match
     pub counted-tried : (new : ℕ) (m : MatchValue) → HasTried fwd rev needles v place now mid new (Ok m)
         → HasCounted fwd rev needles v place old new (Some m)
+    unfolding counts-add
     counted-tried new m t = (now.start + 1, counts-add t.0 t.1 new t.2, t.3)
 
     pub counts-tried : (new stop : ℕ) → HasTried fwd rev needles v place now mid new (Err stop) → Counts fwd rev needles v place (now.start + 1) old new
@@ -74,13 +75,16 @@ module _ (fwd rev : Dfa) (needles : List (List ℕ)) (v : InputValue) (place : S
       → HasCounted fwd rev needles v place old new found
   counted-found old mid start b new taken found begins =
       let now = b.0 in
-      let counts = b.2 in
-      (now.start + 1, record {
-        trials = record { candidate = now; start = Some start } ∷ counts.trials;
-        tried = (record { taken = b.3; before = omega arith; last = λ c low lt x. omega arith }, b.4, counts.tried);
-        steps = added old b.1 mid new (steps_of fwd rev needles v place counts.trials) (calls_backwards rev (up_to v (place now)))
-            (calls_forwards fwd (from_start v start)) counts.steps b.5 taken;
-      }, there found begins)
+      let counts = b.2 in (
+        now.start + 1,
+        record {
+          trials = record { candidate = now; start = Some start } ∷ counts.trials;
+          tried = (record { taken = b.3; before = omega arith; last = λ c low lt x. omega arith }, b.4, counts.tried);
+          steps = added old b.1 mid new (steps_of fwd rev needles v place counts.trials) (calls_backwards rev (up_to v (place now)))
+              (calls_forwards fwd (from_start v start)) counts.steps b.5 taken;
+        },
+        there found begins,
+      )
     where
       added : (old before mid new sum back more : ℕ) → before ≡ old + sum → mid ≡ before + back → new ≡ mid + more → new ≡ old + (sum + (back + more))
       added old before mid new sum back more e f g = omega arith
@@ -95,9 +99,12 @@ pub tried-found : (fwd rev : Dfa) (needles : List (List ℕ)) (v : InputValue) (
     → FindsStart rev (up_to v (place now)) (Some start) → mid ≡ old + calls_backwards rev (up_to v (place now))
     → new ≡ mid + calls_forwards fwd (from_start v start) → (told : Result MatchValue ℕ) → IfSome (match_found told) (λ m. m.start ≡ start.offset)
     → HasTried fwd rev needles v place now old new told
-tried-found fwd rev needles v place now old mid new start back first later told begins =
-    (Some start, back, added old mid new (calls_backwards rev (up_to v (place now))) (calls_forwards fwd (from_start v start)) first later,
-    there (match_found told) begins)
+tried-found fwd rev needles v place now old mid new start back first later told begins = (
+  Some start,
+  back,
+  added old mid new (calls_backwards rev (up_to v (place now))) (calls_forwards fwd (from_start v start)) first later,
+  there (match_found told) begins,
+)
   where
     added : (old mid new back more : ℕ) → mid ≡ old + back → new ≡ mid + more → new ≡ old + (back + more)
     added old mid new back more e f = omega arith

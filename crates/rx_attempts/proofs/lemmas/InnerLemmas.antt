@@ -143,11 +143,15 @@ module _ (fwd rev : Dfa) (needles : List (List ℕ)) (some : AreNotEmpty needles
           by_course (inr b) =
               let low = next.1 in
               let at = b.2 in
-              inr (b.0, record {
-                taken = b.1;
-                before = omega arith;
-                last = subst (λ k. NoneBetween needles v k now.start) b.2 next.2;
-              }, b.3)
+              inr (
+                b.0,
+                record {
+                  taken = b.1;
+                  before = omega arith;
+                  last = subst (λ k. NoneBetween needles v k now.start) b.2 next.2;
+                },
+                b.3,
+              )
 
           by_stop : HasStopped fwd rev needles v from stopped → HasStopped fwd rev needles v now.start stopped
           by_stop (inl none) = inl none

@@ -91,11 +91,15 @@ module _ (rev : Dfa) (needles : List (List ℕ)) (s : List ℕ) (one : needles �
           by_course (inr b) =
               let low = next.1 in
               let at = b.from_is in
-              inr (b.last, record {
-                taken = b.taken;
-                before = omega arith;
-                last = subst (λ k. NoneBetween needles v k now.start) b.from_is next.2;
-              }, b.min_start_is)
+              inr (
+                b.last,
+                record {
+                  taken = b.taken;
+                  before = omega arith;
+                  last = subst (λ k. NoneBetween needles v k now.start) b.from_is next.2;
+                },
+                b.min_start_is,
+              )
 
       -- the steps of the search backwards from it
       pub suffix-few : (new : ℕ) → new ≤ mid + calls_backwards rev (up_to v now.end) → new ≤ mid + (now.end - min_start) + 2

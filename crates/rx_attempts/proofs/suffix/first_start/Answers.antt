@@ -272,9 +272,14 @@ returns-in-Some-begins-clause-ticks g c =
     let back = subst (λ (w : InputValue). FindsStart rev w c.in-Ok.begins) c.up_to-part.ensures c.in-Ok.ensures.answer in
     let ticks : new ≡ mid + calls_backwards rev (up_to v now.end) =
     c.in-Ok.ensures.ticks ∙ ap (λ (w : InputValue). mid + calls_backwards rev w) c.up_to-part.ensures in
-    λ fwd.
-    (now, mid, counts-to fwd rev needles v (λ (s : Span). s.end) from old mid (c.candidates.invariant.counts fwd) now next, next.0,
-    subst (FindsStart rev (up_to v now.end)) c.in-Some-begins.is back, ticks)
+    λ fwd. (
+      now,
+      mid,
+      counts-to fwd rev needles v (λ (s : Span). s.end) from old mid (c.candidates.invariant.counts fwd) now next,
+      next.0,
+      subst (FindsStart rev (up_to v now.end)) c.in-Some-begins.is back,
+      ticks,
+    )
 
 pub returns-clause-first : goal.returns-clause-first
 returns-clause-first g c =
