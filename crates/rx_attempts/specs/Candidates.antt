@@ -2,7 +2,7 @@
 use Rattle.std.specs.Prelude.{◌≡◌, ◌⊎◌, ℕ, ◌+◌, ◌≤◌, ◌<◌, List, length, take, Option, MatchOption, All, Contains}
 use Rattle.rx_search.specs.Input.{InputValue}
 use Rattle.rx_search.specs.declared.span.Span.{Span}
-use Rattle.rx_prefilter.specs.Needles.{LiesAt, NoneLies}
+use Rattle.rx_prefilter.specs.Needles.{LiesAt}
 use Rattle.rx_order.specs.Order.{IsOccurrence}
 
 -- each needle has a byte

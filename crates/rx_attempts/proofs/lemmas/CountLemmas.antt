@@ -1,5 +1,5 @@
 -- The steps of an attempt, candidate by candidate.
-use Rattle.std.proofs.Common.{◌≡◌, ℕ, ◌+◌, ◌<◌, ◌≤◌, List, [], ◌∷◌, refl, sym, ap, arith}
+use Rattle.std.proofs.Common.{◌≡◌, ℕ, ◌+◌, ◌≤◌, List, [], ◌∷◌, refl, sym, arith}
 use Rattle.std.specs.Prelude.{Option, Some, None, IfSome, Result, Ok, Err, IfOk, OnOk, nat_lt}
 use Rattle.std.proofs.lemmas.Bool.Decides.{nat_tests}
 use Rattle.rx_model.proofs.lemmas.runs.RunLemmas.{by_test}
@@ -11,7 +11,7 @@ use Rattle.rx_limited.specs.Calls.{calls_backwards, calls_forwards}
 use Rattle.rx_limited.specs.Limited.{FindsStart}
 use Rattle.rx_limited.specs.declared.retry_error.RetryError.{RetryError}
 use Rattle.rx_attempts.specs.Inputs.{up_to, from_start}
-use Rattle.rx_attempts.specs.Candidates.{IsTaken, IsNextCandidate, NoneBetween, IsLastBefore}
+use Rattle.rx_attempts.specs.Candidates.{IsNextCandidate, NoneBetween}
 use Rattle.rx_attempts.specs.Counts.{Trial, steps_at, steps_of, AreTried, Counts, HasCounted, HasCountedBack, HasTried}
 use Rattle.rx_attempts.specs.Whole.{match_found}
 

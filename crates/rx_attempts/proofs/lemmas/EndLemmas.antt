@@ -1,10 +1,9 @@
 -- A search forwards from the start of the next match finds that match.
-use Rattle.std.proofs.Common.{◌≡◌, ℕ, ◌≤◌, ◌<◌, List, [], ◌∷◌, length, refl, sym, ◌∙◌, ap, subst, arith, true≢false}
+use Rattle.std.proofs.Common.{◌≡◌, ℕ, ◌≤◌, ◌<◌, [], ◌∷◌, refl, sym, ◌∙◌, ap, subst, arith, true≢false}
 use Rattle.std.specs.Prelude.{true, false, Option, Some, None, option_map, is_some, slice_get}
 use Rattle.rx_model.specs.Expression.{Expression, AreOrdered}
 use Rattle.rx_model.specs.Meaning.{Means}
-use Rattle.rx_model.specs.Runs.{Trace}
-use Rattle.rx_model.specs.Search.{Anchor, free, anchored_to, is_anchored, is_permitted, first, Match, Patterns, slot_of, next_match}
+use Rattle.rx_model.specs.Search.{free, anchored_to, is_anchored, is_permitted, first, Match, Patterns, slot_of, next_match}
 use Rattle.rx_model.specs.Matches.{IsMatch, IsSought}
 use Rattle.rx_model.proofs.lemmas.runs.FirstLemmas.{some-is}
 use Rattle.rx_model.proofs.lemmas.runs.RiseLemmas.{mapped-some}
@@ -14,7 +13,6 @@ use Rattle.rx_model.proofs.lemmas.meaning.CoverLemmas.{means-run}
 use Rattle.rx_model.proofs.lemmas.meaning.EmptyLemmas.{means-rises}
 use Rattle.rx_search.specs.Input.{InputValue, next_in}
 use Rattle.rx_search.specs.Matches.{MatchValue, HalfMatchValue, match_value, half_match_value}
-use Rattle.rx_search.specs.Told.{IsMatchWith}
 use Rattle.rx_search.specs.declared.anchored.MatchKind.{MatchKind}
 use Rattle.rx_search.specs.declared.anchored.MatchKind.TheVariants.{LeftmostFirst}
 use Rattle.rx_dfa.specs.Search.{IsAnswerFor}
@@ -22,7 +20,7 @@ use Rattle.rx_dfa.proofs.lemmas.WalkLemmas.{RunsTo}
 use Rattle.rx_dfa.proofs.lemmas.AnswerLemmas.{half-told, match-told, start-in, run-match}
 use Rattle.rx_order.specs.Order.{IsMatchStart}
 use Rattle.rx_order.proofs.lemmas.NextLemmas.{none-next}
-use Rattle.rx_attempts.specs.Inputs.{from_start, ended_from}
+use Rattle.rx_attempts.specs.Inputs.{from_start}
 use Rattle.rx_attempts.specs.Whole.{IsWhole}
 use Rattle.rx_attempts.proofs.lemmas.StartLemmas.{only}
 

@@ -1,5 +1,5 @@
 -- Errors of an automaton on a part of the span are errors on the span.
-use Rattle.std.proofs.Common.{◌≡◌, ◌⊎◌, ℕ, ◌+◌, ◌≤◌, List, inl, inr, arith}
+use Rattle.std.proofs.Common.{ℕ, ◌≤◌, List, inl, inr, arith}
 use Rattle.rx_search.specs.Input.{InputValue}
 use Rattle.rx_search.specs.declared.span.Span.{Span}
 use Rattle.rx_nfa.specs.Nfa.{Nfa}
@@ -14,7 +14,7 @@ use Rattle.rx_search.specs.Matches.{HalfMatchValue}
 use Rattle.rx_attempts.specs.Inputs.{up_to, from_start}
 use Rattle.rx_attempts.specs.Candidates.{IsTaken, IsLeastRead}
 use Rattle.rx_attempts.specs.Premises.{NoSuffixBefore, NoInnerBefore}
-use Rattle.rx_attempts.specs.Refusals.{IsRefusedBack, SuffixFails, InnerFails}
+use Rattle.rx_attempts.specs.Refusals.{SuffixFails, InnerFails}
 use Rattle.rx_attempts.specs.Suffix.{BackFails}
 
 module _ (nfa : Nfa) (v : InputValue) (gives_up wants : Type 0) where

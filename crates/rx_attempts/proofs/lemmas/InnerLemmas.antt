@@ -1,12 +1,12 @@
 -- How the search for the first confirmed candidate of literals within goes on, and what it comes to.
-use Rattle.std.proofs.Common.{◌≡◌, ◌⊎◌, ℕ, ◌+◌, ◌-◌, ◌*◌, ◌<◌, ◌≤◌, List, [], ◌∷◌, length, refl, sym, ◌∙◌, ap, subst, inl, inr, arith, true≢false}
-use Rattle.std.specs.Prelude.{true, false, Option, Some, None, is_some, nat_lt, Result, Ok, Err, IfOk}
+use Rattle.std.proofs.Common.{◌≡◌, ◌⊎◌, ℕ, ◌+◌, ◌-◌, ◌*◌, ◌<◌, ◌≤◌, List, length, refl, sym, ◌∙◌, subst, inl, inr, arith, true≢false}
+use Rattle.std.specs.Prelude.{Some, None, nat_lt, Result, Ok, Err, IfOk}
 use Rattle.std.specs.Result.{IfErr}
 use Rattle.std.proofs.lemmas.Bool.Decides.{nat_tests}
 use Rattle.rx_model.specs.Meaning.{Means}
 use Rattle.rx_model.specs.Search.{free, Patterns}
 use Rattle.rx_model.proofs.lemmas.runs.RunLemmas.{by_test}
-use Rattle.rx_search.specs.Input.{InputValue, next_in}
+use Rattle.rx_search.specs.Input.{InputValue}
 use Rattle.rx_search.specs.Matches.{MatchValue, HalfMatchValue, match_value}
 use Rattle.rx_search.specs.Promise.{Premises}
 use Rattle.rx_search.specs.declared.anchored.MatchKind.{MatchKind}
@@ -20,7 +20,7 @@ use Rattle.rx_limited.specs.declared.retry_error.RetryError.{RetryError}
 use Rattle.rx_order.specs.Order.{IsLeast, IsMatchStart}
 use Rattle.rx_order.proofs.lemmas.NextLemmas.{least-next, none-next}
 use Rattle.rx_attempts.specs.Inputs.{up_to, from_start}
-use Rattle.rx_attempts.specs.Candidates.{AreNotEmpty, IsCandidate, IsTaken, IsNextCandidate, NoneBetween, IsLeastRead}
+use Rattle.rx_attempts.specs.Candidates.{AreNotEmpty, IsCandidate, IsNextCandidate, NoneBetween, IsLeastRead}
 use Rattle.rx_attempts.specs.Premises.{IsByInner, IsInnerOf, NoInnerBefore}
 use Rattle.rx_attempts.specs.Refusals.{IsStopped}
 use Rattle.rx_attempts.specs.Whole.{match_found, IsWhole}

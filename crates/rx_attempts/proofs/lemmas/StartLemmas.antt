@@ -1,6 +1,6 @@
 -- What a search backwards from a candidate tells: whether it is confirmed, and its start.
 use Rattle.std.proofs.Common.{◌≡◌, ℕ, zero, suc, ◌+◌, ◌<◌, ◌≤◌, List, [], ◌∷◌, length, refl, sym, ◌∙◌, ap, subst, arith}
-use Rattle.std.specs.Prelude.{true, false, Some, None, Contains, nat_lt, slice_get}
+use Rattle.std.specs.Prelude.{true, Some, None, Contains, nat_lt, slice_get}
 use Rattle.std.proofs.lemmas.Bool.Decides.{nat_tests}
 use Rattle.std.proofs.lemmas.List.Elements.{All-contains}
 use Rattle.std.proofs.lemmas.Option.{none-some, same_Some}
@@ -19,7 +19,7 @@ use Rattle.rx_determinize.specs.Told.{MeansUpTo, IsLeastStartWhere}
 use Rattle.rx_dfa.specs.Automaton.{Dfa}
 use Rattle.rx_dfa.specs.Search.{IsReverseAnswer}
 use Rattle.rx_limited.specs.Limited.{each_in, FindsStart}
-use Rattle.rx_order.specs.Order.{IsMatchStart, SuffixIsNoEarlier, InnerIsNoEarlier, StartsArePermitted}
+use Rattle.rx_order.specs.Order.{SuffixIsNoEarlier, InnerIsNoEarlier, StartsArePermitted}
 use Rattle.rx_order.proofs.lemmas.Forms.{only-one}
 use Rattle.rx_attempts.specs.Inputs.{up_to}
 use Rattle.rx_attempts.specs.Candidates.{AreNotEmpty, IsTaken}

@@ -1,6 +1,6 @@
 -- A search forwards takes no more steps than there are bytes up to the place where it stops, and one.
-use Rattle.std.proofs.Common.{◌≡◌, ℕ, zero, suc, ◌+◌, ◌-◌, ◌≤◌, ◌<◌, length, refl, inl, inr, arith}
-use Rattle.std.specs.Prelude.{Bool, true, false, nat_le, if◌then◌else◌}
+use Rattle.std.proofs.Common.{◌≡◌, ℕ, zero, suc, ◌+◌, ◌-◌, ◌≤◌, refl, inl, inr, arith}
+use Rattle.std.specs.Prelude.{true, nat_le}
 use Rattle.std.proofs.lemmas.Bool.Decides.{nat_tests}
 use Rattle.rx_model.specs.Look.{byte_before}
 use Rattle.rx_model.proofs.lemmas.runs.RunLemmas.{by_test}
@@ -12,10 +12,10 @@ use Rattle.rx_limited.specs.Calls.{calls, calls_forwards}
 use Rattle.rx_limited.specs.Stopat.{left_dead, stop_forwards}
 use Rattle.rx_search.specs.Matches.{HalfMatchValue}
 use Rattle.rx_attempts.specs.Inputs.{up_to, from_start}
-use Rattle.rx_attempts.specs.Inner.{ReadsFrom, TakesFew}
+use Rattle.rx_attempts.specs.Inner.{TakesFew}
 use Rattle.rx_limited.specs.Calls.{calls_backwards}
 use Rattle.rx_limited.proofs.lemmas.CountLemmas.{backwards-few, forwards-few}
-use Rattle.rx_limited.proofs.lemmas.CallLemmas.{calls-step, calls-last, calls-dead, left-on, left-here, left-end, left-first}
+use Rattle.rx_limited.proofs.lemmas.CallLemmas.{calls-step, calls-last, calls-dead, left-on, left-here, left-end}
 
 module _ (d : Dfa) (around : Surroundings) where
   left-between : (n i : ℕ) (k : Key) → (i ≤ left_dead d around n i k) × (left_dead d around n i k ≤ i + n)

@@ -1,12 +1,12 @@
 -- How the search for the first confirmed candidate of a suffix goes on, and what it comes to.
 use Rattle.std.proofs.Common.{◌≡◌, ◌⊎◌, ℕ, ◌+◌, ◌-◌, ◌*◌, ◌<◌, ◌≤◌, List, [], ◌∷◌, length, refl, sym, ◌∙◌, ap, subst, inl, inr, arith, true≢false}
-use Rattle.std.specs.Prelude.{Option, Some, None, All, Contains, nat_lt, slice_get}
+use Rattle.std.specs.Prelude.{Option, Some, None, Contains, nat_lt, slice_get}
 use Rattle.std.proofs.lemmas.Bool.Decides.{nat_tests}
 use Rattle.std.proofs.lemmas.List.Elements.{All-nil, All-cons}
 use Rattle.rx_model.specs.Expression.{AreOrdered}
 use Rattle.rx_model.specs.Search.{free, Patterns}
 use Rattle.rx_model.proofs.lemmas.runs.RunLemmas.{by_test}
-use Rattle.rx_search.specs.Input.{InputValue, next_in}
+use Rattle.rx_search.specs.Input.{InputValue}
 use Rattle.rx_search.specs.Matches.{MatchValue, HalfMatchValue, match_value}
 use Rattle.rx_search.specs.declared.anchored.MatchKind.{MatchKind}
 use Rattle.rx_search.specs.declared.span.Span.{Span}
@@ -18,13 +18,13 @@ use Rattle.rx_limited.proofs.lemmas.CountLemmas.{backwards-few}
 use Rattle.rx_order.specs.Order.{IsLeast, IsMatchStart}
 use Rattle.rx_order.proofs.lemmas.Forms.{only-one}
 use Rattle.rx_order.proofs.lemmas.NextLemmas.{least-next, none-next}
-use Rattle.rx_attempts.specs.Inputs.{up_to, from_start}
+use Rattle.rx_attempts.specs.Inputs.{up_to}
 use Rattle.rx_attempts.specs.Candidates.{AreNotEmpty, IsCandidate, IsTaken, IsNextCandidate, NoneBetween, IsLeastRead}
 use Rattle.rx_attempts.specs.Premises.{IsBySuffix, IsSuffixOf, NoSuffixBefore}
 use Rattle.rx_attempts.specs.Suffix.{IsFirstSuffix, FirstSuffix, IsFresh, IsBehind, GoesOn}
 use Rattle.rx_attempts.specs.Whole.{IsWhole}
 use Rattle.rx_attempts.proofs.lemmas.NeedleLemmas.{taken-is, taken-long}
-use Rattle.rx_attempts.proofs.lemmas.StartLemmas.{the-one-is, suffix-permitted, suffix-none, suffix-some}
+use Rattle.rx_attempts.proofs.lemmas.StartLemmas.{suffix-permitted, suffix-none, suffix-some}
 use Rattle.rx_attempts.proofs.lemmas.EndLemmas.{finds, whole-answer, nothing-answer}
 
 -- the search begins

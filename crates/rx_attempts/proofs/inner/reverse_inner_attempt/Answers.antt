@@ -1,16 +1,16 @@
-use Rattle.std.proofs.Common.{◌≡◌, ◌≤◌, ◌<◌, ◌+◌, length, sym, ap, subst, arith, rules}
-use Rattle.std.specs.Prelude.{ℕ, false, Some, None, Result}
+use Rattle.std.proofs.Common.{◌≡◌, ◌≤◌, ◌<◌, length, ap, subst, arith, rules}
+use Rattle.std.specs.Prelude.{ℕ, false, Result}
 use Rattle.std.specs.Result.{IfErr}
 use Rattle.rx_search.specs.Matches.{MatchValue}
 use Rattle.rx_dfa.proofs.lemmas.BothLemmas.{not-anchored}
 use Rattle.rx_attempts.specs.Candidates.{IsNextCandidate}
-use Rattle.rx_attempts.specs.Inner.{IsTried, TakesFew, GoesOn}
-use Rattle.rx_attempts.specs.Counts.{Counts, HasTried}
+use Rattle.rx_attempts.specs.Inner.{IsTried, TakesFew}
+use Rattle.rx_attempts.specs.Counts.{HasTried}
 use Rattle.rx_attempts.proofs.lemmas.CountLemmas.{counts-fresh, counts-tried, counted-tried, counted-nothing}
 use Rattle.rx_search.specs.declared.span.Span.{Span}
 use Rattle.rx_attempts.proofs.lemmas.NeedleLemmas.{taken-candidate, taken-long}
 use Rattle.rx_attempts.proofs.lemmas.EndLemmas.{past-nothing}
-use Rattle.rx_attempts.proofs.lemmas.InnerLemmas.{inner-fresh, inner-turn, inner-on, inner-over, inner-nothing, inner-answer}
+use Rattle.rx_attempts.proofs.lemmas.InnerLemmas.{inner-turn, inner-on, inner-over, inner-nothing, inner-answer}
 use Rattle.rx_attempts.proofs.inner.reverse_inner_attempt.Goals as goal
 
 pub returns-then-is_done-clause-answer : goal.returns-then-is_done-clause-answer

@@ -1,5 +1,5 @@
 use Rattle.std.proofs.Common.{◌≡◌, ◌≤◌, ◌+◌, ◌-◌, length, ◌∙◌, ap, subst, arith}
-use Rattle.std.specs.Prelude.{Option, Some, None, IfSome}
+use Rattle.std.specs.Prelude.{Option, None, IfSome}
 use Rattle.rx_search.specs.Input.{InputValue}
 use Rattle.rx_search.specs.Matches.{HalfMatchValue}
 use Rattle.rx_search.specs.Told.{HalfLiesIn}
