@@ -244,7 +244,7 @@ built-core : (c : Config) (hs : List Expression) (core : CoreValue) → IsPlainO
     → is_from_end (TheCore core) (alternation (expressions hs)) ≡ b → AreAllowedStates (compiler_of c) hs
     → IsBuilt c hs (record { config = c; strategy = over b (TheCore core) })
 unfolding kind_in Serves pattern_count groups_in regex_memory tables_memory has_lazy has_dfas name_of IsMadeUnder accounted_for Fits states_memory properties_in prefilter_in IsKnownImpossible
-  over strategy_name plain_by
+    over strategy_name plain_by
 built-core c hs core plain true is allowed =
     let made = plain.core in
     record {

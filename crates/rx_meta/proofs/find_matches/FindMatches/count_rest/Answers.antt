@@ -4,7 +4,7 @@ use Rattle.rx_search.specs.Matches.{MatchValue}
 use Rattle.rx_search.specs.declared.memory.Memory.{Memory}
 use Rattle.rx_meta.specs.Iterators.{IsOfSearch}
 use Rattle.rx_meta.proofs.CountLemmas.{IsStep, count-begun, count-more, count-over}
-use Rattle.rx_meta.proofs.find_matches.FindMatches.count.Goals as goal
+use Rattle.rx_meta.proofs.find_matches.FindMatches.count_rest.Goals as goal
 
 pub loop-item-init : goal.loop-item-init
 loop-item-init g c = count-begun c.args.self

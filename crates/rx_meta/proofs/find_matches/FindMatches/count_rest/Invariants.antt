@@ -1,6 +1,6 @@
 use Rattle.rx_meta.specs.Iterators.{most_left}
 use Rattle.rx_meta.proofs.CountLemmas.{HasCounted}
-use Rattle.rx_meta.proofs.find_matches.FindMatches.count.Given as goal
+use Rattle.rx_meta.proofs.find_matches.FindMatches.count_rest.Given as goal
 
 abbrev pub invariant-loop-item : goal.invariant-loop-item
 invariant-loop-item g l = HasCounted l.fn.self l.self l.count
