@@ -15,23 +15,24 @@ TOP = os.path.dirname(os.path.dirname(os.path.abspath(__file__)))
 MOST = 1.3
 
 
-def copy_to(folder):
-    for name in ('crates.txt', 'HANDLES'):
-        shutil.copy(os.path.join(TOP, name), folder)
+def copy_of(folder, name):
+    """Puts a copy of the repository there, with the program of a file beside this one as a crate of its own."""
+    for part in ('crates.txt', 'HANDLES'):
+        shutil.copy(os.path.join(TOP, part), folder)
     for crate in os.listdir(os.path.join(TOP, 'crates')):
         for part in ('src', 'specs', 'proofs'):
             place = os.path.join(TOP, 'crates', crate, part)
             if os.path.isdir(place):
                 shutil.copytree(place, os.path.join(folder, 'crates', crate, part))
-    crate = os.path.join(folder, 'crates', 'iterators')
+    crate = os.path.join(folder, 'crates', name)
     os.makedirs(os.path.join(crate, 'src'))
-    shutil.copy(os.path.join(TOP, 'bench', 'iterators.txt'), os.path.join(crate, 'src', 'main.rt'))
+    shutil.copy(os.path.join(TOP, 'bench', name + '.txt'), os.path.join(crate, 'src', 'main.rt'))
     with open(os.path.join(folder, 'crates.txt'), 'a') as file:
-        file.write('iterators: rx_search rx_meta\n')
+        file.write(name + ': rx_search rx_meta\n')
 
 
 def rows_of(folder):
-    copy_to(folder)
+    copy_of(folder, 'iterators')
     program = os.path.join(folder, 'iterators')
     measuring = os.path.join(TOP, 'bench', 'measuring.py')
     subprocess.run([sys.executable, measuring, folder, 'iterators', program], check=True)
