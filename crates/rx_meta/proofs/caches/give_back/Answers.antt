@@ -6,4 +6,4 @@ use Rattle.rx_meta.proofs.caches.give_back.Goals as goal
 
 pub put-requires : goal.put-requires
 unfolding Fits
-put-requires g c = subst (λ (s : Strategy). strategy.Fits s c.args.lent.value.rooms) (sym c.requires.own) c.requires.fits
+put-requires g c = subst (λ (s : Strategy). strategy.Fits s c.args.lent.guard.value.rooms) (sym c.requires.own) c.requires.fits
