@@ -6,36 +6,19 @@ It makes a program of bench/pool.txt in a copy of the repository, and builds it 
 nanoseconds: with a cache in hand, by the pool, and by the pool from two and four threads at once; and of an iterator over a line
 of ten bytes, of which there are a million. Ends with status 1 where the pool takes more than twice the time, but for lazy DFAs.
 """
-import os
-import subprocess
 import sys
-import tempfile
 
-from iterators import TOP, copy_of
+from iterators import rows_of
 
 SEARCHES = 100_000
 LINES = 1_000_000
 MOST = 2.0
 
 
-def rows_of(folder):
-    copy_of(folder, 'pool')
-    program = os.path.join(folder, 'pool')
-    measuring = os.path.join(TOP, 'bench', 'measuring.py')
-    subprocess.run([sys.executable, measuring, folder, 'pool', program], check=True)
-    done = subprocess.run([program], input=b't\n', stdout=subprocess.PIPE)
-    if done.returncode:
-        sys.exit('no figures: status %d' % done.returncode)
-    times = {}
-    for line in done.stdout.decode().splitlines():
-        name, what, time = line.split()
-        times.setdefault(name, {})[what] = int(time)
-    return times
-
-
 def main():
-    with tempfile.TemporaryDirectory() as folder:
-        times = rows_of(folder)
+    times = {}
+    for name, what, time in rows_of('pool', 'rx_search rx_meta'):
+        times.setdefault(name, {})[what] = int(time)
     for name, row in times.items():
         hand, pool = row['in_hand'] / SEARCHES, row['1'] / SEARCHES
         print('%-5s in hand %6.1f ns, by the pool %6.1f ns, ratio %.2f; from 2 threads %6.1f ns, from 4 %6.1f ns; a line %6.1f ns'
