@@ -1,0 +1,17 @@
+pub mod ListLemmas
+pub mod OrderLemmas
+pub mod WayLemmas
+pub mod TreeLemmas
+pub mod FillingLemmas
+pub mod FilledLemmas
+pub mod LayoutLemmas
+pub mod PlacedLemmas
+pub mod EntryLemmas
+pub mod StateLemmas
+pub mod WalkingLemmas
+pub mod StepLemmas
+pub mod RowsLemmas
+pub mod SwapLemmas
+pub mod FinishLemmas
+pub mod StartLemmas
+pub mod BuildLemmas

@@ -1,0 +1,12 @@
+pub mod Config
+pub mod Error
+pub mod Stop
+pub mod Order
+pub mod Entries
+pub mod Build
+pub mod Told
+pub mod Tree
+pub mod Filling
+pub mod Rows
+pub mod Settled
+pub mod Finished
