@@ -9,9 +9,9 @@ use rx_search::{Gate, NonMaxUsize, Open};
 use std::alloc::Global;
 use std::process::Abort;
 use std::sync::Wait;
-use std::sync::atomic::{AtomicU64, Ordering};
+use std::sync::atomic::{AtomicBool, AtomicU64, Ordering};
 use std::test::Fail;
-use std::thread::Threads;
+use std::thread::{Threads, yield_now};
 
 /// The place that a slot holds.
 fn place(slot: Option<NonMaxUsize>) -> Option<usize> {
@@ -147,7 +147,7 @@ impl Gate for InOrder {
 }
 
 #[test]
-fn the_gate_is_told_of_each_haystack_once_in_order(rt: HostRuntime) -> Result<(), Fail> {
+fn one_worker_comes_to_each_haystack_once_in_order(rt: HostRuntime) -> Result<(), Fail> {
     let alloc = rt.alloc();
     let regex = Regex::new(alloc, "a").ok().expect(&rt, "a regex");
     let haystacks: [&[u8]; 3] = [b"a", b"", b"ba"];
@@ -156,11 +156,52 @@ fn the_gate_is_told_of_each_haystack_once_in_order(rt: HostRuntime) -> Result<()
     assert_eq!(rt; gate.told.load(Ordering::SeqCst), 0b111);
     assert_eq!(rt; gate.calls.load(Ordering::SeqCst), 3);
     let gate = InOrder::new();
-    let words = words_of(alloc, &["scan"])?;
+    let words = words_of(alloc, &["scan", "1"])?;
     let mut source = BytesSure::new(Vec::from_slice(alloc, b"a\n\na\n\nba\nb")?);
     let mut sink = KeptSure::new(alloc);
     assert_eq!(rt; run(&rt, alloc, &words, &mut source, &mut sink, &gate), 0);
     assert_eq!(rt; gate.told.load(Ordering::SeqCst), 0b1111);
     assert_eq!(rt; gate.calls.load(Ordering::SeqCst), 4);
+    Ok(())
+}
+
+/// How often a held worker yields at most.
+const YIELDS: usize = 1000000;
+
+/// A gate that holds the worker of haystack 0 up until haystack 1 is reached.
+#[derive(Drop)]
+struct HoldFirst {
+    reached: AtomicBool,
+    seen: AtomicBool,
+}
+
+impl Gate for HoldFirst {
+    fn reached(&self, index: usize) {
+        if index == 1 {
+            self.reached.store(true, Ordering::SeqCst);
+        }
+        if index == 0 {
+            for _ in 0..YIELDS {
+                if self.reached.load(Ordering::SeqCst) {
+                    self.seen.store(true, Ordering::SeqCst);
+                    return;
+                }
+                yield_now();
+            }
+        }
+    }
+}
+
+#[test]
+fn two_workers_search_at_once(rt: HostRuntime) -> Result<(), Fail> {
+    let alloc = rt.alloc();
+    let regex = Regex::new(alloc, "a").ok().expect(&rt, "a regex");
+    let haystacks: [&[u8]; 2] = [b"a", b"ba"];
+    let gate = HoldFirst {
+        reached: AtomicBool::new(false),
+        seen: AtomicBool::new(false),
+    };
+    assert!(rt; scan(&rt, alloc, &regex, &haystacks, 2, &gate).is_ok());
+    assert!(rt; gate.seen.load(Ordering::SeqCst));
     Ok(())
 }
