@@ -1,9 +1,16 @@
+use denote.Param.Send.{sendable, param_sync}
+use Rattle.std.proofs.Crossing.{crosses}
 use Rattle.std.proofs.Common.{◌≡◌, true, sym, ◌∙◌, ap, subst}
 use Rattle.std.specs.Vec.{vec_items}
 use Rattle.rx_search.specs.Needles.{BeginsEachMatch}
 use Rattle.rx_search.specs.Told.{tells}
 use Rattle.rx_meta.specs.Build.{patterns_for}
 use Rattle.rx_meta.specs.Config.{ConfigValue, captures_of, prefilter_of}
+use Rattle.rx_meta.proofs.cache.Cache.TheSendSync as cache
+use Rattle.rx_search.proofs.group_info.GroupInfo.TheSendSync as groups
+use Rattle.rx_search.proofs.span.Span.TheSendSync as span
+use Rattle.rx_scan.proofs.row.Layout.TheSendSync as layout
+use Rattle.rx_meta.proofs.ThreadLemmas.{regex_sync}
 use Rattle.rx_scan.proofs.HaystackLemmas.{all-rows, serves-finds}
 use Rattle.rx_scan.proofs.haystacks.scan.Goals as goal
 
@@ -15,3 +22,20 @@ returns g c = λ config hs built leftmost begins utf8.
     subst (λ (k : ConfigValue). BeginsEachMatch (prefilter_of k) r) (sym built.config) begins in
     all-rows vec_items c.args.regex.now r c.args.haystacks.now _ c.in_ok-rows.ensures
     (λ k d below. serves-finds c.args.regex.now r _ built.serves given (built.kind ∙ leftmost) built.groups told (λ on. utf8 on k d below))
+
+pub do_all-requires-send-T-Scratch : goal.do_all-requires-send-T-Scratch
+do_all-requires-send-T-Scratch g c κs within = search (sendable, crosses, regex_sync, cache.the_send) fits 5000 depth 40
+
+pub do_all-requires-sync-T : goal.do_all-requires-sync-T
+do_all-requires-sync-T g c κs within = search (sendable, crosses, regex_sync, layout.the_sync) fits 5000 depth 40
+
+try-b : goal.do_all-requires-sync-T
+try-b g c κs within = param_sync _ _ (search (sendable, crosses, regex_sync, layout.the_sync) fits 5000 depth 40)
+
+try-c : goal.do_all-requires-sync-T
+try-c g c κs within = search (sendable, crosses, regex_sync, groups.the_sync, span.the_sync) fits 5000 depth 40
+
+try-d : goal.do_all-requires-sync-T
+try-d g c κs within =
+    let here = c.type_bounds.sync-G in
+    search (sendable, crosses, regex_sync, layout.the_sync, here) fits 5000 depth 40
