@@ -14,3 +14,4 @@ pub mod Sets
 pub mod Laws
 pub mod Build
 pub mod Impossible
+pub mod Caches

@@ -16,7 +16,7 @@ use std::sync::Wait;
 /// The groups of the successive matches in an input, which are those of `FindMatches`. Each item is captures of its own.
 ///
 /// An item is an error where there was no memory for a search or for the captures. After an error, and after the last match,
-/// there is no further item.
+/// there is no further item. Where it is dropped, and not finished or counted, its cache is freed.
 #[derive(Drop)]
 pub struct CapturesMatches<'r, 'h> {
     finder: CapturesFinder<'r>,
@@ -34,7 +34,8 @@ impl<'r, 'h> Model for CapturesMatches<'r, 'h> {
 
 impl<'r, 'h> CapturesMatches<'r, 'h> {
     /// Before the first match in the input.
-    pub(crate) fn new(
+    pub(crate) fn new<R: Wait>(
+        rt: &R,
         alloc: Global,
         regex: &'r Regex,
         input: &Input<'h>,
@@ -42,7 +43,7 @@ impl<'r, 'h> CapturesMatches<'r, 'h> {
         ensures { IfOk result (λ it. it ≡ begun regex.now input.now) }
     {
         Ok(CapturesMatches {
-            finder: CapturesFinder::new(alloc, regex)?,
+            finder: CapturesFinder::new(rt, alloc, regex)?,
             searcher: Searcher::new(input.clone()),
             is_ended: false,
         })
@@ -121,6 +122,13 @@ impl<'r, 'h> CapturesMatches<'r, 'h> {
         FindMatches::from_parts(finder.without_captures(), searcher, is_ended).count(rt)
     }
 
-    /// Gives up the iterator, and what it searched with.
-    pub fn finish<R: Wait>(self, _rt: &R) {}
+    /// Gives up the iterator, and gives its cache back to the regex.
+    pub fn finish<R: Wait>(self, rt: &R) {
+        let CapturesMatches {
+            finder,
+            searcher: _,
+            is_ended: _,
+        } = self;
+        finder.finish(rt);
+    }
 }

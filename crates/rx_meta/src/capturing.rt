@@ -10,6 +10,7 @@ ghost use Rattle.rx_meta.specs.Impossible.{IsKnownImpossible};
 ghost use Rattle.rx_meta.specs.Regex.{groups_in, pattern_count, properties_in};
 
 use crate::cache::Cache;
+use crate::caches::give_back;
 use crate::found::pattern;
 use crate::regex::Regex;
 use rx_search::{Captures, Input, Match, Memory};
@@ -67,8 +68,8 @@ impl Regex {
     /// `Memory`, where there was no memory for a cache.
     pub fn search_captures<R: Wait>(
         &self,
-        _rt: &R,
-        alloc: Global,
+        rt: &R,
+        _alloc: Global,
         input: &Input<'_>,
         captures: &mut Captures,
     ) -> Result<(), Memory>
@@ -82,11 +83,16 @@ impl Regex {
             captures.clear();
             return Ok(());
         }
-        let Ok(mut cache) = self.create_cache(alloc) else {
-            captures.clear();
-            return Err(Memory);
+        let mut lent = match self.lend(rt) {
+            Ok(lent) => lent,
+            Err(Memory) => {
+                captures.clear();
+                return Err(Memory);
+            }
         };
-        self.search_captures_with(&mut cache, input, captures)
+        let answer = self.search_captures_with(&mut lent.guard.value, input, captures);
+        give_back(rt, self, lent);
+        answer
     }
 
     /// As `search_captures`, with a cache that serves this regex.

@@ -6,16 +6,14 @@ ghost use Rattle.rx_meta.specs.Iterators.{begun, matches_to_come, PromisesEach, 
 use crate::match_finder::MatchFinder;
 use crate::regex::Regex;
 use rx_search::{Input, Match, Memory, Searcher};
-use std::alloc::Global;
 use std::marker::Model;
 use std::sync::Wait;
 
-// It owns its cache (DECISIONS: an iterator owns its cache until there is a pool).
 /// The successive matches in an input. Each search begins where the last match ended; an empty match at the end of the match
 /// before it is passed over.
 ///
 /// An item is an error where there was no memory for a search. After an error, and after the last match, there is no further
-/// item.
+/// item. Where it is dropped, and not finished or counted, its cache is freed.
 #[derive(Drop)]
 pub struct FindMatches<'r, 'h> {
     finder: MatchFinder<'r>,
@@ -33,15 +31,15 @@ impl<'r, 'h> Model for FindMatches<'r, 'h> {
 
 impl<'r, 'h> FindMatches<'r, 'h> {
     /// Before the first match in the input.
-    pub(crate) fn new(
-        alloc: Global,
+    pub(crate) fn new<R: Wait>(
+        rt: &R,
         regex: &'r Regex,
         input: &Input<'h>,
     ) -> Result<FindMatches<'r, 'h>, Memory>
         ensures { IfOk result (λ it. it ≡ begun regex.now input.now) }
     {
         Ok(FindMatches {
-            finder: MatchFinder::new(alloc, regex)?,
+            finder: MatchFinder::new(rt, regex)?,
             searcher: Searcher::new(input.clone()),
             is_ended: false,
         })
@@ -126,10 +124,22 @@ impl<'r, 'h> FindMatches<'r, 'h> {
     /// let count = matches.count(&rt)?;
     /// assert_eq!(rt; count, 2);
     /// ```
-    pub fn count<R: Wait>(mut self, _rt: &R) -> Result<usize, Memory>
+    pub fn count<R: Wait>(mut self, rt: &R) -> Result<usize, Memory>
         ensures value { PromisesEach self.entry → IfOk result (λ n. n ≡ length (matches_to_come self.entry)) }
         ensures any { self.entry.ended ≡ false → IfOk result (ComeBeforeNone self.entry.regex self.entry.searcher) }
         ensures none { self.entry.ended ≡ true → IfOk result (λ n. n ≡ 0) }
+    {
+        let count = self.count_rest();
+        // Also where there was no memory.
+        self.finish(rt);
+        count
+    }
+
+    /// As `count`, before the cache is given back.
+    fn count_rest(&mut self) -> Result<usize, Memory>
+        ensures value { PromisesEach self.old → IfOk result (λ n. n ≡ length (matches_to_come self.old)) }
+        ensures any { self.old.ended ≡ false → IfOk result (ComeBeforeNone self.old.regex self.old.searcher) }
+        ensures none { self.old.ended ≡ true → IfOk result (λ n. n ≡ 0) }
     {
         // Each match ends at a place of its own, and the number of places fits a `usize`.
         let _haystack = self.input().haystack();
@@ -141,6 +151,13 @@ impl<'r, 'h> FindMatches<'r, 'h> {
         Ok(count)
     }
 
-    /// Gives up the iterator, and what it searched with.
-    pub fn finish<R: Wait>(self, _rt: &R) {}
+    /// Gives up the iterator, and gives its cache back to the regex.
+    pub fn finish<R: Wait>(self, rt: &R) {
+        let FindMatches {
+            finder,
+            searcher: _,
+            is_ended: _,
+        } = self;
+        finder.finish(rt);
+    }
 }

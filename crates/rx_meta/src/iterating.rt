@@ -30,13 +30,13 @@ impl Regex {
     /// ```
     pub fn find_iter<'r, 'h, R: Wait>(
         &'r self,
-        _rt: &R,
-        alloc: Global,
+        rt: &R,
+        _alloc: Global,
         input: &Input<'h>,
     ) -> Result<FindMatches<'r, 'h>, Memory>
         ensures { IfOk result (λ it. it ≡ begun self.now input.now) }
     {
-        FindMatches::new(alloc, self, input)
+        FindMatches::new(rt, self, input)
     }
 
     /// The groups of the successive matches in the input's span.
@@ -46,13 +46,13 @@ impl Regex {
     /// `Memory`, where there was no memory for a cache and for captures.
     pub fn captures_iter<'r, 'h, R: Wait>(
         &'r self,
-        _rt: &R,
+        rt: &R,
         alloc: Global,
         input: &Input<'h>,
     ) -> Result<CapturesMatches<'r, 'h>, Memory>
         ensures { IfOk result (λ it. it ≡ begun self.now input.now) }
     {
-        CapturesMatches::new(alloc, self, input)
+        CapturesMatches::new(rt, alloc, self, input)
     }
 
     /// The gaps that the successive matches in the input's span leave in its haystack.
@@ -74,13 +74,13 @@ impl Regex {
     /// ```
     pub fn split<'r, 'h, R: Wait>(
         &'r self,
-        _rt: &R,
-        alloc: Global,
+        rt: &R,
+        _alloc: Global,
         input: &Input<'h>,
     ) -> Result<Split<'r, 'h>, Memory>
         ensures { IfOk result (λ s. s ≡ split_begun self.now input.now) }
     {
-        Split::new(alloc, self, input)
+        Split::new(rt, self, input)
     }
 
     /// As `split`, at most `limit` pieces: the last one that is permitted is all the rest of the haystack.
@@ -90,13 +90,13 @@ impl Regex {
     /// `Memory`, where there was no memory for a cache.
     pub fn splitn<'r, 'h, R: Wait>(
         &'r self,
-        _rt: &R,
-        alloc: Global,
+        rt: &R,
+        _alloc: Global,
         input: &Input<'h>,
         limit: usize,
     ) -> Result<SplitN<'r, 'h>, Memory>
         ensures { IfOk result (λ s. s ≡ record { splits = split_begun self.now input.now; limit = limit }) }
     {
-        SplitN::new(alloc, self, input, limit)
+        SplitN::new(rt, self, input, limit)
     }
 }

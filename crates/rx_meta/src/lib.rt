@@ -7,6 +7,8 @@
 
 mod builder;
 mod cache;
+mod cache_maker;
+mod caches;
 mod capture_laws;
 mod captures_finder;
 mod captures_matches;

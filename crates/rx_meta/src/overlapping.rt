@@ -8,6 +8,7 @@ ghost use Rattle.rx_meta.specs.Regex.{pattern_count};
 ghost use Rattle.rx_meta.specs.Sets.{KeepsMembers, AddsMatching, IsFilled};
 
 use crate::cache::Cache;
+use crate::caches::give_back;
 use crate::regex::Regex;
 use rx_search::{Input, Memory, PatternSet};
 use std::alloc::Global;
@@ -34,8 +35,8 @@ impl Regex {
     /// ```
     pub fn which_overlapping_matches<R: Wait>(
         &self,
-        _rt: &R,
-        alloc: Global,
+        rt: &R,
+        _alloc: Global,
         input: &Input<'_>,
         set: &mut PatternSet,
     ) -> Result<(), Memory>
@@ -48,8 +49,10 @@ impl Regex {
         if self.strategy().is_impossible(input) {
             return Ok(());
         }
-        let mut cache = self.create_cache(alloc)?;
-        self.which_overlapping_matches_with(&mut cache, input, set)
+        let mut lent = self.lend(rt)?;
+        let answer = self.which_overlapping_matches_with(&mut lent.guard.value, input, set);
+        give_back(rt, self, lent);
+        answer
     }
 
     /// As `which_overlapping_matches`, with a cache that serves this regex.

@@ -2,6 +2,7 @@
 #![tactic(auto, unfolding(crate::specs::Cache::Fits, crate::specs::Cache::AccountsAlike, crate::specs::Cache::memory_of, crate::specs::Impossible::IsKnownImpossible, crate::specs::Regex::pattern_count))]
 
 ghost use Rattle.std.specs.Prelude.{◌≡◌, ◌≤◌, ◌<◌, ◌∷◌, [], length, None, replicate, map, IfOk, IfErr, IfNone, IfSome, OnErr, IsOk};
+ghost use Rattle.std.specs.Arc.{arc_value};
 ghost use Rattle.rx_model.specs.Search.{Patterns};
 ghost use Rattle.rx_search.specs.Input.{IsSpanned};
 ghost use Rattle.rx_search.specs.Limits.{id_limit};
@@ -17,12 +18,15 @@ ghost use Rattle.rx_meta.specs.Search.{IsAnswer, AreSlotsOfAnswer, TellsWhether}
 
 use crate::builder::Builder;
 use crate::cache::Cache;
+use crate::cache_maker::CacheMaker;
+use crate::caches::give_back;
 use crate::error::BuildError;
 use crate::found::pattern;
 use rx_engines::empty;
 use rx_search::{GroupInfo, HalfMatch, Input, Match, Memory, NonMaxUsize, PatternID};
 use rx_strategies::Strategy;
 use rx_strategy::Config;
+use rx_util::Pool;
 use std::alloc::Global;
 use std::marker::Model;
 use std::sync::{Arc, Wait};
@@ -34,14 +38,17 @@ use std::sync::{Arc, Wait};
 /// pattern. Where no match may start inside a character, this is promised of texts that are UTF-8, and of patterns that mean
 /// UTF-8 there. A search that finds nothing leaves every slot None.
 ///
-/// A search that takes `rt` makes a cache for itself, and fails where there is no memory for it. One that ends in `_with`
-/// is given a cache that serves this regex; it may fail where there is no memory for the search. Where it is known beforehand
-/// that there is no match in the span, no search is made, no cache is made, and no search fails. An iterator makes its cache
-/// at first, whatever the input is. Clones share the strategy.
+/// A search that takes `rt` takes a cache from the regex, or else makes one, and gives it back; it may wait for a moment, and
+/// fails where there is no memory for a cache or for the search. One that ends in `_with` is given a cache that serves this
+/// regex, and waits for nothing; it may fail where there is no memory for the search. Where it is known beforehand that there
+/// is no match in the span, no search is made, no cache is taken, and no search fails. An iterator takes its cache at first,
+/// whatever the input is, and gives it back where it is finished or counted; one that is dropped frees it. Clones share the
+/// strategy, and each has caches of its own.
 #[derive(Drop)]
 pub struct Regex {
     config: Config,
-    strategy: Arc<Strategy, Global>,
+    /// Its maker has the strategy.
+    caches: Pool<Cache, CacheMaker>,
 }
 
 impl Model for Regex {
@@ -50,7 +57,7 @@ impl Model for Regex {
 
     ghost Value = { RegexValue };
 
-    ghost view = { λ r. record { config = r.config; strategy = arc_value r.strategy } };
+    ghost view = { λ r. record { config = r.config; strategy = arc_value r.caches.maker.strategy } };
 }
 
 impl Regex {
@@ -110,20 +117,33 @@ impl Regex {
     ) -> Result<Regex, Memory>
         ensures { IfOk result (λ regex. regex ≡ record { config = config; strategy = strategy }) }
     {
-        Ok(Regex {
-            config,
-            strategy: Arc::new(alloc, strategy)?,
-        })
+        let maker = CacheMaker::new(alloc, Arc::new(alloc, strategy)?);
+        Regex::of_maker(config, maker)
+    }
+
+    /// A regex whose caches this maker makes, of which none is made yet.
+    fn of_maker(config: Config, maker: CacheMaker) -> Result<Regex, Memory>
+        ensures { IfOk result (λ regex. regex ≡ record { config = config; strategy = arc_value maker.strategy }) }
+    {
+        let caches = maker.into_pool(&config)?;
+        Ok(Regex { config, caches })
     }
 
     /// How its searches are answered.
     pub(crate) fn strategy(&self) -> &Strategy
         ensures { result.now ≡ self.now.strategy }
     {
-        &self.strategy
+        self.caches.maker().strategy()
     }
 
-    /// The same regex once more. It shares the strategy.
+    /// The caches that its searches share.
+    pub(crate) fn caches(&self) -> &Pool<Cache, CacheMaker>
+        ensures { arc_value result.now.maker.strategy ≡ self.now.strategy }
+    {
+        &self.caches
+    }
+
+    /// The same regex once more. It shares the strategy, and has caches of its own.
     ///
     /// # Errors
     ///
@@ -131,10 +151,8 @@ impl Regex {
     pub fn clone(&self) -> Result<Regex, Memory>
         ensures { IfOk result (λ copy. copy ≡ self.now) }
     {
-        Ok(Regex {
-            config: self.config.clone()?,
-            strategy: Arc::try_clone(&self.strategy)?,
-        })
+        let maker = self.caches.maker().clone()?;
+        Regex::of_maker(self.config.clone()?, maker)
     }
 
     /// Whether there is a match in the input's span, under every configuration.
@@ -144,8 +162,8 @@ impl Regex {
     /// `Memory`, where there was no memory for a cache.
     pub fn is_match<R: Wait>(
         &self,
-        _rt: &R,
-        alloc: Global,
+        rt: &R,
+        _alloc: Global,
         input: &Input<'_>,
     ) -> Result<bool, Memory>
         ensures value { IfOk result (TellsWhether self.now input.now) }
@@ -155,7 +173,19 @@ impl Regex {
         if self.strategy().is_impossible(input) {
             return Ok(false);
         }
-        let mut cache = self.create_cache(alloc)?;
+        let mut lent = self.lend(rt)?;
+        let answer = self.is_match_with(&mut lent.guard.value, input);
+        give_back(rt, self, lent);
+        answer
+    }
+
+    /// As `is_match`, with a cache that serves this regex.
+    fn is_match_with(&self, cache: &mut Cache, input: &Input<'_>) -> Result<bool, Memory>
+        requires { Fits self.now cache.old }
+        ensures value { IfOk result (TellsWhether self.now input.now) }
+        ensures cache { Fits self.now cache.new }
+        ensures sure { IsKnownImpossible self.now input.now → IsOk result }
+    {
         self.strategy().is_match(&mut cache.rooms, input)
     }
 
@@ -195,8 +225,8 @@ impl Regex {
     /// `Memory`, where there was no memory for a cache.
     pub fn search<R: Wait>(
         &self,
-        _rt: &R,
-        alloc: Global,
+        rt: &R,
+        _alloc: Global,
         input: &Input<'_>,
     ) -> Result<Option<Match>, Memory>
         ensures answer { IfOk result (IsAnswer self.now input.now match_value) }
@@ -208,8 +238,10 @@ impl Regex {
         if self.strategy().is_impossible(input) {
             return Ok(None);
         }
-        let mut cache = self.create_cache(alloc)?;
-        self.strategy().search(&mut cache.rooms, input)
+        let mut lent = self.lend(rt)?;
+        let answer = self.search_with(&mut lent.guard.value, input);
+        give_back(rt, self, lent);
+        answer
     }
 
     /// The pattern and the end of the match that `search` answers.
@@ -219,8 +251,8 @@ impl Regex {
     /// `Memory`, where there was no memory for a cache.
     pub fn search_half<R: Wait>(
         &self,
-        _rt: &R,
-        alloc: Global,
+        rt: &R,
+        _alloc: Global,
         input: &Input<'_>,
     ) -> Result<Option<HalfMatch>, Memory>
         ensures answer { IfOk result (IsAnswer self.now input.now half_match_value) }
@@ -231,8 +263,10 @@ impl Regex {
         if self.strategy().is_impossible(input) {
             return Ok(None);
         }
-        let mut cache = self.create_cache(alloc)?;
-        self.strategy().search_half(&mut cache.rooms, input)
+        let mut lent = self.lend(rt)?;
+        let answer = self.search_half_with(&mut lent.guard.value, input);
+        give_back(rt, self, lent);
+        answer
     }
 
     /// The pattern of the match that `search` answers. Each slot gets the place that the match leaves in it, and None where
@@ -256,8 +290,8 @@ impl Regex {
     /// ```
     pub fn search_slots<R: Wait>(
         &self,
-        _rt: &R,
-        alloc: Global,
+        rt: &R,
+        _alloc: Global,
         input: &Input<'_>,
         slots: &mut [Option<NonMaxUsize>],
     ) -> Result<Option<PatternID>, Memory>
@@ -273,11 +307,16 @@ impl Regex {
             empty(slots);
             return Ok(None);
         }
-        let Ok(mut cache) = self.create_cache(alloc) else {
-            empty(slots);
-            return Err(Memory);
+        let mut lent = match self.lend(rt) {
+            Ok(lent) => lent,
+            Err(Memory) => {
+                empty(slots);
+                return Err(Memory);
+            }
         };
-        self.search_slots_with(&mut cache, input, slots)
+        let answer = self.search_slots_with(&mut lent.guard.value, input, slots);
+        give_back(rt, self, lent);
+        answer
     }
 
     /// As `search`, with a cache that serves this regex.

@@ -6,7 +6,6 @@ ghost use Rattle.rx_meta.specs.Iterators.{split_begun, gaps_to_come, pieces_up_t
 use crate::find_matches::FindMatches;
 use crate::regex::Regex;
 use rx_search::{Input, Memory, Span};
-use std::alloc::Global;
 use std::marker::Model;
 use std::sync::Wait;
 
@@ -35,15 +34,15 @@ impl<'r, 'h> Model for Split<'r, 'h> {
 
 impl<'r, 'h> Split<'r, 'h> {
     /// Before the first gap.
-    pub(crate) fn new(
-        alloc: Global,
+    pub(crate) fn new<R: Wait>(
+        rt: &R,
         regex: &'r Regex,
         input: &Input<'h>,
     ) -> Result<Split<'r, 'h>, Memory>
         ensures { IfOk result (λ s. s ≡ split_begun regex.now input.now) }
     {
         Ok(Split {
-            matches: FindMatches::new(alloc, regex, input)?,
+            matches: FindMatches::new(rt, regex, input)?,
             rest: Some(0),
         })
     }
@@ -122,8 +121,11 @@ impl<'r, 'h> Split<'r, 'h> {
         self.matches.input()
     }
 
-    /// Gives up the iterator, and what it searched with.
-    pub fn finish<R: Wait>(self, _rt: &R) {}
+    /// Gives up the iterator, and gives its cache back to the regex.
+    pub fn finish<R: Wait>(self, rt: &R) {
+        let Split { matches, rest: _ } = self;
+        matches.finish(rt);
+    }
 }
 
 /// The gaps of `Split`, at most so many of them: the last one that is permitted is all the rest of the haystack, for which
@@ -145,8 +147,8 @@ impl<'r, 'h> Model for SplitN<'r, 'h> {
 
 impl<'r, 'h> SplitN<'r, 'h> {
     /// Before the first piece.
-    pub(crate) fn new(
-        alloc: Global,
+    pub(crate) fn new<R: Wait>(
+        rt: &R,
         regex: &'r Regex,
         input: &Input<'h>,
         limit: usize,
@@ -154,7 +156,7 @@ impl<'r, 'h> SplitN<'r, 'h> {
         ensures { IfOk result (λ s. s ≡ record { splits = split_begun regex.now input.now; limit = limit }) }
     {
         Ok(SplitN {
-            splits: Split::new(alloc, regex, input)?,
+            splits: Split::new(rt, regex, input)?,
             limit,
         })
     }
@@ -211,6 +213,9 @@ impl<'r, 'h> SplitN<'r, 'h> {
         self.splits.input()
     }
 
-    /// Gives up the iterator, and what it searched with.
-    pub fn finish<R: Wait>(self, _rt: &R) {}
+    /// Gives up the iterator, and gives its cache back to the regex.
+    pub fn finish<R: Wait>(self, rt: &R) {
+        let SplitN { splits, limit: _ } = self;
+        splits.finish(rt);
+    }
 }

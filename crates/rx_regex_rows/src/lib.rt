@@ -6,6 +6,8 @@ mod dfas;
 #[cfg(test)]
 mod iterators;
 #[cfg(test)]
+mod pool;
+#[cfg(test)]
 mod regex;
 #[cfg(test)]
 mod sets;

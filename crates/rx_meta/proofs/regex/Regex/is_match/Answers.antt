@@ -1,14 +1,9 @@
 use Rattle.std.proofs.Common.{subst}
-use Rattle.std.specs.Prelude.{false, IfOk}
+use Rattle.std.specs.Prelude.{false}
 use Rattle.rx_meta.specs.Regex.{RegexValue}
 use Rattle.rx_meta.specs.Search.{TellsWhether}
-use Rattle.rx_meta.proofs.ServeLemmas.{with_strategy, whether-of, none-there}
+use Rattle.rx_meta.proofs.ServeLemmas.{with_strategy, none-there}
 use Rattle.rx_meta.proofs.regex.Regex.is_match.Goals as goal
-
-pub returns-clause-value : goal.returns-clause-value
-returns-clause-value g c =
-    subst (λ (regex : RegexValue). IfOk c.is_match.result (TellsWhether regex c.args.input.now)) (with_strategy c.args.self.now c.strategy-2.ensures)
-    (whether-of _ c.args.input.now c.is_match.result c.is_match.ensures.value)
 
 pub returns-then-is_impossible-clause-value : goal.returns-then-is_impossible-clause-value
 returns-then-is_impossible-clause-value g c =

@@ -1,16 +1,10 @@
 use Rattle.std.proofs.Common.{subst}
-use Rattle.std.specs.Prelude.{None, IfOk}
+use Rattle.std.specs.Prelude.{None}
 use Rattle.rx_search.specs.Matches.{half_match_value}
 use Rattle.rx_meta.specs.Regex.{RegexValue}
 use Rattle.rx_meta.specs.Search.{IsAnswer}
-use Rattle.rx_meta.proofs.ServeLemmas.{with_strategy, answers-of, none-answers}
+use Rattle.rx_meta.proofs.ServeLemmas.{with_strategy, none-answers}
 use Rattle.rx_meta.proofs.regex.Regex.search_half.Goals as goal
-
-pub returns-clause-answer : goal.returns-clause-answer
-returns-clause-answer g c =
-    subst (λ (regex : RegexValue). IfOk c.search_half.result (IsAnswer regex c.args.input.now half_match_value))
-    (with_strategy c.args.self.now c.strategy-2.ensures)
-    (answers-of _ c.args.input.now half_match_value c.search_half.result c.search_half.ensures.answer)
 
 pub returns-then-is_impossible-clause-answer : goal.returns-then-is_impossible-clause-answer
 returns-then-is_impossible-clause-answer g c =

@@ -20,8 +20,8 @@ returns-then-is_impossible-clause-filled g c =
     (with_strategy c.args.self.now c.strategy.ensures)
     (none-fills _ c.args.input.now (c.is_impossible.ensures.none c.if-is_impossible.true) c.args.set.now)
 
-pub returns-in_err-cache-clause-kept : goal.returns-in_err-cache-clause-kept
-returns-in_err-cache-clause-kept g c = keeps-same c.args.set.now
+pub returns-in_err-lent-clause-kept : goal.returns-in_err-lent-clause-kept
+returns-in_err-lent-clause-kept g c = keeps-same c.args.set.now
 
-pub returns-in_err-cache-clause-matching : goal.returns-in_err-cache-clause-matching
-returns-in_err-cache-clause-matching g c = λ r p k out there. absurd (true≢false (sym there ∙ out))
+pub returns-in_err-lent-clause-matching : goal.returns-in_err-lent-clause-matching
+returns-in_err-lent-clause-matching g c = λ r p k out there. absurd (true≢false (sym there ∙ out))

@@ -4,13 +4,13 @@ use Rattle.rx_search.specs.Matches.{MatchValue}
 use Rattle.rx_search.specs.declared.memory.Memory.{Memory}
 use Rattle.rx_meta.specs.Iterators.{IsOfSearch}
 use Rattle.rx_meta.proofs.CountLemmas.{IsStep, count-begun, count-more, count-over}
-use Rattle.rx_meta.proofs.find_matches.FindMatches.count.Goals as goal
+use Rattle.rx_meta.proofs.find_matches.FindMatches.count_rest.Goals as goal
 
 pub loop-item-init : goal.loop-item-init
-loop-item-init g c = count-begun c.args.self
+loop-item-init c = count-begun c.args.self.now
 
 pub loop-item-preserved : goal.loop-item-preserved
-loop-item-preserved g c =
+loop-item-preserved c =
     let e = c.next.ensures in
     let step : IsStep c.loop-item.self c.next.new.self c.next.result = record {
       gives = e.gives;
@@ -23,11 +23,11 @@ loop-item-preserved g c =
       fewer_left = e.fewer_left;
       regex = e.regex;
     } in
-    count-more c.args.self c.loop-item.self c.next.new.self c.loop-item.count c.in_ok-_found._found c.loop-item.invariant
+    count-more c.args.self.now c.loop-item.self c.next.new.self c.loop-item.count c.in_ok-_found._found c.loop-item.invariant
     (subst (IsStep c.loop-item.self c.next.new.self) (c.in-Some.is ∙ ap Some c.in_ok-_found.was) step)
 
 pub returns-clause-any : goal.returns-clause-any
-returns-clause-any g c =
-    count-over c.args.self c.loop-item.self c.loop-item.count c.loop-item.invariant
+returns-clause-any c =
+    count-over c.args.self.now c.loop-item.self c.loop-item.count c.loop-item.invariant
     (subst (λ (result : Option (Result MatchValue Memory)). c.loop-item.self.ended ≡ false → IsOfSearch c.loop-item.self result) c.in_default.is
     c.next.ensures.any)

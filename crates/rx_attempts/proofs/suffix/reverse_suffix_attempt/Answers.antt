@@ -1,0 +1,88 @@
+use Rattle.std.proofs.Common.{◌<◌, ap, subst, rules}
+use Rattle.std.specs.Prelude.{slice_get}
+use Rattle.std.proofs.lemmas.Result.{IfOk-weaker}
+use Rattle.rx_search.specs.Matches.{match_value}
+use Rattle.rx_dfa.specs.Search.{IsAnswerFor}
+use Rattle.rx_dfa.proofs.lemmas.BothLemmas.{not-anchored}
+use Rattle.rx_attempts.specs.Suffix.{FirstSuffix}
+use Rattle.rx_attempts.proofs.lemmas.EndLemmas.{past-nothing}
+use Rattle.rx_attempts.proofs.lemmas.SuffixLemmas.{suffix-nothing, suffix-answer}
+use Rattle.rx_search.specs.declared.span.Span.{Span}
+use Rattle.rx_attempts.specs.Counts.{HasCountedBack}
+use Rattle.rx_attempts.proofs.lemmas.CountLemmas.{counts-fresh, counted-nothing, result-counted}
+use Rattle.rx_attempts.proofs.suffix.reverse_suffix_attempt.Goals as goal
+
+pub returns-then-is_done-clause-answer : goal.returns-then-is_done-clause-answer
+returns-then-is_done-clause-answer g c =
+    let fwd = g.F.Automaton.dfa c.args.fwd.now in
+    let rev = g.B.Automaton.dfa c.args.rev.now in
+    let needles = c.args.pre.now in
+    let v = c.args.input.now in
+    let spanned = c.haystack-haystack.ensures.spanned.end in
+    let s = c.requires.suffix.0 in
+    let one = c.requires.suffix.1 in
+    let bytes = c.requires.suffix.2 in
+    let is_free = not-anchored v.anchor c.requires.free in
+    let past : v.end < v.start = search rules in
+    λ r nfa p. past-nothing fwd.kind r p.expression p.is (p.starts.ordered 0 p.expression (ap (λ hs. slice_get hs 0) p.is)) v is_free past
+
+pub returns-in-Some-clause-answer : goal.returns-in-Some-clause-answer
+returns-in-Some-clause-answer g c =
+    let fwd = g.F.Automaton.dfa c.args.fwd.now in
+    let rev = g.B.Automaton.dfa c.args.rev.now in
+    let needles = c.args.pre.now in
+    let v = c.args.input.now in
+    let spanned = c.haystack-haystack.ensures.spanned.end in
+    let s = c.requires.suffix.0 in
+    let one = c.requires.suffix.1 in
+    let bytes = c.requires.suffix.2 in
+    let is_free = not-anchored v.anchor c.requires.free in
+    let start = c.in-Some.start in
+    let first = subst (FirstSuffix rev needles v) c.in-Some.is c.in-Ok.ensures.first in
+    λ r nfa p.
+    IfOk-weaker c.match_from.result _ (IsAnswerFor fwd.kind r v match_value)
+    (λ found whole. suffix-answer rev needles s one bytes v spanned fwd.kind is_free r p start first found whole)
+    (c.match_from.ensures.whole r (record { is_for = nfa; begins = λ off. tt; utf8 = p.utf8 }))
+
+pub returns-in-None-clause-answer : goal.returns-in-None-clause-answer
+returns-in-None-clause-answer g c =
+    let fwd = g.F.Automaton.dfa c.args.fwd.now in
+    let rev = g.B.Automaton.dfa c.args.rev.now in
+    let needles = c.args.pre.now in
+    let v = c.args.input.now in
+    let spanned = c.haystack-haystack.ensures.spanned.end in
+    let s = c.requires.suffix.0 in
+    let one = c.requires.suffix.1 in
+    let bytes = c.requires.suffix.2 in
+    let is_free = not-anchored v.anchor c.requires.free in
+    let first = subst (FirstSuffix rev needles v) c.in-None.is c.in-Ok.ensures.first in
+    λ r nfa p. suffix-nothing rev needles s one bytes v spanned fwd.kind is_free r p first
+
+pub returns-then-is_done-clause-ticks : goal.returns-then-is_done-clause-ticks
+returns-then-is_done-clause-ticks g c =
+    let fwd = g.F.Automaton.dfa c.args.fwd.now in
+    let rev = g.B.Automaton.dfa c.args.rev.now in
+    let needles = c.args.pre.now in
+    let v = c.args.input.now in
+    λ every. counted-nothing fwd rev needles v (λ (s : Span). s.end) v.start c.args.steps.now c.args.steps.now
+    (counts-fresh fwd rev needles v (λ (s : Span). s.end) c.args.steps.now)
+
+pub returns-in-Some-clause-ticks : goal.returns-in-Some-clause-ticks
+returns-in-Some-clause-ticks g c =
+    let fwd = g.F.Automaton.dfa c.args.fwd.now in
+    let rev = g.B.Automaton.dfa c.args.rev.now in
+    let needles = c.args.pre.now in
+    let v = c.args.input.now in
+    let back = subst (HasCountedBack fwd rev needles v (λ (s : Span). s.end) c.args.steps.now c.first_start.new.steps) c.in-Some.is (c.in-Ok.ensures.ticks fwd) in
+    λ every.
+    result-counted fwd rev needles v (λ (s : Span). s.end) c.args.steps.now c.first_start.new.steps c.match_from.new.steps c.in-Some.start back
+    c.match_from.result (c.match_from.ensures.ticks every) c.match_from.ensures.begins
+
+pub returns-in-None-clause-ticks : goal.returns-in-None-clause-ticks
+returns-in-None-clause-ticks g c =
+    let fwd = g.F.Automaton.dfa c.args.fwd.now in
+    let rev = g.B.Automaton.dfa c.args.rev.now in
+    let needles = c.args.pre.now in
+    let v = c.args.input.now in
+    let back = subst (HasCountedBack fwd rev needles v (λ (s : Span). s.end) c.args.steps.now c.first_start.new.steps) c.in-None.is (c.in-Ok.ensures.ticks fwd) in
+    λ every. counted-nothing fwd rev needles v (λ (s : Span). s.end) back.0 c.args.steps.now c.first_start.new.steps back.1
