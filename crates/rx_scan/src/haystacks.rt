@@ -122,6 +122,7 @@ struct Works<'a, G> {
 
 impl<'a, G: Gate> Task for Works<'a, G> {
     type Value = Vec<Row>;
+
     type Scratch = RegexFinder<'a>;
 
     ghost size = { λ w. length w.haystacks.now };

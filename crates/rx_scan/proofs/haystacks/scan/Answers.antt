@@ -1,4 +1,4 @@
-use denote.Param.Send.{sendable, param_sync}
+use denote.Param.Send.{sendable}
 use Rattle.std.proofs.Crossing.{crosses}
 use Rattle.std.proofs.Common.{◌≡◌, true, sym, ◌∙◌, ap, subst}
 use Rattle.std.specs.Vec.{vec_items}
@@ -7,8 +7,6 @@ use Rattle.rx_search.specs.Told.{tells}
 use Rattle.rx_meta.specs.Build.{patterns_for}
 use Rattle.rx_meta.specs.Config.{ConfigValue, captures_of, prefilter_of}
 use Rattle.rx_meta.proofs.cache.Cache.TheSendSync as cache
-use Rattle.rx_search.proofs.group_info.GroupInfo.TheSendSync as groups
-use Rattle.rx_search.proofs.span.Span.TheSendSync as span
 use Rattle.rx_scan.proofs.row.Layout.TheSendSync as layout
 use Rattle.rx_meta.proofs.ThreadLemmas.{regex_sync}
 use Rattle.rx_scan.proofs.HaystackLemmas.{all-rows, serves-finds}
@@ -27,15 +25,4 @@ pub do_all-requires-send-T-Scratch : goal.do_all-requires-send-T-Scratch
 do_all-requires-send-T-Scratch g c κs within = search (sendable, crosses, regex_sync, cache.the_send) fits 5000 depth 40
 
 pub do_all-requires-sync-T : goal.do_all-requires-sync-T
-do_all-requires-sync-T g c κs within = search (sendable, crosses, regex_sync, layout.the_sync) fits 5000 depth 40
-
-try-b : goal.do_all-requires-sync-T
-try-b g c κs within = param_sync _ _ (search (sendable, crosses, regex_sync, layout.the_sync) fits 5000 depth 40)
-
-try-c : goal.do_all-requires-sync-T
-try-c g c κs within = search (sendable, crosses, regex_sync, groups.the_sync, span.the_sync) fits 5000 depth 40
-
-try-d : goal.do_all-requires-sync-T
-try-d g c κs within =
-    let here = c.type_bounds.sync-G in
-    search (sendable, crosses, regex_sync, layout.the_sync, here) fits 5000 depth 40
+do_all-requires-sync-T g c κs within = search (sendable, regex_sync, layout.the_field_sync) depth 40
