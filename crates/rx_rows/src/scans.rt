@@ -7,8 +7,8 @@ use rx_search::{Gate, NonMaxUsize, Open};
 use std::alloc::Global;
 use std::process::Abort;
 use std::sync::Wait;
-use std::sync::atomic::{AtomicU64, Ordering};
-use std::thread::Threads;
+use std::sync::atomic::{AtomicBool, AtomicU64, Ordering};
+use std::thread::{Threads, yield_now};
 
 /// A row: the number of its pattern, and the places in its slots.
 type Told = (usize, &'static [Option<usize>]);
@@ -187,12 +187,56 @@ fn seen_in_run<R: Threads + Wait + Sync + Abort>(rt: &R, alloc: Global) -> (u64,
     let mut source = source_of(rt, alloc, b"a\n\na\n\nba\nb", (64, &[]));
     let mut sink = sink_of(rt, alloc, (64, &[]));
     let gate = InOrder::new();
-    status_of(rt, alloc, &["scan"], &mut source, &mut sink, &gate);
+    status_of(rt, alloc, &["scan", "1"], &mut source, &mut sink, &gate);
     gate.seen()
 }
 
 #[test]
-fn the_gate_is_told_of_each_haystack_once_in_order(rt: HostRuntime) {
+fn one_worker_comes_to_each_haystack_once_in_order(rt: HostRuntime) {
     assert!(rt; seen_in_scan(&rt, rt.alloc()) == (0b111, 3));
     assert!(rt; seen_in_run(&rt, rt.alloc()) == (0b1111, 4));
+}
+
+/// How often a held worker yields at most.
+const YIELDS: usize = 1000000;
+
+/// A gate that holds the worker of haystack 0 up until haystack 1 is reached.
+#[derive(Drop)]
+struct HoldFirst {
+    reached: AtomicBool,
+    seen: AtomicBool,
+}
+
+impl Gate for HoldFirst {
+    fn reached(&self, index: usize) {
+        if index == 1 {
+            self.reached.store(true, Ordering::SeqCst);
+        }
+        if index == 0 {
+            for _ in 0..YIELDS {
+                if self.reached.load(Ordering::SeqCst) {
+                    self.seen.store(true, Ordering::SeqCst);
+                    return;
+                }
+                yield_now();
+            }
+        }
+    }
+}
+
+/// Whether haystack 1 was reached while the worker of haystack 0 was held, in a scan with two workers.
+fn reached_meanwhile<R: Threads + Wait + Sync + Abort>(rt: &R, alloc: Global) -> bool {
+    let regex = Regex::new(alloc, "a").ok().expect(rt, "a regex");
+    let gate = HoldFirst {
+        reached: AtomicBool::new(false),
+        seen: AtomicBool::new(false),
+    };
+    let rows = scan(rt, alloc, &regex, &[b"a", b"ba"], 2, &gate);
+    rows.ok().expect(rt, "memory");
+    gate.seen.load(Ordering::SeqCst)
+}
+
+#[test]
+fn two_workers_search_at_once(rt: HostRuntime) {
+    assert!(rt; reached_meanwhile(&rt, rt.alloc()));
 }

@@ -1,8 +1,10 @@
 -- What a regex finds in a haystack, one match after another.
-use Rattle.std.proofs.Common.{◌≡◌, ℕ, ◌+◌, ◌<◌, ◌≤◌, Bool, true, false, cond, List, [], ◌∷◌, ◌++◌, length, take, get_or, Option, Some, None, refl, sym, ap, subst, ◌∙◌, add-one, arith}
+use Rattle.std.proofs.Common.{◌≡◌, ℕ, suc, ◌+◌, ◌<◌, ◌≤◌, Bool, true, false, cond, List, [], ◌∷◌, ◌++◌, length, take, get_or, Option, Some, None, Result, Ok, Err, IfOk, refl, sym, ap, subst, ◌∙◌, add-one, arith}
+use Rattle.std.specs.List.{All}
 use Rattle.std.specs.Prelude.{map, MatchOption}
+use denote.Ref.{Bor}
 use Rattle.std.proofs.Math.Seq.{take-suc}
-use Rattle.std.proofs.lemmas.List.{map-append}
+use Rattle.std.proofs.lemmas.List.{get_or_default, map-append}
 use Rattle.rx_model.specs.Search.{Patterns, Match, next_match, matches, free, is_empty_at, next_after}
 use Rattle.rx_model.specs.Utf8.{MeansUtf8}
 use Rattle.rx_search.specs.Input.{InputValue, from_place, next_in, whole}
@@ -16,8 +18,9 @@ use Rattle.rx_search.specs.declared.anchored.MatchKind.TheVariants.{LeftmostFirs
 use Rattle.rx_search.proofs.SearcherLemmas.{successive-matches}
 use Rattle.rx_meta.specs.Finder.{PromisesFor}
 use Rattle.rx_meta.specs.Regex.{RegexValue, Serves, searches, given_needles, kind_in, groups_in}
-use Rattle.rx_scan.specs.Haystacks.{FindsRows}
-use Rattle.rx_scan.specs.Row.{row_of, scan_rows}
+use Rattle.rx_scan.specs.Haystacks.{FindsRows, HasRows}
+use Rattle.rx_scan.specs.Row.{RowValue, row_of, scan_rows}
+use Rattle.rx_workers.specs.Answers.{AreAnswers}
 
 -- what a regex searches is the next match of its patterns, where matches are told
 abbrev pub SearchesForItsPatterns : Type 0
@@ -113,3 +116,28 @@ pub nothing-more : {V W R : Type 0} (items : V → List R) (vs vs' : List V) (ws
     → vs' ≡ vs ++ v ∷ [] → items v ≡ [] → map items vs ≡ map (λ _. []) (take k ws) → map items vs' ≡ map (λ _. []) (take (k + 1) ws)
 nothing-more items vs vs' [] k v below more none so_far = absurd (omega arith)
 nothing-more items vs vs' (w ∷ ws) k v below more none so_far = scanned-more items (λ _. []) vs vs' (w ∷ ws) k v w below more none so_far
+
+-- rows of each haystack by its number are those of all
+pub all-rows : {V : Type 0} (items : V → List RowValue) (regex : RegexValue) (r : Patterns) (hs : List (Bor (List ℕ))) (vs : List V)
+    → AreAnswers (length hs) (λ i v. HasRows regex hs i (items v)) vs → All (λ h. FindsRows regex r h.now) hs
+    → map items vs ≡ map (λ h. scan_rows r h.now) hs
+all-rows items regex r [] [] answers finds = refl
+all-rows items regex r [] (v ∷ vs) answers finds = absurd (omega (arith, answers.count))
+all-rows items regex r (h ∷ hs) [] answers finds = absurd (omega (arith, answers.count))
+all-rows items regex r (h ∷ hs) (v ∷ vs) answers finds =
+    let first : items v ≡ scan_rows r h.now = answers.each 0 v (omega arith) r h (finds 0 h (omega arith)) in
+    let rest : AreAnswers (length hs) (λ i w. HasRows regex hs i (items w)) vs =
+    record { count = omega (arith, answers.count); each = λ i d below. answers.each (suc i) d (omega (arith, below)) } in
+    let others : All (λ (b : Bor (List ℕ)). FindsRows regex r b.now) hs = λ i d below. finds (suc i) d (omega (arith, below)) in
+    let after = all-rows items regex r hs vs rest others in λ k. first k ∷ after k
+
+-- the rows that a search found in the haystack of a number, under the regex that it had
+pub found-at : {V E : Type 0} (items : V → List RowValue) (result : Result V E) (now first : RegexValue) (hs : List (Bor (List ℕ))) (i : ℕ) (e : Bor (List ℕ))
+    → now ≡ first → i < length hs
+    → ((r : Patterns) → FindsRows now r (get_or hs i e).now → IfOk result (λ v. items v ≡ scan_rows r (get_or hs i e).now))
+    → IfOk result (λ v. HasRows first hs i (items v))
+found-at items (Err error) now first hs i e same below rows = tt
+found-at items (Ok v) now first hs i e same below rows = λ r d finds.
+    let there : get_or hs i e ≡ get_or hs i d = get_or_default hs i e d below in
+    let here : FindsRows first r (get_or hs i e).now = subst (λ (b : Bor (List ℕ)). FindsRows first r b.now) (sym there) finds in
+    subst (λ (b : Bor (List ℕ)). items v ≡ scan_rows r b.now) there (rows r (same-finds now first r (get_or hs i e).now same here))

@@ -71,12 +71,12 @@ abbrev pub off_of : List ℕ → Option Off
 off_of word =
     if starts_with nat_eq word (codes "off:") && is_nonempty (drop 4 word) && are_letters (drop 4 word) then Some (switched_off (drop 4 word)) else None
 
--- a scan with so many workers, and with all that there is; one with one worker, and without this
+-- a scan with so many workers, and with all that there is; one with four workers, and without this
 abbrev pub with_workers : ℕ → Scan
 with_workers n = record { workers = n; off = switched_off [] }
 
 abbrev pub without : Off → Scan
-without off = record { workers = 1; off = off }
+without off = record { workers = 4; off = off }
 
 -- both are there
 abbrev pub both_of : Option ℕ → Option Off → Option Scan
@@ -86,7 +86,7 @@ both_of None off = None
 
 -- what a scan's options ask for: the number of workers, then what is switched off; both may be left out
 abbrev pub options_of : List (List ℕ) → Option Scan
-options_of [] = Some (with_workers 1)
+options_of [] = Some (with_workers 4)
 options_of (option ∷ []) = option_or (option_map with_workers (workers_of option)) (option_map without (off_of option))
 options_of (workers ∷ off ∷ []) = both_of (workers_of workers) (off_of off)
 options_of (workers ∷ off ∷ other ∷ words) = None

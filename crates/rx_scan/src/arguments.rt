@@ -64,7 +64,7 @@ impl Off {
 }
 
 /// The number of workers where the words name none.
-const WORKERS: usize = 1;
+const WORKERS: usize = 4;
 
 /// What the words ask for: `explain` alone; or `scan`, then the number of workers, then what is switched off, of which both may be left
 /// out. None where they are not those of a command.

@@ -1,5 +1,5 @@
 //! The rows of haystacks.
-ghost use Rattle.std.specs.Prelude.{◌≡◌, ◌<◌, [], ℕ, List, true, map, IfOk, OnOk};
+ghost use Rattle.std.specs.Prelude.{◌≡◌, ◌<◌, [], ℕ, List, true, length, map, IfOk, OnOk};
 ghost use Rattle.std.specs.List.{All};
 ghost use Rattle.std.specs.Vec.{vec_items};
 ghost use Rattle.rx_model.specs.Expression.{Expression};
@@ -11,12 +11,13 @@ ghost use Rattle.rx_search.specs.declared.anchored.MatchKind.TheVariants.{Leftmo
 ghost use Rattle.rx_meta.specs.Build.{IsBuilt, patterns_for};
 ghost use Rattle.rx_meta.specs.Config.{ConfigValue, kind_of, utf8_of, prefilter_of, captures_of};
 ghost use Rattle.rx_meta.specs.Regex.{groups_in};
-ghost use Rattle.rx_scan.specs.Haystacks.{FindsRows};
+ghost use Rattle.rx_scan.specs.Haystacks.{FindsRows, HasRows};
 ghost use Rattle.rx_scan.specs.Row.{scan_rows};
 
 use crate::row::{Layout, Row};
 use rx_meta::{Regex, RegexFinder, WhichCaptures, a_search_is_for_its_patterns};
 use rx_search::{Gate, Input, Memory, Searcher};
+use rx_workers::{Task, do_all};
 use std::alloc::{AllocError, AllocFailed, Global};
 use std::sync::Wait;
 use std::thread::Threads;
@@ -61,8 +62,9 @@ impl From<ScanError> for Memory {
 /// of haystacks that are UTF-8 as all is that the patterns mean in them; and, where a prefilter was handed in, of patterns
 /// each match of which begins with one of its needles.
 ///
-/// It searches one haystack after another on the caller; `workers`, which is above 0, changes nothing yet. `gate` is told
-/// of each haystack before it is searched.
+/// So many workers search, but no more than haystacks: the caller, and each other in a thread of its own where one can be
+/// started. Each draws one haystack after another, so that their number changes no row. `gate` is told of each haystack before
+/// it is searched, by the worker that drew it.
 ///
 /// # Errors
 ///
@@ -80,7 +82,7 @@ impl From<ScanError> for Memory {
 /// }
 /// ```
 pub fn scan<R: Threads + Wait + Sync, G: Gate + Sync>(
-    _rt: &R,
+    rt: &R,
     alloc: Global,
     regex: &Regex,
     haystacks: &[&[u8]],
@@ -97,15 +99,59 @@ pub fn scan<R: Threads + Wait + Sync, G: Gate + Sync>(
         return no_rows(alloc, haystacks, gate);
     }
     let layout = Layout::new(alloc, regex.group_info())?;
-    // One finder, on the caller (DECISIONS: `run` hands the number of workers on to `scan`).
-    let mut finder = RegexFinder::new(alloc, regex)?;
-    let mut all = Vec::with_capacity(alloc, haystacks.len())?;
-    for (index, haystack) in haystacks.iter().enumerate() {
-        gate.reached(index);
-        let rows = find_rows(alloc, haystack, &layout, &mut finder)?;
-        all.push(rows)?;
+    let works = Works {
+        regex,
+        haystacks,
+        layout,
+        gate,
+    };
+    let caches = regex.get_config().get_pool_capacity();
+    let rows = do_all(rt, alloc, &works, workers, caches)?;
+    Ok(rows)
+}
+
+/// The works of a scan: the rows of each haystack.
+#[derive(Drop)]
+struct Works<'a, G> {
+    regex: &'a Regex,
+    haystacks: &'a [&'a [u8]],
+    layout: Layout<'a>,
+    gate: &'a G,
+    ghost own: { layout.groups.now ≡ groups_in regex.now },
+}
+
+impl<'a, G: Gate> Task for Works<'a, G> {
+    type Value = Vec<Row>;
+
+    type Scratch = RegexFinder<'a>;
+
+    ghost size = { λ w. length w.haystacks.now };
+
+    ghost answers = { λ w i rows. HasRows w.regex.now w.haystacks.now i rows.items };
+
+    ghost fits = { λ w f. f.regex.now ≡ w.regex.now };
+
+    fn count(&self) -> usize {
+        self.haystacks.len()
     }
-    Ok(all)
+
+    fn make(&self, alloc: Global) -> Result<RegexFinder<'a>, Memory> {
+        RegexFinder::new(alloc, self.regex)
+    }
+
+    fn fit(&self, alloc: Global, finder: &mut RegexFinder<'a>) -> Result<(), Memory> {
+        finder.refit(alloc, self.regex)
+    }
+
+    fn answer(
+        &self,
+        alloc: Global,
+        index: usize,
+        finder: &mut RegexFinder<'a>,
+    ) -> Result<Vec<Row>, Memory> {
+        self.gate.reached(index);
+        find_rows(alloc, self.haystacks[index], &self.layout, finder)
+    }
 }
 
 /// Whether the regex tells matches.
