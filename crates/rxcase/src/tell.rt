@@ -122,10 +122,8 @@ pub fn tell_set(told: &mut String, set: &PatternSet) -> Result<(), Failure> {
 }
 
 fn tell_number(told: &mut String, pattern: PatternID, is_first: bool) -> Result<(), AllocError> {
-    if !is_first {
-        told.push(' ')?;
-    }
-    write!(told, "{}", pattern.as_usize())
+    let parting = if is_first { "" } else { " " };
+    write!(told, "{parting}{}", pattern.as_usize())
 }
 
 /// Appends the pattern and, for each two slots, their span: `0: 3..5 -`.
