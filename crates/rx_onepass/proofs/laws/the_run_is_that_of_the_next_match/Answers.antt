@@ -1,0 +1,10 @@
+use Rattle.rx_onepass.proofs.lemmas.NextLemmas.{run-next}
+use Rattle.rx_onepass.proofs.lemmas.WalkLemmas as l1
+use Rattle.rx_onepass.proofs.lemmas.RunLemmas as l2
+use Rattle.rx_onepass.proofs.lemmas.StartLemmas as l3
+use Rattle.rx_onepass.proofs.lemmas.SlotLemmas as l4
+use Rattle.rx_onepass.proofs.lemmas.RangeLemmas as l5
+use Rattle.rx_onepass.proofs.laws.the_run_is_that_of_the_next_match.Goals as goal
+
+pub returns : goal.returns
+returns c = λ d v first. run-next d v first
