@@ -1,13 +1,16 @@
 -- The words of the command line.
 use Prim.Native.String.{String}
-use Rattle.std.specs.Prelude.{ℕ, ◌+◌, ◌-◌, ◌*◌, ◌<◌, Bool, true, false, not, ◌&&◌, ◌==◌, nat_eq, nat_le, List, [], ◌∷◌, Option, Some, None, option_map, codes, drop, if◌then◌else◌}
+use Rattle.std.specs.Prelude.{ℕ, ◌+◌, ◌-◌, ◌*◌, ◌^◌, ◌<◌, ◌≤◌, Bool, true, false, not, ◌&&◌, ◌==◌, nat_eq, nat_le, List, [], ◌∷◌, Option, Some, None, option_map, codes, drop, if◌then◌else◌}
 use Rattle.std.specs.List.{list_any, starts_with}
 use Rattle.std.specs.Option.{option_or}
 use Rattle.std.specs.Str.{bytes_eq}
 use Rattle.rx_reader.specs.Reading.{◌∈◌}
 use Rattle.rx_meta.specs.Config.{ConfigValue, nothing_set}
+use Rattle.rx_scan.specs.declared.arguments.Call.{Call}
+use Rattle.rx_scan.specs.declared.arguments.Call.TheVariants.{Reading, Generate}
 use Rattle.rx_scan.specs.declared.arguments.Command.{Command}
 use Rattle.rx_scan.specs.declared.arguments.Command.TheVariants.{Scanning, Explain}
+use Rattle.rx_scan.specs.declared.arguments.Generating.{Generating}
 use Rattle.rx_scan.specs.declared.arguments.Off.{Off}
 use Rattle.rx_scan.specs.declared.arguments.Scan.{Scan}
 
@@ -107,3 +110,50 @@ command_of (word ∷ options) =
     if bytes_eq word (codes "scan") then option_map Scanning (options_of options)
     else if bytes_eq word (codes "explain") then (if has_none options then Some Explain else None)
     else None
+
+-- the number that these digits go on with, while it is at most so much
+abbrev pub number_from : (most value : ℕ) → List ℕ → Option ℕ
+number_from most value [] = Some value
+number_from most value (b ∷ bytes) =
+    if is_digit_from 0 b && nat_le (value * 10 + digit b) most then number_from most (value * 10 + digit b) bytes else None
+
+-- a number up to this one, in decimal, without a sign or a needless leading zero
+abbrev pub number_of : (most : ℕ) → List ℕ → Option ℕ
+number_of most [] = None
+number_of most (b ∷ []) = number_from most 0 (b ∷ [])
+number_of most (b ∷ c ∷ bytes) = if is_digit_from 1 b then number_from most 0 (b ∷ c ∷ bytes) else None
+
+-- all three are there
+abbrev pub generating : (workers seed count : Option ℕ) → Option Generating
+generating None seed count = None
+generating (Some workers) None count = None
+generating (Some workers) (Some seed) None = None
+generating (Some workers) (Some seed) (Some count) = Some (record { seed = seed; count = count; workers = workers })
+
+-- the seed, how many haystacks, and the number of workers, which may be left out
+abbrev pub generating_of : List (List ℕ) → Option Generating
+generating_of [] = None
+generating_of (seed ∷ []) = None
+generating_of (seed ∷ count ∷ []) = generating (Some 4) (number_of 4294967295 seed) (number_of 1000000 count)
+generating_of (seed ∷ count ∷ workers ∷ []) = generating (workers_of workers) (number_of 4294967295 seed) (number_of 1000000 count)
+generating_of (seed ∷ count ∷ workers ∷ other ∷ words) = None
+
+-- what was asked for is within its limits
+abbrev pub IsGenerating : Generating → Type 0
+IsGenerating asked = (asked.seed < 2 ^ 32) × (asked.count ≤ 1000000) × (0 < asked.workers)
+
+abbrev pub IsCall : Call → Type 0
+IsCall (Reading command) = HasWorkers command
+IsCall (Generate asked) = IsGenerating asked
+
+-- what the words ask for: `gen` and its options, or a command over the input
+abbrev pub call_of : List (List ℕ) → Option Call
+call_of [] = None
+call_of (word ∷ options) =
+    if bytes_eq word (codes "gen") then option_map Generate (generating_of options) else option_map Reading (command_of (word ∷ options))
+
+-- the words are those of a command over the input
+abbrev pub is_reading : Option Call → Bool
+is_reading None = false
+is_reading (Some (Reading command)) = true
+is_reading (Some (Generate asked)) = false

@@ -1,6 +1,7 @@
 pub mod Answer
 pub mod Arguments
 pub mod Ends
+pub mod Generated
 pub mod Haystacks
 pub mod Input
 pub mod Layout
@@ -9,3 +10,4 @@ pub mod Row
 pub mod Run
 pub mod Slots
 pub mod Status
+pub mod Totals

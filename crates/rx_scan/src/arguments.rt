@@ -1,8 +1,8 @@
 //! The words of the command line.
-ghost use Rattle.std.specs.Prelude.{◌≡◌, ◌<◌, ◌∷◌, [], Some, None, codes, map, IfSome, if◌then◌else◌};
+ghost use Rattle.std.specs.Prelude.{◌≡◌, ◌<◌, ◌≤◌, ◌^◌, ◌∷◌, [], Some, None, codes, map, IfSome, if◌then◌else◌};
 ghost use Rattle.std.specs.String.{string_bytes};
 ghost use Rattle.rx_scan.specs.declared.arguments.Command.TheVariants.{Explain};
-ghost use Rattle.rx_scan.specs.Arguments.{HasWorkers, has_none, command_of, options_of, digit, is_digit_from, workers_of, off_of, are_letters, is_letter, has, switched_off, config_without};
+ghost use Rattle.rx_scan.specs.Arguments.{HasWorkers, IsGenerating, IsCall, call_of, generating_of, generating, number_of, number_from, has_none, command_of, options_of, digit, is_digit_from, workers_of, off_of, are_letters, is_letter, has, switched_off, config_without};
 
 use rx_meta::Config;
 
@@ -40,6 +40,26 @@ pub enum Command {
     Explain,
 }
 
+/// Haystacks that are asked for.
+#[derive(Clone, Copy, Debug, PartialEq, Eq)]
+pub struct Generating {
+    /// What they are drawn from.
+    pub seed: usize,
+    /// How many there are.
+    pub count: usize,
+    /// How many workers search them.
+    pub workers: usize,
+}
+
+/// What the words ask for, with an input or without.
+#[derive(Clone, Copy, Debug, PartialEq, Eq)]
+pub enum Call {
+    /// A command over the input.
+    Reading(Command),
+    /// Haystacks that a number gives, and what a scan of them finds. No input is read.
+    Generate(Generating),
+}
+
 impl Off {
     /// Nothing is switched off.
     pub const NOTHING: Off = Off {
@@ -66,7 +86,92 @@ impl Off {
 /// The number of workers where the words name none.
 const WORKERS: usize = 4;
 
-/// What the words ask for: `explain` alone; or `scan`, then the number of workers, then what is switched off, of which both may be left
+/// The greatest seed.
+const SEED_LIMIT: usize = 4294967295;
+
+/// The most haystacks that may be generated.
+const COUNT_LIMIT: usize = 1000000;
+
+/// What the words ask for: `gen`, then a seed, a number of haystacks, and the number of workers, which may be left out; or a command
+/// over the input. None where they are neither.
+pub fn call_of(words: &[String]) -> Option<Call>
+    ensures value { result ≡ call_of (map string_bytes words.now) }
+    ensures within { IfSome result IsCall }
+{
+    let (name, options) = words.split_first()?;
+    if name.as_str() == "gen" {
+        return Some(Call::Generate(generating_of(options)?));
+    }
+    Some(Call::Reading(command_of(words)?))
+}
+
+/// What the options of `gen` ask for.
+fn generating_of(options: &[String]) -> Option<Generating>
+    ensures value { result ≡ generating_of (map string_bytes options.now) }
+    ensures within { IfSome result IsGenerating }
+{
+    match options {
+        [seed, count] => generating(WORKERS, seed.as_bytes(), count.as_bytes()),
+        [seed, count, workers] => {
+            let workers = workers_of(workers.as_bytes())?;
+            generating(workers, seed.as_bytes(), count.as_bytes())
+        }
+        _ => None,
+    }
+}
+
+/// The same with this number of workers.
+fn generating(workers: usize, seed: &[u8], count: &[u8]) -> Option<Generating>
+    requires { 0 < workers }
+    ensures value { result ≡ generating (Some workers) (number_of 4294967295 seed.now) (number_of 1000000 count.now) }
+    ensures within { IfSome result IsGenerating }
+{
+    Some(Generating {
+        seed: number_of(SEED_LIMIT, seed)?,
+        count: number_of(COUNT_LIMIT, count)?,
+        workers,
+    })
+}
+
+/// A number up to `most`, in decimal, without a sign or a needless leading zero.
+fn number_of(most: usize, word: &[u8]) -> Option<usize>
+    requires { most < 2 ^ 32 }
+    ensures value { result ≡ number_of most word.now }
+    ensures within { IfSome result (λ n. n ≤ most) }
+{
+    match word {
+        [] => None,
+        [_digit] => number_from(most, 0, word),
+        [first, ..] => {
+            if !is_digit_from(1, *first) {
+                return None;
+            }
+            number_from(most, 0, word)
+        }
+    }
+}
+
+/// The number that these digits go on with from this one, while it is at most `most`.
+fn number_from(most: usize, value: usize, digits: &[u8]) -> Option<usize>
+    requires most { most < 2 ^ 32 }
+    requires value { value ≤ most }
+    ensures value { result ≡ number_from most value digits.now }
+    ensures within { IfSome result (λ n. n ≤ most) }
+{
+    let Some((first, others)) = digits.split_first() else {
+        return Some(value);
+    };
+    if !is_digit_from(0, *first) {
+        return None;
+    }
+    let value = value * 10 + digit(*first);
+    if value > most {
+        return None;
+    }
+    number_from(most, value, others)
+}
+
+/// What the words ask for of an input: `explain` alone; or `scan`, then the number of workers, then what is switched off, of which both may be left
 /// out. None where they are not those of a command.
 pub fn command_of(words: &[String]) -> Option<Command>
     ensures value { result ≡ command_of (map string_bytes words.now) }

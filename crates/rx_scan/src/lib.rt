@@ -8,6 +8,7 @@
 mod answer;
 mod arguments;
 mod ends;
+mod generate;
 mod haystacks;
 mod input;
 mod output;
@@ -15,6 +16,7 @@ mod program;
 mod row;
 mod size;
 mod status;
+mod totals;
 
 pub use ends::{
     Bytes, BytesSure, Failed, Kept, KeptSure, Sink, Source, StandardInput, StandardOutput,
