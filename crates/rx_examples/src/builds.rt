@@ -1,14 +1,14 @@
 //! Configurations, and patterns that are refused.
 
 use crate::answers::whole;
-use rx_meta::{Builder, Prefilter, Regex};
-use rx_search::{Input, MatchKind};
+use rx_meta::{BuildError, Builder, Config, Prefilter, Regex};
+use rx_search::{Input, MatchKind, Memory};
 use rx_syntax::SyntaxErrorKind;
+use std::alloc::Global;
 use std::test::Fail;
 
-#[test]
-fn a_configuration(rt: HostRuntime) -> Result<(), Fail> {
-    let alloc = rt.alloc();
+/// A regex whose lines end at `;`, and that takes letters of either case.
+fn lines_of_a(alloc: Global) -> Result<Regex, BuildError> {
     let mut builder = Builder::new();
     builder.syntax(
         rx_syntax::Config::new()
@@ -17,19 +17,38 @@ fn a_configuration(rt: HostRuntime) -> Result<(), Fail> {
     );
     builder.configure(Regex::config().line_terminator(b';'));
     let regex = builder.build(alloc, "^a$")?;
+    Ok(regex)
+}
+
+#[test]
+fn a_configuration(rt: HostRuntime) -> Result<(), Fail> {
+    let alloc = rt.alloc();
+    let regex = lines_of_a(alloc)?;
     let found = regex.find(&rt, alloc, &Input::new(b"x;A;"))?;
     assert_eq!(rt; whole(found), Some((0, 2, 3)));
     Ok(())
 }
 
+/// A configuration into which a prefilter is handed.
+fn handing_in(alloc: Global) -> Result<Config, Memory> {
+    let needles = [Vec::from_slice(alloc, b"key=")?];
+    let pre = Prefilter::new(alloc, MatchKind::LeftmostFirst, &needles)?;
+    let config = Regex::config().prefilter(pre);
+    Ok(config)
+}
+
+/// A regex of this configuration, each match of which begins with the needle.
+fn keys(alloc: Global, config: Config) -> Result<Regex, BuildError> {
+    let mut builder = Regex::builder();
+    builder.configure(config);
+    let regex = builder.build(alloc, r"key=\d+|key=on")?;
+    Ok(regex)
+}
+
 #[test]
 fn a_prefilter(rt: HostRuntime) -> Result<(), Fail> {
     let alloc = rt.alloc();
-    let needles = [Vec::from_slice(alloc, b"key=")?];
-    let pre = Prefilter::new(alloc, MatchKind::LeftmostFirst, &needles)?;
-    let mut builder = Regex::builder();
-    builder.configure(Regex::config().prefilter(pre));
-    let regex = builder.build(alloc, r"key=\d+|key=on")?;
+    let regex = keys(alloc, handing_in(alloc)?)?;
     let found = regex.find(&rt, alloc, &Input::new(b"a key=on"))?;
     assert_eq!(rt; whole(found), Some((0, 2, 8)));
     Ok(())
@@ -49,13 +68,18 @@ fn a_refused_pattern(rt: HostRuntime) -> Result<(), Fail> {
     Ok(())
 }
 
-#[test]
-fn a_refusal_says_which_pattern_and_why(rt: HostRuntime) -> Result<(), Fail> {
-    let alloc = rt.alloc();
+/// The text of a refusal.
+fn refusal(alloc: Global) -> Result<String, Fail> {
     let error = Regex::new_many(alloc, &["a", "(b"]).err();
     let error = error.ok_or("no refusal")?;
     let cause = error.syntax_error().ok_or("no cause")?;
     let text = format!(in alloc; "{error}: {} at {}", cause.kind, cause.start)?;
+    Ok(text)
+}
+
+#[test]
+fn a_refusal_says_which_pattern_and_why(rt: HostRuntime) -> Result<(), Fail> {
+    let text = refusal(rt.alloc())?;
     assert_eq!(rt;
         text.as_str(),
         "error parsing pattern 1: unclosed group at 0"

@@ -6,6 +6,8 @@ mod answers;
 #[cfg(test)]
 mod builds;
 #[cfg(test)]
+mod loops;
+#[cfg(test)]
 mod scans;
 #[cfg(test)]
 mod searches;

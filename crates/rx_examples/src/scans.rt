@@ -3,14 +3,19 @@
 use rx_meta::Regex;
 use rx_scan::{BytesSure, KeptSure, run, scan};
 use rx_search::Open;
+use std::alloc::Global;
+use std::sync::Wait;
 use std::test::Fail;
+use std::thread::Threads;
 
-#[test]
-fn all_matches_with_groups(rt: HostRuntime) -> Result<(), Fail> {
-    let alloc = rt.alloc();
-    let regex = Regex::new(alloc, "([a-z]+)=([0-9]+)?")?;
+/// Adds where the key of each setting stands.
+fn keys_of<R: Threads + Wait + Sync>(
+    rt: &R,
+    alloc: Global,
+    regex: &Regex,
+    keys: &mut Vec<(usize, usize)>,
+) -> Result<(), Fail> {
     let line: &[u8] = b"ab=12 c=";
-    let mut keys = Vec::new(alloc);
     for rows in &scan(&rt, alloc, &regex, &[line], 1, &Open)? {
         for row in rows {
             if let [_, _, Some(start), Some(end), ..] = row.slots.as_slice() {
@@ -18,6 +23,15 @@ fn all_matches_with_groups(rt: HostRuntime) -> Result<(), Fail> {
             }
         }
     }
+    Ok(())
+}
+
+#[test]
+fn all_matches_with_groups(rt: HostRuntime) -> Result<(), Fail> {
+    let alloc = rt.alloc();
+    let regex = Regex::new(alloc, "([a-z]+)=([0-9]+)?")?;
+    let mut keys = Vec::new(alloc);
+    keys_of(&rt, alloc, &regex, &mut keys)?;
     assert_eq!(rt; keys.as_slice(), [(0, 2), (6, 7)].as_slice());
     Ok(())
 }

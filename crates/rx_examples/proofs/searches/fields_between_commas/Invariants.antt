@@ -1,5 +1,0 @@
-use Rattle.rx_meta.specs.Iterators.{most_gaps_left}
-use Rattle.rx_examples.proofs.searches.fields_between_commas.Given as goal
-
-abbrev pub decreases-loop-field : goal.decreases-loop-field
-decreases-loop-field g l = most_gaps_left l.fields
