@@ -106,7 +106,7 @@ fn several_patterns(rt: HostRuntime) {
 }
 
 /// The bytes that are accounted for a pattern.
-fn accounted(alloc: Global, pattern: &str) -> Option<usize> {
+fn accounted(alloc: Global, pattern: &str) -> Option<u64> {
     match parse(alloc, pattern) {
         Ok(hir) => Some(cost(&hir)),
         Err(_) => None,
