@@ -1,13 +1,9 @@
-//! Tests that cross crates: runs over ends in memory, ends that fail, patterns that cost much, and scans. The tables of runs of the whole program
-//! stand in `tests/` at the top of the repository.
+//! Tests that cross crates: runs over ends in memory, ends that fail, and scans. The tables of runs of the whole program, with patterns that cost
+//! much, stand in `tests/` at the top of the repository.
 #![tactic(auto)]
 
 #[cfg(test)]
 mod ends;
-#[cfg(test)]
-mod hostile;
-#[cfg(test)]
-mod rows;
 #[cfg(test)]
 mod scans;
 #[cfg(test)]

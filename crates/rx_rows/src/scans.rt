@@ -1,17 +1,17 @@
 //! Scans with several workers.
 
-ghost use Rattle.std.specs.Prelude.{◌<◌};
-
-use crate::words::words_of;
+use crate::ends::{sink_of, source_of, status_of};
 use rx_meta::{Regex, WhichCaptures};
-use rx_scan::{BytesSure, KeptSure, Row, Slots, run, scan};
+use rx_scan::{Row, Slots, scan};
 use rx_search::{Gate, NonMaxUsize, Open};
 use std::alloc::Global;
 use std::process::Abort;
 use std::sync::Wait;
 use std::sync::atomic::{AtomicU64, Ordering};
-use std::test::Fail;
 use std::thread::Threads;
+
+/// A row: the number of its pattern, and the places in its slots.
+type Told = (usize, &'static [Option<usize>]);
 
 /// The place that a slot holds.
 fn place(slot: Option<NonMaxUsize>) -> Option<usize> {
@@ -21,45 +21,89 @@ fn place(slot: Option<NonMaxUsize>) -> Option<usize> {
     }
 }
 
-/// The row is of this pattern, with these places.
-fn expect_row(rt: &impl Abort, row: &Row, pattern: usize, places: &[Option<usize>]) {
-    assert_eq!(rt; row.pattern.as_usize(), pattern);
-    let slots = row.slots.as_slice();
-    assert_eq!(rt; slots.len(), places.len());
-    for k in 0..places.len() {
-        if k < slots.len() {
-            assert_eq!(rt; place(slots[k]), places[k]);
+/// Whether the slots hold these places.
+fn hold(slots: &[Option<NonMaxUsize>], places: &[Option<usize>]) -> bool {
+    for k in 0..slots.len() {
+        if k >= places.len() || place(slots[k]) != places[k] {
+            return false;
         }
+    }
+    slots.len() == places.len()
+}
+
+/// Whether these are the rows of a haystack.
+fn are_told(rows: &[Row], told: &[Told]) -> bool {
+    for k in 0..rows.len() {
+        if k >= told.len() {
+            return false;
+        }
+        let (pattern, places) = told[k];
+        if rows[k].pattern.as_usize() != pattern || !hold(rows[k].slots.as_slice(), places) {
+            return false;
+        }
+    }
+    rows.len() == told.len()
+}
+
+/// Whether these are the rows of each haystack.
+fn are_all_told(rows: &[Vec<Row>], told: &[&[Told]]) -> bool {
+    for k in 0..rows.len() {
+        if k >= told.len() || !are_told(&rows[k], told[k]) {
+            return false;
+        }
+    }
+    rows.len() == told.len()
+}
+
+/// Whether a scan of the haystacks, by so many workers, gives these rows.
+fn scans_so<R: Threads + Wait + Sync + Abort>(
+    rt: &R,
+    alloc: Global,
+    regex: &Regex,
+    haystacks: &[&[u8]],
+    workers: usize,
+    told: &[&[Told]],
+) -> bool {
+    let rows = scan(rt, alloc, regex, haystacks, workers.max(1), &Open);
+    are_all_told(&rows.ok().expect(rt, "memory"), told)
+}
+
+/// What a scan of `xab`, of nothing and of `ca` tells for two patterns.
+const THREE: [&[Told]; 3] = [
+    &[(0, &[Some(1), Some(3), Some(2), Some(3)])],
+    &[],
+    &[
+        (1, &[Some(0), Some(1)]),
+        (0, &[Some(1), Some(2), None, None]),
+    ],
+];
+
+/// Whether so many workers scan three haystacks for two patterns.
+fn scan_three<R: Threads + Wait + Sync + Abort>(rt: &R, alloc: Global, workers: usize) -> bool {
+    let regex = Regex::new_many(alloc, &["a(b)?", "c"]);
+    let regex = regex.ok().expect(rt, "a regex");
+    scans_so(rt, alloc, &regex, &[b"xab", b"", b"ca"], workers, &THREE)
+}
+
+/// One worker, two, and more than there are haystacks.
+#[test]
+fn the_number_of_workers_changes_no_row(rt: HostRuntime) {
+    for workers in [1, 2, 64] {
+        assert!(rt; scan_three(&rt, rt.alloc(), workers));
     }
 }
 
-/// Scans three haystacks for two patterns.
-fn expect_rows<R: Threads + Wait + Sync + Abort>(
-    rt: &R,
-    alloc: Global,
-    workers: usize,
-) -> Result<(), Fail>
-    requires { 0 < workers }
-{
-    let regex = Regex::new_many(alloc, &["a(b)?", "c"]);
-    let regex = regex.ok().expect(rt, "a regex");
-    let haystacks: [&[u8]; 3] = [b"xab", b"", b"ca"];
-    let rows = scan(rt, alloc, &regex, &haystacks, workers, &Open);
-    let rows = rows.ok().expect(rt, "memory");
-    assert_eq!(rt; rows.len(), 3);
-    assert_eq!(rt; rows[0].len(), 1);
-    expect_row(rt, &rows[0][0], 0, &[Some(1), Some(3), Some(2), Some(3)]);
-    assert_eq!(rt; rows[1].len(), 0);
-    assert_eq!(rt; rows[2].len(), 2);
-    expect_row(rt, &rows[2][0], 1, &[Some(0), Some(1)]);
-    expect_row(rt, &rows[2][1], 0, &[Some(1), Some(2), None, None]);
-    Ok(())
+/// Whether slots that are made of a vector come back in one.
+fn come_back(rt: &impl Abort, alloc: Global, places: &[Option<NonMaxUsize>]) -> bool {
+    let slots = Slots::new(Vec::from_slice(alloc, places).ok().expect(rt, "memory"));
+    let are_there = slots.as_slice() == places;
+    let slots = slots.into_vec(alloc).ok().expect(rt, "memory");
+    are_there && slots.as_slice() == places
 }
 
-/// Slots that are made of a vector come back in one, whether or not they are kept in it.
+/// Whether or not they are kept in it.
 #[test]
-fn a_rows_slots_come_back(rt: HostRuntime) -> Result<(), Fail> {
-    let alloc = rt.alloc();
+fn a_rows_slots_come_back(rt: HostRuntime) {
     let places = [
         NonMaxUsize::new(1),
         None,
@@ -67,54 +111,29 @@ fn a_rows_slots_come_back(rt: HostRuntime) -> Result<(), Fail> {
         NonMaxUsize::new(3),
     ];
     for len in 0..places.len() + 1 {
-        let slots = Slots::new(Vec::from_slice(alloc, &places[..len])?);
-        assert!(rt; slots.as_slice() == &places[..len]);
-        let slots = slots.into_vec(alloc).ok().expect(&rt, "memory");
-        assert!(rt; slots.as_slice() == &places[..len]);
+        assert!(rt; come_back(&rt, rt.alloc(), &places[..len]));
     }
-    Ok(())
 }
 
-/// The rows of `(a)b` in `xab` where these groups are told.
-fn rows_where_told(
-    rt: &(impl Threads + Wait + Sync + Abort),
+/// Whether the rows of `(a)b` in `xab` are these where these groups are told.
+fn are_told_under<R: Threads + Wait + Sync + Abort>(
+    rt: &R,
     alloc: Global,
     which: WhichCaptures,
-) -> Result<Vec<Vec<Row>>, Fail> {
+    told: &[&[Told]],
+) -> bool {
     let mut builder = Regex::builder();
     builder.configure(Regex::config().which_captures(which));
-    let regex = builder.build(alloc, "(a)b");
-    let regex = regex.ok().expect(rt, "a regex");
-    let haystacks: [&[u8]; 1] = [b"xab"];
-    let rows = scan(rt, alloc, &regex, &haystacks, 1, &Open);
-    Ok(rows.ok().expect(rt, "memory"))
+    let regex = builder.build(alloc, "(a)b").ok().expect(rt, "a regex");
+    scans_so(rt, alloc, &regex, &[b"xab"], 1, told)
 }
 
 #[test]
-fn groups_that_are_left_out_have_no_place(rt: HostRuntime) -> Result<(), Fail> {
-    let rows = rows_where_told(&rt, rt.alloc(), WhichCaptures::Implicit)?;
-    assert_eq!(rt; rows.len(), 1);
-    assert_eq!(rt; rows[0].len(), 1);
-    expect_row(&rt, &rows[0][0], 0, &[Some(1), Some(3), None, None]);
-    let rows = rows_where_told(&rt, rt.alloc(), WhichCaptures::None)?;
-    assert_eq!(rt; rows.len(), 1);
-    assert_eq!(rt; rows[0].len(), 0);
-    Ok(())
-}
-
-#[test]
-fn one_worker(rt: HostRuntime) -> Result<(), Fail> {
-    expect_rows(&rt, rt.alloc(), 1)
-}
-
-#[test]
-fn two_workers(rt: HostRuntime) -> Result<(), Fail> {
-    expect_rows(&rt, rt.alloc(), 2)
-}
-
-#[test]
-fn more_workers_than_haystacks(rt: HostRuntime) -> Result<(), Fail> {
-    expect_rows(&rt, rt.alloc(), 64)
+fn groups_that_are_left_out_have_no_place(rt: HostRuntime) {
+    let whole: [&[Told]; 1] = [&[(0, &[Some(1), Some(3), None, None])]];
+    assert!(rt; are_told_under(&rt, rt.alloc(), WhichCaptures::Implicit, &whole));
+    let none: [&[Told]; 1] = [&[]];
+    assert!(rt; are_told_under(&rt, rt.alloc(), WhichCaptures::None, &none));
 }
 
 /// A gate that is told of haystacks: the bits of those that it was told of, each of which comes after all before it, and
@@ -133,6 +152,14 @@ impl InOrder {
             calls: AtomicU64::new(0),
         }
     }
+
+    /// The bits, and how often it was told.
+    fn seen(&self) -> (u64, u64) {
+        (
+            self.told.load(Ordering::SeqCst),
+            self.calls.load(Ordering::SeqCst),
+        )
+    }
 }
 
 impl Gate for InOrder {
@@ -146,21 +173,26 @@ impl Gate for InOrder {
     }
 }
 
+/// What the gate of a scan of three haystacks was told.
+fn seen_in_scan<R: Threads + Wait + Sync + Abort>(rt: &R, alloc: Global) -> (u64, u64) {
+    let regex = Regex::new(alloc, "a").ok().expect(rt, "a regex");
+    let gate = InOrder::new();
+    let rows = scan(rt, alloc, &regex, &[b"a", b"", b"ba"], 1, &gate);
+    rows.ok().expect(rt, "memory");
+    gate.seen()
+}
+
+/// What the gate of a run over four haystacks was told.
+fn seen_in_run<R: Threads + Wait + Sync + Abort>(rt: &R, alloc: Global) -> (u64, u64) {
+    let mut source = source_of(rt, alloc, b"a\n\na\n\nba\nb", (64, &[]));
+    let mut sink = sink_of(rt, alloc, (64, &[]));
+    let gate = InOrder::new();
+    status_of(rt, alloc, &["scan"], &mut source, &mut sink, &gate);
+    gate.seen()
+}
+
 #[test]
-fn the_gate_is_told_of_each_haystack_once_in_order(rt: HostRuntime) -> Result<(), Fail> {
-    let alloc = rt.alloc();
-    let regex = Regex::new(alloc, "a").ok().expect(&rt, "a regex");
-    let haystacks: [&[u8]; 3] = [b"a", b"", b"ba"];
-    let gate = InOrder::new();
-    assert!(rt; scan(&rt, alloc, &regex, &haystacks, 1, &gate).is_ok());
-    assert_eq!(rt; gate.told.load(Ordering::SeqCst), 0b111);
-    assert_eq!(rt; gate.calls.load(Ordering::SeqCst), 3);
-    let gate = InOrder::new();
-    let words = words_of(alloc, &["scan"])?;
-    let mut source = BytesSure::new(Vec::from_slice(alloc, b"a\n\na\n\nba\nb")?);
-    let mut sink = KeptSure::new(alloc);
-    assert_eq!(rt; run(&rt, alloc, &words, &mut source, &mut sink, &gate), 0);
-    assert_eq!(rt; gate.told.load(Ordering::SeqCst), 0b1111);
-    assert_eq!(rt; gate.calls.load(Ordering::SeqCst), 4);
-    Ok(())
+fn the_gate_is_told_of_each_haystack_once_in_order(rt: HostRuntime) {
+    assert!(rt; seen_in_scan(&rt, rt.alloc()) == (0b111, 3));
+    assert!(rt; seen_in_run(&rt, rt.alloc()) == (0b1111, 4));
 }
