@@ -509,19 +509,30 @@ fn held_under<R: Abort + Wait>(
     }
 }
 
+/// A kind of captures, a text, and what is held after its search.
+const HELD: [(WhichCaptures, &str, Held); 6] = [
+    (WhichCaptures::All, "xb", (None, None, None)),
+    (WhichCaptures::Implicit, "xb", (None, None, None)),
+    (
+        WhichCaptures::All,
+        "xab",
+        (Some(0), Some((1, 3)), Some((2, 3))),
+    ),
+    (WhichCaptures::All, "xa", (Some(0), Some((1, 2)), None)),
+    (
+        WhichCaptures::Implicit,
+        "xab",
+        (Some(0), Some((1, 3)), None),
+    ),
+    (WhichCaptures::None, "xab", (None, None, None)),
+];
+
 #[test]
 fn captures_hold_what_a_search_tells(rt: HostRuntime) {
-    let alloc = rt.alloc();
-    let nothing = Some((None, None, None));
-    assert!(rt; held_under(&rt, alloc, WhichCaptures::All, "xb") == nothing);
-    assert!(rt; held_under(&rt, alloc, WhichCaptures::Implicit, "xb") == nothing);
-    let told = held_under(&rt, alloc, WhichCaptures::All, "xab");
-    assert!(rt; told == Some((Some(0), Some((1, 3)), Some((2, 3)))));
-    let told = held_under(&rt, alloc, WhichCaptures::All, "xa");
-    assert!(rt; told == Some((Some(0), Some((1, 2)), None)));
-    let told = held_under(&rt, alloc, WhichCaptures::Implicit, "xab");
-    assert!(rt; told == Some((Some(0), Some((1, 3)), None)));
-    assert!(rt; held_under(&rt, alloc, WhichCaptures::None, "xab") == nothing);
+    for (which, text, wanted) in HELD {
+        let held = held_under(&rt, rt.alloc(), which, text);
+        assert!(rt; held == Some(wanted));
+    }
 }
 
 /// What is known of the groups of these patterns: how many there are, and how many are told of each match.

@@ -1,16 +1,16 @@
 //! Tests of regexes.
 ghost use Rattle.rx_meta.specs.Cache.{Fits};
 
+use crate::iterators::within;
 use rx_hir::Hir;
 use rx_meta::{BuildError, Builder, Cache, Config, Prefilter, Regex, RegexFinder, WhichCaptures};
 use rx_search::{
     Anchored, HalfMatch, Input, Match, MatchKind, Memory, NonMaxUsize, PatternID, Searcher,
 };
-use rx_syntax::{SyntaxErrorKind, parse};
+use rx_syntax::parse;
 use std::alloc::Global;
 use std::process::Abort;
 use std::sync::Wait;
-use std::test::Fail;
 
 /// The regex of a pattern.
 fn regex_of(rt: &impl Abort, alloc: Global, pattern: &str) -> Regex {
@@ -80,14 +80,34 @@ fn number(found: Option<PatternID>) -> Option<usize> {
 
 /// What the searches of an input tell: the match, the same by another call, its half, its pattern, and what it leaves in
 /// four slots that held places before.
-#[derive(Clone, Copy)]
-pub(crate) struct Told {
-    found: Option<(usize, usize, usize)>,
-    again: Option<(usize, usize, usize)>,
-    half: Option<(usize, usize)>,
-    pattern: Option<usize>,
-    span: (Option<usize>, Option<usize>),
-    group: (Option<usize>, Option<usize>),
+pub(crate) type Told = (
+    Option<(usize, usize, usize)>,
+    Option<(usize, usize, usize)>,
+    Option<(usize, usize)>,
+    Option<usize>,
+    [Option<usize>; 4],
+);
+
+/// What is told of the match of `a(b)?` in `xab`.
+const AB: Told = (
+    Some((0, 1, 3)),
+    Some((0, 1, 3)),
+    Some((0, 3)),
+    Some(0),
+    [Some(1), Some(3), Some(2), Some(3)],
+);
+
+/// What is told of no match.
+pub(crate) const NOTHING: Told = (None, None, None, None, [None; 4]);
+
+/// The places that the slots hold.
+fn places(slots: &[Option<NonMaxUsize>; 4]) -> [Option<usize>; 4] {
+    [
+        place(slots[0]),
+        place(slots[1]),
+        place(slots[2]),
+        place(slots[3]),
+    ]
 }
 
 /// By the calls that make a cache.
@@ -102,14 +122,13 @@ pub(crate) fn told_by<R: Abort + Wait>(
     let ended = regex.search_half(rt, alloc, input).ok();
     let mut slots = [NonMaxUsize::new(9); 4];
     let pattern = regex.search_slots(rt, alloc, input, &mut slots).ok();
-    Told {
-        found: whole(searched.expect(rt, "memory")),
-        again: whole(found.expect(rt, "memory")),
-        half: half(ended.expect(rt, "memory")),
-        pattern: number(pattern.expect(rt, "memory")),
-        span: (place(slots[0]), place(slots[1])),
-        group: (place(slots[2]), place(slots[3])),
-    }
+    (
+        whole(searched.expect(rt, "memory")),
+        whole(found.expect(rt, "memory")),
+        half(ended.expect(rt, "memory")),
+        number(pattern.expect(rt, "memory")),
+        places(&slots),
+    )
 }
 
 /// By the calls that take a cache.
@@ -123,34 +142,13 @@ fn told_with(rt: &impl Abort, regex: &Regex, cache: &mut Cache, input: &Input<'_
     let pattern = regex.search_slots_with(cache, input, &mut slots).ok();
     let mut slots = [NonMaxUsize::new(9); 4];
     let found = regex.search_match_with(cache, input, &mut slots).ok();
-    Told {
-        found: whole(searched.expect(rt, "memory")),
-        again: whole(found.expect(rt, "memory")),
-        half: half(ended.expect(rt, "memory")),
-        pattern: number(pattern.expect(rt, "memory")),
-        span: (place(slots[0]), place(slots[1])),
-        group: (place(slots[2]), place(slots[3])),
-    }
-}
-
-/// They tell the match of `a(b)?` in `xab`.
-fn is_told(rt: &impl Abort, told: &Told) {
-    assert!(rt; told.found == Some((0, 1, 3)));
-    assert!(rt; told.again == Some((0, 1, 3)));
-    assert!(rt; told.half == Some((0, 3)));
-    assert!(rt; told.pattern == Some(0));
-    assert!(rt; told.span == (Some(1), Some(3)));
-    assert!(rt; told.group == (Some(2), Some(3)));
-}
-
-/// They tell nothing.
-pub(crate) fn is_silent(rt: &impl Abort, told: &Told) {
-    assert!(rt; told.found == None);
-    assert!(rt; told.again == None);
-    assert!(rt; told.half == None);
-    assert!(rt; told.pattern == None);
-    assert!(rt; told.span == (None, None));
-    assert!(rt; told.group == (None, None));
+    (
+        whole(searched.expect(rt, "memory")),
+        whole(found.expect(rt, "memory")),
+        half(ended.expect(rt, "memory")),
+        number(pattern.expect(rt, "memory")),
+        places(&slots),
+    )
 }
 
 /// Whether there is a match.
@@ -163,54 +161,76 @@ pub(crate) fn matches_in<R: Abort + Wait>(
     regex.is_match(rt, alloc, input).ok().expect(rt, "memory")
 }
 
-#[test]
-fn each_call_makes_a_cache(rt: HostRuntime) {
-    let alloc = rt.alloc();
-    let regex = regex_of(&rt, alloc, "a(b)?");
-    let input = Input::new(b"xab");
-    assert!(rt; matches_in(&rt, alloc, &regex, &input));
-    is_told(&rt, &told_by(&rt, alloc, &regex, &input));
+/// Whether the calls that make a cache tell this.
+fn tell<R: Abort + Wait>(rt: &R, alloc: Global, regex: &Regex, text: &[u8], wanted: Told) -> bool {
+    told_by(rt, alloc, regex, &Input::new(text)) == wanted
+}
+
+/// Whether those that take a cache tell this.
+fn tell_with(rt: &impl Abort, regex: &Regex, cache: &mut Cache, text: &[u8], wanted: Told) -> bool
+    requires { Fits regex.now cache.old }
+    ensures { Fits regex.now cache.new }
+{
+    told_with(rt, regex, cache, &Input::new(text)) == wanted
+}
+
+/// Whether the calls of the regex tell the match of `a(b)?` in `xab`, and none in `xb`, also by a cache that they used before.
+fn are_told<R: Abort + Wait>(rt: &R, alloc: Global, regex: &Regex) -> bool {
+    let mut cache = cache_of(rt, alloc, regex);
+    tell(rt, alloc, regex, b"xab", AB)
+        && tell_with(rt, regex, &mut cache, b"xab", AB)
+        && tell_with(rt, regex, &mut cache, b"xb", NOTHING)
 }
 
 #[test]
-fn each_call_takes_a_cache(rt: HostRuntime) {
-    let alloc = rt.alloc();
-    let regex = regex_of(&rt, alloc, "a(b)?");
-    let mut cache = cache_of(&rt, alloc, &regex);
-    is_told(
-        &rt,
-        &told_with(&rt, &regex, &mut cache, &Input::new(b"xab")),
-    );
-    is_silent(&rt, &told_with(&rt, &regex, &mut cache, &Input::new(b"xb")));
+fn each_call_makes_a_cache_or_takes_one(rt: HostRuntime) {
+    let regex = regex_of(&rt, rt.alloc(), "a(b)?");
+    assert!(rt; are_told(&rt, rt.alloc(), &regex));
+}
+
+/// A cache of the first regex that was made one of the second.
+fn made_over(rt: &impl Abort, alloc: Global, first: &Regex, second: &Regex) -> Cache
+    ensures { Fits second.now result }
+{
+    let mut cache = cache_of(rt, alloc, first);
+    reset(rt, alloc, &mut cache, second);
+    cache
 }
 
 #[test]
 fn a_cache_is_reset_for_another_regex(rt: HostRuntime) {
-    let alloc = rt.alloc();
-    let first = regex_of(&rt, alloc, "a");
-    let second = regex_of(&rt, alloc, "(b)(c)?");
-    let mut cache = cache_of(&rt, alloc, &first);
-    reset(&rt, alloc, &mut cache, &second);
-    let again = cache.clone(alloc).ok().expect(&rt, "a cache");
-    assert_eq!(rt; again.memory_usage(), cache.memory_usage());
-    let told = told_with(&rt, &second, &mut cache, &Input::new(b"xb"));
-    assert!(rt; told.pattern == Some(0));
-    assert!(rt; told.span == (Some(1), Some(2)));
-    assert!(rt; told.group == (Some(1), Some(2)));
+    let first = regex_of(&rt, rt.alloc(), "a");
+    let second = regex_of(&rt, rt.alloc(), "a(b)?");
+    let mut cache = made_over(&rt, rt.alloc(), &first, &second);
+    assert!(rt; tell_with(&rt, &second, &mut cache, b"xab", AB));
+}
+
+/// What is accounted for a cache, and for a copy of it.
+fn copied(rt: &impl Abort, alloc: Global, cache: &Cache) -> (usize, usize) {
+    let again = cache.clone(alloc).ok().expect(rt, "a cache");
+    (cache.memory_usage(), again.memory_usage())
+}
+
+#[test]
+fn a_copy_of_a_cache_is_accounted_as_much(rt: HostRuntime) {
+    let regex = regex_of(&rt, rt.alloc(), "a(b)?");
+    let (memory, again) = copied(&rt, rt.alloc(), &cache_of(&rt, rt.alloc(), &regex));
+    assert_eq!(rt; again, memory);
+}
+
+/// Whether a copy of the regex answers as it does.
+fn copy_answers<R: Abort + Wait>(rt: &R, alloc: Global, source: &Regex) -> bool {
+    let copy = source.clone().ok().expect(rt, "memory");
+    are_told(rt, alloc, &copy)
+        && copy.get_config().get_line_terminator() == b';'
+        && copy.memory_usage() == source.memory_usage()
 }
 
 #[test]
 fn a_clone_answers_as_its_source(rt: HostRuntime) {
-    let alloc = rt.alloc();
     let config = Config::new().line_terminator(b';');
-    let source = configured(&rt, alloc, config, "a(b)?");
-    let copy = source.clone().ok().expect(&rt, "memory");
-    let input = Input::new(b"xab");
-    is_told(&rt, &told_by(&rt, alloc, &copy, &input));
-    let mut cache = cache_of(&rt, alloc, &copy);
-    is_told(&rt, &told_with(&rt, &copy, &mut cache, &input));
-    assert_eq!(rt; copy.get_config().get_line_terminator(), b';');
-    assert_eq!(rt; copy.memory_usage(), source.memory_usage());
+    let source = configured(&rt, rt.alloc(), config, "a(b)?");
+    assert!(rt; copy_answers(&rt, rt.alloc(), &source));
 }
 
 /// Makes a cache that serves the regex one that serves it, which asks for no memory.
@@ -225,54 +245,52 @@ fn reset_again(alloc: Global, cache: &mut Cache, regex: &Regex)
     }
 }
 
+/// Whether a cache tells what it did before a reset, and is accounted as much.
+fn reset_serves(rt: &impl Abort, alloc: Global, regex: &Regex, cache: &mut Cache) -> bool
+    requires { Fits regex.now cache.old }
+{
+    let before = tell_with(rt, regex, cache, b"xab", AB);
+    let memory = cache.memory_usage();
+    reset_again(alloc, cache, regex);
+    let after = cache.memory_usage();
+    before && memory == after && tell_with(rt, regex, cache, b"xab", AB)
+}
+
 #[test]
 fn a_cache_that_serves_is_reset_without_memory(rt: HostRuntime) {
-    let alloc = rt.alloc();
-    let regex = regex_of(&rt, alloc, "a(b)?");
-    let mut cache = cache_of(&rt, alloc, &regex);
-    let input = Input::new(b"xab");
-    is_told(&rt, &told_with(&rt, &regex, &mut cache, &input));
-    let memory = cache.memory_usage();
-    reset_again(alloc, &mut cache, &regex);
-    assert_eq!(rt; cache.memory_usage(), memory);
-    is_silent(&rt, &told_with(&rt, &regex, &mut cache, &Input::new(b"xb")));
-    is_told(&rt, &told_with(&rt, &regex, &mut cache, &input));
+    let regex = regex_of(&rt, rt.alloc(), "a(b)?");
+    let mut cache = cache_of(&rt, rt.alloc(), &regex);
+    assert!(rt; reset_serves(&rt, rt.alloc(), &regex, &mut cache));
 }
 
-#[test]
-fn the_first_refused_pattern_is_told(rt: HostRuntime) -> Result<(), Fail> {
-    let alloc = rt.alloc();
-    let built = Regex::new_many(alloc, &["a", "a(", "ab", ")"]);
-    let error = built.err().expect(&rt, "a refusal");
-    assert_eq!(rt; number(error.pattern()), Some(1));
-    assert_eq!(rt; error.size_limit(), None);
-    let cause = error.syntax_error().expect(&rt, "a syntax error");
-    assert!(rt; cause.kind == SyntaxErrorKind::UnclosedGroup);
-    let text = format!(in alloc; "{error}")?;
-    assert_eq!(rt; text.as_str(), "error parsing pattern 1");
-    Ok(())
-}
-
-#[test]
-fn a_size_limit_is_told(rt: HostRuntime) -> Result<(), Fail> {
-    let alloc = rt.alloc();
+/// The refusal of `a` where the NFA may take this many bytes.
+fn refused(rt: &impl Abort, alloc: Global, limit: usize) -> BuildError {
     let mut builder = Regex::builder();
-    builder.configure(Regex::config().nfa_size_limit(Some(159)));
-    let error = builder.build(alloc, "a").err().expect(&rt, "a refusal");
+    builder.configure(Regex::config().nfa_size_limit(Some(limit)));
+    let first = builder.build(alloc, "a").err().expect(rt, "a refusal");
+    // The builder is as before.
+    let again = builder.build(alloc, "a").err().expect(rt, "a refusal");
+    assert!(rt; first == again);
+    again
+}
+
+/// Whether the error reads so.
+fn reads(rt: &impl Abort, alloc: Global, error: &BuildError, text: &str) -> bool {
+    let told = format!(in alloc; "{error}").ok().expect(rt, "memory");
+    told.as_str() == text
+}
+
+#[test]
+fn a_size_limit_is_told(rt: HostRuntime) {
+    let error = refused(&rt, rt.alloc(), 159);
     let cause = rx_thompson::BuildError::ExceededSizeLimit {
         limit: 159,
         size: 256,
     };
     assert!(rt; error == BuildError::NFA(cause));
-    assert_eq!(rt; error.size_limit(), Some(159));
-    assert_eq!(rt; number(error.clone().pattern()), None);
-    let text = format!(in alloc; "{error}")?;
-    assert_eq!(rt; text.as_str(), "error building NFA");
-    let text = format!(in alloc; "{}", BuildError::Memory)?;
-    assert_eq!(rt; text.as_str(), "out of memory");
-    // the builder is as before
-    assert!(rt; builder.build(alloc, "").is_err());
-    Ok(())
+    assert!(rt; (error.size_limit(), number(error.pattern())) == (Some(159), None));
+    assert!(rt; reads(&rt, rt.alloc(), &error, "error building NFA"));
+    assert!(rt; reads(&rt, rt.alloc(), &BuildError::Memory, "out of memory"));
 }
 
 /// A regex of `a` that tells no captures.
@@ -284,53 +302,76 @@ fn without_captures(rt: &impl Abort, alloc: Global) -> Regex {
     again.build(alloc, "a").ok().expect(rt, "a regex")
 }
 
-#[test]
-fn nothing_is_told_without_captures(rt: HostRuntime) {
-    let alloc = rt.alloc();
-    let regex = without_captures(&rt, alloc);
-    assert!(rt; regex.get_config().get_which_captures() == WhichCaptures::None);
-    let input = Input::new(b"a");
-    is_silent(&rt, &told_by(&rt, alloc, &regex, &input));
-    let mut cache = cache_of(&rt, alloc, &regex);
-    is_silent(&rt, &told_with(&rt, &regex, &mut cache, &input));
-    assert!(rt; matches_in(&rt, alloc, &regex, &input));
+/// Whether nothing is told of `a`, but that there is a match.
+fn is_silent<R: Abort + Wait>(rt: &R, alloc: Global, regex: &Regex) -> bool {
+    let mut cache = cache_of(rt, alloc, regex);
+    tell(rt, alloc, regex, b"a", NOTHING)
+        && tell_with(rt, regex, &mut cache, b"a", NOTHING)
+        && matches_in(rt, alloc, regex, &Input::new(b"a"))
 }
 
+#[test]
+fn nothing_is_told_without_captures(rt: HostRuntime) {
+    let regex = without_captures(&rt, rt.alloc());
+    assert!(rt; regex.get_config().get_which_captures() == WhichCaptures::None);
+    assert!(rt; is_silent(&rt, rt.alloc(), &regex));
+}
+
+/// The next match, where it starts by the slots, and where its group does.
+type Next = (Option<(usize, usize, usize)>, Option<usize>, Option<usize>);
+
 /// The next match that the searcher gives.
-fn next<'r>(
-    rt: &impl Abort,
-    searcher: &mut Searcher<'_>,
-    finder: &mut RegexFinder<'r>,
-) -> Option<(usize, usize, usize)> {
-    whole(searcher.advance(finder).ok().expect(rt, "memory"))
+fn next<'r>(rt: &impl Abort, searcher: &mut Searcher<'_>, finder: &mut RegexFinder<'r>) -> Next {
+    let found = whole(searcher.advance(finder).ok().expect(rt, "memory"));
+    (
+        found,
+        place_at(finder.slots(), 0),
+        place_at(finder.slots(), 2),
+    )
+}
+
+/// Whether the finder gives the matches in `abxa`, one after another.
+fn gives_all<'r>(rt: &impl Abort, finder: &mut RegexFinder<'r>) -> bool {
+    let mut searcher = Searcher::new(Input::new(b"abxa"));
+    let first = next(rt, &mut searcher, finder);
+    let second = next(rt, &mut searcher, finder);
+    let third = next(rt, &mut searcher, finder);
+    first == (Some((0, 0, 2)), Some(0), Some(1))
+        && second == (Some((0, 3, 4)), Some(3), None)
+        && third == (None, None, None)
 }
 
 #[test]
 fn a_finder_gives_match_after_match(rt: HostRuntime) {
-    let alloc = rt.alloc();
-    let regex = regex_of(&rt, alloc, "a(b)?");
-    let mut finder = RegexFinder::new(alloc, &regex).ok().expect(&rt, "memory");
-    assert_eq!(rt; finder.regex().pattern_len(), 1);
-    assert_eq!(rt; place_at(finder.slots(), 0), None);
-    let mut searcher = Searcher::new(Input::new(b"abxa"));
-    assert!(rt; next(&rt, &mut searcher, &mut finder) == Some((0, 0, 2)));
-    assert_eq!(rt; place_at(finder.slots(), 2), Some(1));
-    assert!(rt; next(&rt, &mut searcher, &mut finder) == Some((0, 3, 4)));
-    assert_eq!(rt; place_at(finder.slots(), 2), None);
-    assert!(rt; next(&rt, &mut searcher, &mut finder) == None);
-    assert_eq!(rt; place_at(finder.slots(), 0), None);
+    let regex = regex_of(&rt, rt.alloc(), "a(b)?");
+    let mut finder = RegexFinder::new(rt.alloc(), &regex)
+        .ok()
+        .expect(&rt, "memory");
+    let before = (finder.regex().pattern_len(), place_at(finder.slots(), 0));
+    assert!(rt; before == (1, None) && gives_all(&rt, &mut finder));
+}
+
+/// What is known of the group `k`, how many slots there are, and what is left in them.
+fn implicit<R: Abort + Wait>(
+    rt: &R,
+    alloc: Global,
+    regex: &Regex,
+) -> (Option<usize>, usize, [Option<usize>; 4]) {
+    let groups = regex.group_info();
+    let (_, _, _, _, slots) = told_by(rt, alloc, regex, &Input::new(b"xab"));
+    (
+        groups.to_index(PatternID::ZERO, "k"),
+        groups.slot_len(),
+        slots,
+    )
 }
 
 #[test]
 fn a_group_that_is_not_told_has_empty_slots(rt: HostRuntime) {
-    let alloc = rt.alloc();
     let config = Config::new().which_captures(WhichCaptures::Implicit);
-    let regex = configured(&rt, alloc, config, "a(?P<k>b)");
-    assert_eq!(rt; regex.group_info().to_index(PatternID::ZERO, "k"), Some(1));
-    assert_eq!(rt; regex.group_info().slot_len(), 4);
-    let told = told_by(&rt, alloc, &regex, &Input::new(b"xab"));
-    assert!(rt; told.span == (Some(1), Some(3)));
-    assert!(rt; told.group == (None, None));
+    let regex = configured(&rt, rt.alloc(), config, "a(?P<k>b)");
+    let told = implicit(&rt, rt.alloc(), &regex);
+    assert!(rt; told == (Some(1), 4, [Some(1), Some(3), None, None]));
 }
 
 /// Values of this type may go to other threads.
@@ -388,40 +429,51 @@ fn a_and_b(rt: &impl Abort, alloc: Global) -> Result<Vec<Hir>, Memory> {
     Ok(exprs)
 }
 
-#[test]
-fn a_regex_is_built_of_expressions(rt: HostRuntime) {
-    let alloc = rt.alloc();
-    let exprs = a_and_b(&rt, alloc).ok().expect(&rt, "memory");
+/// What is told of a regex of two expressions in `b`.
+fn two_in<R: Abort + Wait>(
+    rt: &R,
+    alloc: Global,
+    regex: &Regex,
+) -> (usize, usize, usize, Option<(usize, usize, usize)>) {
+    let found = found_by(rt, alloc, regex, &Input::new(b"b"));
+    let groups = regex.group_info().pattern_len();
+    (regex.pattern_len(), groups, regex.memory_usage(), found)
+}
+
+/// A builder of regexes without DFAs.
+fn without_dfas() -> Builder {
     let mut builder = Builder::new();
     builder.configure(Config::new().dfa(false).hybrid(false));
-    let first = exprs.first().expect(&rt, "two expressions");
-    let one = builder.build_from_hir(alloc, first);
-    let one = one.ok().expect(&rt, "a regex");
-    let two = builder.build_many_from_hir(alloc, &exprs);
-    let two = two.ok().expect(&rt, "a regex");
-    assert_eq!(rt; two.pattern_len(), 2);
-    assert_eq!(rt; two.group_info().pattern_len(), 2);
-    // three properties; 4 states, and 1 and 3 of each pattern
-    assert_eq!(rt; two.memory_usage(), 64 * 3 + 32 * 12);
-    let input = Input::new(b"b");
-    assert!(rt; !matches_in(&rt, alloc, &one, &input));
-    assert!(rt; found_by(&rt, alloc, &two, &input) == Some((1, 0, 1)));
+    builder
+}
+
+/// The regex of both expressions.
+fn of_both(rt: &impl Abort, alloc: Global, exprs: &[Hir]) -> Regex {
+    let two = without_dfas().build_many_from_hir(alloc, exprs);
+    two.ok().expect(rt, "a regex")
+}
+
+/// The regex of the first expression.
+fn of_first(rt: &impl Abort, alloc: Global, exprs: &[Hir]) -> Regex {
+    let first = exprs.first().expect(rt, "two expressions");
+    let one = without_dfas().build_from_hir(alloc, first);
+    one.ok().expect(rt, "a regex")
 }
 
 #[test]
-fn a_builder_takes_a_grammar_and_a_line_terminator(rt: HostRuntime) {
-    let alloc = rt.alloc();
-    let mut builder = Builder::new();
-    builder.syntax(
-        rx_syntax::Config::new()
-            .case_insensitive(true)
-            .multi_line(true),
-    );
-    builder.configure(Config::new().line_terminator(b';'));
-    let regex = builder.build(alloc, "^a$").ok().expect(&rt, "a regex");
-    assert_eq!(rt; regex.get_config().get_line_terminator(), b';');
-    let found = found_by(&rt, alloc, &regex, &Input::new(b"x;A;"));
-    assert!(rt; found == Some((0, 2, 3)));
+fn a_regex_is_built_of_expressions(rt: HostRuntime) {
+    let exprs = a_and_b(&rt, rt.alloc()).ok().expect(&rt, "memory");
+    let two = of_both(&rt, rt.alloc(), &exprs);
+    let told = two_in(&rt, rt.alloc(), &two);
+    // Three properties; 4 states, and 1 and 3 of each pattern.
+    assert!(rt; told == (2, 2, 64 * 3 + 32 * 12, Some((1, 0, 1))));
+}
+
+#[test]
+fn a_regex_is_built_of_an_expression(rt: HostRuntime) {
+    let exprs = a_and_b(&rt, rt.alloc()).ok().expect(&rt, "memory");
+    let one = of_first(&rt, rt.alloc(), &exprs);
+    assert!(rt; !matches_in(&rt, rt.alloc(), &one, &Input::new(b"b")));
 }
 
 /// A configuration into which a prefilter of this needle is handed.
@@ -459,113 +511,110 @@ fn no_prefilter_changes_an_answer(rt: HostRuntime) {
     assert!(rt; told == (Some((0, 0, 2)), 128 + 288));
 }
 
-/// What the regex of `a|ab` under this configuration finds in `ab` and in `b`.
-fn prefers_the_first<R: Abort + Wait>(rt: &R, alloc: Global, config: Config) {
+/// Whether the regex of `a|ab` finds `a` in `ab`, and nothing in `b`.
+fn prefers_the_first<R: Abort + Wait>(rt: &R, alloc: Global, config: Config) -> bool {
     let regex = configured(rt, alloc, config, "a|ab");
     let found = found_by(rt, alloc, &regex, &Input::new(b"ab"));
-    assert!(rt; found == Some((0, 0, 1)));
-    let found = found_by(rt, alloc, &regex, &Input::new(b"b"));
-    assert!(rt; found == None);
+    let none = found_by(rt, alloc, &regex, &Input::new(b"b"));
+    found == Some((0, 0, 1)) && none == None
 }
 
 #[test]
 fn the_first_alternative_is_preferred(rt: HostRuntime) {
     let alloc = rt.alloc();
-    prefers_the_first(&rt, alloc, Config::new());
-    prefers_the_first(&rt, alloc, Config::new().auto_prefilter(false));
+    let none = Config::new().auto_prefilter(false);
+    assert!(rt; prefers_the_first(&rt, alloc, none));
     let given = handing_in(alloc, b"a").ok().expect(&rt, "memory");
-    prefers_the_first(&rt, alloc, given);
+    assert!(rt; prefers_the_first(&rt, alloc, given));
 }
 
-/// What a search of this input for a pattern finds.
-fn found_in<R: Abort + Wait>(
-    rt: &R,
-    alloc: Global,
-    pattern: &str,
-    input: &Input<'_>,
-) -> Option<(usize, usize, usize)> {
-    let regex = regex_of(rt, alloc, pattern);
-    found_by(rt, alloc, &regex, input)
+/// A pattern, a text with a span of it, whether the search is anchored, and the start and the end of what is found.
+type Row = (
+    &'static str,
+    &'static str,
+    (usize, usize),
+    bool,
+    Option<(usize, usize)>,
+);
+
+const ROWS: [Row; 21] = [
+    // Each match begins at the start.
+    ("^a", "aa", (0, 2), false, Some((0, 1))),
+    ("^a", "aa", (1, 2), false, None),
+    ("^a|a", "aa", (1, 2), false, Some((1, 2))),
+    // Each match ends at the end.
+    ("a$", "aa", (0, 2), false, Some((1, 2))),
+    ("a$", "aa", (0, 1), false, None),
+    ("a$|a", "aa", (0, 1), false, Some((0, 1))),
+    // Each match has a least length.
+    ("a{3}", "aaa", (0, 2), false, None),
+    ("a{3}", "aaa", (0, 3), false, Some((0, 3))),
+    // Each match is the whole span.
+    ("^a{2}$", "aa", (0, 2), false, Some((0, 2))),
+    ("^a{2}$", "aaa", (0, 3), false, None),
+    // Without an anchor the match may begin later.
+    ("a{2}$", "aaa", (0, 3), false, Some((1, 3))),
+    ("a{2}$", "aa", (0, 2), true, Some((0, 2))),
+    ("a{2}$", "aaa", (0, 3), true, None),
+    // The first alternative is preferred.
+    ("a|ab", "ab", (0, 2), false, Some((0, 1))),
+    ("a|ab", "b", (0, 1), false, None),
+    ("ab", "ab", (0, 2), false, Some((0, 2))),
+    // No match begins inside a character.
+    (r"(?-u:\B)|a☃", "a☃b", (0, 5), false, Some((0, 4))),
+    (r"(?-u:\B)", "a☃b", (0, 5), false, None),
+    (r"(?-u:\B)", "aa", (0, 2), false, Some((1, 1))),
+    ("", "☃", (1, 3), false, Some((3, 3))),
+    ("", "☃", (1, 2), false, None),
+];
+
+/// The span of the row, searched as it says.
+fn input_of(rt: &impl Abort, row: Row) -> Input<'static> {
+    let (_, text, span, anchored, _) = row;
+    let input = within(rt, text, span);
+    if anchored {
+        return input.anchored(Anchored::Yes);
+    }
+    input
 }
 
-/// What a search of this input for a pattern leaves in the slots of the whole match, which held places before.
-fn slots_in<R: Abort + Wait>(
+/// The start and the end of what is found, and what a search leaves in the slots of the whole match, which held places before.
+fn span_in<R: Abort + Wait>(
     rt: &R,
     alloc: Global,
-    pattern: &str,
+    regex: &Regex,
     input: &Input<'_>,
-) -> (Option<usize>, Option<usize>) {
-    let regex = regex_of(rt, alloc, pattern);
+) -> (Option<(usize, usize, usize)>, bool, [Option<usize>; 2]) {
+    let found = found_by(rt, alloc, regex, input);
     let mut slots = [NonMaxUsize::new(9); 2];
     let _found = regex.search_slots(rt, alloc, input, &mut slots);
-    (place(slots[0]), place(slots[1]))
+    let earliest = input.clone().earliest(true);
+    let is_match = matches_in(rt, alloc, regex, &earliest);
+    (found, is_match, [place(slots[0]), place(slots[1])])
 }
 
-#[test]
-fn each_match_begins_at_the_start(rt: HostRuntime) {
-    let alloc = rt.alloc();
-    let whole = Input::new(b"aa");
-    let later = Input::new(b"aa").range(1..2);
-    assert!(rt; found_in(&rt, alloc, "^a", &whole) == Some((0, 0, 1)));
-    assert!(rt; found_in(&rt, alloc, "^a", &later) == None);
-    assert!(rt; found_in(&rt, alloc, "^a|a", &later) == Some((0, 1, 2)));
-    assert!(rt; slots_in(&rt, alloc, "^a", &whole) == (Some(0), Some(1)));
-    assert!(rt; slots_in(&rt, alloc, "^a", &later) == (None, None));
-}
-
-#[test]
-fn each_match_ends_at_the_end(rt: HostRuntime) {
-    let alloc = rt.alloc();
-    let whole = Input::new(b"aa");
-    let shorter = Input::new(b"aa").range(0..1);
-    assert!(rt; found_in(&rt, alloc, "a$", &whole) == Some((0, 1, 2)));
-    assert!(rt; found_in(&rt, alloc, "a$", &shorter) == None);
-    assert!(rt; found_in(&rt, alloc, "a$|a", &shorter) == Some((0, 0, 1)));
-    assert!(rt; slots_in(&rt, alloc, "a$", &whole) == (Some(1), Some(2)));
-    assert!(rt; slots_in(&rt, alloc, "a$", &shorter) == (None, None));
-}
-
-#[test]
-fn each_match_has_a_least_length(rt: HostRuntime) {
-    let alloc = rt.alloc();
-    let two = Input::new(b"aaa").range(0..2);
-    let three = Input::new(b"aaa");
-    assert!(rt; found_in(&rt, alloc, "a{3}", &two) == None);
-    assert!(rt; found_in(&rt, alloc, "a{3}", &three) == Some((0, 0, 3)));
-    assert!(rt; slots_in(&rt, alloc, "a{3}", &two) == (None, None));
-    assert!(rt; slots_in(&rt, alloc, "a{3}", &three) == (Some(0), Some(3)));
-}
-
-#[test]
-fn each_match_is_the_whole_span(rt: HostRuntime) {
-    let alloc = rt.alloc();
-    let two = Input::new(b"aa");
-    let three = Input::new(b"aaa");
-    assert!(rt; found_in(&rt, alloc, "^a{2}$", &two) == Some((0, 0, 2)));
-    assert!(rt; found_in(&rt, alloc, "^a{2}$", &three) == None);
-    assert!(rt; slots_in(&rt, alloc, "^a{2}$", &three) == (None, None));
-    // without an anchor the match may begin later
-    assert!(rt; found_in(&rt, alloc, "a{2}$", &three) == Some((0, 1, 3)));
-}
-
-#[test]
-fn each_anchored_match_is_the_whole_span(rt: HostRuntime) {
-    let alloc = rt.alloc();
-    let two = Input::new(b"aa").anchored(Anchored::Yes);
-    let three = Input::new(b"aaa").anchored(Anchored::Yes);
-    assert!(rt; found_in(&rt, alloc, "a{2}$", &two) == Some((0, 0, 2)));
-    assert!(rt; found_in(&rt, alloc, "a{2}$", &three) == None);
-    assert!(rt; slots_in(&rt, alloc, "a{2}$", &three) == (None, None));
-}
-
-#[test]
-fn no_match_begins_inside_a_character(rt: HostRuntime) {
-    let alloc = rt.alloc();
-    for earliest in [false, true] {
-        let input = Input::new("a☃b".as_bytes()).earliest(earliest);
-        let regex = regex_of(&rt, alloc, r"(?-u:\B)|a☃");
-        assert!(rt; matches_in(&rt, alloc, &regex, &input));
-        let regex = regex_of(&rt, alloc, r"(?-u:\B)");
-        assert!(rt; !matches_in(&rt, alloc, &regex, &input));
+/// Whether the search finds what the row says, and leaves it in the slots.
+fn is_found<R: Abort + Wait>(rt: &R, alloc: Global, row: Row) -> bool {
+    let (pattern, _, _, _, wanted) = row;
+    let regex = regex_of(rt, alloc, pattern);
+    let told = span_in(rt, alloc, &regex, &input_of(rt, row));
+    match wanted {
+        Some((start, end)) => told == (Some((0, start, end)), true, [Some(start), Some(end)]),
+        None => told == (None, false, [None, None]),
     }
+}
+
+/// The number of the first row of which something else is told.
+fn first_wrong<R: Abort + Wait>(rt: &R, alloc: Global, rows: &[Row]) -> Option<usize> {
+    for k in 0..rows.len() {
+        if !is_found(rt, alloc, rows[k]) {
+            return Some(k);
+        }
+    }
+    None
+}
+
+#[test]
+fn what_each_match_begins_and_ends_with(rt: HostRuntime) {
+    assert_eq!(rt; first_wrong(&rt, rt.alloc(), &ROWS), None);
 }

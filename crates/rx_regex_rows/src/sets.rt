@@ -157,22 +157,6 @@ fn is_told<R: Abort + Wait>(
     is_right(rt, &found, want, row) && is_right(rt, &again, want, row)
 }
 
-/// The number of the first row that is not told.
-fn first_wrong<R: Abort + Wait>(
-    rt: &R,
-    alloc: Global,
-    builder: &Builder,
-    earliest: bool,
-    want: Want,
-) -> Option<usize> {
-    for k in 0..ROWS.len() {
-        if !is_told(rt, alloc, builder, earliest, want, ROWS[k]) {
-            return Some(k);
-        }
-    }
-    None
-}
-
 /// A builder of regexes of this kind of match, which are asked for these captures.
 fn asking(kind: MatchKind, which: WhichCaptures) -> Builder {
     let mut builder = Builder::new();
@@ -180,33 +164,56 @@ fn asking(kind: MatchKind, which: WhichCaptures) -> Builder {
     builder
 }
 
+/// The number of the first row that is not told.
+fn first_wrong<R: Abort + Wait>(
+    rt: &R,
+    kind: MatchKind,
+    which: WhichCaptures,
+    earliest: bool,
+    want: Want,
+    alloc: Global,
+) -> Option<usize> {
+    let builder = asking(kind, which);
+    for k in 0..ROWS.len() {
+        if !is_told(rt, alloc, &builder, earliest, want, ROWS[k]) {
+            return Some(k);
+        }
+    }
+    None
+}
+
 #[test]
 fn a_set_has_each_pattern_that_matches(rt: HostRuntime) {
-    let alloc = rt.alloc();
-    let builder = asking(MatchKind::All, WhichCaptures::All);
-    assert_eq!(rt; first_wrong(&rt, alloc, &builder, false, Want::Each), None);
-    let builder = asking(MatchKind::All, WhichCaptures::Implicit);
-    assert_eq!(rt; first_wrong(&rt, alloc, &builder, false, Want::Each), None);
-    let builder = asking(MatchKind::All, WhichCaptures::None);
-    assert_eq!(rt; first_wrong(&rt, alloc, &builder, false, Want::Each), None);
+    for which in [
+        WhichCaptures::All,
+        WhichCaptures::Implicit,
+        WhichCaptures::None,
+    ] {
+        let wrong = first_wrong(&rt, MatchKind::All, which, false, Want::Each, rt.alloc());
+        assert_eq!(rt; wrong, None);
+    }
 }
 
 #[test]
 fn a_set_has_the_pattern_of_the_next_match(rt: HostRuntime) {
-    let alloc = rt.alloc();
-    let builder = asking(MatchKind::LeftmostFirst, WhichCaptures::All);
-    assert_eq!(rt; first_wrong(&rt, alloc, &builder, false, Want::Next), None);
-    let builder = asking(MatchKind::LeftmostFirst, WhichCaptures::Implicit);
-    assert_eq!(rt; first_wrong(&rt, alloc, &builder, false, Want::Next), None);
-    let builder = asking(MatchKind::LeftmostFirst, WhichCaptures::None);
-    assert_eq!(rt; first_wrong(&rt, alloc, &builder, false, Want::Next), None);
+    for which in [
+        WhichCaptures::All,
+        WhichCaptures::Implicit,
+        WhichCaptures::None,
+    ] {
+        let kind = MatchKind::LeftmostFirst;
+        let wrong = first_wrong(&rt, kind, which, false, Want::Next, rt.alloc());
+        assert_eq!(rt; wrong, None);
+    }
 }
 
 #[test]
 fn a_set_has_a_pattern_where_any_will_do(rt: HostRuntime) {
-    let alloc = rt.alloc();
-    let builder = asking(MatchKind::All, WhichCaptures::None);
-    assert_eq!(rt; first_wrong(&rt, alloc, &builder, true, Want::Any), None);
-    let builder = asking(MatchKind::LeftmostFirst, WhichCaptures::All);
-    assert_eq!(rt; first_wrong(&rt, alloc, &builder, true, Want::Any), None);
+    for (kind, which) in [
+        (MatchKind::All, WhichCaptures::None),
+        (MatchKind::LeftmostFirst, WhichCaptures::All),
+    ] {
+        let wrong = first_wrong(&rt, kind, which, true, Want::Any, rt.alloc());
+        assert_eq!(rt; wrong, None);
+    }
 }
