@@ -48,10 +48,15 @@ fn compiler(utf8: bool, reverse: bool) -> Compiler
 /// The words as texts.
 pub fn texts<'w>(alloc: Global, words: &'w [String]) -> Result<Vec<&'w str>, Memory> {
     let mut texts = Vec::new(alloc);
+    add_texts(&mut texts, words)?;
+    Ok(texts)
+}
+
+fn add_texts<'w>(texts: &mut Vec<&'w str>, words: &'w [String]) -> Result<(), Memory> {
     for word in words {
         texts.push(word.as_str())?;
     }
-    Ok(texts)
+    Ok(())
 }
 
 /// The prefilter of the needles, if there are some that make one.

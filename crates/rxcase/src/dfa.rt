@@ -1,5 +1,5 @@
 //! The DFAs that are asked, and what they are asked for.
-ghost use Rattle.std.specs.Prelude.{◌≡◌, ◌≤◌, IfOk, length, false};
+ghost use Rattle.std.specs.Prelude.{◌≡◌, ◌≤◌, IfOk, length, true, false};
 ghost use Rattle.rx_dfa.specs.LazyCache.{IsCacheOf};
 
 use crate::ask::Ask;
@@ -117,8 +117,14 @@ fn lazy_reset(alloc: Global, earlier: &Ask<'_>, dfa: &Lazy) -> Result<LazyCache,
 /// A cache that served a search of the input.
 fn lazy_used(alloc: Global, ask: &Ask<'_>) -> Result<LazyCache, Failure> {
     let dfa = on_demand(alloc, ask, ask.building.kind, false)?;
-    let mut cache = LazyCache::new(alloc, &dfa)?;
-    let _found = try_search_half_fwd(&dfa, &mut cache, &Input::new(ask.input));
+    lazy_used_by(alloc, ask, &dfa)
+}
+
+fn lazy_used_by(alloc: Global, ask: &Ask<'_>, dfa: &Lazy) -> Result<LazyCache, Failure>
+    requires { dfa.now.dfa.nfa.reverse ≡ false }
+{
+    let mut cache = LazyCache::new(alloc, dfa)?;
+    let _found = try_search_half_fwd(dfa, &mut cache, &Input::new(ask.input));
     Ok(cache)
 }
 
@@ -145,8 +151,23 @@ fn lazy_from(
     requires forward { forward.now.dfa.nfa.reverse ≡ false }
 {
     let backward = on_demand(alloc, ask, MatchKind::All, true)?;
-    let mut second = LazyCache::new(alloc, &backward)?;
-    both::tell(ask, forward, cache, &backward, &mut second, told)
+    lazy_between(alloc, ask, forward, cache, &backward, told)
+}
+
+fn lazy_between(
+    alloc: Global,
+    ask: &Ask<'_>,
+    forward: &Lazy,
+    cache: &mut LazyCache,
+    backward: &Lazy,
+    told: &mut String,
+) -> Result<(), Failure>
+    requires fits { IsCacheOf forward.now cache.old }
+    requires forward { forward.now.dfa.nfa.reverse ≡ false }
+    requires backward { backward.now.dfa.nfa.reverse ≡ true }
+{
+    let mut second = LazyCache::new(alloc, backward)?;
+    both::tell(ask, forward, cache, backward, &mut second, told)
 }
 
 fn dense_set(alloc: Global, ask: &Ask<'_>, told: &mut String) -> Result<(), Failure> {

@@ -74,7 +74,7 @@ impl From<io::Error> for Failure {
 
 impl From<BuildError> for Failure {
     fn from(error: BuildError) -> Failure {
-        match error {
+        match &error {
             BuildError::Memory => Failure::Memory,
             _ => Failure::Patterns,
         }

@@ -97,14 +97,14 @@ pub fn tell_error(told: &mut String, error: MatchError) -> Result<(), Failure> {
 
 /// Appends a match among others: `0:3..5`, with a space before it.
 pub fn tell_one(told: &mut String, found: Match, is_first: bool) -> Result<(), AllocError> {
-    let parting = if is_first { "" } else { " " };
+    part(told, is_first)?;
     let pattern = found.pattern().as_usize();
-    write!(
-        told,
-        "{parting}{pattern}:{}..{}",
-        found.start(),
-        found.end()
-    )
+    write!(told, "{pattern}:{}..{}", found.start(), found.end())
+}
+
+/// Appends the space before what is not the first.
+fn part(told: &mut String, is_first: bool) -> Result<(), AllocError> {
+    told.push_str(if is_first { "" } else { " " })
 }
 
 /// Appends the numbers of the patterns: `0 2`.
@@ -122,9 +122,7 @@ pub fn tell_set(told: &mut String, set: &PatternSet) -> Result<(), Failure> {
 }
 
 fn tell_number(told: &mut String, pattern: PatternID, is_first: bool) -> Result<(), AllocError> {
-    if !is_first {
-        told.push(' ')?;
-    }
+    part(told, is_first)?;
     write!(told, "{}", pattern.as_usize())
 }
 
