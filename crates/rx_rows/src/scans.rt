@@ -31,14 +31,16 @@ fn hold(slots: &[Option<NonMaxUsize>], places: &[Option<usize>]) -> bool {
     slots.len() == places.len()
 }
 
+/// Whether this is the row.
+fn is_told(row: &Row, told: Told) -> bool {
+    let (pattern, places) = told;
+    row.pattern.as_usize() == pattern && hold(row.slots.as_slice(), places)
+}
+
 /// Whether these are the rows of a haystack.
 fn are_told(rows: &[Row], told: &[Told]) -> bool {
     for k in 0..rows.len() {
-        if k >= told.len() {
-            return false;
-        }
-        let (pattern, places) = told[k];
-        if rows[k].pattern.as_usize() != pattern || !hold(rows[k].slots.as_slice(), places) {
+        if k >= told.len() || !is_told(&rows[k], told[k]) {
             return false;
         }
     }
