@@ -1,0 +1,131 @@
+//! Attempts by the DFAs of a core: searches from one place where a literal lies to the next.
+ghost use Rattle.std.specs.Prelude.{◌≡◌, ◌≤◌, ◌+◌, ◌*◌, false, true, None, is_some, IfOk, IfSome};
+ghost use Rattle.std.specs.Result.{IfErr};
+ghost use Rattle.rx_model.specs.Search.{Patterns, is_anchored};
+ghost use Rattle.rx_search.specs.Input.{span_len};
+ghost use Rattle.rx_search.specs.Matches.{match_value};
+ghost use Rattle.rx_search.specs.Told.{LiesIn};
+ghost use Rattle.rx_search.specs.declared.anchored.MatchKind.{MatchKind};
+ghost use Rattle.rx_dfa.specs.LazyCache.{IsCacheOf, GaveUpOn};
+ghost use Rattle.rx_dfa.specs.Search.{IsAnswerFor};
+ghost use Rattle.rx_attempts.specs.Candidates.{AreNotEmpty};
+ghost use Rattle.rx_strategy.specs.Dfas.{ArePaired, SearchFor, are_lazy, pair_of, FitsLazies, IsPatternOf, AreCachesOf};
+ghost use Rattle.rx_strategy.specs.Attempts.{HasSuffix, HasInner, IsOneNeedle, SuffixFailsIn, InnerFailsIn, HasCountedSuffix, HasCountedInner};
+
+use crate::dfas::Dfas;
+use crate::lazies::Lazies;
+use rx_attempts::{reverse_inner_attempt, reverse_suffix_attempt};
+use rx_dfa::Automaton;
+use rx_limited::RetryError;
+use rx_prefilter::Prefilter;
+use rx_search::{Input, Match, Steps};
+use std::sync::ledger::Ledger;
+
+impl Dfas {
+    /// The next match in the input's span of one expression that ends with this literal, by an attempt; or why it has no answer. The DFAs
+    /// are there, and the input is not anchored.
+    pub(crate) fn try_reverse_suffix<L: Ledger>(
+        &self,
+        lazies: &mut Option<Lazies>,
+        pre: &Prefilter,
+        input: &Input<'_>,
+        steps: &mut Steps<L>,
+    ) -> Result<Option<Match>, RetryError>
+        requires fits { FitsLazies self.now lazies.old }
+        requires there { is_some (pair_of self.now) ≡ true }
+        requires paired { ArePaired self.now }
+        requires free { is_anchored input.now.anchor ≡ false }
+        requires suffix { IsOneNeedle pre.now }
+        ensures answer { (kind : MatchKind) (r : Patterns) → SearchFor self.now None kind r input.now → HasSuffix pre.now r
+            → IfOk result (IsAnswerFor kind r input.now match_value) }
+        ensures within { IfOk result (λ found. IfSome found (LiesIn input.now)) }
+        ensures in_range { IfOk result (λ found. IfSome found (λ m. IsPatternOf self.now m.pattern)) }
+        ensures err { IfErr result (SuffixFailsIn self.now pre.now input.now lazies.new) }
+        ensures ticks { input.now.earliest ≡ false → IfOk result (HasCountedSuffix self.now pre.now input.now steps.old steps.new) }
+        ensures few { steps.new ≤ steps.old + 8 * (span_len input.now + 1) }
+        ensures fits { FitsLazies self.now lazies.new }
+        ensures same { are_lazy self.now ≡ false → lazies.new ≡ lazies.old }
+    {
+        match self {
+            Dfas::Absent => unreachable!(),
+            Dfas::Full { forward, backward } => reverse_suffix_attempt(
+                pre,
+                forward,
+                &mut (),
+                backward,
+                &mut (),
+                input,
+                steps,
+            ),
+            Dfas::Lazy { forward, backward } => {
+                let Some(both) = lazies else {
+                    unreachable!();
+                };
+                let Lazies {
+                    forward: fwd_cache,
+                    backward: rev_cache,
+                } = both;
+                reverse_suffix_attempt(pre, forward, fwd_cache, backward, rev_cache, input, steps)
+            }
+        }
+    }
+
+    /// The next match in the input's span of one expression with one of these literals behind its prefix, by an attempt; or why it has no
+    /// answer. The automaton reads the prefix backwards. The DFAs are there, and the input is not anchored.
+    pub(crate) fn try_reverse_inner<B: Automaton, L: Ledger>(
+        &self,
+        lazies: &mut Option<Lazies>,
+        pre: &Prefilter,
+        rev: &B,
+        rev_cache: &mut B::Cache,
+        input: &Input<'_>,
+        steps: &mut Steps<L>,
+    ) -> Result<Option<Match>, RetryError>
+        requires fits { FitsLazies self.now lazies.old }
+        requires rev_fits { B.fits rev.now rev_cache.old }
+        requires there { is_some (pair_of self.now) ≡ true }
+        requires paired { ArePaired self.now }
+        requires reverse { (B.dfa rev.now).nfa.reverse ≡ true }
+        requires free { is_anchored input.now.anchor ≡ false }
+        requires needles { AreNotEmpty pre.now }
+        ensures answer { (kind : MatchKind) (r : Patterns) → SearchFor self.now None kind r input.now → HasInner (B.dfa rev.now) pre.now r
+            → IfOk result (IsAnswerFor kind r input.now match_value) }
+        ensures within { IfOk result (λ found. IfSome found (LiesIn input.now)) }
+        ensures in_range { IfOk result (λ found. IfSome found (λ m. IsPatternOf self.now m.pattern)) }
+        ensures err { IfErr result (InnerFailsIn self.now (B.dfa rev.now) pre.now input.now lazies.new
+            (B.gives_up rev.now rev_cache.new) (B.wants rev.now)) }
+        ensures ticks { input.now.earliest ≡ false
+            → IfOk result (HasCountedInner self.now (B.dfa rev.now) pre.now input.now steps.old steps.new) }
+        ensures few { steps.new ≤ steps.old + 8 * (span_len input.now + 1) }
+        ensures fits { FitsLazies self.now lazies.new }
+        ensures rev_fits { B.fits rev.now rev_cache.new }
+        ensures same { are_lazy self.now ≡ false → lazies.new ≡ lazies.old }
+    {
+        match self {
+            Dfas::Absent => unreachable!(),
+            Dfas::Full { forward, .. } => reverse_inner_attempt(
+                pre,
+                forward,
+                &mut (),
+                rev,
+                rev_cache,
+                input,
+                steps,
+            ),
+            Dfas::Lazy { forward, .. } => {
+                let Some(both) = lazies else {
+                    unreachable!();
+                };
+                reverse_inner_attempt(
+                    pre,
+                    forward,
+                    &mut both.forward,
+                    rev,
+                    rev_cache,
+                    input,
+                    steps,
+                )
+            }
+        }
+    }
+}
