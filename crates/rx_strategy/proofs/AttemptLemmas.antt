@@ -3,13 +3,10 @@ use Rattle.std.proofs.Common.{◌≡◌, ℕ, List, true}
 use Rattle.rx_model.specs.Search.{Patterns}
 use Rattle.rx_model.specs.Utf8.{MeansUtf8}
 use Rattle.rx_search.specs.Input.{InputValue}
-use Rattle.rx_search.specs.declared.anchored.MatchKind.{MatchKind}
-use Rattle.std.specs.Prelude.{Option}
 use Rattle.rx_dfa.specs.Automaton.{Dfa}
 use Rattle.rx_dfa.specs.Search.{TellsStarts}
 use Rattle.rx_attempts.specs.Premises.{IsBySuffix, IsByInner}
-use Rattle.rx_strategy.specs.Attempts.{HasSuffix, HasInner, IsForwardFor}
-use Rattle.rx_strategy.specs.Dfas.{IsSearchFor}
+use Rattle.rx_strategy.specs.Attempts.{HasSuffix, HasInner}
 
 module _ (needles : List (List ℕ)) (r : Patterns) (v : InputValue) (utf8 : r.utf8_empty ≡ true → MeansUtf8 r v.haystack) (rev : Dfa) where
   pub by-suffix : TellsStarts rev r → HasSuffix needles r → IsBySuffix rev needles r v
@@ -38,8 +35,3 @@ module _ (needles : List (List ℕ)) (r : Patterns) (v : InputValue) (utf8 : r.u
     anywhere = has.anywhere;
     utf8 = utf8;
   }
-
--- of both automata, what the one that reads forwards is for
-pub forward-for : (needles : Option (List (List ℕ))) (kind : MatchKind) (r : Patterns) (v : InputValue) (both : Dfa × Dfa)
-    → IsSearchFor needles kind r v both → IsForwardFor needles kind r v both.0
-forward-for needles kind r v both is = record { own_kind = is.own_kind; premises = is.premises }

@@ -3,11 +3,10 @@ use Rattle.std.specs.Prelude.{◌≡◌, ℕ, ◌<◌, false, List, [], ◌∷�
 use Rattle.rx_model.specs.Expression.{Expression, AreOrdered}
 use Rattle.rx_model.specs.Search.{Patterns}
 use Rattle.rx_search.specs.Input.{InputValue}
-use Rattle.rx_search.specs.Promise.{Premises}
 use Rattle.rx_search.specs.Matches.{MatchValue, match_value}
 use Rattle.rx_search.specs.declared.anchored.MatchKind.{MatchKind}
 use Rattle.rx_search.specs.declared.anchored.MatchKind.TheVariants.{All}
-use Rattle.rx_nfa.specs.Nfa.{HasReverseRuns, IsNfaOf}
+use Rattle.rx_nfa.specs.Nfa.{HasReverseRuns}
 use Rattle.rx_dfa.specs.Automaton.{Dfa}
 use Rattle.rx_dfa.specs.LazyCache.{GaveUpOn}
 use Rattle.rx_dfa.specs.Search.{IsAnswerFor}
@@ -46,11 +45,6 @@ pub record HasInner (rev : Dfa) (needles : List (List ℕ)) (r : Patterns) : Typ
   pub runs : HasReverseRuns rev.nfa prefixes
   pub kind : rev.kind ≡ All
   pub anywhere : rev.nfa.utf8 ≡ false
-
--- the automaton is of this kind and for these patterns, and its answers are promised of this input
-pub record IsForwardFor (needles : Option (List (List ℕ))) (kind : MatchKind) (r : Patterns) (v : InputValue) (fwd : Dfa) : Type 0 where
-  pub own_kind : fwd.kind ≡ kind
-  pub premises : Premises (IsNfaOf fwd.nfa r) needles r v
 
 -- why an attempt by a suffix has no answer, by these DFAs and what their caches then hold
 abbrev pub SuffixFailsIn : Dfas → List (List ℕ) → InputValue → Option Lazies → RetryError → Type 0

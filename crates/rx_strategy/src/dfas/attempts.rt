@@ -6,13 +6,14 @@ ghost use Rattle.rx_search.specs.Input.{span_len};
 ghost use Rattle.rx_search.specs.Matches.{match_value};
 ghost use Rattle.rx_search.specs.Told.{LiesIn};
 ghost use Rattle.rx_search.specs.declared.anchored.MatchKind.{MatchKind};
+ghost use Rattle.rx_dfa.specs.Automaton.{Dfa};
 ghost use Rattle.rx_dfa.specs.LazyCache.{IsCacheOf, GaveUpOn};
 ghost use Rattle.rx_dfa.specs.Search.{IsAnswerFor};
 ghost use Rattle.rx_attempts.specs.Candidates.{AreNotEmpty};
 ghost use Rattle.rx_attempts.specs.Counts.{HasCounted};
 ghost use Rattle.rx_attempts.specs.Refusals.{SuffixFails, InnerFails};
 ghost use Rattle.rx_strategy.specs.Dfas.{ArePaired, IsSearchFor, SearchFor, are_lazy, pair_of, FitsLazies, IsPatternOf, AreCachesOf};
-ghost use Rattle.rx_strategy.specs.Attempts.{HasSuffix, HasInner, IsForwardFor, IsOneNeedle, SuffixFailsIn, InnerFailsIn, HasCountedSuffix, HasCountedInner};
+ghost use Rattle.rx_strategy.specs.Attempts.{HasSuffix, HasInner, IsOneNeedle, SuffixFailsIn, InnerFailsIn, HasCountedSuffix, HasCountedInner};
 
 use crate::dfas::Dfas;
 use crate::lazies::Lazies;
@@ -204,7 +205,7 @@ fn by_inner<F: Automaton, B: Automaton, L: Ledger>(
     requires reverse { (B.dfa rev.now).nfa.reverse ≡ true }
     requires free { is_anchored input.now.anchor ≡ false }
     requires needles { AreNotEmpty pre.now }
-    ensures answer { (kind : MatchKind) (r : Patterns) → IsForwardFor None kind r input.now (F.dfa forward.now) → HasInner (B.dfa rev.now) pre.now r
+    ensures answer { (kind : MatchKind) (r : Patterns) (back : Dfa) → IsSearchFor None kind r input.now (F.dfa forward.now, back) → HasInner (B.dfa rev.now) pre.now r
         → IfOk result (IsAnswerFor kind r input.now match_value) }
     ensures within { IfOk result (λ found. IfSome found (LiesIn input.now)) }
     ensures in_range { IfOk result (λ found. IfSome found (λ m. m.pattern < length (F.dfa forward.now).nfa.starts)) }
@@ -235,7 +236,7 @@ fn by_inner_in<B: Automaton, L: Ledger>(
     requires reverse { (B.dfa rev.now).nfa.reverse ≡ true }
     requires free { is_anchored input.now.anchor ≡ false }
     requires needles { AreNotEmpty pre.now }
-    ensures answer { (kind : MatchKind) (r : Patterns) → IsForwardFor None kind r input.now forward.now.dfa → HasInner (B.dfa rev.now) pre.now r
+    ensures answer { (kind : MatchKind) (r : Patterns) (back : Dfa) → IsSearchFor None kind r input.now (forward.now.dfa, back) → HasInner (B.dfa rev.now) pre.now r
         → IfOk result (IsAnswerFor kind r input.now match_value) }
     ensures within { IfOk result (λ found. IfSome found (LiesIn input.now)) }
     ensures in_range { IfOk result (λ found. IfSome found (λ m. m.pattern < length forward.now.dfa.nfa.starts)) }
