@@ -455,7 +455,8 @@ impl Regex {
         self.strategy().memory_usage()
     }
 
-    /// The name of the strategy by which it searches: `core`, `reverse anchored`, or `prefilter` and the kind of search for literals.
+    /// The name of the strategy by which it searches: `core`, `reverse anchored`, `reverse suffix`, `reverse inner`, or
+    /// `prefilter` and the kind of search for literals.
     /// It may change from version to version.
     #[tactic(auto, unfolding(crate::specs::Regex::name_of))]
     pub fn strategy_name(&self) -> &'static str

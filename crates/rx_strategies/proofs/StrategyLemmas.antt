@@ -14,13 +14,15 @@ use Rattle.rx_strategy.proofs.ImpossibleLemmas.{no-next}
 use Rattle.rx_strategy.proofs.StrategyLemmas as lower
 use Rattle.rx_strategies.specs.Strategy.{IsFor, finds, prefilter_in}
 use Rattle.rx_strategies.specs.declared.strategy.Strategy.{Strategy}
-use Rattle.rx_strategies.specs.declared.strategy.Strategy.TheVariants.{Pre, Core, ReverseAnchored}
+use Rattle.rx_strategies.specs.declared.strategy.Strategy.TheVariants.{Pre, Core, ReverseAnchored, ReverseSuffix, ReverseInner}
 
 -- what a strategy finds is what its patterns tell
 pub finds-told : (s : Strategy) (r : Patterns) (v : InputValue) → v.end ≤ length v.haystack → Premises (IsFor s r) (prefilter_in s) r v → finds s v ≡ told_in r v
 finds-told (Pre p) r v within x = pre.finds-told p r v x.is_for within x.utf8
 finds-told (Core c) r v within x = lower.finds-told c v within r x.is_for
 finds-told (ReverseAnchored c) r v within x = lower.finds-told c v within r x.is_for
+finds-told (ReverseSuffix s) r v within x = lower.finds-told s.core v within r x.is_for.0
+finds-told (ReverseInner i) r v within x = lower.finds-told i.core v within r x.is_for.0
 
 -- the only one of a list
 only-one : (P : Expression → Type 0) (h : Expression) → P h → (p : ℕ) (g : Expression) → slice_get (h ∷ []) p ≡ Some g → P g

@@ -1,3 +1,4 @@
 pub mod Choice
+pub mod Attempts
 pub mod Strategy
 pub mod Cache

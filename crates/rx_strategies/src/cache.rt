@@ -1,10 +1,12 @@
 //! What the searches of a strategy write to.
 ghost use Rattle.std.specs.Prelude.{◌≡◌, true, false, IfOk, OnOk, OnErr, IsOk};
-ghost use Rattle.rx_strategies.specs.Cache.{Fits, FitsCore, FitsAsBefore, StillFits, memory_of, states_in, fixed_in, accounted_for, rooms_memory};
+ghost use Rattle.rx_strategies.specs.Cache.{Fits, FitsCore, FitsInner, FitsAsBefore, StillFits, memory_of, states_in, fixed_in, accounted_for, rooms_memory};
 ghost use Rattle.rx_strategy.specs.Cache as lower;
 
+use crate::inner::ReverseInner;
 use crate::strategy::Strategy;
 use rx_search::Memory;
+use rx_strategy::PrefixCache;
 use std::alloc::Global;
 use std::marker::Model;
 
@@ -16,8 +18,12 @@ use std::marker::Model;
 pub struct Cache {
     /// The cache of a core, once there was one.
     pub(crate) rooms: Option<rx_strategy::Cache>,
+    /// The cache of what reads a prefix backwards, once there was one.
+    pub(crate) prefix: PrefixCache,
     /// Its strategy has a core.
     pub(crate) in_use: bool,
+    /// Its strategy reads a prefix backwards.
+    pub(crate) reads_prefix: bool,
 }
 
 impl Model for Cache {
@@ -25,7 +31,7 @@ impl Model for Cache {
 
     ghost Value = { CacheValue };
 
-    ghost view = { λ c. record { rooms = c.rooms; in_use = c.in_use } };
+    ghost view = { λ c. record { rooms = c.rooms; prefix = c.prefix; in_use = c.in_use; reads_prefix = c.reads_prefix } };
 }
 
 impl Cache {
@@ -38,9 +44,13 @@ impl Cache {
         match strategy {
             Strategy::Pre(_) => Ok(Cache {
                 rooms: None,
+                prefix: PrefixCache::absent(),
                 in_use: false,
+                reads_prefix: false,
             }),
             Strategy::ReverseAnchored(anchored) => Cache::for_core(alloc, anchored.core()),
+            Strategy::ReverseSuffix(suffix) => Cache::for_core(alloc, suffix.core()),
+            Strategy::ReverseInner(inner) => Cache::for_inner(alloc, inner),
             Strategy::Core(core) => Cache::for_core(alloc, core),
         }
     }
@@ -53,7 +63,24 @@ impl Cache {
     {
         Ok(Cache {
             rooms: Some(core.create_cache(alloc)?),
+            prefix: PrefixCache::absent(),
             in_use: true,
+            reads_prefix: false,
+        })
+    }
+
+    /// A cache that serves this search by literals within each match.
+    fn for_inner(alloc: Global, inner: &ReverseInner) -> Result<Cache, Memory>
+        ensures fits { IfOk result (FitsInner inner.now) }
+        ensures memory { IfOk result (λ c. memory_of c ≡ lower.accounted_for inner.now.core) }
+        ensures empty { IfOk result (λ c. states_in c ≡ 0) }
+    {
+        let rooms = inner.core().create_cache(alloc)?;
+        Ok(Cache {
+            rooms: Some(rooms),
+            prefix: PrefixCache::new(alloc, inner.prefix())?,
+            in_use: true,
+            reads_prefix: true,
         })
     }
 
@@ -71,9 +98,12 @@ impl Cache {
         match strategy {
             Strategy::Pre(_) => {
                 self.in_use = false;
+                self.reads_prefix = false;
                 Ok(())
             }
             Strategy::ReverseAnchored(anchored) => self.reset_for(alloc, anchored.core()),
+            Strategy::ReverseSuffix(suffix) => self.reset_for(alloc, suffix.core()),
+            Strategy::ReverseInner(inner) => self.reset_inner(alloc, inner),
             Strategy::Core(core) => self.reset_for(alloc, core),
         }
     }
@@ -91,11 +121,30 @@ impl Cache {
         if let Some(rooms) = &mut self.rooms {
             rooms.reset(alloc, core)?;
             self.in_use = true;
+            self.reads_prefix = false;
             return Ok(());
         }
         let made = core.create_cache(alloc)?;
         self.rooms = Some(made);
         self.in_use = true;
+        self.reads_prefix = false;
+        Ok(())
+    }
+
+    /// Makes any cache one that serves this search by literals within each match.
+    fn reset_inner(&mut self, alloc: Global, inner: &ReverseInner) -> Result<(), Memory>
+        ensures fits { OnOk result (FitsInner inner.now self.new) }
+        ensures memory { OnOk result (memory_of self.new ≡ lower.accounted_for inner.now.core) }
+        ensures empty { OnOk result (states_in self.new ≡ 0) }
+        ensures err { OnErr result (FitsAsBefore self.old self.new) }
+        ensures sure { FitsInner inner.now self.old → IsOk result }
+        ensures kept { FitsInner inner.now self.old → StillFits self.old self.new }
+    {
+        // First the room for the prefix, so that nothing changes where there is none.
+        let missing = self.prefix.missing(alloc, inner.prefix())?;
+        self.reset_for(alloc, inner.core())?;
+        self.prefix.renew(missing);
+        self.reads_prefix = true;
         Ok(())
     }
 
@@ -105,10 +154,14 @@ impl Cache {
     pub fn memory_usage(&self) -> usize
         ensures { result ≡ memory_of self.now }
     {
-        if self.in_use {
-            return rooms_memory(&self.rooms);
+        if !self.in_use {
+            return 0;
         }
-        0
+        let rooms = rooms_memory(&self.rooms);
+        if self.reads_prefix {
+            return rooms.saturating_add(self.prefix.memory_usage());
+        }
+        rooms
     }
 
     /// A cache of its own with the same room. It holds no states of lazy DFAs.
@@ -117,14 +170,19 @@ impl Cache {
         ensures fixed { IfOk result (λ copy. fixed_in copy ≡ fixed_in self.now) }
         ensures empty { IfOk result (λ copy. states_in copy ≡ 0) }
     {
+        let prefix = self.prefix.clone(alloc)?;
         match &self.rooms {
             Some(rooms) => Ok(Cache {
                 rooms: Some(rooms.clone(alloc)?),
+                prefix,
                 in_use: self.in_use,
+                reads_prefix: self.reads_prefix,
             }),
             None => Ok(Cache {
                 rooms: None,
+                prefix,
                 in_use: self.in_use,
+                reads_prefix: self.reads_prefix,
             }),
         }
     }

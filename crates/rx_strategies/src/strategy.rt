@@ -15,18 +15,25 @@ ghost use Rattle.rx_strategy.specs.Config.{kind_of, compiler_of};
 ghost use Rattle.rx_strategy.specs.Impossible.{is_impossible, IsKnownImpossible};
 ghost use Rattle.rx_strategy.specs.Strategy as lower;
 ghost use Rattle.rx_strategies.specs.Cache.{Fits, AccountsAlike, memory_of, states_in, accounted_for};
-ghost use Rattle.rx_strategies.specs.Strategy.{IsFor, IsMadeOf, IsPlainOf, kind_in, groups_in, pattern_count, properties_of, prefilter_in, strategy_memory, core_memory};
+ghost use Rattle.rx_strategies.specs.Strategy.{IsFor, IsMadeOf, IsPlainOf, IsForwardsOf, kind_in, groups_in, pattern_count, properties_of, prefilter_in, strategy_memory, core_memory};
 ghost use Rattle.rx_strategies.specs.Strategy.{backtracks, is_accelerated, name_of, IsFew};
 
+mod candidates;
 mod cores;
 
 use crate::anchored::ReverseAnchored;
 use crate::cache::Cache;
+use crate::inner::ReverseInner;
 use crate::literal::{literal_name, literal_only};
+use crate::strategy::candidates::{
+    inner_half, inner_is_match, inner_memory, inner_slots, suffix_half, suffix_is_match,
+    suffix_memory, suffix_slots,
+};
 use crate::strategy::cores::{
     anchored_half, anchored_is_match, anchored_slots, core_half, core_is_match, core_memory,
     core_set, core_slots,
 };
+use crate::suffix::ReverseSuffix;
 use rx_hir::{Hir, Properties};
 use rx_nfa::BuildError;
 use rx_pre::Pre;
@@ -43,6 +50,10 @@ pub enum Strategy {
     Pre(Pre),
     /// Each match ends at the end of the haystack, and is searched from there.
     ReverseAnchored(ReverseAnchored),
+    /// A literal ends each match, and is searched for.
+    ReverseSuffix(ReverseSuffix),
+    /// One of some literals lies within each match, and is searched for.
+    ReverseInner(ReverseInner),
     /// DFAs and engines run NFAs.
     Core(rx_strategy::Strategy),
 }
@@ -98,6 +109,13 @@ impl Strategy {
         match self {
             Strategy::Pre(pre) => Ok(pre.search_half(input)),
             Strategy::ReverseAnchored(anchored) => anchored_half(anchored, &mut cache.rooms, input),
+            Strategy::ReverseSuffix(suffix) => suffix_half(suffix, &mut cache.rooms, input),
+            Strategy::ReverseInner(inner) => inner_half(
+                inner,
+                &mut cache.rooms,
+                &mut cache.prefix,
+                input,
+            ),
             Strategy::Core(core) => core_half(core, &mut cache.rooms, input),
         }
     }
@@ -135,6 +153,14 @@ impl Strategy {
                 input,
                 slots,
             ),
+            Strategy::ReverseSuffix(suffix) => suffix_slots(suffix, &mut cache.rooms, input, slots),
+            Strategy::ReverseInner(inner) => inner_slots(
+                inner,
+                &mut cache.rooms,
+                &mut cache.prefix,
+                input,
+                slots,
+            ),
             Strategy::Core(core) => core_slots(core, &mut cache.rooms, input, slots),
         }
     }
@@ -154,6 +180,13 @@ impl Strategy {
             Strategy::ReverseAnchored(anchored) => anchored_is_match(
                 anchored,
                 &mut cache.rooms,
+                input,
+            ),
+            Strategy::ReverseSuffix(suffix) => suffix_is_match(suffix, &mut cache.rooms, input),
+            Strategy::ReverseInner(inner) => inner_is_match(
+                inner,
+                &mut cache.rooms,
+                &mut cache.prefix,
                 input,
             ),
             Strategy::Core(core) => core_is_match(core, &mut cache.rooms, input),
@@ -191,6 +224,13 @@ impl Strategy {
                 input,
                 set,
             ),
+            Strategy::ReverseSuffix(suffix) => core_set(
+                suffix.core(),
+                &mut cache.rooms,
+                input,
+                set,
+            ),
+            Strategy::ReverseInner(inner) => core_set(inner.core(), &mut cache.rooms, input, set),
             Strategy::Core(core) => core_set(core, &mut cache.rooms, input, set),
         }
     }
@@ -202,6 +242,8 @@ impl Strategy {
         match self {
             Strategy::Pre(pre) => pre.properties(),
             Strategy::ReverseAnchored(anchored) => anchored.core().properties(),
+            Strategy::ReverseSuffix(suffix) => suffix.core().properties(),
+            Strategy::ReverseInner(inner) => inner.core().properties(),
             Strategy::Core(core) => core.properties(),
         }
     }
@@ -216,6 +258,8 @@ impl Strategy {
         match self {
             Strategy::Pre(pre) => is_impossible_by(pre.properties(), input),
             Strategy::ReverseAnchored(anchored) => anchored.core().is_impossible(input),
+            Strategy::ReverseSuffix(suffix) => suffix.core().is_impossible(input),
+            Strategy::ReverseInner(inner) => inner.core().is_impossible(input),
             Strategy::Core(core) => core.is_impossible(input),
         }
     }
@@ -238,6 +282,8 @@ impl Strategy {
         match self {
             Strategy::Pre(_) => 1,
             Strategy::ReverseAnchored(anchored) => anchored.core().pattern_len(),
+            Strategy::ReverseSuffix(suffix) => suffix.core().pattern_len(),
+            Strategy::ReverseInner(inner) => inner.core().pattern_len(),
             Strategy::Core(core) => core.pattern_len(),
         }
     }
@@ -251,6 +297,8 @@ impl Strategy {
         match self {
             Strategy::Pre(pre) => pre.memory_usage(),
             Strategy::ReverseAnchored(anchored) => core_memory(anchored.core()),
+            Strategy::ReverseSuffix(suffix) => suffix_memory(suffix),
+            Strategy::ReverseInner(inner) => inner_memory(inner),
             Strategy::Core(core) => core_memory(core),
         }
     }
@@ -262,6 +310,8 @@ impl Strategy {
         match self {
             Strategy::Pre(pre) => pre.is_fast(),
             Strategy::ReverseAnchored(_) => true,
+            Strategy::ReverseSuffix(suffix) => suffix.prefilter().is_fast(),
+            Strategy::ReverseInner(inner) => inner.prefilter().is_fast(),
             Strategy::Core(core) => core.is_accelerated(),
         }
     }
@@ -274,6 +324,8 @@ impl Strategy {
         match self {
             Strategy::Pre(pre) => literal_name(pre.choice()),
             Strategy::ReverseAnchored(_) => "reverse anchored",
+            Strategy::ReverseSuffix(_) => "reverse suffix",
+            Strategy::ReverseInner(_) => "reverse inner",
             Strategy::Core(_) => "core",
         }
     }
@@ -285,6 +337,8 @@ impl Strategy {
         match self {
             Strategy::Pre(pre) => pre.group_info(),
             Strategy::ReverseAnchored(anchored) => anchored.core().group_info(),
+            Strategy::ReverseSuffix(suffix) => suffix.core().group_info(),
+            Strategy::ReverseInner(inner) => inner.core().group_info(),
             Strategy::Core(core) => core.group_info(),
         }
     }
@@ -302,16 +356,42 @@ fn first_of(
 {
     match literal_only(alloc, config, exprs, core)? {
         Ok(pre) => Ok(Strategy::Pre(pre)),
-        Err(core) => Ok(with_core(core)),
+        Err(core) => with_core(alloc, config, exprs, core),
     }
 }
 
-/// The first strategy that applies to what the core is for.
-fn with_core(core: rx_strategy::Strategy) -> Strategy
-    ensures { (config : Config) (hs : List Expression) → IsPlainOf config hs core → IsMadeOf config hs result }
+/// The first strategy with a core that applies to these expressions, of which the core is, and which are no literals alone.
+fn with_core(
+    alloc: Global,
+    config: &Config,
+    exprs: &[Hir],
+    core: rx_strategy::Strategy,
+) -> Result<Strategy, Memory>
+    requires { IsPlainOf config.now exprs.now core }
+    ensures { IfOk result (IsMadeOf config.now exprs.now) }
 {
     match ReverseAnchored::new(core) {
-        Ok(anchored) => Strategy::ReverseAnchored(anchored),
-        Err(core) => Strategy::Core(core),
+        Ok(anchored) => Ok(Strategy::ReverseAnchored(anchored)),
+        Err(core) => by_candidates(alloc, config, exprs, core),
+    }
+}
+
+/// The first of those that search by candidates that applies, or else the core.
+fn by_candidates(
+    alloc: Global,
+    config: &Config,
+    exprs: &[Hir],
+    core: rx_strategy::Strategy,
+) -> Result<Strategy, Memory>
+    requires { IsForwardsOf config.now exprs.now core }
+    ensures { IfOk result (IsMadeOf config.now exprs.now) }
+{
+    let core = match ReverseSuffix::new(alloc, config, exprs, core)? {
+        Ok(suffix) => return Ok(Strategy::ReverseSuffix(suffix)),
+        Err(core) => core,
+    };
+    match ReverseInner::new(alloc, config, exprs, core)? {
+        Ok(inner) => Ok(Strategy::ReverseInner(inner)),
+        Err(core) => Ok(Strategy::Core(core)),
     }
 }

@@ -16,6 +16,7 @@ use Rattle.rx_nfa.specs.NextMatch.{next_match_in}
 use Rattle.rx_nfa.proofs.lemmas.runs.NextMatchLemmas.{next_match_of-patterns}
 use Rattle.rx_search.specs.Answer.{IsAnswer, AreSlotsOfAnswer, TellsWhether}
 use Rattle.rx_engines.specs.Needles.{BeginsEachRun}
+use Rattle.rx_dfa.specs.Search.{IsAnswerFor}
 use Rattle.rx_strategy.specs.Core.{CoreValue, IsCoreFor, IsSearched, IsToldFor, core_finds}
 use Rattle.rx_strategy.proofs.NeedleLemmas.{begins-run}
 
@@ -202,6 +203,35 @@ module _ (c : CoreValue) (v : InputValue) where
             ((told-for r p.premises).slots p.leftmost p.whole);
         is_match = λ r p. (told-for r p).is_match;
       }
+
+  -- the same of some of its patterns
+  module _ (For : Patterns → Type 0) (of : (r : Patterns) → For r → IsCoreFor c r) (kind : MatchKind) where
+    module _ (slots : List (Option ℕ)) (found : Option MatchValue)
+        (told-for : (r : Patterns) → Premises (For r) c.pre r v → IsToldFor kind r v slots found) where
+      pub for-answers : tells c.which_captures ≡ true → IsAnswer For c.pre kind v match_value found
+      for-answers told = record {
+        value = λ r p. (told-for r p.premises).value p.leftmost p.whole;
+        exists = λ r p. (told-for r p).exists ∙ ap is_some (sym (told-yes r v (ap tells (of r p.is_for).which_captures ∙ told)));
+        is_match = λ r p. slots-aside r v slots found (told-for r p).is_match;
+      }
+
+      pub for-slots : AreSlotsOfAnswer For c.pre kind v match_value slots found
+      for-slots = record {
+        value = λ r p.
+            subst (λ (o : Option Match). IfSome o (HasSlots slots)) (told-whole r.which_captures p.told (next_in r v))
+            ((told-for r p.premises).slots p.leftmost p.whole);
+        is_match = λ r p. (told-for r p).is_match;
+      }
+
+    -- and of what its DFAs answer
+    pub for-dfa : {A : Type 0} (part : Match → A) (found : Option A)
+        → ((r : Patterns) → Premises (For r) c.pre r v → IsAnswerFor kind r v part found) → tells c.which_captures ≡ true
+        → IsAnswer For c.pre kind v part found
+    for-dfa part found is told = record {
+      value = λ r p. (is r p.premises).value p.leftmost p.whole;
+      exists = λ r p. (is r p).exists ∙ ap is_some (sym (told-yes r v (ap tells (of r p.is_for).which_captures ∙ told)));
+      is_match = λ r p. (is r p).is_match;
+    }
 
   -- nothing is told without captures
   pub silent-answers : (kind : MatchKind) → tells c.which_captures ≡ false → IsAnswer (λ r. IsCoreFor c r) c.pre kind v match_value None

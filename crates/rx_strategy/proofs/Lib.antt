@@ -7,6 +7,7 @@ pub mod AnchorLemmas
 pub mod InfoLemmas
 pub mod DfaLemmas
 pub mod EndingLemmas
+pub mod AttemptLemmas
 pub mod CacheLemmas
 pub mod CoreLemmas
 pub mod ThreadLemmas

@@ -13,6 +13,8 @@ use Rattle.rx_engines.proofs.pikevm.vm.PikeVM.TheSendSync as pikevm
 use Rattle.rx_engines.proofs.backtrack.backtracker.BoundedBacktracker.TheSendSync as backtracker
 use Rattle.rx_strategy.proofs.info.RegexInfo.TheSendSync as info
 use Rattle.rx_strategy.specs.contracts.dfas.Dfas as dfas
+use Rattle.rx_strategy.specs.contracts.prefix.PrefixDfa as prefix
+use Rattle.rx_strategy.specs.contracts.prefix.Sort as sort
 use Rattle.rx_strategy.specs.contracts.strategy.Strategy as strategy
 use Rattle.rx_strategy.specs.contracts.strategy.engines.Core as core
 
@@ -41,3 +43,15 @@ strategy_send = search (sendable, crosses, core_send) fits 5000 depth 40
 
 pub strategy_sync : IsSync strategy.the_row
 strategy_sync = search (sendable, crosses, core_sync) fits 5000 depth 40
+
+sort_send : IsSend (sort.the_field).row
+sort_send = search (sendable, crosses, dense_send, lazy.the_send) fits 5000 depth 40
+
+sort_sync : IsSync (sort.the_field).row
+sort_sync = search (sendable, crosses, dense_sync, lazy.the_sync) fits 5000 depth 40
+
+pub prefix_send : IsSend prefix.the_row
+prefix_send = search (sendable, crosses, nfa.the_send, sort_send) fits 5000 depth 40
+
+pub prefix_sync : IsSync prefix.the_row
+prefix_sync = search (sendable, crosses, nfa.the_sync, sort_sync) fits 5000 depth 40

@@ -107,6 +107,10 @@ asks_for_dfas c = dfa_of c || hybrid_of c
 abbrev pub reverse_compiler_of : Config → CompilerConfig
 reverse_compiler_of c = record (compiler_of c) { reverse = Some true; which_captures = Some NoGroup }
 
+-- .. and for that of what stands before literals, which tells each start, also one inside a character
+abbrev pub prefix_compiler_of : Config → CompilerConfig
+prefix_compiler_of c = record (reverse_compiler_of c) { utf8 = Some false }
+
 -- nothing is set
 abbrev pub nothing_set : Config
 nothing_set = record {

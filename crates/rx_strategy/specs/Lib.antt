@@ -7,6 +7,8 @@ pub mod Core
 pub mod Nofail
 pub mod Narrow
 pub mod Ending
+pub mod Attempts
+pub mod Prefix
 pub mod Span
 pub mod Strategy
 pub mod Cache

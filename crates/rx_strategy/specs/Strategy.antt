@@ -7,9 +7,15 @@ use Rattle.rx_search.specs.Limits.{id_limit}
 use Rattle.rx_search.specs.Told.{tells}
 use Rattle.rx_search.specs.declared.anchored.MatchKind.{MatchKind}
 use Rattle.rx_hir.specs.declared.hir.properties.Properties.{Properties}
+use Rattle.rx_search.specs.Matches.{MatchValue}
+use Rattle.rx_limited.specs.declared.retry_error.RetryError.{RetryError}
+use Rattle.rx_strategy.specs.Attempts.{SuffixFailsIn, InnerFailsIn, HasCountedSuffix, HasCountedInner}
+use Rattle.rx_strategy.specs.Cache.{CacheValue}
 use Rattle.rx_strategy.specs.Core.{IsCoreFor, IsCoreOf, core_finds, core_memory}
 use Rattle.rx_strategy.specs.Dfas.{tables_memory, are_lazy, pair_of}
 use Rattle.rx_strategy.specs.Ending.{is_fast_by}
+use Rattle.rx_strategy.specs.Prefix.{PrefixValue, dfa_of, prefix_gives_up, prefix_wants}
+use Rattle.rx_dfa.specs.declared.lazy.lazy_cache.LazyCache.{LazyCache}
 use Rattle.rx_strategy.specs.declared.config.Config.{Config}
 use Rattle.rx_strategy.specs.declared.strategy.Strategy.{Strategy}
 use Rattle.rx_strategy.specs.declared.strategy.Strategy.TheVariants.{Core}
@@ -77,3 +83,18 @@ backtracks (Core core) = core.backtracks
 -- the strategy that is made of these expressions under the configuration
 abbrev pub IsMadeOf : Config → List Expression → Strategy → Type 0
 IsMadeOf config hs (Core core) = IsCoreOf config hs core
+
+-- why an attempt by a suffix has no answer, and one by literals within, with this DFA of the prefix
+abbrev pub SuffixFailsFor : Strategy → List (List ℕ) → InputValue → CacheValue → RetryError → Type 0
+SuffixFailsFor (Core core) needles v cache error = SuffixFailsIn core.dfas needles v cache.lazies error
+
+abbrev pub InnerFailsFor : Strategy → PrefixValue → List (List ℕ) → InputValue → CacheValue → Option LazyCache → RetryError → Type 0
+InnerFailsFor (Core core) prefix needles v cache states error =
+    InnerFailsIn core.dfas (dfa_of prefix) needles v cache.lazies (prefix_gives_up prefix.sort states) (prefix_wants prefix.sort) error
+
+-- and how many steps an answer takes
+abbrev pub CountsSuffix : Strategy → List (List ℕ) → InputValue → (old new : ℕ) → Option MatchValue → Type 0
+CountsSuffix (Core core) needles v old new found = HasCountedSuffix core.dfas needles v old new found
+
+abbrev pub CountsInner : Strategy → PrefixValue → List (List ℕ) → InputValue → (old new : ℕ) → Option MatchValue → Type 0
+CountsInner (Core core) prefix needles v old new found = HasCountedInner core.dfas (dfa_of prefix) needles v old new found

@@ -4,8 +4,9 @@ ghost use Rattle.rx_strategy.specs.Config.{kind_of, utf8_of, auto_prefilter_of, 
 ghost use Rattle.rx_strategy.specs.Config.{onepass_size_limit_of, hybrid_cache_capacity_of, dfa_size_limit_of, dfa_state_limit_of};
 ghost use Rattle.rx_strategy.specs.Config.{byte_classes_of, pool_capacity_of, hybrid_of, dfa_of, onepass_of};
 ghost use Rattle.rx_strategy.specs.Config.{backtrack_of, compiler_of, has_backtracker, nothing_set, overwritten};
-ghost use Rattle.rx_strategy.specs.Config.{reverse_compiler_of, asks_for_dfas};
+ghost use Rattle.rx_strategy.specs.Config.{reverse_compiler_of, prefix_compiler_of, asks_for_dfas};
 ghost use Rattle.rx_strategy.specs.Availability.{may_be_full, table_limit};
+ghost use Rattle.rx_strategy.specs.Prefix.{prefix_limit};
 
 use rx_nfa::{NFA, WhichCaptures};
 use rx_prefilter::Prefilter;
@@ -381,6 +382,13 @@ impl Config {
             .which_captures(WhichCaptures::None)
     }
 
+    /// How the NFA of what stands before literals is compiled, which reads backwards. It tells each start, also one inside a character.
+    pub(crate) fn prefix_compiler(&self) -> rx_nfa::Config
+        ensures { result ≡ prefix_compiler_of self.now }
+    {
+        self.reverse_compiler().utf8(false)
+    }
+
     /// Whether DFAs are asked for, of either sort.
     pub(crate) fn asks_for_dfas(&self) -> bool
         ensures { result ≡ asks_for_dfas self.now }
@@ -407,6 +415,16 @@ impl Config {
     {
         match self.get_dfa_size_limit() {
             Some(limit) => Some(limit / 4),
+            None => None,
+        }
+    }
+
+    /// The most bytes that the table of the full DFA of what stands before literals may have.
+    pub(crate) fn prefix_limit(&self) -> Option<usize>
+        ensures { result ≡ prefix_limit self.now }
+    {
+        match self.get_dfa_size_limit() {
+            Some(limit) => Some(limit / 2),
             None => None,
         }
     }

@@ -14,7 +14,8 @@ ghost use Rattle.rx_dfa.specs.LazyCache.{IsCacheOf};
 ghost use Rattle.rx_dfa.specs.Search.{IsAnswerFor, TellsStarts, AreAllOrdered};
 ghost use Rattle.rx_strategy.specs.Dfas.{ArePaired, AreLeftmost, HaveRoomIn, SearchFor, are_lazy, FitsLazies, IsPatternOf, tables_memory};
 
-mod build;
+mod attempts;
+pub(crate) mod build;
 mod ending;
 
 use crate::lazies::Lazies;

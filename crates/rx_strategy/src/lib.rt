@@ -1,7 +1,7 @@
 //! The strategies of a regex: how a search is answered.
 //!
 //! A `Strategy` is one of several ways to search, of which `Core` is the only one so far: it runs DFAs and engines over one NFA. The
-//! contract of a strategy names the patterns alone, so that one that runs no automaton can meet it. It stands on rx_dfa and rx_engines.
+//! contract of a strategy names the patterns alone, so that one that runs no automaton can meet it. It stands on rx_attempts and rx_engines.
 #![tactic(auto)]
 
 mod cache;
@@ -13,6 +13,7 @@ mod laws;
 mod lazies;
 mod narrow;
 mod prefilter;
+mod prefix;
 mod span;
 mod strategy;
 mod threads;
@@ -22,4 +23,5 @@ pub use config::Config;
 pub use dfas::NoAnswer;
 pub use info::is_impossible_by;
 pub use laws::impossible_inputs_have_no_match;
+pub use prefix::{Missing, PrefixCache, PrefixDfa};
 pub use strategy::{Core, Strategy};

@@ -18,6 +18,7 @@ ghost use Rattle.rx_strategy.specs.Impossible.{is_impossible, IsKnownImpossible}
 ghost use Rattle.rx_strategy.specs.Strategy.{IsFor, kind_in, groups_in, pattern_count, properties_of, prefilter_in, strategy_memory, backtracks, IsFew, IsMadeOf};
 
 mod asked;
+mod attempts;
 mod engines;
 
 use crate::cache::Cache;

@@ -137,7 +137,7 @@ fn lazies(alloc: Global, config: &Config, nfa: &NFA, reverse: &NFA) -> Result<Df
 }
 
 /// The lazy DFA of the NFA and kind, where the capacity is at least its minimum.
-fn lazy_of(
+pub(crate) fn lazy_of(
     alloc: Global,
     config: &Config,
     nfa: &NFA,

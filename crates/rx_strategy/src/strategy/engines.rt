@@ -25,6 +25,7 @@ ghost use Rattle.rx_strategy.specs.Impossible.{is_always_anchored_start, is_impo
 ghost use Rattle.rx_strategy.specs.Narrow.{IsLenOf};
 ghost use Rattle.rx_strategy.specs.Nofail.{IsAskedFor};
 
+mod attempts;
 mod ending;
 
 use crate::cache::Cache;

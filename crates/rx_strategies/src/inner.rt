@@ -1,0 +1,274 @@
+//! The strategy that searches for literals within each match.
+ghost use Rattle.std.specs.Prelude.{◌≡◌, ◌≤◌, ◌<◌, ◌+◌, ◌*◌, true, false, length, None, replicate, IfOk, MatchOption, IfSome, IfNone, OnErr, IsOk};
+ghost use Rattle.std.specs.Result.{IfErr};
+ghost use Rattle.rx_model.specs.Search.{Patterns, is_anchored};
+ghost use Rattle.rx_search.specs.Answer.{IsAnswer, AreSlotsOfAnswer, TellsWhether};
+ghost use Rattle.rx_search.specs.Input.{IsSpanned, span_len};
+ghost use Rattle.rx_search.specs.Matches.{match_value, half_match_value};
+ghost use Rattle.rx_search.specs.Promise.{Premises};
+ghost use Rattle.rx_search.specs.Told.{AreWithin, LiesIn, HalfLiesIn};
+ghost use Rattle.rx_dfa.specs.Search.{IsAnswerFor};
+ghost use Rattle.rx_strategy.specs.Cache.{Fits, AccountsAlike};
+ghost use Rattle.rx_strategy.specs.Impossible.{IsKnownImpossible};
+ghost use Rattle.rx_strategy.specs.Strategy.{IsMadeOf, kind_in, pattern_count, prefilter_in, properties_of, InnerFailsFor, CountsInner};
+ghost use Rattle.rx_order.specs.Inner.{inner_of};
+ghost use Rattle.rx_strategy.specs.Prefix.{FitsPrefix, are_states};
+ghost use Rattle.rx_strategies.specs.Choice.{if_inner_in_order};
+ghost use Rattle.rx_strategies.specs.Attempts.{IsInnerFor, IsInnerTried, IsInnerFound};
+
+use crate::attempts::{half_match, may_attempt, tells_free};
+use rx_hir::Hir;
+use rx_limited::RetryError;
+use rx_order::{InnerPrefilter, inner_has_no_earlier_match};
+use rx_prefilter::Prefilter;
+use rx_search::{HalfMatch, Input, Match, Memory, NonMaxUsize, Steps};
+use rx_strategy::{Cache, Config, PrefixCache, PrefixDfa, Strategy};
+use std::alloc::Global;
+use std::marker::{Brand, Model};
+use std::sync::ledger::{Blank, Ledger};
+
+/// A search for one expression by literals, one of which lies within each of its matches: the span is searched for the literals, backwards
+/// by what stands before them from where one lies, and forwards from the start that is so found. No match starts earlier than the first
+/// one that is confirmed so. Where the search is anchored, or bytes would be read again and again, the core is asked, and its engines
+/// alone where a DFA has no answer.
+#[derive(Drop)]
+pub struct ReverseInner {
+    core: Strategy,
+    pre: Prefilter,
+    /// The DFA that reads what stands before the literals.
+    prefix: PrefixDfa,
+}
+
+impl Model for ReverseInner {
+    ghost use Rattle.rx_strategies.specs.Attempts.{InnerValue, IsByInner};
+
+    ghost Value = { InnerValue };
+
+    ghost view = { λ i. record { core = i.core; needles = i.pre; prefix = i.prefix } };
+
+    ghost invariant = { λ i. IsByInner i.core i.pre };
+}
+
+impl ReverseInner {
+    /// The search by literals within each match, where the only expression is searched so under the configuration. Else it gives the core
+    /// back, which is the expressions'.
+    ///
+    /// # Errors
+    ///
+    /// `Memory`, where there was no memory for the literals, or what stands before them.
+    pub fn new(
+        alloc: Global,
+        config: &Config,
+        exprs: &[Hir],
+        core: Strategy,
+    ) -> Result<Result<ReverseInner, Strategy>, Memory>
+        requires { IsMadeOf config.now exprs.now core }
+        ensures { IfOk result (IsInnerTried config.now exprs.now core) }
+    {
+        if !may_attempt(config, &core) {
+            return Ok(Err(core));
+        }
+        let Some(inner) = inner_search(alloc, exprs)? else {
+            return Ok(Err(core));
+        };
+        match PrefixDfa::new(alloc, config, &inner.prefix)? {
+            Some(prefix) => Ok(Ok(ReverseInner {
+                core,
+                pre: inner.pre,
+                prefix,
+            })),
+            None => Ok(Err(core)),
+        }
+    }
+
+    /// The core.
+    pub fn core(&self) -> &Strategy
+        ensures { result.now ≡ self.now.core }
+    {
+        &self.core
+    }
+
+    /// The search for the literals.
+    pub fn prefilter(&self) -> &Prefilter
+        ensures { result.now ≡ self.now.needles }
+    {
+        &self.pre
+    }
+
+    /// The DFA that reads what stands before the literals.
+    pub fn prefix(&self) -> &PrefixDfa
+        ensures { result.now ≡ self.now.prefix }
+    {
+        &self.prefix
+    }
+
+    /// The next match in the input's span, by an attempt; or why it has no answer. The input is not anchored. With `earliest` it is some
+    /// match, where there is one.
+    ///
+    /// # Errors
+    ///
+    /// `Quadratic` where bytes would be read again and again; `Fail` where a DFA quit or gave up; `Memory`.
+    pub fn try_search<L: Ledger>(
+        &self,
+        cache: &mut Cache,
+        states: &mut PrefixCache,
+        input: &Input<'_>,
+        steps: &mut Steps<L>,
+    ) -> Result<Option<Match>, RetryError>
+        requires fits { Fits self.now.core cache.old }
+        requires states_fit { FitsPrefix self.now.prefix states.old }
+        requires free { is_anchored input.now.anchor ≡ false }
+        ensures answer { (r : Patterns) → Premises (IsInnerFor self.now r) (prefilter_in self.now.core) r input.now
+            → IfOk result (IsAnswerFor (kind_in self.now.core) r input.now match_value) }
+        ensures within { IfOk result (λ found. IfSome found (LiesIn input.now)) }
+        ensures in_range { IfOk result (λ found. IfSome found (λ m. m.pattern < pattern_count self.now.core)) }
+        ensures err { IfErr result (InnerFailsFor self.now.core self.now.prefix self.now.needles input.now cache.new states.new) }
+        ensures ticks { input.now.earliest ≡ false → IfOk result (CountsInner self.now.core self.now.prefix self.now.needles input.now steps.old steps.new) }
+        ensures few { steps.new ≤ steps.old + 8 * (span_len input.now + 1) }
+        ensures cache { Fits self.now.core cache.new }
+        ensures states_fit { FitsPrefix self.now.prefix states.new }
+        ensures states_same { are_states self.now.prefix ≡ false → states.new ≡ states.old }
+        ensures memory { AccountsAlike self.now.core cache.old cache.new }
+    {
+        self.core
+            .try_reverse_inner(cache, &self.pre, &self.prefix, states, input, steps)
+    }
+
+    /// The end of the next match in the input's span, with its pattern, where matches are told.
+    ///
+    /// `Memory`: there was no memory for the search.
+    pub fn search_half(
+        &self,
+        cache: &mut Cache,
+        states: &mut PrefixCache,
+        input: &Input<'_>,
+    ) -> Result<Option<HalfMatch>, Memory>
+        requires fits { Fits self.now.core cache.old }
+        requires states_fit { FitsPrefix self.now.prefix states.old }
+        ensures answer { IfOk result (IsAnswer (IsInnerFor self.now) (prefilter_in self.now.core) (kind_in self.now.core) input.now half_match_value) }
+        ensures within { IfOk result (λ o. IfSome o (HalfLiesIn input.now)) }
+        ensures in_range { IfOk result (λ o. IfSome o (λ half. half.pattern < pattern_count self.now.core)) }
+        ensures cache { Fits self.now.core cache.new }
+        ensures states_fit { FitsPrefix self.now.prefix states.new }
+        ensures states_same { are_states self.now.prefix ≡ false → states.new ≡ states.old }
+        ensures memory { AccountsAlike self.now.core cache.old cache.new }
+        ensures sure { IsKnownImpossible (properties_of self.now.core) input.now → IsOk result }
+    {
+        if !tells_free(&self.core, input) {
+            return self.core.search_half(cache, input);
+        }
+        match self.attempt::<Brand>(Blank::new(1), cache, states, input) {
+            Ok(found) => Ok(half_match(found)),
+            Err(RetryError::Quadratic(_)) => self.core.search_half(cache, input),
+            Err(_) => Ok(self.core.search_half_nofail(cache, input)),
+        }
+    }
+
+    /// The next match in the input's span, with its slots, where matches are told.
+    ///
+    /// `Memory`: there was no memory for the search.
+    pub fn search_slots(
+        &self,
+        cache: &mut Cache,
+        states: &mut PrefixCache,
+        input: &Input<'_>,
+        slots: &mut [Option<NonMaxUsize>],
+    ) -> Result<Option<Match>, Memory>
+        requires fits { Fits self.now.core cache.old }
+        requires states_fit { FitsPrefix self.now.prefix states.old }
+        ensures answer { IfOk result (IsAnswer (IsInnerFor self.now) (prefilter_in self.now.core) (kind_in self.now.core) input.now match_value) }
+        ensures slots { IfOk result (AreSlotsOfAnswer (IsInnerFor self.now) (prefilter_in self.now.core) (kind_in self.now.core) input.now match_value slots.new) }
+        ensures within { IfOk result (λ o. IfSome o (LiesIn input.now)) }
+        ensures in_range { IfOk result (λ o. IfSome o (λ m. m.pattern < pattern_count self.now.core)) }
+        ensures none { IfOk result (λ o. IfNone o (slots.new ≡ replicate (length slots.old) None)) }
+        ensures err { OnErr result (slots.new ≡ replicate (length slots.old) None) }
+        ensures slots_within { AreWithin input.now slots.new }
+        ensures cache { Fits self.now.core cache.new }
+        ensures states_fit { FitsPrefix self.now.prefix states.new }
+        ensures states_same { are_states self.now.prefix ≡ false → states.new ≡ states.old }
+        ensures memory { AccountsAlike self.now.core cache.old cache.new }
+        ensures sure { IsKnownImpossible (properties_of self.now.core) input.now → IsOk result }
+    {
+        if !tells_free(&self.core, input) {
+            return self.core.search_slots(cache, input, slots);
+        }
+        match self.attempt::<Brand>(Blank::new(1), cache, states, input) {
+            Ok(found) => Ok(self.core.tell_found(cache, input, found, slots)),
+            Err(RetryError::Quadratic(_)) => self.core.search_slots(cache, input, slots),
+            Err(_) => Ok(self.core.search_slots_nofail(cache, input, slots)),
+        }
+    }
+
+    /// Whether there is a match in the input's span, under each kind of match and of captures.
+    ///
+    /// `Memory`: there was no memory for the search.
+    pub fn is_match(
+        &self,
+        cache: &mut Cache,
+        states: &mut PrefixCache,
+        input: &Input<'_>,
+    ) -> Result<bool, Memory>
+        requires fits { Fits self.now.core cache.old }
+        requires states_fit { FitsPrefix self.now.prefix states.old }
+        ensures value { IfOk result (TellsWhether (IsInnerFor self.now) (prefilter_in self.now.core) input.now) }
+        ensures cache { Fits self.now.core cache.new }
+        ensures states_fit { FitsPrefix self.now.prefix states.new }
+        ensures states_same { are_states self.now.prefix ≡ false → states.new ≡ states.old }
+        ensures memory { AccountsAlike self.now.core cache.old cache.new }
+        ensures sure { IsKnownImpossible (properties_of self.now.core) input.now → IsOk result }
+    {
+        let _haystack = input.haystack();
+        if input.get_anchored().is_anchored() {
+            return self.core.is_match(cache, input);
+        }
+        let mut any = input.clone();
+        any.set_earliest(true);
+        match self.attempt::<Brand>(Blank::new(1), cache, states, &any) {
+            Ok(found) => Ok(found.is_some()),
+            Err(RetryError::Quadratic(_)) => self.core.is_match(cache, input),
+            Err(_) => Ok(self.core.is_match_nofail(cache, input)),
+        }
+    }
+
+    /// As `try_search`, where nobody reads the count.
+    fn attempt<L: Ledger>(
+        &self,
+        blank: Blank,
+        cache: &mut Cache,
+        states: &mut PrefixCache,
+        input: &Input<'_>,
+    ) -> Result<Option<Match>, RetryError>
+        requires name { blank.name ≡ L.name }
+        requires parts { blank.parts ≡ L.parts }
+        requires some { 0 < blank.parts }
+        requires fits { Fits self.now.core cache.old }
+        requires states_fit { FitsPrefix self.now.prefix states.old }
+        requires free { is_anchored input.now.anchor ≡ false }
+        ensures answer { (r : Patterns) → Premises (IsInnerFor self.now r) (prefilter_in self.now.core) r input.now
+            → IfOk result (IsAnswerFor (kind_in self.now.core) r input.now match_value) }
+        ensures within { IfOk result (λ found. IfSome found (LiesIn input.now)) }
+        ensures in_range { IfOk result (λ found. IfSome found (λ m. m.pattern < pattern_count self.now.core)) }
+        ensures cache { Fits self.now.core cache.new }
+        ensures states_fit { FitsPrefix self.now.prefix states.new }
+        ensures states_same { are_states self.now.prefix ≡ false → states.new ≡ states.old }
+        ensures memory { AccountsAlike self.now.core cache.old cache.new }
+    {
+        let mut steps = Steps::<L>::open(blank);
+        self.try_search(cache, states, input, &mut steps)
+    }
+}
+
+/// The literals within each match of the only expression, and what stands before them, where no match starts earlier than the first one
+/// that is so confirmed.
+fn inner_search(alloc: Global, exprs: &[Hir]) -> Result<Option<InnerPrefilter>, Memory>
+    ensures { IfOk result (λ found. MatchOption found (if_inner_in_order (inner_of exprs.now) ≡ None)
+        (λ i. IsInnerFound exprs.now i.prefix i.pre)) }
+{
+    let Some(inner) = InnerPrefilter::new(alloc, exprs)? else {
+        return Ok(None);
+    };
+    if inner_has_no_earlier_match(&inner.prefix, &inner.literals) {
+        return Ok(Some(inner));
+    }
+    Ok(None)
+}
