@@ -12,7 +12,8 @@ use std::marker::Model;
 /// What the searches of a regex write to. It is made once, and serves one search after another.
 #[derive(Drop)]
 pub struct Cache {
-    pub(crate) rooms: rx_strategies::Cache,
+    // A pool moves its values (DECISIONS: a cache is one word).
+    pub(crate) rooms: Box<rx_strategies::Cache>,
 }
 
 impl Model for Cache {
@@ -20,7 +21,7 @@ impl Model for Cache {
 
     ghost Value = { CacheValue };
 
-    ghost view = { λ c. record { rooms = c.rooms } };
+    ghost view = { λ c. record { rooms = c.rooms.value } };
 }
 
 impl Cache {
@@ -80,7 +81,7 @@ impl Cache {
         ensures empty { IfOk result (λ copy. states_memory copy ≡ 0) }
     {
         Ok(Cache {
-            rooms: self.rooms.clone(alloc)?,
+            rooms: Box::new(alloc, self.rooms.clone(alloc)?)?,
         })
     }
 }

@@ -431,7 +431,7 @@ impl Regex {
         ensures empty { IfOk result (λ c. states_memory c ≡ 0) }
     {
         Ok(Cache {
-            rooms: self.strategy().create_cache(alloc)?,
+            rooms: Box::new(alloc, self.strategy().create_cache(alloc)?)?,
         })
     }
 
