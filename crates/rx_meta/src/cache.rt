@@ -12,7 +12,7 @@ use std::marker::Model;
 /// What the searches of a regex write to. It is made once, and serves one search after another.
 #[derive(Drop)]
 pub struct Cache {
-    // A pool moves its values (DECISIONS: a cache is one word).
+    // A pool moves its values often (DECISIONS: a cache of a regex is a box).
     pub(crate) rooms: Box<rx_strategies::Cache>,
 }
 
