@@ -10,7 +10,7 @@ import sys
 
 from iterators import rows_of
 
-SEARCHES = 10_000
+SEARCHES = 100_000
 LINES = 1_000_000
 MOST = 2.0
 
