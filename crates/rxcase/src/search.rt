@@ -120,14 +120,10 @@ impl Searching {
     ///
     /// `Usage` where the haystack has no such span.
     fn within<'h>(&self, haystack: &'h [u8]) -> Result<Input<'h>, Failure> {
-        let (start, end) = self.span.unwrap_or((0, haystack.len()));
-        if end > haystack.len() {
-            return Err(Failure::Usage);
+        match self.span {
+            Some((start, end)) => part(haystack, start, end),
+            None => Ok(Input::new(haystack)),
         }
-        if start > end + 1 {
-            return Err(Failure::Usage);
-        }
-        Ok(Input::new(haystack).span(Span { start, end }))
     }
 
     /// The input of a search of this haystack.
@@ -148,8 +144,9 @@ impl Searching {
     pub fn free_input<'h>(&self, haystack: &'h [u8]) -> Result<Input<'h>, Failure>
         ensures { IfOk result (λ i. is_anchored i.anchor ≡ false) }
     {
+        let input = self.within(haystack)?;
         match self.mode {
-            Mode::Free => Ok(self.within(haystack)?.anchored(Anchored::No)),
+            Mode::Free => Ok(input.anchored(Anchored::No)),
             _ => Err(Failure::Usage),
         }
     }
@@ -177,4 +174,15 @@ impl Searching {
             Mode::Only(pattern) => Anchored::Pattern(pattern),
         }
     }
+}
+
+/// This span of a haystack, if it has it.
+fn part(haystack: &[u8], start: usize, end: usize) -> Result<Input<'_>, Failure> {
+    if end > haystack.len() {
+        return Err(Failure::Usage);
+    }
+    if start > end + 1 {
+        return Err(Failure::Usage);
+    }
+    Ok(Input::new(haystack).span(Span { start, end }))
 }

@@ -122,8 +122,10 @@ pub fn tell_set(told: &mut String, set: &PatternSet) -> Result<(), Failure> {
 }
 
 fn tell_number(told: &mut String, pattern: PatternID, is_first: bool) -> Result<(), AllocError> {
-    let parting = if is_first { "" } else { " " };
-    write!(told, "{parting}{}", pattern.as_usize())
+    if !is_first {
+        told.push(' ')?;
+    }
+    write!(told, "{}", pattern.as_usize())
 }
 
 /// Appends the pattern and, for each two slots, their span: `0: 3..5 -`.
