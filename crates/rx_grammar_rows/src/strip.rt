@@ -1,7 +1,7 @@
 //! What is left of patterns without the literal that ends them.
 
 use crate::syntax::is_literal;
-use rx_hir::{Hir, HirKind};
+use rx_hir::{Hir, HirKind, Repetition};
 use rx_order::strip_literal_suffix;
 use rx_syntax::parse;
 use std::alloc::Global;
@@ -13,27 +13,31 @@ fn left(alloc: Global, pattern: &str, suffix: &[u8]) -> Result<Option<Hir>, Fail
     Ok(strip_literal_suffix(alloc, &hir, suffix)?)
 }
 
-/// The body of a repetition without a greatest number of copies, of which this is the least.
-fn body(hir: &Hir, least: u32) -> Option<&Hir> {
+/// Whether there are at least so many copies, and no greatest number of them.
+fn are_at_least(copies: &Repetition, least: u32) -> bool {
+    copies.min == least && copies.max.is_none()
+}
+
+fn is_class(hir: &Hir) -> bool {
     match hir.kind() {
-        HirKind::Repetition(copies) => {
-            if copies.min == least && copies.max.is_none() {
-                return Some(&copies.sub);
-            }
-            None
-        }
-        _ => None,
+        HirKind::Class(_) => true,
+        _ => false,
     }
 }
 
 /// Whether it is at least one copy of a class.
 fn is_class_plus(hir: &Hir) -> bool {
-    match body(hir, 1) {
-        Some(sub) => match sub.kind() {
-            HirKind::Class(_) => true,
-            _ => false,
-        },
-        None => false,
+    match hir.kind() {
+        HirKind::Repetition(copies) => are_at_least(copies, 1) && is_class(&copies.sub),
+        _ => false,
+    }
+}
+
+/// Whether it is any number of copies of a literal.
+fn is_literal_star(hir: &Hir, bytes: &[u8]) -> bool {
+    match hir.kind() {
+        HirKind::Repetition(copies) => are_at_least(copies, 0) && is_literal(&copies.sub, bytes),
+        _ => false,
     }
 }
 
@@ -41,12 +45,9 @@ fn is_class_plus(hir: &Hir) -> bool {
 fn is_x_then_copies(hir: &Hir) -> bool {
     match hir.kind() {
         HirKind::Concat(parts) => match parts.as_slice() {
-            [first, copies, last] => match body(copies, 0) {
-                Some(sub) => {
-                    is_literal(first, b"x") && is_literal(sub, b"ab") && is_literal(last, b"a")
-                }
-                None => false,
-            },
+            [first, copies, last] => {
+                is_literal(first, b"x") && is_literal_star(copies, b"ab") && is_literal(last, b"a")
+            }
             _ => false,
         },
         _ => false,
