@@ -35,7 +35,7 @@ fn error(kind: SyntaxErrorKind, start: usize, end: usize) -> Option<SyntaxError>
     Some(SyntaxError { kind, start, end })
 }
 
-fn is_literal(hir: &Hir, bytes: &[u8]) -> bool {
+pub(crate) fn is_literal(hir: &Hir, bytes: &[u8]) -> bool {
     match hir.kind() {
         HirKind::Literal(literal) => literal.as_slice() == bytes,
         _ => false,
