@@ -10,6 +10,8 @@ mod literals;
 #[cfg(test)]
 mod reader;
 #[cfg(test)]
+mod strip;
+#[cfg(test)]
 mod syntax;
 #[cfg(test)]
 mod thompson;

@@ -2,30 +2,40 @@
 
 use rx_reader::{Ast, AstKind, Atom, ClassItem, Config, GroupKind, Item, ParseError, read};
 use std::alloc::{AllocError, Global};
-use std::test::Fail;
 
 /// The length of a long pattern.
 const LONG: usize = 1048576;
 
-fn repeated(alloc: Global, c: char, count: usize) -> Result<String, AllocError> {
-    let mut text = String::new(alloc);
+fn push_repeated(text: &mut String, c: char, count: usize) -> Result<(), AllocError> {
     for _ in 0..count {
         text.push(c)?;
     }
+    Ok(())
+}
+
+fn repeated(alloc: Global, c: char, count: usize) -> Result<String, AllocError> {
+    let mut text = String::new(alloc);
+    push_repeated(&mut text, c, count)?;
     Ok(text)
 }
 
 /// The refusal of a pattern by default, with its piece, or how deep the pattern is.
-fn outcome(alloc: Global, pattern: &str) -> Result<String, Fail> {
-    let mut text = String::new(alloc);
+fn outcome(alloc: Global, pattern: &str) -> Result<String, AllocError> {
     match read(alloc, pattern, &Config::new()) {
         Err(ParseError::Syntax(error)) => {
-            write!(&mut text, "{} {}..{}", error.kind, error.start, error.end)?;
+            format!(in alloc; "{} {}..{}", error.kind, error.start, error.end)
         }
-        Err(ParseError::Memory) => text.push_str("memory")?,
-        Ok(tree) => write!(&mut text, "depth {}", tree.depth())?,
+        Err(ParseError::Memory) => String::from_str(alloc, "memory"),
+        Ok(tree) => format!(in alloc; "depth {}", tree.depth()),
     }
-    Ok(text)
+}
+
+/// Whether this is what is told of the pattern.
+fn is_told(alloc: Global, pattern: &str, want: &str) -> bool {
+    match outcome(alloc, pattern) {
+        Ok(text) => text.as_str() == want,
+        Err(_) => false,
+    }
 }
 
 /// The parts of the only branch of a pattern.
@@ -36,69 +46,73 @@ fn parts(tree: &Ast) -> Option<&[Item]> {
     }
 }
 
+/// How many parts the only branch of a pattern has.
+fn part_count(alloc: Global, pattern: &str) -> Option<usize> {
+    match read(alloc, pattern, &Config::new()) {
+        Ok(tree) => parts(&tree).map(|items| items.len()),
+        Err(_) => None,
+    }
+}
+
+/// How many parts a long text has.
+fn long_part_count(alloc: Global) -> Option<usize> {
+    match repeated(alloc, 'a', LONG) {
+        Ok(pattern) => part_count(alloc, &pattern),
+        Err(_) => None,
+    }
+}
+
 #[test]
-fn reads_a_long_text(rt: HostRuntime) -> Result<(), Fail> {
-    let pattern = repeated(rt.alloc(), 'a', LONG)?;
-    let tree = read(rt.alloc(), &pattern, &Config::new())?;
+fn reads_a_long_text(rt: HostRuntime) {
     // All of it is one part.
-    assert_eq!(rt; parts(&tree).map_or(0, |items| items.len()), 1);
-    Ok(())
+    assert_eq!(rt; long_part_count(rt.alloc()), Some(1));
+}
+
+/// Whether so many groups are refused as too deep.
+fn are_groups_refused(alloc: Global) -> bool {
+    match repeated(alloc, '(', LONG) {
+        Ok(pattern) => is_told(alloc, &pattern, "nesting too deep 250..251"),
+        Err(_) => false,
+    }
 }
 
 #[test]
-fn refuses_many_groups(rt: HostRuntime) -> Result<(), Fail> {
-    let pattern = repeated(rt.alloc(), '(', LONG)?;
-    assert_eq!(rt;
-        outcome(rt.alloc(), &pattern)?.as_str(),
-        "nesting too deep 250..251"
-    );
-    Ok(())
+fn refuses_many_groups(rt: HostRuntime) {
+    assert!(rt; are_groups_refused(rt.alloc()));
+}
+
+/// A pattern, and what is told of it.
+type Row = (&'static str, &'static str);
+
+const ROWS: [Row; 12] = [
+    ("(?i", "unclosed group 0..1"),
+    ("a)", "unopened group 1..2"),
+    ("(?P<n>)(?<n>)", "group name used twice 10..11"),
+    ("(?P<1>)", "bad group name 4..4"),
+    ("(?ii)", "bad flag 3..4"),
+    ("(?=a)", "unsupported syntax 0..3"),
+    ("[a", "unclosed class 0..1"),
+    ("[z-a]", "bad class range 1..4"),
+    ("a{2,1}", "bad repetition count 1..6"),
+    ("|*", "repetition of nothing 1..2"),
+    ("\\x{D800}", "bad escape 0..8"),
+    ("(?x) (?<a.b> a {2} ? ) # )", "depth 2"),
+];
+
+/// The number of the first row of which something else is told.
+fn first_wrong(alloc: Global) -> Option<usize> {
+    for k in 0..ROWS.len() {
+        let (pattern, want) = ROWS[k];
+        if !is_told(alloc, pattern, want) {
+            return Some(k);
+        }
+    }
+    None
 }
 
 #[test]
-fn refuses_groups(rt: HostRuntime) -> Result<(), Fail> {
-    assert_eq!(rt; outcome(rt.alloc(), "(?i")?.as_str(), "unclosed group 0..1");
-    assert_eq!(rt; outcome(rt.alloc(), "a)")?.as_str(), "unopened group 1..2");
-    assert_eq!(rt;
-        outcome(rt.alloc(), "(?P<n>)(?<n>)")?.as_str(),
-        "group name used twice 10..11"
-    );
-    assert_eq!(rt;
-        outcome(rt.alloc(), "(?P<1>)")?.as_str(),
-        "bad group name 4..4"
-    );
-    assert_eq!(rt; outcome(rt.alloc(), "(?ii)")?.as_str(), "bad flag 3..4");
-    assert_eq!(rt;
-        outcome(rt.alloc(), "(?=a)")?.as_str(),
-        "unsupported syntax 0..3"
-    );
-    Ok(())
-}
-
-#[test]
-fn refuses_atoms(rt: HostRuntime) -> Result<(), Fail> {
-    assert_eq!(rt; outcome(rt.alloc(), "[a")?.as_str(), "unclosed class 0..1");
-    assert_eq!(rt;
-        outcome(rt.alloc(), "[z-a]")?.as_str(),
-        "bad class range 1..4"
-    );
-    assert_eq!(rt;
-        outcome(rt.alloc(), "a{2,1}")?.as_str(),
-        "bad repetition count 1..6"
-    );
-    assert_eq!(rt;
-        outcome(rt.alloc(), "|*")?.as_str(),
-        "repetition of nothing 1..2"
-    );
-    assert_eq!(rt;
-        outcome(rt.alloc(), "\\x{D800}")?.as_str(),
-        "bad escape 0..8"
-    );
-    assert_eq!(rt;
-        outcome(rt.alloc(), "(?x) (?<a.b> a {2} ? ) # )")?.as_str(),
-        "depth 2"
-    );
-    Ok(())
+fn refuses_groups_and_atoms(rt: HostRuntime) {
+    assert_eq!(rt; first_wrong(rt.alloc()), None);
 }
 
 /// The name of the group that a pattern is.
@@ -129,11 +143,25 @@ fn class_items(tree: &Ast) -> Option<&[ClassItem]> {
     }
 }
 
+/// How long the name of the group is that a pattern is.
+fn name_len(alloc: Global, pattern: &str) -> Option<usize> {
+    match read(alloc, pattern, &Config::new()) {
+        Ok(tree) => group_name(&tree).map(|name| name.len()),
+        Err(_) => None,
+    }
+}
+
+/// How many items the class has that a pattern is.
+fn item_count(alloc: Global, pattern: &str) -> Option<usize> {
+    match read(alloc, pattern, &Config::new()) {
+        Ok(tree) => class_items(&tree).map(|items| items.len()),
+        Err(_) => None,
+    }
+}
+
 #[test]
-fn tells_names_and_items(rt: HostRuntime) -> Result<(), Fail> {
-    let group = read(rt.alloc(), "(?<ab>c)", &Config::new())?;
-    assert_eq!(rt; group_name(&group).map_or(0, |name| name.len()), 2);
-    let class = read(rt.alloc(), "[d-f\\s]", &Config::new())?;
-    assert_eq!(rt; class_items(&class).map_or(0, |items| items.len()), 2);
-    Ok(())
+fn tells_names_and_items(rt: HostRuntime) {
+    let alloc = rt.alloc();
+    let lens = (name_len(alloc, "(?<ab>c)"), item_count(alloc, r"[d-f\s]"));
+    assert_eq!(rt; lens, (Some(2), Some(2)));
 }

@@ -4,21 +4,23 @@ use rx_class::Class;
 use rx_hir::{Hir, HirKind, cost};
 use rx_syntax::*;
 use std::alloc::Global;
-use std::test::Fail;
 
-/// Whether a class of scalars holds the character.
-fn holds(alloc: Global, pattern: &str, c: char) -> Result<bool, Fail> {
-    let hir = parse(alloc, pattern)?;
+/// Whether a class of scalars has the character.
+fn has(hir: &Hir, c: char) -> bool {
     match hir.kind() {
-        HirKind::Class(Class::Unicode(class)) => {
-            Ok(
-                class
-                    .ranges()
-                    .iter()
-                    .any(|(low, high)| *low <= c && c <= *high),
-            )
-        }
-        _ => Ok(false),
+        HirKind::Class(Class::Unicode(class)) => class
+            .ranges()
+            .iter()
+            .any(|(low, high)| *low <= c && c <= *high),
+        _ => false,
+    }
+}
+
+/// Whether the class that a pattern is has the character.
+fn holds(alloc: Global, pattern: &str, c: char) -> Option<bool> {
+    match parse(alloc, pattern) {
+        Ok(hir) => Some(has(&hir, c)),
+        Err(_) => None,
     }
 }
 
@@ -33,7 +35,7 @@ fn error(kind: SyntaxErrorKind, start: usize, end: usize) -> Option<SyntaxError>
     Some(SyntaxError { kind, start, end })
 }
 
-fn is_literal(hir: &Hir, bytes: &[u8]) -> bool {
+pub(crate) fn is_literal(hir: &Hir, bytes: &[u8]) -> bool {
     match hir.kind() {
         HirKind::Literal(literal) => literal.as_slice() == bytes,
         _ => false,
@@ -48,53 +50,115 @@ fn are_literals(exprs: &[Hir], first: &[u8], second: &[u8]) -> bool {
     }
 }
 
-#[test]
-fn several_patterns(rt: HostRuntime) -> Result<(), Fail> {
-    let hir = parse(rt.alloc(), "a|b")?;
-    let mut alternatives = 0;
-    if let HirKind::Alternation(subs) = hir.kind() {
-        alternatives = subs.len();
-        assert!(rt; are_literals(subs, b"a", b"b"));
+/// Whether a pattern is a literal of these bytes.
+fn is_read_as(alloc: Global, pattern: &str, bytes: &[u8]) -> bool {
+    match parse(alloc, pattern) {
+        Ok(hir) => is_literal(&hir, bytes),
+        Err(_) => false,
     }
-    assert_eq!(rt; alternatives, 2);
-    let both = parse_many(rt.alloc(), &["a", "b"])?;
-    assert!(rt; are_literals(&both, b"a", b"b"));
-    let bytes = parse(rt.alloc(), "(?-u:\u{E9})")?;
-    assert!(rt; is_literal(&bytes, b"\xC3\xA9"));
-    let ast = read_with(rt.alloc(), "a", &Config::new())?;
-    let read = translate_with(rt.alloc(), &ast, &Config::new())?;
-    assert!(rt; is_literal(&read, b"a"));
-    Ok(())
+}
+
+/// Whether an expression is a choice of `a` and `b`.
+fn is_choice(hir: &Hir) -> bool {
+    match hir.kind() {
+        HirKind::Alternation(subs) => are_literals(subs, b"a", b"b"),
+        _ => false,
+    }
+}
+
+/// Whether `a|b` is that choice.
+fn is_choice_read(alloc: Global) -> bool {
+    match parse(alloc, "a|b") {
+        Ok(hir) => is_choice(&hir),
+        Err(_) => false,
+    }
+}
+
+/// Whether the two patterns `a` and `b` are read.
+fn are_both_read(alloc: Global) -> bool {
+    match parse_many(alloc, &["a", "b"]) {
+        Ok(both) => are_literals(&both, b"a", b"b"),
+        Err(_) => false,
+    }
+}
+
+/// Whether the tree is translated to the literal `a`.
+fn is_translated(alloc: Global, tree: &Ast) -> bool {
+    match translate_with(alloc, tree, &Config::new()) {
+        Ok(hir) => is_literal(&hir, b"a"),
+        Err(_) => false,
+    }
+}
+
+/// Whether `a` is read, and then translated to that literal.
+fn is_read_and_translated(alloc: Global) -> bool {
+    match read_with(alloc, "a", &Config::new()) {
+        Ok(tree) => is_translated(alloc, &tree),
+        Err(_) => false,
+    }
 }
 
 #[test]
-fn accounted_bytes(rt: HostRuntime) -> Result<(), Fail> {
+fn several_patterns(rt: HostRuntime) {
+    let alloc = rt.alloc();
+    assert!(rt; is_choice_read(alloc) && are_both_read(alloc) && is_read_and_translated(alloc));
+    assert!(rt; is_read_as(alloc, "(?-u:\u{E9})", b"\xC3\xA9"));
+}
+
+/// The bytes that are accounted for a pattern.
+fn accounted(alloc: Global, pattern: &str) -> Option<u64> {
+    match parse(alloc, pattern) {
+        Ok(hir) => Some(cost(&hir)),
+        Err(_) => None,
+    }
+}
+
+#[test]
+fn accounted_bytes(rt: HostRuntime) {
     for (pattern, bytes) in [("a", 32), ("a{3}", 128), ("[a-c]", 64), ("(a)", 96)] {
-        assert_eq!(rt; cost(&parse(rt.alloc(), pattern)?), bytes);
+        assert_eq!(rt; accounted(rt.alloc(), pattern), Some(bytes));
     }
-    Ok(())
+}
+
+/// A pattern that is a class, a character, and whether the class has it.
+type Held = (&'static str, char, bool);
+
+const EITHER_CASE: [Held; 5] = [
+    ("(?i)k", '\u{212A}', true),
+    ("(?i)\u{17F}", 's', true),
+    ("(?i)\u{17F}", 'S', true),
+    ("(?i-u)K", '\u{212A}', false),
+    ("(?i)[^k]", '\u{212A}', false),
+];
+
+const NAMED: [Held; 5] = [
+    (r"\p{Greek}", '\u{3B1}', true),
+    (r"\pN", '7', true),
+    (r"\P{Lu}", 'A', false),
+    (r"[^\d]", '7', false),
+    (r"[[:^alpha:]x]", 'x', true),
+];
+
+/// The number of the first row that is not so.
+fn first_wrong(alloc: Global, rows: &[Held]) -> Option<usize> {
+    for k in 0..rows.len() {
+        let (pattern, c, is_held) = rows[k];
+        if holds(alloc, pattern, c) != Some(is_held) {
+            return Some(k);
+        }
+    }
+    None
 }
 
 #[test]
-fn either_case(rt: HostRuntime) -> Result<(), Fail> {
-    assert!(rt; holds(rt.alloc(), "(?i)k", '\u{212A}')?);
-    assert!(rt; holds(rt.alloc(), "(?i)\u{17F}", 's')?);
-    assert!(rt; holds(rt.alloc(), "(?i)\u{17F}", 'S')?);
-    assert!(rt; !holds(rt.alloc(), "(?i-u)K", '\u{212A}')?);
-    assert!(rt; !holds(rt.alloc(), "(?i)[^k]", '\u{212A}')?);
-    let bytes = parse(rt.alloc(), "(?i-u)\u{E9}")?;
-    assert!(rt; is_literal(&bytes, b"\xC3\xA9"));
-    Ok(())
+fn either_case(rt: HostRuntime) {
+    assert_eq!(rt; first_wrong(rt.alloc(), &EITHER_CASE), None);
+    assert!(rt; is_read_as(rt.alloc(), "(?i-u)\u{E9}", b"\xC3\xA9"));
 }
 
 #[test]
-fn named_classes(rt: HostRuntime) -> Result<(), Fail> {
-    assert!(rt; holds(rt.alloc(), r"\p{Greek}", '\u{3B1}')?);
-    assert!(rt; holds(rt.alloc(), r"\pN", '7')?);
-    assert!(rt; !holds(rt.alloc(), r"\P{Lu}", 'A')?);
-    assert!(rt; !holds(rt.alloc(), r"[^\d]", '7')?);
-    assert!(rt; holds(rt.alloc(), r"[[:^alpha:]x]", 'x')?);
-    Ok(())
+fn named_classes(rt: HostRuntime) {
+    assert_eq!(rt; first_wrong(rt.alloc(), &NAMED), None);
 }
 
 #[test]

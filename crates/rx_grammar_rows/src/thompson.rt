@@ -4,69 +4,93 @@ use rx_hir::Hir;
 use rx_search::PatternID;
 use rx_syntax::{SyntaxError, SyntaxErrorKind};
 use rx_thompson::*;
-use std::test::Fail;
+use std::alloc::Global;
+
+/// How many patterns an NFA has, its slots, and the bytes that are accounted for it.
+fn sizes(built: Result<NFA, BuildError>) -> Option<(usize, usize, usize)> {
+    match built {
+        Ok(nfa) => Some((nfa.pattern_len(), nfa.slot_len(), nfa.memory_usage())),
+        Err(_) => None,
+    }
+}
 
 #[test]
-fn builds_one_pattern(rt: HostRuntime) -> Result<(), Fail> {
-    let nfa = Compiler::new().build(rt.alloc(), "a")?;
-    assert_eq!(rt; nfa.pattern_len(), 1);
+fn builds_one_pattern(rt: HostRuntime) {
+    let built = Compiler::new().build(rt.alloc(), "a");
     // 4 states, 1 and 3 of `a`, at 32 each.
-    assert_eq!(rt; nfa.memory_usage(), 256);
-    Ok(())
+    assert_eq!(rt; sizes(built), Some((1, 2, 256)));
+}
+
+/// How many patterns an NFA has, and its slots.
+fn patterns_and_slots(built: Result<NFA, BuildError>) -> Option<(usize, usize)> {
+    let (patterns, slots, _bytes) = sizes(built)?;
+    Some((patterns, slots))
 }
 
 #[test]
-fn builds_several_patterns(rt: HostRuntime) -> Result<(), Fail> {
-    let alloc = rt.alloc();
-    let nfa = Compiler::new().build_many(alloc, &["a", "b(c)", ""])?;
-    assert_eq!(rt; nfa.pattern_len(), 3);
-    assert_eq!(rt; nfa.slot_len(), 8);
-    let exprs = [Hir::empty(), Hir::empty()];
-    let nfa = Compiler::new().build_many_from_hir(alloc, &exprs)?;
-    assert_eq!(rt; nfa.pattern_len(), 2);
-    let nfa = Compiler::new().build_from_hir(alloc, &exprs[0])?;
-    assert_eq!(rt; nfa.pattern_len(), 1);
-    Ok(())
+fn builds_several_patterns(rt: HostRuntime) {
+    let built = Compiler::new().build_many(rt.alloc(), &["a", "b(c)", ""]);
+    assert_eq!(rt; patterns_and_slots(built), Some((3, 8)));
 }
 
 #[test]
-fn tells_the_first_refused_pattern(rt: HostRuntime) -> Result<(), Fail> {
-    let refusal = BuildError::Syntax {
-        pid: PatternID::new(1).ok_or("1")?,
-        err: SyntaxError {
-            kind: SyntaxErrorKind::Property,
-            start: 0,
-            end: 8,
-        },
+fn builds_expressions(rt: HostRuntime) {
+    let built = Compiler::new().build_many_from_hir(rt.alloc(), &[Hir::empty(), Hir::empty()]);
+    assert_eq!(rt; patterns_and_slots(built), Some((2, 4)));
+    let built = Compiler::new().build_from_hir(rt.alloc(), &Hir::empty());
+    assert_eq!(rt; patterns_and_slots(built), Some((1, 2)));
+}
+
+/// Why several patterns are refused.
+fn refusal(alloc: Global, patterns: &[&str]) -> Option<BuildError> {
+    Compiler::new().build_many(alloc, patterns).err()
+}
+
+/// That the pattern of this number names no property in its first eight bytes.
+fn no_property(number: usize) -> Option<BuildError> {
+    let pid = PatternID::new(number)?;
+    let err = SyntaxError {
+        kind: SyntaxErrorKind::Property,
+        start: 0,
+        end: 8,
     };
-    let built = Compiler::new().build_many(rt.alloc(), &["a", r"\p{Nope}", "a("]);
-    assert!(rt; built.err() == Some(refusal));
-    Ok(())
+    Some(BuildError::Syntax { pid, err })
+}
+
+#[test]
+fn tells_the_first_refused_pattern(rt: HostRuntime) {
+    assert!(rt; refusal(rt.alloc(), &["a", r"\p{Nope}", "a("]) == no_property(1));
+}
+
+/// What is built of `a` up to a size.
+fn limited(alloc: Global, limit: usize) -> Result<NFA, BuildError> {
+    let mut compiler = Compiler::new();
+    compiler.configure(Config::new().nfa_size_limit(Some(limit)));
+    compiler.build(alloc, "a")
 }
 
 #[test]
 fn refuses_a_size_above_the_limit(rt: HostRuntime) {
-    let mut compiler = Compiler::new();
-    compiler.configure(Config::new().nfa_size_limit(Some(256)));
-    assert!(rt; compiler.build(rt.alloc(), "a").is_ok());
-    compiler.configure(Config::new().nfa_size_limit(Some(255)));
+    assert!(rt; limited(rt.alloc(), 256).is_ok());
     let refusal = BuildError::ExceededSizeLimit {
         limit: 255,
         size: 256,
     };
-    assert!(rt; compiler.build(rt.alloc(), "a").err() == Some(refusal));
+    assert!(rt; limited(rt.alloc(), 255).err() == Some(refusal));
 }
 
-#[test]
-fn takes_a_grammar_and_a_configuration(rt: HostRuntime) -> Result<(), Fail> {
+/// What is built of `a` without regard to case, and without groups.
+fn without_groups(alloc: Global) -> Result<NFA, BuildError> {
     let mut compiler = Compiler::new();
     compiler.syntax(rx_syntax::Config::new().case_insensitive(true));
     compiler.configure(Config::new().which_captures(WhichCaptures::None));
-    let nfa = compiler.build(rt.alloc(), "a")?;
-    // 3 states of the class of both letters.
-    assert_eq!(rt; nfa.accounted_states(), 10);
-    assert_eq!(rt; nfa.slot_len(), 2);
-    Ok(())
+    compiler.build(alloc, "a")
+}
+
+#[test]
+fn takes_a_grammar_and_a_configuration(rt: HostRuntime) {
+    // 10 states are accounted, among them 3 of the class of both letters.
+    assert_eq!(rt; sizes(without_groups(rt.alloc())), Some((1, 2, 320)));
 }
 
 #[test]
@@ -79,19 +103,34 @@ fn refuses_a_count_of_too_many_patterns(rt: HostRuntime) {
     assert!(rt; built.err() == Some(refusal));
 }
 
+/// How many states what was built has.
+fn states(built: Result<NFA, BuildError>) -> Option<usize> {
+    match built {
+        Ok(nfa) => Some(nfa.states_len()),
+        Err(_) => None,
+    }
+}
+
 // A state for each number of continuation bytes, one for each first byte that some may not follow (E0, ED, F0, F4), and
 // the start make eight; with the group's two and the match they are eleven.
 #[test]
-fn scalars_share_their_first_bytes(rt: HostRuntime) -> Result<(), Fail> {
+fn scalars_share_their_first_bytes(rt: HostRuntime) {
     for pattern in [".", "[^a]", r"[^\]]"] {
         assert_eq!(rt;
-            Compiler::new().build(rt.alloc(), pattern)?.states_len(),
-            11
+            states(Compiler::new().build(rt.alloc(), pattern)),
+            Some(11)
         );
     }
+}
+
+/// What is built of bytes that no character begins with.
+fn of_bytes(alloc: Global) -> Result<NFA, BuildError> {
     let mut compiler = Compiler::new();
     compiler.syntax(rx_syntax::Config::new().utf8(false));
-    let nfa = compiler.build(rt.alloc(), r"(?-u:[\x00-\x09\x80-\xFF])")?;
-    assert_eq!(rt; nfa.states_len(), 4);
-    Ok(())
+    compiler.build(alloc, r"(?-u:[\x00-\x09\x80-\xFF])")
+}
+
+#[test]
+fn bytes_are_a_class(rt: HostRuntime) {
+    assert_eq!(rt; states(of_bytes(rt.alloc())), Some(4));
 }

@@ -407,6 +407,30 @@ fn where_any_match_will_do_no_more_is_read(rt: HostRuntime) {
     assert_eq!(rt; long, short);
 }
 
+/// A pattern, a text, and what is seen of a search of it.
+type Candidate = (&'static str, &'static str, Seen);
+
+/// By a literal that ends each match, and by one within it.
+const CANDIDATES: [Candidate; 4] = [
+    (r"\w+\s+Holmes", "abcdefghij", (None, false, false)),
+    (r"\w+\s+Holmes", "ab Holmes", (Some((0, 9)), true, false)),
+    (r"\w+@\w+", "abcdefghij", (None, false, false)),
+    (r"\w+@\w+", "ab@cd", (Some((0, 5)), true, false)),
+];
+
+/// The search for the end of a match reads from where a candidate lies, backwards and forwards, and leaves no state to be made by a
+/// search for its span.
+#[test]
+fn lazy_dfas_read_where_a_candidate_lies(rt: HostRuntime) {
+    for k in 0..CANDIDATES.len() {
+        let (pattern, text, wanted) = CANDIDATES[k];
+        let config = Config::new().dfa(false);
+        let input = Input::new(text.as_bytes());
+        let seen = seen(&rt, rt.alloc(), config, pattern, &input);
+        assert!(rt; seen == wanted, "row {k}");
+    }
+}
+
 /// The bytes that are accounted for a regex of this sort of DFAs.
 fn accounted(rt: &impl Abort, alloc: Global, sort: Sort) -> usize {
     configured(rt, alloc, alone(sort), "[a-z]+b").memory_usage()

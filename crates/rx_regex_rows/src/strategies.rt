@@ -9,7 +9,7 @@ use std::process::Abort;
 /// A pattern, the name of its strategy, and whether a search may leave out much of the haystack.
 type Row = (&'static str, &'static str, bool);
 
-const ROWS: [Row; 9] = [
+const ROWS: [Row; 11] = [
     ("foo", "prefilter memmem", true),
     ("a|b|c", "prefilter memchr3", true),
     ("a|b|c|d", "prefilter byteset", false),
@@ -17,6 +17,8 @@ const ROWS: [Row; 9] = [
     ("ab|c", "prefilter aho-corasick", false),
     ("foo$", "reverse anchored", true),
     ("^foo$", "core", false),
+    (r"\w+\s+Holmes", "reverse suffix", true),
+    (r"\s[A-Za-z]{0,12}ing\s", "reverse inner", true),
     (r"Holmes\w+", "core", true),
     ("[a-z]+", "core", false),
 ];

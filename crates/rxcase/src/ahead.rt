@@ -21,8 +21,23 @@ pub fn tell<A: Automaton>(
     requires fits { A.fits dfa.now cache.old }
     requires forward { (A.dfa dfa.now).nfa.reverse ≡ false }
 {
-    if let Some(pre) = prefilter(alloc, ask)? {
-        return tell_by(ask, dfa, cache, &pre, told);
+    let pre = prefilter(alloc, ask)?;
+    tell_with(ask, dfa, cache, pre.as_ref(), told)
+}
+
+/// Appends the end in the input, from candidate to candidate if there is a prefilter.
+fn tell_with<A: Automaton>(
+    ask: &Ask<'_>,
+    dfa: &A,
+    cache: &mut A::Cache,
+    pre: Option<&Prefilter>,
+    told: &mut String,
+) -> Result<(), Failure>
+    requires fits { A.fits dfa.now cache.old }
+    requires forward { (A.dfa dfa.now).nfa.reverse ≡ false }
+{
+    if let Some(pre) = pre {
+        return tell_by(ask, dfa, cache, pre, told);
     }
     let input = ask.searching.input(ask.input)?;
     tell_half(told, try_search_half_fwd(dfa, cache, &input))

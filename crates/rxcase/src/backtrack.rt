@@ -16,8 +16,17 @@ use std::alloc::Global;
 /// Appends what the backtracker tells of each haystack, with one cache.
 pub fn tell(alloc: Global, ask: &Ask<'_>, told: &mut String) -> Result<(), Failure> {
     let backtracker = made(alloc, ask)?;
-    let mut cache = cache_for(alloc, ask, &backtracker)?;
-    tell_each(alloc, ask, &backtracker, &mut cache, told)
+    tell_by(alloc, ask, &backtracker, told)
+}
+
+fn tell_by(
+    alloc: Global,
+    ask: &Ask<'_>,
+    backtracker: &BoundedBacktracker,
+    told: &mut String,
+) -> Result<(), Failure> {
+    let mut cache = cache_for(alloc, ask, backtracker)?;
+    tell_each(alloc, ask, backtracker, &mut cache, told)
 }
 
 /// The backtracker that is asked for.
@@ -56,6 +65,14 @@ fn reset_for(
 /// A cache that served a search of the input.
 fn used(alloc: Global, ask: &Ask<'_>) -> Result<Cache, Failure> {
     let backtracker = made(alloc, ask)?;
+    used_by(alloc, ask, &backtracker)
+}
+
+fn used_by(
+    alloc: Global,
+    ask: &Ask<'_>,
+    backtracker: &BoundedBacktracker,
+) -> Result<Cache, Failure> {
     let mut cache = backtracker.create_cache(alloc)?;
     let _found = backtracker.try_find_slots(&mut cache, &Input::new(ask.input), &mut []);
     Ok(cache)

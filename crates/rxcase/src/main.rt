@@ -13,6 +13,7 @@ mod compile;
 mod dfa;
 mod failure;
 mod pikevm;
+mod regex;
 mod search;
 mod sets;
 mod strategy;
@@ -32,10 +33,15 @@ fn main(rt: HostRuntime) -> ExitCode {
         Ok(()) => ExitCode::SUCCESS,
         Err(failure) => {
             // Where this can't be printed, the status still tells.
-            let _printed = println!(rt; "{failure}");
+            let _printed = print_failure(&rt, failure);
             ExitCode::from(failure.status())
         }
     }
+}
+
+/// Prints why nothing is told.
+fn print_failure<R: Runtime + AllocGlobal>(rt: &R, failure: Failure) -> io::Result<()> {
+    println!(rt; "{failure}")
 }
 
 /// Reads the words, and answers them.
@@ -79,6 +85,7 @@ fn tell_asked(alloc: Global, ask: &Ask<'_>, told: &mut String) -> Result<(), Fai
         Engine::PikeVM => pikevm::tell(alloc, ask, told),
         Engine::Backtrack => backtrack::tell(alloc, ask, told),
         Engine::Core => strategy::tell(alloc, ask, told),
+        Engine::Regex => regex::tell(alloc, ask, told),
     }
 }
 

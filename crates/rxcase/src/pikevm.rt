@@ -16,8 +16,12 @@ use std::alloc::Global;
 /// Appends what the PikeVM tells of each haystack, with one cache.
 pub fn tell(alloc: Global, ask: &Ask<'_>, told: &mut String) -> Result<(), Failure> {
     let vm = made(alloc, ask)?;
-    let mut cache = cache_for(alloc, ask, &vm)?;
-    tell_each(alloc, ask, &vm, &mut cache, told)
+    tell_by(alloc, ask, &vm, told)
+}
+
+fn tell_by(alloc: Global, ask: &Ask<'_>, vm: &PikeVM, told: &mut String) -> Result<(), Failure> {
+    let mut cache = cache_for(alloc, ask, vm)?;
+    tell_each(alloc, ask, vm, &mut cache, told)
 }
 
 /// The PikeVM that is asked for.
@@ -48,6 +52,10 @@ fn reset_for(alloc: Global, earlier: &Ask<'_>, vm: &PikeVM) -> Result<Cache, Fai
 /// A cache that served a search of the input.
 fn used(alloc: Global, ask: &Ask<'_>) -> Result<Cache, Failure> {
     let vm = made(alloc, ask)?;
+    used_by(alloc, ask, &vm)
+}
+
+fn used_by(alloc: Global, ask: &Ask<'_>, vm: &PikeVM) -> Result<Cache, Failure> {
     let mut cache = vm.create_cache(alloc)?;
     let _found = vm.find(&mut cache, &Input::new(ask.input));
     Ok(cache)

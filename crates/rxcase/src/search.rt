@@ -31,6 +31,8 @@ pub struct Searching {
     pub reset: Option<usize>,
     /// The number of slots, if they are not as many as there are: `slots:N`.
     pub slots: Option<usize>,
+    /// The steps that an attempt may take, if that is asked in place of their number: `most:N`.
+    pub most: Option<u64>,
 }
 
 impl Searching {
@@ -43,6 +45,7 @@ impl Searching {
             lines: false,
             reset: None,
             slots: None,
+            most: None,
         }
     }
 
@@ -53,6 +56,7 @@ impl Searching {
             "pattern" => self.with_pattern(value),
             "slots" => self.with_slots(value),
             "reset" => self.with_reset(value),
+            "most" => self.with_most(value),
             _ => {
                 if !value.is_empty() {
                     return None;
@@ -96,6 +100,14 @@ impl Searching {
         })
     }
 
+    fn with_most(self, value: &str) -> Option<Searching> {
+        let most = value.parse::<u64>().ok()?;
+        Some(Searching {
+            most: Some(most),
+            ..self
+        })
+    }
+
     fn with_choice(self, name: &str) -> Option<Searching> {
         match name {
             "anchored" => Some(Searching {
@@ -120,14 +132,10 @@ impl Searching {
     ///
     /// `Usage` where the haystack has no such span.
     fn within<'h>(&self, haystack: &'h [u8]) -> Result<Input<'h>, Failure> {
-        let (start, end) = self.span.unwrap_or((0, haystack.len()));
-        if end > haystack.len() {
-            return Err(Failure::Usage);
+        match self.span {
+            Some((start, end)) => part(haystack, start, end),
+            None => Ok(Input::new(haystack)),
         }
-        if start > end + 1 {
-            return Err(Failure::Usage);
-        }
-        Ok(Input::new(haystack).span(Span { start, end }))
     }
 
     /// The input of a search of this haystack.
@@ -148,8 +156,9 @@ impl Searching {
     pub fn free_input<'h>(&self, haystack: &'h [u8]) -> Result<Input<'h>, Failure>
         ensures { IfOk result (λ i. is_anchored i.anchor ≡ false) }
     {
+        let input = self.within(haystack)?;
         match self.mode {
-            Mode::Free => Ok(self.within(haystack)?.anchored(Anchored::No)),
+            Mode::Free => Ok(input.anchored(Anchored::No)),
             _ => Err(Failure::Usage),
         }
     }
@@ -177,4 +186,15 @@ impl Searching {
             Mode::Only(pattern) => Anchored::Pattern(pattern),
         }
     }
+}
+
+/// This span of a haystack, if it has it.
+fn part(haystack: &[u8], start: usize, end: usize) -> Result<Input<'_>, Failure> {
+    if end > haystack.len() {
+        return Err(Failure::Usage);
+    }
+    if start > end + 1 {
+        return Err(Failure::Usage);
+    }
+    Ok(Input::new(haystack).span(Span { start, end }))
 }

@@ -1,4 +1,4 @@
-//! The strategy of a regex, and what it is asked for.
+//! The core of a regex, and what it is asked for.
 ghost use Rattle.std.specs.Prelude.{IfOk};
 ghost use Rattle.rx_strategy.specs.Cache.{Fits};
 
@@ -20,9 +20,6 @@ use std::alloc::Global;
 /// Appends what the strategy tells.
 pub fn tell(alloc: Global, ask: &Ask<'_>, told: &mut String) -> Result<(), Failure> {
     let strategy = made(alloc, ask)?;
-    if ask.call == Call::Size {
-        return tell_bytes(told, strategy.memory_usage());
-    }
     tell_by(alloc, ask, &strategy, told)
 }
 
@@ -32,8 +29,11 @@ fn tell_by(
     strategy: &Strategy,
     told: &mut String,
 ) -> Result<(), Failure> {
-    let mut cache = cache_for(alloc, ask, strategy)?;
+    if ask.call == Call::Size {
+        return tell_bytes(told, strategy.memory_usage());
+    }
     let input = ask.searching.input(ask.input)?;
+    let mut cache = cache_for(alloc, ask, strategy)?;
     tell_input(alloc, ask, strategy, &mut cache, &input, told)
 }
 
@@ -45,18 +45,33 @@ fn made(alloc: Global, ask: &Ask<'_>) -> Result<Strategy, Failure> {
 
 fn made_under(alloc: Global, ask: &Ask<'_>, config: &Config) -> Result<Strategy, Failure> {
     let exprs = expressions(alloc, ask)?;
-    match Strategy::new(alloc, config, &exprs) {
+    made_of(alloc, config, &exprs)
+}
+
+fn made_of(alloc: Global, config: &Config, exprs: &[Hir]) -> Result<Strategy, Failure> {
+    match Strategy::new(alloc, config, exprs) {
         Ok(strategy) => Ok(strategy),
-        Err(BuildError::ExceededSizeLimit { limit, size }) => Err(Failure::TooBig { limit, size }),
-        Err(BuildError::Memory) => Err(Failure::Memory),
-        Err(_) => Err(Failure::Patterns),
+        Err(error) => Err(refusal(error)),
+    }
+}
+
+/// Why there is no strategy.
+pub fn refusal(error: BuildError) -> Failure {
+    match error {
+        BuildError::ExceededSizeLimit { limit, size } => Failure::TooBig { limit, size },
+        BuildError::Memory => Failure::Memory,
+        _ => Failure::Patterns,
     }
 }
 
 /// The expressions of the patterns.
-fn expressions(alloc: Global, ask: &Ask<'_>) -> Result<Vec<Hir>, Failure> {
+pub fn expressions(alloc: Global, ask: &Ask<'_>) -> Result<Vec<Hir>, Failure> {
     let patterns = texts(alloc, ask.patterns)?;
-    match parse_many(alloc, &patterns) {
+    parsed(alloc, &patterns)
+}
+
+fn parsed(alloc: Global, patterns: &[&str]) -> Result<Vec<Hir>, Failure> {
+    match parse_many(alloc, patterns) {
         Ok(exprs) => Ok(exprs),
         Err(ParseError::Memory) => Err(Failure::Memory),
         Err(_) => Err(Failure::Patterns),
@@ -64,7 +79,7 @@ fn expressions(alloc: Global, ask: &Ask<'_>) -> Result<Vec<Hir>, Failure> {
 }
 
 /// The configuration that is asked for.
-fn config(alloc: Global, ask: &Ask<'_>) -> Result<Config, Failure> {
+pub fn config(alloc: Global, ask: &Ask<'_>) -> Result<Config, Failure> {
     let pre = prefilter(alloc, ask)?;
     let building = ask.building;
     let config = Config::new()
@@ -100,7 +115,11 @@ fn reset_for(alloc: Global, earlier: &Ask<'_>, strategy: &Strategy) -> Result<Ca
 /// A cache that served a search of the input.
 fn used(alloc: Global, ask: &Ask<'_>) -> Result<Cache, Failure> {
     let strategy = made(alloc, ask)?;
-    let mut cache = Cache::new(alloc, &strategy)?;
+    used_by(alloc, ask, &strategy)
+}
+
+fn used_by(alloc: Global, ask: &Ask<'_>, strategy: &Strategy) -> Result<Cache, Failure> {
+    let mut cache = Cache::new(alloc, strategy)?;
     let _found = strategy.search(&mut cache, &Input::new(ask.input));
     Ok(cache)
 }
