@@ -1,0 +1,26 @@
+use Rattle.std.proofs.Common.{◌≡◌, sym, ap, ◌∙◌, subst}
+use Rattle.std.specs.Prelude.{None, IfOk}
+use Rattle.std.specs.Result.{IfErr}
+use Rattle.rx_search.specs.Matches.{MatchValue}
+use Rattle.rx_nfa.specs.Nfa.{Nfa}
+use Rattle.rx_strategy.specs.Attempts.{HasInner, InnerFailsIn, HasCountedInner}
+use Rattle.rx_strategy.specs.Prefix.{PrefixValue, dfa_in, prefix_gives_up, prefix_wants}
+use Rattle.rx_strategy.specs.declared.dfas.Dfas.{Dfas}
+use Rattle.rx_strategy.specs.declared.prefix.Sort.{Sort}
+use Rattle.rx_strategy.specs.declared.prefix.Sort.TheVariants.{Full, Lazy}
+use Rattle.rx_strategy.proofs.DfaLemmas.{core-searches, in-nfa, less-asked}
+use Rattle.rx_strategy.proofs.strategy.engines.Core.try_reverse_inner.Goals as goal
+
+pub try_reverse_inner-requires-clause-reverse : goal.try_reverse_inner-requires-clause-reverse
+try_reverse_inner-requires-clause-reverse g c =
+    let back = c.prefix.invariant in
+    ap (λ (s : Sort). (dfa_in s).nfa.reverse) (sym c.in-Full.is) ∙ ap (λ (n : Nfa). n.reverse) back.nfa_is ∙ back.reads_back
+
+pub returns-in-Full-clause-answer : goal.returns-in-Full-clause-answer
+returns-in-Full-clause-answer g c r p has =
+    let core = c.args.self.now in
+    let v = c.args.input.now in
+    let sort : c.args.prefix.now.sort ≡ Full c.in-Full.rev = sym (ap (λ (x : PrefixValue). x.sort) c.prefix.view_is) ∙ c.in-Full.is in
+    c.try_reverse_inner.ensures.answer core.kind r
+    (core-searches core c.get_dfas.result.now c.get_dfas.ensures.serve None r v (less-asked core.pre r v p))
+    (subst (λ (s : Sort). HasInner (dfa_in s) c.args.pre.now r) sort has)
