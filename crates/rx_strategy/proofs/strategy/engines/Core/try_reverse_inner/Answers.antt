@@ -22,5 +22,14 @@ returns-in-Full-clause-answer g c r p has =
     let v = c.args.input.now in
     let sort : c.args.prefix.now.sort ≡ Full c.in-Full.rev = sym (ap (λ (x : PrefixValue). x.sort) c.prefix.view_is) ∙ c.in-Full.is in
     c.try_reverse_inner.ensures.answer core.kind r
-    (core-searches core c.get_dfas.result.now c.get_dfas.ensures.serve None r v (less-asked core.pre r v p))
+    (core-searches core c.get_dfas-dfas.result.now c.get_dfas-dfas.ensures.serve None r v (less-asked core.pre r v p))
+    (subst (λ (s : Sort). HasInner (dfa_in s) c.args.pre.now r) sort has)
+
+pub returns-in-Some-clause-answer : goal.returns-in-Some-clause-answer
+returns-in-Some-clause-answer g c r p has =
+    let core = c.args.self.now in
+    let v = c.args.input.now in
+    let sort : c.args.prefix.now.sort ≡ Lazy c.in-Lazy.rev = sym (ap (λ (x : PrefixValue). x.sort) c.prefix.view_is) ∙ c.in-Lazy.is in
+    c.try_reverse_inner-in-Lazy.ensures.answer core.kind r
+    (core-searches core c.get_dfas-dfas.result.now c.get_dfas-dfas.ensures.serve None r v (less-asked core.pre r v p))
     (subst (λ (s : Sort). HasInner (dfa_in s) c.args.pre.now r) sort has)
