@@ -8,7 +8,6 @@ pub mod InfoLemmas
 pub mod DfaLemmas
 pub mod EndingLemmas
 pub mod AttemptLemmas
-pub mod PrefixLemmas
 pub mod CacheLemmas
 pub mod CoreLemmas
 pub mod ThreadLemmas
