@@ -1,14 +1,11 @@
 use Rattle.std.proofs.Common.{◌≡◌, sym, ap, ◌∙◌, subst}
-use Rattle.std.specs.Prelude.{None, IfOk}
-use Rattle.std.specs.Result.{IfErr}
-use Rattle.rx_search.specs.Matches.{MatchValue}
+use Rattle.std.specs.Prelude.{None}
 use Rattle.rx_nfa.specs.Nfa.{Nfa}
-use Rattle.rx_strategy.specs.Attempts.{HasInner, InnerFailsIn, HasCountedInner}
-use Rattle.rx_strategy.specs.Prefix.{PrefixValue, dfa_in, prefix_gives_up, prefix_wants}
-use Rattle.rx_strategy.specs.declared.dfas.Dfas.{Dfas}
+use Rattle.rx_strategy.specs.Attempts.{HasInner}
+use Rattle.rx_strategy.specs.Prefix.{PrefixValue, dfa_in}
 use Rattle.rx_strategy.specs.declared.prefix.Sort.{Sort}
 use Rattle.rx_strategy.specs.declared.prefix.Sort.TheVariants.{Full, Lazy}
-use Rattle.rx_strategy.proofs.DfaLemmas.{core-searches, in-nfa, less-asked}
+use Rattle.rx_strategy.proofs.DfaLemmas.{core-searches, less-asked}
 use Rattle.rx_strategy.proofs.strategy.engines.Core.try_reverse_inner.Goals as goal
 
 pub try_reverse_inner-requires-clause-reverse : goal.try_reverse_inner-requires-clause-reverse
