@@ -1,10 +1,11 @@
 -- Attempts of a strategy that searches by candidates: which one it is, why an attempt has no answer, and how many steps one takes.
-use Rattle.std.specs.Prelude.{ℕ, Bool, true, false, Option, IsSomeAnd}
+use Rattle.std.specs.Prelude.{ℕ, Bool, true, false, ◌&&◌, Option, IsSomeAnd}
 use Rattle.rx_search.specs.Input.{InputValue}
 use Rattle.rx_search.specs.Matches.{MatchValue}
 use Rattle.rx_dfa.specs.declared.lazy.lazy_cache.LazyCache.{LazyCache}
 use Rattle.rx_limited.specs.declared.retry_error.RetryError.{RetryError}
 use Rattle.rx_strategy.specs.Cache as lower
+use Rattle.rx_strategy.specs.Prefix.{are_states}
 use Rattle.rx_strategy.specs.Strategy as core
 use Rattle.rx_strategies.specs.Attempts.{SuffixValue, InnerValue}
 use Rattle.rx_strategies.specs.Cache.{CacheValue}
@@ -26,6 +27,14 @@ is_by_inner (Core c) = false
 is_by_inner (ReverseAnchored c) = false
 is_by_inner (ReverseSuffix s) = false
 is_by_inner (ReverseInner i) = true
+
+-- each of its DFAs is a lazy one, and there are some
+abbrev pub are_all_lazy : Strategy → Bool
+are_all_lazy (Pre p) = false
+are_all_lazy (Core c) = core.has_lazy c
+are_all_lazy (ReverseAnchored c) = core.has_lazy c
+are_all_lazy (ReverseSuffix s) = core.has_lazy s.core
+are_all_lazy (ReverseInner i) = core.has_lazy i.core && are_states i.prefix
 
 -- why an attempt has no answer, by what the cache of the core then holds
 abbrev pub SuffixFailsWith : SuffixValue → InputValue → Option lower.CacheValue → RetryError → Type 0
