@@ -1,5 +1,6 @@
 -- Searches by candidates: what is known of a core's patterns is known of those in which candidates are in order.
-use Rattle.std.proofs.Common.{◌≡◌, ℕ, ◌<◌, List, length, get_or, refl, sym, ap, ◌∙◌, subst, true, false, true≢false, arith}
+use Rattle.std.proofs.Common.{◌≡◌, ℕ, List, ◌∙◌, subst, true}
+use Rattle.std.proofs.lemmas.Result.{IfOk-weaker}
 use Rattle.std.specs.Prelude.{Bool, [], ◌∷◌, Option, is_some, option_map, Result, Ok, IfOk}
 use Rattle.rx_model.specs.Search.{Patterns, Match}
 use Rattle.rx_search.specs.Answer.{IsAnswer, AreSlotsOfAnswer, TellsWhether, half_of}
@@ -17,7 +18,7 @@ use Rattle.rx_strategy.proofs.AnswerLemmas.{for-dfa, part-answers}
 use Rattle.rx_strategies.specs.Attempts.{HasTried, HasTriedWhether}
 
 -- a search for more patterns is one for fewer
-module _ {For More : Patterns → Type 0} (needles : Option (List (List ℕ))) (v : InputValue)
+module _ (For More : Patterns → Type 0) (needles : Option (List (List ℕ))) (v : InputValue)
     (more : (r : Patterns) → Premises (For r) needles r v → More r) where
   more-premises : (r : Patterns) → Premises (For r) needles r v → Premises (More r) needles r v
   more-premises r p = record { is_for = more r p; begins = p.begins; utf8 = p.utf8 }
@@ -25,28 +26,40 @@ module _ {For More : Patterns → Type 0} (needles : Option (List (List ℕ))) (
   more-promised : (kind : MatchKind) (r : Patterns) → Promised (For r) needles kind r v → Promised (More r) needles kind r v
   more-promised kind r p = record { premises = more-premises r p.premises; leftmost = p.leftmost; told = p.told; whole = p.whole }
 
-  pub fewer-answers : (kind : MatchKind) {T : Type 0} (part : Match → T) (found : Option T) → IsAnswer More needles kind v part found
-      → IsAnswer For needles kind v part found
-  fewer-answers kind part found is = record {
-    value = λ r p. is.value r (more-promised kind r p);
-    exists = λ r p. is.exists r (more-premises r p);
-    is_match = λ r p. is.is_match r (more-premises r p);
-  }
+  module _ (kind : MatchKind) {T : Type 0} (part : Match → T) where
+    pub fewer-answers : (found : Option T) → IsAnswer More needles kind v part found → IsAnswer For needles kind v part found
+    fewer-answers found is = record {
+      value = λ r p. is.value r (more-promised kind r p);
+      exists = λ r p. is.exists r (more-premises r p);
+      is_match = λ r p. is.is_match r (more-premises r p);
+    }
 
-  pub fewer-slots : (kind : MatchKind) {T : Type 0} (part : Match → T) (slots : List (Option ℕ)) (found : Option T)
-      → AreSlotsOfAnswer More needles kind v part slots found → AreSlotsOfAnswer For needles kind v part slots found
-  fewer-slots kind part slots found are = record {
-    value = λ r p. are.value r (more-promised kind r p);
-    is_match = λ r p. are.is_match r (more-premises r p);
-  }
+    pub fewer-slots : (slots : List (Option ℕ)) (found : Option T) → AreSlotsOfAnswer More needles kind v part slots found
+        → AreSlotsOfAnswer For needles kind v part slots found
+    fewer-slots slots found are = record {
+      value = λ r p. are.value r (more-promised kind r p);
+      is_match = λ r p. are.is_match r (more-premises r p);
+    }
+
+    -- where there was memory
+    pub ok-answers : {E : Type 0} (result : Result (Option T) E) → IfOk result (IsAnswer More needles kind v part)
+        → IfOk result (IsAnswer For needles kind v part)
+    ok-answers result is = IfOk-weaker result _ _ (λ found has. fewer-answers found has) is
+
+    pub ok-slots : {E : Type 0} (slots : List (Option ℕ)) (result : Result (Option T) E) → IfOk result (AreSlotsOfAnswer More needles kind v part slots)
+        → IfOk result (AreSlotsOfAnswer For needles kind v part slots)
+    ok-slots slots result are = IfOk-weaker result _ _ (λ found has. fewer-slots slots found has) are
 
   pub fewer-whether : (there : Bool) → TellsWhether More needles v there → TellsWhether For needles v there
   fewer-whether there is r p = is r (more-premises r p)
 
--- a search for other patterns of the same premises is one for these
-pub same-premises : {For Other : Type 0} (needles : Option (List (List ℕ))) (r : Patterns) (v : InputValue) → (For → Other) → Premises For needles r v
+  pub ok-whether : {E : Type 0} (result : Result Bool E) → IfOk result (TellsWhether More needles v) → IfOk result (TellsWhether For needles v)
+  ok-whether result is = IfOk-weaker result _ _ (λ there has. fewer-whether there has) is
+
+-- the premises, with what searches said otherwise
+pub same-premises : (For Other : Type 0) (needles : Option (List (List ℕ))) (r : Patterns) (v : InputValue) → (For → Other) → Premises For needles r v
     → Premises Other needles r v
-same-premises needles r v to p = record { is_for = to p.is_for; begins = p.begins; utf8 = p.utf8 }
+same-premises For Other needles r v to p = record { is_for = to p.is_for; begins = p.begins; utf8 = p.utf8 }
 
 -- What an attempt answers is what a search answers, where matches are told: of some patterns of a core.
 attempt-answer : (s : CoreStrategy) (v : InputValue) (For : Patterns → Type 0) → ((r : Patterns) → For r → core.IsFor s r)
@@ -57,9 +70,6 @@ attempt-answer (TheCore c) v For of part found is told = for-dfa c v For of c.ki
 
 -- of an attempt that has an answer, and of any
 module _ (s : CoreStrategy) (v : InputValue) (tried : Result (Option MatchValue) RetryError) where
-  Tried : Patterns → Type 0
-  Tried r = HasTried s v tried r
-
   found-of : (found : Option MatchValue) → tried ≡ Ok found → (r : Patterns) → HasTried s v tried r → IsAnswerFor (core.kind_in s) r v match_value found
   found-of found is r has = subst (λ (t : Result (Option MatchValue) RetryError). IfOk t (IsAnswerFor (core.kind_in s) r v match_value)) is has.1
 
