@@ -2,6 +2,7 @@
 ghost use Rattle.std.specs.Prelude.{◌≡◌, true, false, IfOk, OnOk, OnErr, IsOk};
 ghost use Rattle.rx_strategies.specs.Cache.{Fits, FitsCore, FitsInner, FitsAsBefore, StillFits, memory_of, states_in, fixed_in, accounted_for, rooms_memory};
 ghost use Rattle.rx_strategy.specs.Cache as lower;
+ghost use Rattle.rx_strategies.specs.Attempting.{is_by_inner};
 
 use crate::inner::ReverseInner;
 use crate::strategy::Strategy;
@@ -40,6 +41,7 @@ impl Cache {
         ensures fits { IfOk result (Fits strategy.now) }
         ensures memory { IfOk result (λ c. memory_of c ≡ accounted_for strategy.now) }
         ensures empty { IfOk result (λ c. states_in c ≡ 0) }
+        ensures reads { IfOk result (λ c. c.reads_prefix ≡ is_by_inner strategy.now) }
     {
         match strategy {
             Strategy::Pre(_) => Ok(Cache {
@@ -60,6 +62,7 @@ impl Cache {
         ensures fits { IfOk result (FitsCore core.now) }
         ensures memory { IfOk result (λ c. memory_of c ≡ lower.accounted_for core.now) }
         ensures empty { IfOk result (λ c. states_in c ≡ 0) }
+        ensures reads { IfOk result (λ c. c.reads_prefix ≡ false) }
     {
         Ok(Cache {
             rooms: Some(core.create_cache(alloc)?),
@@ -74,6 +77,7 @@ impl Cache {
         ensures fits { IfOk result (FitsInner inner.now) }
         ensures memory { IfOk result (λ c. memory_of c ≡ lower.accounted_for inner.now.core) }
         ensures empty { IfOk result (λ c. states_in c ≡ 0) }
+        ensures reads { IfOk result (λ c. c.reads_prefix ≡ true) }
     {
         let rooms = inner.core().create_cache(alloc)?;
         Ok(Cache {
@@ -91,6 +95,7 @@ impl Cache {
         ensures fits { OnOk result (Fits strategy.now self.new) }
         ensures memory { OnOk result (memory_of self.new ≡ accounted_for strategy.now) }
         ensures empty { OnOk result (states_in self.new ≡ 0) }
+        ensures reads { OnOk result (self.new.reads_prefix ≡ is_by_inner strategy.now) }
         ensures err { OnErr result (FitsAsBefore self.old self.new) }
         ensures sure { Fits strategy.now self.old → IsOk result }
         ensures kept { Fits strategy.now self.old → StillFits self.old self.new }
@@ -114,6 +119,7 @@ impl Cache {
         ensures fits { OnOk result (FitsCore core.now self.new) }
         ensures memory { OnOk result (memory_of self.new ≡ lower.accounted_for core.now) }
         ensures empty { OnOk result (states_in self.new ≡ 0) }
+        ensures reads { OnOk result (self.new.reads_prefix ≡ false) }
         ensures err { OnErr result (FitsAsBefore self.old self.new) }
         ensures sure { FitsCore core.now self.old → IsOk result }
         ensures kept { FitsCore core.now self.old → StillFits self.old self.new }
@@ -136,6 +142,7 @@ impl Cache {
         ensures fits { OnOk result (FitsInner inner.now self.new) }
         ensures memory { OnOk result (memory_of self.new ≡ lower.accounted_for inner.now.core) }
         ensures empty { OnOk result (states_in self.new ≡ 0) }
+        ensures reads { OnOk result (self.new.reads_prefix ≡ true) }
         ensures err { OnErr result (FitsAsBefore self.old self.new) }
         ensures sure { FitsInner inner.now self.old → IsOk result }
         ensures kept { FitsInner inner.now self.old → StillFits self.old self.new }

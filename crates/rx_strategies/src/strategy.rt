@@ -14,6 +14,7 @@ ghost use Rattle.rx_nfa.specs.Compiled.{AreAllowed, IsRefusal};
 ghost use Rattle.rx_strategy.specs.Config.{kind_of, compiler_of};
 ghost use Rattle.rx_strategy.specs.Impossible.{is_impossible, IsKnownImpossible};
 ghost use Rattle.rx_strategy.specs.Strategy as lower;
+ghost use Rattle.rx_strategies.specs.Attempting.{is_by_inner};
 ghost use Rattle.rx_strategies.specs.Cache.{Fits, AccountsAlike, memory_of, states_in, accounted_for};
 ghost use Rattle.rx_strategies.specs.Strategy.{IsFor, IsMadeOf, IsPlainOf, IsForwardsOf, IsEndlessOf, kind_in, groups_in, pattern_count, properties_of, prefilter_in, strategy_memory, core_memory};
 ghost use Rattle.rx_strategies.specs.Strategy.{backtracks, is_accelerated, name_of, IsFew};
@@ -269,6 +270,7 @@ impl Strategy {
         ensures fits { IfOk result (Fits self.now) }
         ensures memory { IfOk result (λ c. memory_of c ≡ accounted_for self.now) }
         ensures empty { IfOk result (λ c. states_in c ≡ 0) }
+        ensures reads { IfOk result (λ c. c.reads_prefix ≡ is_by_inner self.now) }
     {
         Cache::new(alloc, self)
     }
