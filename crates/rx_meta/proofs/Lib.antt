@@ -1,4 +1,6 @@
 pub mod ReadingLemmas
+pub mod PrefixLemmas
+pub mod NameLemmas
 pub mod BuildLemmas
 pub mod ServeLemmas
 pub mod FinderLemmas

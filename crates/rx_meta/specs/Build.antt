@@ -13,7 +13,7 @@ use Rattle.rx_syntax.specs.Patterns.{all_read}
 use Rattle.rx_thompson.specs.declared.error.BuildError.{BuildError as CompilerError}
 use Rattle.rx_thompson.specs.declared.error.BuildError.TheVariants.{Syntax as Refused, TooManyPatterns, TooManyGroups, TooManyStates}
 use Rattle.rx_thompson.specs.declared.error.BuildError.TheVariants.{ExceededSizeLimit, Memory as NoMemory}
-use Rattle.rx_meta.specs.Cache.{CacheValue, Fits, accounted_for, states_memory}
+use Rattle.rx_meta.specs.Cache.{CacheValue, Fits, IsAsMadeFor, accounted_for, states_memory}
 use Rattle.rx_meta.specs.Config.{Config, kind_of, utf8_of, terminator_of, captures_of, size_limit_of, has_backtracker, asks_for_dfas, dfa_of, hybrid_of, dfa_size_limit_of, dfa_state_limit_of, hybrid_cache_capacity_of}
 use Rattle.rx_meta.specs.Impossible.{is_impossible, IsKnownImpossible}
 use Rattle.rx_meta.specs.Name.{Way, by_literals, from_end, by_suffix, by_inner, plain, literals_for, chosen, accounted, way_for, way_name, accelerated_by}
@@ -118,12 +118,12 @@ pub record IsBuilt (c : Config) (hs : List Expression) (regex : RegexValue) : Ty
   pub made : IsMadeUnder c hs regex
   -- a full DFA is there only where it is asked for, and its table is within a quarter of the limit, or half of it for that of a prefix
   pub no_tables : dfa_of c ≡ false → tables_memory regex ≡ 0
-  pub small_tables : IfSome (dfa_size_limit_of c) (λ limit. tables_memory regex ≤ limit / 2 + (if reads_prefix regex then limit / 2 else 0))
+  pub small_tables : IfSome (dfa_size_limit_of c) (λ limit. tables_memory regex ≤ (if reads_prefix regex then limit else limit / 2))
   -- and a lazy one only where it is asked for
   pub no_lazy : hybrid_of c ≡ false → has_lazy regex ≡ false
-  -- Where each of them is a lazy one, a cache holds states within the capacity of each: the one that reads forwards, the one that reads
-  -- backwards, and that of a prefix.
-  pub small_states : is_all_lazy regex ≡ true → (cache : CacheValue) → Fits regex cache
+  -- Where each of them is a lazy one, a cache that was made or reset for it holds states within the capacity of each: the one that reads
+  -- forwards, the one that reads backwards, and that of a prefix.
+  pub small_states : is_all_lazy regex ≡ true → (cache : CacheValue) → Fits regex cache → IsAsMadeFor regex cache
       → states_memory cache ≤ (if reads_prefix regex then 3 else 2) * hybrid_cache_capacity_of c
   pub kind : kind_in regex ≡ kind_of c
   -- it searches for the patterns of these expressions

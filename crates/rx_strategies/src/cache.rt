@@ -176,6 +176,7 @@ impl Cache {
         ensures fits { IfOk result (StillFits self.now) }
         ensures fixed { IfOk result (λ copy. fixed_in copy ≡ fixed_in self.now) }
         ensures empty { IfOk result (λ copy. states_in copy ≡ 0) }
+        ensures reads { IfOk result (λ copy. copy.reads_prefix ≡ self.now.reads_prefix) }
     {
         let prefix = self.prefix.clone(alloc)?;
         match &self.rooms {
