@@ -1,6 +1,6 @@
 //! What the searches of a strategy write to.
-ghost use Rattle.std.specs.Prelude.{◌≡◌, true, false, IfOk, OnOk, OnErr, IsOk};
-ghost use Rattle.rx_strategies.specs.Cache.{Fits, FitsCore, FitsInner, FitsAsBefore, StillFits, memory_of, states_in, fixed_in, accounted_for, rooms_memory};
+ghost use Rattle.std.specs.Prelude.{◌≡◌, IfOk, OnOk, OnErr, IsOk, IsSomeAnd};
+ghost use Rattle.rx_strategies.specs.Cache.{Fits, FitsCore, FitsInner, FitsAsBefore, StillFits, memory_of, states_in, fixed_in, accounted_for, rooms_memory, rooms_states, ServesMore, ServesAsBefore};
 ghost use Rattle.rx_strategy.specs.Cache as lower;
 ghost use Rattle.rx_strategies.specs.Attempting.{is_by_inner};
 
@@ -114,7 +114,6 @@ impl Cache {
     }
 
     /// Makes any cache one that serves this core.
-    #[tactic(auto, using(crate::proofs::CacheLemmas::no_states))]
     fn reset_for(&mut self, alloc: Global, core: &rx_strategy::Strategy) -> Result<(), Memory>
         ensures fits { OnOk result (FitsCore core.now self.new) }
         ensures memory { OnOk result (memory_of self.new ≡ lower.accounted_for core.now) }
@@ -124,14 +123,7 @@ impl Cache {
         ensures sure { FitsCore core.now self.old → IsOk result }
         ensures kept { FitsCore core.now self.old → StillFits self.old self.new }
     {
-        if let Some(rooms) = &mut self.rooms {
-            rooms.reset(alloc, core)?;
-            self.in_use = true;
-            self.reads_prefix = false;
-            return Ok(());
-        }
-        let made = core.create_cache(alloc)?;
-        self.rooms = Some(made);
+        reset_rooms(alloc, &mut self.rooms, core)?;
         self.in_use = true;
         self.reads_prefix = false;
         Ok(())
@@ -149,8 +141,9 @@ impl Cache {
     {
         // First the room for the prefix, so that nothing changes where there is none.
         let missing = self.prefix.missing(alloc, inner.prefix())?;
-        self.reset_for(alloc, inner.core())?;
+        reset_rooms(alloc, &mut self.rooms, inner.core())?;
         self.prefix.renew(missing);
+        self.in_use = true;
         self.reads_prefix = true;
         Ok(())
     }
@@ -194,6 +187,28 @@ impl Cache {
             }),
         }
     }
+}
+
+/// Makes any cache of a core, or none, one that serves this core.
+#[tactic(auto, using(crate::proofs::CacheLemmas::no_states))]
+fn reset_rooms(
+    alloc: Global,
+    rooms: &mut Option<rx_strategy::Cache>,
+    core: &rx_strategy::Strategy,
+) -> Result<(), Memory>
+    ensures fits { OnOk result (IsSomeAnd rooms.new (lower.Fits core.now)) }
+    ensures memory { OnOk result (rooms_memory rooms.new ≡ lower.accounted_for core.now) }
+    ensures empty { OnOk result (rooms_states rooms.new ≡ 0) }
+    ensures err { OnErr result (ServesAsBefore rooms.old rooms.new) }
+    ensures sure { IsSomeAnd rooms.old (lower.Fits core.now) → IsOk result }
+    ensures kept { IsSomeAnd rooms.old (lower.Fits core.now) → ServesMore rooms.old rooms.new }
+{
+    if let Some(rooms) = rooms {
+        return rooms.reset(alloc, core);
+    }
+    let made = core.create_cache(alloc)?;
+    *rooms = Some(made);
+    Ok(())
 }
 
 /// What is accounted for the cache of a core, if there is one.
