@@ -66,7 +66,7 @@ use Rattle.rx_meta.specs.Reading.{reading_of}
 use Rattle.rx_meta.specs.Regex.{RegexValue, Serves, kind_in, groups_in, pattern_count, properties_in, prefilter_in, regex_memory, tables_memory, has_lazy, has_dfas, reads_prefix, is_all_lazy, name_of, is_accelerated, IsMadeUnder}
 use Rattle.rx_meta.specs.declared.error.BuildError.{BuildError}
 use Rattle.rx_meta.specs.declared.error.BuildError.TheVariants.{Syntax, NFA, Memory}
-use Rattle.rx_meta.proofs.NameLemmas.{not-inner, same-found, none-reads}
+use Rattle.rx_meta.proofs.NameLemmas.{not-inner, same-prefix, none-reads}
 use Rattle.rx_meta.proofs.PrefixLemmas.{inner-slots}
 
 pub few-of : (hs : List Expression) → AreFewStates hs → AreFew hs
@@ -469,7 +469,7 @@ none-there : (c : Config) (hs : List Expression) (o : Option (Expression × List
     → inner_or_plain o (λ prefix. true) ≡ by_inner p needles → HasRoom c p → ⊥
 none-there c hs None gone slots p needles is room = not-inner plain plain refl refl p needles is
 none-there c hs (Some found) gone slots p needles is room =
-    let same : found.0 ≡ p = ap (λ (f : Expression × List (List ℕ)). f.0) (same_Some found (p, needles) (same-found found.0 p found.1 needles is)) in
+    let same = same-prefix found.0 p found.1 needles is in
     prefix-there c found.0 gone (slots found refl) (subst (HasRoom c) (sym same) room)
 
 module _ (c : Config) (hs : List Expression) (core : CoreValue) (plainly : IsPlainOf c hs (TheCore core)) (allowed : AreAllowedStates (compiler_of c) hs) where
@@ -647,9 +647,8 @@ module _ (c : Config) (hs : List Expression) (core : CoreValue) (plainly : IsPla
 
         prefix-gone : (p : Expression) (ns : List (List ℕ)) → by_inner of.prefix needles ≡ by_inner p ns → HaveNoDfa c (p ∷ []) → ⊥
         prefix-gone p ns is gone =
-            let found = same_Some (of.prefix, needles) (p, ns) (same-found of.prefix p needles ns is) in
             let states : nfa_states (p ∷ []) ≡ prefix.nfa.accounted =
-            ap (λ (f : Expression × List (List ℕ)). nfa_states (f.0 ∷ [])) (sym found) ∙ sym of.reads.compiled.accounted in
+            ap (λ (h : Expression). nfa_states (h ∷ [])) (sym (same-prefix of.prefix p needles ns is)) ∙ sym of.reads.compiled.accounted in
             sort-gone c prefix.nfa prefix.sort of.reads.sort
             (λ on. subst (λ n. hybrid_cache_capacity_of c < 16384 + 16 * n) states (gone.lazy on))
             (λ on. subst (λ n. IsSomeAnd (dfa_state_limit_of c) (λ limit. limit < n)) states (gone.full on))

@@ -1,6 +1,6 @@
 -- Which strategy a regex has, by which DFAs it has.
 use Rattle.std.proofs.Common.{◌≡◌, ℕ, List, refl, sym, ap, ◌∙◌, true≢false}
-use Rattle.std.proofs.lemmas.Option.{none-some}
+use Rattle.std.proofs.lemmas.Option.{none-some, same_Some}
 use Rattle.std.specs.Prelude.{Bool, true, false, ◌||◌, Option, Some, None, codes, length, nat_eq}
 use Rattle.rx_model.specs.Expression.{Expression}
 use Rattle.rx_prefilter.specs.declared.choice.Choice.{Choice}
@@ -12,22 +12,21 @@ use Rattle.rx_strategies.specs.declared.strategy.Strategy.{Strategy}
 use Rattle.rx_strategies.specs.declared.strategy.Strategy.TheVariants.{Pre, Core, ReverseAnchored, ReverseSuffix, ReverseInner}
 use Rattle.rx_meta.specs.Name.{Way, by_literals, from_end, by_suffix, by_inner, plain, literals_or, from_end_or, suffix_or, inner_if, inner_or_plain}
 
--- what stands before the literals of a search by candidates, if it is one by literals within
-abbrev prefix_in : Way → Option (Expression × List (List ℕ))
+-- what stands before the literals of a search by literals within, if it is one
+abbrev prefix_in : Way → Option Expression
 prefix_in (by_literals needles) = None
 prefix_in from_end = None
 prefix_in (by_suffix suffix) = None
-prefix_in (by_inner prefix needles) = Some (prefix, needles)
+prefix_in (by_inner prefix needles) = Some prefix
 prefix_in plain = None
 
 -- another strategy is none by literals within
 pub not-inner : {P : Type 0} (w other : Way) → other ≡ w → prefix_in w ≡ None → (prefix : Expression) (needles : List (List ℕ)) → other ≡ by_inner prefix needles → P
-not-inner w other is none prefix needles inner = absurd (none-some (prefix, needles) (sym none ∙ ap prefix_in (sym is ∙ inner)))
+not-inner w other is none prefix needles inner = absurd (none-some prefix (sym none ∙ ap prefix_in (sym is ∙ inner)))
 
--- of two that are, the prefixes are the same
-pub same-found : (prefix p : Expression) (needles ns : List (List ℕ)) → by_inner prefix needles ≡ by_inner p ns
-    → Some (prefix, needles) ≡ Some (p, ns)
-same-found prefix p needles ns is = ap prefix_in is
+-- of two that are the same, the prefixes are
+pub same-prefix : (prefix p : Expression) (needles ns : List (List ℕ)) → by_inner prefix needles ≡ by_inner p ns → prefix ≡ p
+same-prefix prefix p needles ns is = same_Some prefix p (ap prefix_in is)
 
 -- without a DFA of a prefix there is no search by literals within
 pub none-reads : (o : Option (Expression × List (List ℕ))) → inner_or_plain o (λ prefix. false) ≡ plain

@@ -30,12 +30,6 @@ use std::sync::ledger::Ledger;
 /// be read again (`Below`), or the search backwards found a later start than that of the span, and was not over there (`AtStart`).
 /// `Fail` with the place at which a DFA quit or gave up; `Memory`, where there was no memory for its states. A search of the regex
 /// then goes on in another way, and answers all the same.
-///
-/// # Examples
-///
-/// ```
-/// let regex = Regex::new(alloc, r"\w+\s+Holmes")?;
-/// ```
 pub fn reverse_suffix_attempt<L: Ledger>(
     regex: &Regex,
     cache: &mut Cache,
