@@ -13,7 +13,8 @@ use std::marker::Model;
 /// What the searches of a regex write to. It is made once, and serves one search after another.
 #[derive(Drop)]
 pub struct Cache {
-    pub(crate) rooms: rx_strategies::Cache,
+    // A pool moves its values often (DECISIONS: a cache of a regex is a box).
+    pub(crate) rooms: Box<rx_strategies::Cache>,
 }
 
 impl Model for Cache {
@@ -21,7 +22,7 @@ impl Model for Cache {
 
     ghost Value = { CacheValue };
 
-    ghost view = { λ c. record { rooms = c.rooms } };
+    ghost view = { λ c. record { rooms = c.rooms.value } };
 }
 
 impl Cache {
@@ -84,7 +85,7 @@ impl Cache {
         ensures own { IfOk result (λ copy. (regex : RegexValue) → IsAsMadeFor regex self.now → IsAsMadeFor regex copy) }
     {
         Ok(Cache {
-            rooms: self.rooms.clone(alloc)?,
+            rooms: Box::new(alloc, self.rooms.clone(alloc)?)?,
         })
     }
 }

@@ -432,7 +432,7 @@ impl Regex {
         ensures own { IfOk result (IsAsMadeFor self.now) }
     {
         Ok(Cache {
-            rooms: self.strategy().create_cache(alloc)?,
+            rooms: Box::new(alloc, self.strategy().create_cache(alloc)?)?,
         })
     }
 
