@@ -425,17 +425,17 @@ inner-order : (c : Config) (hs : List Expression) (k : CoreStrategy) (i : InnerV
     → ((p : ℕ) (h : Expression) → slice_get hs p ≡ Some h → AreOrdered h) → HasInner (prefix_dfa_of i.prefix) i.needles (patterns_for c hs)
 inner-order c hs k i of ordered =
     let nfa = sort-nfa c i.prefix.nfa i.prefix.sort of.reads.sort in
-    let back = of.reads.compiled.reverse_runs refl (utf8_of c) in
+    let prefixes = patterns_of (of.prefix ∷ []) (utf8_of c) (nfa_terminator_of (prefix_compiler_of c)) (nfa_captures_of (prefix_compiler_of c)) in
     record {
       expression = of.order.0;
       prefix = of.prefix;
       is = of.order.1;
       ordered = ordered 0 of.order.0 (ap (λ (es : List Expression). slice_get es 0) of.order.1);
       order = of.order.2;
-      prefixes = patterns_of (of.prefix ∷ []) (utf8_of c) (nfa_terminator_of (prefix_compiler_of c)) (nfa_captures_of (prefix_compiler_of c));
+      prefixes = prefixes;
       prefix_is = refl;
       terminator = refl;
-      runs = subst (λ n. HasReverseRuns n _) (sym nfa) back;
+      runs = subst (λ n. HasReverseRuns n prefixes) (sym nfa) (of.reads.compiled.reverse_runs refl (utf8_of c));
       kind = sort-kind c i.prefix.nfa i.prefix.sort of.reads.sort;
       anywhere = ap (λ (n : Nfa). n.utf8) nfa ∙ of.reads.compiled.utf8;
     }
