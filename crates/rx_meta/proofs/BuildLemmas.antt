@@ -488,7 +488,8 @@ module _ (c : Config) (hs : List Expression) (core : CoreValue) (plainly : IsPla
       subst (λ b. (if cache.rooms.in_use then rooms_states cache.rooms.rooms + (if b then prefix_states cache.rooms.prefix else 0) else 0)
       ≤ 2 * hybrid_cache_capacity_of c) (sym none) (omega arith)
 
-  built-anchored : is_from_end (TheCore core) (alternation (expressions hs)) ≡ true → IsBuilt c hs (record { config = c; strategy = ReverseAnchored (TheCore core) })
+  built-anchored : is_from_end (TheCore core) (alternation (expressions hs)) ≡ true
+      → IsBuilt c hs (record { config = c; strategy = ReverseAnchored (TheCore core) })
   unfolding kind_in Serves pattern_count groups_in regex_memory tables_memory has_lazy has_dfas reads_prefix is_all_lazy name_of is_accelerated IsMadeUnder accounted_for Fits IsAsMadeFor states_memory properties_in prefilter_in IsKnownImpossible strategy_name has
   built-anchored is =
       let way = way-from-end c hs core plainly (λ prefix. false) is in
@@ -554,7 +555,9 @@ module _ (c : Config) (hs : List Expression) (core : CoreValue) (plainly : IsPla
             name = ap way_name (sym way);
             dfas = core-named.0;
             no_dfas = core-named.1;
-            prefix = λ p needles inner room. absurd (none-there c hs found gone slots p needles (sym (way-endless c hs core plainly (λ prefix. true) forwards none found refl) ∙ inner) room);
+            prefix = λ p needles inner room.
+                absurd (none-there c hs found gone slots p needles
+                (sym (way-endless c hs core plainly (λ prefix. true) forwards none found refl) ∙ inner) room);
             no_prefix = λ p needles inner none. refl;
           };
           accelerated = ap is_fast_by made.pre ∙ ap (λ w. accelerated_by w (prefilter_for c hs)) (sym way);
@@ -581,7 +584,9 @@ module _ (c : Config) (hs : List Expression) (core : CoreValue) (plainly : IsPla
           groups = made.compiled.groups;
           ordered = made.compiled.ordered;
           allowed = allowed-of c hs allowed;
-          memory = core-beside c hs core made (accounted (chosen needles) needles) ∙ ap (λ (ns : List (List ℕ)). memory_beside c hs (full_memory core.dfas + accounted (chosen ns) ns)) of.needle ∙ ap (λ w. memory_by w c hs (full_memory core.dfas)) (sym way);
+          memory = core-beside c hs core made (accounted (chosen needles) needles)
+              ∙ ap (λ (ns : List (List ℕ)). memory_beside c hs (full_memory core.dfas + accounted (chosen ns) ns)) of.needle
+              ∙ ap (λ w. memory_by w c hs (full_memory core.dfas)) (sym way);
           cache = core-cache c hs core made ∙ without (λ o. cache_memory_by o c hs) c hs plainly.literals;
           properties = made.properties;
           impossible = λ v known. (hs, made.properties, known);
@@ -590,7 +595,8 @@ module _ (c : Config) (hs : List Expression) (core : CoreValue) (plainly : IsPla
             name = ap way_name (sym way);
             dfas = core-named.0;
             no_dfas = core-named.1;
-            prefix = λ p ns inner. not-inner (by_suffix of.suffix) _ (way-by-suffix c hs core plainly (λ prefix. true) forwards of.suffix of.chosen) refl p ns inner;
+            prefix = λ p ns inner.
+                not-inner (by_suffix of.suffix) _ (way-by-suffix c hs core plainly (λ prefix. true) forwards of.suffix of.chosen) refl p ns inner;
             no_prefix = λ p ns inner none. refl;
           };
           accelerated = ap (λ (ns : List (List ℕ)). is_fast (chosen ns) ns) of.needle ∙ ap (λ w. accelerated_by w (prefilter_for c hs)) (sym way);
@@ -607,12 +613,12 @@ module _ (c : Config) (hs : List Expression) (core : CoreValue) (plainly : IsPla
         let table = table_of prefix.sort in
         let served = core-serves c hs core made in
         let order = inner-order c hs (TheCore core) _ of made.compiled.ordered in
-        let capacity = hybrid_cache_capacity_of c in
         record {
           config = refl;
           made = (record { forwards = core-forwards; no_suffix = none }, of);
           no_tables = λ off i. dfas-tables c core.nfa core.reverse core.dfas made.dfas off i + sort-tables c prefix.nfa prefix.sort sort off i;
-          small_tables = half-beside (dfa_size_limit_of c) (full_memory core.dfas) table (dfas-small c core.nfa core.reverse core.dfas made.dfas) (sort-small c prefix.nfa prefix.sort sort);
+          small_tables = half-beside (dfa_size_limit_of c) (full_memory core.dfas) table
+              (dfas-small c core.nfa core.reverse core.dfas made.dfas) (sort-small c prefix.nfa prefix.sort sort);
           no_lazy = λ off i. dfas-lazy c core.nfa core.reverse core.dfas made.dfas off i || sort-lazy c prefix.nfa prefix.sort sort off i;
           small_states = λ on cache fits own. inner-states on cache.rooms fits own;
           kind = made.kind;
@@ -621,7 +627,9 @@ module _ (c : Config) (hs : List Expression) (core : CoreValue) (plainly : IsPla
           groups = made.compiled.groups;
           ordered = made.compiled.ordered;
           allowed = allowed-of c hs allowed;
-          memory = core-prefixed c hs core made (accounted (chosen needles) needles) table (state_size * prefix.nfa.accounted) ∙ ap (λ n. memory_beside c hs (full_memory core.dfas + table + accounted (chosen needles) needles + state_size * n)) states ∙ ap (λ w. memory_by w c hs (full_memory core.dfas + table)) (sym way);
+          memory = core-prefixed c hs core made (accounted (chosen needles) needles) table (state_size * prefix.nfa.accounted)
+              ∙ ap (λ n. memory_beside c hs (full_memory core.dfas + table + accounted (chosen needles) needles + state_size * n)) states
+              ∙ ap (λ w. memory_by w c hs (full_memory core.dfas + table)) (sym way);
           cache = core-cache c hs core made ∙ without (λ o. cache_memory_by o c hs) c hs plainly.literals;
           properties = made.properties;
           impossible = λ v known. (hs, made.properties, known);
@@ -636,8 +644,9 @@ module _ (c : Config) (hs : List Expression) (core : CoreValue) (plainly : IsPla
           accelerated = ap (λ w. accelerated_by w (prefilter_for c hs)) (sym way);
         }
       where
-        inner-states : (are_lazy core.dfas && is_lazy_sort prefix.sort) ≡ true → (rooms : StrategyCache) → FitsInner (record { core = TheCore core; needles = needles; prefix = prefix }) rooms
-            → rooms.reads_prefix ≡ true → states_in rooms ≤ 3 * hybrid_cache_capacity_of c
+        inner-states : (are_lazy core.dfas && is_lazy_sort prefix.sort) ≡ true → (rooms : StrategyCache)
+            → FitsInner (record { core = TheCore core; needles = needles; prefix = prefix }) rooms → rooms.reads_prefix ≡ true
+            → states_in rooms ≤ 3 * hybrid_cache_capacity_of c
         inner-states on rooms fits reads =
             let both = and_parts (are_lazy core.dfas) (is_lazy_sort prefix.sort) on in
             let few = sort-states c prefix.nfa prefix.sort of.reads.sort both.1 rooms.prefix fits.prefix in

@@ -21,7 +21,8 @@ prefix_in (by_inner prefix needles) = Some prefix
 prefix_in plain = None
 
 -- another strategy is none by literals within
-pub not-inner : {P : Type 0} (w other : Way) → other ≡ w → prefix_in w ≡ None → (prefix : Expression) (needles : List (List ℕ)) → other ≡ by_inner prefix needles → P
+pub not-inner : {P : Type 0} (w other : Way) → other ≡ w → prefix_in w ≡ None → (prefix : Expression) (needles : List (List ℕ))
+    → other ≡ by_inner prefix needles → P
 not-inner w other is none prefix needles inner = absurd (none-some prefix (sym none ∙ ap prefix_in (sym is ∙ inner)))
 
 -- of two that are the same, the prefixes are
