@@ -10,7 +10,7 @@ use Rattle.rx_strategies.proofs.AttemptLemmas.{same-premises}
 use Rattle.rx_strategies.proofs.inner.ReverseInner.try_search.Goals as goal
 
 pub returns-clause-answer : goal.returns-clause-answer
-returns-clause-answer c =
+returns-clause-answer g c =
     let v = c.args.input.now in
     let s = c.self.inside.core in
     subst
