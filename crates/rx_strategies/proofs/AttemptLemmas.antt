@@ -6,7 +6,7 @@ use Rattle.rx_model.specs.Search.{Patterns, Match}
 use Rattle.rx_search.specs.Answer.{IsAnswer, AreSlotsOfAnswer, TellsWhether, half_of}
 use Rattle.rx_search.specs.Input.{InputValue, next_in}
 use Rattle.rx_search.specs.Matches.{MatchValue, HalfMatchValue, match_value, half_match_value}
-use Rattle.rx_search.specs.Promise.{Premises, Promised}
+use Rattle.rx_search.specs.Promise.{Premises}
 use Rattle.rx_search.specs.declared.anchored.MatchKind.{MatchKind}
 use Rattle.rx_dfa.specs.Search.{IsAnswerFor}
 use Rattle.rx_limited.specs.declared.retry_error.RetryError.{RetryError}
@@ -14,52 +14,22 @@ use Rattle.rx_strategy.specs.Attempts.{IsToldBy}
 use Rattle.rx_strategy.specs.Strategy as core
 use Rattle.rx_strategy.specs.declared.strategy.Strategy.{Strategy as CoreStrategy}
 use Rattle.rx_strategy.specs.declared.strategy.Strategy.TheVariants.{Core as TheCore}
-use Rattle.rx_strategy.proofs.AnswerLemmas.{for-dfa, part-answers}
+use Rattle.rx_strategy.proofs.AnswerLemmas.{for-dfa, part-answers, fewer-answers, fewer-slots, fewer-whether}
 use Rattle.rx_strategies.specs.Attempts.{HasTried, HasTriedWhether}
 
--- a search for more patterns is one for fewer
+-- a search for more patterns is one for fewer, where there was memory
 module _ (For More : Patterns → Type 0) (needles : Option (List (List ℕ))) (v : InputValue)
-    (more : (r : Patterns) → Premises (For r) needles r v → More r) where
-  more-premises : (r : Patterns) → Premises (For r) needles r v → Premises (More r) needles r v
-  more-premises r p = record { is_for = more r p; begins = p.begins; utf8 = p.utf8 }
+    (more : (r : Patterns) → Premises (For r) needles r v → More r) {E : Type 0} where
+  pub ok-answers : (kind : MatchKind) {T : Type 0} (part : Match → T) (result : Result (Option T) E) → IfOk result (IsAnswer More needles kind v part)
+      → IfOk result (IsAnswer For needles kind v part)
+  ok-answers kind part result is = IfOk-weaker result _ _ (λ found has. fewer-answers For More needles v more kind part found has) is
 
-  more-promised : (kind : MatchKind) (r : Patterns) → Promised (For r) needles kind r v → Promised (More r) needles kind r v
-  more-promised kind r p = record { premises = more-premises r p.premises; leftmost = p.leftmost; told = p.told; whole = p.whole }
+  pub ok-slots : (kind : MatchKind) {T : Type 0} (part : Match → T) (slots : List (Option ℕ)) (result : Result (Option T) E)
+      → IfOk result (AreSlotsOfAnswer More needles kind v part slots) → IfOk result (AreSlotsOfAnswer For needles kind v part slots)
+  ok-slots kind part slots result are = IfOk-weaker result _ _ (λ found has. fewer-slots For More needles v more kind part slots found has) are
 
-  module _ (kind : MatchKind) {T : Type 0} (part : Match → T) where
-    pub fewer-answers : (found : Option T) → IsAnswer More needles kind v part found → IsAnswer For needles kind v part found
-    fewer-answers found is = record {
-      value = λ r p. is.value r (more-promised kind r p);
-      exists = λ r p. is.exists r (more-premises r p);
-      is_match = λ r p. is.is_match r (more-premises r p);
-    }
-
-    pub fewer-slots : (slots : List (Option ℕ)) (found : Option T) → AreSlotsOfAnswer More needles kind v part slots found
-        → AreSlotsOfAnswer For needles kind v part slots found
-    fewer-slots slots found are = record {
-      value = λ r p. are.value r (more-promised kind r p);
-      is_match = λ r p. are.is_match r (more-premises r p);
-    }
-
-    -- where there was memory
-    pub ok-answers : {E : Type 0} (result : Result (Option T) E) → IfOk result (IsAnswer More needles kind v part)
-        → IfOk result (IsAnswer For needles kind v part)
-    ok-answers result is = IfOk-weaker result _ _ (λ found has. fewer-answers found has) is
-
-    pub ok-slots : {E : Type 0} (slots : List (Option ℕ)) (result : Result (Option T) E) → IfOk result (AreSlotsOfAnswer More needles kind v part slots)
-        → IfOk result (AreSlotsOfAnswer For needles kind v part slots)
-    ok-slots slots result are = IfOk-weaker result _ _ (λ found has. fewer-slots slots found has) are
-
-  pub fewer-whether : (there : Bool) → TellsWhether More needles v there → TellsWhether For needles v there
-  fewer-whether there is r p = is r (more-premises r p)
-
-  pub ok-whether : {E : Type 0} (result : Result Bool E) → IfOk result (TellsWhether More needles v) → IfOk result (TellsWhether For needles v)
-  ok-whether result is = IfOk-weaker result _ _ (λ there has. fewer-whether there has) is
-
--- the premises, with what searches said otherwise
-pub same-premises : (For Other : Type 0) (needles : Option (List (List ℕ))) (r : Patterns) (v : InputValue) → (For → Other) → Premises For needles r v
-    → Premises Other needles r v
-same-premises For Other needles r v to p = record { is_for = to p.is_for; begins = p.begins; utf8 = p.utf8 }
+  pub ok-whether : (result : Result Bool E) → IfOk result (TellsWhether More needles v) → IfOk result (TellsWhether For needles v)
+  ok-whether result is = IfOk-weaker result _ _ (λ there has. fewer-whether For More needles v more there has) is
 
 -- What an attempt answers is what a search answers, where matches are told: of some patterns of a core.
 attempt-answer : (s : CoreStrategy) (v : InputValue) (For : Patterns → Type 0) → ((r : Patterns) → For r → core.IsFor s r)

@@ -118,3 +118,12 @@ capped o n is = capped-once (rooms_memory o) (rooms_fixed o + rooms_states o) n 
 pub none-read : (o : Option LazyCache) → HoldsNoPrefix o → prefix_states o ≡ 0
 none-read None none = refl
 none-read (Some cache) none = none.size
+
+-- a cache that holds no state
+empty-by : (b r : Bool) (m n : ℕ) → m ≡ 0 → n ≡ 0 → (if b then m + (if r then n else 0) else 0) ≡ 0
+empty-by true true m n e f = omega arith
+empty-by true false m n e f = omega arith
+empty-by false r m n e f = refl
+
+pub empty-states : (cache : CacheValue) → rooms_states cache.rooms ≡ 0 → prefix_states cache.prefix ≡ 0 → states_in cache ≡ 0
+empty-states cache rooms prefix = empty-by cache.in_use cache.reads_prefix (rooms_states cache.rooms) (prefix_states cache.prefix) rooms prefix

@@ -4,7 +4,7 @@ use Rattle.std.proofs.lemmas.Bool.{and_parts}
 use Rattle.std.proofs.lemmas.List.Sums.{AllPass-from_list_all}
 use Rattle.std.proofs.lemmas.Option.{none-some}
 use Rattle.std.specs.List.{list_all}
-use Rattle.std.specs.Prelude.{Bool, [], ◌∷◌, Option, Some, None, ◌&&◌, ◌||◌, not, if◌then◌else◌}
+use Rattle.std.specs.Prelude.{Bool, [], ◌∷◌, Option, Some, None, option_map, ◌&&◌, ◌||◌, not, if◌then◌else◌}
 use Rattle.rx_model.specs.Expression.{Expression, alternation}
 use Rattle.rx_hir.specs.Normal.{expressions}
 use Rattle.rx_hir.specs.PropertiesViews.{AreOf}
@@ -153,6 +153,10 @@ one-served (b ∷ []) long = refl
 one-served (b ∷ c ∷ s) long = refl
 
 -- literals within each match of the only expression
+pub made-some : {A : Type 0} (view : A → Expression × List (List ℕ)) (made : Option A) (x : A) (o : Option (Expression × List (List ℕ)))
+    → option_map view made ≡ o → made ≡ Some x → o ≡ Some (view x)
+made-some view made x o e is = sym e ∙ ap (option_map view) is
+
 inner-one : (hs : List Expression) (found : Expression × List (List ℕ)) → inner_of hs ≡ Some found → (h : Expression) × (hs ≡ h ∷ [])
 inner-one [] found e = absurd (none-some found e)
 inner-one (h ∷ []) found e = (h, refl)

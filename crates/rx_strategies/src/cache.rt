@@ -1,5 +1,5 @@
 //! What the searches of a strategy write to.
-ghost use Rattle.std.specs.Prelude.{◌≡◌, IfOk, OnOk, OnErr, IsOk, IsSomeAnd};
+ghost use Rattle.std.specs.Prelude.{◌≡◌, true, false, IfOk, OnOk, OnErr, IsOk, IsSomeAnd};
 ghost use Rattle.rx_strategies.specs.Cache.{Fits, FitsCore, FitsInner, FitsAsBefore, StillFits, memory_of, states_in, fixed_in, accounted_for, rooms_memory, rooms_states, ServesMore, ServesAsBefore};
 ghost use Rattle.rx_strategy.specs.Cache as lower;
 ghost use Rattle.rx_strategies.specs.Attempting.{is_by_inner};

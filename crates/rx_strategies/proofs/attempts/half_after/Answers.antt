@@ -1,8 +1,9 @@
 use Rattle.std.specs.Prelude.{Option}
 use Rattle.rx_search.specs.Matches.{half_match_value}
 use Rattle.rx_strategy.specs.Strategy.{IsFor, kind_in, prefilter_in}
+use Rattle.rx_strategy.proofs.AnswerLemmas.{fewer-answers}
 use Rattle.rx_strategies.specs.Attempts.{HasTried}
-use Rattle.rx_strategies.proofs.AttemptLemmas.{fewer-answers, ok-answers, tried-half, tried-core}
+use Rattle.rx_strategies.proofs.AttemptLemmas.{ok-answers, tried-half, tried-core}
 use Rattle.rx_strategies.proofs.attempts.half_after.Goals as goal
 
 pub returns-in-Ok-clause-answer : goal.returns-in-Ok-clause-answer

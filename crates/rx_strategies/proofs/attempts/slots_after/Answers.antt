@@ -1,8 +1,9 @@
 use Rattle.rx_search.specs.Matches.{match_value}
 use Rattle.rx_strategy.specs.Attempts.{IsToldBy}
 use Rattle.rx_strategy.specs.Strategy.{IsFor, kind_in, prefilter_in}
+use Rattle.rx_strategy.proofs.AnswerLemmas.{fewer-answers, fewer-slots}
 use Rattle.rx_strategies.specs.Attempts.{HasTried}
-use Rattle.rx_strategies.proofs.AttemptLemmas.{fewer-answers, fewer-slots, ok-answers, ok-slots, tried-told, tried-core}
+use Rattle.rx_strategies.proofs.AttemptLemmas.{ok-answers, ok-slots, tried-told, tried-core}
 use Rattle.rx_strategies.proofs.attempts.slots_after.Goals as goal
 
 pub returns-in-Ok-clause-answer : goal.returns-in-Ok-clause-answer

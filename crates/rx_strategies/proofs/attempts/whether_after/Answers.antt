@@ -1,6 +1,7 @@
 use Rattle.rx_strategy.specs.Strategy.{IsFor, prefilter_in}
+use Rattle.rx_strategy.proofs.AnswerLemmas.{fewer-whether}
 use Rattle.rx_strategies.specs.Attempts.{HasTriedWhether}
-use Rattle.rx_strategies.proofs.AttemptLemmas.{fewer-whether, ok-whether, tried-whether, whether-core}
+use Rattle.rx_strategies.proofs.AttemptLemmas.{ok-whether, tried-whether, whether-core}
 use Rattle.rx_strategies.proofs.attempts.whether_after.Goals as goal
 
 pub returns-in-Ok-clause-value : goal.returns-in-Ok-clause-value
