@@ -1,9 +1,8 @@
-use Rattle.std.proofs.Common.{◌≡◌, sym, ◌∙◌, subst, refl, true}
+use Rattle.std.proofs.Common.{ℕ, List, sym, ◌∙◌, subst, refl}
 use Rattle.std.specs.Prelude.{Option}
 use Rattle.rx_model.specs.Expression.{alternation}
 use Rattle.rx_hir.specs.Normal.{expressions}
 use Rattle.rx_strategies.specs.Attempts.{IsSuffixFound}
-use Rattle.rx_strategies.specs.Choice.{may_attempt}
 use Rattle.rx_strategies.proofs.ChosenLemmas.{attempts-dfas, suffix-not, suffix-none, suffix-of}
 use Rattle.rx_strategies.proofs.MadeLemmas.{made-properties}
 use Rattle.rx_strategies.proofs.suffix.ReverseSuffix.new.Goals as goal
@@ -35,7 +34,7 @@ returns-in-Some c =
     let core = c.args.core in
     let all = alternation (expressions hs) in
     let found = subst (λ (o : Option (List (List ℕ))). IsSuffixFound hs o) c.in-Some.is c.in_ok-suffix_search.ensures in
-    suffix-of config core hs (sym (c.may_attempt.ensures all (made-properties config hs core c.requires)) ∙ c.if-not-may_attempt.false) c.in-Some.pre found _ _
+    suffix-of config core hs (sym (c.may_attempt.ensures all (made-properties config hs core c.requires)) ∙ c.if-not-may_attempt.false) c.in-Some.pre found _ refl
 
 pub returns-in-None : goal.returns-in-None
 returns-in-None c =
