@@ -32,7 +32,7 @@ module _ (For More : Patterns → Type 0) (needles : Option (List (List ℕ))) (
   ok-whether result is = IfOk-weaker result _ _ (λ there has. fewer-whether For More needles v more there has) is
 
 -- What an attempt answers is what a search answers, where matches are told: of some patterns of a core.
-attempt-answer : (s : CoreStrategy) (v : InputValue) (For : Patterns → Type 0) → ((r : Patterns) → For r → core.IsFor s r)
+pub attempt-answer : (s : CoreStrategy) (v : InputValue) (For : Patterns → Type 0) → ((r : Patterns) → For r → core.IsFor s r)
     → {A : Type 0} (part : Match → A) (found : Option A)
     → ((r : Patterns) → Premises (For r) (core.prefilter_in s) r v → IsAnswerFor (core.kind_in s) r v part found) → core.tells_in s ≡ true
     → IsAnswer For (core.prefilter_in s) (core.kind_in s) v part found

@@ -104,7 +104,7 @@ pub as-before : (old new : CacheValue) → ServesAsBefore old.rooms new.rooms �
 as-before old new before prefix in_use reads = record {
   fits = still-fits old new before.fits (λ p fits. subst (FitsPrefix p) (sym prefix) fits);
   memory =
-    λ i. if in_use i then min (2 ^ 64 - 1) (before.memory i + (if reads i then prefix_states (prefix i) else 0)) else 0;
+      λ i. if in_use i then min (2 ^ 64 - 1) (before.memory i + (if reads i then prefix_states (prefix i) else 0)) else 0;
 }
 
 -- what is accounted for the room alone is within the greatest number

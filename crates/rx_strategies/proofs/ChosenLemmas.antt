@@ -1,10 +1,11 @@
 -- Which literals a search goes by.
 use Rattle.std.proofs.Common.{◌≡◌, ℕ, ◌<◌, List, length, get_or, refl, sym, ap, ◌∙◌, subst, true, false, true≢false, arith, All}
 use Rattle.std.proofs.lemmas.Bool.{and_parts}
+use Rattle.std.proofs.lemmas.Bool.Decides.{nat_tests}
 use Rattle.std.proofs.lemmas.List.Sums.{AllPass-from_list_all}
 use Rattle.std.proofs.lemmas.Option.{none-some}
 use Rattle.std.specs.List.{list_all}
-use Rattle.std.specs.Prelude.{Bool, [], ◌∷◌, Option, Some, None, option_map, ◌&&◌, ◌||◌, not, if◌then◌else◌}
+use Rattle.std.specs.Prelude.{Bool, [], ◌∷◌, Option, Some, None, option_map, ◌&&◌, ◌||◌, ◌==◌, not, if◌then◌else◌}
 use Rattle.rx_model.specs.Expression.{Expression, alternation}
 use Rattle.rx_hir.specs.Normal.{expressions}
 use Rattle.rx_hir.specs.PropertiesViews.{AreOf}
@@ -15,7 +16,8 @@ use Rattle.rx_order.specs.Order.{SuffixIsNoEarlier, HasRest, IsThen, Begins, Inn
 use Rattle.rx_order.specs.Strip.{suffix_of_one_has_no_earlier_match, left_passes, strip_literal_suffix}
 use Rattle.rx_order.specs.Tests.{is_not_empty, are_literals, inner_has_no_earlier, one_not_consumed, has_fixed_length, has_last_separator, has_first_separator}
 use Rattle.rx_attempts.specs.Candidates.{AreNotEmpty}
-use Rattle.rx_prefilter.specs.Choices.{served, choice_of}
+use Rattle.rx_prefilter.specs.Choices.{served, choice_of, choice_of_bytes, is_empty, is_single}
+use Rattle.rx_prefilter.specs.declared.choice.Choice.TheVariants.{Memmem}
 use Rattle.rx_strategy.specs.Config.{kind_of, auto_prefilter_of, is_leftmost}
 use Rattle.rx_strategy.specs.Impossible.{is_always_anchored_start}
 use Rattle.rx_strategy.specs.Prefix.{PrefixValue, IsPrefixOf, HasNoPrefix}
@@ -146,11 +148,17 @@ module _ (hs : List Expression) (s : List ℕ) where
   ordered-none e = if-off (suffix_of_one_has_no_earlier_match hs s) (Some s) e
 
 -- a needle with a byte fits a kind of search
+pick : {C : Type 0} (needles : List (List ℕ)) (none single : Bool) (x y : C) → none ≡ false
+    → option_map (λ (c : C). needles) (if none || false then None else if single && true then Some x else Some y) ≡ Some needles
+pick needles true single x y off = absurd (true≢false off)
+pick needles false true x y off = refl
+pick needles false false x y off = refl
+
 pub one-served : (s : List ℕ) → 0 < length s → served (s ∷ []) ≡ Some (s ∷ [])
 unfolding choice_of
-one-served [] long = absurd (omega arith)
-one-served (b ∷ []) long = refl
-one-served (b ∷ c ∷ s) long = refl
+one-served s long =
+    let some : (length s == 0) ≡ false = grind (arith, nat_tests, long) in
+    pick (s ∷ []) (is_empty s) (is_single s) (choice_of_bytes 1) Memmem some
 
 -- literals within each match of the only expression
 pub made-some : {A : Type 0} (view : A → Expression × List (List ℕ)) (made : Option A) (x : A) (o : Option (Expression × List (List ℕ)))

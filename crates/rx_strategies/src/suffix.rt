@@ -221,11 +221,7 @@ fn suffix_search(alloc: Global, exprs: &[Hir]) -> Result<Option<Prefilter>, Memo
 }
 
 /// The search for this literal, where no match of the only expression starts earlier than the first one that is so confirmed.
-fn ordered_search(
-    alloc: Global,
-    exprs: &[Hir],
-    suffix: &[u8],
-) -> Result<Option<Prefilter>, Memory>
+fn ordered_search(alloc: Global, exprs: &[Hir], suffix: &[u8]) -> Result<Option<Prefilter>, Memory>
     ensures { IfOk result (IsOrderedSearch exprs.now suffix.now) }
 {
     if suffix_has_no_earlier_match(alloc, exprs, suffix)? {

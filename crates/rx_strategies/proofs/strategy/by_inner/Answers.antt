@@ -11,7 +11,7 @@ returns-in-Ok c =
     let hs = c.args.exprs.now in
     let core = c.args.core in
     inner-made config hs core c.in-Ok.inner
-    (subst (λ (o : Result InnerValue CoreStrategy). IsInnerTried config hs core o) c.in-Ok.is c.in_ok-new.ensures) c.requires
+    (subst (λ (o : Result InnerValue CoreStrategy). IsInnerTried config hs core o) c.in-Ok.is c.in_ok-inner.ensures) c.requires
 
 pub returns-in-Err : goal.returns-in-Err
 returns-in-Err c =
@@ -19,4 +19,4 @@ returns-in-Err c =
     let hs = c.args.exprs.now in
     let core = c.args.core in
     core-made config hs core c.in-Err.core
-    (subst (λ (o : Result InnerValue CoreStrategy). IsInnerTried config hs core o) c.in-Err.is c.in_ok-new.ensures) c.requires
+    (subst (λ (o : Result InnerValue CoreStrategy). IsInnerTried config hs core o) c.in-Err.is c.in_ok-inner.ensures) c.requires

@@ -11,7 +11,7 @@ returns-in-Ok c =
     let hs = c.args.exprs.now in
     let core = c.args.core in
     suffix-made config hs core c.in-Ok.suffix
-    (subst (λ (o : Result SuffixValue CoreStrategy). IsSuffixTried config hs core o) c.in-Ok.is c.in_ok-new.ensures) c.requires
+    (subst (λ (o : Result SuffixValue CoreStrategy). IsSuffixTried config hs core o) c.in-Ok.is c.in_ok-suffix.ensures) c.requires
 
 pub by_inner-requires : goal.by_inner-requires
 by_inner-requires c =
@@ -19,4 +19,4 @@ by_inner-requires c =
     let hs = c.args.exprs.now in
     let core = c.args.core in
     endless-made config hs core c.in-Err.core
-    (subst (λ (o : Result SuffixValue CoreStrategy). IsSuffixTried config hs core o) c.in-Err.is c.in_ok-new.ensures) c.requires
+    (subst (λ (o : Result SuffixValue CoreStrategy). IsSuffixTried config hs core o) c.in-Err.is c.in_ok-suffix.ensures) c.requires

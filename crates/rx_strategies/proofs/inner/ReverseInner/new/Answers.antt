@@ -15,18 +15,22 @@ pub returns-then-not-may_attempt : goal.returns-then-not-may_attempt
 returns-then-not-may_attempt c =
     let config = c.args.config.now in
     let hs = c.args.exprs.now in
-    let core = c.args.core in
-    (refl, inner-not config core hs
-    (sym (c.may_attempt.ensures (alternation (expressions hs)) (made-properties config hs core c.requires)) ∙ c.if-not-may_attempt.true))
+    let core = c.args.core in (
+      refl,
+      inner-not config core hs
+          (sym (c.may_attempt.ensures (alternation (expressions hs)) (made-properties config hs core c.requires)) ∙ c.if-not-may_attempt.true),
+    )
 
 pub returns-in_default : goal.returns-in_default
 returns-in_default c =
     let config = c.args.config.now in
     let hs = c.args.exprs.now in
     let core = c.args.core in
-    let on = sym (c.may_attempt.ensures (alternation (expressions hs)) (made-properties config hs core c.requires)) ∙ c.if-not-may_attempt.false in
-    (refl, inner-none config core hs on
-    (subst (λ o. MatchOption o (if_inner_in_order (inner_of hs) ≡ None) (λ i. IsInnerFound hs i.prefix i.pre)) c.in_default.is c.in_ok-inner.ensures))
+    let on = sym (c.may_attempt.ensures (alternation (expressions hs)) (made-properties config hs core c.requires)) ∙ c.if-not-may_attempt.false in (
+      refl,
+      inner-none config core hs on
+          (subst (λ o. MatchOption o (if_inner_in_order (inner_of hs) ≡ None) (λ i. IsInnerFound hs i.prefix i.pre)) c.in_default.is c.in_ok-inner.ensures),
+    )
 
 pub invariant_of-result : goal.invariant_of-result
 invariant_of-result c =

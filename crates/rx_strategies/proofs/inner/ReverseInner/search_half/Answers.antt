@@ -22,8 +22,8 @@ returns-clause-answer c =
     let k = c.args.self.now in
     let s = k.core in
     let v = c.args.input.now in
-    let tried = c.attempt.result in
-    ok-answers (λ r. IsInnerFor k r) (λ r. HasTried s v tried r) (prefilter_in s) v (λ r p. (p.is_for.0, c.attempt.ensures.answer r p)) (kind_in s)
+    let tried = c.attempt-tried.result in
+    ok-answers (λ r. IsInnerFor k r) (λ r. HasTried s v tried r) (prefilter_in s) v (λ r p. (p.is_for.0, c.attempt-tried.ensures.answer r p)) (kind_in s)
     half_match_value c.half_after.result
     (subst (λ (t : Strategy). IfOk c.half_after.result (IsAnswer (λ r. HasTried t v tried r) (prefilter_in t) (kind_in t) v half_match_value))
     (ap (λ (x : InnerValue). x.core) c.self.view_is) c.half_after.ensures.answer)

@@ -1,4 +1,4 @@
-use Rattle.std.proofs.Common.{◌≡◌, ap, ◌∙◌, subst}
+use Rattle.std.proofs.Common.{◌≡◌, ap, ◌∙◌, subst, true}
 use Rattle.std.proofs.lemmas.Result.{IfOk-weaker}
 use Rattle.std.specs.Prelude.{IfOk}
 use Rattle.rx_model.specs.Search.{Patterns}
@@ -27,12 +27,12 @@ returns-clause-value c =
     let k = c.args.self.now in
     let s = k.core in
     let v = c.args.input.now in
-    let tried = c.attempt.result in
+    let tried = c.attempt-tried.result in
     let any : InputValue = record v { earliest = true } in
     let is_any : c.set_earliest.new.self ≡ any = c.set_earliest.ensures ∙ ap (λ (x : InputValue). record x { earliest = true }) c.clone-any.ensures.value in
     let told =
     subst (λ (w : InputValue). (r : Patterns) → Premises (IsSuffixFor k r) (prefilter_in s) r w → IfOk tried (IsAnswerFor (kind_in s) r w match_value))
-    is_any c.attempt.ensures.answer in
+    is_any c.attempt-tried.ensures.answer in
     ok-whether (λ r. IsSuffixFor k r) (λ r. HasTriedWhether s v tried r) (prefilter_in s) v
     (λ r p.
     let asked : Premises (IsSuffixFor k r) (prefilter_in s) r any = record { is_for = p.is_for; begins = p.begins; utf8 = p.utf8 } in

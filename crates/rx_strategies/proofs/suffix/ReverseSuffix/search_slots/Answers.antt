@@ -32,8 +32,8 @@ returns-clause-answer c =
     let k = c.args.self.now in
     let s = k.core in
     let v = c.args.input.now in
-    let tried = c.attempt.result in
-    ok-answers (λ r. IsSuffixFor k r) (λ r. HasTried s v tried r) (prefilter_in s) v (λ r p. (p.is_for.0, c.attempt.ensures.answer r p)) (kind_in s)
+    let tried = c.attempt-tried.result in
+    ok-answers (λ r. IsSuffixFor k r) (λ r. HasTried s v tried r) (prefilter_in s) v (λ r p. (p.is_for.0, c.attempt-tried.ensures.answer r p)) (kind_in s)
     match_value c.slots_after.result
     (subst (λ (t : Strategy). IfOk c.slots_after.result (IsAnswer (λ r. HasTried t v tried r) (prefilter_in t) (kind_in t) v match_value))
     (ap (λ (x : SuffixValue). x.core) c.self.view_is) c.slots_after.ensures.answer)
@@ -43,9 +43,9 @@ returns-clause-slots c =
     let k = c.args.self.now in
     let s = k.core in
     let v = c.args.input.now in
-    let tried = c.attempt.result in
+    let tried = c.attempt-tried.result in
     let slots = c.slots_after.new.slots in
-    ok-slots (λ r. IsSuffixFor k r) (λ r. HasTried s v tried r) (prefilter_in s) v (λ r p. (p.is_for.0, c.attempt.ensures.answer r p)) (kind_in s)
+    ok-slots (λ r. IsSuffixFor k r) (λ r. HasTried s v tried r) (prefilter_in s) v (λ r p. (p.is_for.0, c.attempt-tried.ensures.answer r p)) (kind_in s)
     match_value slots c.slots_after.result
     (subst (λ (t : Strategy). IfOk c.slots_after.result (AreSlotsOfAnswer (λ r. HasTried t v tried r) (prefilter_in t) (kind_in t) v match_value slots))
     (ap (λ (x : SuffixValue). x.core) c.self.view_is) c.slots_after.ensures.slots)
