@@ -91,7 +91,7 @@ type Attempt = (
     Option<(usize, usize)>,
 );
 
-const ATTEMPTS: [Attempt; 8] = [
+const ATTEMPTS: [Attempt; 9] = [
     // Before the second candidate the byte at 6 would be read again.
     (
         r"\w+\s+Holmes",
@@ -102,7 +102,7 @@ const ATTEMPTS: [Attempt; 8] = [
         },
         Some((1, 14)),
     ),
-    // A match may start before the `d` at 0, for all that is known there.
+    // For all that is known at the start of the span, a match may start before it.
     (
         "(?:[a-b]d)+c",
         "dadc",
@@ -131,17 +131,24 @@ const ATTEMPTS: [Attempt; 8] = [
         Tried::Found(None),
         None,
     ),
+    // The byte before the start shows that a match was met there, and the one before that that none is to come.
     (
         r"\s[A-Za-z]{0,12}ing\s",
         "x king sing ",
-        Tried::Found(Some((1, 7))),
+        Tried::AtStart(1),
         Some((1, 7)),
     ),
     (
+        r"\s[A-Za-z]{0,12}ing\s",
+        "xx king sing ",
+        Tried::Found(Some((2, 8))),
+        Some((2, 8)),
+    ),
+    (
         "(a|aa)b",
-        "xaab",
-        Tried::Found(Some((1, 4))),
-        Some((1, 4)),
+        "xxaab",
+        Tried::Found(Some((2, 5))),
+        Some((2, 5)),
     ),
     (
         "(a|aa)b",
