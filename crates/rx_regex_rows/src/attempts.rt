@@ -36,7 +36,7 @@ enum Tried {
 }
 
 /// What the answer of an attempt tells.
-fn tried(answer: Result<Option<Match>, RetryError>) -> Tried {
+fn outcome_of(answer: Result<Option<Match>, RetryError>) -> Tried {
     match answer {
         Ok(found) => Tried::Found(span_of(found)),
         Err(RetryError::Quadratic(Quadratic::Below { at, min_start })) => {
@@ -67,11 +67,11 @@ fn attempt<L: Ledger>(
     let input = Input::new(text);
     if regex.strategy_name() == "reverse suffix" {
         let answer = reverse_suffix_attempt(regex, cache, &input, &mut steps);
-        return Some((tried(answer), steps.taken()));
+        return Some((outcome_of(answer), steps.taken()));
     }
     if regex.strategy_name() == "reverse inner" {
         let answer = reverse_inner_attempt(regex, cache, &input, &mut steps);
-        return Some((tried(answer), steps.taken()));
+        return Some((outcome_of(answer), steps.taken()));
     }
     None
 }
