@@ -46,7 +46,7 @@ pub use iterator_laws::{
 };
 pub use laws::{
     a_search_changes_states_alone, a_search_is_for_its_patterns,
-    a_search_without_lazy_dfas_accounts_nothing,
+    a_search_without_lazy_dfas_accounts_nothing, attempts_give_up_where_bytes_were_read,
 };
 pub use regex::Regex;
 pub use rx_limited::{Quadratic, RetryError};
