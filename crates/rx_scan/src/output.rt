@@ -7,21 +7,8 @@ ghost use Rattle.rx_scan.specs.Row.{span_text, group_text, groups_text, slots_te
 
 use crate::ends::{Failed, Sink};
 use crate::row::Row;
-use itoa::Buffer;
+use rx_gen::push_number;
 use rx_search::{Memory, NonMaxUsize};
-
-/// Appends a number.
-///
-/// # Errors
-///
-/// `Memory`, where there was no memory for the digits.
-pub fn push_number(text: &mut Vec<u8>, n: usize) -> Result<(), Memory>
-    ensures { OnOk result (text.new.items ≡ text.old.items ++ decimal n) }
-{
-    let mut buffer = Buffer::new();
-    text.extend_from_slice(buffer.format(n).as_bytes())?;
-    Ok(())
-}
 
 /// Appends `START..END`, or `-` where one of them is not told.
 fn push_span(

@@ -1,0 +1,3 @@
+pub mod GeneratorLemmas
+pub mod NumberLemmas
+pub mod TotalsLemmas
