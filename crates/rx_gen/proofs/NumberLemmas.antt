@@ -49,6 +49,7 @@ module _ (most : ℕ) (word : List ℕ) (fits : most < 2 ^ 64) where
         none-by (digits_value 10 word) (Is (digits_value 10 word)) refl (λ n is. absurd (true≢false (ap is_ok (sym is ∙ failed))))
 
     number-other : (n : ℕ) → r ≡ Ok n → Is n ≡ false → ◌≡◌ {A = Option ℕ} None (number_up_to most word)
+    unfolding value_of
     number-other n read other =
         none-by (digits_value 10 word) (Is (digits_value 10 word)) refl (λ m is. ap Is (ap value_of (sym is ∙ read)) ∙ other)
 

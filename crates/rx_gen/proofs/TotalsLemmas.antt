@@ -1,18 +1,18 @@
 -- Sums of what was found in haystacks.
-use Rattle.std.proofs.Common.{◌≡◌, ℕ, ◌+◌, ◌*◌, ◌^◌, ◌<◌, ◌≤◌, List, [], length, get_or, take, sym, ap, subst, ◌∙◌, arith}
+use Rattle.std.proofs.Common.{◌≡◌, ℕ, ◌+◌, ◌*◌, ◌^◌, ◌<◌, ◌≤◌, List, length, get_or, take, sym, ap, ◌∙◌, arith}
 use Rattle.std.specs.Prelude.{All, map, sum_by}
 use Rattle.std.proofs.lemmas.List.{length-map, get_or-map}
-use Rattle.std.proofs.lemmas.List.Sums.{sum_by_more, sum_by-take-le, sum_by-le}
+use Rattle.std.proofs.lemmas.List.Sums.{sum_by_more, sum_by_more_le, sum_by-le}
 
--- one more is added, and the sum stays below the whole
-pub sum-more : {X : Type 0} (f : X → ℕ) (xs : List X) (i : ℕ) (x : X) → i < length xs → x ≡ get_or xs i x
-    → sum_by f (take i xs) + f x ≡ sum_by f (take (i + 1) xs)
-sum-more f xs i x below is = ap (λ y. sum_by f (take i xs) + f y) is ∙ sym (sum_by_more f xs i x below)
+-- One more is added, and the sum stays below the whole.
+module _ {X : Type 0} (f : X → ℕ) (xs : List X) (i : ℕ) (x : X) (below : i < length xs) (is : x ≡ get_or xs i x) where
+  pub sum-more : sum_by f (take i xs) + f x ≡ sum_by f (take (i + 1) xs)
+  sum-more = ap (λ y. sum_by f (take i xs) + f y) is ∙ sym (sum_by_more f xs i x below)
 
-pub sum-below : {X : Type 0} (f : X → ℕ) (xs : List X) (i : ℕ) (x : X) → i < length xs → x ≡ get_or xs i x → sum_by f (take i xs) + f x ≤ sum_by f xs
-sum-below f xs i x below is = omega (arith, sum-more f xs i x below is, sum_by-take-le f xs (i + 1))
+  pub sum-below : sum_by f (take i xs) + f x ≤ sum_by f xs
+  sum-below = omega (arith, sum-more, sum_by_more f xs i x below, sum_by_more_le f xs i x below)
 
--- the same of lists
+-- The same of lists, by their lengths.
 module _ {V : Type 0} (items : V → List ℕ) (vs : List V) (i : ℕ) (v : V) (below : i < length vs) (is : v ≡ get_or vs i v) where
   mapped : items v ≡ get_or (map items vs) i (items v)
   mapped = ap items is ∙ sym (get_or-map items vs i v (items v) below)
