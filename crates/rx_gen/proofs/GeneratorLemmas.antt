@@ -5,7 +5,7 @@ use Rattle.std.specs.Str.{IsUtf8}
 use Rattle.std.proofs.lemmas.List.{length-map, map-append}
 use Rattle.std.proofs.lemmas.List.Elements.{All-nil, All-cons}
 use Rattle.std.proofs.lemmas.Str.{IsUtf8-from_ascii}
-use Rattle.rx_gen.specs.Generated.{state_at, draw_at, length_at, letter_at, numbers, haystack_at, draws_before, generated}
+use Rattle.rx_gen.specs.Generated.{draw_at, length_at, letter_at, numbers, haystack_at, draws_before, generated}
 
 -- a number more
 numbers-more : (n k : ℕ) → numbers (suc n) k ≡ numbers n k ++ (k + n) ∷ []

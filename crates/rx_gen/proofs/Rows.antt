@@ -13,6 +13,6 @@ haystack_rows = (refl, refl, refl, refl)
 
 totals_rows :
     (totals_of (codes "gbdddc" ∷ codes "egfheebhbhb" ∷ []) (record { matches = 1; covered = 2 } ∷ record { matches = 2; covered = 6 } ∷ [])
-        ≡ record { haystacks = 2; bytes = 17; matches = 3; covered = 8 }) ×
+    ≡ record { haystacks = 2; bytes = 17; matches = 3; covered = 8 }) ×
     (totals_of [] [] ≡ record { haystacks = 0; bytes = 0; matches = 0; covered = 0 })
 totals_rows = (refl, refl)

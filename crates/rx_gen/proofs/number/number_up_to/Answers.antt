@@ -13,10 +13,10 @@ returns-then-is_written-clause-value c =
 
 pub returns-else-n-most-clause-value : goal.returns-else-n-most-clause-value
 returns-else-n-most-clause-value c = elim c.else-n-most.branch [
-    else-n-most-via-then-n-most+else-is_written w ↦
+  | else-n-most-via-then-n-most+else-is_written w ↦
       number-unwritten c.args.most c.args.word.now (omega (arith, c.ranges.most.fits)) c.parse.result c.parse.ensures.value.0 c.in-Ok.n c.in-Ok.is
       (sym w.if-is_written.ensures)
   | else-n-most-via-else-n-most w ↦
       number-above c.args.most c.args.word.now (omega (arith, c.ranges.most.fits)) c.parse.result c.parse.ensures.value.0 c.in-Ok.n c.in-Ok.is
       w.if-n-most.false
-  ]
+]

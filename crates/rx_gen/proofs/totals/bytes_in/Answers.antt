@@ -1,4 +1,4 @@
-use Rattle.std.proofs.Common.{◌+◌, arith}
+use Rattle.std.proofs.Common.{arith}
 use Rattle.std.specs.Vec.{vec_items}
 use Rattle.rx_gen.proofs.TotalsLemmas.{lengths-more, lengths-below}
 use Rattle.rx_gen.proofs.totals.bytes_in.Goals as goal
