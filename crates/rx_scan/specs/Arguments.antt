@@ -104,18 +104,18 @@ command_of (word ∷ options) =
     else None
 
 -- all three are there
-abbrev pub generating : (workers seed count : Option ℕ) → Option Generating
-generating None seed count = None
-generating (Some workers) None count = None
-generating (Some workers) (Some seed) None = None
-generating (Some workers) (Some seed) (Some count) = Some (record { seed = seed; count = count; workers = workers })
+abbrev pub asked_for : (workers seed count : Option ℕ) → Option Generating
+asked_for None seed count = None
+asked_for (Some workers) None count = None
+asked_for (Some workers) (Some seed) None = None
+asked_for (Some workers) (Some seed) (Some count) = Some (record { seed = seed; count = count; workers = workers })
 
 -- the seed, how many haystacks, and the number of workers, which may be left out
 abbrev pub generating_of : List (List ℕ) → Option Generating
 generating_of [] = None
 generating_of (seed ∷ []) = None
-generating_of (seed ∷ count ∷ []) = generating (Some 4) (number_up_to 4294967295 seed) (number_up_to 1000000 count)
-generating_of (seed ∷ count ∷ workers ∷ []) = generating (workers_of workers) (number_up_to 4294967295 seed) (number_up_to 1000000 count)
+generating_of (seed ∷ count ∷ []) = asked_for (Some 4) (number_up_to 4294967295 seed) (number_up_to 1000000 count)
+generating_of (seed ∷ count ∷ workers ∷ []) = asked_for (workers_of workers) (number_up_to 4294967295 seed) (number_up_to 1000000 count)
 generating_of (seed ∷ count ∷ workers ∷ other ∷ words) = None
 
 -- what was asked for is within its limits

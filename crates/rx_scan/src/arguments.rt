@@ -2,7 +2,7 @@
 ghost use Rattle.std.specs.Prelude.{◌≡◌, ◌<◌, ◌≤◌, ◌^◌, ◌∷◌, [], Some, None, codes, map, IfSome, if◌then◌else◌};
 ghost use Rattle.std.specs.String.{string_bytes};
 ghost use Rattle.rx_scan.specs.declared.arguments.Command.TheVariants.{Explain};
-ghost use Rattle.rx_scan.specs.Arguments.{HasWorkers, IsGenerating, IsCall, call_of, generating_of, generating, has_none, command_of, options_of, workers_of, off_of, are_letters, is_letter, has, switched_off, config_without};
+ghost use Rattle.rx_scan.specs.Arguments.{HasWorkers, IsGenerating, IsCall, call_of, generating_of, asked_for, has_none, command_of, options_of, workers_of, off_of, are_letters, is_letter, has, switched_off, config_without};
 ghost use Rattle.rx_gen.specs.Numbers.{number_up_to};
 
 use rx_gen::number_up_to;
@@ -116,19 +116,19 @@ fn generating_of(options: &[String]) -> Option<Generating>
     ensures within { IfSome result IsGenerating }
 {
     match options {
-        [seed, count] => generating(WORKERS, seed.as_str(), count.as_str()),
+        [seed, count] => asked_for(WORKERS, seed.as_str(), count.as_str()),
         [seed, count, workers] => {
             let workers = workers_of(workers.as_str())?;
-            generating(workers, seed.as_str(), count.as_str())
+            asked_for(workers, seed.as_str(), count.as_str())
         }
         _ => None,
     }
 }
 
 /// The same with this number of workers.
-fn generating(workers: usize, seed: &str, count: &str) -> Option<Generating>
+fn asked_for(workers: usize, seed: &str, count: &str) -> Option<Generating>
     requires { 0 < workers }
-    ensures value { result ≡ generating (Some workers) (number_up_to 4294967295 seed.now) (number_up_to 1000000 count.now) }
+    ensures value { result ≡ asked_for (Some workers) (number_up_to 4294967295 seed.now) (number_up_to 1000000 count.now) }
     ensures within { IfSome result IsGenerating }
 {
     let seed = number_up_to(SEED_LIMIT, seed)?;
