@@ -10,9 +10,11 @@ use Rattle.rx_reader.specs.declared.error.SyntaxError.{SyntaxError}
 use Rattle.rx_syntax.specs.Patterns.{Refusal, all_read}
 use Rattle.rx_scan.specs.Input.{lines, patterns, haystacks}
 use Rattle.rx_scan.specs.Patterns.{are_small}
-use Rattle.rx_scan.specs.Answer.{AnswerValue, too_long, not_utf8, refused, too_big, told, answer_patterns, answer_text, answer_input, answer_command, answer, usage}
+use Rattle.rx_scan.specs.Answer.{AnswerValue, too_long, not_utf8, refused, too_big, told, answer_patterns, answer_text, answer_input, answer_if, answer_call, answer, usage}
 use Rattle.rx_scan.specs.Status.{code, needs_all}
-use Rattle.rx_scan.specs.Arguments.{command_of}
+use Rattle.rx_scan.specs.Arguments.{call_of}
+use Rattle.rx_scan.specs.declared.arguments.Call.{Call}
+use Rattle.rx_scan.specs.declared.arguments.Call.TheVariants.{Reading, Generate}
 use Rattle.rx_scan.specs.declared.arguments.Command.{Command}
 use Rattle.rx_scan.specs.declared.arguments.Command.TheVariants.{Scanning, Explain}
 
@@ -65,15 +67,18 @@ pub answer_input-few : (command : Command) (input : List ℕ) → code (answer_i
 unfolding answer_input by_tests
 answer_input-few command input = by_tests-few command input (ltb 16777216 (length input)) (is_utf8 input)
 
--- by what the words ask for
-pub answer-scan : (words : List (List ℕ)) (input : List ℕ) (command : Command) → command_of words ≡ Some command
-    → answer words input ≡ answer_input command input
-unfolding answer
-answer-scan words input command e = ap (λ o. answer_command o input) e
+pub answer_call-few : (call : Call) (input : List ℕ) → code (answer_call call input).status ≤ 5
+answer_call-few (Reading command) input = answer_input-few command input
+answer_call-few (Generate asked) input = lit≤ tt
 
-pub answer-usage : (words : List (List ℕ)) (input : List ℕ) → command_of words ≡ None → answer words input ≡ usage
+-- by what the words ask for
+pub answer-call : (words : List (List ℕ)) (input : List ℕ) (call : Call) → call_of words ≡ Some call → answer words input ≡ answer_call call input
 unfolding answer
-answer-usage words input e = ap (λ o. answer_command o input) e
+answer-call words input call e = ap (λ o. answer_if o input) e
+
+pub answer-usage : (words : List (List ℕ)) (input : List ℕ) → call_of words ≡ None → answer words input ≡ usage
+unfolding answer
+answer-usage words input e = ap (λ o. answer_if o input) e
 
 short_by_test : (command : Command) (input : List ℕ) (long text : Bool) → ltb 16777216 (length input) ≡ long
     → needs_all (by_tests command input long text).status ≡ true → length input ≤ 16777216

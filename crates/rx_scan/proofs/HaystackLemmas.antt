@@ -1,12 +1,12 @@
 -- What a regex finds in a haystack, one match after another.
-use Rattle.std.proofs.Common.{◌≡◌, ℕ, suc, ◌+◌, ◌<◌, ◌≤◌, Bool, true, false, cond, List, [], ◌∷◌, ◌++◌, length, take, get_or, Option, Some, None, Result, Ok, Err, IfOk, refl, sym, ap, subst, ◌∙◌, add-one, arith}
+use Rattle.std.proofs.Common.{◌≡◌, ℕ, suc, ◌+◌, ◌<◌, ◌≤◌, Bool, true, false, cond, List, [], ◌∷◌, length, get_or, Option, Some, None, Result, Ok, Err, IfOk, refl, sym, ap, subst, ◌∙◌, arith}
 use Rattle.std.specs.List.{All}
 use Rattle.std.specs.Prelude.{map, MatchOption}
 use denote.Ref.{Bor}
-use Rattle.std.proofs.Math.Seq.{take-suc}
-use Rattle.std.proofs.lemmas.List.{get_or_default, map-append}
+use Rattle.std.proofs.lemmas.List.{get_or_default}
 use Rattle.rx_model.specs.Search.{Patterns, Match, next_match, matches, free, is_empty_at, next_after}
 use Rattle.rx_model.specs.Utf8.{MeansUtf8}
+use Rattle.rx_search.specs.declared.memory.Memory.{Memory}
 use Rattle.rx_search.specs.Input.{InputValue, from_place, next_in, whole}
 use Rattle.rx_search.specs.Matches.{MatchValue}
 use Rattle.rx_search.specs.Needles.{BeginsEachMatch}
@@ -18,7 +18,7 @@ use Rattle.rx_search.specs.declared.anchored.MatchKind.TheVariants.{LeftmostFirs
 use Rattle.rx_search.proofs.SearcherLemmas.{successive-matches}
 use Rattle.rx_meta.specs.Finder.{PromisesFor}
 use Rattle.rx_meta.specs.Regex.{RegexValue, Serves, searches, given_needles, kind_in, groups_in}
-use Rattle.rx_scan.specs.Haystacks.{FindsRows, HasRows}
+use Rattle.rx_scan.specs.Haystacks.{FindsRows, HasOutcome, AreOutcomes}
 use Rattle.rx_scan.specs.Row.{RowValue, row_of, scan_rows}
 use Rattle.rx_workers.specs.Answers.{AreAnswers}
 
@@ -102,42 +102,52 @@ serves-finds regex r text serves begins leftmost groups told utf8 = record {
 pub same-finds : (now first : RegexValue) (r : Patterns) (text : List ℕ) → now ≡ first → FindsRows first r text → FindsRows now r text
 same-finds now first r text same finds = subst (λ (regex : RegexValue). FindsRows regex r text) (sym same) finds
 
--- one haystack more was scanned
-pub scanned-more : {V W R : Type 0} (items : V → R) (f : W → R) (vs vs' : List V) (ws : List W) (k : ℕ) (v : V) (d : W) → k < length ws
-    → vs' ≡ vs ++ v ∷ [] → items v ≡ f (get_or ws k d) → map items vs ≡ map f (take k ws) → map items vs' ≡ map f (take (k + 1) ws)
-scanned-more items f vs vs' ws k v d below more same so_far =
-    ap (map items) more ∙ map-append items vs (v ∷ [])
-    ∙ (λ i. so_far i ++ same i ∷ [])
-    ∙ sym (map-append f (take k ws) (get_or ws k d ∷ []))
-    ∙ ap (map f) (sym (take-suc ws k d below) ∙ ap (λ j. take j ws) (sym (add-one k)))
-
--- one more without rows
-pub nothing-more : {V W R : Type 0} (items : V → List R) (vs vs' : List V) (ws : List W) (k : ℕ) (v : V) → k < length ws
-    → vs' ≡ vs ++ v ∷ [] → items v ≡ [] → map items vs ≡ map (λ _. []) (take k ws) → map items vs' ≡ map (λ _. []) (take (k + 1) ws)
-nothing-more items vs vs' [] k v below more none so_far = absurd (omega arith)
-nothing-more items vs vs' (w ∷ ws) k v below more none so_far = scanned-more items (λ _. []) vs vs' (w ∷ ws) k v w below more none so_far
-
--- rows of each haystack by its number are those of all
-pub all-rows : {V : Type 0} (items : V → List RowValue) (regex : RegexValue) (r : Patterns) (hs : List (Bor (List ℕ))) (vs : List V)
-    → AreAnswers (length hs) (λ i v. HasRows regex hs i (items v)) vs → All (λ h. FindsRows regex r h.now) hs
-    → map items vs ≡ map (λ h. scan_rows r h.now) hs
-all-rows items regex r [] [] answers finds = refl
-all-rows items regex r [] (v ∷ vs) answers finds = absurd (omega (arith, answers.count))
-all-rows items regex r (h ∷ hs) [] answers finds = absurd (omega (arith, answers.count))
-all-rows items regex r (h ∷ hs) (v ∷ vs) answers finds =
-    let first : items v ≡ scan_rows r h.now = answers.each 0 v (omega arith) r h (finds 0 h (omega arith)) in
-    let rest : AreAnswers (length hs) (λ i w. HasRows regex hs i (items w)) vs =
-    record { count = omega (arith, answers.count); each = λ i d below. answers.each (suc i) d (omega (arith, below)) } in
-    let others : All (λ (b : Bor (List ℕ)). FindsRows regex r b.now) hs = λ i d below. finds (suc i) d (omega (arith, below)) in
-    let after = all-rows items regex r hs vs rest others in λ k. first k ∷ after k
-
--- the rows that a search found in the haystack of a number, under the regex that it had
-pub found-at : {V E : Type 0} (items : V → List RowValue) (result : Result V E) (now first : RegexValue) (hs : List (Bor (List ℕ))) (i : ℕ) (e : Bor (List ℕ))
-    → now ≡ first → i < length hs
-    → ((r : Patterns) → FindsRows now r (get_or hs i e).now → IfOk result (λ v. items v ≡ scan_rows r (get_or hs i e).now))
-    → IfOk result (λ v. HasRows first hs i (items v))
-found-at items (Err error) now first hs i e same below rows = tt
-found-at items (Ok v) now first hs i e same below rows = λ r d finds.
+-- what the rows of a haystack became, where they are those that a search of it finds
+outcome-at : {V : Type 0} (Is : ℕ → List RowValue → V → Type 0) (value : V) (rows : List RowValue) (now first : RegexValue) (hs : List (Bor (List ℕ))) (i : ℕ)
+    (e : Bor (List ℕ)) → now ≡ first → i < length hs → ((r : Patterns) → FindsRows now r (get_or hs i e).now → rows ≡ scan_rows r (get_or hs i e).now)
+    → Is i rows value → HasOutcome Is first hs i value
+outcome-at Is value rows now first hs i e same below found is = λ r d finds.
     let there : get_or hs i e ≡ get_or hs i d = get_or_default hs i e d below in
     let here : FindsRows first r (get_or hs i e).now = subst (λ (b : Bor (List ℕ)). FindsRows first r b.now) (sym there) finds in
-    subst (λ (b : Bor (List ℕ)). items v ≡ scan_rows r b.now) there (rows r (same-finds now first r (get_or hs i e).now same here))
+    let told = found r (same-finds now first r (get_or hs i e).now same here) ∙ ap (λ (b : Bor (List ℕ)). scan_rows r b.now) there in
+    subst (λ rows. Is i rows value) told is
+
+pub outcome-found : {V : Type 0} (Is : ℕ → List RowValue → V → Type 0) (result : Result V Memory) (rows : List RowValue) (now first : RegexValue)
+    (hs : List (Bor (List ℕ))) (i : ℕ) (e : Bor (List ℕ)) → now ≡ first → i < length hs
+    → ((r : Patterns) → FindsRows now r (get_or hs i e).now → rows ≡ scan_rows r (get_or hs i e).now)
+    → IfOk result (Is i rows) → IfOk result (HasOutcome Is first hs i)
+outcome-found Is (Err error) rows now first hs i e same below found is = tt
+outcome-found Is (Ok value) rows now first hs i e same below found is = outcome-at Is value rows now first hs i e same below found is
+
+module _ {V : Type 0} (Is : ℕ → List RowValue → V → Type 0) (r : Patterns) (hs : List (Bor (List ℕ))) where
+  -- what the rows of each haystack became, by its number, is that of its matches
+  pub outcomes-found : {W : Type 0} (items : W → List V) (regex : RegexValue) (result : Result W Memory)
+      → IfOk result (λ w. AreAnswers (length hs) (λ i v. HasOutcome Is regex hs i v) (items w)) → All (λ h. FindsRows regex r h.now) hs
+      → IfOk result (λ w. AreOutcomes Is r hs (items w))
+  outcomes-found items regex (Err error) answers finds = tt
+  outcomes-found items regex (Ok w) answers finds =
+      record { count = answers.count; each = λ i v below d. answers.each i v below r d (finds i d below) }
+
+  -- where no match is told, it is what no rows become
+  pub outcomes-silent : {W : Type 0} (items : W → List V) (result : Result W Memory) → tells r.which_captures ≡ false
+      → IfOk result (λ w. AreAnswers (length hs) (λ i v. Is i [] v) (items w)) → IfOk result (λ w. AreOutcomes Is r hs (items w))
+  outcomes-silent items (Err error) silent answers = tt
+  outcomes-silent items (Ok w) silent answers = record {
+    count = answers.count;
+    each = λ i v below d.
+        let none : scan_rows r (get_or hs i d).now ≡ [] =
+        ap (λ (b : Bool). cond b (map (row_of r) (matches r (get_or hs i d).now free (length (get_or hs i d).now) 0)) []) silent in
+        subst (λ rows. Is i rows (get_or (items w) i v)) (sym none) (answers.each i v below);
+  }
+
+-- an answer to each number is a list of them
+pub answers-map : {V X Y : Type 0} (items : V → Y) (f : X → Y) (xs : List X) (vs : List V)
+    → AreAnswers (length xs) (λ i v. (d : X) → items v ≡ f (get_or xs i d)) vs → map items vs ≡ map f xs
+answers-map items f [] [] answers = refl
+answers-map items f [] (v ∷ vs) answers = absurd (omega (arith, answers.count))
+answers-map items f (x ∷ xs) [] answers = absurd (omega (arith, answers.count))
+answers-map {V} {X} items f (x ∷ xs) (v ∷ vs) answers =
+    let first : items v ≡ f x = answers.each 0 v (omega arith) x in
+    let rest : AreAnswers (length xs) (λ i w. (d : X) → items w ≡ f (get_or xs i d)) vs =
+    record { count = omega (arith, answers.count); each = λ i w below. answers.each (suc i) w (omega (arith, below)) } in
+    let after = answers-map items f xs vs rest in λ k. first k ∷ after k

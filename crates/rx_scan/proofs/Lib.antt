@@ -1,4 +1,5 @@
 pub mod AnswerLemmas
+pub mod CountedLemmas
 pub mod EndLemmas
 pub mod HaystackLemmas
 pub mod LayoutLemmas

@@ -1,20 +1,21 @@
 -- What a call of `run` does, from what its parts do.
-use Rattle.std.proofs.Common.{◌≡◌, ℕ, ◌<◌, ◌≤◌, ◌≢◌, ◌⊎◌, List, [], length, Option, Some, sym, subst, ◌∙◌, inl, inr, arith}
+use Rattle.std.proofs.Common.{◌≡◌, ℕ, ◌<◌, ◌≤◌, ◌≢◌, ◌⊎◌, false, List, [], length, Option, Some, sym, subst, ◌∙◌, inl, inr, arith}
 use Rattle.std.proofs.lemmas.Bool.{false≢true}
 use Rattle.std.proofs.KnownBytes.{Consumes-nil}
-use Rattle.rx_scan.specs.Answer.{AnswerValue, answer, answer_input}
-use Rattle.rx_scan.proofs.AnswerLemmas.{answer_input-short, answer_input-few, answer-scan}
+use Rattle.rx_scan.specs.Answer.{AnswerValue, answer, answer_input, answer_call}
+use Rattle.rx_scan.proofs.AnswerLemmas.{answer_input-short, answer_call-few, answer-call}
 use Rattle.std.specs.Io.KnownBytes.{Consumes, IsAtEnd}
 use Rattle.rx_scan.specs.Ends.{HasRisen, Gains, GainsPrefix}
 use Rattle.rx_scan.specs.Run.{Gave, Answers, BreaksOff, Finished}
-use Rattle.rx_scan.specs.Status.{code}
-use Rattle.rx_scan.specs.Arguments.{command_of}
+use Rattle.rx_scan.specs.Status.{code, needs_all}
+use Rattle.rx_scan.specs.Arguments.{call_of}
+use Rattle.rx_scan.specs.declared.arguments.Call.{Call}
 use Rattle.rx_scan.specs.declared.arguments.Command.{Command}
-use Rattle.rx_scan.specs.declared.status.Status.TheVariants.{Usage}
+use Rattle.rx_scan.specs.declared.status.Status.{Status}
 
--- nothing was given
-pub Gave-none : (left : Option (List ℕ)) → Gave left left [] Usage
-Gave-none left = record { bytes = Consumes-nil left; limit = omega arith; whole = λ e. absurd (false≢true e) }
+-- nothing was given, where nothing needs to be
+pub Gave-none : (left : Option (List ℕ)) (status : Status) → needs_all status ≡ false → Gave left left [] status
+Gave-none left status e = record { bytes = Consumes-nil left; limit = omega arith; whole = λ all. absurd (false≢true (sym e ∙ all)) }
 
 -- the whole input was given, or more than the limit
 pub Gave-input : (command : Command) (left left' : Option (List ℕ)) (given : List ℕ) (a : AnswerValue) → a ≡ answer_input command given → Consumes left left' given
@@ -40,15 +41,15 @@ module _ (words : List (List ℕ)) (left left' held held' : Option (List ℕ)) (
       let p = subst P (sym same) (gave, failed.2) in
       (failed.1, (given, p.0, p.1))
 
--- the answer to what was given, where the words are those of a command
-pub same-scan : (words : List (List ℕ)) (given : List ℕ) (a : AnswerValue) (command : Command) → Some command ≡ command_of words → a ≡ answer_input command given
+-- the answer to what was given, where the words ask for this
+pub same-call : (words : List (List ℕ)) (given : List ℕ) (a : AnswerValue) (call : Call) → Some call ≡ call_of words → a ≡ answer_call call given
     → answer words given ≡ a
-same-scan words given a command scan e = answer-scan words given command (sym scan) ∙ sym e
+same-call words given a call asked e = answer-call words given call (sym asked) ∙ sym e
 
-pub few-scan : (command : Command) (given : List ℕ) (a : AnswerValue) → a ≡ answer_input command given → code a.status ≤ 5
-few-scan command given a e =
+pub few-call : (call : Call) (given : List ℕ) (a : AnswerValue) → a ≡ answer_call call given → code a.status ≤ 5
+few-call call given a e =
     let P : AnswerValue → Type 0 = λ b. code b.status ≤ 5 in
-    subst P (sym e) (answer_input-few command given)
+    subst P (sym e) (answer_call-few call given)
 
 module _ (a : AnswerValue) (held held' : Option (List ℕ)) (faults faults' result : ℕ) (few : code a.status ≤ 5) where
   pub finished-few : Finished a held held' faults faults' result → (result ≤ 5) ⊎ (result ≡ 7)

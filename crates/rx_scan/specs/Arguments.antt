@@ -1,34 +1,29 @@
 -- The words of the command line.
 use Prim.Native.String.{String}
-use Rattle.std.specs.Prelude.{ℕ, ◌+◌, ◌-◌, ◌*◌, ◌<◌, Bool, true, false, not, ◌&&◌, ◌==◌, nat_eq, nat_le, List, [], ◌∷◌, Option, Some, None, option_map, codes, drop, if◌then◌else◌}
+use Rattle.std.specs.Prelude.{ℕ, zero, suc, ◌<◌, ◌≤◌, Bool, true, false, not, ◌&&◌, ◌==◌, nat_eq, List, [], ◌∷◌, Option, Some, None, option_map, codes, drop, if◌then◌else◌}
 use Rattle.std.specs.List.{list_any, starts_with}
 use Rattle.std.specs.Option.{option_or}
 use Rattle.std.specs.Str.{bytes_eq}
+use Rattle.rx_gen.specs.Numbers.{number_up_to}
 use Rattle.rx_reader.specs.Reading.{◌∈◌}
 use Rattle.rx_meta.specs.Config.{ConfigValue, nothing_set}
+use Rattle.rx_scan.specs.declared.arguments.Call.{Call}
+use Rattle.rx_scan.specs.declared.arguments.Call.TheVariants.{Reading, Generate}
 use Rattle.rx_scan.specs.declared.arguments.Command.{Command}
 use Rattle.rx_scan.specs.declared.arguments.Command.TheVariants.{Scanning, Explain}
+use Rattle.rx_scan.specs.declared.arguments.Generating.{Generating}
 use Rattle.rx_scan.specs.declared.arguments.Off.{Off}
 use Rattle.rx_scan.specs.declared.arguments.Scan.{Scan}
 
--- what a decimal digit counts
-abbrev pub digit : ℕ → ℕ
-digit b = b - 48
-
--- a decimal digit that counts at least so much
-abbrev pub is_digit_from : (least : ℕ) → ℕ → Bool
-is_digit_from least b = nat_le (48 + least) b && nat_le b 57
-
--- the number, where it is at most 64
-abbrev pub up_to_64 : ℕ → Option ℕ
-up_to_64 n = if nat_le n 64 then Some n else None
+-- the number, where it is not 0
+abbrev pub not_zero : Option ℕ → Option ℕ
+not_zero (Some (suc n)) = Some (suc n)
+not_zero (Some zero) = None
+not_zero None = None
 
 -- the number of workers: 1 to 64, in decimal, without a sign or a leading zero
 abbrev pub workers_of : List ℕ → Option ℕ
-workers_of [] = None
-workers_of (b ∷ []) = if is_digit_from 1 b then Some (digit b) else None
-workers_of (b ∷ c ∷ []) = if is_digit_from 1 b && is_digit_from 0 c then up_to_64 (digit b * 10 + digit c) else None
-workers_of (b ∷ c ∷ d ∷ bytes) = None
+workers_of word = not_zero (number_up_to 64 word)
 
 -- one of the letters: full DFA, lazy DFA, one-pass, backtracker, automatic prefilters
 abbrev pub is_letter : ℕ → Bool
@@ -107,3 +102,38 @@ command_of (word ∷ options) =
     if bytes_eq word (codes "scan") then option_map Scanning (options_of options)
     else if bytes_eq word (codes "explain") then (if has_none options then Some Explain else None)
     else None
+
+-- all three are there
+abbrev pub asked_for : (workers seed count : Option ℕ) → Option Generating
+asked_for None seed count = None
+asked_for (Some workers) None count = None
+asked_for (Some workers) (Some seed) None = None
+asked_for (Some workers) (Some seed) (Some count) = Some (record { seed = seed; count = count; workers = workers })
+
+-- the seed, how many haystacks, and the number of workers, which may be left out
+abbrev pub generating_of : List (List ℕ) → Option Generating
+generating_of [] = None
+generating_of (seed ∷ []) = None
+generating_of (seed ∷ count ∷ []) = asked_for (Some 4) (number_up_to 4294967295 seed) (number_up_to 1000000 count)
+generating_of (seed ∷ count ∷ workers ∷ []) = asked_for (workers_of workers) (number_up_to 4294967295 seed) (number_up_to 1000000 count)
+generating_of (seed ∷ count ∷ workers ∷ other ∷ words) = None
+
+-- what was asked for is within its limits
+abbrev pub IsGenerating : Generating → Type 0
+IsGenerating asked = (asked.count ≤ 1000000) × (0 < asked.workers)
+
+abbrev pub IsCall : Call → Type 0
+IsCall (Reading command) = HasWorkers command
+IsCall (Generate asked) = IsGenerating asked
+
+-- what the words ask for: `gen` and its options, or a command over the input
+abbrev pub call_of : List (List ℕ) → Option Call
+call_of [] = None
+call_of (word ∷ options) =
+    if bytes_eq word (codes "gen") then option_map Generate (generating_of options) else option_map Reading (command_of (word ∷ options))
+
+-- the words are those of a command over the input
+abbrev pub is_reading : Option Call → Bool
+is_reading None = false
+is_reading (Some (Reading command)) = true
+is_reading (Some (Generate asked)) = false

@@ -1,5 +1,6 @@
 pub mod Answer
 pub mod Arguments
+pub mod Counted
 pub mod Ends
 pub mod Haystacks
 pub mod Input

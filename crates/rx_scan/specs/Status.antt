@@ -1,11 +1,12 @@
 -- How a call of `run` ends.
 use Rattle.std.specs.Prelude.{ℕ, Bool, true, false}
 use Rattle.rx_scan.specs.declared.status.Status.{Status}
-use Rattle.rx_scan.specs.declared.status.Status.TheVariants.{Rows, Pattern, Usage, NotUtf8, TooLong, TooBig, SourceFailed, SinkFailed, OutOfMemory}
+use Rattle.rx_scan.specs.declared.status.Status.TheVariants.{Rows, Generated, Pattern, Usage, NotUtf8, TooLong, TooBig, SourceFailed, SinkFailed, OutOfMemory}
 
 -- the number of a status
 abbrev pub code : Status → ℕ
 code Rows = 0
+code Generated = 0
 code Pattern = 1
 code Usage = 2
 code NotUtf8 = 3
@@ -18,6 +19,7 @@ code OutOfMemory = 8
 -- the answer depends on the whole input
 abbrev pub needs_all : Status → Bool
 needs_all Rows = true
+needs_all Generated = false
 needs_all Pattern = true
 needs_all Usage = false
 needs_all NotUtf8 = true

@@ -1,9 +1,11 @@
 //! The words of the command line.
-ghost use Rattle.std.specs.Prelude.{◌≡◌, ◌<◌, ◌∷◌, [], Some, None, codes, map, IfSome, if◌then◌else◌};
+ghost use Rattle.std.specs.Prelude.{◌≡◌, ◌<◌, ◌≤◌, ◌^◌, ◌∷◌, [], Some, None, codes, map, IfSome, if◌then◌else◌};
 ghost use Rattle.std.specs.String.{string_bytes};
 ghost use Rattle.rx_scan.specs.declared.arguments.Command.TheVariants.{Explain};
-ghost use Rattle.rx_scan.specs.Arguments.{HasWorkers, has_none, command_of, options_of, digit, is_digit_from, workers_of, off_of, are_letters, is_letter, has, switched_off, config_without};
+ghost use Rattle.rx_scan.specs.Arguments.{HasWorkers, IsGenerating, IsCall, call_of, generating_of, asked_for, has_none, command_of, options_of, workers_of, off_of, are_letters, is_letter, has, switched_off, config_without};
+ghost use Rattle.rx_gen.specs.Numbers.{number_up_to};
 
+use rx_gen::number_up_to;
 use rx_meta::Config;
 
 // Each letter is read, also where it changes nothing yet (DECISIONS: the words for workers and for all that can be switched off).
@@ -40,6 +42,26 @@ pub enum Command {
     Explain,
 }
 
+/// Haystacks that are asked for.
+#[derive(Clone, Copy, Debug, PartialEq, Eq)]
+pub struct Generating {
+    /// What they are drawn from.
+    pub seed: u32,
+    /// How many there are.
+    pub count: usize,
+    /// How many workers search them.
+    pub workers: usize,
+}
+
+/// What the words ask for, with an input or without.
+#[derive(Clone, Copy, Debug, PartialEq, Eq)]
+pub enum Call {
+    /// A command over the input.
+    Reading(Command),
+    /// Haystacks that a number gives, and what a scan of them finds. No input is read.
+    Generate(Generating),
+}
+
 impl Off {
     /// Nothing is switched off.
     pub const NOTHING: Off = Off {
@@ -66,8 +88,60 @@ impl Off {
 /// The number of workers where the words name none.
 const WORKERS: usize = 4;
 
-/// What the words ask for: `explain` alone; or `scan`, then the number of workers, then what is switched off, of which both may be left
-/// out. None where they are not those of a command.
+/// The greatest number of workers.
+const WORKERS_LIMIT: usize = 64;
+
+/// The greatest seed.
+const SEED_LIMIT: usize = u32::MAX as usize;
+
+/// The most haystacks that may be generated.
+const COUNT_LIMIT: usize = 1000000;
+
+/// What the words ask for: `gen`, then a seed, a number of haystacks, and the number of workers, which may be left out; or a
+/// command over the input. None where they are neither.
+pub fn call_of(words: &[String]) -> Option<Call>
+    ensures value { result ≡ call_of (map string_bytes words.now) }
+    ensures within { IfSome result IsCall }
+{
+    let (name, options) = words.split_first()?;
+    if name.as_str() == "gen" {
+        return Some(Call::Generate(generating_of(options)?));
+    }
+    Some(Call::Reading(command_of(words)?))
+}
+
+/// What the options of `gen` ask for.
+fn generating_of(options: &[String]) -> Option<Generating>
+    ensures value { result ≡ generating_of (map string_bytes options.now) }
+    ensures within { IfSome result IsGenerating }
+{
+    match options {
+        [seed, count] => asked_for(WORKERS, seed.as_str(), count.as_str()),
+        [seed, count, workers] => {
+            let workers = workers_of(workers.as_str())?;
+            asked_for(workers, seed.as_str(), count.as_str())
+        }
+        _ => None,
+    }
+}
+
+/// The same with this number of workers.
+fn asked_for(workers: usize, seed: &str, count: &str) -> Option<Generating>
+    requires { 0 < workers }
+    ensures value { result ≡ asked_for (Some workers) (number_up_to 4294967295 seed.now) (number_up_to 1000000 count.now) }
+    ensures within { IfSome result IsGenerating }
+{
+    let seed = number_up_to(SEED_LIMIT, seed)?;
+    let count = number_up_to(COUNT_LIMIT, count)?;
+    Some(Generating {
+        seed: seed as u32,
+        count,
+        workers,
+    })
+}
+
+/// What the words ask for of an input: `explain` alone; or `scan`, then the number of workers, then what is switched off, of
+/// which both may be left out. None where they are not those of a command.
 pub fn command_of(words: &[String]) -> Option<Command>
     ensures value { result ≡ command_of (map string_bytes words.now) }
     ensures workers { IfSome result HasWorkers }
@@ -103,9 +177,9 @@ fn options_of(options: &[String]) -> Option<Scan>
             workers: WORKERS,
             off: Off::NOTHING,
         }),
-        [option] => one_option(option.as_bytes()),
+        [option] => one_option(option.as_str()),
         [workers, off] => Some(Scan {
-            workers: workers_of(workers.as_bytes())?,
+            workers: workers_of(workers.as_str())?,
             off: off_of(off.as_bytes())?,
         }),
         _ => None,
@@ -113,7 +187,7 @@ fn options_of(options: &[String]) -> Option<Scan>
 }
 
 /// The same where there is one option.
-fn one_option(option: &[u8]) -> Option<Scan>
+fn one_option(option: &str) -> Option<Scan>
     ensures value { result ≡ options_of (option.now ∷ []) }
     ensures workers { IfSome result (λ scan. 0 < scan.workers) }
 {
@@ -123,7 +197,7 @@ fn one_option(option: &[u8]) -> Option<Scan>
             off: Off::NOTHING,
         });
     }
-    let off = off_of(option)?;
+    let off = off_of(option.as_bytes())?;
     Some(Scan {
         workers: WORKERS,
         off,
@@ -131,33 +205,15 @@ fn one_option(option: &[u8]) -> Option<Scan>
 }
 
 /// The number of workers: 1 to 64, in decimal, without a sign or a leading zero.
-fn workers_of(word: &[u8]) -> Option<usize>
+fn workers_of(word: &str) -> Option<usize>
     ensures value { result ≡ workers_of word.now }
     ensures above { IfSome result (λ n. 0 < n) }
 {
-    match word {
-        [ones] if is_digit_from(1, *ones) => Some(digit(*ones)),
-        [tens, ones] if is_digit_from(1, *tens) && is_digit_from(0, *ones) => {
-            let workers = digit(*tens) * 10 + digit(*ones);
-            if workers <= 64 { Some(workers) } else { None }
-        }
-        _ => None,
+    let workers = number_up_to(WORKERS_LIMIT, word)?;
+    if workers == 0 {
+        return None;
     }
-}
-
-/// Whether the byte is a decimal digit that counts at least so much.
-fn is_digit_from(least: u8, byte: u8) -> bool
-    requires { least < 10 }
-    ensures { result ≡ is_digit_from least byte }
-{
-    b'0' + least <= byte && byte <= b'9'
-}
-
-/// What a decimal digit counts.
-fn digit(byte: u8) -> usize
-    ensures { result ≡ digit byte }
-{
-    byte.saturating_sub(b'0') as usize
+    Some(workers)
 }
 
 /// What is switched off: `off:`, and one to five of the letters `dhobp`, each at most once.

@@ -11,9 +11,11 @@ ghost use Rattle.rx_search.specs.declared.anchored.MatchKind.TheVariants.{Leftmo
 ghost use Rattle.rx_meta.specs.Build.{IsBuilt, patterns_for};
 ghost use Rattle.rx_meta.specs.Config.{ConfigValue, kind_of, utf8_of, prefilter_of, captures_of};
 ghost use Rattle.rx_meta.specs.Regex.{groups_in};
-ghost use Rattle.rx_scan.specs.Haystacks.{FindsRows, HasRows};
+ghost use Rattle.rx_scan.specs.Haystacks.{FindsRows, HasOutcome, AreOutcomes};
 ghost use Rattle.rx_scan.specs.Row.{scan_rows};
+ghost use Rattle.rx_workers.specs.Answers.{AreAnswers};
 
+use crate::outcome::{AllRows, Outcome};
 use crate::row::{Layout, Row};
 use rx_meta::{Regex, RegexFinder, WhichCaptures, a_search_is_for_its_patterns};
 use rx_search::{Gate, Input, Memory, Searcher};
@@ -95,8 +97,32 @@ pub fn scan<R: Threads + Wait + Sync, G: Gate + Sync>(
         → (utf8_of config ≡ true → All (λ h. MeansUtf8 (patterns_for config hs) h.now) haystacks.now)
         → IfOk result (λ rows. map vec_items rows.items ≡ map (λ h. scan_rows (patterns_for config hs) h.now) haystacks.now) }
 {
+    let rows = scan_for(rt, alloc, regex, haystacks, workers, gate, &AllRows)?;
+    Ok(rows)
+}
+
+/// What the rows of each haystack become, in order: the same, whatever that is (DECISIONS: one scan for rows, their text and their numbers).
+///
+/// # Errors
+///
+/// `Memory`, where there was no memory for a cache, a search or the rows.
+pub fn scan_for<R: Threads + Wait + Sync, G: Gate + Sync, O: Outcome + Sync>(
+    rt: &R,
+    alloc: Global,
+    regex: &Regex,
+    haystacks: &[&[u8]],
+    workers: usize,
+    gate: &G,
+    outcome: &O,
+) -> Result<Vec<O::Value>, Memory>
+    requires { 0 < workers }
+    ensures { (config : ConfigValue) (hs : List Expression) → IsBuilt config hs regex.now → kind_of config ≡ LeftmostFirst
+        → BeginsEachMatch (prefilter_of config) (patterns_for config hs)
+        → (utf8_of config ≡ true → All (λ h. MeansUtf8 (patterns_for config hs) h.now) haystacks.now)
+        → IfOk result (λ all. AreOutcomes (O.is outcome.now) (patterns_for config hs) haystacks.now all.items) }
+{
     if !tells_matches(regex) {
-        return no_rows(alloc, haystacks, gate);
+        return no_rows(alloc, haystacks, gate, outcome);
     }
     let layout = Layout::new(alloc, regex.group_info())?;
     let works = Works {
@@ -104,30 +130,31 @@ pub fn scan<R: Threads + Wait + Sync, G: Gate + Sync>(
         haystacks,
         layout,
         gate,
+        outcome,
     };
     let caches = regex.get_config().get_pool_capacity();
-    let rows = do_all(rt, alloc, &works, workers, caches)?;
-    Ok(rows)
+    do_all(rt, alloc, &works, workers, caches)
 }
 
-/// The works of a scan: the rows of each haystack.
+/// The works of a scan: what the rows of each haystack become.
 #[derive(Drop)]
-struct Works<'a, G> {
+struct Works<'a, G, O> {
     regex: &'a Regex,
     haystacks: &'a [&'a [u8]],
     layout: Layout<'a>,
     gate: &'a G,
+    outcome: &'a O,
     ghost own: { layout.groups.now ≡ groups_in regex.now },
 }
 
-impl<'a, G: Gate> Task for Works<'a, G> {
-    type Value = Vec<Row>;
+impl<'a, G: Gate, O: Outcome> Task for Works<'a, G, O> {
+    type Value = O::Value;
 
     type Scratch = RegexFinder<'a>;
 
     ghost size = { λ w. length w.haystacks.now };
 
-    ghost answers = { λ w i rows. HasRows w.regex.now w.haystacks.now i rows.items };
+    ghost answers = { λ w i value. HasOutcome (O.is w.outcome.now) w.regex.now w.haystacks.now i value };
 
     ghost fits = { λ w f. f.regex.now ≡ w.regex.now };
 
@@ -148,9 +175,10 @@ impl<'a, G: Gate> Task for Works<'a, G> {
         alloc: Global,
         index: usize,
         finder: &mut RegexFinder<'a>,
-    ) -> Result<Vec<Row>, Memory> {
+    ) -> Result<O::Value, Memory> {
         self.gate.reached(index);
-        find_rows(alloc, self.haystacks[index], &self.layout, finder)
+        let rows = find_rows(alloc, self.haystacks[index], &self.layout, finder)?;
+        self.outcome.of(alloc, index, rows)
     }
 }
 
@@ -165,18 +193,19 @@ fn tells_matches(regex: &Regex) -> bool
     }
 }
 
-/// No row for any haystack. `gate` is told of each.
-fn no_rows<G: Gate>(
+/// What no rows become, for each haystack. `gate` is told of each.
+fn no_rows<G: Gate, O: Outcome>(
     alloc: Global,
     haystacks: &[&[u8]],
     gate: &G,
-) -> Result<Vec<Vec<Row>>, ScanError>
-    ensures { IfOk result (λ rows. map vec_items rows.items ≡ map (λ _. []) haystacks.now) }
+    outcome: &O,
+) -> Result<Vec<O::Value>, Memory>
+    ensures { IfOk result (λ all. AreAnswers (length haystacks.now) (λ i value. O.is outcome.now i [] value) all.items) }
 {
     let mut all = Vec::with_capacity(alloc, haystacks.len())?;
     for index in 0..haystacks.len() {
         gate.reached(index);
-        all.push(Vec::new(alloc))?;
+        all.push(outcome.of(alloc, index, Vec::new(alloc))?)?;
     }
     Ok(all)
 }

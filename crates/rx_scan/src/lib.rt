@@ -2,14 +2,17 @@
 //!
 //! `run` reads patterns and haystacks from a `Source`, and writes a row for each match into a `Sink`.
 //! Its contract says what the sink then holds, for all words and every input. `scan` gives the rows of a regex's matches
-//! as data.
+//! as data. `gen` searches haystacks that a number gives, and tells in four numbers what it found.
 #![tactic(auto)]
 
 mod answer;
 mod arguments;
+mod counted;
 mod ends;
+mod generate;
 mod haystacks;
 mod input;
+mod outcome;
 mod output;
 mod program;
 mod row;

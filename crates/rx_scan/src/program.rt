@@ -1,14 +1,15 @@
 //! The whole of a call: words and input in, text and status out.
-ghost use Rattle.std.specs.Prelude.{◌≡◌, ◌<◌, ◌≤◌, ◌⊎◌, ℕ, List, map, IfOk, IsErrOf, IsSome, IsNone};
+ghost use Rattle.std.specs.Prelude.{◌≡◌, ◌<◌, ◌≤◌, ◌⊎◌, ℕ, List, map, IfOk, IsErrOf, IsSome, Some, true, false};
 ghost use Rattle.std.specs.String.{string_bytes};
-ghost use Rattle.rx_scan.specs.Answer.{answer_input};
-ghost use Rattle.rx_scan.specs.Arguments.{HasWorkers, command_of};
+ghost use Rattle.rx_scan.specs.Answer.{answer_input, answer_call};
+ghost use Rattle.rx_scan.specs.Arguments.{HasWorkers, IsCall, call_of, is_reading};
 ghost use Rattle.rx_scan.specs.Ends.{HasRisen, CountsAtMost, GivesAtMost};
 ghost use Rattle.rx_scan.specs.Run.{Gave, Answers, BreaksOff, Finished};
 
 use crate::answer::{Answer, answer_input};
-use crate::arguments::{Command, command_of};
+use crate::arguments::{Call, Command, call_of};
 use crate::ends::{Sink, Source};
+use crate::generate::generate;
 use crate::input::{ReadError, read_input};
 use crate::output::write_text;
 use crate::status::{Status, code_of};
@@ -24,6 +25,7 @@ const USAGE: &str = "usage: rxscan scan [W] [off:LETTERS]\n";
 /// | Status | Text | When |
 /// |---|---|---|
 /// | 0 | the rows of all matches, or under `explain` the name of the strategy | the input was read to its end |
+/// | 0 | under `gen` what a scan finds in the haystacks that a number gives, in numbers | nothing is read |
 /// | 1 | `pattern P: KIND` | pattern P is refused: the first whose reading is refused, and else the first whose translation is |
 /// | 2 | the usage line | the words are not those of a command; nothing is read, and 8 never comes in its place |
 /// | 3 | `input is not UTF-8 at byte N` | N is the length of the input's longest UTF-8 prefix |
@@ -61,14 +63,14 @@ pub fn run<R: Threads + Wait + Sync, S: Source, K: Sink, G: Gate + Sync>(
         (K.held sink.old) (K.held sink.new) result }
 
     ensures source_failed { result ≡ 6 → HasRisen (S.faults source.old) (S.faults source.new)
-        × (sink.new ≡ sink.old) × IsSome (command_of (map string_bytes words.now)) }
+        × (sink.new ≡ sink.old) × (is_reading (call_of (map string_bytes words.now)) ≡ true) }
 
     ensures sink_failed { result ≡ 7 → HasRisen (K.faults sink.old) (K.faults sink.new)
         × BreaksOff (map string_bytes words.now) (S.left source.old) (S.left source.new) (K.held sink.old) (K.held sink.new) }
 
-    ensures out_of_memory { result ≡ 8 → (sink.new ≡ sink.old) × IsSome (command_of (map string_bytes words.now)) }
+    ensures out_of_memory { result ≡ 8 → (sink.new ≡ sink.old) × IsSome (call_of (map string_bytes words.now)) }
 
-    ensures reads_nothing { IsNone (command_of (map string_bytes words.now)) → source.new ≡ source.old }
+    ensures reads_nothing { is_reading (call_of (map string_bytes words.now)) ≡ false → source.new ≡ source.old }
 
     // One read for each byte of the longest input, and one for its end. The source gives no more than that input and one
     // byte; as it may fill each buffer, no read asks for more than what is left to that.
@@ -79,11 +81,11 @@ pub fn run<R: Threads + Wait + Sync, S: Source, K: Sink, G: Gate + Sync>(
     ensures complete { ¬ (HasRisen (S.faults source.old) (S.faults source.new))
         → ¬ (HasRisen (K.faults sink.old) (K.faults sink.new)) → (result ≤ 5) ⊎ (result ≡ 8) }
 {
-    let Some(command) = command_of(words) else {
+    let Some(call) = call_of(words) else {
         return finish(sink, Status::Usage, USAGE.as_bytes());
     };
     // What is written is known in whole before the first write (DECISIONS: statuses 1 to 6 are decided before anything is searched).
-    match answer_source(rt, alloc, &command, source, gate) {
+    match answer_call(rt, alloc, &call, source, gate) {
         Ok(answer) => finish_answer(sink, answer),
         Err(ReadError::Source) => code_of(Status::SourceFailed),
         Err(ReadError::Memory) => code_of(Status::OutOfMemory),
@@ -105,6 +107,30 @@ fn finish_answer<K: Sink>(sink: &mut K, answer: Answer) -> u8
     ensures { Finished answer (K.held sink.old) (K.held sink.new) (K.faults sink.old) (K.faults sink.new) result }
 {
     finish(sink, answer.status, &answer.text)
+}
+
+/// Answers the call, and reads the input where it asks for one.
+fn answer_call<R: Threads + Wait + Sync, S: Source, G: Gate + Sync>(
+    rt: &R,
+    alloc: Global,
+    call: &Call,
+    source: &mut S,
+    gate: &G,
+) -> Result<Answer, ReadError>
+    requires { IsCall call.now }
+    ensures answered { IfOk result (λ a. (given : List ℕ) × Gave (S.left source.old) (S.left source.new) given a.status × (a ≡ answer_call call.now given)) }
+    ensures failed { IsErrOf result ReadError.Source → HasRisen (S.faults source.old) (S.faults source.new) × (is_reading (Some call.now) ≡ true) }
+    ensures reads_nothing { is_reading (Some call.now) ≡ false → source.new ≡ source.old }
+    ensures reads { CountsAtMost (S.reads source.old) (S.reads source.new) 16777217 }
+    ensures takes { GivesAtMost (S.left source.old) (S.left source.new) 16777217 }
+{
+    match call {
+        Call::Reading(command) => answer_source(rt, alloc, command, source, gate),
+        Call::Generate(asked) => {
+            let answer = generate(rt, alloc, asked, gate)?;
+            Ok(answer)
+        }
+    }
 }
 
 /// Reads the input and answers it.

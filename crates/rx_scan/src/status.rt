@@ -5,29 +5,42 @@ ghost use Rattle.rx_scan.specs.Status.{code};
 /// The status of a call of `run`.
 #[derive(Clone, Copy, Debug, PartialEq, Eq)]
 pub enum Status {
-    /// The text is the rows of all matches.
-    Rows = 0,
+    /// The text is what the patterns of the input were asked for.
+    Rows,
+    /// The text is what was found in haystacks that a number gave; no input is read.
+    Generated,
     /// A pattern is refused.
-    Pattern = 1,
+    Pattern,
     /// The words are not those of a command.
-    Usage = 2,
+    Usage,
     /// The input is not UTF-8.
-    NotUtf8 = 3,
+    NotUtf8,
     /// The input is too long.
-    TooLong = 4,
+    TooLong,
     /// The patterns are too big.
-    TooBig = 5,
+    TooBig,
     /// The source failed.
-    SourceFailed = 6,
+    SourceFailed,
     /// The sink failed.
-    SinkFailed = 7,
+    SinkFailed,
     /// There was no memory.
-    OutOfMemory = 8,
+    OutOfMemory,
 }
 
 /// The number of a status.
 pub fn code_of(status: Status) -> u8
     ensures { result ≡ code status }
 {
-    status as u8
+    match status {
+        Status::Rows => 0,
+        Status::Generated => 0,
+        Status::Pattern => 1,
+        Status::Usage => 2,
+        Status::NotUtf8 => 3,
+        Status::TooLong => 4,
+        Status::TooBig => 5,
+        Status::SourceFailed => 6,
+        Status::SinkFailed => 7,
+        Status::OutOfMemory => 8,
+    }
 }

@@ -1,4 +1,5 @@
-//! `rxscan scan` reads patterns, an empty line and haystacks from standard input, and prints a row for each match.
+//! `rxscan scan` reads patterns, an empty line and haystacks from standard input, and prints a row for each match; `explain`
+//! prints how it would search for them, and `gen` what it finds in haystacks that a number gives.
 #![tactic(auto)]
 
 use rx_scan::{StandardInput, StandardOutput, run};

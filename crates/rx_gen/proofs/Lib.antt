@@ -1,0 +1,4 @@
+pub mod GeneratorLemmas
+pub mod NumberLemmas
+pub mod TotalsLemmas
+mod Rows

@@ -1,0 +1,148 @@
+-- What is found in haystacks, in numbers: the matches of a haystack are no more than it has places, and no longer than it.
+use Rattle.std.proofs.Common.{◌≡◌, ℕ, suc, ◌+◌, ◌-◌, ◌^◌, ◌<◌, ◌≤◌, List, [], ◌∷◌, length, get_or, Result, Ok, Err, IfOk, refl, sym, ap, subst, ◌∙◌, arith}
+use Rattle.std.specs.Prelude.{map, sum_by}
+use Rattle.std.specs.List.{All, AllPairs}
+use Rattle.std.specs.Str.{IsUtf8}
+use denote.Ref.{Bor}
+use Rattle.std.proofs.lemmas.List.{length-map, get_or-map, map-map, map-id}
+use Rattle.std.proofs.lemmas.List.Elements.{All-nil, All-cons, All-map}
+use Rattle.std.proofs.lemmas.List.Sums.{sum_by-cons}
+use Rattle.std.proofs.lemmas.Str.{IsUtf8-from_is_utf8}
+use Rattle.rx_model.specs.Expression.{Expression}
+use Rattle.rx_model.specs.Search.{Patterns, Match, matches, free}
+use Rattle.rx_model.proofs.lemmas.matches.SuccessionLemmas.{matches-rise, matches-within}
+use Rattle.rx_gen.specs.Generated.{generated}
+use Rattle.rx_gen.specs.Totals.{matches_of, covered_of}
+use Rattle.rx_gen.specs.declared.totals.Counts.{Counts}
+use Rattle.rx_gen.proofs.GeneratorLemmas.{generated-length, generated-short}
+use Rattle.rx_gen.proofs.TotalsLemmas.{sum-fits}
+use Rattle.rx_reader.specs.Config.{default}
+use Rattle.rx_syntax.specs.Patterns.{all_read}
+use Rattle.rx_syntax.proofs.lemmas.translation.Utf8Lemmas.{of_patterns}
+use Rattle.rx_scan.specs.Answer.{match_len, counts_in, gen_patterns, read_or_none, gen_expressions, gen_counts}
+use Rattle.rx_scan.specs.Counted.{row_len, rows_len, counts_of}
+use Rattle.rx_search.specs.declared.memory.Memory.{Memory}
+use Rattle.rx_workers.specs.Answers.{AreAnswers}
+use Rattle.rx_scan.specs.Haystacks.{AreOutcomes}
+use Rattle.rx_scan.specs.Patterns.{patterns_of, MeanUtf8}
+use Rattle.rx_scan.specs.Row.{row_of, scan_rows}
+use Rattle.rx_scan.proofs.HaystackLemmas.{answers-map}
+
+-- the second match starts after the first, and not before its end
+abbrev IsLater : Match → Match → Type 0
+IsLater m n = (m.start < n.start) × (m.trace.end ≤ n.start)
+
+abbrev LiesWithin : (a b : ℕ) → Match → Type 0
+LiesWithin a b m = (a ≤ m.start) × (m.start ≤ m.trace.end) × (m.trace.end ≤ b)
+
+module _ (b : ℕ) where
+  -- at most one match starts at each place from a on, up to the end
+  few : (ms : List Match) (a : ℕ) → AllPairs IsLater ms → All (LiesWithin a b) ms → length ms ≤ b + 1 - a
+  few [] a later within = omega arith
+  few (m ∷ ms) a later within =
+      let first : LiesWithin a b m = within 0 m (omega arith) in
+      let others : All (LiesWithin (m.start + 1) b) ms =
+      λ i d below. (
+        let l : IsLater m (get_or ms i d) = later 0 (suc i) d (omega arith) (omega (arith, below)) in
+        let w : LiesWithin a b (get_or ms i d) = within (suc i) d (omega (arith, below)) in
+        (omega (arith, l.0), w.1, w.2)) in
+      let rest = few ms (m.start + 1) (λ i j d lt below. later (suc i) (suc j) d (omega (arith, lt)) (omega (arith, below))) others in
+      omega (arith, first.0, first.1, first.2, rest)
+
+  -- and no place is covered twice
+  short : (ms : List Match) (a : ℕ) → AllPairs IsLater ms → All (LiesWithin a b) ms → sum_by match_len ms ≤ b - a
+  short [] a later within = omega arith
+  short (m ∷ ms) a later within =
+      let first : LiesWithin a b m = within 0 m (omega arith) in
+      let others : All (LiesWithin m.trace.end b) ms =
+      λ i d below. (
+        let l : IsLater m (get_or ms i d) = later 0 (suc i) d (omega arith) (omega (arith, below)) in
+        let w : LiesWithin a b (get_or ms i d) = within (suc i) d (omega (arith, below)) in
+        (l.1, w.1, w.2)) in
+      let rest = short ms m.trace.end (λ i j d lt below. later (suc i) (suc j) d (omega (arith, lt)) (omega (arith, below))) others in
+      let both = sum_by-cons match_len m ms in
+      omega (arith, first.0, first.1, first.2, rest, both)
+
+module _ (text : List ℕ) where
+  gen-few : matches_of (gen_counts text) ≤ length text + 1
+  gen-few =
+      let r = patterns_of gen_expressions in
+      let h = few (length text) (matches r text free (length text) 0) 0 (matches-rise r text free (length text) 0) (matches-within r text free (length text) 0) in
+      omega (arith, h)
+
+  gen-short : covered_of (gen_counts text) ≤ length text
+  gen-short =
+      let r = patterns_of gen_expressions in
+      let h = short (length text) (matches r text free (length text) 0) 0 (matches-rise r text free (length text) 0) (matches-within r text free (length text) 0) in
+      omega (arith, h)
+
+-- rows are as many as their matches, and as long
+rows-covered : (r : Patterns) (ms : List Match) → rows_len (map (row_of r) ms) ≡ sum_by match_len ms
+rows-covered r [] = refl
+rows-covered r (m ∷ ms) =
+    sum_by-cons row_len (row_of r m) (map (row_of r) ms) ∙ ap (λ n. match_len m + n) (rows-covered r ms) ∙ sym (sum_by-cons match_len m ms)
+
+rows-counts : (r : Patterns) (ms : List Match) → counts_of (map (row_of r) ms) ≡ counts_in ms
+rows-counts r ms = λ i. record { matches = length-map ms (row_of r) i; covered = rows-covered r ms i }
+
+-- what the rows of a short haystack became are its numbers
+pub counted : (text : List ℕ) (counts : Counts) → length text ≤ 15
+    → (rows_len (scan_rows (patterns_of gen_expressions) text) < 2 ^ 64 → counts ≡ counts_of (scan_rows (patterns_of gen_expressions) text))
+    → counts ≡ gen_counts text
+counted text counts small is =
+    let r = patterns_of gen_expressions in
+    let ms = matches r text free (length text) 0 in
+    is (omega (arith, small, gen-short text, rows-covered r ms)) ∙ rows-counts r ms
+
+-- the totals of at most a million haystacks fit
+module _ (seed count : ℕ) (many : count ≤ 1000000) where
+  pub bytes-fit : sum_by length (generated seed count) < 2 ^ 64
+  bytes-fit =
+      sum-fits length (generated seed count) (omega (arith, many, generated-length seed count)) (λ i d below. omega (arith, generated-short seed count i d below))
+
+  found-many : length (map gen_counts (generated seed count)) ≤ 1000000
+  found-many = omega (arith, many, generated-length seed count, length-map (generated seed count) gen_counts)
+
+  pub matches-fit : sum_by matches_of (map gen_counts (generated seed count)) < 2 ^ 64
+  matches-fit =
+      sum-fits matches_of (map gen_counts (generated seed count)) found-many
+      (All-map (λ c. matches_of c ≤ 16) gen_counts (generated seed count)
+      (λ i d below. omega (arith, gen-few (get_or (generated seed count) i d), generated-short seed count i d below)))
+
+  pub covered-fit : sum_by covered_of (map gen_counts (generated seed count)) < 2 ^ 64
+  covered-fit =
+      sum-fits covered_of (map gen_counts (generated seed count)) found-many
+      (All-map (λ c. covered_of c ≤ 16) gen_counts (generated seed count)
+      (λ i d below. omega (arith, gen-short (get_or (generated seed count) i d), generated-short seed count i d below)))
+
+-- what the patterns read as, and that it means UTF-8
+pub gen-read : (hs : List Expression) → all_read default gen_patterns ≡ Ok hs → hs ≡ gen_expressions
+unfolding gen_expressions
+gen-read hs read = sym (ap read_or_none read)
+
+patterns-utf8 : All IsUtf8 gen_patterns
+patterns-utf8 =
+    All-cons IsUtf8 _ _ (IsUtf8-from_is_utf8 _ refl) (All-cons IsUtf8 _ _ (IsUtf8-from_is_utf8 _ refl) (All-nil IsUtf8))
+
+pub gen-utf8 : (hs : List Expression) → all_read default gen_patterns ≡ Ok hs → MeanUtf8 gen_expressions
+gen-utf8 hs read =
+    subst MeanUtf8 (gen-read hs read) (λ text utf8. of_patterns default gen_patterns (patterns_of hs) text refl patterns-utf8 read utf8)
+
+-- each of the lists that these become has it
+pub All-unmap : {X Y : Type 0} (P : Y → Type 0) (f : X → Y) (xs : List X) → All P (map f xs) → All (λ x. P (f x)) xs
+All-unmap P f xs all = λ k d below. subst P (get_or-map f xs k d (f d) below) (all k (f d) (omega (arith, below, length-map xs f)))
+
+-- what the rows of short haystacks became are the numbers of these
+pub counts-told : {W : Type 0} (items : W → List Counts) (result : Result W Memory) (hs : List (Bor (List ℕ))) (texts : List (List ℕ))
+    → map (λ h. h.now) hs ≡ texts → All (λ h. length h.now ≤ 15) hs
+    → IfOk result (λ w. AreOutcomes (λ rows counts. rows_len rows < 2 ^ 64 → counts ≡ counts_of rows) (patterns_of gen_expressions) hs (items w))
+    → IfOk result (λ w. items w ≡ map gen_counts texts)
+counts-told items (Err error) hs texts same short told = tt
+counts-told items (Ok w) hs texts same short told =
+    let each : AreAnswers (length hs) (λ i counts. (d : Bor (List ℕ)) → counts ≡ gen_counts (get_or hs i d).now) (items w) =
+    record {
+      count = told.count;
+      each = λ i v below d. counted (get_or hs i d).now (get_or (items w) i v) (short i d below) (told.each i v below d);
+    } in
+    sym (map-id (items w)) ∙ answers-map (λ v. v) (λ (h : Bor (List ℕ)). gen_counts h.now) hs (items w) each
+    ∙ sym (map-map gen_counts (λ (h : Bor (List ℕ)). h.now) hs) ∙ ap (map gen_counts) same

@@ -1,0 +1,23 @@
+-- Rows, in numbers.
+use Rattle.std.specs.Prelude.{ℕ, ◌-◌, List, [], ◌∷◌, length, Option, Some, None, sum_by}
+use Rattle.rx_gen.specs.declared.totals.Counts.{Counts}
+use Rattle.rx_scan.specs.Row.{RowValue}
+
+-- how long a match is, by the slots of its row
+abbrev pub slots_len : List (Option ℕ) → ℕ
+slots_len [] = 0
+slots_len (start ∷ []) = 0
+slots_len (None ∷ end ∷ slots) = 0
+slots_len (Some start ∷ None ∷ slots) = 0
+slots_len (Some start ∷ Some end ∷ slots) = end - start
+
+abbrev pub row_len : RowValue → ℕ
+row_len row = slots_len row.slots
+
+-- how long the matches of these rows are together
+abbrev pub rows_len : List RowValue → ℕ
+rows_len rows = sum_by row_len rows
+
+-- how many they are, and how long
+abbrev pub counts_of : List RowValue → Counts
+counts_of rows = record { matches = length rows; covered = rows_len rows }
