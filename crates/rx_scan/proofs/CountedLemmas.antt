@@ -1,13 +1,15 @@
 -- What is found in haystacks, in numbers: the matches of a haystack are no more than it has places, and no longer than it.
-use Rattle.std.proofs.Common.{◌≡◌, ℕ, suc, ◌+◌, ◌-◌, ◌^◌, ◌<◌, ◌≤◌, List, [], ◌∷◌, length, get_or, Result, Ok, Err, IfOk, refl, sym, ap, subst, ◌∙◌, arith}
-use Rattle.std.specs.Prelude.{map, sum_by}
-use Rattle.std.specs.List.{All, AllPairs}
+use Rattle.std.proofs.Common.{◌≡◌, ℕ, zero, suc, ◌+◌, ◌-◌, ◌^◌, ◌<◌, ◌≤◌, List, [], ◌∷◌, length, get_or, Result, Ok, Err, IfOk, refl, sym, ap, subst, ◌∙◌, true, lit<, arith}
+use Rattle.std.specs.Prelude.{map, sum_by, codes, nat_lt}
+use Rattle.std.specs.List.{All, AllPairs, list_all}
 use Rattle.std.specs.Str.{IsUtf8}
 use denote.Ref.{Bor}
-use Rattle.std.proofs.lemmas.List.{length-map, get_or-map, map-map, map-id}
+use Rattle.std.proofs.lemmas.List.{length-map, get_or-map, map-id}
+use Rattle.std.proofs.lemmas.Simd.{map-map}
 use Rattle.std.proofs.lemmas.List.Elements.{All-nil, All-cons, All-map}
 use Rattle.std.proofs.lemmas.List.Sums.{sum_by-cons}
-use Rattle.std.proofs.lemmas.Str.{IsUtf8-from_is_utf8}
+use Rattle.std.proofs.lemmas.Str.{IsUtf8-from_ascii}
+use Rattle.std.proofs.lemmas.Bool.{and_parts, ltb-true}
 use Rattle.rx_model.specs.Expression.{Expression}
 use Rattle.rx_model.specs.Search.{Patterns, Match, matches, free}
 use Rattle.rx_model.proofs.lemmas.matches.SuccessionLemmas.{matches-rise, matches-within}
@@ -120,9 +122,18 @@ pub gen-read : (hs : List Expression) → all_read default gen_patterns ≡ Ok h
 unfolding gen_expressions
 gen-read hs read = sym (ap read_or_none read)
 
+ascii-by : (bs : List ℕ) → list_all (λ b. nat_lt b 128) bs ≡ true → (i : ℕ) → get_or bs i 0 < 128
+ascii-by [] all i = lit< tt
+ascii-by (b ∷ bs) all zero = ltb-true b 128 (and_parts (nat_lt b 128) (list_all (λ c. nat_lt c 128) bs) all).0
+ascii-by (b ∷ bs) all (suc i) = ascii-by bs (and_parts (nat_lt b 128) (list_all (λ c. nat_lt c 128) bs) all).1 i
+
+ascii-utf8 : (bs : List ℕ) → list_all (λ b. nat_lt b 128) bs ≡ true → IsUtf8 bs
+ascii-utf8 bs all = IsUtf8-from_ascii bs (ascii-by bs all)
+
 patterns-utf8 : All IsUtf8 gen_patterns
 patterns-utf8 =
-    All-cons IsUtf8 _ _ (IsUtf8-from_is_utf8 _ refl) (All-cons IsUtf8 _ _ (IsUtf8-from_is_utf8 _ refl) (All-nil IsUtf8))
+    All-cons IsUtf8 (codes "([a-c]+)d") (codes "[e-h]{2,3}" ∷ []) (ascii-utf8 (codes "([a-c]+)d") refl)
+    (All-cons IsUtf8 (codes "[e-h]{2,3}") [] (ascii-utf8 (codes "[e-h]{2,3}") refl) (All-nil IsUtf8))
 
 pub gen-utf8 : (hs : List Expression) → all_read default gen_patterns ≡ Ok hs → MeanUtf8 gen_expressions
 gen-utf8 hs read =

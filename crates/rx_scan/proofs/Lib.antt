@@ -10,3 +10,4 @@ pub mod ReadingLemmas
 pub mod RunLemmas
 pub mod SizeLemmas
 pub mod TextLemmas
+mod Rows
