@@ -6,3 +6,4 @@ pub mod RangeLemmas
 pub mod NextLemmas
 pub mod AgreeLemmas
 pub mod AnchorLemmas
+pub mod PlaceLemmas

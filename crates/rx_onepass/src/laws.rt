@@ -1,5 +1,5 @@
 //! Laws of the searches of a one-pass DFA.
-ghost use Rattle.std.specs.Prelude.{◌≡◌, ◌≤◌, ℕ, Bool, true, List, length, Some, option_map};
+ghost use Rattle.std.specs.Prelude.{◌≡◌, ◌≤◌, ◌<◌, ℕ, Bool, true, List, length, Some, option_map};
 ghost use Rattle.rx_model.specs.Expression.{Expression};
 ghost use Rattle.rx_model.specs.Runs.{Trace};
 ghost use Rattle.rx_model.specs.Search.{Patterns, free, anchored, next_match, slot_value};
@@ -31,6 +31,15 @@ pub fn the_slots_are_those_of_the_next_match()
     ensures slots { (d : Dfa) (r : Patterns) (v : InputValue) → IsInRange d.nfa → IsNfaOf d.nfa r → tells r.which_captures ≡ true
         → kind_of d.config ≡ LeftmostFirst → v.end ≤ length v.haystack
         → (t : Trace) → run_in d v ≡ Some t → (slot : ℕ) → slot_of d.nfa v.start t slot ≡ slot_value (started_at v.start t) slot }
+{}
+
+/// The run that a search tells, of either kind, ends in the span, its pattern is there, and each place that it leaves in a slot
+/// lies in the span.
+pub fn what_is_found_lies_in_the_span()
+    ensures end { (d : Dfa) (v : InputValue) → IsInRange d.nfa → (t : Trace) → run_in d v ≡ Some t → (v.start ≤ t.end) × (t.end ≤ v.end) }
+    ensures pattern { (d : Dfa) (v : InputValue) → IsInRange d.nfa → (t : Trace) → run_in d v ≡ Some t → t.pattern < length d.nfa.starts }
+    ensures places { (d : Dfa) (v : InputValue) → IsInRange d.nfa → (t : Trace) → run_in d v ≡ Some t
+        → (slot place : ℕ) → slot_of d.nfa v.start t slot ≡ Some place → (v.start ≤ place) × (place ≤ v.end) }
 {}
 
 /// Where an NFA is always start anchored, no match begins behind the start of the text: so a search that is not anchored finds

@@ -21,7 +21,7 @@ after-end : (writes : List (ℕ × ℕ)) (later : Option Trace) (u : Trace) → 
 after-end writes None u e = none-is-some e
 after-end writes (Some t) u e = (t, refl, ap (λ (x : Trace). x.end) (sym (some-is e)))
 
-or-cases : (a b : Option Trace) (u : Trace) → option_or a b ≡ Some u → (a ≡ Some u) ⊎ (b ≡ Some u)
+pub or-cases : (a b : Option Trace) (u : Trace) → option_or a b ≡ Some u → (a ≡ Some u) ⊎ (b ≡ Some u)
 or-cases None b u e = inr e
 or-cases (Some a) b u e = inl e
 
