@@ -1,8 +1,9 @@
 //! Laws of the searches of a one-pass DFA.
-ghost use Rattle.std.specs.Prelude.{◌≡◌, ◌≤◌, ◌<◌, ℕ, Bool, true, List, length, Some, option_map};
+ghost use Rattle.std.specs.Prelude.{◌≡◌, ◌≤◌, ◌<◌, ℕ, Bool, true, List, length, Some, option_map, is_some};
 ghost use Rattle.rx_model.specs.Expression.{Expression};
 ghost use Rattle.rx_model.specs.Runs.{Trace};
 ghost use Rattle.rx_model.specs.Search.{Patterns, free, anchored, next_match, slot_value};
+ghost use Rattle.rx_model.specs.Matches.{IsMatch};
 ghost use Rattle.rx_search.specs.Input.{InputValue, next_in};
 ghost use Rattle.rx_search.specs.Told.{tells};
 ghost use Rattle.rx_search.specs.declared.anchored.MatchKind.TheVariants.{LeftmostFirst};
@@ -21,16 +22,20 @@ pub fn the_run_is_that_of_the_next_match()
         → next_match_in d.nfa (record v { anchor = taken_as v.anchor }) ≡ option_map (started_at v.start) (run_in d v) }
 {}
 
-/// Where the NFA has the runs of patterns, whose captures are told, the run is that of the next match of the patterns from the
-/// span's start, and each slot holds what that match leaves in it. So no slot of another pattern has a place, nor one past
-/// those of the NFA.
-pub fn the_slots_are_those_of_the_next_match()
-    ensures next { (d : Dfa) (r : Patterns) (v : InputValue) → IsInRange d.nfa → IsNfaOf d.nfa r → tells r.which_captures ≡ true
-        → kind_of d.config ≡ LeftmostFirst → v.end ≤ length v.haystack
+/// Where the NFA has the runs of patterns, something is found exactly where the patterns have a next match from the span's start,
+/// of either kind. Where captures are told, it is a match of the patterns, under `LeftmostFirst` that next match, and each slot
+/// holds what the match leaves in it. So no slot of another pattern has a place, nor one past those of the NFA.
+pub fn what_is_found_is_a_match_of_the_patterns()
+    ensures exists { (d : Dfa) (r : Patterns) (v : InputValue) → IsNfaOf d.nfa r → v.end ≤ length v.haystack
+        → is_some (run_in d v) ≡ is_some (next_in r (record v { anchor = taken_as v.anchor })) }
+    ensures next { (d : Dfa) (r : Patterns) (v : InputValue) → IsNfaOf d.nfa r → v.end ≤ length v.haystack → tells r.which_captures ≡ true
+        → kind_of d.config ≡ LeftmostFirst
         → option_map (started_at v.start) (run_in d v) ≡ next_in r (record v { anchor = taken_as v.anchor }) }
-    ensures slots { (d : Dfa) (r : Patterns) (v : InputValue) → IsInRange d.nfa → IsNfaOf d.nfa r → tells r.which_captures ≡ true
-        → kind_of d.config ≡ LeftmostFirst → v.end ≤ length v.haystack
-        → (t : Trace) → run_in d v ≡ Some t → (slot : ℕ) → slot_of d.nfa v.start t slot ≡ slot_value (started_at v.start t) slot }
+    ensures is_match { (d : Dfa) (r : Patterns) (v : InputValue) → IsNfaOf d.nfa r → v.end ≤ length v.haystack → tells r.which_captures ≡ true
+        → (t : Trace) → run_in d v ≡ Some t → IsMatch r v.haystack (taken_as v.anchor) v.end v.start (started_at v.start t) }
+    ensures slots { (d : Dfa) (r : Patterns) (v : InputValue) → IsNfaOf d.nfa r → v.end ≤ length v.haystack → tells r.which_captures ≡ true
+        → IsInRange d.nfa → (t : Trace) → run_in d v ≡ Some t
+        → (slot : ℕ) → slot_of d.nfa v.start t slot ≡ slot_value (started_at v.start t) slot }
 {}
 
 /// The run that a search tells, of either kind, ends in the span, its pattern is there, and each place that it leaves in a slot

@@ -20,6 +20,6 @@ pub use cache::Cache;
 pub use dfa::DFA;
 pub use laws::{
     a_search_that_is_always_anchored_is_an_anchored_one, the_run_is_that_of_the_next_match,
-    the_slots_are_those_of_the_next_match, what_is_found_lies_in_the_span,
+    what_is_found_is_a_match_of_the_patterns, what_is_found_lies_in_the_span,
 };
 pub use rx_onepass_build::{Config, NotOnePass};

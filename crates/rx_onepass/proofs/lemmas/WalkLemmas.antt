@@ -1,5 +1,5 @@
 -- Where the walk along a table ends.
-use Rattle.std.proofs.Common.{◌≡◌, ◌⊎◌, ℕ, zero, suc, ◌+◌, ◌<◌, ◌≤◌, List, ◌++◌, length, refl, sym, ◌∙◌, ap, inl, inr, arith, slice_index}
+use Rattle.std.proofs.Common.{◌≡◌, ◌⊎◌, ℕ, zero, suc, ◌+◌, ◌<◌, ◌≤◌, List, ◌++◌, length, refl, sym, ◌∙◌, ap, inl, inr, arith, true≢false, slice_index}
 use Rattle.std.specs.Prelude.{Bool, true, false, ◌&&◌, Option, Some, None, option_map, is_some}
 use Rattle.std.specs.Option.{option_or}
 use Rattle.rx_model.specs.Runs.{Trace, Sieve, sifted}
@@ -24,6 +24,14 @@ after-end writes (Some t) u e = (t, refl, ap (λ (x : Trace). x.end) (sym (some-
 pub or-cases : (a b : Option Trace) (u : Trace) → option_or a b ≡ Some u → (a ≡ Some u) ⊎ (b ≡ Some u)
 or-cases None b u e = inr e
 or-cases (Some a) b u e = inl e
+
+pub or-first : (a b : Option Trace) → is_some a ≡ true → is_some (option_or a b) ≡ true
+or-first None b e = absurd (true≢false (sym e))
+or-first (Some a) b e = refl
+
+pub or-second : (a b : Option Trace) → is_some b ≡ true → is_some (option_or a b) ≡ true
+or-second None b e = e
+or-second (Some a) b e = refl
 
 preferred-cases : (wins : Bool) (here later : Option Trace) (u : Trace) → preferred wins here later ≡ Some u → (here ≡ Some u) ⊎ (later ≡ Some u)
 preferred-cases true here later u e = or-cases here later u e
