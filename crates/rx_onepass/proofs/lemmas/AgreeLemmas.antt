@@ -180,7 +180,7 @@ module _ (d : Dfa) (r : Patterns) (v : InputValue) (of : IsNfaOf d.nfa r) (withi
           let both = and_parts (nat_le v.start v.end) (is_permitted d.nfa.utf8 v.haystack v.start) (told-run d v t is).0 in
           let ordered = both.0 in
           let le : v.start ≤ v.end = grind (arith, nat_tests) in
-          (start-is v.anchor v.end v.start le, same_true (ap (λ u. is_permitted u v.haystack v.start) of.utf8 ∙ both.1))
+          (start-is v.anchor v.end v.start le, ap (λ u. is_permitted u v.haystack v.start) of.utf8 ∙ both.1)
 
       -- it is a match, whatever the kind
       pub match-told : IsMatch r v.haystack anchor v.end v.start m
