@@ -1,5 +1,5 @@
 -- What a one-pass DFA is to a contract.
-use Rattle.std.specs.Prelude.{◌≡◌, ℕ, ◌-◌, ◌≤◌, List}
+use Rattle.std.specs.Prelude.{ℕ, ◌-◌, ◌≤◌, List}
 use Rattle.rx_nfa.specs.Nfa.{Nfa}
 use Rattle.rx_onepass_table.specs.Entry.{explicit_start}
 use Rattle.rx_onepass_table.specs.Rows.{TableValue}

@@ -5,7 +5,7 @@ use Rattle.rx_model.specs.Search.{Anchor, free, anchored, anchored_to, Match, is
 use Rattle.rx_search.specs.Anchored.{anchor_of}
 use Rattle.rx_search.specs.Input.{InputValue}
 use Rattle.rx_search.specs.Matches.{MatchValue}
-use Rattle.rx_search.specs.Told.{AreWithin, LiesIn}
+use Rattle.rx_search.specs.Told.{LiesIn}
 use Rattle.rx_search.specs.declared.anchored.MatchKind.{MatchKind}
 use Rattle.rx_search.specs.declared.anchored.MatchKind.TheVariants.{All, LeftmostFirst}
 use Rattle.rx_search.specs.declared.match_error.MatchError.{MatchError}

@@ -1,5 +1,5 @@
 -- What the walk along the table answers, and which of all slots it writes.
-use Rattle.std.specs.Prelude.{◌≡◌, ℕ, ◌+◌, ◌-◌, ◌<◌, ◌≤◌, Bool, true, false, List, length, Option, Some, None, option_map, is_some, IfSome, slice_index_or}
+use Rattle.std.specs.Prelude.{◌≡◌, ℕ, ◌+◌, ◌-◌, ◌<◌, ◌≤◌, Bool, true, false, List, length, Option, None, option_map, is_some, IfSome, slice_index_or}
 use Rattle.rx_model.specs.Runs.{Trace, everywhere, last_write}
 use Rattle.rx_search.specs.Input.{InputValue}
 use Rattle.rx_search.specs.Matches.{HalfMatchValue}

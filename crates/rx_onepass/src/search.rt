@@ -1,5 +1,5 @@
 //! The searches of a one-pass DFA.
-ghost use Rattle.std.specs.Prelude.{◌≡◌, ◌<◌, ℕ, length, replicate, is_some, None, IfOk, IfErr, OnOk, OnErr, IfSome, option_map};
+ghost use Rattle.std.specs.Prelude.{◌≡◌, ◌<◌, ℕ, true, length, replicate, is_some, None, IfOk, IfErr, OnOk, OnErr, IfSome, option_map};
 ghost use Rattle.rx_model.specs.Search.{anchored_to};
 ghost use Rattle.rx_search.specs.Anchored.{anchor_of};
 ghost use Rattle.rx_search.specs.Told.{LiesIn};

@@ -1,11 +1,11 @@
 -- What a search tells, of an NFA that has the runs of patterns: a match of the patterns, with its slots.
-use Rattle.std.proofs.Common.{◌≡◌, ◌≢◌, ℕ, zero, suc, ◌+◌, ◌-◌, ◌*◌, ◌<◌, ◌≤◌, ◌==◌, List, [], ◌∷◌, length, refl, sym, ◌∙◌, ap, subst, inl, inr, arith, true≢false, if◌then◌else◌}
-use Rattle.std.specs.Prelude.{Bool, true, false, ◌&&◌, nat_le, nat_lt, Option, Some, None, option_map, is_some, unwrap_or, slice_get, slice_index, slice_index_or}
+use Rattle.std.proofs.Common.{◌≡◌, ◌≢◌, ℕ, suc, ◌+◌, ◌-◌, ◌*◌, ◌<◌, ◌≤◌, ◌==◌, List, [], ◌∷◌, length, refl, sym, ◌∙◌, ap, subst, inl, inr, arith, true≢false}
+use Rattle.std.specs.Prelude.{true, false, ◌&&◌, nat_le, nat_lt, Option, Some, None, option_map, is_some, unwrap_or, slice_get, slice_index, slice_index_or}
 use Rattle.std.proofs.lemmas.Bool.{eqb-true, eqb-false, and_parts}
-use Rattle.std.proofs.lemmas.Bool.Decides.{nat_tests, Decides-eqb}
+use Rattle.std.proofs.lemmas.Bool.Decides.{nat_tests}
 use Rattle.std.proofs.lemmas.Option.{get_or_from_slice_get, slice_get_within, slice_get-get_or}
 use Rattle.rx_model.specs.Expression.{Expression, empty}
-use Rattle.rx_model.specs.Runs.{Configuration, PriorityGraph, Sieve, Trace, IsRun, sieved, nowhere, trace, with_write, last_of, last_write, first_past, first_trace}
+use Rattle.rx_model.specs.Runs.{Configuration, PriorityGraph, Sieve, Trace, sieved, nowhere, trace, with_write, last_of, first_past}
 use Rattle.rx_model.specs.Search.{Anchor, free, anchored, anchored_to, Patterns, WhichCaptures, all, implicit, none, told, slot_of as first_slot, has_explicit_groups, Match, is_permitted, first_where, first_of_patterns_where, slot_value, told_of}
 use Rattle.rx_model.specs.Matches.{IsStart, IsSought, MayStart, IsMatch, part_of, runs_of_pattern}
 use Rattle.rx_model.proofs.lemmas.runs.RunLemmas.{by_test}
@@ -27,7 +27,7 @@ use Rattle.rx_onepass_table.specs.Along.{first_from}
 use Rattle.rx_onepass_table.specs.Entry.{explicit_start}
 use Rattle.rx_onepass_build.specs.Config.{kind_of}
 use Rattle.rx_onepass.specs.Dfa.{Dfa}
-use Rattle.rx_onepass.specs.Search.{run_in, taken_as, may_start, is_explicit, slot_of, started_at}
+use Rattle.rx_onepass.specs.Search.{run_in, taken_as, is_explicit, slot_of, started_at}
 use Rattle.rx_onepass.proofs.lemmas.NextLemmas.{run-next, run-exists}
 use Rattle.rx_onepass.proofs.lemmas.PlaceLemmas.{IsRunOf, told-run, trace-past, sifted-some}
 use Rattle.rx_onepass.proofs.lemmas.WalkLemmas.{or-cases}

@@ -3,8 +3,8 @@ use Rattle.std.proofs.Common.{◌≡◌, ℕ, zero, suc, ◌+◌, ◌-◌, ◌<�
 use Rattle.std.specs.Prelude.{Bool, true, false, ◌&&◌, nat_lt, nat_le, Option, Some, None, option_map, is_some, if◌then◌else◌}
 use Rattle.std.specs.Option.{option_or}
 use Rattle.std.proofs.lemmas.Bool.Decides.{nat_tests, Decides-eqb}
-use Rattle.rx_model.specs.Runs.{Configuration, PriorityGraph, IsBounded, Trace, everywhere, ending_at, sieved, nowhere, trace, last_of, first_past, first_trace}
-use Rattle.rx_model.specs.Search.{Anchor, free, anchored, anchored_to, is_permitted, is_anchored, first_start, starts}
+use Rattle.rx_model.specs.Runs.{Configuration, PriorityGraph, IsBounded, Trace, ending_at, sieved, nowhere, trace, last_of, first_past, first_trace}
+use Rattle.rx_model.specs.Search.{Anchor, free, anchored, anchored_to, is_permitted, is_anchored, first_start}
 use Rattle.rx_model.proofs.lemmas.graphs.SieveLemmas.{sieved-everywhere, sieved-bounded}
 use Rattle.rx_model.proofs.lemmas.graphs.SievedLemmas.{run-unsieved, run-sieved}
 use Rattle.rx_model.proofs.lemmas.meaning.CoverLemmas.{run-pattern}

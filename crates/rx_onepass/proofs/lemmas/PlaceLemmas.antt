@@ -1,14 +1,14 @@
 -- Where the run lies that a search tells: it ends in the span, so do the places that it writes, and its pattern is there.
-use Rattle.std.proofs.Common.{◌≡◌, ◌≢◌, ◌⊎◌, ℕ, zero, suc, ◌+◌, ◌*◌, ◌<◌, ◌≤◌, ◌==◌, List, [], ◌∷◌, length, refl, sym, ◌∙◌, ap, inl, inr, arith, true≢false, if◌then◌else◌}
+use Rattle.std.proofs.Common.{◌≡◌, ◌≢◌, ◌⊎◌, ℕ, zero, suc, ◌+◌, ◌*◌, ◌<◌, ◌≤◌, ◌==◌, List, [], ◌∷◌, length, refl, sym, ◌∙◌, ap, inl, inr, arith, true≢false}
 use Rattle.std.proofs.lemmas.Bool.Decides.{nat_tests, Decides-eqb}
 use Rattle.std.proofs.lemmas.List.{get_or_past}
 use Rattle.std.proofs.lemmas.List.Elements.{All-get_or}
-use Rattle.std.specs.Prelude.{Bool, true, false, ◌&&◌, nat_lt, nat_le, Option, Some, None, is_some, unwrap_or}
+use Rattle.std.specs.Prelude.{true, false, nat_lt, Option, Some, None, is_some, unwrap_or}
 use Rattle.rx_model.specs.Runs.{Configuration, PriorityGraph, Sieve, Passed, everywhere, ending_at, sieved, sifted, nowhere, and_at, IsRun, IsBounded, NeverFalls, Trace, trace, with_write, last_write, first_past, first_trace}
 use Rattle.rx_model.proofs.lemmas.graphs.SieveLemmas.{sieved-bounded, sieved-rises}
 use Rattle.rx_model.proofs.lemmas.runs.RunLemmas.{by_test}
 use Rattle.rx_model.proofs.lemmas.runs.FirstLemmas.{found-is_run, none-is-some, some-is, tells}
-use Rattle.rx_model.proofs.lemmas.runs.RiseLemmas.{trace-end, run-rises, run-accepts, mapped-some, found-end}
+use Rattle.rx_model.proofs.lemmas.runs.RiseLemmas.{trace-end, run-rises, mapped-some, found-end}
 use Rattle.rx_search.specs.Input.{InputValue}
 use Rattle.rx_search.specs.declared.anchored.MatchKind.{MatchKind}
 use Rattle.rx_search.specs.declared.anchored.MatchKind.TheVariants.{All, LeftmostFirst}

@@ -1,13 +1,13 @@
 -- The run that a search tells, and the walk along the table.
-use Rattle.std.proofs.Common.{◌≡◌, ℕ, suc, ◌+◌, ◌-◌, ◌<◌, ◌≤◌, List, length, refl, sym, ◌∙◌, ap, subst, arith, slice_index}
-use Rattle.std.specs.Prelude.{Bool, true, false, ◌&&◌, nat_le, Option, Some, None, if◌then◌else◌}
+use Rattle.std.proofs.Common.{◌≡◌, ℕ, suc, ◌+◌, ◌-◌, ◌<◌, ◌≤◌, refl, sym, subst, arith, slice_index}
+use Rattle.std.specs.Prelude.{Bool, true, false, ◌&&◌, nat_le, Some, None, if◌then◌else◌}
 use Rattle.std.proofs.lemmas.Bool.Decides.{nat_tests}
-use Rattle.rx_model.specs.Runs.{Trace, everywhere, ending_at}
+use Rattle.rx_model.specs.Runs.{everywhere, ending_at}
 use Rattle.rx_model.specs.Search.{is_permitted}
 use Rattle.rx_search.specs.Input.{InputValue}
 use Rattle.rx_search.specs.declared.anchored.MatchKind.{MatchKind}
 use Rattle.rx_search.specs.declared.anchored.MatchKind.TheVariants.{All, LeftmostFirst}
-use Rattle.rx_nfa.specs.Nfa.{Nfa, IsInRange}
+use Rattle.rx_nfa.specs.Nfa.{IsInRange}
 use Rattle.rx_nfa.specs.NextMatch.{start_of}
 use Rattle.rx_onepass_table.specs.Along.{walk, farthest, first_from, BothTellSame}
 use Rattle.rx_onepass_table.proofs.lemmas.AlongLemmas.{walk-tells, farthest-same, farthest-walk}

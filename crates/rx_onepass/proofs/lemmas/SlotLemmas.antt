@@ -1,20 +1,19 @@
 -- What a search leaves in the slots.
-use Rattle.std.proofs.Common.{◌≡◌, ◌≢◌, ℕ, zero, suc, ◌+◌, ◌-◌, ◌*◌, ◌<◌, ◌≤◌, ◌==◌, List, length, get_or, refl, sym, ◌∙◌, ap, subst, arith, if◌then◌else◌}
-use Rattle.std.specs.Prelude.{Bool, true, false, ◌&&◌, nat_le, nat_lt, Option, Some, None, option_map, is_some, replicate, IfSome, slice_set, slice_index_or}
+use Rattle.std.proofs.Common.{◌≡◌, ◌≢◌, ℕ, zero, suc, ◌+◌, ◌-◌, ◌*◌, ◌<◌, ◌≤◌, ◌==◌, List, length, refl, sym, ◌∙◌, ap, subst, arith, if◌then◌else◌}
+use Rattle.std.specs.Prelude.{true, false, nat_le, nat_lt, Option, Some, None, option_map, is_some, replicate, IfSome, slice_set, slice_index_or}
 use Rattle.std.proofs.lemmas.Bool.Decides.{nat_tests}
 use Rattle.std.proofs.lemmas.List.{get_or-set_same, get_or-set_other, length-set, length-replicate}
 use Rattle.rx_model.specs.Runs.{Trace, everywhere, last_write}
 use Rattle.rx_model.proofs.lemmas.runs.RunLemmas.{by_test}
 use Rattle.rx_model.proofs.lemmas.runs.FirstLemmas.{none-is-some, some-is}
 use Rattle.rx_search.specs.Input.{InputValue}
-use Rattle.rx_search.specs.Matches.{MatchValue, HalfMatchValue}
-use Rattle.rx_search.specs.Told.{LiesIn}
+use Rattle.rx_search.specs.Matches.{HalfMatchValue}
 use Rattle.rx_nfa.specs.Nfa.{Nfa}
 use Rattle.rx_nfa.specs.Ordered.{half}
 use Rattle.rx_onepass_table.specs.Along.{TellSame, BothTellSame}
 use Rattle.rx_onepass_table.specs.Entry.{explicit_start}
 use Rattle.rx_onepass_build.specs.Config.{kind_of}
-use Rattle.rx_onepass.specs.Dfa.{Dfa, explicit_slots}
+use Rattle.rx_onepass.specs.Dfa.{Dfa}
 use Rattle.rx_onepass.specs.Search.{run_in, match_from, is_explicit, slot_of, AreSlotsOf, IsFound}
 use Rattle.rx_onepass.specs.Walked.{may_win, told_from, IsSlotAt, IsWalked}
 use Rattle.rx_onepass.proofs.lemmas.WalkLemmas.{walk-within}

@@ -1,11 +1,11 @@
 -- The row in which a search begins.
-use Rattle.std.proofs.Common.{◌≡◌, ℕ, zero, suc, ◌+◌, ◌<◌, ◌≤◌, List, [], ◌∷◌, length, refl, sym, ◌∙◌, ap, subst, inl, inr, arith}
-use Rattle.std.specs.Prelude.{Bool, true, false, Option, Some, None, slice_get, if◌then◌else◌}
+use Rattle.std.proofs.Common.{◌≡◌, ℕ, zero, suc, ◌+◌, ◌≤◌, List, [], ◌∷◌, length, refl, sym, ◌∙◌, ap, subst, inl, inr, arith}
+use Rattle.std.specs.Prelude.{true, Option, Some, None, slice_get, if◌then◌else◌}
 use Rattle.rx_model.specs.Search.{Anchor, free, anchored, anchored_to}
 use Rattle.rx_model.proofs.lemmas.runs.FirstLemmas.{none-is-some, some-is, tells}
 use Rattle.rx_nfa.specs.NextMatch.{start_of}
 use Rattle.rx_onepass_table.specs.Rows.{IsRowOf}
-use Rattle.rx_onepass_build.specs.Build.{IsStartAt, start_count}
+use Rattle.rx_onepass_build.specs.Build.{IsStartAt}
 use Rattle.rx_onepass_build.specs.Config.{each_of}
 use Rattle.rx_onepass_build.proofs.lemmas.ListLemmas.{get-within}
 use Rattle.rx_onepass.specs.Dfa.{Dfa, IsSound}

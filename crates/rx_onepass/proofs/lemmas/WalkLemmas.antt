@@ -1,11 +1,10 @@
 -- Where the walk along a table ends.
-use Rattle.std.proofs.Common.{◌≡◌, ◌⊎◌, ℕ, zero, suc, ◌+◌, ◌<◌, ◌≤◌, List, ◌++◌, length, refl, sym, ◌∙◌, ap, inl, inr, arith, true≢false, slice_index}
+use Rattle.std.proofs.Common.{◌≡◌, ◌⊎◌, ℕ, zero, suc, ◌+◌, ◌≤◌, List, refl, sym, ap, inl, inr, arith, true≢false, slice_index}
 use Rattle.std.specs.Prelude.{Bool, true, false, ◌&&◌, Option, Some, None, option_map, is_some}
 use Rattle.std.specs.Option.{option_or}
 use Rattle.rx_model.specs.Runs.{Trace, Sieve, sifted}
 use Rattle.rx_model.proofs.lemmas.runs.RunLemmas.{by_test}
 use Rattle.rx_model.proofs.lemmas.runs.FirstLemmas.{none-is-some, some-is}
-use Rattle.rx_search.specs.Matches.{MatchValue}
 use Rattle.rx_nfa.specs.Nfa.{Nfa}
 use Rattle.rx_onepass_table.specs.Along.{all_hold, written_at, with_writes, trace_of, told_here, preferred, goes_on, told_later, walk, BothTellSame}
 use Rattle.rx_onepass_table.specs.Rows.{TableValue, step_in, final_in}
