@@ -7,3 +7,4 @@ pub mod NextLemmas
 pub mod AgreeLemmas
 pub mod AnchorLemmas
 pub mod PlaceLemmas
+pub mod CallLemmas

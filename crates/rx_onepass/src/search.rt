@@ -27,8 +27,7 @@ impl DFA {
             return false;
         }
         match self.start_row(taken(input.get_anchored())) {
-            Ok(Some(row)) => self.meets(cache, input, row),
-            Ok(None) => false,
+            Ok(start) => self.meets_at(cache, input, start),
             Err(_) => false,
         }
     }
@@ -93,9 +92,13 @@ impl DFA {
         ensures cache { cache.new ≡ cache.old }
     {
         captures.set_pattern(None);
-        let pattern = self.try_search_slots(cache, input, captures.slots_mut())?;
-        captures.set_pattern(pattern);
-        Ok(())
+        match self.try_search_slots(cache, input, captures.slots_mut()) {
+            Ok(pattern) => {
+                captures.set_pattern(pattern);
+                Ok(())
+            }
+            Err(error) => Err(error),
+        }
     }
 
     /// The pattern of the match that starts where the input's span does: under `LeftmostFirst` the next match, and under `All` that
@@ -152,10 +155,10 @@ impl DFA {
         if input.is_done() {
             return Ok(None);
         }
-        let Some(row) = self.start_row(input.get_anchored())? else {
-            return Ok(None);
-        };
-        Ok(self.find_from(cache, input, row, slots))
+        match self.start_row(input.get_anchored()) {
+            Ok(start) => Ok(self.find_at(cache, input, start, slots)),
+            Err(error) => Err(error),
+        }
     }
 }
 

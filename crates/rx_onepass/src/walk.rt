@@ -51,8 +51,30 @@ impl DFA {
         self.built.starts.get(place).copied()
     }
 
-    /// The match from this row, with its slots, of which none has a place before.
-    pub(crate) fn find_from(
+    /// The match from where a search starts, if it starts anywhere, with its slots, of which none has a place before.
+    pub(crate) fn find_at(
+        &self,
+        cache: &mut Cache,
+        input: &Input<'_>,
+        start: Option<usize>,
+        slots: &mut [Option<NonMaxUsize>],
+    ) -> Option<Match>
+        requires fits { Fits self.now.nfa cache.old }
+        requires in_order { input.now.start ≤ input.now.end }
+        requires row { IsStartRow self.now input.now.anchor start }
+        requires empty { slots.old ≡ replicate (length slots.old) None }
+        ensures found { IsFound self.now input.now result slots.new }
+        ensures room { length slots.new ≡ length slots.old }
+        ensures cache { cache.new ≡ cache.old }
+    {
+        match start {
+            Some(row) => self.find_from(cache, input, row, slots),
+            None => None,
+        }
+    }
+
+    /// The same, from this row.
+    fn find_from(
         &self,
         cache: &mut Cache,
         input: &Input<'_>,
@@ -76,16 +98,30 @@ impl DFA {
             empty(slots);
             return None;
         };
-        let span = Span {
-            start: input.start(),
-            end: half.offset(),
-        };
-        tell_span(slots, half.pattern(), span);
-        Some(Match::new(half.pattern(), span))
+        Some(tell_match(slots, input.start(), half))
     }
 
-    /// Whether there is a match from this row. It stops at the first that it meets.
-    pub(crate) fn meets(&self, cache: &mut Cache, input: &Input<'_>, row: usize) -> bool
+    /// Whether there is a match from where a search starts, if it starts anywhere. It stops at the first that it meets.
+    pub(crate) fn meets_at(
+        &self,
+        cache: &mut Cache,
+        input: &Input<'_>,
+        start: Option<usize>,
+    ) -> bool
+        requires fits { Fits self.now.nfa cache.old }
+        requires in_order { input.now.start ≤ input.now.end }
+        requires row { IsStartRow self.now (taken_as input.now.anchor) start }
+        ensures value { result ≡ is_some (run_in self.now input.now) }
+        ensures cache { cache.new ≡ cache.old }
+    {
+        match start {
+            Some(row) => self.meets(cache, input, row),
+            None => false,
+        }
+    }
+
+    /// The same, from this row.
+    fn meets(&self, cache: &mut Cache, input: &Input<'_>, row: usize) -> bool
         requires fits { Fits self.now.nfa cache.old }
         requires in_order { input.now.start ≤ input.now.end }
         requires row { IsStartRow self.now (taken_as input.now.anchor) (Some row) }
@@ -97,7 +133,8 @@ impl DFA {
         }
         let mut any = input.clone();
         any.set_earliest(true);
-        cache.walk(self, &any, row, &mut []).is_some()
+        let met = cache.walk(self, &any, row, &mut []);
+        met.is_some()
     }
 
     // An anchored search has no other start, so the answer stands without a premise on the haystack.
@@ -107,6 +144,7 @@ impl DFA {
         ensures value { result ≡ is_permitted self.now.nfa.utf8 input.now.haystack input.now.start }
         ensures in_range { IsInRange self.now.nfa }
         ensures bytes { HasBytes input.now }
+        ensures short { input.now.end < usize.MAX }
     {
         // That the parts of the NFA fit together is what this call ensures.
         let _states = self.nfa.states_len();
@@ -167,6 +205,23 @@ pub(crate) fn empty(slots: &mut [Option<NonMaxUsize>])
     for i in 0..slots.len() {
         slots[i] = None;
     }
+}
+
+/// The whole match from this place on. Its span is put into the slots of its pattern, as far as there is room.
+fn tell_match(slots: &mut [Option<NonMaxUsize>], start: usize, half: HalfMatch) -> Match
+    requires in_order { start ≤ half.offset }
+    requires short { half.offset < usize.MAX }
+    ensures value { result ≡ record { pattern = half.pattern; start = start; end = half.offset } }
+    ensures slots { slots.new
+        ≡ slice_set (slice_set slots.old (2 * half.pattern) (Some start)) (2 * half.pattern + 1) (Some half.offset) }
+{
+    let pattern = half.pattern();
+    let span = Span {
+        start,
+        end: half.offset(),
+    };
+    tell_span(slots, pattern, span);
+    Match::new(pattern, span)
 }
 
 /// Puts the span of the whole match into the slots of its pattern, as far as there is room.
