@@ -1,6 +1,7 @@
 //! A search from a row of the table.
-ghost use Rattle.std.specs.Prelude.{◌≡◌, ◌≤◌, ◌<◌, ◌+◌, ◌*◌, ℕ, length, replicate, is_some, Some, None, IfOk, IfErr, OnOk, slice_set, slice_get, false};
+ghost use Rattle.std.specs.Prelude.{◌≡◌, ◌≤◌, ◌<◌, ◌+◌, ◌*◌, ℕ, length, replicate, is_some, Some, None, IfOk, IfErr, OnOk, slice_set, slice_get, slice_index};
 ghost use Rattle.rx_search.specs.Anchored.{anchor_of};
+ghost use Rattle.rx_search.specs.Input.{is_char_boundary};
 ghost use Rattle.rx_onepass.specs.Dfa.{Fits, IsSound, explicit_slots};
 ghost use Rattle.rx_onepass_table.specs.Entry.{explicit_start};
 ghost use Rattle.rx_model.specs.Search.{is_permitted};
@@ -13,6 +14,7 @@ use crate::cache::Cache;
 use crate::dfa::DFA;
 use rx_search::{
     Anchored, HalfMatch, Input, Match, MatchError, MatchKind, NonMaxUsize, PatternID, Span,
+    is_character_boundary,
 };
 
 impl DFA {
@@ -148,11 +150,12 @@ impl DFA {
     {
         // That the parts of the NFA fit together is what this call ensures.
         let _states = self.nfa.states_len();
-        let _haystack = input.haystack();
+        let haystack = input.haystack();
+        let between = is_between(haystack, input.start());
         if !self.nfa.is_utf8() {
             return true;
         }
-        input.is_char_boundary(input.start())
+        between
     }
 
     /// The walk from this row; explicit slots are put into those behind the implicit ones, as far as there is room.
@@ -196,6 +199,16 @@ impl DFA {
     {
         self.nfa.slot_len().saturating_sub(self.explicit_start())
     }
+}
+
+// That bytes are below 256 is known where the haystack is lent, and handed on from here.
+/// Whether the place lies between two characters of the haystack.
+fn is_between(haystack: &[u8], at: usize) -> bool
+    requires { (k : ℕ) → slice_index haystack.now k < 256 }
+    ensures value { result ≡ is_char_boundary haystack.now at }
+    ensures bytes { (k : ℕ) → slice_index haystack.now k < 256 }
+{
+    is_character_boundary(haystack, at)
 }
 
 /// Leaves None in each slot.

@@ -14,9 +14,9 @@ use Rattle.rx_onepass.specs.Dfa.{Dfa}
 use Rattle.rx_onepass.specs.Search.{taken_as, run_of, may_start, run_in, match_from, AreSlotsOf, IsFound, IsTold, IsUnsupported, IsRefusal}
 
 -- the input, if any match will do or not
-pub found-exact : (d : Dfa) (v : InputValue) (yes : Bool) (found : Option MatchValue) (slots : List (Option ℕ))
-    → IsFound d (record v { earliest = yes }) found slots → IsFound d v found slots
-found-exact d v yes found slots x = record { value = x.value; slots_are = x.slots_are; none = x.none; within = x.within }
+pub found-exact : (d : Dfa) (v : InputValue) (any : Bool) (found : Option MatchValue) (slots : List (Option ℕ))
+    → IsFound d (record v { earliest = any }) found slots → IsFound d v found slots
+found-exact d v any found slots x = record { value = x.value; slots_are = x.slots_are; none = x.none; within = x.within }
 
 pub taken-twice : (a : Anchor) → taken_as (taken_as a) ≡ taken_as a
 taken-twice free = refl

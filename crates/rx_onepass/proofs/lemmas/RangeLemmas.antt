@@ -22,6 +22,7 @@ module _ (old out new : List (Option ℕ)) (first count : ℕ) (long : length ou
 
   before : (i : ℕ) → i < first → slice_index_or new i None ≡ slice_index_or old i None
   before i lt =
+      let long = front in
       ap (λ xs. slice_index_or xs i None) is
       ∙ get_or_append_left (take first old) (out ++ drop (first + count) old) None i (omega arith)
       ∙ get_or-take first old i None lt
@@ -50,15 +51,15 @@ module _ (old out new : List (Option ℕ)) (first count : ℕ) (long : length ou
     told =
         subst (λ w. IsAnswer d.nfa v.earliest (walk d.nfa d.table w everywhere v.haystack (v.end - v.start) v.start row) found out) wins_is answer
 
-    slot : (t : Trace) → AreWritten d.nfa t.writes out → (k slot : ℕ) → IsSlotAt d new k slot → slice_index_or new slot None ≡ last_write t.writes slot
-    slot t written k slot at =
+    slot-at : (t : Trace) → AreWritten d.nfa t.writes out → (k slot : ℕ) → IsSlotAt d new k slot → slice_index_or new slot None ≡ last_write t.writes slot
+    slot-at t written k place_of at =
         let place = at.is in
         let few = at.explicit in
         let there = at.there in
         let start : first ≡ explicit_start d.nfa = omega arith in
         let lt : k < count = omega arith in
-        let same : slot - first ≡ k = omega arith in
-        within slot (omega arith) (omega arith)
+        let same : place_of - first ≡ k = omega arith in
+        within place_of (omega arith) (omega arith)
         ∙ ap (λ j. slice_index_or out j None) same
         ∙ written k (omega arith) ∙ ap (last_write t.writes) (sym place)
 
@@ -66,7 +67,7 @@ module _ (old out new : List (Option ℕ)) (first count : ℕ) (long : length ou
         → IfSome o (λ t. (k slot : ℕ) → IsSlotAt d new k slot → slice_index_or new slot None ≡ last_write t.writes slot)
     slots calm None e = tt
     slots calm (Some t) e =
-        slot t (subst (λ o. IfSome o (λ u. AreWritten d.nfa u.writes out)) (sym e) (told.slots calm))
+        slot-at t (subst (λ o. IfSome o (λ u. AreWritten d.nfa u.writes out)) (sym e) (told.slots calm))
 
     pub walked-of : IsWalked d v row old found new
     walked-of = record {

@@ -53,11 +53,11 @@ module _ (d : Dfa) (v : InputValue) (range : IsInRange d.nfa) (in_order : v.star
 -- Where there is no run.
 
 pub run-not-permitted : (d : Dfa) (v : InputValue) → is_permitted d.nfa.utf8 v.haystack v.start ≡ false → run_in d v ≡ None
-run-not-permitted d v no = by_le (nat_le v.start v.end)
+run-not-permitted d v refused = by_le (nat_le v.start v.end)
   where
     by_le : (le : Bool) → (if le && is_permitted d.nfa.utf8 v.haystack v.start then run_of (kind_of d.config) d.nfa v.haystack v.end
         (start_of d.nfa (taken_as v.anchor)) v.start else None) ≡ None
-    by_le true = rw no refl
+    by_le true = rw refused refl
     by_le false = refl
 
 pub run-done : (d : Dfa) (v : InputValue) → v.end < v.start → run_in d v ≡ None

@@ -30,10 +30,10 @@ module _ (d : Dfa) (s : IsSound d) where
     inside = (let is = r.row_is in let rows = s.rows in let within = get-within s.entries r.before q r.there in omega arith);
   }
 
-  start-at : (anchor : Anchor) (place q : ℕ) (found : Option ℕ) → found ≡ slice_get d.starts place → IsStartAt s.entries d.starts place q
-      → start_of d.nfa (taken_as anchor) ≡ Some q → IsStartRow d anchor found
-  start-at anchor place q None is at from = none-is-some (is ∙ at.there)
-  start-at anchor place q (Some row) is at from =
+  start-at : (mode : Anchor) (place q : ℕ) (found : Option ℕ) → found ≡ slice_get d.starts place → IsStartAt s.entries d.starts place q
+      → start_of d.nfa (taken_as mode) ≡ Some q → IsStartRow d mode found
+  start-at mode place q None is at from = none-is-some (is ∙ at.there)
+  start-at mode place q (Some row) is at from =
       (q, from, belongs row q (subst (λ r. IsRowOf s.entries r q) (some-is (sym at.there ∙ sym is)) at.is))
 
   pub start-anchored : (found : Option ℕ) → found ≡ slice_get d.starts 0 → IsStartRow d anchored found
@@ -44,10 +44,11 @@ module _ (d : Dfa) (s : IsSound d) where
 
   pub start-each : each_of d.config ≡ true → (p : ℕ) (found : Option ℕ) → found ≡ slice_get d.starts (1 + p) → IsStartRow d (anchored_to p) found
   start-each each p found is =
+      let next : 1 + p ≡ suc p = omega arith in
       elim (tells (slice_get d.nfa.starts p)) [
         | inl none ↦
             let count : length d.starts ≡ 1 + length d.nfa.starts = s.starts_are.count ∙ ap (λ b. if b then 1 + length d.nfa.starts else 1) each in
             let past = get-none d.nfa.starts p none in
             subst (λ o. IsStartRow d (anchored_to p) o) (sym (is ∙ get-past d.starts (1 + p) (omega arith))) none
-        | inr some ↦ start-at (anchored_to p) (suc p) some.0 found is (s.starts_are.of_each p some.0 each some.1) some.1
+        | inr some ↦ start-at (anchored_to p) (suc p) some.0 found (is ∙ ap (slice_get d.starts) next) (s.starts_are.of_each p some.0 each some.1) some.1
       ]

@@ -2,7 +2,7 @@ use Rattle.std.proofs.Common.{length, sym, subst}
 use Rattle.rx_onepass.specs.Search.{IsStartRow}
 use Rattle.rx_onepass.proofs.lemmas.RunLemmas.{run-done}
 use Rattle.rx_onepass.proofs.lemmas.SlotLemmas.{found-none}
-use Rattle.rx_onepass.proofs.search.DFA.try_find_slots.Goals as goal
+use Rattle.rx_onepass.proofs.dfa.DFA.try_find_slots.Goals as goal
 
 pub returns-then-is_done-clause-found : goal.returns-then-is_done-clause-found
 returns-then-is_done-clause-found c =

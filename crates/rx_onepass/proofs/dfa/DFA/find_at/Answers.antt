@@ -2,7 +2,7 @@ use Rattle.std.proofs.Common.{length, subst}
 use Rattle.rx_onepass.specs.Search.{IsStartRow}
 use Rattle.rx_onepass.proofs.lemmas.RunLemmas.{run-unknown}
 use Rattle.rx_onepass.proofs.lemmas.SlotLemmas.{found-none}
-use Rattle.rx_onepass.proofs.walk.DFA.find_at.Goals as goal
+use Rattle.rx_onepass.proofs.dfa.DFA.find_at.Goals as goal
 
 pub find_from-requires-clause-row : goal.find_from-requires-clause-row
 find_from-requires-clause-row c = subst (IsStartRow c.args.self.now c.args.input.now.anchor) c.in-Some.is c.requires.row

@@ -8,7 +8,7 @@ use Rattle.rx_onepass.specs.Walked.{told_from}
 use Rattle.rx_onepass.proofs.lemmas.CallLemmas.{taken-twice}
 use Rattle.rx_onepass.proofs.lemmas.RunLemmas.{run-told, run-not-permitted}
 use Rattle.rx_onepass.proofs.lemmas.WalkLemmas.{same-some}
-use Rattle.rx_onepass.proofs.walk.DFA.meets.Goals as goal
+use Rattle.rx_onepass.proofs.dfa.DFA.meets.Goals as goal
 
 pub returns-then-not-may_start-clause-value : goal.returns-then-not-may_start-clause-value
 returns-then-not-may_start-clause-value c =

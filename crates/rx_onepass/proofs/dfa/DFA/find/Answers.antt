@@ -2,7 +2,7 @@ use Rattle.std.proofs.Common.{subst}
 use Rattle.rx_search.specs.Input.{InputValue}
 use Rattle.rx_onepass.specs.Search.{IsFound, IsRefusal}
 use Rattle.rx_onepass.proofs.lemmas.CallLemmas.{value-taken, within-taken, not-refused}
-use Rattle.rx_onepass.proofs.search.DFA.find.Goals as goal
+use Rattle.rx_onepass.proofs.dfa.DFA.find.Goals as goal
 
 pub returns-in-Ok-clause-value : goal.returns-in-Ok-clause-value
 returns-in-Ok-clause-value c =

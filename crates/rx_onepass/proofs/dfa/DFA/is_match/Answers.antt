@@ -3,7 +3,7 @@ use Rattle.std.specs.Prelude.{is_some}
 use Rattle.rx_onepass.specs.Search.{taken_as, IsStartRow, IsUnsupported}
 use Rattle.rx_onepass.proofs.lemmas.CallLemmas.{not-unsupported}
 use Rattle.rx_onepass.proofs.lemmas.RunLemmas.{run-done}
-use Rattle.rx_onepass.proofs.search.DFA.is_match.Goals as goal
+use Rattle.rx_onepass.proofs.dfa.DFA.is_match.Goals as goal
 
 pub returns-then-is_done-clause-value : goal.returns-then-is_done-clause-value
 returns-then-is_done-clause-value c = sym (ap is_some (run-done c.args.self.now c.args.input.now (c.is_done.ensures.0 c.if-is_done.true)))

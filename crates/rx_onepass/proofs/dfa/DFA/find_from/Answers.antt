@@ -8,7 +8,7 @@ use Rattle.rx_onepass.specs.Walked.{told_from, IsWalked}
 use Rattle.rx_onepass.proofs.lemmas.CallLemmas.{found-exact}
 use Rattle.rx_onepass.proofs.lemmas.RunLemmas.{run-told, run-not-permitted}
 use Rattle.rx_onepass.proofs.lemmas.SlotLemmas.{found-none, told-none, hit-within, found-some}
-use Rattle.rx_onepass.proofs.walk.DFA.find_from.Goals as goal
+use Rattle.rx_onepass.proofs.dfa.DFA.find_from.Goals as goal
 
 pub returns-then-not-may_start-clause-found : goal.returns-then-not-may_start-clause-found
 returns-then-not-may_start-clause-found c =

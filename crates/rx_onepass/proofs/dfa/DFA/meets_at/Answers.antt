@@ -4,7 +4,7 @@ use Rattle.rx_nfa.specs.NextMatch.{start_of}
 use Rattle.rx_onepass.specs.Search.{IsStartRow, taken_as}
 use Rattle.rx_onepass.proofs.lemmas.CallLemmas.{taken-twice}
 use Rattle.rx_onepass.proofs.lemmas.RunLemmas.{run-unknown}
-use Rattle.rx_onepass.proofs.walk.DFA.meets_at.Goals as goal
+use Rattle.rx_onepass.proofs.dfa.DFA.meets_at.Goals as goal
 
 pub meets-requires-clause-row : goal.meets-requires-clause-row
 meets-requires-clause-row c = subst (IsStartRow c.args.self.now (taken_as c.args.input.now.anchor)) c.in-Some.is c.requires.row
