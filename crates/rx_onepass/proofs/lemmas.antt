@@ -8,3 +8,4 @@ pub mod AgreeLemmas
 pub mod AnchorLemmas
 pub mod PlaceLemmas
 pub mod CallLemmas
+pub mod SizeLemmas

@@ -1,5 +1,5 @@
 //! What a search writes to.
-ghost use Rattle.std.specs.Prelude.{◌≡◌, ◌*◌, ◌-◌, ◌≤◌, ◌<◌, ◌^◌, length, IfOk, OnOk, OnErr, IsOk};
+ghost use Rattle.std.specs.Prelude.{◌≡◌, ◌*◌, ◌-◌, ◌≤◌, ◌<◌, ◌^◌, length, min, IfOk, OnOk, OnErr, IsOk};
 ghost use Rattle.rx_onepass.specs.Dfa.{explicit_slots, Fits};
 ghost use Rattle.rx_onepass.specs.Walked.{IsWalked};
 
@@ -73,11 +73,11 @@ impl Cache {
         dfa.walk(self.slots.as_mut_slice(), input, row, slots)
     }
 
-    /// The bytes that are accounted for the cache: 8 for each explicit slot.
+    /// The bytes that are accounted for the cache: 8 for each explicit slot, or the greatest `usize` where they are more.
     pub fn memory_usage(&self) -> usize
-        ensures { result ≡ 8 * self.now }
+        ensures { result ≡ min (2 ^ 64 - 1) (8 * self.now) }
     {
-        SLOT_SIZE * self.slots.len()
+        SLOT_SIZE.saturating_mul(self.slots.len())
     }
 
     /// A cache of its own with as many slots.

@@ -1,5 +1,5 @@
 //! The one-pass DFA: its table, and what it tells of itself.
-ghost use Rattle.std.specs.Prelude.{◌≡◌, ◌+◌, ◌*◌, length, [], ◌∷◌, None, replicate, IfOk, OnOk, OnErr, IfErr};
+ghost use Rattle.std.specs.Prelude.{◌≡◌, ◌+◌, ◌*◌, ◌^◌, ◌≤◌, length, [], ◌∷◌, None, replicate, IfOk, OnOk, OnErr, IfErr};
 ghost use Rattle.rx_model.specs.Expression.{empty};
 ghost use Rattle.rx_search.specs.ByteClasses.{alphabet_len, class_count, IsLeastPower};
 ghost use Rattle.rx_search.specs.GroupInfo.{slot_count};
@@ -184,7 +184,23 @@ impl DFA {
     pub fn memory_usage(&self) -> usize
         ensures { result ≡ 8 * length self.now.table.cells + 4 * length self.now.starts }
     {
-        8 * self.built.table.len() + 4 * self.built.starts.len()
+        8 * self.cells() + 4 * self.start_len()
+    }
+
+    /// How many cells the table has.
+    fn cells(&self) -> usize
+        ensures value { result ≡ length self.now.table.cells }
+        ensures small { result ≤ 2 ^ 30 }
+    {
+        self.built.table.len()
+    }
+
+    /// How many starts there are.
+    fn start_len(&self) -> usize
+        ensures value { result ≡ length self.now.starts }
+        ensures small { result ≤ 2 ^ 22 }
+    {
+        self.built.starts.len()
     }
 
     /// The same automaton once more. The NFA is shared.

@@ -8,7 +8,7 @@ ghost use Rattle.rx_model.specs.Search.{is_permitted};
 ghost use Rattle.rx_nfa.specs.Nfa.{IsInRange};
 ghost use Rattle.rx_onepass.specs.Search.{HasBytes, run_in, IsFound, IsStartRow, IsUnsupported, taken_as};
 ghost use Rattle.rx_search.specs.declared.match_error.MatchError.TheVariants.{UnsupportedAnchored as Unsupported};
-ghost use Rattle.rx_onepass.specs.Walked.{IsWalked};
+ghost use Rattle.rx_onepass.specs.Walked.{IsWalked, may_win};
 
 use crate::cache::Cache;
 use crate::dfa::DFA;
@@ -50,7 +50,11 @@ impl DFA {
         ensures value { result ≡ slice_get self.now.starts place }
         ensures sound { IsSound self.now }
     {
-        self.built.starts.get(place).copied()
+        let starts = &self.built.starts;
+        if place < starts.len() {
+            return Some(starts[place]);
+        }
+        None
     }
 
     /// The match from where a search starts, if it starts anywhere, with its slots, of which none has a place before.
@@ -175,7 +179,7 @@ impl DFA {
     {
         let first = self.explicit_start().min(slots.len());
         let count = self.explicit_slots().min(slots.len() - first);
-        let may_win = self.config.get_match_kind() == MatchKind::LeftmostFirst;
+        let may_win = may_win(self.config.get_match_kind());
         self.built.table.walk(
             &self.nfa,
             may_win,
@@ -198,6 +202,16 @@ impl DFA {
         ensures { result ≡ explicit_slots self.now.nfa }
     {
         self.nfa.slot_len().saturating_sub(self.explicit_start())
+    }
+}
+
+/// Whether a match may be preferred to what comes later.
+fn may_win(kind: MatchKind) -> bool
+    ensures { result ≡ may_win kind }
+{
+    match kind {
+        MatchKind::LeftmostFirst => true,
+        MatchKind::All => false,
     }
 }
 

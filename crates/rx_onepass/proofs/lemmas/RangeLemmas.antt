@@ -1,5 +1,5 @@
 -- Slots of which a range was lent.
-use Rattle.std.proofs.Common.{◌≡◌, ℕ, ◌+◌, ◌-◌, ◌<◌, ◌≤◌, List, ◌++◌, length, take, drop, min, refl, sym, ◌∙◌, ap, subst, arith}
+use Rattle.std.proofs.Common.{◌≡◌, ℕ, ◌+◌, ◌-◌, ◌<◌, ◌≤◌, List, ◌++◌, length, take, drop, min, length-append, length-drop, refl, sym, ◌∙◌, ap, subst, arith}
 use Rattle.std.specs.Prelude.{Bool, false, Option, Some, None, IfSome, nat_lt, slice_index_or}
 use Rattle.std.proofs.lemmas.Bool.Decides.{nat_tests}
 use Rattle.std.proofs.lemmas.List.{get_or_append_left, get_or-append_right, get_or-take, get_or-drop, get_or_past, length-take-le}
@@ -15,38 +15,48 @@ use Rattle.rx_onepass.specs.Dfa.{Dfa, explicit_slots}
 use Rattle.rx_onepass.specs.Walked.{may_win, told_from, IsSlotAt, IsWalked}
 
 -- the slots from `first` on, as many as in `out`, are those
-module _ (old out new : List (Option ℕ)) (first count : ℕ) (long : length out ≡ count) (inside : first + count ≤ length old)
-    (is : new ≡ take first old ++ (out ++ drop (first + count) old)) where
+module _ (old out new : List (Option ℕ)) (first count n : ℕ) (long : length out ≡ count) (inside : first + count ≤ length old) (n_is : n ≡ count)
+    (is : new ≡ take first old ++ (out ++ drop n (drop first old))) where
   front : length (take first old) ≡ first
   front = length-take-le first old (omega arith)
 
+  room : length new ≡ length old
+  room =
+      let whole = ap length is in
+      let parts = length-append (take first old) (out ++ drop n (drop first old)) in
+      let rest = length-append out (drop n (drop first old)) in
+      let past = length-drop n (drop first old) in
+      let behind_first = length-drop first old in
+      let long_front = front in
+      omega arith
+
   before : (i : ℕ) → i < first → slice_index_or new i None ≡ slice_index_or old i None
   before i lt =
-      let long = front in
+      let long_front = front in
       ap (λ xs. slice_index_or xs i None) is
-      ∙ get_or_append_left (take first old) (out ++ drop (first + count) old) None i (omega arith)
+      ∙ get_or_append_left (take first old) (out ++ drop n (drop first old)) None i (omega arith)
       ∙ get_or-take first old i None lt
 
-  behind : (i : ℕ) → first ≤ i → slice_index_or new i None ≡ slice_index_or (out ++ drop (first + count) old) (i - first) None
+  behind : (i : ℕ) → first ≤ i → slice_index_or new i None ≡ slice_index_or (out ++ drop n (drop first old)) (i - first) None
   behind i le =
       ap (λ xs. slice_index_or xs i None) is
-      ∙ get_or-append_right (take first old) (out ++ drop (first + count) old) first i None front le
+      ∙ get_or-append_right (take first old) (out ++ drop n (drop first old)) first i None front le
 
   within : (i : ℕ) → first ≤ i → i < first + count → slice_index_or new i None ≡ slice_index_or out (i - first) None
-  within i le lt = behind i le ∙ get_or_append_left out (drop (first + count) old) None (i - first) (omega arith)
+  within i le lt = behind i le ∙ get_or_append_left out (drop n (drop first old)) None (i - first) (omega arith)
 
   after : (i : ℕ) → first + count ≤ i → slice_index_or new i None ≡ slice_index_or old i None
   after i le =
-      let place : first + count + (i - first - count) ≡ i = omega arith in
+      let place : first + (n + (i - first - count)) ≡ i = omega arith in
       behind i (omega arith)
-      ∙ get_or-append_right out (drop (first + count) old) count (i - first) None long (omega arith)
-      ∙ get_or-drop (first + count) old (i - first - count) None
+      ∙ get_or-append_right out (drop n (drop first old)) count (i - first) None long (omega arith)
+      ∙ get_or-drop n (drop first old) (i - first - count) None
+      ∙ get_or-drop first old (n + (i - first - count)) None
       ∙ ap (λ j. slice_index_or old j None) place
 
   module _ (d : Dfa) (v : InputValue) (row : ℕ) (wins : Bool) (found : Option HalfMatchValue) (wins_is : wins ≡ may_win (kind_of d.config))
       (answer : IsAnswer d.nfa v.earliest (walk d.nfa d.table wins everywhere v.haystack (v.end - v.start) v.start row) found out)
-      (first_is : first ≡ min (explicit_start d.nfa) (length old)) (count_is : count ≡ min (explicit_slots d.nfa) (length old - first))
-      (room : length new ≡ length old) where
+      (first_is : first ≡ min (explicit_start d.nfa) (length old)) (count_is : count ≡ min (explicit_slots d.nfa) (length old - first)) where
     told : IsAnswer d.nfa v.earliest (told_from d v row) found out
     told =
         subst (λ w. IsAnswer d.nfa v.earliest (walk d.nfa d.table w everywhere v.haystack (v.end - v.start) v.start row) found out) wins_is answer
@@ -56,6 +66,7 @@ module _ (old out new : List (Option ℕ)) (first count : ℕ) (long : length ou
         let place = at.is in
         let few = at.explicit in
         let there = at.there in
+        let same_room = room in
         let start : first ≡ explicit_start d.nfa = omega arith in
         let lt : k < count = omega arith in
         let same : place_of - first ≡ k = omega arith in
@@ -85,4 +96,5 @@ module _ (old out new : List (Option ℕ)) (first count : ℕ) (long : length ou
             (λ e.
             let le : first ≤ s = grind (arith, nat_tests) in
             let past : length old ≤ s = omega arith in
+            let same_room = room in
             get_or_past new s None (omega arith) ∙ sym (get_or_past old s None past))

@@ -14,13 +14,13 @@ pub returns-then-not-may_start-clause-value : goal.returns-then-not-may_start-cl
 returns-then-not-may_start-clause-value c =
     sym (ap is_some (run-not-permitted c.args.self.now c.args.input.now (sym c.may_start.ensures.value ∙ c.if-not-may_start.true)))
 
-pub walk-requires-clause-in_order : goal.walk-requires-clause-in_order
-walk-requires-clause-in_order c =
+pub walk-met-requires-clause-in_order : goal.walk-met-requires-clause-in_order
+walk-met-requires-clause-in_order c =
     let same = c.set_earliest.ensures ∙ ap (λ (x : InputValue). record x { earliest = true }) c.clone-any.ensures.value in
     subst (λ (x : InputValue). x.start ≤ x.end) (sym same) c.requires.in_order
 
-pub walk-requires-clause-row : goal.walk-requires-clause-row
-walk-requires-clause-row c = c.requires.row.2.inside
+pub walk-met-requires-clause-row : goal.walk-met-requires-clause-row
+walk-met-requires-clause-row c = c.requires.row.2.inside
 
 pub returns-clause-value : goal.returns-clause-value
 returns-clause-value c =
