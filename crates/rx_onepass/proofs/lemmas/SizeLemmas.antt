@@ -1,6 +1,6 @@
 -- How large a table and its starts are.
-use Rattle.std.proofs.Common.{◌≡◌, ℕ, zero, suc, ◌+◌, ◌*◌, ◌^◌, ◌≤◌, List, length, sym, ◌∙◌, ap, subst, inl, inr, arith, slice_index}
-use Rattle.std.specs.Prelude.{true, false, Bool, if◌then◌else◌}
+use Rattle.std.proofs.Common.{◌≡◌, ℕ, zero, suc, ◌+◌, ◌^◌, ◌≤◌, List, length, ap, inl, inr, arith, slice_index}
+use Rattle.std.specs.Prelude.{true, false, Bool}
 use Rattle.rx_search.specs.ByteClasses.{AreClasses, alphabet_len}
 use Rattle.rx_nfa.specs.Nfa.{Nfa}
 use Rattle.rx_onepass_table.specs.Rows.{IsWhole}

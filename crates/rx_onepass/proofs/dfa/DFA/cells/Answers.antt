@@ -1,4 +1,4 @@
-use Rattle.std.proofs.Common.{◌≤◌, ◌^◌, length, ◌∙◌, ap, subst, arith}
+use Rattle.std.proofs.Common.{length, ◌∙◌, ap, subst, arith}
 use Rattle.rx_onepass_table.specs.Rows.{IsWhole}
 use Rattle.rx_onepass.specs.Dfa.{Dfa, IsSound}
 use Rattle.rx_onepass.proofs.lemmas.SizeLemmas.{few-cells}

@@ -1,5 +1,4 @@
-use Rattle.std.proofs.Common.{length, sym, subst}
-use Rattle.rx_onepass.specs.Search.{IsStartRow}
+use Rattle.std.proofs.Common.{length}
 use Rattle.rx_onepass.proofs.lemmas.RunLemmas.{run-done}
 use Rattle.rx_onepass.proofs.lemmas.SlotLemmas.{found-none}
 use Rattle.rx_onepass.proofs.dfa.DFA.try_find_slots.Goals as goal
