@@ -1,7 +1,7 @@
 //! Why there is no one-pass DFA of patterns.
 ghost use Rattle.std.specs.Prelude.{◌≡◌};
 ghost use Rattle.rx_onepass.specs.declared.build_error.BuildError.TheVariants.{Memory as OutOfMemory};
-ghost use Rattle.rx_onepass.specs.Error.{refusal_of};
+ghost use Rattle.rx_onepass.specs.Error.{error_of, refusal_of};
 
 use rx_onepass_build::{BuildError as TableError, NotOnePass};
 use rx_search::{Look, Memory};
@@ -12,6 +12,8 @@ use std::fmt;
 /// Why there is no one-pass DFA.
 #[derive(Clone, Copy, Debug, PartialEq, Eq)]
 pub enum BuildError {
+    /// There is no NFA of the patterns.
+    NFA(rx_thompson::BuildError),
     /// The NFA asks for this kind of look-around, the first that has no bit in a transition.
     UnsupportedLook { look: Look },
     /// More patterns than a table tells apart.
@@ -34,6 +36,7 @@ impl fmt::Display for BuildError {
 
     fn fmt<W: fmt::Write>(&self, f: &mut fmt::Formatter<W>) -> fmt::Result {
         match self {
+            BuildError::NFA(_) => write!(f, "error building NFA"),
             BuildError::UnsupportedLook { look } => {
                 write!(f, "{}", TableError::UnsupportedLook { look: *look })
             }
@@ -70,6 +73,17 @@ impl From<TableError> for BuildError {
             }
             TableError::NotOnePass(cause) => BuildError::NotOnePass(cause),
             TableError::Memory => BuildError::Memory,
+        }
+    }
+}
+
+impl From<rx_thompson::BuildError> for BuildError {
+    ghost from_gives = { λ cause e. e ≡ error_of cause };
+
+    fn from(error: rx_thompson::BuildError) -> BuildError {
+        match error {
+            rx_thompson::BuildError::Memory => BuildError::Memory,
+            other => BuildError::NFA(other),
         }
     }
 }

@@ -1,7 +1,9 @@
 //! How a one-pass DFA is built.
-ghost use Rattle.std.specs.Prelude.{◌≡◌, IfOk, IfErr};
+ghost use Rattle.std.specs.Prelude.{◌≡◌, ◌∷◌, [], map, IfOk, IfErr};
+ghost use Rattle.rx_reader.specs.Config.{default};
+ghost use Rattle.rx_nfa.specs.Config as nfa_configs;
 ghost use Rattle.rx_onepass_build.specs.Config.{overwritten, nothing_set};
-ghost use Rattle.rx_onepass.specs.Patterns.{IsBuiltFrom, IsRefusalFrom};
+ghost use Rattle.rx_onepass.specs.Patterns.{IsBuiltFrom, IsRefusalFrom, IsBuiltFor, IsRefusalFor};
 
 use crate::build_error::BuildError;
 use crate::dfa::DFA;
@@ -13,23 +15,46 @@ use std::alloc::Global;
 #[derive(Clone, Copy)]
 pub struct Builder {
     pub(crate) table: rx_onepass_build::Builder,
+    pub(crate) compiler: rx_thompson::Compiler,
 }
 
 impl Builder {
     /// With the default configurations.
     pub fn new() -> Builder
         ensures config { result.table.config ≡ nothing_set }
+        ensures compiler { result.compiler.nfa.config ≡ nfa_configs.nothing_set }
+        ensures syntax { result.compiler.syntax ≡ default }
     {
         Builder {
             table: rx_onepass_build::Builder::new(),
+            compiler: rx_thompson::Compiler::new(),
         }
     }
 
     /// Takes what this configuration sets, and keeps what it leaves open.
     pub fn configure(&mut self, config: Config)
         ensures config { self.new.table.config ≡ overwritten self.old.table.config config }
+        ensures compiler { self.new.compiler ≡ self.old.compiler }
     {
         self.table.configure(config);
+    }
+
+    /// Takes this configuration of the grammar, in place of the one before.
+    pub fn syntax(&mut self, config: rx_syntax::Config)
+        ensures syntax { self.new.compiler.syntax ≡ config }
+        ensures compiler { self.new.compiler.nfa ≡ self.old.compiler.nfa }
+        ensures config { self.new.table ≡ self.old.table }
+    {
+        self.compiler.syntax(config);
+    }
+
+    /// Takes what this configuration of NFAs sets, and keeps what it leaves open.
+    pub fn thompson(&mut self, config: rx_thompson::Config)
+        ensures compiler { self.new.compiler.nfa.config ≡ nfa_configs.overwritten self.old.compiler.nfa.config config }
+        ensures syntax { self.new.compiler.syntax ≡ self.old.compiler.syntax }
+        ensures config { self.new.table ≡ self.old.table }
+    {
+        self.compiler.configure(config);
     }
 
     /// The one-pass DFA of this NFA. Where it is refused, the NFA is let go.
@@ -55,5 +80,58 @@ impl Builder {
             }),
             Err(error) => Err(BuildError::from(error)),
         }
+    }
+
+    /// The one-pass DFA of one pattern, as by `build_many`.
+    ///
+    /// # Errors
+    ///
+    /// As by `build_many`.
+    pub fn build(&self, alloc: Global, pattern: &str) -> Result<DFA, BuildError>
+        ensures built { IfOk result (IsBuiltFor self.now.compiler.syntax self.now.compiler.nfa.config self.now.table.config (pattern.now ∷ [])) }
+        ensures refused { IfErr result (IsRefusalFor self.now.compiler.syntax self.now.compiler.nfa.config self.now.table.config (pattern.now ∷ [])) }
+    {
+        self.build_many(alloc, &[pattern])
+    }
+
+    /// The one-pass DFA of these patterns, which are numbered from 0 on.
+    ///
+    /// # Errors
+    ///
+    /// `NFA` where the patterns have no NFA, with the refusal of its compiler; else as by `build_from_nfa`.
+    pub fn build_many(&self, alloc: Global, patterns: &[&str]) -> Result<DFA, BuildError>
+        ensures built { IfOk result (IsBuiltFor self.now.compiler.syntax self.now.compiler.nfa.config self.now.table.config (map (λ p. p.now) patterns.now)) }
+        ensures refused { IfErr result (IsRefusalFor self.now.compiler.syntax self.now.compiler.nfa.config self.now.table.config (map (λ p. p.now) patterns.now)) }
+    {
+        match self.compiler.build_many(alloc, patterns) {
+            Ok(nfa) => self.build_from_nfa(alloc, nfa),
+            Err(error) => Err(BuildError::from(error)),
+        }
+    }
+}
+
+impl DFA {
+    /// The one-pass DFA of one pattern, by the default configurations.
+    ///
+    /// # Errors
+    ///
+    /// As by `Builder::build_many`.
+    pub fn new(alloc: Global, pattern: &str) -> Result<DFA, BuildError>
+        ensures built { IfOk result (IsBuiltFor default nfa_configs.nothing_set nothing_set (pattern.now ∷ [])) }
+        ensures refused { IfErr result (IsRefusalFor default nfa_configs.nothing_set nothing_set (pattern.now ∷ [])) }
+    {
+        Builder::new().build(alloc, pattern)
+    }
+
+    /// The one-pass DFA of these patterns, by the default configurations.
+    ///
+    /// # Errors
+    ///
+    /// As by `Builder::build_many`.
+    pub fn new_many(alloc: Global, patterns: &[&str]) -> Result<DFA, BuildError>
+        ensures built { IfOk result (IsBuiltFor default nfa_configs.nothing_set nothing_set (map (λ p. p.now) patterns.now)) }
+        ensures refused { IfErr result (IsRefusalFor default nfa_configs.nothing_set nothing_set (map (λ p. p.now) patterns.now)) }
+    {
+        Builder::new().build_many(alloc, patterns)
     }
 }

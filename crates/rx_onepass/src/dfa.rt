@@ -1,6 +1,8 @@
 //! The one-pass DFA: its table, and what it tells of itself.
 ghost use Rattle.std.specs.Prelude.{◌≡◌, ◌+◌, ◌*◌, ◌^◌, ◌≤◌, length, [], ◌∷◌, None, replicate, IfOk, OnOk, OnErr, IfErr};
 ghost use Rattle.rx_model.specs.Expression.{empty};
+ghost use Rattle.rx_reader.specs.Config.{default};
+ghost use Rattle.rx_nfa.specs.Config as nfa_configs;
 ghost use Rattle.rx_search.specs.ByteClasses.{alphabet_len, class_count, IsLeastPower};
 ghost use Rattle.rx_search.specs.GroupInfo.{slot_count};
 ghost use Rattle.rx_onepass_build.specs.Config.{nothing_set};
@@ -92,6 +94,8 @@ impl DFA {
     /// A builder with the default configurations.
     pub fn builder() -> Builder
         ensures config { result.table.config ≡ nothing_set }
+        ensures compiler { result.compiler.nfa.config ≡ nfa_configs.nothing_set }
+        ensures syntax { result.compiler.syntax ≡ default }
     {
         Builder::new()
     }
