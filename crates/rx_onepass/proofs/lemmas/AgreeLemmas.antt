@@ -1,5 +1,5 @@
 -- What a search tells, of an NFA that has the runs of patterns: a match of the patterns, with its slots.
-use Rattle.std.proofs.Common.{◌≡◌, ◌≢◌, ℕ, suc, ◌+◌, ◌-◌, ◌*◌, ◌<◌, ◌≤◌, ◌==◌, List, [], ◌∷◌, length, refl, sym, ◌∙◌, ap, subst, inl, inr, arith, true≢false}
+use Rattle.std.proofs.Common.{◌≡◌, ℕ, suc, ◌+◌, ◌*◌, ◌<◌, ◌≤◌, ◌==◌, List, [], ◌∷◌, length, refl, sym, ◌∙◌, ap, subst, inl, inr, arith, true≢false}
 use Rattle.std.specs.Prelude.{true, false, ◌&&◌, nat_le, nat_lt, Option, Some, None, option_map, is_some, unwrap_or, slice_get, slice_index, slice_index_or}
 use Rattle.std.proofs.lemmas.Bool.{eqb-true, eqb-false, and_parts}
 use Rattle.std.proofs.lemmas.Bool.Decides.{nat_tests}
@@ -9,7 +9,7 @@ use Rattle.rx_model.specs.Runs.{Configuration, PriorityGraph, Sieve, Trace, siev
 use Rattle.rx_model.specs.Search.{Anchor, free, anchored, anchored_to, Patterns, WhichCaptures, all, implicit, none, told, slot_of as first_slot, has_explicit_groups, Match, is_permitted, first_where, first_of_patterns_where, slot_value, told_of}
 use Rattle.rx_model.specs.Matches.{IsStart, IsSought, MayStart, IsMatch, part_of, runs_of_pattern}
 use Rattle.rx_model.proofs.lemmas.runs.RunLemmas.{by_test}
-use Rattle.rx_model.proofs.lemmas.runs.FirstLemmas.{some-is, none-is-some, tells, found-is_run}
+use Rattle.rx_model.proofs.lemmas.runs.FirstLemmas.{some-is, none-is-some, found-is_run}
 use Rattle.rx_model.proofs.lemmas.runs.RiseLemmas.{mapped-some}
 use Rattle.rx_model.proofs.lemmas.graphs.GraphLemmas.{runs_of-bounded}
 use Rattle.rx_model.proofs.lemmas.graphs.SieveLemmas.{sieved-bounded}

@@ -1,6 +1,6 @@
 -- What a search answers, by what it calls: whether any match will do does not matter, nor whether it was taken as anchored.
 use Rattle.std.proofs.Common.{◌≡◌, ℕ, List, length, sym, refl, ◌∙◌, ap, subst, true≢false}
-use Rattle.std.specs.Prelude.{Bool, true, false, Option, Some, None, option_map, IfSome, IfNone, replicate, if◌then◌else◌}
+use Rattle.std.specs.Prelude.{Bool, true, Option, Some, None, option_map, IfSome, IfNone, replicate, if◌then◌else◌}
 use Rattle.rx_model.specs.Runs.{Trace}
 use Rattle.rx_model.specs.Search.{Anchor, free, anchored, anchored_to}
 use Rattle.rx_search.specs.Input.{InputValue}

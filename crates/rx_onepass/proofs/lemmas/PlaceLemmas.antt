@@ -30,7 +30,7 @@ pub farthest-some : (f : ℕ → Option Trace) (n i : ℕ) (t : Trace) → farth
 unfolding farthest
 farthest-some f zero i t h = none-is-some h
 farthest-some f (suc n) i t h =
-    elim (or-cases (farthest f n (i + 1)) (f i) t h) [ | inl later ↦ farthest-some f n (i + 1) t later | inr here ↦ (i, here) ]
+    elim (or-cases (farthest f n (i + 1)) (f i) t h) [ inl later ↦ farthest-some f n (i + 1) t later | inr here ↦ (i, here) ]
 
 pub record IsRunOf (nfa : Nfa) (text : List ℕ) (end : ℕ) (start : Option ℕ) (place : ℕ) (t : Trace) : Type 0 where
   pub ok : Sieve

@@ -15,7 +15,7 @@ class-below classes are (suc b) le =
     let below = class-below classes are b (omega arith) in
     let next : b + 1 ≡ suc b = omega arith in
     let same = ap (slice_index classes) next in
-    elim (are.steps b (omega arith)) [ | inl stays ↦ omega arith | inr rises ↦ omega arith ]
+    elim (are.steps b (omega arith)) [ inl stays ↦ omega arith | inr rises ↦ omega arith ]
 
 count-few : (nfa : Nfa) (each : Bool) (n : ℕ) → length nfa.starts ≤ n → start_count nfa each ≤ n + 1
 count-few nfa true n le = omega arith

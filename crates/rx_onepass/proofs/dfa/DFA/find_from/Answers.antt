@@ -1,5 +1,5 @@
 use Rattle.std.proofs.Common.{◌≡◌, ◌≤◌, ℕ, length, refl, sym, subst, ap, ◌∙◌, arith}
-use Rattle.std.specs.Prelude.{true, false, Option, Some, ◌+◌, ◌*◌, slice_set}
+use Rattle.std.specs.Prelude.{false, Option, Some, ◌+◌, ◌*◌, slice_set}
 use Rattle.rx_search.specs.Input.{InputValue}
 use Rattle.rx_search.specs.Matches.{HalfMatchValue, MatchValue}
 use Rattle.rx_onepass_table.specs.Along.{BothTellSame}
