@@ -103,16 +103,23 @@ pub same-finds : (now first : RegexValue) (r : Patterns) (text : List ℕ) → n
 same-finds now first r text same finds = subst (λ (regex : RegexValue). FindsRows regex r text) (sym same) finds
 
 -- what the rows of a haystack became, where they are those that a search of it finds
-pub outcome-at : {V : Type 0} (Is : List RowValue → V → Type 0) (value : V) (rows : List RowValue) (now first : RegexValue) (hs : List (Bor (List ℕ))) (i : ℕ)
+outcome-at : {V : Type 0} (Is : ℕ → List RowValue → V → Type 0) (value : V) (rows : List RowValue) (now first : RegexValue) (hs : List (Bor (List ℕ))) (i : ℕ)
     (e : Bor (List ℕ)) → now ≡ first → i < length hs → ((r : Patterns) → FindsRows now r (get_or hs i e).now → rows ≡ scan_rows r (get_or hs i e).now)
-    → Is rows value → HasOutcome Is first hs i value
+    → Is i rows value → HasOutcome Is first hs i value
 outcome-at Is value rows now first hs i e same below found is = λ r d finds.
     let there : get_or hs i e ≡ get_or hs i d = get_or_default hs i e d below in
     let here : FindsRows first r (get_or hs i e).now = subst (λ (b : Bor (List ℕ)). FindsRows first r b.now) (sym there) finds in
     let told = found r (same-finds now first r (get_or hs i e).now same here) ∙ ap (λ (b : Bor (List ℕ)). scan_rows r b.now) there in
-    subst (λ rows. Is rows value) told is
+    subst (λ rows. Is i rows value) told is
 
-module _ {V : Type 0} (Is : List RowValue → V → Type 0) (r : Patterns) (hs : List (Bor (List ℕ))) where
+pub outcome-found : {V : Type 0} (Is : ℕ → List RowValue → V → Type 0) (result : Result V Memory) (rows : List RowValue) (now first : RegexValue)
+    (hs : List (Bor (List ℕ))) (i : ℕ) (e : Bor (List ℕ)) → now ≡ first → i < length hs
+    → ((r : Patterns) → FindsRows now r (get_or hs i e).now → rows ≡ scan_rows r (get_or hs i e).now)
+    → IfOk result (Is i rows) → IfOk result (HasOutcome Is first hs i)
+outcome-found Is (Err error) rows now first hs i e same below found is = tt
+outcome-found Is (Ok value) rows now first hs i e same below found is = outcome-at Is value rows now first hs i e same below found is
+
+module _ {V : Type 0} (Is : ℕ → List RowValue → V → Type 0) (r : Patterns) (hs : List (Bor (List ℕ))) where
   -- what the rows of each haystack became, by its number, is that of its matches
   pub outcomes-found : {W : Type 0} (items : W → List V) (regex : RegexValue) (result : Result W Memory)
       → IfOk result (λ w. AreAnswers (length hs) (λ i v. HasOutcome Is regex hs i v) (items w)) → All (λ h. FindsRows regex r h.now) hs
@@ -123,14 +130,14 @@ module _ {V : Type 0} (Is : List RowValue → V → Type 0) (r : Patterns) (hs :
 
   -- where no match is told, it is what no rows become
   pub outcomes-silent : {W : Type 0} (items : W → List V) (result : Result W Memory) → tells r.which_captures ≡ false
-      → IfOk result (λ w. AreAnswers (length hs) (λ i v. Is [] v) (items w)) → IfOk result (λ w. AreOutcomes Is r hs (items w))
+      → IfOk result (λ w. AreAnswers (length hs) (λ i v. Is i [] v) (items w)) → IfOk result (λ w. AreOutcomes Is r hs (items w))
   outcomes-silent items (Err error) silent answers = tt
   outcomes-silent items (Ok w) silent answers = record {
     count = answers.count;
     each = λ i v below d.
         let none : scan_rows r (get_or hs i d).now ≡ [] =
         ap (λ (b : Bool). cond b (map (row_of r) (matches r (get_or hs i d).now free (length (get_or hs i d).now) 0)) []) silent in
-        subst (λ rows. Is rows (get_or (items w) i v)) (sym none) (answers.each i v below);
+        subst (λ rows. Is i rows (get_or (items w) i v)) (sym none) (answers.each i v below);
   }
 
 -- an answer to each number is a list of them

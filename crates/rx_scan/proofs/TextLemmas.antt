@@ -1,11 +1,14 @@
 -- The text of rows, group by group and haystack by haystack.
-use Rattle.std.proofs.Common.{◌≡◌, ℕ, suc, ◌+◌, ◌<◌, ◌≤◌, List, [], ◌∷◌, ◌++◌, length, drop, get_or, Option, None, refl, sym, ap, ◌∙◌, append_assoc, append-nil, arith, add-one, drop-cons}
+use denote.Ref.{Bor}
+use Rattle.std.proofs.Common.{◌≡◌, ℕ, suc, ◌+◌, ◌^◌, ◌<◌, ◌≤◌, List, [], ◌∷◌, ◌++◌, length, drop, get_or, Option, None, refl, sym, ap, ◌∙◌, append_assoc, arith, drop-cons}
 use Rattle.std.specs.Prelude.{map}
 use Rattle.std.specs.List.{flat_map}
-use Rattle.std.proofs.lemmas.List.{get_or_read, get_or-map, drop_all, length-map}
+use Rattle.std.proofs.lemmas.List.{get_or_read}
+use Rattle.std.proofs.lemmas.List.Concat.{flat_map-cons}
 use Rattle.std.proofs.lemmas.Simd.{map-map}
 use Rattle.rx_model.specs.Search.{Patterns}
-use Rattle.rx_scan.specs.Row.{RowValue, scan_rows, group_text, groups_text, row_text, rows_text}
+use Rattle.rx_scan.specs.Row.{scan_rows, group_text, groups_text, row_text, rows_text}
+use Rattle.rx_workers.specs.Answers.{AreAnswers}
 
 -- the groups from the slot at `at` on: the first of them, and the others
 pub groups_text-drop : (slots : List (Option ℕ)) (at g : ℕ) → at + 1 < length slots
@@ -41,34 +44,38 @@ told-more slots at g start end old new all below s e more told =
     ∙ ap (λ y. old ++ (group_text g (get_or slots at None) y ++ rest)) second
     ∙ ap (λ l. old ++ l) (sym (groups_text-drop slots at g below)) ∙ told
 
--- the rows of one haystack more were printed
-pub haystacks-more : {V : Type 0} (items : V → List RowValue) (vs : List V) (i line : ℕ) (v : V) (told : List RowValue) (old new whole : List ℕ) → i < length vs
-    → v ≡ get_or vs i v
-    → line ≡ i → told ≡ items v → new ≡ old ++ flat_map (row_text (line + 1)) told → old ++ rows_text (i + 1) (drop i (map items vs)) ≡ whole
-    → new ++ rows_text (i + 1 + 1) (drop (i + 1) (map items vs)) ≡ whole
-unfolding rows_text
-haystacks-more items vs i line v told old new whole below is count same more so_far =
-    let rest = rows_text (i + 1 + 1) (drop (i + 1) (map items vs)) in
-    let here : items v ≡ get_or (map items vs) i [] = ap items is ∙ sym (get_or-map items vs i v [] below) in
-    let parts : drop i (map items vs) ≡ items v ∷ drop (i + 1) (map items vs) =
-    drop-cons (map items vs) i [] (omega (arith, below, length-map vs items)) ∙ (λ k. sym here k ∷ drop (sym (add-one i) k) (map items vs)) in
-    ap (λ l. l ++ rest) more ∙ append_assoc old (flat_map (row_text (line + 1)) told) rest
-    ∙ (λ k. old ++ (flat_map (row_text (count k + 1)) (same k) ++ rest))
-    ∙ ap (λ l. old ++ rows_text (i + 1) l) (sym parts) ∙ so_far
+-- the texts of the rows of all haystacks
+module _ {V : Type 0} (items : V → List ℕ) (r : Patterns) where
+  texts-from : (line : ℕ) (hs : List (Bor (List ℕ))) (vs : List V)
+      → AreAnswers (length hs) (λ i v. (d : Bor (List ℕ)) → items v ≡ flat_map (row_text (line + i)) (scan_rows r (get_or hs i d).now)) vs
+      → flat_map items vs ≡ rows_text line (map (λ h. scan_rows r h.now) hs)
+  unfolding rows_text
+  texts-from line [] [] answers = refl
+  texts-from line [] (v ∷ vs) answers = absurd (omega (arith, answers.count))
+  texts-from line (h ∷ hs) [] answers = absurd (omega (arith, answers.count))
+  texts-from line (h ∷ hs) (v ∷ vs) answers =
+      let here : line + 0 ≡ line = omega arith in
+      let first : items v ≡ flat_map (row_text line) (scan_rows r h.now) =
+      answers.each 0 v (omega arith) h ∙ ap (λ n. flat_map (row_text n) (scan_rows r h.now)) here in
+      let rest : AreAnswers (length hs) (λ i w. (d : Bor (List ℕ)) → items w ≡ flat_map (row_text (line + 1 + i)) (scan_rows r (get_or hs i d).now)) vs =
+      record {
+        count = omega (arith, answers.count);
+        each = λ i w below d.
+            let next : line + suc i ≡ line + 1 + i = omega arith in
+            answers.each (suc i) w (omega (arith, below)) d ∙ ap (λ n. flat_map (row_text n) (scan_rows r (get_or hs i d).now)) next;
+      } in
+      let others = texts-from (line + 1) hs vs rest in
+      flat_map-cons items v vs ∙ (λ k. first k ++ others k)
 
--- no haystack is left
-pub haystacks-over : {V : Type 0} (items : V → List RowValue) (vs : List V) (line i : ℕ) (text whole : List ℕ) → length vs ≤ i
-    → text ++ rows_text line (drop i (map items vs)) ≡ whole → text ≡ whole
-unfolding rows_text
-haystacks-over items vs line i text whole over told =
-    let none : drop i (map items vs) ≡ [] = drop_all i (map items vs) (omega (arith, over, length-map vs items)) in
-    sym (append-nil text) ∙ ap (λ l. text ++ rows_text line l) (sym none) ∙ told
-
--- the rows of all haystacks were printed
-pub all-printed : {V W : Type 0} (items : V → List RowValue) (now : W → List ℕ) (r : Patterns) (vs : List V) (ws : List W) (texts : List (List ℕ))
-    (old new : List ℕ) → old ≡ []
-    → new ≡ old ++ rows_text 1 (map items vs) → map items vs ≡ map (λ w. scan_rows r (now w)) ws → map now ws ≡ texts
-    → new ≡ rows_text 1 (map (scan_rows r) texts)
-all-printed items now r vs ws texts old new none more scanned same =
-    more ∙ ap (λ l. l ++ rows_text 1 (map items vs)) none
-    ∙ ap (rows_text 1) (scanned ∙ sym (map-map (scan_rows r) now ws) ∙ ap (map (scan_rows r)) same)
+  pub texts-told : (hs : List (Bor (List ℕ))) (vs : List V) (texts : List (List ℕ)) → length hs < 2 ^ 63 → map (λ h. h.now) hs ≡ texts
+      → AreAnswers (length hs) (λ i v. (d : Bor (List ℕ)) → i < 2 ^ 63 → items v ≡ flat_map (row_text (i + 1)) (scan_rows r (get_or hs i d).now)) vs
+      → flat_map items vs ≡ rows_text 1 (map (scan_rows r) texts)
+  texts-told hs vs texts small same answers =
+      let in_order : AreAnswers (length hs) (λ i v. (d : Bor (List ℕ)) → items v ≡ flat_map (row_text (1 + i)) (scan_rows r (get_or hs i d).now)) vs =
+      record {
+        count = answers.count;
+        each = λ i v below d.
+            let line : i + 1 ≡ 1 + i = omega arith in
+            answers.each i v below d (omega (arith, below, small)) ∙ ap (λ n. flat_map (row_text n) (scan_rows r (get_or hs i d).now)) line;
+      } in
+      texts-from 1 hs vs in_order ∙ ap (rows_text 1) (sym (map-map (scan_rows r) (λ h. h.now) hs) ∙ ap (map (scan_rows r)) same)

@@ -14,12 +14,12 @@ pub record FindsRows (regex : RegexValue) (r : Patterns) (text : List ℕ) : Typ
   pub promised : Promised (Serves regex r) (given_needles regex) (kind_in regex) r (whole text)
   pub groups : groups_in regex ≡ pattern_groups r.expressions
 
-module _ {V : Type 0} (Is : List RowValue → V → Type 0) where
+module _ {V : Type 0} (Is : ℕ → List RowValue → V → Type 0) where
   -- It is what the rows of the haystack of this number become, for all patterns of which a search of it promises the next match.
   abbrev pub HasOutcome : RegexValue → List (Bor (List ℕ)) → ℕ → V → Type 0
   HasOutcome regex haystacks i value = (r : Patterns) (d : Bor (List ℕ)) → FindsRows regex r (get_or haystacks i d).now
-      → Is (scan_rows r (get_or haystacks i d).now) value
+      → Is i (scan_rows r (get_or haystacks i d).now) value
 
   -- what the rows of each haystack become, in order
   abbrev pub AreOutcomes : Patterns → List (Bor (List ℕ)) → List V → Type 0
-  AreOutcomes r haystacks values = AreAnswers (length haystacks) (λ i value. (d : Bor (List ℕ)) → Is (scan_rows r (get_or haystacks i d).now) value) values
+  AreOutcomes r haystacks values = AreAnswers (length haystacks) (λ i value. (d : Bor (List ℕ)) → Is i (scan_rows r (get_or haystacks i d).now) value) values

@@ -13,9 +13,10 @@ ghost use Rattle.rx_scan.specs.Input.{lines};
 ghost use Rattle.rx_scan.specs.Patterns.{MeanUtf8, StandForUtf8};
 
 use crate::arguments::{Command, Off, Scan};
-use crate::haystacks::scan;
+use crate::haystacks::scan_for;
 use crate::input::{INPUT_LIMIT, read_patterns, split_lines};
-use crate::output::print_haystacks;
+use crate::outcome::RowsText;
+use crate::output::joined;
 use crate::size::are_small;
 use crate::status::Status;
 use rx_gen::push_number;
@@ -239,9 +240,9 @@ fn all_rows<R: Threads + Wait + Sync, G: Gate + Sync>(
         → IfOk result (λ a. a ≡ all_rows hs (lines haystacks.now)) }
 {
     let haystacks = split_lines(alloc, haystacks)?;
-    let rows = scan(rt, alloc, regex, &haystacks, asked.workers, gate)?;
-    let mut text = Vec::new(alloc);
-    print_haystacks(&mut text, &rows)?;
+    // The workers print what they find (DECISIONS: one scan for rows, their text and their numbers).
+    let texts = scan_for(rt, alloc, regex, &haystacks, asked.workers, gate, &RowsText)?;
+    let text = joined(alloc, &texts)?;
     Ok(Answer {
         status: Status::Rows,
         text,

@@ -5,7 +5,8 @@ ghost use Rattle.rx_scan.specs.Counted.{slots_len, row_len, rows_len, counts_of}
 use crate::outcome::Outcome;
 use crate::row::Row;
 use rx_gen::Counts;
-use rx_search::NonMaxUsize;
+use rx_search::{Memory, NonMaxUsize};
+use std::alloc::Global;
 
 /// Rows become their number, and the length of their matches together.
 #[derive(Drop)]
@@ -15,13 +16,13 @@ impl Outcome for Counted {
     type Value = Counts;
 
     // A sum that does not fit is not promised; no haystack has so many matches.
-    ghost is = { λ _ rows counts. rows_len rows < 2 ^ 64 → counts ≡ counts_of rows };
+    ghost is = { λ _ _ rows counts. rows_len rows < 2 ^ 64 → counts ≡ counts_of rows };
 
-    fn of(&self, rows: Vec<Row>) -> Counts {
-        Counts {
+    fn of(&self, _alloc: Global, _index: usize, rows: Vec<Row>) -> Result<Counts, Memory> {
+        Ok(Counts {
             matches: rows.len(),
             covered: covered_by(&rows),
-        }
+        })
     }
 }
 

@@ -101,7 +101,7 @@ pub fn scan<R: Threads + Wait + Sync, G: Gate + Sync>(
     Ok(rows)
 }
 
-/// What the rows of each haystack become, in order: the same, whatever that is (DECISIONS: one scan for rows and for numbers).
+/// What the rows of each haystack become, in order: the same, whatever that is (DECISIONS: one scan for rows, their text and their numbers).
 ///
 /// # Errors
 ///
@@ -178,7 +178,7 @@ impl<'a, G: Gate, O: Outcome> Task for Works<'a, G, O> {
     ) -> Result<O::Value, Memory> {
         self.gate.reached(index);
         let rows = find_rows(alloc, self.haystacks[index], &self.layout, finder)?;
-        Ok(self.outcome.of(rows))
+        self.outcome.of(alloc, index, rows)
     }
 }
 
@@ -200,12 +200,12 @@ fn no_rows<G: Gate, O: Outcome>(
     gate: &G,
     outcome: &O,
 ) -> Result<Vec<O::Value>, Memory>
-    ensures { IfOk result (λ all. AreAnswers (length haystacks.now) (λ _ value. O.is outcome.now [] value) all.items) }
+    ensures { IfOk result (λ all. AreAnswers (length haystacks.now) (λ i value. O.is outcome.now i [] value) all.items) }
 {
     let mut all = Vec::with_capacity(alloc, haystacks.len())?;
     for index in 0..haystacks.len() {
         gate.reached(index);
-        all.push(outcome.of(Vec::new(alloc)))?;
+        all.push(outcome.of(alloc, index, Vec::new(alloc))?)?;
     }
     Ok(all)
 }
