@@ -4,9 +4,11 @@ use Rattle.std.specs.Prelude.{ℕ, Bool, true, false, Option, None, Result, Ok, 
 use Rattle.rx_model.specs.Search.{Patterns, Match}
 use Rattle.rx_search.specs.Answer as answer
 use Rattle.rx_search.specs.Input.{InputValue, next_in}
+use Rattle.rx_search.specs.Matches.{MatchValue, match_value}
 use Rattle.rx_search.specs.Promise.{Premises, Promised}
 use Rattle.rx_search.specs.Sets as sets
 use Rattle.rx_search.specs.Told.{HasSlots}
+use Rattle.rx_dfa.specs.Search.{IsAnswerFor}
 use Rattle.rx_strategies.specs.Strategy as strategy
 use Rattle.rx_strategy.proofs.AnswerLemmas as lower
 use Rattle.rx_strategies.specs.declared.strategy.Strategy.{Strategy}
@@ -71,6 +73,14 @@ module _ (regex : RegexValue) (v : InputValue) where
       → IfOk result (TellsWhether regex v)
   whether-of (Ok there) a = λ r p. a r (premises-of r p)
   whether-of (Err e) a = tt
+
+  -- what an attempt answers, if it has an answer
+  pub attempt-of : {E : Type 0} (result : Result (Option MatchValue) E)
+      → ((r : Patterns) → Premises (strategy.IsFor regex.strategy r) (strategy.prefilter_in regex.strategy) r v
+      → IfOk result (IsAnswerFor (strategy.kind_in regex.strategy) r v match_value))
+      → (r : Patterns) → Premises (Serves regex r) (given_needles regex) r v → IfOk result (IsAnswerFor (kind_in regex) r v match_value)
+  unfolding kind_in
+  attempt-of result a r p = a r (premises-of r p)
 
   -- what is added to a set
   pub adds-of : (old new : List Bool)

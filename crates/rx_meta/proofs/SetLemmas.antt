@@ -24,7 +24,7 @@ use Rattle.rx_strategy.specs.declared.strategy.Strategy.{Strategy as CoreStrateg
 use Rattle.rx_strategy.specs.declared.strategy.Strategy.TheVariants.{Core as TheCore}
 use Rattle.rx_strategies.specs.Strategy as strategy
 use Rattle.rx_strategies.specs.declared.strategy.Strategy.{Strategy}
-use Rattle.rx_strategies.specs.declared.strategy.Strategy.TheVariants.{Pre, Core, ReverseAnchored}
+use Rattle.rx_strategies.specs.declared.strategy.Strategy.TheVariants.{Pre, Core, ReverseAnchored, ReverseSuffix, ReverseInner}
 use Rattle.rx_strategies.proofs.StrategyLemmas.{pre-ordered}
 use Rattle.rx_meta.specs.Laws.{MeansInSpan, MeansFromPermitted, HasNoEmptyMatch}
 use Rattle.rx_meta.specs.Regex.{RegexValue, Serves, given_needles, kind_in}
@@ -39,6 +39,8 @@ strategy-ordered : (s : Strategy) (r : Patterns) → strategy.IsFor s r → (p :
 strategy-ordered (Pre p) r is = pre-ordered p r is
 strategy-ordered (Core core) r is = core-ordered core r is
 strategy-ordered (ReverseAnchored core) r is = core-ordered core r is
+strategy-ordered (ReverseSuffix s) r is = core-ordered s.core r is.0
+strategy-ordered (ReverseInner i) r is = core-ordered i.core r is.0
 
 serves-ordered : (regex : RegexValue) (r : Patterns) → Serves regex r → (p : ℕ) (h : Expression) → slice_get r.expressions p ≡ Some h → AreOrdered h
 unfolding Serves

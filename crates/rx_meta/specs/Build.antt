@@ -1,5 +1,5 @@
 -- What a build answers.
-use Rattle.std.specs.Prelude.{◌≡◌, ℕ, true, false, ◌&&◌, ◌+◌, ◌-◌, ◌*◌, ◌^◌, ◌/◌, ◌<◌, ◌≤◌, min, List, length, Option, Some, None, IfSome, IsSomeAnd, slice_get, Ok, Err, if◌then◌else◌}
+use Rattle.std.specs.Prelude.{◌≡◌, ℕ, true, false, ◌+◌, ◌-◌, ◌*◌, ◌^◌, ◌/◌, ◌<◌, ◌≤◌, min, List, [], ◌∷◌, length, Option, Some, None, IfSome, IsSomeAnd, slice_get, Ok, Err, if◌then◌else◌}
 use Rattle.rx_model.specs.Expression.{Expression, alternation, AreOrdered}
 use Rattle.rx_model.specs.Search.{Patterns}
 use Rattle.rx_search.specs.Input.{InputValue}
@@ -13,13 +13,13 @@ use Rattle.rx_syntax.specs.Patterns.{all_read}
 use Rattle.rx_thompson.specs.declared.error.BuildError.{BuildError as CompilerError}
 use Rattle.rx_thompson.specs.declared.error.BuildError.TheVariants.{Syntax as Refused, TooManyPatterns, TooManyGroups, TooManyStates}
 use Rattle.rx_thompson.specs.declared.error.BuildError.TheVariants.{ExceededSizeLimit, Memory as NoMemory}
-use Rattle.rx_meta.specs.Cache.{CacheValue, Fits, accounted_for, states_memory}
+use Rattle.rx_meta.specs.Cache.{CacheValue, Fits, IsAsMadeFor, accounted_for, states_memory}
 use Rattle.rx_meta.specs.Config.{Config, kind_of, utf8_of, terminator_of, captures_of, size_limit_of, has_backtracker, asks_for_dfas, dfa_of, hybrid_of, dfa_size_limit_of, dfa_state_limit_of, hybrid_cache_capacity_of}
 use Rattle.rx_meta.specs.Impossible.{is_impossible, IsKnownImpossible}
-use Rattle.rx_meta.specs.Name.{literals_for, literal_name, chosen, accounted, plain_name, end_alone, accelerated_by}
+use Rattle.rx_meta.specs.Name.{Way, by_literals, from_end, by_suffix, by_inner, plain, literals_for, chosen, accounted, way_for, way_name, accelerated_by}
 use Rattle.rx_meta.specs.Prefilter.{prefilter_for, prefilter_memory}
 use Rattle.rx_meta.specs.Reading.{reading_of}
-use Rattle.rx_meta.specs.Regex.{RegexValue, Serves, kind_in, groups_in, pattern_count, properties_in, prefilter_in, regex_memory, tables_memory, has_lazy, has_dfas, name_of, is_accelerated, IsMadeUnder}
+use Rattle.rx_meta.specs.Regex.{RegexValue, Serves, kind_in, groups_in, pattern_count, properties_in, prefilter_in, regex_memory, tables_memory, has_lazy, has_dfas, reads_prefix, is_all_lazy, name_of, is_accelerated, IsMadeUnder}
 use Rattle.rx_meta.specs.declared.error.BuildError.{BuildError}
 use Rattle.rx_meta.specs.declared.error.BuildError.TheVariants.{Syntax, NFA, Memory}
 
@@ -51,12 +51,20 @@ cache_memory c hs = min (2 ^ 64 - 1) (engine_memory hs + (if has_backtracker c t
 abbrev pub nfas_memory : Config → List Expression → ℕ
 nfas_memory c hs = state_size * nfa_states hs + (if asks_for_dfas c then state_size * nfa_states hs else 0)
 
--- what is accounted for the regex: where it looks for literals alone, what is accounted for that search
-abbrev pub memory_by : Option (List (List ℕ)) → Config → List Expression → (tables : ℕ) → ℕ
-memory_by (Some needles) c hs tables = accounted (chosen needles) needles
-memory_by None c hs tables = min (2 ^ 64 - 1) (64 * (length hs + 1) + prefilter_memory (prefilter_for c hs) + nfas_memory c hs + tables)
+-- what is accounted for a core with the properties of its patterns, and beside it for tables and searches for literals
+abbrev pub memory_beside : Config → List Expression → (beside : ℕ) → ℕ
+memory_beside c hs beside = min (2 ^ 64 - 1) (64 * (length hs + 1) + prefilter_memory (prefilter_for c hs) + nfas_memory c hs + beside)
 
--- and for a cache of it, which is nothing there
+-- What is accounted for the regex: where it looks for literals alone, what is accounted for that search. Else it is the core, the tables,
+-- the search for the literals of candidates, and the NFA of what stands before these.
+abbrev pub memory_by : Way → Config → List Expression → (tables : ℕ) → ℕ
+memory_by (by_literals needles) c hs tables = accounted (chosen needles) needles
+memory_by from_end c hs tables = memory_beside c hs tables
+memory_by (by_suffix suffix) c hs tables = memory_beside c hs (tables + accounted (chosen (suffix ∷ [])) (suffix ∷ []))
+memory_by (by_inner prefix needles) c hs tables = memory_beside c hs (tables + accounted (chosen needles) needles + state_size * nfa_states (prefix ∷ []))
+memory_by plain c hs tables = memory_beside c hs tables
+
+-- and for a cache of it, which is nothing where it looks for literals alone
 abbrev pub cache_memory_by : Option (List (List ℕ)) → Config → List Expression → ℕ
 cache_memory_by (Some needles) c hs = 0
 cache_memory_by None c hs = cache_memory c hs
@@ -70,30 +78,53 @@ prefilter_by None c hs = prefilter_for c hs
 abbrev pub least_capacity : List Expression → ℕ
 least_capacity hs = 16384 + 16 * nfa_states hs
 
+-- there is room for a DFA of this prefix: its NFA is within the limits, and a lazy DFA is asked for, and has room
+pub record HasRoom (c : Config) (prefix : Expression) : Type 0 where
+  pub states : nfa_states (prefix ∷ []) ≤ id_limit
+  pub size : IfSome (size_limit_of c) (λ limit. state_size * nfa_states (prefix ∷ []) ≤ limit)
+  pub hybrid : hybrid_of c ≡ true
+  pub capacity : least_capacity (prefix ∷ []) ≤ hybrid_cache_capacity_of c
+
+-- Neither sort of DFA may be made of these: a lazy one that is asked for has no room, and for a full one too many states are accounted.
+pub record HaveNoDfa (c : Config) (hs : List Expression) : Type 0 where
+  pub lazy : hybrid_of c ≡ true → hybrid_cache_capacity_of c < least_capacity hs
+  pub full : dfa_of c ≡ true → IsSomeAnd (dfa_state_limit_of c) (λ limit. limit < nfa_states hs)
+
+-- the strategy that the regex of these expressions has, by which DFAs it has
+abbrev pub way_of : Config → List Expression → RegexValue → Way
+way_of c hs regex = way_for c hs (has_dfas regex) (λ prefix. reads_prefix regex)
+
+-- .. and the one that it would have if there were a DFA of each prefix
+abbrev pub way_with_prefix : Config → List Expression → RegexValue → Way
+way_with_prefix c hs regex = way_for c hs (has_dfas regex) (λ prefix. true)
+
 -- Which strategy the regex of these expressions has, by its name.
 pub record IsNamed (c : Config) (hs : List Expression) (regex : RegexValue) : Type 0 where
-  -- the literals, where they stand for all that the expressions are
-  pub literals : IfSome (literals_for c hs) (λ needles. name_of regex ≡ literal_name (chosen needles))
-  -- else it depends on whether DFAs are there
-  pub plain : literals_for c hs ≡ None → name_of regex ≡ plain_name hs (has_dfas regex)
-  -- which they are where lazy ones are asked for, and have room
+  -- the first that applies, by which DFAs are there
+  pub name : name_of regex ≡ way_name (way_of c hs regex)
+  -- DFAs are there where lazy ones are asked for, and have room
   pub dfas : literals_for c hs ≡ None → hybrid_of c ≡ true → least_capacity hs ≤ hybrid_cache_capacity_of c → has_dfas regex ≡ true
-  -- and not where neither sort may be made: lazy ones that are asked for have no room, and for full ones too many states are accounted
-  pub no_dfas : literals_for c hs ≡ None → (hybrid_of c ≡ true → hybrid_cache_capacity_of c < least_capacity hs)
-      → (dfa_of c ≡ true → IsSomeAnd (dfa_state_limit_of c) (λ limit. limit < nfa_states hs)) → has_dfas regex ≡ false
+  -- and not where neither sort may be made
+  pub no_dfas : literals_for c hs ≡ None → HaveNoDfa c hs → has_dfas regex ≡ false
+  -- likewise one of what stands before literals within each match, where these are searched for
+  pub prefix : (p : Expression) (needles : List (List ℕ)) → way_with_prefix c hs regex ≡ by_inner p needles → HasRoom c p → reads_prefix regex ≡ true
+  pub no_prefix : (p : Expression) (needles : List (List ℕ)) → way_with_prefix c hs regex ≡ by_inner p needles → HaveNoDfa c (p ∷ [])
+      → reads_prefix regex ≡ false
 
 -- the regex of these expressions
 pub record IsBuilt (c : Config) (hs : List Expression) (regex : RegexValue) : Type 0 where
   pub config : regex.config ≡ c
   -- its engines and its DFAs are those that the configuration has for these expressions
   pub made : IsMadeUnder c hs regex
-  -- a full DFA is there only where it is asked for, and its table is within a quarter of the limit
+  -- a full DFA is there only where it is asked for, and its table is within a quarter of the limit, or half of it for that of a prefix
   pub no_tables : dfa_of c ≡ false → tables_memory regex ≡ 0
-  pub small_tables : IfSome (dfa_size_limit_of c) (λ limit. tables_memory regex ≤ limit / 2)
+  pub small_tables : IfSome (dfa_size_limit_of c) (λ limit. tables_memory regex ≤ (if reads_prefix regex then limit else limit / 2))
   -- and a lazy one only where it is asked for
   pub no_lazy : hybrid_of c ≡ false → has_lazy regex ≡ false
-  -- of which a cache holds states within the capacity of each, the one that reads forwards and the one that reads backwards
-  pub small_states : has_lazy regex ≡ true → (cache : CacheValue) → Fits regex cache → states_memory cache ≤ 2 * hybrid_cache_capacity_of c
+  -- Where each of them is a lazy one, a cache that was made or reset for it holds states within the capacity of each: the one that reads
+  -- forwards, the one that reads backwards, and that of a prefix.
+  pub small_states : is_all_lazy regex ≡ true → (cache : CacheValue) → Fits regex cache → IsAsMadeFor regex cache
+      → states_memory cache ≤ (if reads_prefix regex then 3 else 2) * hybrid_cache_capacity_of c
   pub kind : kind_in regex ≡ kind_of c
   -- it searches for the patterns of these expressions
   pub serves : Serves regex (patterns_for c hs)
@@ -105,7 +136,7 @@ pub record IsBuilt (c : Config) (hs : List Expression) (regex : RegexValue) : Ty
   -- no count and no cost passes its limit
   pub allowed : AreAllowed c hs
   -- what is accounted for it, and for its caches
-  pub memory : regex_memory regex ≡ memory_by (literals_for c hs) c hs (tables_memory regex)
+  pub memory : regex_memory regex ≡ memory_by (way_of c hs regex) c hs (tables_memory regex)
   pub cache : accounted_for regex ≡ cache_memory_by (literals_for c hs) c hs
   -- its properties are those of the expressions together, so that it is known where no match is possible
   pub properties : AreOf (alternation (expressions hs)) (properties_in regex)
@@ -115,7 +146,7 @@ pub record IsBuilt (c : Config) (hs : List Expression) (regex : RegexValue) : Ty
   -- which strategy it has
   pub named : IsNamed c hs regex
   -- whether a search may leave out much of the haystack: by its literals, by reading from the end, or by its prefilter
-  pub accelerated : is_accelerated regex ≡ accelerated_by (literals_for c hs) (has_dfas regex && end_alone hs) (prefilter_for c hs)
+  pub accelerated : is_accelerated regex ≡ accelerated_by (way_of c hs regex) (prefilter_for c hs)
 
 -- Why so many patterns, of which the first ones read as these expressions, pass a limit. Numbers are told up to the
 -- greatest of 64 bits. Neither what the grammar refuses nor want of memory is told so.

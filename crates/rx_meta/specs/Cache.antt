@@ -1,5 +1,6 @@
 -- What the searches of a regex write to. What is in it is the strategy's own: a contract sees it by these definitions alone.
 use Rattle.std.specs.Prelude.{◌≡◌, ℕ}
+use Rattle.rx_strategies.specs.Attempting.{is_by_inner}
 use Rattle.rx_strategies.specs.Cache as strategy
 use Rattle.rx_meta.specs.Regex.{RegexValue}
 
@@ -14,6 +15,10 @@ Fits regex cache = strategy.Fits regex.strategy cache.rooms
 pub Fits-prop : (regex : RegexValue) (cache : CacheValue) → IsProp (Fits regex cache)
 unfolding Fits
 Fits-prop regex cache = strategy.Fits-prop regex.strategy cache.rooms
+
+-- It was made or reset last for a regex that is like this one in whether it reads a prefix; so it accounts no states of another one's.
+unfoldable pub IsAsMadeFor : RegexValue → CacheValue → Type 0
+IsAsMadeFor regex cache = cache.rooms.reads_prefix ≡ is_by_inner regex.strategy
 
 -- what is accounted for the cache
 unfoldable pub memory_of : CacheValue → ℕ

@@ -2,7 +2,7 @@
 pub use Rattle.rx_strategy.specs.Config.{kind_of, utf8_of, auto_prefilter_of, prefilter_of, which_of, captures_of, size_limit_of}
 pub use Rattle.rx_strategy.specs.Config.{onepass_size_limit_of, hybrid_cache_capacity_of, dfa_size_limit_of, dfa_state_limit_of}
 pub use Rattle.rx_strategy.specs.Config.{byte_classes_of, pool_capacity_of, hybrid_of, dfa_of, onepass_of}
-pub use Rattle.rx_strategy.specs.Config.{terminator_of, backtrack_of, has_backtracker, nothing_set, overwritten}
+pub use Rattle.rx_strategy.specs.Config.{terminator_of, backtrack_of, has_backtracker, is_leftmost, nothing_set, overwritten}
 pub use Rattle.rx_strategy.specs.Config.{asks_for_dfas, dfa_of, hybrid_of, dfa_size_limit_of}
 pub use Rattle.rx_strategy.specs.declared.config.Config.{Config}
 

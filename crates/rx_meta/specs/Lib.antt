@@ -11,6 +11,7 @@ pub mod Captures
 pub mod Gaps
 pub mod Iterators
 pub mod Sets
+pub mod Attempts
 pub mod Laws
 pub mod Build
 pub mod Impossible

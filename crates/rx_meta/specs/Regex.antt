@@ -10,6 +10,7 @@ use Rattle.rx_hir.specs.declared.hir.properties.Properties.{Properties}
 use Rattle.rx_strategy.specs.Config.{prefilter_of}
 use Rattle.rx_strategy.specs.declared.config.Config.{Config}
 use Rattle.rx_strategies.specs.Strategy as strategy
+use Rattle.rx_strategies.specs.Attempting.{is_by_inner, are_all_lazy}
 use Rattle.rx_strategies.specs.declared.strategy.Strategy.{Strategy}
 
 pub record RegexValue : Type 0 where
@@ -71,6 +72,14 @@ tables_memory regex = strategy.tables_in regex.strategy
 -- it has lazy DFAs
 unfoldable pub has_lazy : RegexValue → Bool
 has_lazy regex = strategy.has_lazy regex.strategy
+
+-- it searches by literals within each match, with a DFA of what stands before them
+unfoldable pub reads_prefix : RegexValue → Bool
+reads_prefix regex = is_by_inner regex.strategy
+
+-- each of its DFAs is a lazy one, and there are some
+unfoldable pub is_all_lazy : RegexValue → Bool
+is_all_lazy regex = are_all_lazy regex.strategy
 
 -- The regex is made of these expressions under the configuration. So its engines and its DFAs are those that the configuration has
 -- for them.

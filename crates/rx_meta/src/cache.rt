@@ -1,8 +1,9 @@
 //! What the searches of a regex write to.
-#![tactic(auto, unfolding(crate::specs::Cache::Fits, crate::specs::Cache::memory_of, crate::specs::Cache::accounted_for, crate::specs::Cache::fixed_memory, crate::specs::Cache::states_memory))]
+#![tactic(auto, unfolding(crate::specs::Cache::Fits, crate::specs::Cache::IsAsMadeFor, crate::specs::Cache::memory_of, crate::specs::Cache::accounted_for, crate::specs::Cache::fixed_memory, crate::specs::Cache::states_memory))]
 
 ghost use Rattle.std.specs.Prelude.{◌≡◌, IfOk, OnOk, OnErr, IsOk};
-ghost use Rattle.rx_meta.specs.Cache.{Fits, FitsAsBefore, StillFits, memory_of, accounted_for, fixed_memory, states_memory};
+ghost use Rattle.rx_meta.specs.Regex.{RegexValue};
+ghost use Rattle.rx_meta.specs.Cache.{Fits, IsAsMadeFor, FitsAsBefore, StillFits, memory_of, accounted_for, fixed_memory, states_memory};
 
 use crate::regex::Regex;
 use rx_search::Memory;
@@ -12,7 +13,8 @@ use std::marker::Model;
 /// What the searches of a regex write to. It is made once, and serves one search after another.
 #[derive(Drop)]
 pub struct Cache {
-    pub(crate) rooms: rx_strategies::Cache,
+    // A pool moves its values often (DECISIONS: a cache of a regex is a box).
+    pub(crate) rooms: Box<rx_strategies::Cache>,
 }
 
 impl Model for Cache {
@@ -20,7 +22,7 @@ impl Model for Cache {
 
     ghost Value = { CacheValue };
 
-    ghost view = { λ c. record { rooms = c.rooms } };
+    ghost view = { λ c. record { rooms = c.rooms.value } };
 }
 
 impl Cache {
@@ -33,6 +35,7 @@ impl Cache {
         ensures fits { IfOk result (Fits regex.now) }
         ensures memory { IfOk result (λ c. memory_of c ≡ accounted_for regex.now) }
         ensures empty { IfOk result (λ c. states_memory c ≡ 0) }
+        ensures own { IfOk result (IsAsMadeFor regex.now) }
     {
         regex.create_cache(alloc)
     }
@@ -49,6 +52,7 @@ impl Cache {
         ensures fits { OnOk result (Fits regex.now self.new) }
         ensures memory { OnOk result (memory_of self.new ≡ accounted_for regex.now) }
         ensures empty { OnOk result (states_memory self.new ≡ 0) }
+        ensures own { OnOk result (IsAsMadeFor regex.now self.new) }
         ensures err { OnErr result (FitsAsBefore self.old self.new) }
         ensures sure { Fits regex.now self.old → IsOk result }
         ensures kept { Fits regex.now self.old → StillFits self.old self.new }
@@ -78,9 +82,10 @@ impl Cache {
         ensures fits { IfOk result (StillFits self.now) }
         ensures fixed { IfOk result (λ copy. fixed_memory copy ≡ fixed_memory self.now) }
         ensures empty { IfOk result (λ copy. states_memory copy ≡ 0) }
+        ensures own { IfOk result (λ copy. (regex : RegexValue) → IsAsMadeFor regex self.now → IsAsMadeFor regex copy) }
     {
         Ok(Cache {
-            rooms: self.rooms.clone(alloc)?,
+            rooms: Box::new(alloc, self.rooms.clone(alloc)?)?,
         })
     }
 }

@@ -27,7 +27,7 @@ impl Maker for CacheMaker {
 
     fn make(&self) -> Result<Cache, Memory> {
         Ok(Cache {
-            rooms: self.strategy.create_cache(self.alloc)?,
+            rooms: Box::new(self.alloc, self.strategy.create_cache(self.alloc)?)?,
         })
     }
 }

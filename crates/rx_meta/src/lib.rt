@@ -5,6 +5,7 @@
 //! definition of what is below.
 #![tactic(auto)]
 
+mod attempts;
 mod builder;
 mod cache;
 mod cache_maker;
@@ -28,6 +29,7 @@ mod set_laws;
 mod split;
 mod threads;
 
+pub use attempts::{reverse_inner_attempt, reverse_suffix_attempt};
 pub use builder::Builder;
 pub use cache::Cache;
 pub use capture_laws::{
@@ -44,9 +46,10 @@ pub use iterator_laws::{
 };
 pub use laws::{
     a_search_changes_states_alone, a_search_is_for_its_patterns,
-    a_search_without_lazy_dfas_accounts_nothing,
+    a_search_without_lazy_dfas_accounts_nothing, attempts_give_up_where_bytes_were_read,
 };
 pub use regex::Regex;
+pub use rx_limited::{Quadratic, RetryError};
 pub use rx_nfa::WhichCaptures;
 pub use rx_prefilter::{Choice, Prefilter};
 pub use rx_strategy::{Config, impossible_inputs_have_no_match};

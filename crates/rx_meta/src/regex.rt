@@ -10,7 +10,7 @@ ghost use Rattle.rx_search.specs.Matches.{match_value, half_match_value};
 ghost use Rattle.rx_search.specs.Told.{AreWithin, LiesIn, HalfLiesIn, matched_pattern};
 ghost use Rattle.rx_reader.specs.Config.{default};
 ghost use Rattle.rx_meta.specs.Build.{IsBuiltOf, IsRefusedFor};
-ghost use Rattle.rx_meta.specs.Cache.{Fits, AccountsAlike, memory_of, accounted_for, states_memory};
+ghost use Rattle.rx_meta.specs.Cache.{Fits, IsAsMadeFor, AccountsAlike, memory_of, accounted_for, states_memory};
 ghost use Rattle.rx_meta.specs.Config.{nothing_set};
 ghost use Rattle.rx_meta.specs.Impossible.{IsKnownImpossible};
 ghost use Rattle.rx_meta.specs.Regex.{Serves, groups_in, pattern_count, regex_memory, name_of, is_accelerated};
@@ -424,14 +424,15 @@ impl Regex {
     /// let first = regex.search_with(&mut cache, &Input::new(b"Error: 1"));
     /// let second = regex.search_with(&mut cache, &Input::new(b"an ERROR"));
     /// ```
-    #[tactic(auto, unfolding(crate::specs::Cache::Fits, crate::specs::Cache::memory_of, crate::specs::Cache::accounted_for, crate::specs::Cache::states_memory))]
+    #[tactic(auto, unfolding(crate::specs::Cache::Fits, crate::specs::Cache::IsAsMadeFor, crate::specs::Cache::memory_of, crate::specs::Cache::accounted_for, crate::specs::Cache::states_memory))]
     pub fn create_cache(&self, alloc: Global) -> Result<Cache, Memory>
         ensures fits { IfOk result (Fits self.now) }
         ensures memory { IfOk result (λ c. memory_of c ≡ accounted_for self.now) }
         ensures empty { IfOk result (λ c. states_memory c ≡ 0) }
+        ensures own { IfOk result (IsAsMadeFor self.now) }
     {
         Ok(Cache {
-            rooms: self.strategy().create_cache(alloc)?,
+            rooms: Box::new(alloc, self.strategy().create_cache(alloc)?)?,
         })
     }
 
@@ -447,7 +448,8 @@ impl Regex {
 
     /// The bytes that are accounted for the regex. Where it looks for literals alone they are those of that search. Else they are 64 for
     /// the properties of each pattern and for those of all of them together, and what is accounted for its prefilter, its NFAs and its
-    /// full DFAs; or the greatest `usize` where they are more.
+    /// full DFAs, and for the search for the literals by which it goes from candidate to candidate; or the greatest `usize` where they
+    /// are more.
     #[tactic(auto, unfolding(crate::specs::Regex::regex_memory))]
     pub fn memory_usage(&self) -> usize
         ensures { result ≡ regex_memory self.now }

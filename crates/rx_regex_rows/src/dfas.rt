@@ -10,16 +10,16 @@ use std::process::Abort;
 use std::sync::Wait;
 
 /// Whether full DFAs are asked for, and whether lazy ones are.
-type Sort = (bool, bool);
+pub(crate) type Sort = (bool, bool);
 
-const FULL: Sort = (true, false);
+pub(crate) const FULL: Sort = (true, false);
 
-const LAZY: Sort = (false, true);
+pub(crate) const LAZY: Sort = (false, true);
 
 const NONE: Sort = (false, false);
 
 /// The configuration with DFAs of this sort alone, of any size.
-fn with_alone(config: Config, sort: Sort) -> Config {
+pub(crate) fn with_alone(config: Config, sort: Sort) -> Config {
     let (full, lazy) = sort;
     let config = config.dfa(full).hybrid(lazy);
     config.dfa_size_limit(None).dfa_state_limit(None)
@@ -31,7 +31,7 @@ fn alone(sort: Sort) -> Config {
 }
 
 /// The input of a search of the text from this place on.
-fn input_from<'a>(rt: &impl Abort, text: &'a [u8], start: usize, anchored: bool) -> Input<'a> {
+pub(crate) fn input_from<'a>(rt: &impl Abort, text: &'a [u8], start: usize, anchored: bool) -> Input<'a> {
     assert!(rt; start <= text.len());
     let span = Span {
         start,
@@ -45,7 +45,7 @@ fn input_from<'a>(rt: &impl Abort, text: &'a [u8], start: usize, anchored: bool)
 }
 
 /// The start and the end of a match.
-fn span_of(found: Option<Match>) -> Option<(usize, usize)> {
+pub(crate) fn span_of(found: Option<Match>) -> Option<(usize, usize)> {
     match found {
         Some(found) => Some((found.start(), found.end())),
         None => None,
@@ -53,7 +53,7 @@ fn span_of(found: Option<Match>) -> Option<(usize, usize)> {
 }
 
 /// What the calls of a search tell: the span of the match, its end, whether there is one, and where its first group starts and ends.
-type Told = (
+pub(crate) type Told = (
     Option<(usize, usize)>,
     Option<usize>,
     bool,
@@ -61,7 +61,7 @@ type Told = (
 );
 
 /// The span of the match that is told.
-fn found_with(
+pub(crate) fn found_with(
     rt: &impl Abort,
     regex: &Regex,
     cache: &mut Cache,
@@ -75,7 +75,7 @@ fn found_with(
 }
 
 /// The end of the match that is told.
-fn end_with(rt: &impl Abort, regex: &Regex, cache: &mut Cache, input: &Input<'_>) -> Option<usize>
+pub(crate) fn end_with(rt: &impl Abort, regex: &Regex, cache: &mut Cache, input: &Input<'_>) -> Option<usize>
     requires { Fits regex.now cache.old }
     ensures { Fits regex.now cache.new }
 {
@@ -103,7 +103,7 @@ fn group_with(
 }
 
 /// What the calls of a search tell with this cache.
-fn told_with<R: Abort + Wait>(
+pub(crate) fn told_with<R: Abort + Wait>(
     rt: &R,
     alloc: Global,
     regex: &Regex,
@@ -121,10 +121,10 @@ fn told_with<R: Abort + Wait>(
 }
 
 /// A pattern, a text, where the span begins, whether the search is anchored, and what is wanted of the calls.
-type Row = (&'static str, &'static str, usize, bool, Told);
+pub(crate) type Row = (&'static str, &'static str, usize, bool, Told);
 
 /// What is told of no match.
-const NOTHING: Told = (None, None, false, (None, None));
+pub(crate) const NOTHING: Told = (None, None, false, (None, None));
 
 const ROWS: [Row; 12] = [
     (
@@ -384,7 +384,7 @@ fn a_lazy_dfa_fills_sets(rt: HostRuntime) {
 }
 
 /// The bytes that are accounted for a cache after a search for the end of a match, of the input where any match will do.
-fn after_end(rt: &impl Abort, regex: &Regex, cache: &mut Cache, text: &[u8]) -> usize
+pub(crate) fn after_end(rt: &impl Abort, regex: &Regex, cache: &mut Cache, text: &[u8]) -> usize
     requires { Fits regex.now cache.old }
 {
     let _end = end_with(rt, regex, cache, &Input::new(text).earliest(true));

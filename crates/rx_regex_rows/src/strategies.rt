@@ -2,14 +2,14 @@
 
 use crate::regex::{NOTHING, cache_of, configured, matches_in, told_by};
 use rx_meta::{Config, Regex};
-use rx_search::{Anchored, Input, PatternID};
+use rx_search::{Anchored, Input, MatchKind, PatternID};
 use std::alloc::Global;
 use std::process::Abort;
 
 /// A pattern, the name of its strategy, and whether a search may leave out much of the haystack.
 type Row = (&'static str, &'static str, bool);
 
-const ROWS: [Row; 9] = [
+const ROWS: [Row; 12] = [
     ("foo", "prefilter memmem", true),
     ("a|b|c", "prefilter memchr3", true),
     ("a|b|c|d", "prefilter byteset", false),
@@ -17,6 +17,9 @@ const ROWS: [Row; 9] = [
     ("ab|c", "prefilter aho-corasick", false),
     ("foo$", "reverse anchored", true),
     ("^foo$", "core", false),
+    (r"\w+\s+Holmes", "reverse suffix", true),
+    (r"\w+@\w+", "reverse inner", true),
+    (r"\w+Holmes", "core", false),
     (r"Holmes\w+", "core", true),
     ("[a-z]+", "core", false),
 ];
@@ -44,8 +47,14 @@ fn what_is_switched_off_makes_no_strategy(rt: HostRuntime) {
     // Its prefilter is fast all the same.
     let no_dfas = Config::new().dfa(false).hybrid(false);
     assert!(rt; is_named(&rt, alloc, no_dfas, ("foo$", "core", true)));
+    let no_dfas = Config::new().dfa(false).hybrid(false);
+    assert!(rt; is_named(&rt, alloc, no_dfas, (r"\w+@\w+", "core", false)));
     let no_prefilter = Config::new().auto_prefilter(false);
     assert!(rt; is_named(&rt, alloc, no_prefilter, ("foo", "core", false)));
+    let no_prefilter = Config::new().auto_prefilter(false);
+    assert!(rt; is_named(&rt, alloc, no_prefilter, (r"\w+@\w+", "core", false)));
+    let every = Config::new().match_kind(MatchKind::All);
+    assert!(rt; is_named(&rt, alloc, every, (r"\w+@\w+", "core", false)));
 }
 
 /// The regex that is one byte.

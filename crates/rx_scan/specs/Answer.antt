@@ -1,5 +1,5 @@
 -- The answer to words and an input: a status and a text.
-use Rattle.std.specs.Prelude.{ℕ, ◌-◌, List, [], ◌∷◌, ◌++◌, length, map, sum_by, Option, Some, None, codes, decimal, nat_lt, nat_le, Result, Ok, Err, if◌then◌else◌}
+use Rattle.std.specs.Prelude.{ℕ, ◌-◌, Bool, List, [], ◌∷◌, ◌++◌, length, map, sum_by, Option, Some, None, codes, decimal, nat_lt, nat_le, Result, Ok, Err, if◌then◌else◌}
 use Rattle.std.specs.Str.{is_utf8}
 use Rattle.std.specs.Str.Lossy.{utf8_valid_len}
 use Rattle.rx_model.specs.Expression.{Expression}
@@ -7,14 +7,13 @@ use Rattle.rx_model.specs.Search.{Match, matches, free}
 use Rattle.rx_gen.specs.Generated.{generated}
 use Rattle.rx_gen.specs.Totals.{totals_of, totals_text}
 use Rattle.rx_gen.specs.declared.totals.Counts.{Counts}
-use Rattle.rx_search.specs.declared.anchored.MatchKind.TheVariants.{LeftmostFirst}
 use Rattle.rx_hir.specs.Cost.{nfa_states}
 use Rattle.rx_reader.specs.Config.{default}
 use Rattle.rx_reader.specs.Refusal.{text_of}
 use Rattle.rx_reader.specs.declared.error.SyntaxErrorKind.{SyntaxErrorKind}
 use Rattle.rx_syntax.specs.Patterns.{Refusal, all_read}
-use Rattle.rx_meta.specs.Name.{literal_needles, literal_name, chosen, plain_name}
-use Rattle.rx_scan.specs.Arguments.{call_of}
+use Rattle.rx_meta.specs.Name.{way_for, way_name}
+use Rattle.rx_scan.specs.Arguments.{call_of, config_without, switched_off}
 use Rattle.rx_scan.specs.Input.{lines, patterns, haystacks}
 use Rattle.rx_scan.specs.Patterns.{patterns_of, are_small}
 use Rattle.rx_scan.specs.Row.{scan_rows, rows_text}
@@ -50,14 +49,13 @@ too_big = record { status = TooBig; text = codes "patterns too big\n" }
 abbrev pub all_rows : List Expression → (haystacks : List (List ℕ)) → AnswerValue
 all_rows hs texts = record { status = Rows; text = rows_text 1 (map (scan_rows (patterns_of hs)) texts) }
 
--- The name of the strategy that a regex of these has under the default configuration, where a DFA is there for so many accounted states
--- alone.
-abbrev pub name_by : Option (List (List ℕ)) → List Expression → List ℕ
-name_by (Some needles) hs = literal_name (chosen needles)
-name_by None hs = plain_name hs (nat_le (nfa_states hs) 130048)
+-- a DFA of these is there, under the default configuration: for so many accounted states alone
+abbrev pub has_dfa : List Expression → Bool
+has_dfa hs = nat_le (nfa_states hs) 130048
 
+-- the name of the strategy that a regex of these has under that configuration: of the first that applies
 unfoldable pub strategy_name : List Expression → List ℕ
-strategy_name hs = name_by (literal_needles LeftmostFirst hs) hs
+strategy_name hs = way_name (way_for (config_without (switched_off [])) hs (has_dfa hs) (λ prefix. has_dfa (prefix ∷ [])))
 
 -- how the matches would be found
 abbrev pub explained : List Expression → AnswerValue

@@ -1,49 +1,35 @@
 -- Searches by candidates: what is known of a core's patterns is known of those in which candidates are in order.
-use Rattle.std.proofs.Common.{◌≡◌, ℕ, List, refl, sym, ap, ◌∙◌, subst, true, false}
-use Rattle.std.specs.Prelude.{Bool, [], ◌∷◌, Option, Some, None, option_map, is_some, IfSome, ◌&&◌, not, if◌then◌else◌}
-use Rattle.rx_model.specs.Expression.{Expression, alternation, AreOrdered}
+use Rattle.std.proofs.Common.{◌≡◌, ℕ, List, ◌∙◌, subst, true}
+use Rattle.std.proofs.lemmas.Result.{IfOk-weaker}
+use Rattle.std.specs.Prelude.{Bool, [], ◌∷◌, Option, is_some, option_map, Result, Ok, IfOk}
 use Rattle.rx_model.specs.Search.{Patterns, Match}
 use Rattle.rx_search.specs.Answer.{IsAnswer, AreSlotsOfAnswer, TellsWhether, half_of}
-use Rattle.rx_search.specs.Input.{InputValue}
+use Rattle.rx_search.specs.Input.{InputValue, next_in}
 use Rattle.rx_search.specs.Matches.{MatchValue, HalfMatchValue, match_value, half_match_value}
-use Rattle.rx_search.specs.Promise.{Premises, Promised}
+use Rattle.rx_search.specs.Promise.{Premises}
 use Rattle.rx_search.specs.declared.anchored.MatchKind.{MatchKind}
-use Rattle.rx_hir.specs.Normal.{expressions}
-use Rattle.rx_hir.specs.PropertiesViews.{AreOf}
 use Rattle.rx_dfa.specs.Search.{IsAnswerFor}
+use Rattle.rx_limited.specs.declared.retry_error.RetryError.{RetryError}
+use Rattle.rx_strategy.specs.Attempts.{IsToldBy}
 use Rattle.rx_strategy.specs.Strategy as core
-use Rattle.rx_strategy.specs.declared.config.Config.{Config}
 use Rattle.rx_strategy.specs.declared.strategy.Strategy.{Strategy as CoreStrategy}
 use Rattle.rx_strategy.specs.declared.strategy.Strategy.TheVariants.{Core as TheCore}
-use Rattle.rx_strategy.proofs.AnswerLemmas.{for-dfa}
-use Rattle.rx_strategies.specs.Attempts.{SuffixValue, IsSuffixFor, IsSuffixOf, IsSuffixFound}
-use Rattle.rx_strategies.specs.Choice.{may_attempt, suffix_for, suffix_of_one, if_in_order}
+use Rattle.rx_strategy.proofs.AnswerLemmas.{for-dfa, part-answers, fewer-answers, fewer-slots, fewer-whether}
+use Rattle.rx_strategies.specs.Attempts.{HasTried, HasTriedWhether}
 
--- a search for more patterns is one for fewer
-module _ {For More : Patterns → Type 0} (more : (r : Patterns) → For r → More r) (needles : Option (List (List ℕ))) (v : InputValue) where
-  pub more-premises : (r : Patterns) → Premises (For r) needles r v → Premises (More r) needles r v
-  more-premises r p = record { is_for = more r p.is_for; begins = p.begins; utf8 = p.utf8 }
+-- a search for more patterns is one for fewer, where there was memory
+module _ (For More : Patterns → Type 0) (needles : Option (List (List ℕ))) (v : InputValue)
+    (more : (r : Patterns) → Premises (For r) needles r v → More r) {E : Type 0} where
+  pub ok-answers : (kind : MatchKind) {T : Type 0} (part : Match → T) (result : Result (Option T) E) → IfOk result (IsAnswer More needles kind v part)
+      → IfOk result (IsAnswer For needles kind v part)
+  ok-answers kind part result is = IfOk-weaker result _ _ (λ found has. fewer-answers For More needles v more kind part found has) is
 
-  more-promised : (kind : MatchKind) (r : Patterns) → Promised (For r) needles kind r v → Promised (More r) needles kind r v
-  more-promised kind r p = record { premises = more-premises r p.premises; leftmost = p.leftmost; told = p.told; whole = p.whole }
+  pub ok-slots : (kind : MatchKind) {T : Type 0} (part : Match → T) (slots : List (Option ℕ)) (result : Result (Option T) E)
+      → IfOk result (AreSlotsOfAnswer More needles kind v part slots) → IfOk result (AreSlotsOfAnswer For needles kind v part slots)
+  ok-slots kind part slots result are = IfOk-weaker result _ _ (λ found has. fewer-slots For More needles v more kind part slots found has) are
 
-  pub fewer-answers : (kind : MatchKind) {T : Type 0} (part : Match → T) (found : Option T) → IsAnswer More needles kind v part found
-      → IsAnswer For needles kind v part found
-  fewer-answers kind part found is = record {
-    value = λ r p. is.value r (more-promised kind r p);
-    exists = λ r p. is.exists r (more-premises r p);
-    is_match = λ r p. is.is_match r (more-premises r p);
-  }
-
-  pub fewer-slots : (kind : MatchKind) {T : Type 0} (part : Match → T) (slots : List (Option ℕ)) (found : Option T)
-      → AreSlotsOfAnswer More needles kind v part slots found → AreSlotsOfAnswer For needles kind v part slots found
-  fewer-slots kind part slots found are = record {
-    value = λ r p. are.value r (more-promised kind r p);
-    is_match = λ r p. are.is_match r (more-premises r p);
-  }
-
-  pub fewer-whether : (there : Bool) → TellsWhether More needles v there → TellsWhether For needles v there
-  fewer-whether there is r p = is r (more-premises r p)
+  pub ok-whether : (result : Result Bool E) → IfOk result (TellsWhether More needles v) → IfOk result (TellsWhether For needles v)
+  ok-whether result is = IfOk-weaker result _ _ (λ there has. fewer-whether For More needles v more there has) is
 
 -- What an attempt answers is what a search answers, where matches are told: of some patterns of a core.
 pub attempt-answer : (s : CoreStrategy) (v : InputValue) (For : Patterns → Type 0) → ((r : Patterns) → For r → core.IsFor s r)
@@ -52,17 +38,31 @@ pub attempt-answer : (s : CoreStrategy) (v : InputValue) (For : Patterns → Typ
     → IsAnswer For (core.prefilter_in s) (core.kind_in s) v part found
 attempt-answer (TheCore c) v For of part found is told = for-dfa c v For of c.kind part found is told
 
--- which literal is searched for
+-- of an attempt that has an answer, and of any
+module _ (s : CoreStrategy) (v : InputValue) (tried : Result (Option MatchValue) RetryError) where
+  found-of : (found : Option MatchValue) → tried ≡ Ok found → (r : Patterns) → HasTried s v tried r → IsAnswerFor (core.kind_in s) r v match_value found
+  found-of found is r has = subst (λ (t : Result (Option MatchValue) RetryError). IfOk t (IsAnswerFor (core.kind_in s) r v match_value)) is has.1
 
-if-on : {A : Type 0} (b : Bool) (o : Option A) → b ≡ true → (if b then o else None) ≡ o
-if-on b o on = λ i. if on i then o else None
+  -- the half of what was found
+  pub tried-half : (found : Option MatchValue) → tried ≡ Ok found → core.tells_in s ≡ true → (half : Option HalfMatchValue)
+      → half ≡ option_map half_of found
+      → IsAnswer (λ r. HasTried s v tried r) (core.prefilter_in s) (core.kind_in s) v half_match_value half
+  tried-half found is told half of =
+      part-answers (λ r. HasTried s v tried r) (core.prefilter_in s) (core.kind_in s) v match_value half_of found half of
+      (attempt-answer s v (λ r. HasTried s v tried r) (λ r has. has.0) match_value found (λ r p. found-of found is r p.is_for) told)
 
-if-off : {A : Type 0} (b : Bool) (o : Option A) → b ≡ false → (if b then o else None) ≡ None
-if-off b o off = λ i. if off i then o else None
+  -- what was found is told
+  pub tried-told : (found : Option MatchValue) → tried ≡ Ok found → (r : Patterns) → Premises (HasTried s v tried r) (core.prefilter_in s) r v
+      → IsToldBy (core.IsFor s r) (core.kind_in s) r v found
+  tried-told found is r p = (p.is_for.0, found-of found is r p.is_for)
 
-module _ (config : Config) (c : CoreStrategy) (hs : List Expression) where
-  pub suffix-chosen : may_attempt config c (alternation (expressions hs)) ≡ true → suffix_for config c hs ≡ if_in_order hs (suffix_of_one hs)
-  suffix-chosen on = if-on (may_attempt config c (alternation (expressions hs))) (if_in_order hs (suffix_of_one hs)) on
+  pub tried-core : (r : Patterns) → Premises (HasTried s v tried r) (core.prefilter_in s) r v → core.IsFor s r
+  tried-core r p = p.is_for.0
 
-  pub suffix-not : may_attempt config c (alternation (expressions hs)) ≡ false → suffix_for config c hs ≡ None
-  suffix-not off = if-off (may_attempt config c (alternation (expressions hs))) (if_in_order hs (suffix_of_one hs)) off
+  pub tried-whether : (found : Option MatchValue) → tried ≡ Ok found → (there : Bool) → there ≡ is_some found
+      → TellsWhether (λ r. HasTriedWhether s v tried r) (core.prefilter_in s) v there
+  tried-whether found is there so r p =
+      so ∙ subst (λ (t : Result (Option MatchValue) RetryError). IfOk t (λ found. is_some found ≡ is_some (next_in r v))) is p.is_for.1
+
+  pub whether-core : (r : Patterns) → Premises (HasTriedWhether s v tried r) (core.prefilter_in s) r v → core.IsFor s r
+  whether-core r p = p.is_for.0

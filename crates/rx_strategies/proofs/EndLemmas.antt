@@ -1,20 +1,16 @@
 -- Where each match ends at the end of the haystack.
 use Rattle.std.proofs.Common.{◌≡◌, ℕ, List, length, sym, ◌∙◌, true, arith}
 use Rattle.std.proofs.lemmas.Bool.Decides.{nat_tests}
-use Rattle.std.specs.Prelude.{◌==◌, Option}
+use Rattle.std.specs.Prelude.{◌==◌}
 use Rattle.rx_model.specs.Expression.{Expression, alternation}
 use Rattle.rx_model.specs.Look.{end_text, holds}
-use Rattle.rx_model.specs.Search.{Patterns, Match}
-use Rattle.rx_search.specs.Answer.{IsAnswer}
+use Rattle.rx_model.specs.Search.{Patterns}
 use Rattle.rx_search.specs.Input.{InputValue}
-use Rattle.rx_search.specs.Promise.{Premises}
 use Rattle.rx_hir.specs.Normal.{expressions}
 use Rattle.rx_hir.specs.PropertiesViews.{AreOf}
 use Rattle.rx_hir.proofs.LookLemmas.{last-holds}
-use Rattle.rx_dfa.specs.Search.{IsAnswerFor}
 use Rattle.rx_strategy.specs.Ending.{EndsWithSpan}
-use Rattle.rx_strategy.specs.Strategy.{IsFor, kind_in, prefilter_in, properties_of, tells_in}
-use Rattle.rx_strategy.proofs.DfaLemmas.{dfa-answers}
+use Rattle.rx_strategy.specs.Strategy.{IsFor, properties_of}
 use Rattle.rx_strategy.proofs.ImpossibleLemmas.{meant-among}
 use Rattle.rx_strategy.specs.declared.strategy.Strategy.{Strategy}
 use Rattle.rx_strategy.specs.declared.strategy.Strategy.TheVariants.{Core}
@@ -38,9 +34,3 @@ ends-with-span s last v whole r of = record {
       (meant-among r.terminator v.haystack r.expressions p h is i j means))
       ∙ sym whole;
 }
-
--- what the DFA answers is what a search answers, where matches are told
-pub dfas-answer : (s : Strategy) (v : InputValue) {A : Type 0} (part : Match → A) (found : Option A)
-    → ((r : Patterns) → Premises (IsFor s r) (prefilter_in s) r v → IsAnswerFor (kind_in s) r v part found) → tells_in s ≡ true
-    → IsAnswer (λ r. IsFor s r) (prefilter_in s) (kind_in s) v part found
-dfas-answer (Core c) v part found is told = dfa-answers c v part found is told

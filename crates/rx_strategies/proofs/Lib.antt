@@ -1,6 +1,7 @@
 pub mod StrategyLemmas
 pub mod EndLemmas
 pub mod AttemptLemmas
+pub mod ChosenLemmas
 pub mod MadeLemmas
 pub mod CacheLemmas
 pub mod ThreadLemmas

@@ -1,9 +1,13 @@
 -- Strategies that search by candidates, for a contract.
-use Rattle.std.specs.Prelude.{◌≡◌, ℕ, ◌<◌, true, List, [], ◌∷◌, length, Option, Some, None, Result, Ok, Err}
+use Rattle.std.specs.Prelude.{◌≡◌, ℕ, ◌<◌, true, List, [], ◌∷◌, length, is_some, Option, Some, None, Result, Ok, Err, IfOk}
 use Rattle.rx_model.specs.Expression.{Expression}
 use Rattle.rx_model.specs.Search.{Patterns}
+use Rattle.rx_search.specs.Input.{InputValue, next_in}
+use Rattle.rx_search.specs.Matches.{MatchValue, match_value}
+use Rattle.rx_dfa.specs.Search.{IsAnswerFor}
+use Rattle.rx_limited.specs.declared.retry_error.RetryError.{RetryError}
 use Rattle.rx_order.specs.Inner.{inner_of}
-use Rattle.rx_order.specs.Order.{SuffixIsNoEarlier, HasRest, InnerIsNoEarlier}
+use Rattle.rx_order.specs.Order.{SuffixIsNoEarlier, InnerIsNoEarlier}
 use Rattle.rx_attempts.specs.Candidates.{AreNotEmpty}
 use Rattle.rx_strategy.specs.Attempts.{HasSuffix, HasInner, IsOneNeedle}
 use Rattle.rx_strategy.specs.Prefix.{PrefixValue, dfa_of, IsPrefixOf, HasNoPrefix}
@@ -38,6 +42,14 @@ IsSuffixFor s r = core.IsFor s.core r × HasSuffix s.needles r
 
 abbrev pub IsInnerFor : InnerValue → Patterns → Type 0
 IsInnerFor i r = core.IsFor i.core r × HasInner (dfa_of i.prefix) i.needles r
+
+-- The core is for the patterns, and what an attempt found, if it has an answer, is the answer of them.
+abbrev pub HasTried : CoreStrategy → InputValue → Result (Option MatchValue) RetryError → Patterns → Type 0
+HasTried c v tried r = core.IsFor c r × IfOk tried (IsAnswerFor (core.kind_in c) r v match_value)
+
+-- .. and something is found exactly where there is a match
+abbrev pub HasTriedWhether : CoreStrategy → InputValue → Result (Option MatchValue) RetryError → Patterns → Type 0
+HasTriedWhether c v tried r = core.IsFor c r × IfOk tried (λ found. is_some found ≡ is_some (next_in r v))
 
 -- .. of the only one of these expressions
 abbrev pub HasOrder : List Expression → List ℕ → Type 0
@@ -81,6 +93,11 @@ abbrev pub IsSuffixFound : List Expression → Option (List (List ℕ)) → Type
 IsSuffixFound hs None = if_in_order hs (suffix_of_one hs) ≡ None
 IsSuffixFound hs (Some needles) =
     (s : List ℕ) × (needles ≡ s ∷ []) × (0 < length s) × (if_in_order hs (suffix_of_one hs) ≡ Some s) × HasOrder hs s
+
+-- .. for this literal
+abbrev pub IsOrderedSearch : List Expression → List ℕ → Option (List (List ℕ)) → Type 0
+IsOrderedSearch hs s None = if_in_order hs (Some s) ≡ None
+IsOrderedSearch hs s (Some needles) = (needles ≡ s ∷ []) × (0 < length s) × (if_in_order hs (Some s) ≡ Some s) × HasOrder hs s
 
 -- .. and within each match, behind this prefix
 abbrev pub IsInnerFound : List Expression → Expression → List (List ℕ) → Type 0

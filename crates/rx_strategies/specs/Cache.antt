@@ -112,6 +112,14 @@ AccountsAlike (ReverseAnchored c) old new = AccountsAlikeIn c old new
 AccountsAlike (ReverseSuffix s) old new = AccountsAlikeIn s.core old new
 AccountsAlike (ReverseInner i) old new = InnerAlikeIn i old new
 
+-- the second room serves each core that the first one serves; and as much is accounted for it
+abbrev pub ServesMore : (old new : Option core.CacheValue) → Type 0
+ServesMore old new = (c : CoreStrategy) → IsSomeAnd old (core.Fits c) → IsSomeAnd new (core.Fits c)
+
+pub record ServesAsBefore (old new : Option core.CacheValue) : Type 0 where
+  pub fits : ServesMore old new
+  pub memory : rooms_memory new ≡ rooms_memory old
+
 -- the second cache serves whatever the first one serves
 abbrev pub StillFits : (old new : CacheValue) → Type 0
 StillFits old new = (s : Strategy) → Fits s old → Fits s new

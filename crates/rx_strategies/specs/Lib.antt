@@ -2,3 +2,4 @@ pub mod Choice
 pub mod Attempts
 pub mod Strategy
 pub mod Cache
+pub mod Attempting

@@ -1,8 +1,8 @@
 //! The strategy that searches from the end of the haystack.
-ghost use Rattle.std.specs.Prelude.{◌≡◌, ◌≤◌, ◌<◌, ◌&&◌, not, length, None, replicate, true, false, option_map, IfOk, IfNone, IfSome, OnErr, IsOk};
+ghost use Rattle.std.specs.Prelude.{◌≡◌, ◌≤◌, ◌<◌, ◌&&◌, not, length, None, replicate, true, false, IfOk, IfNone, IfSome, OnErr, IsOk};
 ghost use Rattle.rx_model.specs.Expression.{Expression};
 ghost use Rattle.rx_model.specs.Search.{is_anchored};
-ghost use Rattle.rx_search.specs.Answer.{IsAnswer, AreSlotsOfAnswer, TellsWhether, half_of};
+ghost use Rattle.rx_search.specs.Answer.{IsAnswer, AreSlotsOfAnswer, TellsWhether};
 ghost use Rattle.rx_search.specs.Input.{IsSpanned};
 ghost use Rattle.rx_search.specs.Matches.{match_value, half_match_value};
 ghost use Rattle.rx_search.specs.Told.{AreWithin, LiesIn, HalfLiesIn};
@@ -12,6 +12,7 @@ ghost use Rattle.rx_strategy.specs.Impossible.{is_always_anchored_start, is_alwa
 ghost use Rattle.rx_strategy.specs.Strategy.{IsFor, kind_in, pattern_count, prefilter_in, properties_of, tells_in};
 ghost use Rattle.rx_strategies.specs.Choice.{is_from_end, IsFromEnd};
 
+use crate::attempts::half_match;
 use rx_hir::Properties;
 use rx_search::{HalfMatch, Input, Look, Match, Memory, NonMaxUsize};
 use rx_strategy::{Cache, Strategy};
@@ -175,14 +176,4 @@ fn ends_last(properties: &Properties) -> bool
         return false;
     }
     !properties.look_set_prefix().contains(Look::Start)
-}
-
-/// The pattern and the end of the match.
-fn half_match(found: Option<Match>) -> Option<HalfMatch>
-    ensures { result ≡ option_map half_of found }
-{
-    match found {
-        Some(found) => Some(HalfMatch::new(found.pattern(), found.end())),
-        None => None,
-    }
 }

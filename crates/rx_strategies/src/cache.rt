@@ -1,7 +1,8 @@
 //! What the searches of a strategy write to.
-ghost use Rattle.std.specs.Prelude.{◌≡◌, true, false, IfOk, OnOk, OnErr, IsOk};
-ghost use Rattle.rx_strategies.specs.Cache.{Fits, FitsCore, FitsInner, FitsAsBefore, StillFits, memory_of, states_in, fixed_in, accounted_for, rooms_memory};
+ghost use Rattle.std.specs.Prelude.{◌≡◌, true, false, IfOk, OnOk, OnErr, IsOk, IsSomeAnd};
+ghost use Rattle.rx_strategies.specs.Cache.{Fits, FitsCore, FitsInner, FitsAsBefore, StillFits, memory_of, states_in, fixed_in, accounted_for, rooms_memory, rooms_states, ServesMore, ServesAsBefore};
 ghost use Rattle.rx_strategy.specs.Cache as lower;
+ghost use Rattle.rx_strategies.specs.Attempting.{is_by_inner};
 
 use crate::inner::ReverseInner;
 use crate::strategy::Strategy;
@@ -40,6 +41,7 @@ impl Cache {
         ensures fits { IfOk result (Fits strategy.now) }
         ensures memory { IfOk result (λ c. memory_of c ≡ accounted_for strategy.now) }
         ensures empty { IfOk result (λ c. states_in c ≡ 0) }
+        ensures reads { IfOk result (λ c. c.reads_prefix ≡ is_by_inner strategy.now) }
     {
         match strategy {
             Strategy::Pre(_) => Ok(Cache {
@@ -60,6 +62,7 @@ impl Cache {
         ensures fits { IfOk result (FitsCore core.now) }
         ensures memory { IfOk result (λ c. memory_of c ≡ lower.accounted_for core.now) }
         ensures empty { IfOk result (λ c. states_in c ≡ 0) }
+        ensures reads { IfOk result (λ c. c.reads_prefix ≡ false) }
     {
         Ok(Cache {
             rooms: Some(core.create_cache(alloc)?),
@@ -74,6 +77,7 @@ impl Cache {
         ensures fits { IfOk result (FitsInner inner.now) }
         ensures memory { IfOk result (λ c. memory_of c ≡ lower.accounted_for inner.now.core) }
         ensures empty { IfOk result (λ c. states_in c ≡ 0) }
+        ensures reads { IfOk result (λ c. c.reads_prefix ≡ true) }
     {
         let rooms = inner.core().create_cache(alloc)?;
         Ok(Cache {
@@ -91,6 +95,7 @@ impl Cache {
         ensures fits { OnOk result (Fits strategy.now self.new) }
         ensures memory { OnOk result (memory_of self.new ≡ accounted_for strategy.now) }
         ensures empty { OnOk result (states_in self.new ≡ 0) }
+        ensures reads { OnOk result (self.new.reads_prefix ≡ is_by_inner strategy.now) }
         ensures err { OnErr result (FitsAsBefore self.old self.new) }
         ensures sure { Fits strategy.now self.old → IsOk result }
         ensures kept { Fits strategy.now self.old → StillFits self.old self.new }
@@ -109,23 +114,16 @@ impl Cache {
     }
 
     /// Makes any cache one that serves this core.
-    #[tactic(auto, using(crate::proofs::CacheLemmas::no_states))]
     fn reset_for(&mut self, alloc: Global, core: &rx_strategy::Strategy) -> Result<(), Memory>
         ensures fits { OnOk result (FitsCore core.now self.new) }
         ensures memory { OnOk result (memory_of self.new ≡ lower.accounted_for core.now) }
         ensures empty { OnOk result (states_in self.new ≡ 0) }
+        ensures reads { OnOk result (self.new.reads_prefix ≡ false) }
         ensures err { OnErr result (FitsAsBefore self.old self.new) }
         ensures sure { FitsCore core.now self.old → IsOk result }
         ensures kept { FitsCore core.now self.old → StillFits self.old self.new }
     {
-        if let Some(rooms) = &mut self.rooms {
-            rooms.reset(alloc, core)?;
-            self.in_use = true;
-            self.reads_prefix = false;
-            return Ok(());
-        }
-        let made = core.create_cache(alloc)?;
-        self.rooms = Some(made);
+        reset_rooms(alloc, &mut self.rooms, core)?;
         self.in_use = true;
         self.reads_prefix = false;
         Ok(())
@@ -136,14 +134,16 @@ impl Cache {
         ensures fits { OnOk result (FitsInner inner.now self.new) }
         ensures memory { OnOk result (memory_of self.new ≡ lower.accounted_for inner.now.core) }
         ensures empty { OnOk result (states_in self.new ≡ 0) }
+        ensures reads { OnOk result (self.new.reads_prefix ≡ true) }
         ensures err { OnErr result (FitsAsBefore self.old self.new) }
         ensures sure { FitsInner inner.now self.old → IsOk result }
         ensures kept { FitsInner inner.now self.old → StillFits self.old self.new }
     {
         // First the room for the prefix, so that nothing changes where there is none.
         let missing = self.prefix.missing(alloc, inner.prefix())?;
-        self.reset_for(alloc, inner.core())?;
+        reset_rooms(alloc, &mut self.rooms, inner.core())?;
         self.prefix.renew(missing);
+        self.in_use = true;
         self.reads_prefix = true;
         Ok(())
     }
@@ -169,6 +169,7 @@ impl Cache {
         ensures fits { IfOk result (StillFits self.now) }
         ensures fixed { IfOk result (λ copy. fixed_in copy ≡ fixed_in self.now) }
         ensures empty { IfOk result (λ copy. states_in copy ≡ 0) }
+        ensures reads { IfOk result (λ copy. copy.reads_prefix ≡ self.now.reads_prefix) }
     {
         let prefix = self.prefix.clone(alloc)?;
         match &self.rooms {
@@ -186,6 +187,28 @@ impl Cache {
             }),
         }
     }
+}
+
+/// Makes any cache of a core, or none, one that serves this core.
+#[tactic(auto, using(crate::proofs::CacheLemmas::no_states))]
+fn reset_rooms(
+    alloc: Global,
+    rooms: &mut Option<rx_strategy::Cache>,
+    core: &rx_strategy::Strategy,
+) -> Result<(), Memory>
+    ensures fits { OnOk result (IsSomeAnd rooms.new (lower.Fits core.now)) }
+    ensures memory { OnOk result (rooms_memory rooms.new ≡ lower.accounted_for core.now) }
+    ensures empty { OnOk result (rooms_states rooms.new ≡ 0) }
+    ensures err { OnErr result (ServesAsBefore rooms.old rooms.new) }
+    ensures sure { IsSomeAnd rooms.old (lower.Fits core.now) → IsOk result }
+    ensures kept { IsSomeAnd rooms.old (lower.Fits core.now) → ServesMore rooms.old rooms.new }
+{
+    if let Some(rooms) = rooms {
+        return rooms.reset(alloc, core);
+    }
+    let made = core.create_cache(alloc)?;
+    *rooms = Some(made);
+    Ok(())
 }
 
 /// What is accounted for the cache of a core, if there is one.

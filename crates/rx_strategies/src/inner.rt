@@ -1,9 +1,9 @@
 //! The strategy that searches for literals within each match.
-ghost use Rattle.std.specs.Prelude.{◌≡◌, ◌≤◌, ◌<◌, ◌+◌, ◌*◌, true, false, length, None, replicate, IfOk, MatchOption, IfSome, IfNone, OnErr, IsOk};
+ghost use Rattle.std.specs.Prelude.{◌≡◌, ◌≤◌, ◌<◌, ◌+◌, ◌*◌, false, length, None, replicate, IfOk, MatchOption, IfSome, IfNone, OnErr, IsOk};
 ghost use Rattle.std.specs.Result.{IfErr};
 ghost use Rattle.rx_model.specs.Search.{Patterns, is_anchored};
 ghost use Rattle.rx_search.specs.Answer.{IsAnswer, AreSlotsOfAnswer, TellsWhether};
-ghost use Rattle.rx_search.specs.Input.{IsSpanned, span_len};
+ghost use Rattle.rx_search.specs.Input.{span_len};
 ghost use Rattle.rx_search.specs.Matches.{match_value, half_match_value};
 ghost use Rattle.rx_search.specs.Promise.{Premises};
 ghost use Rattle.rx_search.specs.Told.{AreWithin, LiesIn, HalfLiesIn};
@@ -16,7 +16,7 @@ ghost use Rattle.rx_strategy.specs.Prefix.{FitsPrefix, are_states};
 ghost use Rattle.rx_strategies.specs.Choice.{if_inner_in_order};
 ghost use Rattle.rx_strategies.specs.Attempts.{IsInnerFor, IsInnerTried, IsInnerFound};
 
-use crate::attempts::{half_match, may_attempt, tells_free};
+use crate::attempts::{half_after, may_attempt, slots_after, tells_free, whether_after};
 use rx_hir::Hir;
 use rx_limited::RetryError;
 use rx_order::{InnerPrefilter, inner_has_no_earlier_match};
@@ -74,7 +74,7 @@ impl ReverseInner {
         match PrefixDfa::new(alloc, config, &inner.prefix)? {
             Some(prefix) => Ok(Ok(ReverseInner {
                 core,
-                pre: inner.pre,
+                pre: search_of(inner),
                 prefix,
             })),
             None => Ok(Err(core)),
@@ -157,11 +157,8 @@ impl ReverseInner {
         if !tells_free(&self.core, input) {
             return self.core.search_half(cache, input);
         }
-        match self.attempt::<Brand>(Blank::new(1), cache, states, input) {
-            Ok(found) => Ok(half_match(found)),
-            Err(RetryError::Quadratic(_)) => self.core.search_half(cache, input),
-            Err(_) => Ok(self.core.search_half_nofail(cache, input)),
-        }
+        let tried = self.attempt::<Brand>(Blank::new(1), cache, states, input);
+        half_after(&self.core, cache, input, tried)
     }
 
     /// The next match in the input's span, with its slots, where matches are told.
@@ -192,11 +189,8 @@ impl ReverseInner {
         if !tells_free(&self.core, input) {
             return self.core.search_slots(cache, input, slots);
         }
-        match self.attempt::<Brand>(Blank::new(1), cache, states, input) {
-            Ok(found) => Ok(self.core.tell_found(cache, input, found, slots)),
-            Err(RetryError::Quadratic(_)) => self.core.search_slots(cache, input, slots),
-            Err(_) => Ok(self.core.search_slots_nofail(cache, input, slots)),
-        }
+        let tried = self.attempt::<Brand>(Blank::new(1), cache, states, input);
+        slots_after(&self.core, cache, input, tried, slots)
     }
 
     /// Whether there is a match in the input's span, under each kind of match and of captures.
@@ -223,11 +217,8 @@ impl ReverseInner {
         }
         let mut any = input.clone();
         any.set_earliest(true);
-        match self.attempt::<Brand>(Blank::new(1), cache, states, &any) {
-            Ok(found) => Ok(found.is_some()),
-            Err(RetryError::Quadratic(_)) => self.core.is_match(cache, input),
-            Err(_) => Ok(self.core.is_match_nofail(cache, input)),
-        }
+        let tried = self.attempt::<Brand>(Blank::new(1), cache, states, &any);
+        whether_after(&self.core, cache, input, tried)
     }
 
     /// As `try_search`, where nobody reads the count.
@@ -271,4 +262,11 @@ fn inner_search(alloc: Global, exprs: &[Hir]) -> Result<Option<InnerPrefilter>, 
         return Ok(Some(inner));
     }
     Ok(None)
+}
+
+/// The search for the literals.
+fn search_of(inner: InnerPrefilter) -> Prefilter
+    ensures { result ≡ inner.pre }
+{
+    inner.pre
 }

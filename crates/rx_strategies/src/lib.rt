@@ -6,6 +6,7 @@
 #![tactic(auto)]
 
 mod anchored;
+mod attempting;
 mod attempts;
 mod cache;
 mod inner;
@@ -16,6 +17,7 @@ mod suffix;
 mod threads;
 
 pub use anchored::ReverseAnchored;
+pub use attempting::{reverse_inner_attempt, reverse_suffix_attempt};
 pub use cache::Cache;
 pub use inner::ReverseInner;
 pub use laws::a_strategy_finds_what_is_told;

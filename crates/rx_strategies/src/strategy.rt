@@ -14,8 +14,9 @@ ghost use Rattle.rx_nfa.specs.Compiled.{AreAllowed, IsRefusal};
 ghost use Rattle.rx_strategy.specs.Config.{kind_of, compiler_of};
 ghost use Rattle.rx_strategy.specs.Impossible.{is_impossible, IsKnownImpossible};
 ghost use Rattle.rx_strategy.specs.Strategy as lower;
+ghost use Rattle.rx_strategies.specs.Attempting.{is_by_inner};
 ghost use Rattle.rx_strategies.specs.Cache.{Fits, AccountsAlike, memory_of, states_in, accounted_for};
-ghost use Rattle.rx_strategies.specs.Strategy.{IsFor, IsMadeOf, IsPlainOf, IsForwardsOf, kind_in, groups_in, pattern_count, properties_of, prefilter_in, strategy_memory, core_memory};
+ghost use Rattle.rx_strategies.specs.Strategy.{IsFor, IsMadeOf, IsPlainOf, IsForwardsOf, IsEndlessOf, kind_in, groups_in, pattern_count, properties_of, prefilter_in, strategy_memory, core_memory};
 ghost use Rattle.rx_strategies.specs.Strategy.{backtracks, is_accelerated, name_of, IsFew};
 
 mod candidates;
@@ -269,6 +270,7 @@ impl Strategy {
         ensures fits { IfOk result (Fits self.now) }
         ensures memory { IfOk result (λ c. memory_of c ≡ accounted_for self.now) }
         ensures empty { IfOk result (λ c. states_in c ≡ 0) }
+        ensures reads { IfOk result (λ c. c.reads_prefix ≡ is_by_inner self.now) }
     {
         Cache::new(alloc, self)
     }
@@ -372,12 +374,12 @@ fn with_core(
 {
     match ReverseAnchored::new(core) {
         Ok(anchored) => Ok(Strategy::ReverseAnchored(anchored)),
-        Err(core) => by_candidates(alloc, config, exprs, core),
+        Err(core) => by_suffix(alloc, config, exprs, core),
     }
 }
 
-/// The first of those that search by candidates that applies, or else the core.
-fn by_candidates(
+/// The search by a literal that ends each match, where the expressions, of which the core is, are searched so; else what comes behind it.
+fn by_suffix(
     alloc: Global,
     config: &Config,
     exprs: &[Hir],
@@ -386,10 +388,22 @@ fn by_candidates(
     requires { IsForwardsOf config.now exprs.now core }
     ensures { IfOk result (IsMadeOf config.now exprs.now) }
 {
-    let core = match ReverseSuffix::new(alloc, config, exprs, core)? {
-        Ok(suffix) => return Ok(Strategy::ReverseSuffix(suffix)),
-        Err(core) => core,
-    };
+    match ReverseSuffix::new(alloc, config, exprs, core)? {
+        Ok(suffix) => Ok(Strategy::ReverseSuffix(suffix)),
+        Err(core) => by_inner(alloc, config, exprs, core),
+    }
+}
+
+/// The search by literals within each match, where the expressions, of which the core is, are searched so; else the core.
+fn by_inner(
+    alloc: Global,
+    config: &Config,
+    exprs: &[Hir],
+    core: rx_strategy::Strategy,
+) -> Result<Strategy, Memory>
+    requires { IsEndlessOf config.now exprs.now core }
+    ensures { IfOk result (IsMadeOf config.now exprs.now) }
+{
     match ReverseInner::new(alloc, config, exprs, core)? {
         Ok(inner) => Ok(Strategy::ReverseInner(inner)),
         Err(core) => Ok(Strategy::Core(core)),

@@ -1,9 +1,9 @@
 //! The strategy that searches for the literal at the end of each match.
-ghost use Rattle.std.specs.Prelude.{◌≡◌, ◌≤◌, ◌<◌, ◌+◌, ◌*◌, true, false, length, None, replicate, IfOk, IfSome, IfNone, OnErr, IsOk};
+ghost use Rattle.std.specs.Prelude.{◌≡◌, ◌≤◌, ◌<◌, ◌+◌, ◌*◌, ◌∷◌, [], false, length, Some, None, replicate, IfOk, IfSome, IfNone, OnErr, IsOk};
 ghost use Rattle.std.specs.Result.{IfErr};
 ghost use Rattle.rx_model.specs.Search.{Patterns, is_anchored};
 ghost use Rattle.rx_search.specs.Answer.{IsAnswer, AreSlotsOfAnswer, TellsWhether};
-ghost use Rattle.rx_search.specs.Input.{IsSpanned, span_len};
+ghost use Rattle.rx_search.specs.Input.{span_len};
 ghost use Rattle.rx_search.specs.Matches.{match_value, half_match_value};
 ghost use Rattle.rx_search.specs.Promise.{Premises};
 ghost use Rattle.rx_search.specs.Told.{AreWithin, LiesIn, HalfLiesIn};
@@ -11,9 +11,9 @@ ghost use Rattle.rx_dfa.specs.Search.{IsAnswerFor};
 ghost use Rattle.rx_strategy.specs.Cache.{Fits, AccountsAlike};
 ghost use Rattle.rx_strategy.specs.Impossible.{IsKnownImpossible};
 ghost use Rattle.rx_strategy.specs.Strategy.{IsMadeOf, kind_in, pattern_count, prefilter_in, properties_of, SuffixFailsFor, CountsSuffix};
-ghost use Rattle.rx_strategies.specs.Attempts.{IsSuffixFor, IsSuffixTried, IsSuffixFound};
+ghost use Rattle.rx_strategies.specs.Attempts.{IsSuffixFor, IsSuffixTried, IsSuffixFound, IsOrderedSearch};
 
-use crate::attempts::{half_match, may_attempt, tells_free};
+use crate::attempts::{half_after, may_attempt, slots_after, tells_free, whether_after};
 use rx_hir::Hir;
 use rx_limited::RetryError;
 use rx_literal::{longest_common_suffix, suffixes};
@@ -129,11 +129,8 @@ impl ReverseSuffix {
         if !tells_free(&self.core, input) {
             return self.core.search_half(cache, input);
         }
-        match self.attempt::<Brand>(Blank::new(1), cache, input) {
-            Ok(found) => Ok(half_match(found)),
-            Err(RetryError::Quadratic(_)) => self.core.search_half(cache, input),
-            Err(_) => Ok(self.core.search_half_nofail(cache, input)),
-        }
+        let tried = self.attempt::<Brand>(Blank::new(1), cache, input);
+        half_after(&self.core, cache, input, tried)
     }
 
     /// The next match in the input's span, with its slots, where matches are told.
@@ -160,11 +157,8 @@ impl ReverseSuffix {
         if !tells_free(&self.core, input) {
             return self.core.search_slots(cache, input, slots);
         }
-        match self.attempt::<Brand>(Blank::new(1), cache, input) {
-            Ok(found) => Ok(self.core.tell_found(cache, input, found, slots)),
-            Err(RetryError::Quadratic(_)) => self.core.search_slots(cache, input, slots),
-            Err(_) => Ok(self.core.search_slots_nofail(cache, input, slots)),
-        }
+        let tried = self.attempt::<Brand>(Blank::new(1), cache, input);
+        slots_after(&self.core, cache, input, tried, slots)
     }
 
     /// Whether there is a match in the input's span, under each kind of match and of captures.
@@ -183,11 +177,8 @@ impl ReverseSuffix {
         }
         let mut any = input.clone();
         any.set_earliest(true);
-        match self.attempt::<Brand>(Blank::new(1), cache, &any) {
-            Ok(found) => Ok(found.is_some()),
-            Err(RetryError::Quadratic(_)) => self.core.is_match(cache, input),
-            Err(_) => Ok(self.core.is_match_nofail(cache, input)),
-        }
+        let tried = self.attempt::<Brand>(Blank::new(1), cache, &any);
+        whether_after(&self.core, cache, input, tried)
     }
 
     /// As `try_search`, where nobody reads the count.
@@ -223,13 +214,28 @@ fn suffix_search(alloc: Global, exprs: &[Hir]) -> Result<Option<Prefilter>, Memo
         return Ok(None);
     }
     let ends = suffixes(alloc, &exprs[0])?;
-    let Some(suffix) = longest_common_suffix(&ends) else {
-        return Ok(None);
-    };
-    if !suffix_has_no_earlier_match(alloc, exprs, suffix)? {
-        return Ok(None);
+    match longest_common_suffix(&ends) {
+        Some(suffix) => ordered_search(alloc, exprs, suffix),
+        None => Ok(None),
     }
+}
+
+/// The search for this literal, where no match of the only expression starts earlier than the first one that is so confirmed.
+fn ordered_search(alloc: Global, exprs: &[Hir], suffix: &[u8]) -> Result<Option<Prefilter>, Memory>
+    ensures { IfOk result (IsOrderedSearch exprs.now suffix.now) }
+{
+    if suffix_has_no_earlier_match(alloc, exprs, suffix)? {
+        return needle_search(alloc, suffix);
+    }
+    Ok(None)
+}
+
+/// The search for a needle that has a byte.
+fn needle_search(alloc: Global, needle: &[u8]) -> Result<Option<Prefilter>, Memory>
+    requires { 0 < length needle.now }
+    ensures { IfOk result (λ made. made ≡ Some (needle.now ∷ [])) }
+{
     let mut needles = Vec::with_capacity(alloc, 1)?;
-    needles.push(Vec::from_slice(alloc, suffix)?)?;
+    needles.push(Vec::from_slice(alloc, needle)?)?;
     Prefilter::new(alloc, MatchKind::LeftmostFirst, &needles)
 }

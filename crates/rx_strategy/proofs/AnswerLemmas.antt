@@ -7,7 +7,7 @@ use Rattle.rx_model.proofs.lemmas.matches.WithinLemmas.{next-later, match-next}
 use Rattle.rx_search.specs.Input.{InputValue, next_in}
 use Rattle.rx_search.specs.Matches.{MatchValue, match_value, half_match_value}
 use Rattle.rx_search.specs.PatternSet.{has}
-use Rattle.rx_search.specs.Promise.{Premises}
+use Rattle.rx_search.specs.Promise.{Premises, Promised}
 use Rattle.rx_search.specs.Sets.{MatchesIn, GainsMatching, AddsMatching, IsFilledFor, IsFilled}
 use Rattle.rx_search.specs.Told.{tells, told_in, IsMatchWith, HasSlots}
 use Rattle.rx_search.specs.declared.anchored.MatchKind.{MatchKind}
@@ -127,6 +127,33 @@ module _ {A B : Type 0} (IsFor : Patterns → Type 0) (needles : Option (List (L
   pub part-none : (P : Type 0) → IfNone found P → IfNone answer P
   part-none P gone = rw is (none-map P f found gone)
 
+-- What searches for some patterns, and what it answers, where that is known of more of them.
+module _ (For More : Patterns → Type 0) (needles : Option (List (List ℕ))) (v : InputValue)
+    (more : (r : Patterns) → Premises (For r) needles r v → More r) where
+  pub more-premises : (r : Patterns) → Premises (For r) needles r v → Premises (More r) needles r v
+  more-premises r p = record { is_for = more r p; begins = p.begins; utf8 = p.utf8 }
+
+  more-promised : (kind : MatchKind) (r : Patterns) → Promised (For r) needles kind r v → Promised (More r) needles kind r v
+  more-promised kind r p = record { premises = more-premises r p.premises; leftmost = p.leftmost; told = p.told; whole = p.whole }
+
+  pub fewer-answers : (kind : MatchKind) {T : Type 0} (part : Match → T) (found : Option T) → IsAnswer More needles kind v part found
+      → IsAnswer For needles kind v part found
+  fewer-answers kind part found is = record {
+    value = λ r p. is.value r (more-promised kind r p);
+    exists = λ r p. is.exists r (more-premises r p);
+    is_match = λ r p. is.is_match r (more-premises r p);
+  }
+
+  pub fewer-slots : (kind : MatchKind) {T : Type 0} (part : Match → T) (slots : List (Option ℕ)) (found : Option T)
+      → AreSlotsOfAnswer More needles kind v part slots found → AreSlotsOfAnswer For needles kind v part slots found
+  fewer-slots kind part slots found are = record {
+    value = λ r p. are.value r (more-promised kind r p);
+    is_match = λ r p. are.is_match r (more-premises r p);
+  }
+
+  pub fewer-whether : (there : Bool) → TellsWhether More needles v there → TellsWhether For needles v there
+  fewer-whether there is r p = is r (more-premises r p)
+
 -- Nothing is found where there is no match.
 module _ {A : Type 0} (IsFor : Patterns → Type 0) (needles : Option (List (List ℕ))) (kind : MatchKind) (v : InputValue) (part : Match → A)
     (gone : (r : Patterns) → IsFor r → next_in r v ≡ None) where
@@ -170,41 +197,7 @@ module _ (c : CoreValue) (v : InputValue) where
   core-begins : v.end ≤ length v.haystack → (r : Patterns) → Premises (IsCoreFor c r) c.pre r v → BeginsEachRun c.pre c.nfa v
   core-begins within r p = begins-run c.pre c.nfa r v p.is_for.nfa p.is_for.ordered within p.begins
 
-  module _ (kind : MatchKind) (slots : List (Option ℕ)) (found : Option MatchValue) where
-    -- what an engine tells of a search, of the patterns
-    pub searched-told : IsSearched c.nfa v slots found → (r : Patterns) → IsCoreFor c r → IsToldFor kind r v slots found
-    searched-told s r of =
-        let w = r.which_captures in
-        let same : next_match_in c.nfa v ≡ option_map (told_of w) (next_in r v) = s.patterns r of.nfa in
-        record {
-          value = λ leftmost whole. s.value whole ∙ ap (option_map match_value) same ∙ spans-told w (next_in r v);
-          exists = s.exists ∙ ap is_some same ∙ is_some-map (told_of w) (next_in r v);
-          is_match = s.is_match r of.nfa;
-          slots = λ leftmost whole. subst (λ (o : Option Match). IfSome o (HasSlots slots)) same (s.slots whole);
-        }
-
-    -- which is known where each run begins with a needle
-    pub engine-told : v.end ≤ length v.haystack → (BeginsEachRun c.pre c.nfa v → IsSearched c.nfa v slots found) → (r : Patterns)
-        → Premises (IsCoreFor c r) c.pre r v → IsToldFor kind r v slots found
-    engine-told within searched r p = searched-told (searched (core-begins within r p)) r p.is_for
-
-    module _ (told-for : (r : Patterns) → Premises (IsCoreFor c r) c.pre r v → IsToldFor kind r v slots found) where
-      pub core-answers : tells c.which_captures ≡ true → IsAnswer (λ r. IsCoreFor c r) c.pre kind v match_value found
-      core-answers told = record {
-        value = λ r p. (told-for r p.premises).value p.leftmost p.whole;
-        exists = λ r p. (told-for r p).exists ∙ ap is_some (sym (told-yes r v (ap tells p.is_for.which_captures ∙ told)));
-        is_match = λ r p. slots-aside r v slots found (told-for r p).is_match;
-      }
-
-      pub core-slots : AreSlotsOfAnswer (λ r. IsCoreFor c r) c.pre kind v match_value slots found
-      core-slots = record {
-        value = λ r p.
-            subst (λ (o : Option Match). IfSome o (HasSlots slots)) (told-whole r.which_captures p.told (next_in r v))
-            ((told-for r p.premises).slots p.leftmost p.whole);
-        is_match = λ r p. (told-for r p).is_match;
-      }
-
-  -- the same of some of its patterns
+  -- what is told of some of its patterns
   module _ (For : Patterns → Type 0) (of : (r : Patterns) → For r → IsCoreFor c r) (kind : MatchKind) where
     module _ (slots : List (Option ℕ)) (found : Option MatchValue)
         (told-for : (r : Patterns) → Premises (For r) c.pre r v → IsToldFor kind r v slots found) where
@@ -232,6 +225,31 @@ module _ (c : CoreValue) (v : InputValue) where
       exists = λ r p. (is r p).exists ∙ ap is_some (sym (told-yes r v (ap tells (of r p.is_for).which_captures ∙ told)));
       is_match = λ r p. (is r p).is_match;
     }
+
+  module _ (kind : MatchKind) (slots : List (Option ℕ)) (found : Option MatchValue) where
+    -- what an engine tells of a search, of the patterns
+    pub searched-told : IsSearched c.nfa v slots found → (r : Patterns) → IsCoreFor c r → IsToldFor kind r v slots found
+    searched-told s r of =
+        let w = r.which_captures in
+        let same : next_match_in c.nfa v ≡ option_map (told_of w) (next_in r v) = s.patterns r of.nfa in
+        record {
+          value = λ leftmost whole. s.value whole ∙ ap (option_map match_value) same ∙ spans-told w (next_in r v);
+          exists = s.exists ∙ ap is_some same ∙ is_some-map (told_of w) (next_in r v);
+          is_match = s.is_match r of.nfa;
+          slots = λ leftmost whole. subst (λ (o : Option Match). IfSome o (HasSlots slots)) same (s.slots whole);
+        }
+
+    -- which is known where each run begins with a needle
+    pub engine-told : v.end ≤ length v.haystack → (BeginsEachRun c.pre c.nfa v → IsSearched c.nfa v slots found) → (r : Patterns)
+        → Premises (IsCoreFor c r) c.pre r v → IsToldFor kind r v slots found
+    engine-told within searched r p = searched-told (searched (core-begins within r p)) r p.is_for
+
+    module _ (told-for : (r : Patterns) → Premises (IsCoreFor c r) c.pre r v → IsToldFor kind r v slots found) where
+      pub core-answers : tells c.which_captures ≡ true → IsAnswer (λ r. IsCoreFor c r) c.pre kind v match_value found
+      core-answers = for-answers (λ r. IsCoreFor c r) (λ r of. of) kind slots found told-for
+
+      pub core-slots : AreSlotsOfAnswer (λ r. IsCoreFor c r) c.pre kind v match_value slots found
+      core-slots = for-slots (λ r. IsCoreFor c r) (λ r of. of) kind slots found told-for
 
   -- nothing is told without captures
   pub silent-answers : (kind : MatchKind) → tells c.which_captures ≡ false → IsAnswer (λ r. IsCoreFor c r) c.pre kind v match_value None

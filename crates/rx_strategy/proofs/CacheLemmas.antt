@@ -1,13 +1,13 @@
 -- Caches that were grown, and what is accounted for them.
 use Rattle.std.proofs.Common.{◌≡◌, ℕ, ◌+◌, ◌-◌, ◌^◌, ◌≤◌, min, refl, sym, ap, ◌∙◌, subst, arith}
-use Rattle.std.specs.Prelude.{Bool, false, Result, Ok, Err, OnErr, Option, Some, None, IfSome, IsSomeAnd}
+use Rattle.std.specs.Prelude.{false, Result, Ok, Err, OnErr, Option, Some, None, IfSome, IsSomeAnd}
 use Rattle.rx_dfa.specs.Lazy.{LazyValue}
 use Rattle.rx_dfa.specs.LazyCache.{IsCacheOf}
 use Rattle.rx_engines.specs.Engine.{PikeVMValue, Fits as FitsPikeVM}
 use Rattle.rx_strategy.specs.Cache.{CacheValue, Fits, FitsAsBefore, FitsBacktracker, AccountsAlike, AccountsAlikeIn, memory_of}
 use Rattle.rx_strategy.specs.Strategy.{has_lazy}
 use Rattle.rx_strategy.specs.Core.{CoreValue, pikevm_of}
-use Rattle.rx_strategy.specs.Dfas.{lazies_of, AreCachesOf, FitsLazies, HoldNoStates, states_memory, are_lazy}
+use Rattle.rx_strategy.specs.Dfas.{lazies_of, AreCachesOf, FitsLazies, HoldNoStates, states_memory}
 use Rattle.rx_strategy.specs.declared.dfas.Dfas.{Dfas}
 use Rattle.rx_strategy.specs.declared.dfas.Dfas.TheVariants.{Lazy}
 use Rattle.rx_strategy.specs.declared.lazies.Lazies.{Lazies}

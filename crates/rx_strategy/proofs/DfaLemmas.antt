@@ -15,11 +15,10 @@ use Rattle.rx_model.proofs.lemmas.meaning.CoverLemmas.{means-run}
 use Rattle.rx_model.proofs.lemmas.meaning.LengthLemmas.{means-long}
 use Rattle.rx_model.proofs.lemmas.runs.FirstLemmas.{none-is-some}
 use Rattle.rx_model.proofs.lemmas.runs.RiseLemmas.{mapped-some}
-use Rattle.rx_search.specs.Answer.{IsAnswer}
 use Rattle.rx_search.specs.Input.{InputValue, next_in}
 use Rattle.rx_search.specs.Matches.{MatchValue, HalfMatchValue, match_value, half_match_value}
 use Rattle.rx_search.specs.Promise.{Premises}
-use Rattle.rx_search.specs.Told.{tells, IsMatchWith, HasSlots}
+use Rattle.rx_search.specs.Told.{IsMatchWith, HasSlots}
 use Rattle.rx_search.specs.declared.anchored.MatchKind.{MatchKind}
 use Rattle.rx_search.specs.declared.anchored.MatchKind.TheVariants.{LeftmostFirst}
 use Rattle.rx_hir.specs.Length.{maximum_len}
@@ -36,7 +35,7 @@ use Rattle.rx_strategy.specs.Core.{CoreValue, IsCoreFor, IsSearched, IsToldFor}
 use Rattle.rx_strategy.specs.Dfas.{pair_of, ArePair, AreLeftmost, IsPairOf, ServeNfa, IsSearchFor, SearchFor, HaveRoomIn, IsPatternOf}
 use Rattle.rx_strategy.specs.Narrow.{narrowed, IsLenOf, of_len}
 use Rattle.rx_strategy.specs.declared.dfas.Dfas.{Dfas}
-use Rattle.rx_strategy.proofs.AnswerLemmas.{agree, told-yes, is_some-map, next-is_match, span-told, half-told, searched-told}
+use Rattle.rx_strategy.proofs.AnswerLemmas.{agree, is_some-map, next-is_match, span-told, half-told, searched-told}
 use Rattle.rx_strategy.proofs.ImpossibleLemmas.{meant-among}
 
 -- each run of an anchored search begins with a needle, since none is looked for
@@ -149,21 +148,6 @@ widened-found r v m is slots (Some x) known = (known.0, widened r v.haystack v.a
 
 -- What DFAs answer of a search for these patterns.
 module _ (c : CoreValue) (v : InputValue) where
-  -- whether there is a match
-  pub whether : (kind : MatchKind) (r : Patterns) (found : Option HalfMatchValue) → IsAnswerFor kind r v half_match_value found
-      → is_some found ≡ is_some (next_in r v)
-  whether kind r found is = is.exists
-
-  -- where matches are told
-  pub dfa-answers : {A : Type 0} (part : Match → A) (found : Option A)
-      → ((r : Patterns) → Premises (IsCoreFor c r) c.pre r v → IsAnswerFor c.kind r v part found) → tells c.which_captures ≡ true
-      → IsAnswer (λ r. IsCoreFor c r) c.pre c.kind v part found
-  dfa-answers part found is told = record {
-    value = λ r p. (is r p.premises).value p.leftmost p.whole;
-    exists = λ r p. (is r p).exists ∙ ap is_some (sym (told-yes r v (ap tells p.is_for.which_captures ∙ told)));
-    is_match = λ r p. (is r p).is_match;
-  }
-
   -- where all matches have one length, a match is known by its end
   module _ (within : v.end ≤ length v.haystack) (r : Patterns) (of : IsCoreFor c r) (n : ℕ)
       (len : IsLenOf (alternation (expressions r.expressions)) n) where

@@ -1,5 +1,5 @@
 -- Where each match ends with the span, the least start of a part up to its end is that of the next match.
-use Rattle.std.proofs.Common.{◌≡◌, ℕ, ◌<◌, ◌≤◌, length, refl, sym, ap, ◌∙◌, subst, arith, inl, inr}
+use Rattle.std.proofs.Common.{◌≡◌, ℕ, ◌<◌, length, sym, ap, ◌∙◌, subst, arith, inl, inr}
 use Rattle.std.specs.Prelude.{true, false, List, Option, Some, None, option_map, is_some, IfSome, IsSomeAnd, Result, Ok, Err, IfOk}
 use Rattle.rx_model.specs.Meaning.{Means}
 use Rattle.rx_model.specs.Search.{Anchor, free, anchored, is_permitted, Match, Patterns, slot_of}
@@ -10,15 +10,14 @@ use Rattle.rx_model.proofs.lemmas.meaning.CoverLemmas.{means-run}
 use Rattle.rx_model.proofs.lemmas.runs.FirstLemmas.{tells}
 use Rattle.rx_search.specs.Input.{InputValue, next_in}
 use Rattle.rx_search.specs.Matches.{MatchValue, HalfMatchValue, match_value}
-use Rattle.rx_search.specs.Told.{IsMatchWith, LiesIn, HalfLiesIn}
+use Rattle.rx_search.specs.Told.{LiesIn, HalfLiesIn}
 use Rattle.rx_search.specs.declared.anchored.MatchKind.{MatchKind}
-use Rattle.rx_nfa.specs.Nfa.{Nfa}
 use Rattle.rx_determinize.specs.Told.{MeansUpTo, IsLeastStartWhere}
 use Rattle.rx_dfa.specs.Automaton.{Dfa}
 use Rattle.rx_dfa.specs.Search.{IsReverseAnswer, IsAnswerFor, TellsStarts}
 use Rattle.rx_dfa.proofs.lemmas.AnswerLemmas.{match-told, run-match}
 use Rattle.rx_dfa.proofs.lemmas.WalkLemmas.{RunsTo}
-use Rattle.rx_strategy.specs.Dfas.{pair_of, ArePair, ServeNfa, IsPairOf, IsPatternOf}
+use Rattle.rx_strategy.specs.Dfas.{pair_of, ArePair, IsPatternOf}
 use Rattle.rx_strategy.specs.Ending.{EndsWithSpan, to_end}
 use Rattle.rx_strategy.specs.declared.dfas.Dfas.{Dfas}
 

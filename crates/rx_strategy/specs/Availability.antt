@@ -4,7 +4,7 @@ use Rattle.rx_search.specs.declared.anchored.MatchKind.{MatchKind}
 use Rattle.rx_search.specs.declared.anchored.MatchKind.TheVariants.{All}
 use Rattle.rx_nfa.specs.Nfa.{Nfa}
 use Rattle.rx_dfa.specs.Dense.{IsDfaOf, IsFullTable, IsAbove, size_of}
-use Rattle.rx_dfa.specs.Lazy.{LazyValue, minimum}
+use Rattle.rx_dfa.specs.Lazy.{minimum}
 use Rattle.rx_dfa.specs.LazyBuild.{IsLazyOf}
 use Rattle.rx_dfa.specs.Table.{DenseValue}
 use Rattle.rx_strategy.specs.Config.{kind_of, dfa_of, hybrid_of, hybrid_cache_capacity_of, dfa_size_limit_of, dfa_state_limit_of, byte_classes_of}

@@ -1,5 +1,5 @@
 -- The DFA of what stands before literals, and its cache.
-use Rattle.std.specs.Prelude.{◌≡◌, ◌⊎◌, ℕ, ◌+◌, ◌*◌, ◌/◌, Bool, true, false, List, [], ◌∷◌, length, Option, Some, None, option_map, IfSome, IsSomeAnd}
+use Rattle.std.specs.Prelude.{◌≡◌, ◌⊎◌, ℕ, ◌+◌, ◌*◌, ◌/◌, Bool, true, false, [], ◌∷◌, length, Option, Some, None, option_map, IfSome, IsSomeAnd}
 use Rattle.std.proofs.Props.{props}
 use Rattle.rx_model.specs.Expression.{Expression}
 use Rattle.rx_search.specs.declared.anchored.MatchKind.TheVariants.{All}

@@ -1,10 +1,9 @@
 //! The DFA that reads what stands before literals backwards.
 ghost use Rattle.std.specs.Prelude.{◌≡◌, ◌-◌, ◌^◌, ◌∷◌, [], min, true, false, IfOk, IsOk, MatchOption, None};
-ghost use Rattle.rx_nfa.specs.Nfa.{Nfa};
 ghost use Rattle.rx_nfa.specs.Compiled.{IsCompiled, AreAllowed};
 ghost use Rattle.rx_search.specs.declared.anchored.MatchKind.TheVariants.{All};
 ghost use Rattle.rx_strategy.specs.Config.{prefix_compiler_of};
-ghost use Rattle.rx_strategy.specs.Prefix.{PrefixValue, ReadsBack, IsPrefixOf, HasNoPrefix, HasLargePrefix, IsPrefixTable, HasNoFullPrefix, IsSortOf};
+ghost use Rattle.rx_strategy.specs.Prefix.{PrefixValue, ReadsBack, IsPrefixOf, HasNoPrefix, IsPrefixTable, HasNoFullPrefix, IsSortOf};
 ghost use Rattle.rx_strategy.specs.Prefix.{prefix_memory, FitsPrefix, prefix_states, HoldsNoPrefix, Supplies, IsNoRoom, IsBlank};
 ghost use Rattle.rx_strategy.specs.Availability.{may_be_full, may_be_lazy};
 

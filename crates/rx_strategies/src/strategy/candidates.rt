@@ -1,5 +1,5 @@
 //! The strategies that search by candidates, with the cache of their core.
-ghost use Rattle.std.specs.Prelude.{◌≡◌, ◌<◌, ◌≤◌, length, None, replicate, IfOk, OnOk, OnErr, IsOk, IsSomeAnd, IfNone, IfSome};
+ghost use Rattle.std.specs.Prelude.{◌≡◌, ◌<◌, false, length, None, replicate, IfOk, OnErr, IsOk, IsSomeAnd, IfNone, IfSome};
 ghost use Rattle.rx_search.specs.Answer.{IsAnswer, AreSlotsOfAnswer, TellsWhether};
 ghost use Rattle.rx_search.specs.Matches.{match_value, half_match_value};
 ghost use Rattle.rx_search.specs.Told.{AreWithin, LiesIn, HalfLiesIn};

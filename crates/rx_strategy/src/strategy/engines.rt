@@ -31,7 +31,6 @@ mod ending;
 use crate::cache::Cache;
 use crate::config::{Config, shared};
 use crate::dfas::{Dfas, NoAnswer};
-use crate::found::half_match;
 use crate::info::RegexInfo;
 use crate::narrow::{match_of_len, narrowed};
 use crate::prefilter::memory_usage as accounted;
@@ -249,8 +248,7 @@ impl Core {
     {
         match self.try_is_match(cache, input) {
             Ok(there) => there,
-            // It can stop at the first match (DECISIONS: of the engines that always answer).
-            Err(_) => self.pikevm.is_match(&mut cache.pikevm, input),
+            Err(_) => self.is_match_nofail(cache, input),
         }
     }
 
@@ -283,7 +281,7 @@ impl Core {
     {
         match self.try_search_half(cache, input) {
             Ok(found) => found,
-            Err(_) => half_match(self.search_nofail(cache, input, &mut [])),
+            Err(_) => self.search_half_nofail(cache, input),
         }
     }
 
@@ -419,7 +417,7 @@ impl Core {
     {
         match self.try_search_mayfail(cache, input) {
             Ok(found) => found,
-            Err(_) => self.search_nofail(cache, input, &mut []),
+            Err(_) => self.search_slots_nofail(cache, input, &mut []),
         }
     }
 

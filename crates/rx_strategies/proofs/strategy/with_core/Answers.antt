@@ -10,7 +10,7 @@ returns-in-Ok c =
     end-made c.args.config.now c.args.exprs.now c.args.core c.in-Ok.anchored
     (subst (λ (o : Result CoreStrategy CoreStrategy). IsFromEnd c.args.core o) c.in-Ok.is c.new.ensures) c.requires
 
-pub by_candidates-requires : goal.by_candidates-requires
-by_candidates-requires c =
+pub by_suffix-requires : goal.by_suffix-requires
+by_suffix-requires c =
     forwards-made c.args.config.now c.args.exprs.now c.args.core c.in-Err.core
     (subst (λ (o : Result CoreStrategy CoreStrategy). IsFromEnd c.args.core o) c.in-Err.is c.new.ensures) c.requires

@@ -149,6 +149,7 @@ impl Core {
         ensures cache { FitsCore self.now cache.new }
         ensures memory { AccountsAlikeIn self.now cache.old cache.new }
     {
+        // It can stop at the first match (DECISIONS: of the engines that always answer).
         self.pikevm.is_match(&mut cache.pikevm, input)
     }
 

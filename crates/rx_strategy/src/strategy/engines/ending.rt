@@ -14,7 +14,6 @@ ghost use Rattle.rx_strategy.specs.Ending.{EndsWithSpan, is_fast_by};
 
 use crate::cache::Cache;
 use crate::dfas::NoAnswer;
-use crate::span::leave_span;
 use crate::strategy::engines::Core;
 use rx_search::{Input, Match, NonMaxUsize};
 
@@ -77,12 +76,6 @@ impl Core {
         ensures cache { FitsCore self.now cache.new }
         ensures memory { AccountsAlikeIn self.now cache.old cache.new }
     {
-        // As in a search: an engine keeps slots where groups are asked for alone.
-        if slots.len() > 2 * self.get_nfa().pattern_len() {
-            return self.search_found(cache, input, &found, slots);
-        }
-        let _haystack = input.haystack();
-        leave_span(&found, slots);
-        found
+        self.tell_found(cache, input, found, slots)
     }
 }

@@ -1,4 +1,4 @@
-use Rattle.std.proofs.Common.{◌≡◌, subst}
+use Rattle.std.proofs.Common.{subst}
 use Rattle.std.specs.Prelude.{Option}
 use Rattle.rx_strategy.specs.Dfas.{FitsLazies}
 use Rattle.rx_strategy.specs.declared.dfas.Dfas.{Dfas}

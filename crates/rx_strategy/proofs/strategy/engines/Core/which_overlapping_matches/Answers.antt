@@ -1,4 +1,4 @@
-use Rattle.std.proofs.Common.{◌≤◌, length, arith}
+use Rattle.std.proofs.Common.{arith}
 use Rattle.rx_engines.proofs.lemmas.answers.OverlapLemmas.{keeps-twice, gains-twice}
 use Rattle.rx_strategy.proofs.CacheLemmas.{alike-then}
 use Rattle.rx_strategy.proofs.strategy.engines.Core.which_overlapping_matches.Goals as goal

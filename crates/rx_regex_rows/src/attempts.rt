@@ -1,0 +1,345 @@
+//! Searches from candidate to candidate: what an attempt tells, in how many steps, and that searches answer all the same.
+ghost use Rattle.std.specs.Prelude.{◌≡◌, ◌<◌};
+ghost use Rattle.rx_meta.specs.Cache.{Fits};
+
+use crate::dfas::{
+    FULL, LAZY, NOTHING, Row, Sort, after_end, found_with, input_from, span_of, told_with,
+    with_alone,
+};
+use crate::regex::{cache_of, configured};
+use rx_meta::{
+    Cache, Config, Quadratic, Regex, RetryError, reverse_inner_attempt, reverse_suffix_attempt,
+};
+use rx_search::{Input, Match, Steps};
+use std::alloc::Global;
+use std::marker::Brand;
+use std::process::Abort;
+use std::sync::Wait;
+use std::sync::ledger::{Blank, Ledger};
+
+/// What an attempt comes to.
+#[derive(Clone, Copy, PartialEq, Eq)]
+enum Tried {
+    /// The span of the match, or that there is none.
+    Found(Option<(usize, usize)>),
+    Below {
+        at: usize,
+        min_start: usize,
+    },
+    /// The start that was found.
+    AtStart(usize),
+    Candidate {
+        start: usize,
+        stopped: usize,
+    },
+    Failed,
+}
+
+/// What the answer of an attempt tells.
+fn outcome_of(answer: Result<Option<Match>, RetryError>) -> Tried {
+    match answer {
+        Ok(found) => Tried::Found(span_of(found)),
+        Err(RetryError::Quadratic(Quadratic::Below { at, min_start })) => {
+            Tried::Below { at, min_start }
+        }
+        Err(RetryError::Quadratic(Quadratic::AtStart { found })) => Tried::AtStart(found.offset()),
+        Err(RetryError::Quadratic(Quadratic::Candidate { start, stopped })) => {
+            Tried::Candidate { start, stopped }
+        }
+        Err(RetryError::Fail { offset: _ }) => Tried::Failed,
+        Err(RetryError::Memory) => Tried::Failed,
+    }
+}
+
+/// What an attempt in the text comes to, by the strategy that the regex has, and the number of its steps. Another strategy makes none.
+fn attempt<L: Ledger>(
+    blank: Blank,
+    regex: &Regex,
+    cache: &mut Cache,
+    text: &[u8],
+) -> Option<(Tried, u64)>
+    requires name { blank.name ≡ L.name }
+    requires parts { blank.parts ≡ L.parts }
+    requires some { 0 < blank.parts }
+    requires fits { Fits regex.now cache.old }
+{
+    let mut steps = Steps::<L>::open(blank);
+    let input = Input::new(text);
+    if regex.strategy_name() == "reverse suffix" {
+        let answer = reverse_suffix_attempt(regex, cache, &input, &mut steps);
+        return Some((outcome_of(answer), steps.taken()));
+    }
+    if regex.strategy_name() == "reverse inner" {
+        let answer = reverse_inner_attempt(regex, cache, &input, &mut steps);
+        return Some((outcome_of(answer), steps.taken()));
+    }
+    None
+}
+
+/// The same with a new cache.
+fn attempted(rt: &impl Abort, alloc: Global, regex: &Regex, text: &[u8]) -> (Tried, u64) {
+    let mut cache = cache_of(rt, alloc, regex);
+    let made = attempt::<Brand>(Blank::new(1), regex, &mut cache, text);
+    made.expect(rt, "a strategy that makes attempts")
+}
+
+/// A pattern, a text, what an attempt comes to, and the span that a search tells.
+type Attempt = (
+    &'static str,
+    &'static str,
+    Tried,
+    Option<(usize, usize)>,
+);
+
+const ATTEMPTS: [Attempt; 9] = [
+    // Before the second candidate the byte at 6 would be read again.
+    (
+        r"\w+\s+Holmes",
+        " Holmes Holmes",
+        Tried::Below {
+            at: 6,
+            min_start: 7,
+        },
+        Some((1, 14)),
+    ),
+    // For all that is known at the start of the span, a match may start before it.
+    (
+        "(?:[a-b]d)+c",
+        "dadc",
+        Tried::AtStart(1),
+        Some((1, 4)),
+    ),
+    // The first search forwards came to the end, behind the second candidate.
+    (
+        "[a-z]+@[a-z@]+[0-9]",
+        "a@b@c",
+        Tried::Candidate {
+            start: 3,
+            stopped: 5,
+        },
+        None,
+    ),
+    (
+        r"\w+\s+Holmes",
+        "Mr  Holmes Holmes",
+        Tried::Found(Some((0, 10))),
+        Some((0, 10)),
+    ),
+    (
+        r"\w+\s+Holmes",
+        "Mr  Watson",
+        Tried::Found(None),
+        None,
+    ),
+    // The byte before the start shows that a match was met there, and the one before that that none is to come.
+    (
+        r"\s[A-Za-z]{0,12}ing\s",
+        "x king sing ",
+        Tried::AtStart(1),
+        Some((1, 7)),
+    ),
+    (
+        r"\s[A-Za-z]{0,12}ing\s",
+        "xx king sing ",
+        Tried::Found(Some((2, 8))),
+        Some((2, 8)),
+    ),
+    (
+        "(a|aa)b",
+        "xxaab",
+        Tried::Found(Some((2, 5))),
+        Some((2, 5)),
+    ),
+    (
+        "(a|aa)b",
+        "xxbb",
+        Tried::Found(None),
+        None,
+    ),
+];
+
+/// Whether the attempt and a search tell what is wanted.
+fn is_tried(rt: &impl Abort, alloc: Global, row: Attempt) -> bool {
+    let (pattern, text, wanted, span) = row;
+    let regex = configured(rt, alloc, Config::new(), pattern);
+    let (told, _) = attempted(rt, alloc, &regex, text.as_bytes());
+    let mut cache = cache_of(rt, alloc, &regex);
+    told == wanted && found_with(rt, &regex, &mut cache, &Input::new(text.as_bytes())) == span
+}
+
+#[test]
+fn attempts_tell_what_they_meet(rt: HostRuntime) {
+    for k in 0..ATTEMPTS.len() {
+        assert!(rt;
+            is_tried(&rt, rt.alloc(), ATTEMPTS[k]),
+            "row {k}"
+        );
+    }
+}
+
+/// The text so many times.
+fn times(rt: &impl Abort, alloc: Global, text: &[u8], count: usize) -> Vec<u8> {
+    let mut all = Vec::new(alloc);
+    for _ in 0..count {
+        all.extend_from_slice(text).ok().expect(rt, "room");
+    }
+    all
+}
+
+/// How many steps an attempt takes in the text, so many times.
+fn steps_of(rt: &impl Abort, alloc: Global, pattern: &str, text: &[u8], count: usize) -> u64 {
+    let regex = configured(rt, alloc, Config::new(), pattern);
+    let all = times(rt, alloc, text, count);
+    let (_, steps) = attempted(rt, alloc, &regex, &all);
+    steps
+}
+
+/// At most eight for each byte, and eight more.
+#[test]
+fn attempts_take_few_steps(rt: HostRuntime) {
+    let alloc = rt.alloc();
+    assert!(rt; steps_of(&rt, alloc, "[a-q][^u-z]{13}x", b"x", 1000) <= 8008);
+    assert!(rt; steps_of(&rt, alloc, r"\w+\s+Holmes", b" Holmes", 100) <= 5608);
+    assert!(rt; steps_of(&rt, alloc, "[a-z]+@[a-z@]+[0-9]", b"a@", 500) <= 8008);
+}
+
+/// A match is found where an attempt gives up.
+#[test]
+fn a_search_goes_on_where_an_attempt_gives_up(rt: HostRuntime) {
+    let alloc = rt.alloc();
+    let regex = configured(&rt, alloc, Config::new(), r"\w+\s+Holmes");
+    let mut cache = cache_of(&rt, alloc, &regex);
+    let text = times(&rt, alloc, b" Holmes", 100);
+    let found = found_with(&rt, &regex, &mut cache, &Input::new(&text));
+    assert_eq!(rt; found, Some((1, 14)));
+}
+
+const ROWS: [Row; 9] = [
+    (
+        "([A-Za-z]+)[ \t]+Holmes",
+        "Mr  Holmes Holmes",
+        0,
+        false,
+        (Some((0, 10)), Some(10), true, (Some(0), Some(2))),
+    ),
+    (
+        "([A-Za-z]+)[ \t]+Holmes",
+        " Holmes Holmes",
+        0,
+        false,
+        (Some((1, 14)), Some(14), true, (Some(1), Some(7))),
+    ),
+    (
+        "([A-Za-z]+)[ \t]+Holmes",
+        "Mr  Holmes Holmes",
+        4,
+        true,
+        (Some((4, 17)), Some(17), true, (Some(4), Some(10))),
+    ),
+    (
+        "([A-Za-z]+)[ \t]+Holmes",
+        "Mr  Holmes Holmes",
+        11,
+        false,
+        NOTHING,
+    ),
+    (
+        "((?:[a-b]d)+)c",
+        "dadc",
+        0,
+        false,
+        (Some((1, 4)), Some(4), true, (Some(1), Some(3))),
+    ),
+    ("([a-z]+)@[a-z@]+[0-9]", "a@b@c", 0, false, NOTHING),
+    (
+        "([a-z]+)@[a-z@]+[0-9]",
+        "a@b@c1",
+        0,
+        false,
+        (Some((0, 6)), Some(6), true, (Some(0), Some(1))),
+    ),
+    (
+        "(a|aa)b",
+        "xaab",
+        0,
+        false,
+        (Some((1, 4)), Some(4), true, (Some(1), Some(3))),
+    ),
+    ("(a|aa)b", "xaab", 1, true, (Some((1, 4)), Some(4), true, (Some(1), Some(3)))),
+];
+
+/// Whether a regex that searches by candidates, with DFAs of this sort, tells what is wanted.
+fn is_told<R: Abort + Wait>(rt: &R, alloc: Global, sort: Sort, row: Row) -> bool {
+    let (pattern, text, start, anchored, wanted) = row;
+    let regex = configured(rt, alloc, with_alone(Config::new(), sort), pattern);
+    let mut cache = cache_of(rt, alloc, &regex);
+    let input = input_from(rt, text.as_bytes(), start, anchored);
+    let told = told_with(rt, alloc, &regex, &mut cache, &input);
+    regex.strategy_name() != "core" && told == wanted
+}
+
+#[test]
+fn rows_by_candidates(rt: HostRuntime) {
+    for sort in [FULL, LAZY] {
+        for k in 0..ROWS.len() {
+            assert!(rt; is_told(&rt, rt.alloc(), sort, ROWS[k]), "row {k}");
+        }
+    }
+}
+
+/// The bytes that are accounted for a new cache of a regex of lazy DFAs, and after a search for the end of a match.
+fn before_and_after(rt: &impl Abort, alloc: Global, pattern: &str, text: &[u8]) -> (usize, usize) {
+    let regex = configured(rt, alloc, Config::new().dfa(false), pattern);
+    let mut cache = cache_of(rt, alloc, &regex);
+    let new = cache.memory_usage();
+    (new, after_end(rt, &regex, &mut cache, text))
+}
+
+/// Whether a search in the text makes states of a lazy DFA.
+fn makes_states(rt: &impl Abort, alloc: Global, pattern: &str, text: &[u8]) -> bool {
+    let (new, after) = before_and_after(rt, alloc, pattern, text);
+    new < after
+}
+
+/// No DFA reads a byte where no candidate is.
+#[test]
+fn a_text_without_candidates_makes_no_states(rt: HostRuntime) {
+    let alloc = rt.alloc();
+    assert!(rt; !makes_states(&rt, alloc, r"\w+\s+Holmes", b"abcdefghij"));
+    assert!(rt; makes_states(&rt, alloc, r"\w+\s+Holmes", b"ab Holmes"));
+    assert!(rt; !makes_states(&rt, alloc, r"\w+@\w+", b"abcdefghij"));
+    assert!(rt; makes_states(&rt, alloc, r"\w+@\w+", b"ab@cdefghi"));
+}
+
+/// What is found with a cache of the first pattern that is reset for the second one.
+fn found_over(
+    rt: &impl Abort,
+    alloc: Global,
+    first: &str,
+    second: &str,
+    text: &[u8],
+) -> Option<(usize, usize)> {
+    let first = configured(rt, alloc, Config::new(), first);
+    let second = configured(rt, alloc, Config::new(), second);
+    let mut cache = cache_of(rt, alloc, &first);
+    cache.reset(alloc, &second).ok().expect(rt, "memory");
+    found_with(rt, &second, &mut cache, &Input::new(text))
+}
+
+#[test]
+fn a_cache_is_reset_from_one_strategy_to_another(rt: HostRuntime) {
+    let alloc = rt.alloc();
+    let patterns = ["foo", "[a-z]+", r"[a-z]+$", r"\w+\s+foo", r"\w+@\w+"];
+    for first in patterns {
+        for (second, wanted) in [
+            ("foo", (2, 5)),
+            ("[a-z]+", (0, 1)),
+            ("[a-z]+$", (8, 9)),
+            (r"\w+\s+foo", (0, 5)),
+            (r"\w+@\w+", (6, 9)),
+        ] {
+            let found = found_over(&rt, alloc, first, second, b"a foo b@c");
+            assert_eq!(rt; found, Some(wanted));
+        }
+    }
+}

@@ -1,0 +1,25 @@
+use Rattle.std.specs.Prelude.{Option}
+use Rattle.rx_search.specs.Matches.{half_match_value}
+use Rattle.rx_strategy.specs.Strategy.{IsFor, kind_in, prefilter_in}
+use Rattle.rx_strategy.proofs.AnswerLemmas.{fewer-answers}
+use Rattle.rx_strategies.specs.Attempts.{HasTried}
+use Rattle.rx_strategies.proofs.AttemptLemmas.{ok-answers, tried-half, tried-core}
+use Rattle.rx_strategies.proofs.attempts.half_after.Goals as goal
+
+pub returns-in-Ok-clause-answer : goal.returns-in-Ok-clause-answer
+returns-in-Ok-clause-answer c =
+    tried-half c.args.core.now c.args.input.now c.args.tried c.in-Ok.found c.in-Ok.is c.requires.told c.half_match.result c.half_match.ensures
+
+pub returns-in-Err-Quadratic-clause-answer : goal.returns-in-Err-Quadratic-clause-answer
+returns-in-Err-Quadratic-clause-answer c =
+    let s = c.args.core.now in
+    let v = c.args.input.now in
+    ok-answers (λ r. HasTried s v c.args.tried r) (λ r. IsFor s r) (prefilter_in s) v (tried-core s v c.args.tried) (kind_in s) half_match_value
+    c.search_half.result c.search_half.ensures.answer
+
+pub returns-in-Err-clause-answer : goal.returns-in-Err-clause-answer
+returns-in-Err-clause-answer c =
+    let s = c.args.core.now in
+    let v = c.args.input.now in
+    fewer-answers (λ r. HasTried s v c.args.tried r) (λ r. IsFor s r) (prefilter_in s) v (tried-core s v c.args.tried) (kind_in s) half_match_value
+    c.search_half_nofail.result c.search_half_nofail.ensures.answer

@@ -1,0 +1,4 @@
+use Rattle.rx_strategies.proofs.inner.ReverseInner.is_match.Given as goal
+
+abbrev pub ghosts-attempt : goal.ghosts-attempt
+ghosts-attempt a = record { name = a.blank.name; parts = a.blank.parts }

@@ -1,0 +1,42 @@
+use Rattle.std.proofs.Common.{◌≡◌, ap, ◌∙◌, subst, true}
+use Rattle.std.proofs.lemmas.Result.{IfOk-weaker}
+use Rattle.std.specs.Prelude.{IfOk}
+use Rattle.rx_model.specs.Search.{Patterns}
+use Rattle.rx_search.specs.Answer.{TellsWhether}
+use Rattle.rx_search.specs.Input.{InputValue}
+use Rattle.rx_search.specs.Matches.{match_value}
+use Rattle.rx_search.specs.Promise.{Premises}
+use Rattle.rx_dfa.specs.Search.{IsAnswerFor}
+use Rattle.rx_strategy.specs.Strategy.{IsFor, kind_in, prefilter_in}
+use Rattle.rx_strategy.specs.declared.strategy.Strategy.{Strategy}
+use Rattle.rx_strategies.specs.Attempts.{SuffixValue, IsSuffixFor, HasTriedWhether}
+use Rattle.rx_strategies.proofs.AttemptLemmas.{ok-whether}
+use Rattle.rx_strategies.proofs.suffix.ReverseSuffix.is_match.Goals as goal
+
+pub returns-then-is_anchored-clause-value : goal.returns-then-is_anchored-clause-value
+returns-then-is_anchored-clause-value c =
+    let k = c.args.self.now in
+    let s = k.core in
+    let v = c.args.input.now in
+    ok-whether (λ r. IsSuffixFor k r) (λ r. IsFor s r) (prefilter_in s) v (λ r p. p.is_for.0) c.is_match.result
+    (subst (λ (t : Strategy). IfOk c.is_match.result (TellsWhether (λ r. IsFor t r) (prefilter_in t) v))
+    (ap (λ (x : SuffixValue). x.core) c.self.view_is) c.is_match.ensures.value)
+
+pub returns-clause-value : goal.returns-clause-value
+returns-clause-value c =
+    let k = c.args.self.now in
+    let s = k.core in
+    let v = c.args.input.now in
+    let tried = c.attempt-tried.result in
+    let any : InputValue = record v { earliest = true } in
+    let is_any : c.set_earliest.new.self ≡ any = c.set_earliest.ensures ∙ ap (λ (x : InputValue). record x { earliest = true }) c.clone-any.ensures.value in
+    let told =
+    subst (λ (w : InputValue). (r : Patterns) → Premises (IsSuffixFor k r) (prefilter_in s) r w → IfOk tried (IsAnswerFor (kind_in s) r w match_value))
+    is_any c.attempt-tried.ensures.answer in
+    ok-whether (λ r. IsSuffixFor k r) (λ r. HasTriedWhether s v tried r) (prefilter_in s) v
+    (λ r p.
+    let asked : Premises (IsSuffixFor k r) (prefilter_in s) r any = record { is_for = p.is_for; begins = p.begins; utf8 = p.utf8 } in
+    (p.is_for.0, IfOk-weaker tried _ _ (λ found is. is.exists) (told r asked)))
+    c.whether_after.result
+    (subst (λ (t : Strategy). IfOk c.whether_after.result (TellsWhether (λ r. HasTriedWhether t v tried r) (prefilter_in t) v))
+    (ap (λ (x : SuffixValue). x.core) c.self.view_is) c.whether_after.ensures.value)

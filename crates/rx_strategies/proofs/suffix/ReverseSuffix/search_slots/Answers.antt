@@ -1,0 +1,51 @@
+use Rattle.std.proofs.Common.{◌≡◌, ap, subst}
+use Rattle.std.specs.Prelude.{IfOk}
+use Rattle.rx_search.specs.Answer.{IsAnswer, AreSlotsOfAnswer}
+use Rattle.rx_search.specs.Matches.{match_value}
+use Rattle.rx_strategy.specs.Strategy.{IsFor, kind_in, prefilter_in}
+use Rattle.rx_strategy.specs.declared.strategy.Strategy.{Strategy}
+use Rattle.rx_strategies.specs.Attempts.{SuffixValue, IsSuffixFor, HasTried}
+use Rattle.rx_strategies.proofs.AttemptLemmas.{ok-answers, ok-slots}
+use Rattle.rx_strategies.proofs.suffix.ReverseSuffix.search_slots.Goals as goal
+
+pub returns-then-not-tells_free-clause-answer : goal.returns-then-not-tells_free-clause-answer
+returns-then-not-tells_free-clause-answer c =
+    let k = c.args.self.now in
+    let s = k.core in
+    let v = c.args.input.now in
+    ok-answers (λ r. IsSuffixFor k r) (λ r. IsFor s r) (prefilter_in s) v (λ r p. p.is_for.0) (kind_in s) match_value c.search_slots.result
+    (subst (λ (t : Strategy). IfOk c.search_slots.result (IsAnswer (λ r. IsFor t r) (prefilter_in t) (kind_in t) v match_value))
+    (ap (λ (x : SuffixValue). x.core) c.self.view_is) c.search_slots.ensures.answer)
+
+pub returns-then-not-tells_free-clause-slots : goal.returns-then-not-tells_free-clause-slots
+returns-then-not-tells_free-clause-slots c =
+    let k = c.args.self.now in
+    let s = k.core in
+    let v = c.args.input.now in
+    let slots = c.search_slots.new.slots in
+    ok-slots (λ r. IsSuffixFor k r) (λ r. IsFor s r) (prefilter_in s) v (λ r p. p.is_for.0) (kind_in s) match_value slots c.search_slots.result
+    (subst (λ (t : Strategy). IfOk c.search_slots.result (AreSlotsOfAnswer (λ r. IsFor t r) (prefilter_in t) (kind_in t) v match_value slots))
+    (ap (λ (x : SuffixValue). x.core) c.self.view_is) c.search_slots.ensures.slots)
+
+pub returns-clause-answer : goal.returns-clause-answer
+returns-clause-answer c =
+    let k = c.args.self.now in
+    let s = k.core in
+    let v = c.args.input.now in
+    let tried = c.attempt-tried.result in
+    ok-answers (λ r. IsSuffixFor k r) (λ r. HasTried s v tried r) (prefilter_in s) v (λ r p. (p.is_for.0, c.attempt-tried.ensures.answer r p)) (kind_in s)
+    match_value c.slots_after.result
+    (subst (λ (t : Strategy). IfOk c.slots_after.result (IsAnswer (λ r. HasTried t v tried r) (prefilter_in t) (kind_in t) v match_value))
+    (ap (λ (x : SuffixValue). x.core) c.self.view_is) c.slots_after.ensures.answer)
+
+pub returns-clause-slots : goal.returns-clause-slots
+returns-clause-slots c =
+    let k = c.args.self.now in
+    let s = k.core in
+    let v = c.args.input.now in
+    let tried = c.attempt-tried.result in
+    let slots = c.slots_after.new.slots in
+    ok-slots (λ r. IsSuffixFor k r) (λ r. HasTried s v tried r) (prefilter_in s) v (λ r p. (p.is_for.0, c.attempt-tried.ensures.answer r p)) (kind_in s)
+    match_value slots c.slots_after.result
+    (subst (λ (t : Strategy). IfOk c.slots_after.result (AreSlotsOfAnswer (λ r. HasTried t v tried r) (prefilter_in t) (kind_in t) v match_value slots))
+    (ap (λ (x : SuffixValue). x.core) c.self.view_is) c.slots_after.ensures.slots)
