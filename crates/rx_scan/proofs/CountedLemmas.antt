@@ -146,7 +146,7 @@ All-unmap P f xs all = λ k d below. subst P (get_or-map f xs k d (f d) below) (
 -- what the rows of short haystacks became are the numbers of these
 pub counts-told : {W : Type 0} (items : W → List Counts) (result : Result W Memory) (hs : List (Bor (List ℕ))) (texts : List (List ℕ))
     → map (λ h. h.now) hs ≡ texts → All (λ h. length h.now ≤ 15) hs
-    → IfOk result (λ w. AreOutcomes (λ rows counts. rows_len rows < 2 ^ 64 → counts ≡ counts_of rows) (patterns_of gen_expressions) hs (items w))
+    → IfOk result (λ w. AreOutcomes (λ _ rows counts. rows_len rows < 2 ^ 64 → counts ≡ counts_of rows) (patterns_of gen_expressions) hs (items w))
     → IfOk result (λ w. items w ≡ map gen_counts texts)
 counts-told items (Err error) hs texts same short told = tt
 counts-told items (Ok w) hs texts same short told =

@@ -7,7 +7,6 @@ use Rattle.rx_model.specs.Search.{Match, matches, free}
 use Rattle.rx_gen.specs.Generated.{generated}
 use Rattle.rx_gen.specs.Totals.{totals_of, totals_text}
 use Rattle.rx_gen.specs.declared.totals.Counts.{Counts}
-use Rattle.rx_search.specs.declared.anchored.MatchKind.TheVariants.{LeftmostFirst}
 use Rattle.rx_hir.specs.Cost.{nfa_states}
 use Rattle.rx_reader.specs.Config.{default}
 use Rattle.rx_reader.specs.Refusal.{text_of}
