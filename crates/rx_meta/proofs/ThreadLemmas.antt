@@ -16,7 +16,7 @@ maker_sync : IsSync maker.the_row
 maker_sync = search (sendable, crosses, heap.the_field_sync, strategy_send, strategy_sync) fits 5000 depth 40
 
 pub regex_send : IsSend regex.the_row
-regex_send = search (sendable, crosses, config.the_field_send, pool.the_field_send, cache.the_send, maker_send, maker_sync) fits 5000 depth 40
+regex_send = search (sendable, crosses, config.the_field_send, pool.the_field_send, cache.the_send, maker_send) fits 5000 depth 40
 
 pub regex_sync : IsSync regex.the_row
-regex_sync = search (sendable, crosses, config.the_field_sync, pool.the_field_sync, cache.the_send, maker_send, maker_sync) fits 5000 depth 40
+regex_sync = search (sendable, crosses, config.the_field_sync, pool.the_field_sync, cache.the_send, maker_sync) fits 5000 depth 40

@@ -1,7 +1,7 @@
 -- Searches by candidates: what is known of a core's patterns is known of those in which candidates are in order.
 use Rattle.std.proofs.Common.{◌≡◌, ℕ, List, ◌∙◌, subst, true}
 use Rattle.std.proofs.lemmas.Result.{IfOk-weaker}
-use Rattle.std.specs.Prelude.{Bool, [], ◌∷◌, Option, is_some, option_map, Result, Ok, IfOk}
+use Rattle.std.specs.Prelude.{Bool, Option, is_some, option_map, Result, Ok, IfOk}
 use Rattle.rx_model.specs.Search.{Patterns, Match}
 use Rattle.rx_search.specs.Answer.{IsAnswer, AreSlotsOfAnswer, TellsWhether, half_of}
 use Rattle.rx_search.specs.Input.{InputValue, next_in}

@@ -1,33 +1,16 @@
 -- What is accounted for caches, and what they serve.
-use Rattle.std.proofs.Common.{◌≡◌, ℕ, ◌-◌, ◌+◌, ◌^◌, refl, sym, ap, subst, true, false, true≢false, arith}
-use Rattle.std.specs.Prelude.{Bool, Option, Some, None, IsSomeAnd, min, ◌||◌, if◌then◌else◌}
+use Rattle.std.proofs.Common.{◌≡◌, ℕ, ◌-◌, ◌+◌, ◌^◌, refl, ap, true, false, true≢false, arith}
+use Rattle.std.specs.Prelude.{Bool, Option, Some, None, min, ◌||◌, if◌then◌else◌}
 use Rattle.rx_strategy.specs.Cache as core
 use Rattle.rx_strategy.proofs.CacheLemmas as lower
 use Rattle.rx_strategy.specs.declared.strategy.Strategy.{Strategy as CoreStrategy}
-use Rattle.rx_strategies.specs.Cache.{CacheValue, FitsAsBefore, StillFits, AreAlike, AccountsAlike, ServesMore, ServesAsBefore, memory_of, states_in, fixed_in, prefix_in, rooms_memory, rooms_states, rooms_fixed}
+use Rattle.rx_strategies.specs.Cache.{CacheValue, AreAlike, AccountsAlike, memory_of, states_in, fixed_in, prefix_in, rooms_memory, rooms_states, rooms_fixed}
 use Rattle.rx_strategy.specs.Strategy.{has_lazy as core_lazy}
 use Rattle.rx_dfa.specs.declared.lazy.lazy_cache.LazyCache.{LazyCache}
-use Rattle.rx_strategy.specs.Prefix.{PrefixValue, FitsPrefix, HoldsNoPrefix, prefix_states, are_states}
+use Rattle.rx_strategy.specs.Prefix.{HoldsNoPrefix, prefix_states, are_states}
 use Rattle.rx_strategies.specs.Strategy.{has_lazy}
 use Rattle.rx_strategies.specs.declared.strategy.Strategy.{Strategy}
 use Rattle.rx_strategies.specs.declared.strategy.Strategy.TheVariants.{Pre, Core, ReverseAnchored, ReverseSuffix, ReverseInner}
-
--- room for what reads a prefix that serves what other room serves
-abbrev pub ServesPrefix : (old new : Option LazyCache) → Type 0
-ServesPrefix old new = (p : PrefixValue) → FitsPrefix p old → FitsPrefix p new
-
-pub still-fits : (old new : CacheValue) → ServesMore old.rooms new.rooms → ServesPrefix old.prefix new.prefix → StillFits old new
-still-fits old new more reads (Pre p) fits = tt
-still-fits old new more reads (Core c) fits = more c fits
-still-fits old new more reads (ReverseAnchored c) fits = more c fits
-still-fits old new more reads (ReverseSuffix s) fits = more s.core fits
-still-fits old new more reads (ReverseInner i) fits = record { core = more i.core fits.core; prefix = reads i.prefix fits.prefix }
-
-pub serves-more : (old new : core.CacheValue) → core.StillFits old new → ServesMore (Some old) (Some new)
-serves-more old new still c fits = still c fits
-
-pub none-more : (new : Option core.CacheValue) → ServesMore None new
-none-more new c fits = absurd fits
 
 -- all that is accounted is what is accounted for states, and the rest
 pub rooms-parts : (o : Option core.CacheValue) → rooms_memory o ≡ min (2 ^ 64 - 1) (rooms_fixed o + rooms_states o)
@@ -90,29 +73,6 @@ alike-memory (ReverseInner i) old new off alike =
 -- caches without states account none
 pub no_states : (rooms : core.CacheValue) → core.HoldsNoStates rooms → rooms_states (Some rooms) ≡ 0
 no_states rooms none = lower.no-states rooms.lazies none
-
--- room that serves as before
-pub room-before : (old new : core.CacheValue) → core.FitsAsBefore old new → ServesAsBefore (Some old) (Some new)
-room-before old new before = record { fits = λ c fits. before.fits c fits; memory = before.memory }
-
-pub none-before : (o : Option core.CacheValue) → ServesAsBefore o o
-none-before o = record { fits = λ c fits. fits; memory = refl }
-
--- .. and so does the cache
-pub as-before : (old new : CacheValue) → ServesAsBefore old.rooms new.rooms → new.prefix ≡ old.prefix → new.in_use ≡ old.in_use
-    → new.reads_prefix ≡ old.reads_prefix → FitsAsBefore old new
-as-before old new before prefix in_use reads = record {
-  fits = still-fits old new before.fits (λ p fits. subst (FitsPrefix p) (sym prefix) fits);
-  memory =
-      λ i. if in_use i then min (2 ^ 64 - 1) (before.memory i + (if reads i then prefix_states (prefix i) else 0)) else 0;
-}
-
--- what is accounted for the room alone is within the greatest number
-pub capped : (o : Option core.CacheValue) (n : ℕ) → n ≡ 0 → min (2 ^ 64 - 1) (rooms_memory o + n) ≡ rooms_memory o
-capped o n is = capped-once (rooms_memory o) (rooms_fixed o + rooms_states o) n (rooms-parts o) is
-  where
-    capped-once : (a b n : ℕ) → a ≡ min (2 ^ 64 - 1) b → n ≡ 0 → min (2 ^ 64 - 1) (a + n) ≡ a
-    capped-once a b n is none = omega arith
 
 -- no state that reads a prefix
 pub none-read : (o : Option LazyCache) → HoldsNoPrefix o → prefix_states o ≡ 0

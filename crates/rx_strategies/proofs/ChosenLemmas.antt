@@ -1,5 +1,5 @@
 -- Which literals a search goes by.
-use Rattle.std.proofs.Common.{◌≡◌, ℕ, ◌<◌, List, length, get_or, refl, sym, ap, ◌∙◌, subst, true, false, true≢false, arith, All}
+use Rattle.std.proofs.Common.{◌≡◌, ℕ, ◌<◌, List, length, get_or, refl, sym, ap, ◌∙◌, subst, true, false, true≢false, arith}
 use Rattle.std.proofs.lemmas.Bool.{and_parts}
 use Rattle.std.proofs.lemmas.Bool.Decides.{nat_tests}
 use Rattle.std.proofs.lemmas.List.Sums.{AllPass-from_list_all}
@@ -8,11 +8,8 @@ use Rattle.std.specs.List.{list_all}
 use Rattle.std.specs.Prelude.{Bool, [], ◌∷◌, Option, Some, None, option_map, ◌&&◌, ◌||◌, ◌==◌, not, if◌then◌else◌}
 use Rattle.rx_model.specs.Expression.{Expression, alternation}
 use Rattle.rx_hir.specs.Normal.{expressions}
-use Rattle.rx_hir.specs.PropertiesViews.{AreOf}
-use Rattle.rx_literal.specs.Extract.{suffixes}
-use Rattle.rx_literal.specs.Trim.{longest_common_suffix}
 use Rattle.rx_order.specs.Inner.{inner_of}
-use Rattle.rx_order.specs.Order.{SuffixIsNoEarlier, HasRest, IsThen, Begins, InnerIsNoEarlier}
+use Rattle.rx_order.specs.Order.{HasRest, IsThen, Begins, InnerIsNoEarlier}
 use Rattle.rx_order.specs.Strip.{suffix_of_one_has_no_earlier_match, left_passes, strip_literal_suffix}
 use Rattle.rx_order.specs.Tests.{is_not_empty, are_literals, inner_has_no_earlier, one_not_consumed, has_fixed_length, has_last_separator, has_first_separator}
 use Rattle.rx_attempts.specs.Candidates.{AreNotEmpty}
@@ -24,14 +21,8 @@ use Rattle.rx_strategy.specs.Prefix.{PrefixValue, IsPrefixOf, HasNoPrefix}
 use Rattle.rx_strategy.specs.Strategy.{has_dfas, is_accelerated}
 use Rattle.rx_strategy.specs.declared.config.Config.{Config}
 use Rattle.rx_strategy.specs.declared.strategy.Strategy.{Strategy as CoreStrategy}
-use Rattle.rx_strategies.specs.Attempts.{SuffixValue, InnerValue, IsSuffixOf, IsInnerOf, IsSuffixFound, IsInnerFound, IsOrderedSearch, HasOrder, HasInnerOrder, HasNoInner}
+use Rattle.rx_strategies.specs.Attempts.{SuffixValue, InnerValue, IsSuffixOf, IsInnerOf, IsSuffixFound, IsInnerFound, HasNoInner}
 use Rattle.rx_strategies.specs.Choice.{may_attempt, suffix_for, inner_for, suffix_of_one, if_in_order, if_inner_in_order}
-
--- the only one of a list
-pub only : (hs : List Expression) (x : Expression) → length hs ≡ 1 → x ≡ get_or hs 0 x → hs ≡ x ∷ []
-only [] x one is = absurd (omega arith)
-only (h ∷ []) x one is = ap (λ (g : Expression). g ∷ []) (sym is)
-only (h ∷ g ∷ hs) x one is = absurd (omega arith)
 
 if-on : {A : Type 0} (b : Bool) (o : Option A) → b ≡ true → (if b then o else None) ≡ o
 if-on b o on = λ i. if on i then o else None
@@ -41,9 +32,6 @@ if-off b o off = λ i. if off i then o else None
 
 -- where the patterns may be searched by candidates, the literals that are in order are chosen
 module _ (config : Config) (c : CoreStrategy) (hs : List Expression) where
-  attempts : Bool
-  attempts = may_attempt config c (alternation (expressions hs))
-
   -- there are DFAs
   pub attempts-dfas : (h : Expression) → may_attempt config c h ≡ true → has_dfas c ≡ true
   attempts-dfas h on =
@@ -54,7 +42,7 @@ module _ (config : Config) (c : CoreStrategy) (hs : List Expression) where
   pub suffix-not : may_attempt config c (alternation (expressions hs)) ≡ false → suffix_for config c hs ≡ None
   suffix-not off = if-off (may_attempt config c (alternation (expressions hs))) (if_in_order hs (suffix_of_one hs)) off
 
-  pub suffix-chosen : may_attempt config c (alternation (expressions hs)) ≡ true → suffix_for config c hs ≡ if_in_order hs (suffix_of_one hs)
+  suffix-chosen : may_attempt config c (alternation (expressions hs)) ≡ true → suffix_for config c hs ≡ if_in_order hs (suffix_of_one hs)
   suffix-chosen on = if-on (may_attempt config c (alternation (expressions hs))) (if_in_order hs (suffix_of_one hs)) on
 
   inner-chosen : may_attempt config c (alternation (expressions hs)) ≡ true → inner_for config c hs ≡ if_inner_in_order (inner_of hs)
@@ -102,50 +90,15 @@ module _ (config : Config) (c : CoreStrategy) (hs : List Expression) where
       → IsInnerFound hs prefix needles → HasNoPrefix config prefix → HasNoInner config (inner_for config c hs)
   inner-unread on prefix needles found none = subst (HasNoInner config) (sym (inner-chosen on ∙ found.0)) none
 
--- the longest text that ends each match, of the only expression
-module _ (hs : List Expression) (x : Expression) (one : length hs ≡ 1) (is : x ≡ get_or hs 0 x) where
-  suffix-common : suffix_of_one hs ≡ longest_common_suffix (suffixes x)
-  suffix-common = ap suffix_of_one (only hs x one is)
-
-  pub no-suffix : longest_common_suffix (suffixes x) ≡ None → IsSuffixFound hs None
-  no-suffix none = ap (if_in_order hs) (suffix-common ∙ none)
-
-  -- what is found of it is what is found of the patterns
-  pub suffix-found : (s : List ℕ) → longest_common_suffix (suffixes x) ≡ Some s → (found : Option (List (List ℕ))) → IsOrderedSearch hs s found
-      → IsSuffixFound hs found
-  suffix-found s common None none = ap (if_in_order hs) (suffix-common ∙ common) ∙ none
-  suffix-found s common (Some needles) found =
-      (s, found.0, found.1, ap (if_in_order hs) (suffix-common ∙ common) ∙ found.2, found.3)
-
--- of other numbers of expressions there is none
-pub not-one : (hs : List Expression) → (length hs ≡ 1 → ⊥) → IsSuffixFound hs None
-not-one [] other = refl
-not-one (h ∷ []) other = absurd (other refl)
-not-one (h ∷ g ∷ hs) other = refl
-
 -- where the order is kept
 some-bytes : (s : List ℕ) → is_not_empty s ≡ true → 0 < length s
 some-bytes [] e = absurd (true≢false (sym e))
 some-bytes (b ∷ s) e = omega arith
 
-one-ordered : (hs : List Expression) (s : List ℕ) → suffix_of_one_has_no_earlier_match hs s ≡ true → (h : Expression) × (hs ≡ h ∷ []) × (0 < length s)
-one-ordered [] s e = absurd (true≢false (sym e))
-one-ordered (h ∷ []) s e = (h, refl, some-bytes s (and_parts (is_not_empty s) (left_passes (strip_literal_suffix h s) s) e).0)
-one-ordered (h ∷ g ∷ hs) s e = absurd (true≢false (sym e))
-
-module _ (hs : List Expression) (s : List ℕ) where
-  pub ordered-long : suffix_of_one_has_no_earlier_match hs s ≡ true → 0 < length s
-  ordered-long e = (one-ordered hs s e).2
-
-  pub ordered-found : suffix_of_one_has_no_earlier_match hs s ≡ true → ((h : Expression) → hs ≡ h ∷ [] → SuffixIsNoEarlier h s)
-      → (found : Option (List (List ℕ))) → found ≡ Some (s ∷ []) → IsOrderedSearch hs s found
-  ordered-found e order found is =
-      let one = one-ordered hs s e in
-      subst (IsOrderedSearch hs s) (sym is)
-      (refl, one.2, if-on (suffix_of_one_has_no_earlier_match hs s) (Some s) e, (one.0, one.1, order one.0 one.1))
-
-  pub ordered-none : suffix_of_one_has_no_earlier_match hs s ≡ false → IsOrderedSearch hs s None
-  ordered-none e = if-off (suffix_of_one_has_no_earlier_match hs s) (Some s) e
+pub ordered-long : (hs : List Expression) (s : List ℕ) → suffix_of_one_has_no_earlier_match hs s ≡ true → 0 < length s
+ordered-long [] s e = absurd (true≢false (sym e))
+ordered-long (h ∷ []) s e = some-bytes s (and_parts (is_not_empty s) (left_passes (strip_literal_suffix h s) s) e).0
+ordered-long (h ∷ g ∷ hs) s e = absurd (true≢false (sym e))
 
 -- a needle with a byte fits a kind of search
 pick : {C : Type 0} (needles : List (List ℕ)) (none single : Bool) (x y : C) → none ≡ false
@@ -189,9 +142,3 @@ module _ (hs : List Expression) (prefix : Expression) (ls : List (List ℕ)) (of
       let some = not-empty ls
       (and_parts (are_literals ls) (one_not_consumed prefix ls || (has_fixed_length prefix || (has_last_separator prefix ls || has_first_separator prefix ls))) e).0 in
       subst (IsInnerFound hs prefix) (sym is) (chosen, (one.0, one.1, order one.0 has.0 has.1 has.2), some)
-
-  pub inner-unordered : inner_has_no_earlier prefix ls ≡ false → if_inner_in_order (inner_of hs) ≡ None
-  inner-unordered e = ap if_inner_in_order of ∙ if-off (inner_has_no_earlier prefix ls) (Some (prefix, ls)) e
-
-pub no-inner : (hs : List Expression) → inner_of hs ≡ None → if_inner_in_order (inner_of hs) ≡ None
-no-inner hs e = ap if_inner_in_order e

@@ -12,10 +12,10 @@ use Rattle.rx_meta.proofs.attempts.reverse_inner_attempt.Goals as goal
 
 pub reverse_inner_attempt-requires-clause-by_inner : goal.reverse_inner_attempt-requires-clause-by_inner
 unfolding name_of
-reverse_inner_attempt-requires-clause-by_inner c = named-inner c.strategy.result.now (ap strategy_name c.strategy.ensures ∙ c.requires.strategy)
+reverse_inner_attempt-requires-clause-by_inner g c = named-inner c.strategy.result.now (ap strategy_name c.strategy.ensures ∙ c.requires.strategy)
 
 pub returns-clause-answer : goal.returns-clause-answer
-returns-clause-answer c =
+returns-clause-answer g c =
     let called = c.reverse_inner_attempt in
     subst (λ (regex : RegexValue). (r : Patterns) → Premises (Serves regex r) (given_needles regex) r c.args.input.now
     → IfOk called.result (IsAnswerFor (kind_in regex) r c.args.input.now match_value))

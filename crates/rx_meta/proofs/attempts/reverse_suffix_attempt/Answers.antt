@@ -12,10 +12,10 @@ use Rattle.rx_meta.proofs.attempts.reverse_suffix_attempt.Goals as goal
 
 pub reverse_suffix_attempt-requires-clause-by_suffix : goal.reverse_suffix_attempt-requires-clause-by_suffix
 unfolding name_of
-reverse_suffix_attempt-requires-clause-by_suffix c = named-suffix c.strategy.result.now (ap strategy_name c.strategy.ensures ∙ c.requires.strategy)
+reverse_suffix_attempt-requires-clause-by_suffix g c = named-suffix c.strategy.result.now (ap strategy_name c.strategy.ensures ∙ c.requires.strategy)
 
 pub returns-clause-answer : goal.returns-clause-answer
-returns-clause-answer c =
+returns-clause-answer g c =
     let called = c.reverse_suffix_attempt in
     subst (λ (regex : RegexValue). (r : Patterns) → Premises (Serves regex r) (given_needles regex) r c.args.input.now
     → IfOk called.result (IsAnswerFor (kind_in regex) r c.args.input.now match_value))

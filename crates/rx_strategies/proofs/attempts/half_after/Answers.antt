@@ -1,4 +1,3 @@
-use Rattle.std.specs.Prelude.{Option}
 use Rattle.rx_search.specs.Matches.{half_match_value}
 use Rattle.rx_strategy.specs.Strategy.{IsFor, kind_in, prefilter_in}
 use Rattle.rx_strategy.proofs.AnswerLemmas.{fewer-answers}

@@ -1,6 +1,5 @@
 use Rattle.std.proofs.Common.{sym, ◌∙◌}
-use Rattle.std.proofs.lemmas.Result.{IfOk-weaker}
-use Rattle.rx_strategies.proofs.ChosenLemmas.{ordered-long, ordered-found, ordered-none}
+use Rattle.rx_strategies.proofs.ChosenLemmas.{ordered-long}
 use Rattle.rx_strategies.proofs.suffix.ordered_search.Goals as goal
 
 pub needle_search-requires : goal.needle_search-requires

@@ -1,4 +1,4 @@
-use Rattle.std.proofs.Common.{◌≡◌, ℕ, List, sym, ◌∙◌, subst, refl, true}
+use Rattle.std.proofs.Common.{◌≡◌, ℕ, List, sym, ◌∙◌, subst, refl}
 use Rattle.std.specs.Prelude.{MatchOption, None}
 use Rattle.rx_model.specs.Expression.{alternation}
 use Rattle.rx_hir.specs.Normal.{expressions}

@@ -1,4 +1,4 @@
-use Rattle.std.proofs.Common.{◌≡◌, ap, subst}
+use Rattle.std.proofs.Common.{ap, subst}
 use Rattle.std.specs.Prelude.{IfOk}
 use Rattle.rx_search.specs.Answer.{IsAnswer, AreSlotsOfAnswer}
 use Rattle.rx_search.specs.Matches.{match_value}

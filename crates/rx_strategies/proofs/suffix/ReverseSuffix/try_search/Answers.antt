@@ -1,4 +1,4 @@
-use Rattle.std.proofs.Common.{◌≡◌, subst}
+use Rattle.std.proofs.Common.{subst}
 use Rattle.std.specs.Prelude.{IfOk}
 use Rattle.rx_model.specs.Search.{Patterns}
 use Rattle.rx_search.specs.Matches.{match_value}
