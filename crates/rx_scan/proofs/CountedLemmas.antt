@@ -45,9 +45,9 @@ module _ (b : ℕ) where
       let first : LiesWithin a b m = within 0 m (omega arith) in
       let others : All (LiesWithin (m.start + 1) b) ms =
       λ i d below. (
-        let l : IsLater m (get_or ms i d) = later 0 (suc i) d (omega arith) (omega (arith, below)) in
-        let w : LiesWithin a b (get_or ms i d) = within (suc i) d (omega (arith, below)) in
-        (omega (arith, l.0), w.1, w.2)) in
+      let l : IsLater m (get_or ms i d) = later 0 (suc i) d (omega arith) (omega (arith, below)) in
+      let w : LiesWithin a b (get_or ms i d) = within (suc i) d (omega (arith, below)) in
+      (omega (arith, l.0), w.1, w.2)) in
       let rest = few ms (m.start + 1) (λ i j d lt below. later (suc i) (suc j) d (omega (arith, lt)) (omega (arith, below))) others in
       omega (arith, first.0, first.1, first.2, rest)
 
@@ -58,9 +58,9 @@ module _ (b : ℕ) where
       let first : LiesWithin a b m = within 0 m (omega arith) in
       let others : All (LiesWithin m.trace.end b) ms =
       λ i d below. (
-        let l : IsLater m (get_or ms i d) = later 0 (suc i) d (omega arith) (omega (arith, below)) in
-        let w : LiesWithin a b (get_or ms i d) = within (suc i) d (omega (arith, below)) in
-        (l.1, w.1, w.2)) in
+      let l : IsLater m (get_or ms i d) = later 0 (suc i) d (omega arith) (omega (arith, below)) in
+      let w : LiesWithin a b (get_or ms i d) = within (suc i) d (omega (arith, below)) in
+      (l.1, w.1, w.2)) in
       let rest = short ms m.trace.end (λ i j d lt below. later (suc i) (suc j) d (omega (arith, lt)) (omega (arith, below))) others in
       let both = sum_by-cons match_len m ms in
       omega (arith, first.0, first.1, first.2, rest, both)

@@ -1,4 +1,4 @@
-use Rattle.std.proofs.Common.{refl, sym, ap, subst, ◌∙◌}
+use Rattle.std.proofs.Common.{refl, sym, ap, subst, ◌∙◌, arith}
 use Rattle.std.specs.Prelude.{map}
 use Rattle.std.specs.List.{All, flat_map}
 use Rattle.std.specs.Str.{IsUtf8}
@@ -16,5 +16,5 @@ returns g c = λ hs built utf8.
     let lines = ap (map (λ line. line.now)) c.deref.ensures.value ∙ c.in_ok-haystacks.ensures.lines in
     let text =
     c.in_ok-text.ensures ∙ ap (flat_map vec_items) c.deref-2.ensures.value
-    ∙ texts-told vec_items (patterns_of hs) c.deref.result.now c.in_ok-texts.texts.items _ c.deref.type_inv lines outcomes in
+    ∙ texts-told vec_items (patterns_of hs) c.deref.result.now c.in_ok-texts.texts.items _ (omega (arith, c.deref.type_inv)) lines outcomes in
     λ i. record { status = Rows; text = text i }

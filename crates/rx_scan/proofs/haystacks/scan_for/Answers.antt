@@ -30,4 +30,4 @@ pub do_all-requires-send-T-Scratch : goal.do_all-requires-send-T-Scratch
 do_all-requires-send-T-Scratch g c κs within = search (sendable, crosses, regex_sync, cache.the_send) fits 5000 depth 40
 
 pub do_all-requires-sync-T : goal.do_all-requires-sync-T
-do_all-requires-sync-T g c κs within = search (sendable, regex_sync, layout.the_field_sync) depth 40
+do_all-requires-sync-T g c κs within = search (sendable, regex_sync, layout.the_field_sync, c.type_bounds.sync-G, c.type_bounds.sync-O) fits 5000 depth 40
