@@ -22,16 +22,10 @@ use std::sync::ledger::{Blank, Ledger};
 enum Tried {
     /// The span of the match, or that there is none.
     Found(Option<(usize, usize)>),
-    Below {
-        at: usize,
-        min_start: usize,
-    },
+    Below { at: usize, min_start: usize },
     /// The start that was found.
     AtStart(usize),
-    Candidate {
-        start: usize,
-        stopped: usize,
-    },
+    Candidate { start: usize, stopped: usize },
     Failed,
 }
 
@@ -84,12 +78,7 @@ fn attempted(rt: &impl Abort, alloc: Global, regex: &Regex, text: &[u8]) -> (Tri
 }
 
 /// A pattern, a text, what an attempt comes to, and the span that a search tells.
-type Attempt = (
-    &'static str,
-    &'static str,
-    Tried,
-    Option<(usize, usize)>,
-);
+type Attempt = (&'static str, &'static str, Tried, Option<(usize, usize)>);
 
 const ATTEMPTS: [Attempt; 9] = [
     // Before the second candidate the byte at 6 would be read again.
@@ -103,12 +92,7 @@ const ATTEMPTS: [Attempt; 9] = [
         Some((1, 14)),
     ),
     // For all that is known at the start of the span, a match may start before it.
-    (
-        "(?:[a-b]d)+c",
-        "dadc",
-        Tried::AtStart(1),
-        Some((1, 4)),
-    ),
+    ("(?:[a-b]d)+c", "dadc", Tried::AtStart(1), Some((1, 4))),
     // The first search forwards came to the end, behind the second candidate.
     (
         "[a-z]+@[a-z@]+[0-9]",
@@ -125,12 +109,7 @@ const ATTEMPTS: [Attempt; 9] = [
         Tried::Found(Some((0, 10))),
         Some((0, 10)),
     ),
-    (
-        r"\w+\s+Holmes",
-        "Mr  Watson",
-        Tried::Found(None),
-        None,
-    ),
+    (r"\w+\s+Holmes", "Mr  Watson", Tried::Found(None), None),
     // The byte before the start shows that a match was met there, and the one before that that none is to come.
     (
         r"\s[A-Za-z]{0,12}ing\s",
@@ -144,18 +123,8 @@ const ATTEMPTS: [Attempt; 9] = [
         Tried::Found(Some((2, 8))),
         Some((2, 8)),
     ),
-    (
-        "(a|aa)b",
-        "xxaab",
-        Tried::Found(Some((2, 5))),
-        Some((2, 5)),
-    ),
-    (
-        "(a|aa)b",
-        "xxbb",
-        Tried::Found(None),
-        None,
-    ),
+    ("(a|aa)b", "xxaab", Tried::Found(Some((2, 5))), Some((2, 5))),
+    ("(a|aa)b", "xxbb", Tried::Found(None), None),
 ];
 
 /// Whether the attempt and a search tell what is wanted.
@@ -170,10 +139,7 @@ fn is_tried(rt: &impl Abort, alloc: Global, row: Attempt) -> bool {
 #[test]
 fn attempts_tell_what_they_meet(rt: HostRuntime) {
     for k in 0..ATTEMPTS.len() {
-        assert!(rt;
-            is_tried(&rt, rt.alloc(), ATTEMPTS[k]),
-            "row {k}"
-        );
+        assert!(rt; is_tried(&rt, rt.alloc(), ATTEMPTS[k]), "row {k}");
     }
 }
 
@@ -265,7 +231,13 @@ const ROWS: [Row; 9] = [
         false,
         (Some((1, 4)), Some(4), true, (Some(1), Some(3))),
     ),
-    ("(a|aa)b", "xaab", 1, true, (Some((1, 4)), Some(4), true, (Some(1), Some(3)))),
+    (
+        "(a|aa)b",
+        "xaab",
+        1,
+        true,
+        (Some((1, 4)), Some(4), true, (Some(1), Some(3))),
+    ),
 ];
 
 /// Whether a regex that searches by candidates, with DFAs of this sort, tells what is wanted.

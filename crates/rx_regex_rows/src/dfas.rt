@@ -31,7 +31,12 @@ fn alone(sort: Sort) -> Config {
 }
 
 /// The input of a search of the text from this place on.
-pub(crate) fn input_from<'a>(rt: &impl Abort, text: &'a [u8], start: usize, anchored: bool) -> Input<'a> {
+pub(crate) fn input_from<'a>(
+    rt: &impl Abort,
+    text: &'a [u8],
+    start: usize,
+    anchored: bool,
+) -> Input<'a> {
     assert!(rt; start <= text.len());
     let span = Span {
         start,
@@ -75,7 +80,12 @@ pub(crate) fn found_with(
 }
 
 /// The end of the match that is told.
-pub(crate) fn end_with(rt: &impl Abort, regex: &Regex, cache: &mut Cache, input: &Input<'_>) -> Option<usize>
+pub(crate) fn end_with(
+    rt: &impl Abort,
+    regex: &Regex,
+    cache: &mut Cache,
+    input: &Input<'_>,
+) -> Option<usize>
     requires { Fits regex.now cache.old }
     ensures { Fits regex.now cache.new }
 {
