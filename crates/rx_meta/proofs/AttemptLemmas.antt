@@ -1,6 +1,6 @@
 -- What a refusal of an attempt tells of its places.
-use Rattle.std.proofs.Common.{ℕ, ◌<◌, List, sym, subst, inl, inr}
-use Rattle.std.specs.Prelude.{Option, Some, None}
+use Rattle.std.proofs.Common.{◌≡◌, ℕ, ◌<◌, List, sym, subst, inl, inr}
+use Rattle.std.specs.Prelude.{◌⊎◌, Option, Some, None}
 use Rattle.rx_search.specs.Input.{InputValue}
 use Rattle.rx_search.specs.declared.span.Span.{Span}
 use Rattle.rx_dfa.specs.Automaton.{Dfa}

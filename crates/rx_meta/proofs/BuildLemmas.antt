@@ -3,7 +3,7 @@ use Rattle.std.proofs.Common.{◌≡◌, ℕ, ◌≤◌, ◌<◌, List, [], ◌�
 use Rattle.std.proofs.lemmas.Bool.{and_parts}
 use Rattle.std.proofs.lemmas.Bool.Decides.{nat_tests}
 use Rattle.std.proofs.lemmas.List.{take_all}
-use Rattle.std.proofs.lemmas.Option.{none-some}
+use Rattle.std.proofs.lemmas.Option.{none-some, same_Some}
 use Rattle.std.specs.Prelude.{◌+◌, ◌-◌, ◌*◌, ◌^◌, ◌/◌, ◌&&◌, ◌||◌, not, min, nat_le, Bool, true, false, Some, None, is_some, option_map, IfSome, IsSomeAnd, slice_get, if◌then◌else◌}
 use Rattle.rx_search.specs.Limits.{id_limit}
 use Rattle.rx_search.specs.Needles.{BeginsEachMatch}
@@ -51,7 +51,7 @@ use Rattle.rx_pre.specs.Whole.{AreWhole, AreWholeOf}
 use Rattle.rx_strategies.specs.Attempts.{InnerValue, IsSuffixOf, IsInnerOf, HasNoInner}
 use Rattle.rx_strategies.specs.Cache.{CacheValue as StrategyCache, FitsInner, rooms_states, states_in}
 use Rattle.rx_strategies.specs.Choice.{is_automatic, literals_for, is_from_end, may_attempt, suffix_for, inner_for, suffix_of_one, if_in_order, if_inner_in_order}
-use Rattle.rx_strategies.specs.Strategy.{IsMadeOf, IsPlainOf, IsForwardsOf, IsEndlessOf, IsPreOf, name_of as strategy_name}
+use Rattle.rx_strategies.specs.Strategy.{IsMadeOf, IsPlainOf, IsForwardsOf, IsEndlessOf, IsPreOf, literal_name, name_of as strategy_name}
 use Rattle.rx_strategies.specs.declared.strategy.Strategy.{Strategy}
 use Rattle.rx_strategies.specs.declared.strategy.Strategy.TheVariants.{Pre, Core, ReverseAnchored, ReverseSuffix, ReverseInner}
 use Rattle.rx_strategies.proofs.StrategyLemmas.{pre-ordered}
@@ -61,7 +61,7 @@ use Rattle.rx_meta.specs.Cache.{CacheValue, Fits, IsAsMadeFor, accounted_for, st
 use Rattle.rx_meta.specs.Impossible.{IsKnownImpossible}
 use Rattle.rx_meta.specs.Build.{patterns_for, AreFew, AreAllowed, engine_memory, cache_memory, nfas_memory, memory_beside, memory_by, cache_memory_by, prefilter_by, least_capacity, HasRoom, HaveNoDfa, IsBuilt, IsBuiltOf, IsRefusal, IsRefused, IsRefusedFor}
 use Rattle.rx_meta.specs.Error.{error_of}
-use Rattle.rx_meta.specs.Name.{by_literals, from_end, by_suffix, by_inner, plain, chosen, accounted, is_fast, end_alone, suffix_by, inner_by, literals_or, from_end_or, suffix_or, inner_or_plain, way_for, way_name, accelerated_by, is_fast_by}
+use Rattle.rx_meta.specs.Name.{Way, by_literals, from_end, by_suffix, by_inner, plain, chosen, accounted, is_fast, end_alone, suffix_by, inner_by, literals_or, from_end_or, suffix_or, inner_or_plain, way_for, way_name, accelerated_by, is_fast_by}
 use Rattle.rx_meta.specs.Reading.{reading_of}
 use Rattle.rx_meta.specs.Regex.{RegexValue, Serves, kind_in, groups_in, pattern_count, properties_in, prefilter_in, regex_memory, tables_memory, has_lazy, has_dfas, reads_prefix, is_all_lazy, name_of, is_accelerated, IsMadeUnder}
 use Rattle.rx_meta.specs.declared.error.BuildError.{BuildError}

@@ -1,10 +1,10 @@
 -- What stands before literals within each match has no groups.
-use Rattle.std.proofs.Common.{◌≡◌, ℕ, zero, suc, List, [], ◌∷◌, take, Option, Some, None, refl, subst, inl, inr, arith}
+use Rattle.std.proofs.Common.{◌≡◌, ℕ, zero, suc, ◌≤◌, List, [], ◌∷◌, take, length, Option, Some, None, refl, sym, ap, subst, inl, inr, arith}
 use Rattle.std.proofs.lemmas.Option.{none-some, same_Some}
-use Rattle.std.specs.Prelude.{max, drop}
-use Rattle.std.specs.Option.{option_map}
+use Rattle.std.specs.Prelude.{◌+◌, ◌*◌, max, drop}
+use Rattle.std.specs.Option.{option_map, option_or}
 use Rattle.rx_model.specs.Expression.{Expression, Expressions, empty, literal, class, look, repetition, capture, concat, alternation, nil, cons}
-use Rattle.rx_model.specs.Search.{greatest_group, greatest_in}
+use Rattle.rx_model.specs.Search.{greatest_group, greatest_in, groups_before}
 use Rattle.rx_hir.specs.Cost.{slots_of}
 use Rattle.rx_hir.specs.Names.{IsNamed, IsNamedAmong}
 use Rattle.rx_hir.specs.Normal.{list_of, expressions, concat_of}
