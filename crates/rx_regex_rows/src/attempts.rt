@@ -33,15 +33,17 @@ enum Tried {
 fn outcome_of(answer: Result<Option<Match>, RetryError>) -> Tried {
     match answer {
         Ok(found) => Tried::Found(span_of(found)),
-        Err(RetryError::Quadratic(Quadratic::Below { at, min_start })) => {
-            Tried::Below { at, min_start }
-        }
-        Err(RetryError::Quadratic(Quadratic::AtStart { found })) => Tried::AtStart(found.offset()),
-        Err(RetryError::Quadratic(Quadratic::Candidate { start, stopped })) => {
-            Tried::Candidate { start, stopped }
-        }
-        Err(RetryError::Fail { offset: _ }) => Tried::Failed,
-        Err(RetryError::Memory) => Tried::Failed,
+        Err(RetryError::Quadratic(met)) => refused_at(met),
+        Err(_) => Tried::Failed,
+    }
+}
+
+/// What was met where an attempt gave up.
+fn refused_at(met: Quadratic) -> Tried {
+    match met {
+        Quadratic::Below { at, min_start } => Tried::Below { at, min_start },
+        Quadratic::AtStart { found } => Tried::AtStart(found.offset()),
+        Quadratic::Candidate { start, stopped } => Tried::Candidate { start, stopped },
     }
 }
 

@@ -10,4 +10,5 @@ pub mod ReadingLemmas
 pub mod RunLemmas
 pub mod SizeLemmas
 pub mod TextLemmas
+pub mod ThreadLemmas
 mod Rows

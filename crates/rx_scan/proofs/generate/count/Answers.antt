@@ -10,7 +10,7 @@ use Rattle.rx_scan.proofs.CountedLemmas.{counts-told, All-unmap}
 use Rattle.rx_scan.proofs.generate.count.Goals as goal
 
 pub scan_for-requires : goal.scan_for-requires
-scan_for-requires g c = λ lifetimes bounds. c.requires.asked.1
+scan_for-requires g c = c.requires.asked.1
 
 pub returns : goal.returns
 returns g c =

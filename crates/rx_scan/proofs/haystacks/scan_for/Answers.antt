@@ -7,8 +7,8 @@ use Rattle.rx_search.specs.Told.{tells}
 use Rattle.rx_meta.specs.Build.{patterns_for}
 use Rattle.rx_meta.specs.Config.{ConfigValue, captures_of, prefilter_of}
 use Rattle.rx_meta.proofs.cache.Cache.TheSendSync as cache
-use Rattle.rx_scan.proofs.row.Layout.TheSendSync as layout
 use Rattle.rx_meta.proofs.ThreadLemmas.{regex_sync}
+use Rattle.rx_scan.proofs.ThreadLemmas.{works_sync}
 use Rattle.rx_scan.proofs.HaystackLemmas.{outcomes-found, outcomes-silent, serves-finds}
 use Rattle.rx_scan.proofs.haystacks.scan_for.Goals as goal
 
@@ -30,4 +30,4 @@ pub do_all-requires-send-T-Scratch : goal.do_all-requires-send-T-Scratch
 do_all-requires-send-T-Scratch g c κs within = search (sendable, crosses, regex_sync, cache.the_send) fits 5000 depth 40
 
 pub do_all-requires-sync-T : goal.do_all-requires-sync-T
-do_all-requires-sync-T g c κs within = search (sendable, regex_sync, layout.the_field_sync, c.type_bounds.sync-G, c.type_bounds.sync-O) fits 5000 depth 40
+do_all-requires-sync-T g c κs within = search (sendable, works_sync)
