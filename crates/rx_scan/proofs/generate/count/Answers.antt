@@ -9,9 +9,6 @@ use Rattle.rx_scan.specs.Answer.{gen_expressions}
 use Rattle.rx_scan.proofs.CountedLemmas.{counts-told, All-unmap}
 use Rattle.rx_scan.proofs.generate.count.Goals as goal
 
-pub scan_for-requires : goal.scan_for-requires
-scan_for-requires g c = c.requires.asked.1
-
 pub returns : goal.returns
 returns g c =
     let seed = c.args.asked.now.seed in
