@@ -11,10 +11,8 @@ pub enum Engine {
     PikeVM,
     /// The bounded backtracker.
     Backtrack,
-    /// The core of a regex.
-    Core,
     /// The strategy of a regex.
-    Regex,
+    Core,
 }
 
 impl Engine {
@@ -26,7 +24,6 @@ impl Engine {
             "pikevm" => Some(Engine::PikeVM),
             "backtrack" => Some(Engine::Backtrack),
             "core" => Some(Engine::Core),
-            "regex" => Some(Engine::Regex),
             _ => None,
         }
     }
@@ -51,13 +48,10 @@ pub enum Call {
     Places,
     /// The patterns that have a match: `0 2`.
     Set,
-    /// The bytes that are accounted for a cache; of a lazy DFA and of a regex before a search for an end, what that tells, and those
-    /// after it.
+    /// The bytes that are accounted for a cache; of a lazy DFA before a search for an end, what that tells, and those after it.
     Memory,
     /// The bytes of a full DFA's table, or those that are accounted for a strategy.
     Size,
-    /// What an attempt from candidate to candidate tells: `3..5 of 0`, or why it has no answer, and how many steps it took.
-    Attempt,
 }
 
 impl Call {
@@ -74,7 +68,6 @@ impl Call {
             "set" => Some(Call::Set),
             "memory" => Some(Call::Memory),
             "size" => Some(Call::Size),
-            "attempt" => Some(Call::Attempt),
             _ => None,
         }
     }

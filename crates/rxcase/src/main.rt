@@ -13,7 +13,6 @@ mod compile;
 mod dfa;
 mod failure;
 mod pikevm;
-mod regex;
 mod search;
 mod sets;
 mod strategy;
@@ -85,7 +84,6 @@ fn tell_asked(alloc: Global, ask: &Ask<'_>, told: &mut String) -> Result<(), Fai
         Engine::PikeVM => pikevm::tell(alloc, ask, told),
         Engine::Backtrack => backtrack::tell(alloc, ask, told),
         Engine::Core => strategy::tell(alloc, ask, told),
-        Engine::Regex => regex::tell(alloc, ask, told),
     }
 }
 

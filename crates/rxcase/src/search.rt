@@ -31,8 +31,6 @@ pub struct Searching {
     pub reset: Option<usize>,
     /// The number of slots, if they are not as many as there are: `slots:N`.
     pub slots: Option<usize>,
-    /// The steps that an attempt may take, if that is asked in place of their number: `most:N`.
-    pub most: Option<u64>,
 }
 
 impl Searching {
@@ -45,7 +43,6 @@ impl Searching {
             lines: false,
             reset: None,
             slots: None,
-            most: None,
         }
     }
 
@@ -56,7 +53,6 @@ impl Searching {
             "pattern" => self.with_pattern(value),
             "slots" => self.with_slots(value),
             "reset" => self.with_reset(value),
-            "most" => self.with_most(value),
             _ => {
                 if !value.is_empty() {
                     return None;
@@ -96,14 +92,6 @@ impl Searching {
         let reset = value.parse::<usize>().ok()?;
         Some(Searching {
             reset: Some(reset),
-            ..self
-        })
-    }
-
-    fn with_most(self, value: &str) -> Option<Searching> {
-        let most = value.parse::<u64>().ok()?;
-        Some(Searching {
-            most: Some(most),
             ..self
         })
     }

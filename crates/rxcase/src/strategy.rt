@@ -1,4 +1,4 @@
-//! The core of a regex, and what it is asked for.
+//! The strategy of a regex, and what it is asked for.
 ghost use Rattle.std.specs.Prelude.{IfOk};
 ghost use Rattle.rx_strategy.specs.Cache.{Fits};
 
@@ -51,21 +51,14 @@ fn made_under(alloc: Global, ask: &Ask<'_>, config: &Config) -> Result<Strategy,
 fn made_of(alloc: Global, config: &Config, exprs: &[Hir]) -> Result<Strategy, Failure> {
     match Strategy::new(alloc, config, exprs) {
         Ok(strategy) => Ok(strategy),
-        Err(error) => Err(refusal(error)),
-    }
-}
-
-/// Why there is no strategy.
-pub fn refusal(error: BuildError) -> Failure {
-    match error {
-        BuildError::ExceededSizeLimit { limit, size } => Failure::TooBig { limit, size },
-        BuildError::Memory => Failure::Memory,
-        _ => Failure::Patterns,
+        Err(BuildError::ExceededSizeLimit { limit, size }) => Err(Failure::TooBig { limit, size }),
+        Err(BuildError::Memory) => Err(Failure::Memory),
+        Err(_) => Err(Failure::Patterns),
     }
 }
 
 /// The expressions of the patterns.
-pub fn expressions(alloc: Global, ask: &Ask<'_>) -> Result<Vec<Hir>, Failure> {
+fn expressions(alloc: Global, ask: &Ask<'_>) -> Result<Vec<Hir>, Failure> {
     let patterns = texts(alloc, ask.patterns)?;
     parsed(alloc, &patterns)
 }
@@ -79,7 +72,7 @@ fn parsed(alloc: Global, patterns: &[&str]) -> Result<Vec<Hir>, Failure> {
 }
 
 /// The configuration that is asked for.
-pub fn config(alloc: Global, ask: &Ask<'_>) -> Result<Config, Failure> {
+fn config(alloc: Global, ask: &Ask<'_>) -> Result<Config, Failure> {
     let pre = prefilter(alloc, ask)?;
     let building = ask.building;
     let config = Config::new()

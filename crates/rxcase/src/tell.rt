@@ -1,7 +1,6 @@
 //! How answers are written.
 
 use crate::failure::Failure;
-use rx_limited::{Quadratic, RetryError};
 use rx_search::{HalfMatch, Match, MatchError, Memory, NonMaxUsize, PatternID, PatternSet};
 use std::alloc::AllocError;
 use std::fmt::Write;
@@ -52,47 +51,6 @@ pub fn tell_end(
         Ok(None) => tell_none(told),
         Err(error) => tell_error(told, error),
     }
-}
-
-/// Appends what an attempt tells: a match, or why it has no answer.
-pub fn tell_tried(
-    told: &mut String,
-    tried: Result<Option<Match>, RetryError>,
-) -> Result<(), Failure> {
-    match tried {
-        Ok(Some(found)) => write!(
-            told,
-            "{}..{} of {}",
-            found.start(),
-            found.end(),
-            found.pattern().as_usize()
-        )?,
-        Ok(None) => told.push_str("none")?,
-        Err(RetryError::Quadratic(met)) => tell_quadratic(told, met)?,
-        Err(RetryError::Fail { offset }) => write!(told, "fails at {offset}")?,
-        Err(RetryError::Memory) => return Err(Failure::Memory),
-    }
-    Ok(())
-}
-
-/// Appends what was met: `at 6 below 7`, `a start at 1`, or `a candidate at 3 before 5`.
-fn tell_quadratic(told: &mut String, met: Quadratic) -> Result<(), AllocError> {
-    match met {
-        Quadratic::Below { at, min_start } => write!(told, "at {at} below {min_start}"),
-        Quadratic::AtStart { found } => write!(told, "a start at {}", found.offset()),
-        Quadratic::Candidate { start, stopped } => {
-            write!(told, "a candidate at {start} before {stopped}")
-        }
-    }
-}
-
-/// Appends the number of steps, or only that there are at most so many: `, 12 steps`.
-pub fn tell_steps(told: &mut String, steps: u64, most: Option<u64>) -> Result<(), Failure> {
-    match most {
-        Some(most) if steps <= most => write!(told, ", at most {most} steps\n")?,
-        _ => write!(told, ", {steps} steps\n")?,
-    }
-    Ok(())
 }
 
 /// What a search found that may fail for want of memory alone.
