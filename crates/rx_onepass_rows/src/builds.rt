@@ -71,19 +71,25 @@ fn dfa_of(alloc: Global, first: &str, second: &str) -> Result<DFA, BuildError> {
 }
 
 /// Whether the refusal's text is this one, before which this stands.
-fn is_text(alloc: Global, error: BuildError, before: &str, want: &str) -> bool {
+fn is_text(alloc: Global, error: &BuildError, before: &str, want: &str) -> bool {
     match format!(in alloc; "{error}") {
         Ok(text) => text.as_str().strip_prefix(before) == Some(want),
         Err(_) => false,
     }
 }
 
+/// Whether a build is refused with this text, before which that stands, or not refused where there is none.
+fn tells(alloc: Global, built: &Result<DFA, BuildError>, before: &str, want: &str) -> bool {
+    match built {
+        Ok(_) => want.len() == 0,
+        Err(error) => is_text(alloc, error, before, want),
+    }
+}
+
 /// Whether the build answers as the row wants.
 fn is_answered(alloc: Global, row: Row) -> bool {
-    match dfa_of(alloc, row.0, row.1) {
-        Ok(_) => row.2.len() == 0,
-        Err(error) => is_text(alloc, error, NOT_ONE_PASS, row.2),
-    }
+    let built = dfa_of(alloc, row.0, row.1);
+    tells(alloc, &built, NOT_ONE_PASS, row.2)
 }
 
 /// The first row that is answered otherwise.
@@ -105,10 +111,8 @@ fn patterns_by_hand(rt: HostRuntime) {
 fn is_refused(alloc: Global, limit: Option<usize>, pattern: &str, want: &str) -> bool {
     let mut builder = Builder::new();
     builder.configure(Config::new().size_limit(limit));
-    match builder.build(alloc, pattern) {
-        Ok(_) => false,
-        Err(error) => is_text(alloc, error, "", want),
-    }
+    let built = builder.build(alloc, pattern);
+    tells(alloc, &built, "", want)
 }
 
 /// A pattern, and the text of its refusal.
