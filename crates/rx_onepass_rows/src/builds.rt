@@ -5,8 +5,7 @@ use std::alloc::Global;
 use std::process::Abort;
 
 /// The text of the refusals of what is not one-pass, up to what is ambiguous.
-const NOT_ONE_PASS: &str =
-    "one-pass DFA could not be built because pattern is not one-pass: ";
+const NOT_ONE_PASS: &str = "one-pass DFA could not be built because pattern is not one-pass: ";
 
 /// Two patterns, the second one empty where there is one alone; and what is ambiguous of them, nothing where they are one-pass.
 type Row = (&'static str, &'static str, &'static str);
@@ -168,8 +167,14 @@ fn sizes_of(dfa: &DFA, cache: &Cache) -> (usize, usize, usize, usize, usize, usi
 }
 
 /// The sizes of the DFA of the pattern.
-fn sizes(rt: &impl Abort, alloc: Global, pattern: &str) -> (usize, usize, usize, usize, usize, usize) {
-    let dfa = DFA::new(alloc, pattern).ok().expect(rt, "a one-pass pattern");
+fn sizes(
+    rt: &impl Abort,
+    alloc: Global,
+    pattern: &str,
+) -> (usize, usize, usize, usize, usize, usize) {
+    let dfa = DFA::new(alloc, pattern)
+        .ok()
+        .expect(rt, "a one-pass pattern");
     let cache = dfa.create_cache(alloc).ok().expect(rt, "a cache");
     sizes_of(&dfa, &cache)
 }

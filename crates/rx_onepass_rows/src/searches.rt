@@ -35,19 +35,34 @@ const ROWS: [Row; 20] = [
     ("\\bfoo\\b", "", b"foo bar", 0, 7, Some(0), &[0, 3]),
     ("\\bfoo\\b", "", b"foobar", 0, 6, None, &[NO, NO]),
     ("\\bfoo\\b", "", b"foobar", 0, 3, None, &[NO, NO]),
-    ("([a-z]+)=([0-9]+)", "", b"ab=12 ", 0, 6, Some(0), &[0, 5, 0, 2, 3, 5]),
+    (
+        "([a-z]+)=([0-9]+)",
+        "",
+        b"ab=12 ",
+        0,
+        6,
+        Some(0),
+        &[0, 5, 0, 2, 3, 5],
+    ),
     ("a*b", "", b"aaab", 0, 4, Some(0), &[0, 4]),
     ("a*b", "", b"aaab", 0, 3, None, &[NO, NO]),
     ("a(b)*", "", b"abbc", 0, 4, Some(0), &[0, 3, 2, 3]),
     ("a+?", "", b"aa", 0, 2, Some(0), &[0, 1]),
     ("(a)|b", "", b"b", 0, 1, Some(0), &[0, 1, NO, NO]),
     ("a", "b", b"b", 0, 1, Some(1), &[NO, NO, 0, 1]),
-    ("(a)", "(b)", b"b", 0, 1, Some(1), &[NO, NO, 0, 1, NO, NO, 0, 1]),
+    (
+        "(a)",
+        "(b)",
+        b"b",
+        0,
+        1,
+        Some(1),
+        &[NO, NO, 0, 1, NO, NO, 0, 1],
+    ),
 ];
 
 /// The one-pass DFA of the first pattern, or of both, with starts for each.
-fn dfa_of(alloc: Global, kind: MatchKind, first: &str, second: &str) -> Result<DFA, BuildError>
-{
+fn dfa_of(alloc: Global, kind: MatchKind, first: &str, second: &str) -> Result<DFA, BuildError> {
     let mut builder = Builder::new();
     builder.configure(Config::new().match_kind(kind).starts_for_each_pattern(true));
     if second.len() == 0 {
@@ -121,7 +136,14 @@ fn finds(alloc: Global, dfa: &DFA, row: Row) -> bool {
     let mut input = Input::new(haystack);
     input.set_span(Span { start, end });
     input.set_anchored(Anchored::Yes);
-    is_found(dfa, &mut cache, &input, slots.as_mut_slice(), pattern, places)
+    is_found(
+        dfa,
+        &mut cache,
+        &input,
+        slots.as_mut_slice(),
+        pattern,
+        places,
+    )
 }
 
 /// The first row that is answered otherwise.
@@ -142,7 +164,10 @@ fn first_wrong(alloc: Global, kind: MatchKind, rows: &[Row]) -> Option<usize> {
 
 #[test]
 fn searches_by_hand(rt: HostRuntime) {
-    assert_eq!(rt; first_wrong(rt.alloc(), MatchKind::LeftmostFirst, &ROWS), None);
+    assert_eq!(rt;
+        first_wrong(rt.alloc(), MatchKind::LeftmostFirst, &ROWS),
+        None
+    );
 }
 
 /// The same where the farthest match is told.
