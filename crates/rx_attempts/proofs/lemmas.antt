@@ -6,3 +6,4 @@ pub mod EndLemmas
 pub mod SuffixLemmas
 pub mod InnerLemmas
 pub mod CountLemmas
+pub mod NearLemmas

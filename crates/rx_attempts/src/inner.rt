@@ -14,7 +14,7 @@ ghost use Rattle.rx_attempts.specs.Whole.{match_found};
 ghost use Rattle.rx_attempts.specs.Inner.{IsTurn, IsTried, TakesFew};
 ghost use Rattle.rx_attempts.specs.Counts.{HasCounted, HasTried};
 
-use crate::parts::{match_or_stop, next_candidate, up_to};
+use crate::parts::{is_of_one, match_or_stop, needle_at, next_candidate, up_to};
 use rx_dfa::Automaton;
 use rx_limited::{Quadratic, RetryError, rev_limited};
 use rx_prefilter::Prefilter;
@@ -34,6 +34,7 @@ use std::sync::ledger::Ledger;
 /// `Quadratic` from a candidate before which none is confirmed: as by `rev_limited`, where bytes under the end of the candidate before
 /// it would be read again, or a later start was found than that of the span; and where the candidate lies before the place at which the
 /// last search forwards stopped. `Fail` with the place at which an automaton quit, or gave up; `Memory`.
+#[inline(never)]
 pub fn reverse_inner_attempt<F: Automaton, B: Automaton, L: Ledger>(
     pre: &Prefilter,
     fwd: &F,
@@ -61,14 +62,16 @@ pub fn reverse_inner_attempt<F: Automaton, B: Automaton, L: Ledger>(
     ensures fwd_fits { F.fits fwd.now fwd_cache.new }
     ensures rev_fits { B.fits rev.now rev_cache.new }
 {
-    let _haystack = input.haystack();
+    let haystack = input.haystack();
     if input.is_done() {
         return Ok(None);
     }
+    let is_one = is_of_one(pre);
+    let mut needle = &haystack[..0];
     let mut from = input.start();
     let mut min_start = 0;
     let mut stopped = 0;
-    'candidates: while let Some(found) = next_candidate(pre, input, from) {
+    'candidates: while let Some(found) = next_candidate(pre, input, needle, from) {
         let guards = Guards { min_start, stopped };
         let tried = match try_candidate(
             fwd, fwd_cache, rev, rev_cache, input, found, guards, steps,
@@ -82,6 +85,7 @@ pub fn reverse_inner_attempt<F: Automaton, B: Automaton, L: Ledger>(
         };
         min_start = found.end;
         from = found.start + 1;
+        needle = needle_at(input, found, is_one);
     }
     Ok(None)
 }

@@ -1,6 +1,8 @@
 //! What an attempt is made of.
-ghost use Rattle.std.specs.Prelude.{◌≡◌, ◌≤◌, ◌<◌, ◌+◌, ◌-◌, false, None, IfOk, OnOk, IfSome, length};
+ghost use Rattle.std.specs.Prelude.{◌≡◌, ◌↔◌, ◌≤◌, ◌<◌, ◌+◌, ◌-◌, ◌∷◌, [], List, ℕ, true, false, Some, None, IsTrue, IfOk, OnOk, IfSome, length, take, drop};
 ghost use Rattle.std.specs.Result.{IfErr};
+ghost use Rattle.memchr.specs.Find.{OccursAt};
+ghost use Rattle.rx_prefilter.specs.Needles.{first_span};
 ghost use Rattle.rx_model.specs.Search.{Patterns};
 ghost use Rattle.rx_search.specs.Input.{span_len};
 ghost use Rattle.rx_search.specs.Promise.{Premises};
@@ -15,12 +17,41 @@ ghost use Rattle.rx_attempts.specs.Whole.{match_found, IsWhole};
 
 use rx_dfa::Automaton;
 use rx_limited::{RetryError, fwd_stopat};
-use rx_prefilter::Prefilter;
+use rx_prefilter::{Choice, Prefilter};
 use rx_search::{Anchored, HalfMatch, Input, Match, Span, Steps};
 use std::sync::ledger::Ledger;
 
-/// Where a needle lies in the input's span at this place or later: the least place, and there the first of the list.
-pub(crate) fn next_candidate(pre: &Prefilter, input: &Input<'_>, from: usize) -> Option<Span>
+/// So many places are looked at one by one for a needle that is known.
+const NEAR: usize = 32;
+
+/// Where a needle lies in the input's span at this place or later: the least place, and there the first of the list. The search's only
+/// needle may be given, or an empty one. If it is given, the next places are looked at first, one by one: where it lies so near, that takes
+/// fewer instructions than to begin a search by vectors.
+#[inline(always)]
+pub(crate) fn next_candidate(
+    pre: &Prefilter,
+    input: &Input<'_>,
+    needle: &[u8],
+    from: usize,
+) -> Option<Span>
+    requires low { input.now.start ≤ from }
+    requires high { from ≤ input.now.end }
+    requires only { 0 < length needle.now → pre.now ≡ needle.now ∷ [] }
+    ensures { IsNextCandidate pre.now input.now from result }
+{
+    if needle.is_empty() {
+        return find_from(pre, input, from);
+    }
+    let haystack = input.haystack();
+    let end = input.end();
+    match near(&haystack[..end], needle, from) {
+        Ok(found) => Some(found),
+        Err(start) => pre.find(haystack, Span { start, end }),
+    }
+}
+
+/// The same by the search alone.
+fn find_from(pre: &Prefilter, input: &Input<'_>, from: usize) -> Option<Span>
     requires low { input.now.start ≤ from }
     requires high { from ≤ input.now.end }
     ensures { IsNextCandidate pre.now input.now from result }
@@ -31,6 +62,73 @@ pub(crate) fn next_candidate(pre: &Prefilter, input: &Input<'_>, from: usize) ->
         end: input.end(),
     };
     pre.find(haystack, part)
+}
+
+/// Where the needle lies first at the next places of the text from this one on; or a place before which it lies at none of them.
+#[inline(always)]
+fn near(text: &[u8], needle: &[u8], from: usize) -> Result<Span, usize>
+    requires { from ≤ length text.now }
+    ensures found { IfOk result (λ s. first_span (needle.now ∷ []) text.now from ≡ Some s) }
+    ensures passed { IfErr result (λ place. (place ≤ length text.now)
+        × (first_span (needle.now ∷ []) text.now from ≡ first_span (needle.now ∷ []) text.now place)) }
+{
+    let room = text.len() - from;
+    if room < NEAR {
+        return Err(from);
+    }
+    if room - NEAR < needle.len() {
+        return Err(from);
+    }
+    let to = from + NEAR;
+    let mut at = from;
+    'places: while at < to {
+        if lies_at(text, needle, at) {
+            return Ok(Span {
+                start: at,
+                end: at + needle.len(),
+            });
+        }
+        at += 1;
+    }
+    Err(to)
+}
+
+/// Whether the needle lies at this place of the text. Needles are short, so their bytes are compared one by one.
+#[inline(always)]
+fn lies_at(text: &[u8], needle: &[u8], at: usize) -> bool
+    requires { at + length needle.now ≤ length text.now }
+    ensures { IsTrue result ↔ OccursAt text.now needle.now at }
+{
+    for k in 0..needle.len() {
+        if text[at + k] != needle[k] {
+            return false;
+        }
+    }
+    true
+}
+
+/// The text of a candidate, which is the needle where the search is for one; else an empty one.
+#[inline(always)]
+pub(crate) fn needle_at<'h>(input: &Input<'h>, found: Span, is_one: bool) -> &'h [u8]
+    requires low { found.start ≤ found.end }
+    requires high { found.end ≤ input.now.end }
+    ensures { 0 < length result.now → (is_one ≡ true) × (result.now ≡ take (found.end - found.start) (drop found.start input.now.haystack)) }
+{
+    let haystack = input.haystack();
+    if !is_one {
+        return &haystack[..0];
+    }
+    &haystack[found.start..found.end]
+}
+
+/// Whether the search is for one needle, of more than a byte.
+pub(crate) fn is_of_one(pre: &Prefilter) -> bool
+    ensures { result ≡ true → (needle : List ℕ) × (pre.now ≡ needle ∷ []) }
+{
+    match pre.choice() {
+        Choice::Memmem => true,
+        _ => false,
+    }
 }
 
 /// The input's span up to this place, to be searched backwards from there.

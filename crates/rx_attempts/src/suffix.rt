@@ -18,7 +18,7 @@ ghost use Rattle.rx_attempts.specs.Whole.{IsWhole};
 ghost use Rattle.rx_attempts.specs.Suffix.{FirstSuffix, BackFails};
 ghost use Rattle.rx_attempts.specs.Counts.{HasCounted, HasCountedBack};
 
-use crate::parts::{match_or_stop, next_candidate, up_to};
+use crate::parts::{match_or_stop, needle_at, next_candidate, up_to};
 use rx_dfa::Automaton;
 use rx_limited::{RetryError, rev_limited};
 use rx_prefilter::Prefilter;
@@ -78,7 +78,8 @@ pub fn reverse_suffix_attempt<F: Automaton, B: Automaton, L: Ledger>(
     }
 }
 
-/// The start of the first candidate that is confirmed.
+/// The start of the first candidate that is confirmed. It is no part of its callers, so that its loop has the registers for itself.
+#[inline(never)]
 fn first_start<B: Automaton, L: Ledger>(
     pre: &Prefilter,
     rev: &B,
@@ -97,10 +98,11 @@ fn first_start<B: Automaton, L: Ledger>(
     ensures few { steps.new ≤ steps.old + 4 * span_len input.now }
     ensures fits { B.fits rev.now rev_cache.new }
 {
-    let _haystack = input.haystack();
+    let haystack = input.haystack();
     let mut from = input.start();
     let mut min_start = 0;
-    'candidates: while let Some(found) = next_candidate(pre, input, from) {
+    let mut needle = &haystack[..0];
+    'candidates: while let Some(found) = next_candidate(pre, input, needle, from) {
         let part = up_to(input, found.end);
         let begins = match rev_limited(rev, rev_cache, &part, min_start, steps) {
             Ok(begins) => begins,
@@ -111,6 +113,7 @@ fn first_start<B: Automaton, L: Ledger>(
         }
         min_start = found.end;
         from = found.start + 1;
+        needle = needle_at(input, found, true);
     }
     Ok(None)
 }

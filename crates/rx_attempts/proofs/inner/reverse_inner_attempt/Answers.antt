@@ -1,4 +1,4 @@
-use Rattle.std.proofs.Common.{◌≡◌, ◌≤◌, ◌<◌, length, ap, subst, arith, rules}
+use Rattle.std.proofs.Common.{◌≡◌, ◌≤◌, ◌<◌, ◌∷◌, [], length, sym, ◌∙◌, ap, subst, arith, rules}
 use Rattle.std.specs.Prelude.{ℕ, false, Result}
 use Rattle.std.specs.Result.{IfErr}
 use Rattle.rx_search.specs.Matches.{MatchValue}
@@ -9,6 +9,7 @@ use Rattle.rx_attempts.specs.Counts.{HasTried}
 use Rattle.rx_attempts.proofs.lemmas.CountLemmas.{counts-fresh, counts-tried, counted-tried, counted-nothing}
 use Rattle.rx_search.specs.declared.span.Span.{Span}
 use Rattle.rx_attempts.proofs.lemmas.NeedleLemmas.{taken-candidate, taken-long}
+use Rattle.rx_attempts.proofs.lemmas.NearLemmas.{only-read}
 use Rattle.rx_attempts.proofs.lemmas.EndLemmas.{past-nothing}
 use Rattle.rx_attempts.proofs.lemmas.InnerLemmas.{inner-turn, inner-on, inner-over, inner-nothing, inner-answer}
 use Rattle.rx_attempts.proofs.inner.reverse_inner_attempt.Goals as goal
@@ -40,6 +41,42 @@ try_candidate-requires-clause-high g c =
     let lt = ends.0 in
     let le = ends.1 in
     omega arith
+
+pub needle_at-needle-requires-clause-low : goal.needle_at-needle-requires-clause-low
+needle_at-needle-requires-clause-low g c =
+    let fwd = g.F.Automaton.dfa c.args.fwd.now in
+    let rev = g.B.Automaton.dfa c.args.rev.now in
+    let needles = c.args.pre.now in
+    let v = c.args.input.now in
+    let spanned = c.haystack-haystack.ensures.spanned.end in
+    let from = c.candidates.from in
+    let min_start = c.candidates.min_start in
+    let stopped = c.candidates.stopped in
+    let on = c.candidates.invariant.on in
+    let now = c.in-Some.found in
+    let next = subst (IsNextCandidate needles v from) c.in-Some.is c.next_candidate.ensures in
+    let ends = taken-long needles v spanned c.requires.needles now next.0 in
+    let lt = ends.0 in
+    let le = ends.1 in
+    omega arith
+
+pub needle_at-needle-requires-clause-high : goal.needle_at-needle-requires-clause-high
+needle_at-needle-requires-clause-high g c =
+    let fwd = g.F.Automaton.dfa c.args.fwd.now in
+    let rev = g.B.Automaton.dfa c.args.rev.now in
+    let needles = c.args.pre.now in
+    let v = c.args.input.now in
+    let spanned = c.haystack-haystack.ensures.spanned.end in
+    let from = c.candidates.from in
+    let min_start = c.candidates.min_start in
+    let stopped = c.candidates.stopped in
+    let on = c.candidates.invariant.on in
+    let now = c.in-Some.found in
+    let next = subst (IsNextCandidate needles v from) c.in-Some.is c.next_candidate.ensures in
+    let ends = taken-long needles v spanned c.requires.needles now next.0 in
+    let lt = ends.0 in
+    let le = ends.1 in
+    le
 
 pub returns-in-Err-clause-err : goal.returns-in-Err-clause-err
 returns-in-Err-clause-err g c =
@@ -140,6 +177,11 @@ candidates-preserved g c =
           new place (told every);
       on = inner-on fwd rev needles c.requires.needles v spanned from min_start stopped c.args.steps.now c.candidates.steps on now next place new passed stops few
           c.in-Ok.ensures.guard;
+      one = c.candidates.invariant.one;
+      only = λ some.
+          let told = c.needle_at-needle.ensures some in
+          let only = c.candidates.invariant.one told.0 in
+          only-read needles v spanned only.0 only.1 now next.0 ∙ ap (λ x. x ∷ []) (sym told.1);
       fwd_fits = c.try_candidate.ensures.fwd_fits;
       rev_fits = c.try_candidate.ensures.rev_fits;
     }

@@ -1,4 +1,4 @@
-use Rattle.std.proofs.Common.{◌≡◌, ◌≤◌, ◌+◌, ◌-◌, length, ◌∙◌, ap, subst, arith}
+use Rattle.std.proofs.Common.{◌≡◌, ◌≤◌, ◌+◌, ◌-◌, ◌∷◌, [], length, sym, ◌∙◌, ap, subst, arith}
 use Rattle.std.specs.Prelude.{Option, None, IfSome}
 use Rattle.rx_search.specs.Input.{InputValue}
 use Rattle.rx_search.specs.Matches.{HalfMatchValue}
@@ -8,6 +8,7 @@ use Rattle.rx_limited.specs.Limited.{FindsStart, LimitedFails}
 use Rattle.rx_attempts.specs.Inputs.{up_to}
 use Rattle.rx_attempts.specs.Candidates.{IsNextCandidate}
 use Rattle.rx_attempts.proofs.lemmas.NeedleLemmas.{taken-long}
+use Rattle.rx_attempts.proofs.lemmas.NearLemmas.{only-read}
 use Rattle.rx_attempts.proofs.lemmas.FailLemmas.{suffix-back}
 use Rattle.rx_attempts.proofs.lemmas.SuffixLemmas.{not-empty, suffix-ended, suffix-over, suffix-before, suffix-least, suffix-few, suffix-total, suffix-on, suffix-found}
 use Rattle.rx_search.specs.declared.span.Span.{Span}
@@ -38,6 +39,50 @@ up_to-part-requires-clause-low g c =
 
 pub up_to-part-requires-clause-high : goal.up_to-part-requires-clause-high
 up_to-part-requires-clause-high g c =
+    let rev = g.B.Automaton.dfa c.args.rev.now in
+    let needles = c.args.pre.now in
+    let v = c.args.input.now in
+    let spanned = c.haystack-haystack.ensures.spanned.end in
+    let s = c.requires.suffix.0 in
+    let one = c.requires.suffix.1 in
+    let bytes = c.requires.suffix.2 in
+    let from = c.candidates.from in
+    let min_start = c.candidates.min_start in
+    let old = c.args.steps.now in
+    let mid = c.candidates.steps in
+    let on = c.candidates.invariant.on in
+    let now = c.in-Some.found in
+    let next = subst (IsNextCandidate needles v from) c.in-Some.is c.next_candidate.ensures in
+    let ends = taken-long needles v spanned (not-empty rev needles s one bytes v spanned) now next.0 in
+    let inside = next.0.inside in
+    let lt = ends.0 in
+    let le = ends.1 in
+    le
+
+pub needle_at-needle-requires-clause-low : goal.needle_at-needle-requires-clause-low
+needle_at-needle-requires-clause-low g c =
+    let rev = g.B.Automaton.dfa c.args.rev.now in
+    let needles = c.args.pre.now in
+    let v = c.args.input.now in
+    let spanned = c.haystack-haystack.ensures.spanned.end in
+    let s = c.requires.suffix.0 in
+    let one = c.requires.suffix.1 in
+    let bytes = c.requires.suffix.2 in
+    let from = c.candidates.from in
+    let min_start = c.candidates.min_start in
+    let old = c.args.steps.now in
+    let mid = c.candidates.steps in
+    let on = c.candidates.invariant.on in
+    let now = c.in-Some.found in
+    let next = subst (IsNextCandidate needles v from) c.in-Some.is c.next_candidate.ensures in
+    let ends = taken-long needles v spanned (not-empty rev needles s one bytes v spanned) now next.0 in
+    let inside = next.0.inside in
+    let lt = ends.0 in
+    let le = ends.1 in
+    omega arith
+
+pub needle_at-needle-requires-clause-high : goal.needle_at-needle-requires-clause-high
+needle_at-needle-requires-clause-high g c =
     let rev = g.B.Automaton.dfa c.args.rev.now in
     let needles = c.args.pre.now in
     let v = c.args.input.now in
@@ -242,6 +287,7 @@ candidates-preserved g c =
           counts-add fwd rev needles v (λ (s : Span). s.end) from old mid (c.candidates.invariant.counts fwd) now next None
           (subst (FindsStart rev (up_to v now.end)) c.in_default-begins.is back) new (omega (arith, ticks));
       on = suffix-on rev needles s one bytes v spanned from min_start old mid on now next (subst (FindsStart rev (up_to v now.end)) c.in_default-begins.is back) new taken;
+      only = λ some. only-read needles v spanned s one now next.0 ∙ ap (λ x. x ∷ []) (sym (c.needle_at-needle.ensures some).1);
       fits = c.rev_limited.ensures.fits;
     }
 

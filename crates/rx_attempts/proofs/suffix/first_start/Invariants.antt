@@ -1,4 +1,4 @@
-use Rattle.std.proofs.Common.{◌+◌, ◌-◌}
+use Rattle.std.proofs.Common.{◌≡◌, ◌<◌, ◌+◌, ◌-◌, ◌∷◌, [], length}
 use Rattle.rx_search.specs.declared.span.Span.{Span}
 use Rattle.rx_dfa.specs.Automaton.{Dfa}
 use Rattle.rx_attempts.specs.Suffix.{GoesOn}
@@ -9,6 +9,7 @@ abbrev pub invariant-candidates : goal.invariant-candidates
 invariant-candidates g l = record {
   on : GoesOn (g.B.Automaton.dfa l.rev) l.pre l.input l.from l.min_start l.fn.steps l.steps;
   counts : (fwd : Dfa) → Counts fwd (g.B.Automaton.dfa l.rev) l.pre l.input (λ (s : Span). s.end) l.from l.fn.steps l.steps;
+  only : 0 < length l.needle → l.pre ≡ l.needle ∷ [];
   fits : g.B.Automaton.fits l.rev l.rev_cache;
 }
 
