@@ -1,11 +1,11 @@
 -- What the parts of the search backwards answer.
-use Rattle.std.specs.Prelude.{◌≡◌, ℕ, ◌+◌, ◌-◌, ◌≤◌, ◌<◌, true, length, Option, Some, IfSome}
+use Rattle.std.specs.Prelude.{◌≡◌, ℕ, ◌+◌, ◌-◌, ◌≤◌, ◌<◌, true, length, slice_index, Option, Some, IfSome}
 use Rattle.rx_search.specs.Input.{InputValue}
 use Rattle.rx_search.specs.Matches.{HalfMatchValue}
 use Rattle.rx_nfa.specs.Automaton.{backwards}
 use Rattle.rx_determinize.specs.Key.{Key, is_dead}
 use Rattle.rx_determinize.specs.Sight.{AreBytes}
-use Rattle.rx_dfa.specs.Automaton.{Dfa}
+use Rattle.rx_dfa.specs.Automaton.{Dfa, IsReadable, next_key}
 use Rattle.rx_dfa.specs.Course.{IsMetBackwards}
 use Rattle.rx_dfa.proofs.lemmas.CourseLemmas.{nothing_held}
 use Rattle.rx_dfa.proofs.lemmas.BackwardLemmas.{key_behind, GoingBehind}
@@ -39,6 +39,20 @@ pub record GoesBack (Held : ℕ → Key → Type 0) (d : Dfa) (v : InputValue) (
   pub bytes : AreBytes v.haystack
   pub calls : calls_backwards d v
       ≡ (v.end - at) + calls d (backwards d.nfa.terminator v.haystack) (at - v.start) (length v.haystack - at) (key_behind d v at)
+
+-- the same, of whose state nothing is told
+abbrev pub NotHeld : ℕ → Key → Type 0
+NotHeld state k = Unit {0}
+
+-- A search went from one place over plain states to another, and stands in this state: at the floor behind the last byte, and above it
+-- behind one byte more, of which nothing is told but that it is read. It counted a step a byte.
+pub record HasPassed (Held : ℕ → Key → Type 0) (d : Dfa) (v : InputValue) (floor from old new : ℕ) (best : Option HalfMatchValue) (state place : ℕ) : Type 0 where
+  pub low : floor ≤ place
+  pub high : place ≤ from
+  pub going : GoesBack NotHeld d v place 0 best
+  pub at_floor : place ≡ floor → Held state (key_behind d v place) × (new ≡ old + (from - place))
+  pub above : floor < place → Held state (next_key d (key_behind d v place) (slice_index v.haystack (place - 1)))
+      × IsReadable d.nfa (Some (slice_index v.haystack (place - 1))) × (new ≡ old + (from - place) + 1)
 
 -- where a search came to that reads down to this place, with the number of steps before it and after
 abbrev pub IsScanned : (Held : ℕ → Key → Type 0) → Dfa → InputValue → (floor old new : ℕ) → Scan → Type 0

@@ -6,7 +6,7 @@ ghost use Rattle.rx_dfa.specs.Automaton.{IsSound};
 ghost use Rattle.rx_limited.specs.Calls.{calls_backwards};
 ghost use Rattle.rx_limited.specs.Retry.{JustFails};
 ghost use Rattle.rx_limited.specs.Limited.{FindsStart, LiesInRange, LimitedFails, IsWithin};
-ghost use Rattle.rx_limited.specs.Back.{GoesBack, IsScanned, IsEnded, EndFails, IsGuarded};
+ghost use Rattle.rx_limited.specs.Back.{GoesBack, HasPassed, IsScanned, IsEnded, EndFails, IsGuarded};
 
 use crate::parts::{
     byte_before, is_permitted_at, last_state, place_before, record, retry_of, retry_of_step,
@@ -25,6 +25,7 @@ use std::sync::ledger::Ledger;
 ///
 /// `Quadratic`, where the search was not over before a byte under `min_start` other than the first, or not over at the span's
 /// start with a start found that is a later one. `Fail` with the place at which the automaton quit, or gave up; `Memory`.
+#[inline(always)]
 pub fn rev_limited<A: Automaton, L: Ledger>(
     dfa: &A,
     cache: &mut A::Cache,
@@ -70,6 +71,7 @@ pub fn rev_limited<A: Automaton, L: Ledger>(
 }
 
 /// The place down to which a search reads: the span's start, or the first one under which is none to read.
+#[inline(always)]
 fn floor_of(start: usize, end: usize, min_start: usize) -> usize
     requires { start ≤ end }
     ensures low { start ≤ result }
@@ -93,6 +95,7 @@ fn floor_of(start: usize, end: usize, min_start: usize) -> usize
 }
 
 /// One search from the end of the input's span down to this place of it.
+#[inline(always)]
 fn go_back<A: Automaton, L: Ledger>(
     dfa: &A,
     cache: &mut A::Cache,
@@ -123,13 +126,13 @@ fn go_back<A: Automaton, L: Ledger>(
     }
     let mut at = input.end();
     'bytes: while floor < at {
-        let before = at - 1;
-        state = match dfa.next_state(cache, state, haystack[before], steps) {
-            Ok(next) => next,
-            Err(error) => return Err(retry_of_step(error, before, at)),
+        let (next, place) = match back(dfa, cache, input, state, best, floor, at, steps) {
+            Ok(passed) => passed,
+            Err(error) => return Err(error),
         };
-        if !dfa.is_special(cache, state) {
-            at = before;
+        state = next;
+        at = place;
+        if at == floor {
             continue;
         }
         let may = is_permitted_at(utf8, haystack, at);
@@ -137,9 +140,90 @@ fn go_back<A: Automaton, L: Ledger>(
         if dfa.is_dead(cache, state) {
             return Ok(Scan::Over(best));
         }
-        at = before;
+        at -= 1;
     }
     Ok(Scan::Alive(state, best))
+}
+
+/// Goes back from this state at the place `from`: over plain states down to the floor, or to the first byte that does not lead to one.
+/// Answers the state at the floor, or before that byte, with the place behind the byte. From a state that is not plain it goes over one
+/// byte.
+#[inline(always)]
+fn back<A: Automaton, L: Ledger>(
+    dfa: &A,
+    cache: &mut A::Cache,
+    input: &Input<'_>,
+    state: StateID,
+    best: Option<HalfMatch>,
+    floor: usize,
+    from: usize,
+    steps: &mut Steps<L>,
+) -> Result<(StateID, usize), RetryError>
+    requires fits { A.fits dfa.now cache.old }
+    requires low { input.now.start ≤ floor }
+    requires some { floor < from }
+    requires high { from ≤ input.now.end }
+    requires reverse { (A.dfa dfa.now).nfa.reverse ≡ true }
+    requires sound { IsSound (A.dfa dfa.now) }
+    requires going { GoesBack (A.holds dfa.now cache.old) (A.dfa dfa.now) input.now from state best }
+    ensures passed { IfOk result (λ p. HasPassed (A.holds dfa.now cache.new) (A.dfa dfa.now) input.now floor from steps.old steps.new best p.0 p.1) }
+    ensures err { IfErr result (JustFails (A.dfa dfa.now).nfa input.now (A.gives_up dfa.now cache.new) (A.wants dfa.now)) }
+    ensures most { steps.new + (input.now.end - from) ≤ steps.old + calls_backwards (A.dfa dfa.now) input.now }
+    ensures few { steps.new ≤ steps.old + (from - floor) }
+    ensures fits { A.fits dfa.now cache.new }
+{
+    let haystack = input.haystack();
+    if dfa.is_special(cache, state) {
+        let before = from - 1;
+        return match dfa.next_state(cache, state, haystack[before], steps) {
+            Ok(next) => Ok((next, from)),
+            Err(error) => Err(retry_of_step(error, before, from)),
+        };
+    }
+    pass_back(dfa, cache, input, state, best, floor, from, steps)
+}
+
+/// The same from a plain state. So the compiler knows of each state from which this loop steps that it is plain.
+#[inline(always)]
+fn pass_back<A: Automaton, L: Ledger>(
+    dfa: &A,
+    cache: &mut A::Cache,
+    input: &Input<'_>,
+    state: StateID,
+    best: Option<HalfMatch>,
+    floor: usize,
+    from: usize,
+    steps: &mut Steps<L>,
+) -> Result<(StateID, usize), RetryError>
+    requires fits { A.fits dfa.now cache.old }
+    requires low { input.now.start ≤ floor }
+    requires some { floor < from }
+    requires high { from ≤ input.now.end }
+    requires reverse { (A.dfa dfa.now).nfa.reverse ≡ true }
+    requires sound { IsSound (A.dfa dfa.now) }
+    requires going { GoesBack (A.holds dfa.now cache.old) (A.dfa dfa.now) input.now from state best }
+    ensures passed { IfOk result (λ p. HasPassed (A.holds dfa.now cache.new) (A.dfa dfa.now) input.now floor from steps.old steps.new best p.0 p.1) }
+    ensures err { IfErr result (JustFails (A.dfa dfa.now).nfa input.now (A.gives_up dfa.now cache.new) (A.wants dfa.now)) }
+    ensures most { steps.new + (input.now.end - from) ≤ steps.old + calls_backwards (A.dfa dfa.now) input.now }
+    ensures few { steps.new ≤ steps.old + (from - floor) }
+    ensures fits { A.fits dfa.now cache.new }
+{
+    let haystack = input.haystack();
+    let mut here = state;
+    let mut at = from;
+    'plain: while floor < at {
+        let before = at - 1;
+        let next = match dfa.next_state(cache, here, haystack[before], steps) {
+            Ok(next) => next,
+            Err(error) => return Err(retry_of_step(error, before, at)),
+        };
+        if dfa.is_special(cache, next) {
+            return Ok((next, at));
+        }
+        here = next;
+        at = before;
+    }
+    Ok((here, at))
 }
 
 /// What a search finds that came to the span's start and is not over.

@@ -23,7 +23,7 @@ use Rattle.rx_dfa.proofs.lemmas.BackwardLemmas.{read_last, key_behind, back-star
 use Rattle.rx_limited.specs.Calls.{calls, calls_backwards}
 use Rattle.rx_limited.specs.Parts.{best_within}
 use Rattle.rx_limited.specs.Limited.{each_in, FindsStart, LiesInRange, key_down_to, IsBelow, IsWithin}
-use Rattle.rx_limited.specs.Back.{IsOver, IsDeadFrom, GoesBack}
+use Rattle.rx_limited.specs.Back.{IsOver, IsDeadFrom, GoesBack, NotHeld}
 use Rattle.rx_limited.proofs.lemmas.CallLemmas.{calls-step, calls-last, calls-dead, calls-some}
 use Rattle.rx_limited.proofs.lemmas.MetLemmas.{beside, met-is, best-near, nearer}
 
@@ -241,6 +241,29 @@ module _ (d : Dfa) (sound : IsSound d) (reverse : d.nfa.reverse ≡ true) (v : I
               nothing_held tt false tt 0 (record { best = best; refused = g.refused }) (record { best = best'; refused = refused }) last g.going readable told
               (met-is may last.matches v.start best best' g.refused is));
         }
+
+-- what is told of a search beside its state
+pub unheld : (Held : ℕ → Key → Type 0) (d : Dfa) (v : InputValue) (at state : ℕ) (best : Option HalfMatchValue) → GoesBack Held d v at state best
+    → GoesBack NotHeld d v at 0 best
+unheld Held d v at state best g = record {
+  refused = g.refused;
+  going = g.going;
+  held = tt;
+  near = g.near;
+  bytes = g.bytes;
+  calls = g.calls;
+}
+
+pub held-again : (Held : ℕ → Key → Type 0) (d : Dfa) (v : InputValue) (at state : ℕ) (best : Option HalfMatchValue) → GoesBack NotHeld d v at 0 best
+    → Held state (key_behind d v at) → GoesBack Held d v at state best
+held-again Held d v at state best g held = record {
+  refused = g.refused;
+  going = g.going;
+  held = held;
+  near = g.near;
+  bytes = g.bytes;
+  calls = g.calls;
+}
 
 opened : (d : Dfa) (v : InputValue) → v.end - v.end ≡ 0 → key_down_to d v v.end ≡ first_key d v.anchor (byte_after v.haystack v.end)
 unfolding key_at

@@ -1,19 +1,17 @@
-use Rattle.std.proofs.Common.{◌≡◌, ◌-◌, ◌<◌, sym, ◌∙◌, ap, subst, arith}
-use Rattle.std.specs.Prelude.{Some, slice_index}
+use Rattle.std.proofs.Common.{◌≡◌, ◌-◌, ◌<◌, refl, sym, ◌∙◌, ap, subst, arith}
+use Rattle.std.specs.Prelude.{slice_index}
 use Rattle.std.proofs.lemmas.List.Elements.{All-from_get_or}
-use Rattle.std.proofs.lemmas.Option.{slice_get-get_or}
 use Rattle.rx_model.specs.Look.{byte_after}
 use Rattle.rx_model.specs.Search.{is_permitted}
 use Rattle.rx_determinize.specs.Sight.{AreBytes}
 use Rattle.rx_dfa.specs.Automaton.{next_key, first_key}
-use Rattle.rx_dfa.proofs.lemmas.ForwardLemmas.{start-fails, step-fails}
+use Rattle.rx_dfa.proofs.lemmas.ForwardLemmas.{start-fails}
 use Rattle.rx_dfa.proofs.lemmas.BackwardLemmas.{key_behind}
-use Rattle.rx_limited.specs.Back.{GoesBack}
-use Rattle.rx_limited.specs.Parts.{best_within}
+use Rattle.rx_limited.specs.Back.{GoesBack, NotHeld}
 use Rattle.rx_limited.specs.Retry.{JustFails}
 use Rattle.rx_limited.proofs.lemmas.RetryLemmas.{just-fails}
 use Rattle.rx_limited.proofs.lemmas.MetLemmas.{nearer}
-use Rattle.rx_limited.proofs.lemmas.BackLemmas.{goes-first, goes-on, goes-over, goes-left, over-none}
+use Rattle.rx_limited.proofs.lemmas.BackLemmas.{goes-first, goes-on, goes-over, over-none, held-again}
 use Rattle.rx_limited.proofs.limited.go_back.Goals as goal
 
 pub returns-in-Err-clause-err : goal.returns-in-Err-clause-err
@@ -65,152 +63,164 @@ bytes-init g c =
       fits = c.in-Ok.ensures.fits;
     }
 
-pub returns-in-Err-next_state-clause-err : goal.returns-in-Err-next_state-clause-err
-returns-in-Err-next_state-clause-err g c =
-    let d = g.A.Automaton.dfa c.args.dfa.now in
-    let v = c.args.input.now in
-    let at = c.bytes.at in
-    let hay = c.haystack-haystack.ensures.value in
-    let byte = slice_index c.haystack-haystack.result.now (at - 1) in
-    let byte_is : byte ≡ slice_index v.haystack (at - 1) = ap (λ t. slice_index t (at - 1)) hay in
-    let first = c.requires.low in
-    let spanned = c.haystack-haystack.ensures.spanned.end in
+pub returns-in-Err-back-clause-most : goal.returns-in-Err-back-clause-most
+returns-in-Err-back-clause-most g c =
     let high = c.bytes.invariant.high in
-    let lt = c.bytes-test.true in
-    let gives_up = g.A.Automaton.gives_up c.args.dfa.now c.next_state.new.cache in
-    let wants = g.A.Automaton.wants c.args.dfa.now in
-    subst (JustFails d.nfa v gives_up wants) (sym c.retry_of_step.ensures)
-    (just-fails d.nfa v gives_up wants _
-    (step-fails d.nfa v (at - 1) at byte gives_up wants c.in-Err-next_state.error (omega arith) (omega arith) (omega arith) (omega arith)
-    (slice_get-get_or v.haystack (at - 1) 0 (omega arith) ∙ ap Some (sym byte_is)) c.in-Err-next_state.ensures.err))
+    let taken = c.bytes.invariant.steps in
+    let most = c.back.ensures.most in
+    omega (arith, taken, most, high)
 
-pub is_special-requires : goal.is_special-requires
-is_special-requires g c =
+pub bytes-preserved-then-at-floor : goal.bytes-preserved-then-at-floor
+bytes-preserved-then-at-floor g c =
     let d = g.A.Automaton.dfa c.args.dfa.now in
     let v = c.args.input.now in
-    let byte = slice_index c.haystack-haystack.result.now (c.bytes.at - 1) in
-    let key = key_behind d v c.bytes.at in
-    (next_key d key byte, c.in-Ok-next_state.ensures.next key c.bytes.invariant.going.held)
-
-pub bytes-preserved-then-not-is_special : goal.bytes-preserved-then-not-is_special
-bytes-preserved-then-not-is_special g c =
-    let d = g.A.Automaton.dfa c.args.dfa.now in
-    let v = c.args.input.now in
-    let hay = c.haystack-haystack.ensures.value in
     let spanned = c.haystack-haystack.ensures.spanned.end in
     let bytes = c.bytes.invariant.bytes in
     let at = c.bytes.at in
-    let byte = slice_index c.haystack-haystack.result.now (at - 1) in
-    let byte_is : byte ≡ slice_index v.haystack (at - 1) = ap (λ t. slice_index t (at - 1)) hay in
-    let key = key_behind d v at in
-    let going = c.bytes.invariant.going in
-    let held = c.in-Ok-next_state.ensures.next key going.held in
-    let readable = c.in-Ok-next_state.ensures.readable key going.held going.going.going.alive in
-    let nothing = c.is_special.ensures.no_match (next_key d key byte) held c.if-not-is_special.true in
     let first = c.requires.low in
     let floor_high = c.requires.high in
     let high = c.bytes.invariant.high in
-    let lt = c.bytes-test.true in
     let taken = c.bytes.invariant.steps in
-    let ticks = c.next_state.ensures.ticks in
+    let next = c.in-Ok-back.passed.0 in
+    let place = c.in-Ok-back.passed.1 in
+    let passed = c.in-Ok-back.ensures.passed in
+    let place_low = passed.low in
+    let place_high = passed.high in
+    let same : place ≡ c.args.floor = omega arith in
+    let there = passed.at_floor same in
+    let ticks = there.1 in
     record {
       low = omega arith;
       high = omega arith;
-      going = goes-on d c.is_utf8-utf8.ensures.sound c.requires.reverse v bytes (omega arith) spanned
-          (g.A.Automaton.holds c.args.dfa.now c.bytes.cache) (g.A.Automaton.holds c.args.dfa.now c.next_state.new.cache)
-          at c.bytes.state c.in-Ok-next_state.next byte c.bytes.best c.bytes.best (omega arith) high byte_is going held readable
-          (c.is_special.ensures.live (next_key d key byte) held c.if-not-is_special.true)
-          (sym (ap (λ ms. best_within (is_permitted d.nfa.utf8 v.haystack) ms at c.bytes.best) nothing));
+      going = held-again (g.A.Automaton.holds c.args.dfa.now c.back.new.cache) d v place next c.bytes.best passed.going there.0;
       steps = omega arith;
       bytes = bytes;
-      fits = c.in-Ok-next_state.ensures.fits;
+      fits = c.in-Ok-back.ensures.fits;
     }
 
 pub record-best-requires : goal.record-best-requires
 record-best-requires g c =
     let d = g.A.Automaton.dfa c.args.dfa.now in
     let v = c.args.input.now in
-    let byte = slice_index c.haystack-haystack.result.now (c.bytes.at - 1) in
-    let key = key_behind d v c.bytes.at in
-    (next_key d key byte, c.in-Ok-next_state.ensures.next key c.bytes.invariant.going.held)
+    let spanned = c.haystack-haystack.ensures.spanned.end in
+    let bytes = c.bytes.invariant.bytes in
+    let at = c.bytes.at in
+    let first = c.requires.low in
+    let floor_high = c.requires.high in
+    let high = c.bytes.invariant.high in
+    let taken = c.bytes.invariant.steps in
+    let next = c.in-Ok-back.passed.0 in
+    let place = c.in-Ok-back.passed.1 in
+    let passed = c.in-Ok-back.ensures.passed in
+    let place_low = passed.low in
+    let place_high = passed.high in
+    let inside : c.args.floor < place = omega arith in
+    let there = passed.above inside in
+    let ticks = there.2 in
+    let byte = slice_index v.haystack (place - 1) in
+    let key = key_behind d v place in
+    (next_key d key byte, there.0)
 
 pub is_dead-requires-in-bytes : goal.is_dead-requires-in-bytes
 is_dead-requires-in-bytes g c =
     let d = g.A.Automaton.dfa c.args.dfa.now in
     let v = c.args.input.now in
-    let byte = slice_index c.haystack-haystack.result.now (c.bytes.at - 1) in
-    let key = key_behind d v c.bytes.at in
-    (next_key d key byte, c.in-Ok-next_state.ensures.next key c.bytes.invariant.going.held)
+    let spanned = c.haystack-haystack.ensures.spanned.end in
+    let bytes = c.bytes.invariant.bytes in
+    let at = c.bytes.at in
+    let first = c.requires.low in
+    let floor_high = c.requires.high in
+    let high = c.bytes.invariant.high in
+    let taken = c.bytes.invariant.steps in
+    let next = c.in-Ok-back.passed.0 in
+    let place = c.in-Ok-back.passed.1 in
+    let passed = c.in-Ok-back.ensures.passed in
+    let place_low = passed.low in
+    let place_high = passed.high in
+    let inside : c.args.floor < place = omega arith in
+    let there = passed.above inside in
+    let ticks = there.2 in
+    let byte = slice_index v.haystack (place - 1) in
+    let key = key_behind d v place in
+    (next_key d key byte, there.0)
 
 pub returns-then-is_dead-2-clause-scanned : goal.returns-then-is_dead-2-clause-scanned
 returns-then-is_dead-2-clause-scanned g c =
     let d = g.A.Automaton.dfa c.args.dfa.now in
     let v = c.args.input.now in
-    let hay = c.haystack-haystack.ensures.value in
     let spanned = c.haystack-haystack.ensures.spanned.end in
     let bytes = c.bytes.invariant.bytes in
     let at = c.bytes.at in
-    let byte = slice_index c.haystack-haystack.result.now (at - 1) in
-    let byte_is : byte ≡ slice_index v.haystack (at - 1) = ap (λ t. slice_index t (at - 1)) hay in
-    let key = key_behind d v at in
-    let going = c.bytes.invariant.going in
-    let held = c.in-Ok-next_state.ensures.next key going.held in
-    let readable = c.in-Ok-next_state.ensures.readable key going.held going.going.going.alive in
     let first = c.requires.low in
     let floor_high = c.requires.high in
     let high = c.bytes.invariant.high in
-    let lt = c.bytes-test.true in
     let taken = c.bytes.invariant.steps in
-    let ticks = c.next_state.ensures.ticks in
-    let may : is_permitted d.nfa.utf8 v.haystack at ≡ c.is_permitted_at-may.result =
-    sym (c.is_permitted_at-may.ensures ∙ (λ j. is_permitted (c.is_utf8-utf8.ensures.value j) (hay j) at)) in
-    let over = goes-over d c.is_utf8-utf8.ensures.sound c.requires.reverse v bytes (omega arith) spanned
-    (g.A.Automaton.holds c.args.dfa.now c.bytes.cache) (g.A.Automaton.holds c.args.dfa.now c.next_state.new.cache)
-    at c.bytes.state byte c.bytes.best c.record-best.result (omega arith) high byte_is going readable
-    (sym (c.is_dead-in-bytes.ensures (next_key d key byte) held) ∙ c.if-is_dead-2.true)
-    (c.record-best.ensures (next_key d key byte) held (is_permitted d.nfa.utf8 v.haystack) may) in
+    let next = c.in-Ok-back.passed.0 in
+    let place = c.in-Ok-back.passed.1 in
+    let passed = c.in-Ok-back.ensures.passed in
+    let place_low = passed.low in
+    let place_high = passed.high in
+    let inside : c.args.floor < place = omega arith in
+    let there = passed.above inside in
+    let ticks = there.2 in
+    let byte = slice_index v.haystack (place - 1) in
+    let key = key_behind d v place in
+    let may : is_permitted d.nfa.utf8 v.haystack place ≡ c.is_permitted_at-may.result =
+    sym (c.is_permitted_at-may.ensures ∙ (λ j. is_permitted (c.is_utf8-utf8.ensures.value j) (c.haystack-haystack.ensures.value j) place)) in
+    let over = goes-over d c.is_utf8-utf8.ensures.sound c.requires.reverse v bytes (omega arith) spanned NotHeld NotHeld
+    place 0 byte c.bytes.best c.record-best.result (omega arith) (omega arith) refl passed.going there.1
+    (sym (c.is_dead-in-bytes.ensures (next_key d key byte) there.0) ∙ c.if-is_dead-2.true)
+    (c.record-best.ensures (next_key d key byte) there.0 (is_permitted d.nfa.utf8 v.haystack) may) in
     let from = over.1 in
-    let place = from.low in
+    let end_low = from.low in
     let all = over.2 in (
       over.0,
       record { place = from.place; low = omega arith; high = from.high; dead = from.dead },
       omega arith,
-      nearer at c.args.floor (omega arith) c.record-best.result over.3,
+      nearer place c.args.floor (omega arith) c.record-best.result over.3,
     )
+
+pub returns-then-is_dead-2-clause-most : goal.returns-then-is_dead-2-clause-most
+returns-then-is_dead-2-clause-most g c =
+    let high = c.bytes.invariant.high in
+    let taken = c.bytes.invariant.steps in
+    let most = c.back.ensures.most in
+    omega (arith, taken, most, high)
 
 pub bytes-preserved : goal.bytes-preserved
 bytes-preserved g c =
     let d = g.A.Automaton.dfa c.args.dfa.now in
     let v = c.args.input.now in
-    let hay = c.haystack-haystack.ensures.value in
     let spanned = c.haystack-haystack.ensures.spanned.end in
     let bytes = c.bytes.invariant.bytes in
     let at = c.bytes.at in
-    let byte = slice_index c.haystack-haystack.result.now (at - 1) in
-    let byte_is : byte ≡ slice_index v.haystack (at - 1) = ap (λ t. slice_index t (at - 1)) hay in
-    let key = key_behind d v at in
-    let going = c.bytes.invariant.going in
-    let held = c.in-Ok-next_state.ensures.next key going.held in
-    let readable = c.in-Ok-next_state.ensures.readable key going.held going.going.going.alive in
     let first = c.requires.low in
     let floor_high = c.requires.high in
     let high = c.bytes.invariant.high in
-    let lt = c.bytes-test.true in
     let taken = c.bytes.invariant.steps in
-    let ticks = c.next_state.ensures.ticks in
-    let may : is_permitted d.nfa.utf8 v.haystack at ≡ c.is_permitted_at-may.result =
-    sym (c.is_permitted_at-may.ensures ∙ (λ j. is_permitted (c.is_utf8-utf8.ensures.value j) (hay j) at)) in
+    let next = c.in-Ok-back.passed.0 in
+    let place = c.in-Ok-back.passed.1 in
+    let passed = c.in-Ok-back.ensures.passed in
+    let place_low = passed.low in
+    let place_high = passed.high in
+    let inside : c.args.floor < place = omega arith in
+    let there = passed.above inside in
+    let ticks = there.2 in
+    let byte = slice_index v.haystack (place - 1) in
+    let key = key_behind d v place in
+    let may : is_permitted d.nfa.utf8 v.haystack place ≡ c.is_permitted_at-may.result =
+    sym (c.is_permitted_at-may.ensures ∙ (λ j. is_permitted (c.is_utf8-utf8.ensures.value j) (c.haystack-haystack.ensures.value j) place)) in
     record {
       low = omega arith;
       high = omega arith;
-      going = goes-on d c.is_utf8-utf8.ensures.sound c.requires.reverse v bytes (omega arith) spanned
-          (g.A.Automaton.holds c.args.dfa.now c.bytes.cache) (g.A.Automaton.holds c.args.dfa.now c.next_state.new.cache)
-          at c.bytes.state c.in-Ok-next_state.next byte c.bytes.best c.record-best.result (omega arith) high byte_is going held readable
-          (sym (c.is_dead-in-bytes.ensures (next_key d key byte) held) ∙ c.if-is_dead-2.false)
-          (c.record-best.ensures (next_key d key byte) held (is_permitted d.nfa.utf8 v.haystack) may);
+      going = goes-on d c.is_utf8-utf8.ensures.sound c.requires.reverse v bytes (omega arith) spanned NotHeld
+          (g.A.Automaton.holds c.args.dfa.now c.back.new.cache)
+          place 0 next byte c.bytes.best c.record-best.result (omega arith) (omega arith) refl passed.going there.0 there.1
+          (sym (c.is_dead-in-bytes.ensures (next_key d key byte) there.0) ∙ c.if-is_dead-2.false)
+          (c.record-best.ensures (next_key d key byte) there.0 (is_permitted d.nfa.utf8 v.haystack) may);
       steps = omega arith;
       bytes = bytes;
-      fits = c.in-Ok-next_state.ensures.fits;
+      fits = c.in-Ok-back.ensures.fits;
     }
 
 pub returns-clause-scanned : goal.returns-clause-scanned
@@ -222,29 +232,3 @@ returns-clause-scanned g c =
       subst (λ i. GoesBack (g.A.Automaton.holds c.args.dfa.now c.bytes.cache) d v i c.bytes.state c.bytes.best) same c.bytes.invariant.going,
       omega arith,
     )
-
-pub returns-in-Err-next_state-clause-most : goal.returns-in-Err-next_state-clause-most
-returns-in-Err-next_state-clause-most g c =
-    let d = g.A.Automaton.dfa c.args.dfa.now in
-    let v = c.args.input.now in
-    let low = c.requires.low in
-    let high = c.requires.high in
-    let spanned = c.haystack-haystack.ensures.spanned.end in
-    let taken = c.bytes.invariant.steps in
-    let ticks = c.next_state.ensures.ticks in
-    let left = goes-left d v (omega arith) spanned (g.A.Automaton.holds c.args.dfa.now c.bytes.cache)
-    c.bytes.at c.bytes.state c.bytes.best c.bytes.invariant.going in
-    omega (arith, taken, ticks, left)
-
-pub returns-then-is_dead-2-clause-most : goal.returns-then-is_dead-2-clause-most
-returns-then-is_dead-2-clause-most g c =
-    let d = g.A.Automaton.dfa c.args.dfa.now in
-    let v = c.args.input.now in
-    let low = c.requires.low in
-    let high = c.requires.high in
-    let spanned = c.haystack-haystack.ensures.spanned.end in
-    let taken = c.bytes.invariant.steps in
-    let ticks = c.next_state.ensures.ticks in
-    let left = goes-left d v (omega arith) spanned (g.A.Automaton.holds c.args.dfa.now c.bytes.cache)
-    c.bytes.at c.bytes.state c.bytes.best c.bytes.invariant.going in
-    omega (arith, taken, ticks, left)
