@@ -32,6 +32,7 @@ impl Automaton for Lazy {
 
     ghost wants = { λ l. Unit {0} };
 
+    #[inline(always)]
     fn start_forward(&self, cache: &mut LazyCache, input: &Input<'_>) -> Result<StateID, MatchError>
         requires { IsCacheOf self.now cache.old }
         ensures sound { IsSound self.now.dfa }
@@ -52,6 +53,7 @@ impl Automaton for Lazy {
         self.start_at(cache, input.get_anchored(), before, place_before(start))
     }
 
+    #[inline(always)]
     fn start_reverse(&self, cache: &mut LazyCache, input: &Input<'_>) -> Result<StateID, MatchError>
         requires { IsCacheOf self.now cache.old }
         ensures sound { IsSound self.now.dfa }
@@ -183,6 +185,7 @@ impl Automaton for Lazy {
 
 impl Lazy {
     /// The state at a start of this mode, where this byte stands beside it, at this place.
+    #[inline(always)]
     fn start_at(
         &self,
         cache: &mut LazyCache,

@@ -14,6 +14,7 @@ const STARTS: usize = 32;
 
 impl Rows {
     /// The state of this start, if it is known.
+    #[inline(always)]
     pub fn find_start(&self, start: StateID, loops: bool, before: Option<u8>) -> Option<StateID>
         ensures { (l : LazyValue) → AreRowsOf l self.now → IfSome result (λ state. StandsFor l.stride self.now.keys state
             (begun_key l.dfa start loops before)) }
@@ -66,6 +67,7 @@ impl Rows {
 }
 
 /// Whether it is this start.
+#[inline(always)]
 fn is_start(known: Start, start: StateID, loops: bool, before: Option<u8>) -> bool
     ensures { IsTrue result ↔ (known.start ≡ start) × (known.loops ≡ loops) × (known.before ≡ before) }
 {

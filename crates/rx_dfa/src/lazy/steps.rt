@@ -123,6 +123,7 @@ impl Lazy {
     }
 
     /// The state at a start.
+    #[inline(always)]
     pub(crate) fn start(
         &self,
         cache: &mut LazyCache,
@@ -142,6 +143,27 @@ impl Lazy {
         if let Some(state) = cache.rows.find_start(start, loops, before) {
             return Ok(state);
         }
+        self.make_start(cache, start, loops, before)
+    }
+
+    /// The state at a start that is not known.
+    #[inline(never)]
+    fn make_start(
+        &self,
+        cache: &mut LazyCache,
+        start: StateID,
+        loops: bool,
+        before: Option<u8>,
+    ) -> Result<StateID, Memory>
+        requires fits { IsCacheOf self.now cache.old }
+        requires start { start < length self.now.dfa.nfa.states }
+        requires reached { ∥ IsReached self.now.dfa (begun_key self.now.dfa start loops before) ∥₁ }
+        requires readable { IsReadable self.now.dfa.nfa before }
+        requires byte { IfSome before (λ b. b < 256) }
+        ensures state { IfOk result (λ state. StandsFor self.now.stride cache.new.rows.keys state (begun_key self.now.dfa start loops before)) }
+        ensures grown { IsGrown self.now [] (begun_key self.now.dfa start loops before) cache.old.rows.since None cache.old.rows cache.new.rows }
+        ensures fits { IsCacheOf self.now cache.new }
+    {
         self.source()
             .start(start, loops, before, &mut cache.scratch, &mut cache.into)?;
         let state = self.enter(cache)?;
