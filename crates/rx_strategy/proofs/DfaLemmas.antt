@@ -1,19 +1,19 @@
 -- What the DFAs of a core answer.
-use Rattle.std.proofs.Common.{◌≡◌, ◌≢◌, ℕ, ◌+◌, ◌-◌, ◌<◌, ◌≤◌, max, List, length, refl, sym, ap, ◌∙◌, subst, arith, true≢false}
+use Rattle.std.proofs.Common.{◌≡◌, ◌≢◌, ℕ, ◌+◌, ◌-◌, ◌<◌, ◌≤◌, max, List, length, refl, sym, ap, ◌∙◌, subst, arith, true≢false, inl, inr}
 use Rattle.std.specs.Prelude.{true, false, Option, Some, None, option_map, is_some, IfSome, IsSomeAnd, Result, Ok, Err, IfOk, slice_get}
 use Rattle.rx_model.specs.Expression.{Expression, alternation, AreOrdered}
 use Rattle.rx_model.specs.Length.{minimum_len}
 use Rattle.rx_model.specs.Meaning.{Means}
 use Rattle.rx_model.specs.Runs.{nowhere}
 use Rattle.rx_model.specs.Graph.{at}
-use Rattle.rx_model.specs.Matches.{IsMatch, IsSought, MayStart, part_of}
-use Rattle.rx_model.specs.Search.{Patterns, WhichCaptures, Match, Anchor, anchored_to, told_of, is_anchored, slot_of, next_match}
+use Rattle.rx_model.specs.Matches.{IsMatch, IsStart, IsSought, MayStart, part_of}
+use Rattle.rx_model.specs.Search.{Patterns, WhichCaptures, Match, Anchor, free, anchored, anchored_to, told_of, is_anchored, slot_of, next_match}
 use Rattle.rx_model.proofs.lemmas.matches.MatchLemmas.{next-within}
 use Rattle.rx_model.proofs.lemmas.matches.NarrowLemmas.{next-narrowed}
 use Rattle.rx_model.proofs.lemmas.matches.WithinLemmas.{next-run, match-within, match-means, match-next, run-later, trace-later}
 use Rattle.rx_model.proofs.lemmas.meaning.CoverLemmas.{means-run}
 use Rattle.rx_model.proofs.lemmas.meaning.LengthLemmas.{means-long}
-use Rattle.rx_model.proofs.lemmas.runs.FirstLemmas.{none-is-some}
+use Rattle.rx_model.proofs.lemmas.runs.FirstLemmas.{none-is-some, some-is}
 use Rattle.rx_model.proofs.lemmas.runs.RiseLemmas.{mapped-some}
 use Rattle.rx_search.specs.Answer.{IsAnswer}
 use Rattle.rx_search.specs.Input.{InputValue, next_in}
@@ -34,7 +34,7 @@ use Rattle.rx_dfa.proofs.lemmas.WalkLemmas.{RunsTo}
 use Rattle.rx_engines.specs.Needles.{BeginsEachRun}
 use Rattle.rx_strategy.specs.Core.{CoreValue, IsCoreFor, IsSearched, IsToldFor}
 use Rattle.rx_strategy.specs.Dfas.{pair_of, ArePair, AreLeftmost, IsPairOf, ServeNfa, IsSearchFor, SearchFor, HaveRoomIn, IsPatternOf}
-use Rattle.rx_strategy.specs.Narrow.{narrowed, IsLenOf, of_len}
+use Rattle.rx_strategy.specs.Narrow.{narrowed, IsLenOf, of_len, BeginsWithSpan, from_start}
 use Rattle.rx_strategy.specs.declared.dfas.Dfas.{Dfas}
 use Rattle.rx_strategy.proofs.AnswerLemmas.{agree, told-yes, is_some-map, next-is_match, span-told, half-told, searched-told}
 use Rattle.rx_strategy.proofs.ImpossibleLemmas.{meant-among}
@@ -147,6 +147,12 @@ widened-found : (r : Patterns) (v : InputValue) (m : Match) → IsMatch r v.hays
 widened-found r v m is slots None known = tt
 widened-found r v m is slots (Some x) known = (known.0, widened r v.haystack v.anchor v.end v.start m is known.0 known.1, known.2)
 
+-- an anchored search has one start
+anchored-start : (anchor : Anchor) → is_anchored anchor ≡ true → (b a i : ℕ) → IsStart anchor b a i → i ≡ a
+anchored-start free is b a i start = absurd (true≢false (sym is))
+anchored-start anchored is b a i start = start.0
+anchored-start (anchored_to p) is b a i start = start.0
+
 -- What DFAs answer of a search for these patterns.
 module _ (c : CoreValue) (v : InputValue) where
   -- whether there is a match
@@ -206,6 +212,37 @@ module _ (c : CoreValue) (v : InputValue) where
       exists = is_some-map (of_len v n) o ∙ is.exists;
       is_match = of-found o is.is_match;
     }
+
+  -- where a match begins with the span, it is known by its end
+  module _ (r : Patterns) (h : HalfMatchValue) (begins : BeginsWithSpan v h) where
+    starts-there : (m : Match) → IsMatch r v.haystack v.anchor v.end v.start m → h ≡ half_match_value m → v.start ≡ m.start
+    starts-there m is half = elim begins [
+      | inl none-read ↦ (
+          let offset : h.offset ≡ m.trace.end = ap (λ (x : HalfMatchValue). x.offset) half in
+          let within = match-within r v.haystack v.anchor v.end v.start m is in
+          omega arith)
+      | inr one ↦ sym (anchored-start v.anchor one v.end v.start m.start is.start.0)
+    ]
+
+    begun : (m : Match) → IsMatch r v.haystack v.anchor v.end v.start m → h ≡ half_match_value m → from_start v h ≡ match_value m
+    begun m is half =
+        let start = starts-there m is half in
+        λ k. record { pattern = (half k).pattern; start = start k; end = (half k).offset }
+
+    begun-next : (next : Option Match) → next_in r v ≡ next → Some h ≡ option_map half_match_value next
+        → Some (from_start v h) ≡ option_map match_value next
+    begun-next None e is = none-is-some (sym is)
+    begun-next (Some m) e is = ap Some (begun m (next-run r v.haystack v.anchor v.end v.start m e) (some-is is))
+
+    pub answers-begun : (kind : MatchKind) → IsAnswerFor kind r v half_match_value (Some h) → IsAnswerFor kind r v match_value (Some (from_start v h))
+    answers-begun kind is =
+        let m = is.is_match.0 in
+        let half : h ≡ half_match_value m = is.is_match.2 ∙ half-told r.which_captures m in
+        record {
+          value = λ leftmost whole. begun-next (next_in r v) refl (is.value leftmost whole);
+          exists = is.exists;
+          is_match = (m, is.is_match.1, begun m is.is_match.1 half ∙ sym (span-told r.which_captures m));
+        }
 
   -- A search narrowed to a match that was found.
   module _ (within : v.end ≤ length v.haystack) (r : Patterns) (of : IsCoreFor c r) (slots : List (Option ℕ)) where

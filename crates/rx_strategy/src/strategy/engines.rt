@@ -33,7 +33,7 @@ use crate::config::{Config, shared};
 use crate::dfas::{Dfas, NoAnswer};
 use crate::found::half_match;
 use crate::info::RegexInfo;
-use crate::narrow::{match_of_len, narrowed};
+use crate::narrow::{begins_with_span, match_from_start, match_of_len, narrowed};
 use crate::prefilter::memory_usage as accounted;
 use crate::span::leave_span;
 use rx_engines::backtrack::{self, BoundedBacktracker};
@@ -581,6 +581,10 @@ impl Core {
         ensures cache { FitsCore self.now cache.new }
         ensures memory { AccountsAlikeIn self.now cache.old cache.new }
     {
+        // Nothing is read backwards where the place is known.
+        if begins_with_span(input, end) {
+            return Ok(Some(match_from_start(input, end)));
+        }
         self.get_dfas()
             .try_search_start(&mut cache.lazies, input, end)
     }
