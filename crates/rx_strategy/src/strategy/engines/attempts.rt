@@ -17,6 +17,7 @@ ghost use Rattle.rx_strategy.specs.Prefix.{dfa_of, are_states, FitsPrefix, prefi
 
 use crate::cache::Cache;
 use crate::found::half_match;
+use crate::onepass::meets_in_one_pass;
 use crate::prefix::{PrefixCache, PrefixDfa, Sort};
 use crate::span::leave_span;
 use crate::strategy::engines::Core;
@@ -149,6 +150,9 @@ impl Core {
         ensures cache { FitsCore self.now cache.new }
         ensures memory { AccountsAlikeIn self.now cache.old cache.new }
     {
+        if let Some(engine) = self.onepass.get(input) {
+            return meets_in_one_pass(engine, &mut cache.onepass, input);
+        }
         // It can stop at the first match (DECISIONS: of the engines that always answer).
         self.pikevm.is_match(&mut cache.pikevm, input)
     }
