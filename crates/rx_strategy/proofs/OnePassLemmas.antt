@@ -13,6 +13,8 @@ use Rattle.rx_model.proofs.lemmas.runs.RunLemmas.{by_test}
 use Rattle.rx_search.specs.Input.{InputValue, next_in}
 use Rattle.rx_search.specs.Matches.{MatchValue, match_value}
 use Rattle.rx_search.specs.Told.{tells, AreWithin, IsMatchWith, HasSlots}
+use Rattle.rx_search.specs.declared.match_error.MatchError.{MatchError}
+use Rattle.rx_search.specs.declared.match_error.MatchError.TheVariants.{Quit, GaveUp, HaystackTooLong, UnsupportedAnchored, Memory}
 use Rattle.rx_search.specs.declared.anchored.MatchKind.{MatchKind}
 use Rattle.rx_search.specs.declared.anchored.MatchKind.TheVariants.{LeftmostFirst}
 use Rattle.rx_hir.specs.Normal.{expressions}
@@ -22,7 +24,7 @@ use Rattle.rx_nfa.specs.Nfa.{Nfa, IsInRange, IsNfaOf}
 use Rattle.rx_onepass_build.specs.Config.{kind_of, each_of}
 use Rattle.rx_onepass.specs.Dfa.{Dfa, Fits}
 use Rattle.rx_onepass.specs.Patterns.{IsBuiltFrom}
-use Rattle.rx_onepass.specs.Search.{run_in, match_from, started_at, slot_of, AreSlotsOf, IsFound, IsUnsupported, taken_as}
+use Rattle.rx_onepass.specs.Search.{run_in, match_from, started_at, slot_of, AreSlotsOf, IsFound, IsRefusal, IsUnsupported, taken_as}
 use Rattle.rx_onepass.proofs.lemmas.AgreeLemmas.{exists-told, next-told, match-told, slot-left}
 use Rattle.rx_onepass.proofs.lemmas.PlaceLemmas.{told-pattern, told-places}
 use Rattle.rx_strategy.specs.Config as configs
@@ -50,6 +52,13 @@ none-left : (n k : ℕ) → ◌≡◌ {A = Option ℕ} (slice_index_or (replicat
 none-left zero k = refl
 none-left (suc n) zero = refl
 none-left (suc n) (suc k) = none-left n k
+
+pub never-refused : (d : Dfa) (v : InputValue) → each_of d.config ≡ true → (e : MatchError) → IsRefusal d (begun v) e → ⊥
+never-refused d v each (Quit byte offset) refused = refused
+never-refused d v each (GaveUp offset) refused = refused
+never-refused d v each (HaystackTooLong len) refused = refused
+never-refused d v each (UnsupportedAnchored mode) refused = begun-served d v.anchor each refused.2
+never-refused d v each Memory refused = refused
 
 -- What it finds in an anchored input.
 module _ (d : Dfa) (v : InputValue) (on : taken_as v.anchor ≡ v.anchor) (slots : List (Option ℕ)) (found : Option MatchValue) (is : IsFound d v found slots)

@@ -23,7 +23,7 @@ ghost use Rattle.rx_strategy.specs.Core.{CoreValue, IsCoreFor, AreKnownOf, IsSea
 ghost use Rattle.rx_strategy.specs.Dfas.{ServeNfa};
 ghost use Rattle.rx_strategy.specs.Impossible.{is_always_anchored_start, is_impossible};
 ghost use Rattle.rx_strategy.specs.Narrow.{IsLenOf};
-ghost use Rattle.rx_strategy.specs.OnePass.{IsOnePassBeside, ServesOnce};
+ghost use Rattle.rx_strategy.specs.OnePass.{IsOnePassBeside, ServesOnce, onepass_serves};
 ghost use Rattle.rx_strategy.specs.Nofail.{IsAskedFor};
 
 mod attempts;
@@ -42,6 +42,7 @@ use rx_engines::empty;
 use rx_engines::pikevm::PikeVM;
 use rx_hir::Properties;
 use rx_nfa::{NFA, WhichCaptures};
+use rx_onepass::DFA;
 use rx_prefilter::Prefilter;
 use rx_search::{Anchored, HalfMatch, Input, Match, MatchKind, Memory, NonMaxUsize, PatternSet};
 use std::alloc::Global;
@@ -460,7 +461,7 @@ impl Core {
         ensures cache { FitsCore self.now cache.new }
         ensures memory { AccountsAlikeIn self.now cache.old cache.new }
     {
-        if self.onepass.get(input).is_some() {
+        if self.get_onepass(input).is_some() {
             return self.search_nofail(cache, input, slots);
         }
         match self.try_search_mayfail(cache, input) {
@@ -688,6 +689,15 @@ impl Core {
         &self.dfas
     }
 
+    /// The one-pass DFA, where it serves the input.
+    pub(crate) fn get_onepass(&self, input: &Input<'_>) -> Option<&DFA>
+        ensures serves { MatchOption (option_copied result) (onepass_serves self.now.onepass input.now ≡ false)
+            (λ d. (onepass_serves self.now.onepass input.now ≡ true) × (self.now.onepass.dfa ≡ Some d)) }
+        ensures once { ServesOnce self.now.nfa self.now.kind self.now.properties self.now.onepass }
+    {
+        self.onepass.get(input)
+    }
+
     /// Whether matches are told.
     pub(crate) fn tells(&self) -> bool
         ensures { result ≡ tells self.now.which_captures }
@@ -717,10 +727,10 @@ impl Core {
         ensures cache { FitsCore self.now cache.new }
         ensures memory { AccountsAlikeIn self.now cache.old cache.new }
     {
-        if let Some(engine) = self.onepass.get(input) {
-            return find_in_one_pass(engine, &mut cache.onepass, input, slots);
+        match self.get_onepass(input) {
+            Some(engine) => find_in_one_pass(engine, &mut cache.onepass, input, slots),
+            None => self.search_states(cache, input, slots),
         }
-        self.search_states(cache, input, slots)
     }
 
     /// The same by an engine that goes through the states of the NFA, under each kind of captures.

@@ -150,11 +150,11 @@ impl Core {
         ensures cache { FitsCore self.now cache.new }
         ensures memory { AccountsAlikeIn self.now cache.old cache.new }
     {
-        if let Some(engine) = self.onepass.get(input) {
-            return meets_in_one_pass(engine, &mut cache.onepass, input);
+        // Either can stop at the first match (DECISIONS: of the engines that always answer).
+        match self.get_onepass(input) {
+            Some(engine) => meets_in_one_pass(engine, &mut cache.onepass, input),
+            None => self.pikevm.is_match(&mut cache.pikevm, input),
         }
-        // It can stop at the first match (DECISIONS: of the engines that always answer).
-        self.pikevm.is_match(&mut cache.pikevm, input)
     }
 
     /// The match that was found, with its slots, where matches are told. Of the patterns for which it is the answer, the slots are those of
