@@ -88,13 +88,13 @@ contains_number n ns counted =
     let one = one_counts (λ (y : ℕ). if y == n then 1 else 0) ns counted in
     let here = at_get ns one.0 one.1 one.2 in
     dite (ℕ_discrete one.1 n)
-        (λ e. subst (Contains ns) e (one.0, here.0, here.1))
-        (λ ne. absurd (omega (arith, one.3, is_none one.1 n ne)))
+    (λ e. subst (Contains ns) e (one.0, here.0, here.1))
+    (λ ne. absurd (omega (arith, one.3, is_none one.1 n ne)))
 
 pub contains_first : (k : ℕ) (hs : List (ℕ × ℕ)) → 0 < count_by (λ (h : ℕ × ℕ). h.0 == k) hs → (turn : ℕ) × Contains hs (k, turn)
 contains_first k hs counted =
     let one = one_counts (λ (h : ℕ × ℕ). if h.0 == k then 1 else 0) hs counted in
     let here = at_get hs one.0 one.1 one.2 in
     dite (ℕ_discrete one.1.0 k)
-        (λ e. (one.1.1, subst (λ j. Contains hs (j, one.1.1)) e (one.0, here.0, here.1)))
-        (λ ne. absurd (omega (arith, one.3, is_none one.1.0 k ne)))
+    (λ e. (one.1.1, subst (λ j. Contains hs (j, one.1.1)) e (one.0, here.0, here.1)))
+    (λ ne. absurd (omega (arith, one.3, is_none one.1.0 k ne)))
