@@ -22,15 +22,16 @@ pub enum Stop {
     Dense,
 }
 
-/// What an attempt has of patience at first, and at most, in bytes.
-pub(crate) const MOST: usize = 256;
+/// The patience of an attempt, at first and at most, in bytes.
+pub(crate) const MOST: usize = 384;
 
-/// How many bytes a search without candidates reads in the time that one takes that is not confirmed.
-const COST: usize = 32;
+/// What one candidate takes of it: about as many bytes as a search without candidates reads in that time.
+const COST: usize = 48;
 
-/// What is left of the patience at a candidate that lies so many bytes behind the place from which it was searched for.
+/// What is left of the patience at a candidate that lies so many bytes behind the place from which it was searched for: these are won, and
+/// the candidate takes its part.
 pub(crate) fn left_after(left: usize, passed: usize) -> usize
-    ensures { result ≡ min 256 (left + passed) - 32 }
+    ensures { result ≡ min 384 (left + passed) - 48 }
 {
     left.saturating_add(passed).min(MOST).saturating_sub(COST)
 }
