@@ -18,6 +18,7 @@ ghost use Rattle.rx_strategy.specs.Prefix.{dfa_of, are_states, FitsPrefix, prefi
 
 use crate::cache::Cache;
 use crate::found::half_match;
+use crate::onepass::meets_in_one_pass;
 use crate::prefix::{PrefixCache, PrefixDfa, Sort};
 use crate::span::leave_span;
 use crate::strategy::engines::Core;
@@ -161,8 +162,11 @@ impl Core {
         ensures cache { FitsCore self.now cache.new }
         ensures memory { AccountsAlikeIn self.now cache.old cache.new }
     {
-        // It can stop at the first match (DECISIONS: of the engines that always answer).
-        self.pikevm.is_match(&mut cache.pikevm, input)
+        // Either can stop at the first match (DECISIONS: of the engines that always answer).
+        match self.get_onepass(input) {
+            Some(engine) => meets_in_one_pass(engine, &mut cache.onepass, input),
+            None => self.pikevm.is_match(&mut cache.pikevm, input),
+        }
     }
 
     /// The match that was found, with its slots, where matches are told. Of the patterns for which it is the answer, the slots are those of

@@ -7,4 +7,4 @@ returns-in-Ok-clause-told c r p = c.search_found.ensures.told r p.is_for (c.in-O
 pub returns-in-Err-clause-told : goal.returns-in-Err-clause-told
 returns-in-Err-clause-told c =
     let core = c.args.self.now in
-    engine-told core c.args.input.now core.kind c.search_nofail.new.slots c.search_nofail.result c.requires.spanned.end c.search_nofail.ensures.answer
+    engine-told core c.args.input.now core.kind c.search_nofail.new.slots c.search_nofail.result c.requires.spanned.end c.search_nofail.ensures.told
