@@ -1,16 +1,16 @@
-use Rattle.std.proofs.Common.{◌≡◌, ◌≤◌, ◌<◌, length, ap, subst, arith, rules}
+use Rattle.std.proofs.Common.{◌≡◌, ◌≤◌, ◌<◌, length, sym, ap, subst, arith, rules}
 use Rattle.std.specs.Prelude.{ℕ, false, Result}
 use Rattle.std.specs.Result.{IfErr}
 use Rattle.rx_search.specs.Matches.{MatchValue}
 use Rattle.rx_dfa.proofs.lemmas.BothLemmas.{not-anchored}
 use Rattle.rx_attempts.specs.Candidates.{IsNextCandidate}
-use Rattle.rx_attempts.specs.Inner.{IsTried, TakesFew}
-use Rattle.rx_attempts.specs.Counts.{HasTried}
-use Rattle.rx_attempts.proofs.lemmas.CountLemmas.{counts-fresh, leaves-tried, counted-tried, counted-nothing}
+use Rattle.rx_attempts.specs.Inner.{IsTried, TakesFew, GoesOn}
+use Rattle.rx_attempts.specs.Counts.{HasTried, Leaves}
+use Rattle.rx_attempts.proofs.lemmas.CountLemmas.{counts-fresh, leaves-fresh, leaves-tried, counted-tried, counted-nothing}
 use Rattle.rx_search.specs.declared.span.Span.{Span}
 use Rattle.rx_attempts.proofs.lemmas.NeedleLemmas.{taken-candidate, taken-long}
 use Rattle.rx_attempts.proofs.lemmas.EndLemmas.{past-nothing}
-use Rattle.rx_attempts.proofs.lemmas.InnerLemmas.{inner-turn, inner-on, inner-over, inner-nothing, inner-answer}
+use Rattle.rx_attempts.proofs.lemmas.InnerLemmas.{inner-fresh, inner-turn, inner-on, inner-over, inner-nothing, inner-answer}
 use Rattle.rx_attempts.proofs.inner.reverse_inner_attempt.Goals as goal
 
 pub returns-then-is_done-clause-answer : goal.returns-then-is_done-clause-answer
@@ -22,6 +22,23 @@ returns-then-is_done-clause-answer g c =
     let spanned = c.haystack-haystack.ensures.spanned.end in
     let past : v.end < v.start = search rules in
     λ r nfa p. past-nothing fwd.kind r p.expression p.is p.ordered v (not-anchored v.anchor c.requires.free) past
+
+pub candidates-init : goal.candidates-init
+candidates-init g c =
+    let fwd = g.F.Automaton.dfa c.args.fwd.now in
+    let rev = g.B.Automaton.dfa c.args.rev.now in
+    let needles = c.args.pre.now in
+    let v = c.args.input.now in
+    let old = c.args.steps.now in
+    let at = sym c.start-from.ensures.value in
+    let in_order : v.start ≤ v.end = search rules in
+    record {
+      on = subst (λ (k : ℕ). GoesOn fwd rev needles v k 0 0 old old) at (inner-fresh fwd rev needles v in_order old);
+      counts = λ every.
+          subst (λ (k : ℕ). Leaves fwd rev needles v (λ (s : Span). s.start) k 0 0 old old) at (leaves-fresh fwd rev needles v (λ (s : Span). s.start) old);
+      fwd_fits = c.requires.fwd_fits;
+      rev_fits = c.requires.rev_fits;
+    }
 
 pub try_candidate-requires-clause-high : goal.try_candidate-requires-clause-high
 try_candidate-requires-clause-high g c =

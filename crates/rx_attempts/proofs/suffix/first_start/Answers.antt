@@ -1,4 +1,4 @@
-use Rattle.std.proofs.Common.{◌≡◌, ◌≤◌, ◌+◌, ◌-◌, length, ◌∙◌, ap, subst, arith}
+use Rattle.std.proofs.Common.{ℕ, ◌≡◌, ◌≤◌, ◌+◌, ◌-◌, length, sym, ◌∙◌, ap, subst, arith}
 use Rattle.std.specs.Prelude.{Option, Some, None, IfSome}
 use Rattle.rx_search.specs.Input.{InputValue}
 use Rattle.rx_search.specs.Matches.{HalfMatchValue}
@@ -9,11 +9,26 @@ use Rattle.rx_attempts.specs.Inputs.{up_to}
 use Rattle.rx_attempts.specs.Candidates.{IsNextCandidate}
 use Rattle.rx_attempts.proofs.lemmas.NeedleLemmas.{taken-long}
 use Rattle.rx_attempts.proofs.lemmas.FailLemmas.{suffix-back}
-use Rattle.rx_attempts.proofs.lemmas.SuffixLemmas.{not-empty, suffix-ended, suffix-over, suffix-before, suffix-least, suffix-few, suffix-total, suffix-on, suffix-found}
+use Rattle.rx_attempts.proofs.lemmas.SuffixLemmas.{not-empty, suffix-fresh, suffix-ended, suffix-over, suffix-before, suffix-least, suffix-few, suffix-total, suffix-on, suffix-found}
 use Rattle.rx_search.specs.declared.span.Span.{Span}
-use Rattle.rx_attempts.specs.Counts.{IsUnguarded}
-use Rattle.rx_attempts.proofs.lemmas.CountLemmas.{leaves-add, counted-back}
+use Rattle.rx_attempts.specs.Counts.{IsUnguarded, Leaves}
+use Rattle.rx_attempts.specs.Suffix.{GoesOn}
+use Rattle.rx_attempts.proofs.lemmas.CountLemmas.{leaves-fresh, leaves-add, counted-back}
 use Rattle.rx_attempts.proofs.suffix.first_start.Goals as goal
+
+pub candidates-init : goal.candidates-init
+candidates-init g c =
+    let rev = g.B.Automaton.dfa c.args.rev.now in
+    let needles = c.args.pre.now in
+    let v = c.args.input.now in
+    let old = c.args.steps.now in
+    let at = sym c.start-from.ensures.value in
+    record {
+      on = subst (λ (k : ℕ). GoesOn rev needles v k 0 old old) at (suffix-fresh rev needles v c.requires.in_order old);
+      counts = λ fwd.
+          subst (λ (k : ℕ). Leaves fwd rev needles v (λ (s : Span). s.end) k 0 0 old old) at (leaves-fresh fwd rev needles v (λ (s : Span). s.end) old);
+      fits = c.requires.fits;
+    }
 
 pub up_to-part-requires-clause-low : goal.up_to-part-requires-clause-low
 up_to-part-requires-clause-low g c =

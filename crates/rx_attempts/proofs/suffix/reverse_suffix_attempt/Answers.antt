@@ -43,8 +43,8 @@ returns-in-Ok-match_from-clause-answer g c =
     suffix-answer rev needles s one bytes v spanned fwd.kind is_free r p start first c.in-Ok-match_from.found
     (c.in-Ok-match_from.ensures.whole r (record { is_for = nfa; begins = λ off. tt; utf8 = p.utf8 }))
 
-pub returns-in-None-clause-answer : goal.returns-in-None-clause-answer
-returns-in-None-clause-answer g c =
+pub returns-in_default-clause-answer : goal.returns-in_default-clause-answer
+returns-in_default-clause-answer g c =
     let fwd = g.F.Automaton.dfa c.args.fwd.now in
     let rev = g.B.Automaton.dfa c.args.rev.now in
     let needles = c.args.pre.now in
@@ -54,7 +54,7 @@ returns-in-None-clause-answer g c =
     let one = c.requires.suffix.1 in
     let bytes = c.requires.suffix.2 in
     let is_free = not-anchored v.anchor c.requires.free in
-    let first = subst (FirstSuffix rev needles v) c.in-None.is c.in-Ok.ensures.first in
+    let first = subst (FirstSuffix rev needles v) c.in_default.is c.in-Ok.ensures.first in
     λ r nfa p. suffix-nothing rev needles s one bytes v spanned fwd.kind is_free r p first
 
 pub returns-then-is_done-clause-ticks : goal.returns-then-is_done-clause-ticks
@@ -77,11 +77,11 @@ returns-in-Ok-match_from-clause-ticks g c =
     counted-found fwd rev needles v (λ (s : Span). s.end) c.args.steps.now c.first_start.new.steps c.in-Some.start back c.match_from.new.steps
     (c.in-Ok-match_from.ensures.ticks every) c.in-Ok-match_from.found c.in-Ok-match_from.ensures.begins
 
-pub returns-in-None-clause-ticks : goal.returns-in-None-clause-ticks
-returns-in-None-clause-ticks g c =
+pub returns-in_default-clause-ticks : goal.returns-in_default-clause-ticks
+returns-in_default-clause-ticks g c =
     let fwd = g.F.Automaton.dfa c.args.fwd.now in
     let rev = g.B.Automaton.dfa c.args.rev.now in
     let needles = c.args.pre.now in
     let v = c.args.input.now in
-    let back = subst (HasCountedBack fwd rev needles v (λ (s : Span). s.end) c.args.steps.now c.first_start.new.steps) c.in-None.is (c.in-Ok.ensures.ticks fwd) in
+    let back = subst (HasCountedBack fwd rev needles v (λ (s : Span). s.end) c.args.steps.now c.first_start.new.steps) c.in_default.is (c.in-Ok.ensures.ticks fwd) in
     λ every. counted-nothing fwd rev needles v (λ (s : Span). s.end) back.0 c.args.steps.now c.first_start.new.steps back.1
