@@ -1,8 +1,5 @@
 use Rattle.std.proofs.Common.{◌<◌, ap, subst, rules}
 use Rattle.std.specs.Prelude.{slice_get}
-use Rattle.std.proofs.lemmas.Result.{IfOk-weaker}
-use Rattle.rx_search.specs.Matches.{match_value}
-use Rattle.rx_dfa.specs.Search.{IsAnswerFor}
 use Rattle.rx_dfa.proofs.lemmas.BothLemmas.{not-anchored}
 use Rattle.rx_attempts.specs.Suffix.{FirstSuffix}
 use Rattle.rx_attempts.proofs.lemmas.EndLemmas.{past-nothing}
