@@ -7,5 +7,5 @@ returns-clause-cells c = sym c.cells.ensures.value ∙ c.cells.ensures.rows
 
 pub returns-clause-within : goal.returns-clause-within
 returns-clause-within c =
-    accounted-within c.args.self.now c.cells.ensures.sound c.result
+    accounted-within c.args.self.now c.cells.ensures.sound _
     (ap₂ (λ cells starts. 8 * cells + 4 * starts) c.cells.ensures.rows c.start_len.ensures.value)
