@@ -14,7 +14,7 @@ returns-clause-told c r of asked =
     let slots = c.try_find_slots.new.slots in
     let found = c.in-Ok.found in
     let is : IsFound d (begun v) found slots = subst (λ (w : InputValue). IsFound d w found slots) c.begun.ensures.value c.in-Ok.ensures.found in
-    let range : IsInRange d.nfa = subst IsInRange c.get_nfa.ensures c.states_len.ensures.in_range in
+    let range : IsInRange d.nfa = subst IsInRange c.get_nfa.ensures c.states_len-states.ensures.in_range in
     found-told d (begun v) (begun-anchored v.anchor) slots found is range c.begun.ensures.spanned.end r of asked
 
 pub returns-clause-in_range : goal.returns-clause-in_range
@@ -24,7 +24,7 @@ returns-clause-in_range c =
     let slots = c.try_find_slots.new.slots in
     let found = c.in-Ok.found in
     let is : IsFound d (begun v) found slots = subst (λ (w : InputValue). IsFound d w found slots) c.begun.ensures.value c.in-Ok.ensures.found in
-    let range : IsInRange d.nfa = subst IsInRange c.get_nfa.ensures c.states_len.ensures.in_range in
+    let range : IsInRange d.nfa = subst IsInRange c.get_nfa.ensures c.states_len-states.ensures.in_range in
     found-in-range d (begun v) (begun-anchored v.anchor) slots found is range
 
 pub returns-clause-slots_within : goal.returns-clause-slots_within
@@ -34,7 +34,7 @@ returns-clause-slots_within c =
     let slots = c.try_find_slots.new.slots in
     let found = c.in-Ok.found in
     let is : IsFound d (begun v) found slots = subst (λ (w : InputValue). IsFound d w found slots) c.begun.ensures.value c.in-Ok.ensures.found in
-    let range : IsInRange d.nfa = subst IsInRange c.get_nfa.ensures c.states_len.ensures.in_range in
+    let range : IsInRange d.nfa = subst IsInRange c.get_nfa.ensures c.states_len-states.ensures.in_range in
     found-places d (begun v) (begun-anchored v.anchor) slots found is range
 
 pub returns-clause-within : goal.returns-clause-within
