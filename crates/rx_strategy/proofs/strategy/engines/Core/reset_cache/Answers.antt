@@ -116,7 +116,7 @@ returns-clause-kept c given =
       onepass = c.fit_cache.new.cache;
       backtrack = c.reset_backtrack.new.cache;
       lazies = c.reset_cache.new.lazies;
-      memory = c.saturating_add-2.result;
+      memory = c.saturating_add-cache-inside.result;
     } in
     let fits = subst (λ (p : CoreValue × CacheValue). FitsLazies p.0.dfas p.1.lazies) (λ i. (sym c.self.view_is i, sym c.cache.view_is i)) given.lazies in
     subst (λ (o : CacheValue). StillFits o new) c.cache.view_is
