@@ -447,8 +447,8 @@ impl Regex {
     }
 
     /// The bytes that are accounted for the regex. Where it looks for literals alone they are those of that search. Else they are 64 for
-    /// the properties of each pattern and for those of all of them together, and what is accounted for its prefilter, its NFAs and its
-    /// full DFAs, and for the search for the literals by which it goes from candidate to candidate; or the greatest `usize` where they
+    /// the properties of each pattern and for those of all of them together, and what is accounted for its prefilter, its NFAs, its
+    /// one-pass DFA and its full DFAs, and for the search for the literals by which it goes from candidate to candidate; or the greatest `usize` where they
     /// are more.
     #[tactic(auto, unfolding(crate::specs::Regex::regex_memory))]
     pub fn memory_usage(&self) -> usize
