@@ -22,5 +22,5 @@ returns-clause-made c =
     let config = c.args.config.now in
     let hs = c.args.exprs.now in
     let compiled = subst (λ (k : Config). IsCompiled (overwritten nothing_set k) hs c.in_ok-nfa.nfa) c.compiler.ensures c.in_ok-nfa.ensures.made in
-    core-made config hs _ _ c.in_ok-new-2.ensures.core refl refl (c.in_ok-new-2.ensures.onepass (alternation (expressions hs)) c.in_ok-info.ensures) refl
-    c.in_ok-pre.ensures compiled c.in_ok-reverse.ensures.made c.in_ok-info.ensures c.in_ok-new-2.ensures.dfas
+    core-made config hs _ _ c.in_ok-new.ensures.core refl refl (c.in_ok-new.ensures.onepass (alternation (expressions hs)) c.in_ok-info.ensures) refl
+    c.in_ok-pre.ensures compiled c.in_ok-reverse.ensures.made c.in_ok-info.ensures c.in_ok-new.ensures.dfas
