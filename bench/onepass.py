@@ -1,13 +1,13 @@
 #!/usr/bin/env python3
 """Times the one-pass DFA, and prints tables.
 
-usage: bench/onepass.py [MIB [RX_BENCH]]   (the size of each text, 1 MiB if left out; a built rx_bench in place of ours, which
-`rt run` builds)
+usage: bench/onepass.py [KIB [RX_BENCH]]   (the size of each text, 20 KiB if left out, so that a round ends before a busy machine
+takes the processor away; a built rx_bench in place of ours, which `rt run` builds)
 
 - The first table is of the groups of matches whose spans are known: the least times in which the one-pass DFA and the backtracker
   tell them, of nine rounds in turns, in each of three runs.
-- The second one is of building: the cells of a table, and nanoseconds for each. Time that is linear in the cells is alike in
-  each line of a pattern.
+- The second one is of building: the cells of a table, and nanoseconds for each. Where the time is linear in the cells, lines of one
+  form are alike.
 """
 import os
 import random
@@ -68,19 +68,18 @@ def table_row(program, pattern):
 
 
 def table_rows(program):
-    """The second table: more rows, and then wider ones."""
+    """The second table: more rows of one width, and then wider ones."""
     print('| pattern | cells | milliseconds | ns a cell |')
     print('|---' * 4 + '|')
-    for form in ('a{%d}', '(?:[a-z]=[0-9];){%d}', r'\w{%d}'):
-        most = 16 if form == r'\w{%d}' else 4096
+    for form, most in (('a{%d}', 4096), ('(?:[a-z]=[0-9];){%d}', 2048), (r'\w{%d}', 8)):
         for count in (most // 8, most // 4, most // 2, most):
             table_row(program, form % count)
-    for count in (12, 25, 50, 100):
-        table_row(program, '|'.join(chr(0x21 + 0x100 + k) + 'x' for k in range(count)))
+    for count in (10, 20, 40):
+        table_row(program, '(?:%s){50}' % '|'.join(chr(0x41 + k) for k in range(count) if chr(0x41 + k) not in '[\\]^'))
 
 
 def main():
-    size = int(float(sys.argv[1] if len(sys.argv) > 1 else 1) * (1 << 20))
+    size = int(sys.argv[1] if len(sys.argv) > 1 else 20) << 10
     program = rx_bench(sys.argv[2:3])
     print('| text | pattern | matches | backtracker, ns a byte | one-pass, ns a byte | backtracker / one-pass |')
     print('|---' * 6 + '|')

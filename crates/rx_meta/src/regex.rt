@@ -47,17 +47,21 @@ use std::sync::{Arc, Wait};
 #[derive(Drop)]
 pub struct Regex {
     config: Config,
-    /// Its maker has the strategy.
+    /// Its maker has the strategy, and it has as many stacks as the configuration says.
     caches: Pool<Cache, CacheMaker>,
 }
 
 impl Model for Regex {
+    ghost use Rattle.std.specs.Prelude.{◌≡◌, max, vec_len};
     ghost use Rattle.std.specs.Arc.{arc_value};
+    ghost use Rattle.rx_strategy.specs.Config.{pool_capacity_of};
     ghost use Rattle.rx_meta.specs.Regex.{RegexValue};
 
     ghost Value = { RegexValue };
 
     ghost view = { λ r. record { config = r.config; strategy = arc_value r.caches.maker.strategy } };
+
+    ghost invariant = { λ r. vec_len r.caches.stacks ≡ max (pool_capacity_of r.config) 1 };
 }
 
 impl Regex {

@@ -209,6 +209,16 @@ struct HoldFirst {
     seen: AtomicBool,
 }
 
+impl HoldFirst {
+    /// That was told of no haystack yet.
+    fn new() -> HoldFirst {
+        HoldFirst {
+            reached: AtomicBool::new(false),
+            seen: AtomicBool::new(false),
+        }
+    }
+}
+
 impl Gate for HoldFirst {
     fn reached(&self, index: usize) {
         if index == 1 {
@@ -229,10 +239,7 @@ impl Gate for HoldFirst {
 /// Whether haystack 1 was reached while the worker of haystack 0 was held, in a scan with two workers.
 fn reached_meanwhile<R: Threads + Wait + Sync + Abort>(rt: &R, alloc: Global) -> bool {
     let regex = Regex::new(alloc, "a").ok().expect(rt, "a regex");
-    let gate = HoldFirst {
-        reached: AtomicBool::new(false),
-        seen: AtomicBool::new(false),
-    };
+    let gate = HoldFirst::new();
     let rows = scan(rt, alloc, &regex, &[b"a", b"ba"], 2, &gate);
     rows.ok().expect(rt, "memory");
     gate.seen.load(Ordering::SeqCst)
@@ -241,4 +248,23 @@ fn reached_meanwhile<R: Threads + Wait + Sync + Abort>(rt: &R, alloc: Global) ->
 #[test]
 fn two_workers_search_at_once(rt: HostRuntime) {
     assert!(rt; reached_meanwhile(&rt, rt.alloc()));
+}
+
+/// Whether haystack 1 was reached while the worker of haystack 0 was held, in a run of these words.
+fn reached_in_run<R: Threads + Wait + Sync + Abort>(rt: &R, alloc: Global, words: &[&str]) -> bool {
+    let mut source = source_of(rt, alloc, b"a\n\na\nba\n", (64, &[]));
+    let mut sink = sink_of(rt, alloc, (64, &[]));
+    let gate = HoldFirst::new();
+    status_of(rt, alloc, words, &mut source, &mut sink, &gate);
+    gate.seen.load(Ordering::SeqCst)
+}
+
+/// Words of runs with several workers: two, as many as there are where no number is written, and two under `gen`.
+const RUNS: [&[&str]; 3] = [&["scan", "2"], &["scan"], &["gen", "1", "2", "2"]];
+
+#[test]
+fn a_run_has_the_workers_of_its_words(rt: HostRuntime) {
+    for words in RUNS {
+        assert!(rt; reached_in_run(&rt, rt.alloc(), words));
+    }
 }
