@@ -80,18 +80,25 @@ const THREE: [&[Told]; 3] = [
     ],
 ];
 
-/// Whether so many workers scan three haystacks for two patterns.
-fn scan_three<R: Threads + Wait + Sync + Abort>(rt: &R, alloc: Global, workers: usize) -> bool {
-    let regex = Regex::new_many(alloc, &["a(b)?", "c"]);
+/// Whether so many workers, with so many caches at most to exchange, scan three haystacks for two patterns.
+fn scan_three<R: Threads + Wait + Sync + Abort>(
+    rt: &R,
+    alloc: Global,
+    workers: usize,
+    caches: usize,
+) -> bool {
+    let mut builder = Regex::builder();
+    builder.configure(Regex::config().pool_capacity(caches));
+    let regex = builder.build_many(alloc, &["a(b)?", "c"]);
     let regex = regex.ok().expect(rt, "a regex");
     scans_so(rt, alloc, &regex, &[b"xab", b"", b"ca"], workers, &THREE)
 }
 
-/// One worker, two, and more than there are haystacks.
+/// One worker, two, and more than there are haystacks; and three with one cache, so that two may have to make their own.
 #[test]
 fn the_number_of_workers_changes_no_row(rt: HostRuntime) {
-    for workers in [1, 2, 64] {
-        assert!(rt; scan_three(&rt, rt.alloc(), workers));
+    for (workers, caches) in [(1, 8), (2, 8), (64, 8), (3, 1)] {
+        assert!(rt; scan_three(&rt, rt.alloc(), workers, caches));
     }
 }
 
@@ -259,7 +266,7 @@ fn reached_in_run<R: Threads + Wait + Sync + Abort>(rt: &R, alloc: Global, words
     gate.seen.load(Ordering::SeqCst)
 }
 
-/// Words of runs with several workers: two, as many as there are where no number is written, and two under `gen`.
+/// Words of runs over two haystacks, each with two workers: by a number, by none, and under `gen`.
 const RUNS: [&[&str]; 3] = [&["scan", "2"], &["scan"], &["gen", "1", "2", "2"]];
 
 #[test]
