@@ -3,7 +3,7 @@
 
 usage: tests/wrong_bodies.py [CRATE..]   (every crate that has some, if none is named)
 
-The full check tries four to fifteen wrong bodies a crate, those of its folder must-fail/. The others stand here, in a folder for each
+The full check tries three to fifteen wrong bodies a crate, those of its folder must-fail/. The others stand here, in a folder for each
 crate. They are put in place of those of must-fail/ in a copy of the repository, and `rt must-fail` tries them. Ends with
 status 1 where a crate has one that is not refused.
 """

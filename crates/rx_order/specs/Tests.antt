@@ -120,14 +120,9 @@ unfoldable pub are_apart_but_first : Class → Expressions → Bool
 are_apart_but_first k nil = true
 are_apart_but_first k (cons sub subs) = if is_zero (maximum_len sub) then is_apart k sub && are_apart_but_first k subs else all_apart k subs
 
--- none of the literals is empty
-abbrev pub is_not_empty : List ℕ → Bool
-is_not_empty [] = false
-is_not_empty (b ∷ bytes) = true
-
--- the literals are not empty, and share no member with the class
+-- none of the literals shares a member with the class
 abbrev pub literals_are_apart : Class → List (List ℕ) → Bool
-literals_are_apart k ls = list_all (λ l. is_not_empty l && literal_is_apart k l) ls
+literals_are_apart k ls = list_all (literal_is_apart k) ls
 
 abbrev pub has_two : Expressions → Bool
 has_two nil = false
@@ -173,6 +168,11 @@ one_not_consumed p [] = false
 one_not_consumed p (l ∷ []) = cannot_consume_all p l
 one_not_consumed p (l ∷ m ∷ ls) = false
 
+abbrev pub is_not_empty : List ℕ → Bool
+is_not_empty [] = false
+is_not_empty (b ∷ bytes) = true
+
+-- there are literals, and none is empty
 abbrev pub are_literals : List (List ℕ) → Bool
 are_literals [] = false
 are_literals (l ∷ ls) = list_all is_not_empty (l ∷ ls)

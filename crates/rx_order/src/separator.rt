@@ -17,7 +17,7 @@ use rx_hir::{Class, ClassBytes, ClassUnicode, Hir, HirKind};
 
 /// Whether the last or the first consuming part of the expression is a class, or at least one copy of a class, that
 /// shares no member with any other part or with one of the literals. The expression, without captures around it, has
-/// two parts or more, and no literal is empty.
+/// two parts or more. An empty literal shares no member.
 pub fn has_disjoint_class_separator(prefix: &Hir, literals: &[Vec<u8>]) -> bool
     ensures { result ≡ (has_last_separator prefix.now (map vec_items literals.now) || has_first_separator prefix.now (map vec_items literals.now)) }
 {
@@ -205,9 +205,6 @@ fn literals_are_apart(class: &Class, literals: &[Vec<u8>]) -> bool
     ensures { result ≡ literals_are_apart (class_view class.now) (map vec_items literals.now) }
 {
     for literal in literals {
-        if literal.is_empty() {
-            return false;
-        }
         if !literal_is_apart(class, literal) {
             return false;
         }

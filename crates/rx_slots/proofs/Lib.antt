@@ -1,3 +1,4 @@
 pub mod Views
 pub mod DrawLemmas
 pub mod SlotLemmas
+pub mod LawLemmas

@@ -1,7 +1,8 @@
 -- Each step of a `SlotPool` keeps its rule.
-use Rattle.std.proofs.Common.{◌≡◌, ◌≢◌, ℕ, zero, suc, ◌+◌, ◌/◌, ◌%◌, ◌<◌, ◌≤◌, ◌==◌, ⊎_elim, List, [], ◌∷◌, ◌++◌, map, length, length-set, get_or-set_same, get_or-set_other, slice_index, slice_set, set, drop, replicate, sym, refl, ap, ◌∙◌, subst, arith, count_by, bit_or, Option, Some, None, if◌then◌else◌}
+use Rattle.std.proofs.Common.{◌≡◌, ◌≢◌, ℕ, zero, suc, ◌+◌, ◌/◌, ◌%◌, ◌<◌, ◌≤◌, ◌==◌, ⊎_elim, List, [], ◌∷◌, ◌++◌, map, length, length-set, get_or-set_same, get_or-set_other, slice_index, slice_set, set, drop, replicate, sym, refl, ap, ◌∙◌, subst, arith, count_by, All, Contains, bit_or, Option, Some, None, if◌then◌else◌}
 use Rattle.std.specs.List.{sum_by}
 use Rattle.std.proofs.lemmas.List.{length-map, length-replicate}
+use Rattle.std.proofs.lemmas.List.Elements.{All-nil, All-cons, All-append, All-drop, All-weaker, Contains-append_left, Contains-append_right}
 use Rattle.std.proofs.lemmas.List.Sums.{sum_by-cons}
 use lib.Bits.{or_step, or_zero_r}
 use mathlib.Core.Option.{some, none, some-injective, some-ne-none}
@@ -62,6 +63,15 @@ not_above_append : (words : List ℕ) (hs js : List (ℕ × ℕ)) → AreNotAbov
 not_above_append words [] js h j = j
 not_above_append words (x ∷ hs) js h j = (h.0, not_above_append words hs js h.1 j)
 
+-- what was seen stays seen
+still_known : (x : ℕ × ℕ) (seen hs : List (ℕ × ℕ)) → All (Contains seen) hs → All (Contains (x ∷ seen)) hs
+still_known x seen hs h = All-weaker (Contains seen) (Contains (x ∷ seen)) (λ y. Contains-append_right (x ∷ []) seen y) hs h
+
+known_append : (seen more hs js : List (ℕ × ℕ)) → All (Contains seen) hs → All (Contains more) js → All (Contains (seen ++ more)) (hs ++ js)
+known_append seen more hs js h j = All-append (Contains (seen ++ more)) hs js
+    (All-weaker (Contains seen) (Contains (seen ++ more)) (Contains-append_left seen more) hs h)
+    (All-weaker (Contains more) (Contains (seen ++ more)) (Contains-append_right seen more) js j)
+
 -- The rule, as far as a step leaves it to be shown
 
 module _ {T : Type 0} where
@@ -75,8 +85,8 @@ module _ {T : Type 0} where
       → (x : T) × (get_elem? (homes_after s.homes c a) j ≡ some (some (Some x))))
       → ((by : ℕ) (u : SlotView) → by ≢ id → get_elem? s.views by ≡ some u → AreAt (slice_set s.words k m) u.held)
       → AreAt (slice_set s.words k m) w.held → slice_index s.words k ≤ m → AreNotAbove (slice_set s.words k m) w.seen
-      → Turns (stepped s k m id c w a)
-  kept s id k m v w c a rule within here long moves holds homes others mine rises sees =
+      → All (Contains w.seen) w.held → Turns (stepped s k m id c w a)
+  kept s id k m v w c a rule within here long moves holds homes others mine rises sees knows =
       let size : length (slice_set s.words k m) ≡ length s.words = length-set s.words k m in
       record {
         sized = long ∙ rule.sized ∙ sym size;
@@ -91,6 +101,8 @@ module _ {T : Type 0} where
         home = λ j near even. homes j (subst (λ n. j < n) size near) even;
         held = λ by u there. ⊎_elim (λ new. subst (λ (d : SlotView). AreAt (slice_set s.words k m) d.held) new.1 mine)
             (λ old. others by u old.0 old.1) (at_set s.views id by w u there);
+        known = λ by u there. ⊎_elim (λ new. subst (λ (d : SlotView). All (Contains d.seen) d.held) new.1 knows)
+            (λ old. rule.known by u old.1) (at_set s.views id by w u there);
         seen = λ by u there. ⊎_elim (λ new. subst (λ (d : SlotView). AreNotAbove (slice_set s.words k m) d.seen) new.1 sees)
             (λ old. still_not_above s.words k m u.seen within rises (rule.seen by u old.1)) (at_set s.views id by w u there);
       }
@@ -137,7 +149,8 @@ module _ {T : Type 0} where
               (let word = word_here s.words k (n + 1) within in omega (arith, word)),
               still_not_above s.words k (n + 1) v.seen within (omega arith)
                   (rule.seen id v here),
-            )),
+            )
+            (All-cons (Contains w.seen) (k, n + 1) v.held (0, omega arith, refl) (still_known (k, n + 1) v.seen v.held (rule.known id v here)))),
         record { gives = λ e. (home.0, refl); refuses = λ e. absurd (omega (arith, e, even)); not_below = below },
       ))
       (λ odd.
@@ -156,7 +169,8 @@ module _ {T : Type 0} where
             (λ by u ne there. same_at s.words (slice_set s.words k n) u.held words (rule.held by u there))
             (same_at s.words (slice_set s.words k n) v.held words (rule.held id v here))
             (omega arith)
-            ((let word = word_here s.words k n within in omega (arith, word)), still_not_above s.words k n v.seen within (omega arith) (rule.seen id v here))),
+            ((let word = word_here s.words k n within in omega (arith, word)), still_not_above s.words k n v.seen within (omega arith) (rule.seen id v here))
+            (still_known (k, n) v.seen v.held (rule.known id v here))),
         record { gives = λ e. absurd (odd e); refuses = λ e. refl; not_below = below },
       ))
     where
@@ -219,7 +233,8 @@ module _ {T : Type 0} where
               (let word = word_here s.words k (turn + 1) within in omega (arith, word)),
               still_not_above s.words k (turn + 1) v.seen within (omega
                   (arith, mine.0)) (rule.seen id v here),
-            ),
+            )
+            (All-drop (Contains w.seen) 1 v.held (still_known (k, turn + 1) v.seen v.held (rule.known id v here))),
         refl,
       )
 
@@ -234,6 +249,8 @@ module _ {T : Type 0} where
         home = rule.home;
         held = λ by u there. ⊎_elim (λ old. rule.held by u (sym (ap (λ (vs : List SlotView). get_elem? vs by) same)
             ∙ old)) (λ new. subst (λ (d : SlotView). AreAt s.words d.held) new tt) (at_snoc views new_view u by there);
+        known = λ by u there. ⊎_elim (λ old. rule.known by u (sym (ap (λ (vs : List SlotView). get_elem? vs by) same)
+            ∙ old)) (λ new. subst (λ (d : SlotView). All (Contains d.seen) d.held) new (All-nil (Contains new_view.seen))) (at_snoc views new_view u by there);
         seen = λ by u there. ⊎_elim (λ old. rule.seen by u (sym (ap (λ (vs : List SlotView). get_elem? vs by) same)
             ∙ old)) (λ new. subst (λ (d : SlotView). AreNotAbove s.words d.seen) new tt) (at_snoc views new_view u by there);
       }
@@ -266,6 +283,10 @@ module _ {T : Type 0} where
             (λ old. ⊎_elim (λ new. subst (λ (d : SlotView). AreAt s.words d.held) new.1 (at_append s.words v.held w.held (rule.held id v here)
             (rule.held other w before)))
             (λ same. rule.held by u same.1) (at_set s.views id by both u old.1)) (at_set views other by new_view u at_by);
+        known = λ by u at_by. ⊎_elim (λ new. subst (λ (d : SlotView). All (Contains d.seen) d.held) new.1 (All-nil (Contains new_view.seen)))
+            (λ old. ⊎_elim (λ new. subst (λ (d : SlotView). All (Contains d.seen) d.held) new.1 (known_append v.seen w.seen v.held w.held
+            (rule.known id v here) (rule.known other w before)))
+            (λ same. rule.known by u same.1) (at_set s.views id by both u old.1)) (at_set views other by new_view u at_by);
         seen = λ by u at_by. ⊎_elim (λ new. subst (λ (d : SlotView). AreNotAbove s.words d.seen) new.1 tt)
             (λ old. ⊎_elim (λ new. subst (λ (d : SlotView). AreNotAbove s.words d.seen) new.1 (not_above_append s.words v.seen w.seen
             (rule.seen id v here) (rule.seen other w before)))
@@ -293,6 +314,7 @@ opens_slots turns values zeros = record {
   once = λ k near. sum_by-cons (holds_of k) new_view [] ∙ sym (ap (λ (ws : List ℕ). slice_index ws k % 2) zeros ∙ ap (λ n. n % 2) (zeros_at (length values) k));
   home = λ k near even. home_at values k (subst (λ n. k < n) (ap length zeros ∙ length-replicate (length values) 0) near);
   held = λ by u there. first_at (λ (v : SlotView). AreAt turns v.held) by u there tt;
+  known = λ by u there. first_at (λ (v : SlotView). All (Contains v.seen) v.held) by u there (All-nil (Contains new_view.seen));
   seen = λ by u there. first_at (λ (v : SlotView). AreNotAbove turns v.seen) by u there tt;
 }
 

@@ -1,9 +1,11 @@
 -- Sums over the views of a table, of which a step changes one.
-use Rattle.std.proofs.Common.{◌≡◌, ◌≢◌, ℕ, zero, suc, ◌+◌, ◌<◌, ◌≤◌, List, [], ◌∷◌, ◌++◌, length, get_or, set, sym, ap, arith, count_by, ◌==◌, if◌then◌else◌}
+use Rattle.std.proofs.Common.{◌≡◌, ◌≢◌, ℕ, zero, suc, ◌+◌, ◌<◌, ◌≤◌, List, [], ◌∷◌, ◌++◌, length, get_or, set, sym, refl, ap, subst, arith, count_by, Contains, ◌==◌, if◌then◌else◌}
 use Rattle.std.specs.List.{sum_by}
-use Rattle.std.proofs.lemmas.List.Sums.{sum_by-set, sum_by-cons, sum_by-append}
+use Rattle.std.proofs.lemmas.List.Sums.{sum_by-set, sum_by-cons, sum_by-append, get_or-le-sum_by}
 use Rattle.std.proofs.lemmas.Bool.Decides.{nat_tests}
 use mathlib.Core.Option.{some, some-injective, some-ne-none}
+use mathlib.Core.Logic.{dite}
+use native.Mathlib.Decide.{ℕ_discrete}
 use lib.ListN.{get_elem?}
 
 module _ {V : Type 0} where
@@ -26,6 +28,23 @@ module _ {V : Type 0} where
   at_least f [] id v e = absurd (some-ne-none v (sym e))
   at_least f (x ∷ xs) zero v e = let same : f x ≡ f v = ap f (some-injective x v e) in omega (arith, same, sum_by-cons f x xs)
   at_least f (x ∷ xs) (suc id) v e = omega (arith, at_least f xs id v e, sum_by-cons f x xs)
+
+  pub two_at_least : (f : V → ℕ) (vs : List V) (i j : ℕ) (v w : V) → i ≢ j → get_elem? vs i ≡ some v → get_elem? vs j ≡ some w → f v + f w ≤ sum_by f vs
+  two_at_least f [] i j v w ne at_i at_j = absurd (some-ne-none v (sym at_i))
+  two_at_least f (x ∷ xs) zero zero v w ne at_i at_j = absurd (ne refl)
+  two_at_least f (x ∷ xs) zero (suc j) v w ne at_i at_j =
+      let same : f x ≡ f v = ap f (some-injective x v at_i) in omega (arith, same, at_least f xs j w at_j, sum_by-cons f x xs)
+  two_at_least f (x ∷ xs) (suc i) zero v w ne at_i at_j =
+      let same : f x ≡ f w = ap f (some-injective x w at_j) in omega (arith, same, at_least f xs i v at_i, sum_by-cons f x xs)
+  two_at_least f (x ∷ xs) (suc i) (suc j) v w ne at_i at_j =
+      omega (arith, two_at_least f xs i j v w (λ e. ne (ap suc e)) at_i at_j, sum_by-cons f x xs)
+
+  -- where the sum is not 0, a view counts
+  pub one_counts : (f : V → ℕ) (vs : List V) → 0 < sum_by f vs → (id : ℕ) × (v : V) × (get_elem? vs id ≡ some v) × (0 < f v)
+  one_counts f [] some_sum = absurd (omega arith)
+  one_counts f (x ∷ xs) some_sum = dite (ℕ_discrete (f x) 0)
+      (λ nothing. let there = one_counts f xs (omega (arith, nothing, some_sum, sum_by-cons f x xs)) in (suc there.0, there.1, there.2, there.3))
+      (λ counts. (zero, x, refl, omega (arith, counts)))
 
   ones_at_most : (f : V → ℕ) (vs : List V) → ((v : V) → f v ≤ 1) → sum_by f vs ≤ length vs
   ones_at_most f [] one = omega arith
@@ -59,3 +78,23 @@ is_one n x e = grind (arith, nat_tests)
 
 pub is_none : (n x : ℕ) → n ≢ x → ◌≡◌ {A = ℕ} (if n == x then 1 else 0) 0
 is_none n x e = grind (arith, nat_tests)
+
+-- an element that the test is true of is counted
+pub counts_one : {X : Type 0} (p : X → ℕ) (xs : List X) (x : X) → Contains xs x → p x ≤ sum_by p xs
+counts_one p xs x at = subst (λ y. p y ≤ sum_by p xs) at.2 (get_or-le-sum_by p xs at.0 x at.1)
+
+pub contains_number : (n : ℕ) (ns : List ℕ) → 0 < count_by (λ y. y == n) ns → Contains ns n
+contains_number n ns counted =
+    let one = one_counts (λ (y : ℕ). if y == n then 1 else 0) ns counted in
+    let here = at_get ns one.0 one.1 one.2 in
+    dite (ℕ_discrete one.1 n)
+    (λ e. subst (Contains ns) e (one.0, here.0, here.1))
+    (λ ne. absurd (omega (arith, one.3, is_none one.1 n ne)))
+
+pub contains_first : (k : ℕ) (hs : List (ℕ × ℕ)) → 0 < count_by (λ (h : ℕ × ℕ). h.0 == k) hs → (turn : ℕ) × Contains hs (k, turn)
+contains_first k hs counted =
+    let one = one_counts (λ (h : ℕ × ℕ). if h.0 == k then 1 else 0) hs counted in
+    let here = at_get hs one.0 one.1 one.2 in
+    dite (ℕ_discrete one.1.0 k)
+    (λ e. (one.1.1, subst (λ j. Contains hs (j, one.1.1)) e (one.0, here.0, here.1)))
+    (λ ne. absurd (omega (arith, one.3, is_none one.1.0 k ne)))

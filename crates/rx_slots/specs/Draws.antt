@@ -1,5 +1,5 @@
 -- Numbers that are drawn: what the word, which counts the draws, and the views of the seats have to do with each other.
-use Rattle.std.specs.Prelude.{◌≡◌, ℕ, ◌+◌, ◌-◌, ◌^◌, ◌<◌, ◌≤◌, ◌==◌, true, false, nat_lt, min, [], ◌∷◌, ◌++◌, length, slice_index, count_by, if◌then◌else◌}
+use Rattle.std.specs.Prelude.{◌≡◌, ℕ, ◌+◌, ◌-◌, ◌^◌, ◌<◌, ◌≤◌, ◌==◌, true, false, nat_lt, min, [], ◌∷◌, ◌++◌, length, slice_index, count_by, Contains, if◌then◌else◌}
 use Rattle.std.specs.List.{sum_by}
 use mathlib.Core.Option.{some}
 use lib.ListN.{get_elem?}
@@ -50,6 +50,14 @@ pub record EachOnce (b : Bounds) (s : State (Unit {0}) DrawView) : Type 0 where
   pub limits : (id : ℕ) (v : DrawView) → get_elem? s.views id ≡ some v → v.limit ≡ b.limit
   -- the seats and those that may still be made are no more than were asked for
   pub seats : length s.views + sum_by (λ v. v.left) s.views ≤ b.seats
+
+-- the seat drew the number
+abbrev pub HasDrawn : State (Unit {0}) DrawView → (id n : ℕ) → Type 0
+HasDrawn s id n = (v : DrawView) × (get_elem? s.views id ≡ some v) × Contains v.numbers n
+
+-- the seat found none left
+abbrev pub IsDone : State (Unit {0}) DrawView → (id : ℕ) → Type 0
+IsDone s id = (v : DrawView) × (get_elem? s.views id ≡ some v) × (v.done ≡ true)
 
 -- a draw gains the number that its step found, where that is below the limit; else its seat is done
 abbrev pub Draws : Step (Unit {0}) → Me (Unit {0}) DrawView → ℕ → Me (Unit {0}) DrawView → Type 0

@@ -1,5 +1,5 @@
 -- Slots that are exchanged: what the turns, the slots and the views of the seats have to do with each other.
-use Rattle.std.specs.Prelude.{◌≡◌, ℕ, ◌+◌, ◌%◌, ◌<◌, ◌≤◌, ◌==◌, List, [], ◌∷◌, ◌++◌, length, map, drop, slice_index, count_by, Option, Some, None}
+use Rattle.std.specs.Prelude.{◌≡◌, ℕ, ◌+◌, ◌%◌, ◌<◌, ◌≤◌, ◌==◌, List, [], ◌∷◌, ◌++◌, length, map, drop, slice_index, count_by, All, Contains, Option, Some, None}
 use Rattle.std.specs.List.{sum_by}
 use mathlib.Core.Option.{some}
 use lib.ListN.{get_elem?}
@@ -56,9 +56,18 @@ pub record Turns {T : Type 0} (s : State (Option T) SlotView) : Type 0 where
   pub once : (k : ℕ) → k < length s.words → sum_by (holds_of k) s.views ≡ slice_index s.words k % 2
   -- where no seat holds the slot, it is at home and holds a value
   pub home : (k : ℕ) → k < length s.words → slice_index s.words k % 2 ≡ 0 → (x : T) × (get_elem? s.homes k ≡ some (some (Some x)))
-  -- a seat has seen the turn of each slot that it holds, and no turn that is still to come
+  -- a seat holds a slot at its turn, has seen that turn, and none that is still to come
   pub held : (id : ℕ) (v : SlotView) → get_elem? s.views id ≡ some v → AreAt s.words v.held
+  pub known : (id : ℕ) (v : SlotView) → get_elem? s.views id ≡ some v → All (Contains v.seen) v.held
   pub seen : (id : ℕ) (v : SlotView) → get_elem? s.views id ≡ some v → AreNotAbove s.words v.seen
+
+-- the seat holds slot k, at this turn
+abbrev pub Holds : {T : Type 0} → State (Option T) SlotView → (id k turn : ℕ) → Type 0
+Holds s id k turn = (v : SlotView) × (get_elem? s.views id ≡ some v) × Contains v.held (k, turn)
+
+-- the seat has seen slot k at this turn
+abbrev pub HasSeen : {T : Type 0} → State (Option T) SlotView → (id k turn : ℕ) → Type 0
+HasSeen s id k turn = (v : SlotView) × (get_elem? s.views id ≡ some v) × Contains v.seen (k, turn)
 
 -- the slots that are out with a seat are those that it holds, and hold no value
 abbrev pub Carries : {T : Type 0} → Me (Option T) SlotView → Type 0

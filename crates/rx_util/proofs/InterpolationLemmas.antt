@@ -4,10 +4,10 @@ use Rattle.std.specs.Fn.{Mut, Called}
 use Rattle.std.proofs.lemmas.Str.{IsUtf8-drop, IsCharBoundary-after_ascii}
 use Rattle.std.specs.List.{position}
 use Rattle.rx_search.specs.declared.memory.Memory.{Memory}
-use Rattle.rx_util.specs.Template.{is_dollar, at_dollar, IsTextOf}
+use Rattle.rx_util.specs.Template.{is_dollar, at_dollar, IsTextOf, IsFrontOf}
 use Rattle.rx_util.specs.Template.IsTextOf.{plain, dollar}
+use Rattle.rx_util.specs.Template.IsFrontOf.{none, to_dollar, past_dollar}
 use Rattle.rx_util.specs.Interpolation.{IsLeft, IsWritten, IsCutShort}
-use Rattle.rx_util.proofs.TemplateLemmas.{has_text}
 
 module _ (piece : ℕ → List ℕ) (index : List ℕ → Option ℕ) (template old : List ℕ) where
   -- what is appended so far, before the text of the rest, is the text of the template
@@ -15,9 +15,10 @@ module _ (piece : ℕ → List ℕ) (index : List ℕ → Option ℕ) (template 
     pub done : List ℕ
     pub held : now ≡ old ++ done
     pub whole : (text : List ℕ) → IsTextOf piece index rest text → IsTextOf piece index template (done ++ text)
+    pub fronts : (front : List ℕ) → IsFrontOf piece index rest front → IsFrontOf piece index template (done ++ front)
 
   pub starts : SoFar template old
-  starts = record { done = []; held = sym (append-nil old); whole = λ text is. is }
+  starts = record { done = []; held = sym (append-nil old); whole = λ text is. is; fronts = λ front is. is }
 
   pub goes : (rest now new : List ℕ) (place : ℕ) → position is_dollar rest ≡ Some place → SoFar rest now
       → new ≡ (now ++ take place rest) ++ (at_dollar piece index (drop (place + 1) rest)).0
@@ -33,6 +34,10 @@ module _ (piece : ℕ → List ℕ) (index : List ℕ → Option ℕ) (template 
         whole = λ text is. subst (IsTextOf piece index template)
             (ap (λ (xs : List ℕ). h.done ++ xs) (sym (append_assoc (take place rest) stands text)) ∙ sym (append_assoc h.done (take place rest ++ stands) text))
             (h.whole (take place rest ++ (stands ++ text)) (dollar rest text place found (subst (λ (r : List ℕ). IsTextOf piece index r text)
+            (drop-drop len (place + 1) rest) is)));
+        fronts = λ front is. subst (IsFrontOf piece index template)
+            (ap (λ (xs : List ℕ). h.done ++ xs) (sym (append_assoc (take place rest) stands front)) ∙ sym (append_assoc h.done (take place rest ++ stands) front))
+            (h.fronts (take place rest ++ (stands ++ front)) (past_dollar rest front place found (subst (λ (r : List ℕ). IsFrontOf piece index r front)
             (drop-drop len (place + 1) rest) is)));
       }
 
@@ -56,30 +61,24 @@ module _ (piece : ℕ → List ℕ) (index : List ℕ → Option ℕ) (template 
 
   module _ {A N D : Type 0} (append : Mut A (ℕ × (MutBor D × Unit {0})) (Result (Unit {0}) Memory × (MutBor D × Unit {0}))) (find : Mut N (Bor
       (List ℕ) × Unit {0}) (Option ℕ)) (bytes : D → List ℕ) where
-    cut : (rest now new text part more : List ℕ) → SoFar rest now → IsTextOf piece index rest text → text ≡ part ++ more
-        → (new ≡ now ++ part) ⊎ IsLeft append find bytes (now ++ part) new → IsCutShort append find bytes piece index template old new
-    cut rest now new text part more h is e left =
-        let same : now ++ part ≡ old ++ (h.done ++ part) = ap (λ (xs : List ℕ). xs ++ part) h.held ∙ append_assoc old h.done part in
+    cut : (rest now new front : List ℕ) → SoFar rest now → IsFrontOf piece index rest front
+        → (new ≡ now ++ front) ⊎ IsLeft append find bytes (now ++ front) new → IsCutShort append find bytes piece index template old new
+    cut rest now new front h is left =
+        let same : now ++ front ≡ old ++ (h.done ++ front) = ap (λ (xs : List ℕ). xs ++ front) h.held ∙ append_assoc old h.done front in
         record {
-          text = h.done ++ text;
-          part = h.done ++ part;
-          rest = more;
-          is = h.whole text is;
-          cut = ap (λ (xs : List ℕ). h.done ++ xs) e ∙ sym (append_assoc h.done part more);
+          front = h.done ++ front;
+          is = h.fronts front is;
           left = ⊎_elim (λ kept. inl (kept ∙ same)) (λ by. inr (subst (λ (xs : List ℕ). IsLeft append find bytes xs new) same by)) left;
         }
 
     -- a piece was not appended
     pub cut_before : (rest now new : List ℕ) → SoFar rest now → new ≡ now → IsCutShort append find bytes piece index template old new
-    cut_before rest now new h e = let text = has_text piece index rest in cut rest now new text.0 [] text.0 h text.1 refl (inl (e ∙ sym (append-nil now)))
+    cut_before rest now new h e = cut rest now new [] h (none rest) (inl (e ∙ sym (append-nil now)))
 
     -- what a `$` stands for was not appended
     pub cut_at : (rest now new : List ℕ) (place : ℕ) → position is_dollar rest ≡ Some place → SoFar rest now
         → (new ≡ now ++ take place rest) ⊎ IsLeft append find bytes (now ++ take place rest) new → IsCutShort append find bytes piece index template old new
-    cut_at rest now new place found h left =
-        let stands : List ℕ = (at_dollar piece index (drop (place + 1) rest)).0 in
-        let later = has_text piece index (drop (place + 1 + (at_dollar piece index (drop (place + 1) rest)).1) rest) in
-        cut rest now new (take place rest ++ (stands ++ later.0)) (take place rest) (stands ++ later.0) h (dollar rest later.0 place found later.1) refl left
+    cut_at rest now new place found h left = cut rest now new (take place rest) h (to_dollar rest place found) left
 
     pub finishes : (rest now new : List ℕ) (r : Result (Unit {0}) Memory) → position is_dollar rest ≡ None → SoFar rest now
         → MatchResult r (λ _. new ≡ now ++ rest) (λ _. new ≡ now)

@@ -1,5 +1,5 @@
 -- How the parts of a template are read, and what they stand for.
-use Rattle.std.proofs.Common.{◌≡◌, ℕ, ◌+◌, ◌-◌, ◌<◌, ◌≤◌, ◌^◌, ◌==◌, ◌&&◌, Bool, true, false, nat_lt, List, [], ◌∷◌, ◌++◌, length, take, drop, get_or, slice_index, Option, Some, None, IfSome, Result, Ok, Err, MatchResult, IsUtf8, Bor, sym, refl, ap, ◌∙◌, zero, suc, arith, lt-ltb, ltb-true, eqb-true, true≢false, length-drop, get_or-drop, get_or-take, ⊎_elim, subst}
+use Rattle.std.proofs.Common.{◌≡◌, ℕ, ◌+◌, ◌-◌, ◌<◌, ◌≤◌, ◌^◌, ◌==◌, ◌&&◌, Bool, true, false, nat_lt, List, [], ◌∷◌, ◌++◌, length, take, drop, get_or, slice_index, Option, Some, None, IfSome, Result, Ok, Err, MatchResult, IsUtf8, Bor, sym, refl, ap, ◌∙◌, zero, suc, arith, lt-ltb, ltb-true, eqb-true, true≢false, length-drop, get_or-drop, get_or-take, ⊎_elim, subst, append_assoc}
 use Rattle.std.proofs.lemmas.Bool.{false_from_ne_true, cases_lt, and_from, and_parts, cond-false}
 use Rattle.std.proofs.lemmas.Bool.Decides.{nat_tests}
 use Rattle.std.proofs.lemmas.List.{get_or_past}
@@ -11,8 +11,9 @@ use Rattle.std.specs.Char.{is_digit, digit_value}
 use Rattle.std.specs.List.{list_all, position, prefix_len}
 use Rattle.std.specs.Str.{is_utf8}
 use Rattle.std.specs.Str.Parse.{AllDigits, ParsesUnsigned, without_leading_plus, digits_value}
-use Rattle.rx_util.specs.Template.{Reference, is_dollar, is_name_byte, braced, number_of, at_dollar, IsTextOf, HasOneText}
+use Rattle.rx_util.specs.Template.{Reference, is_dollar, is_name_byte, braced, number_of, at_dollar, IsTextOf, IsFrontOf, HasOneText, BeginsWithFronts}
 use Rattle.rx_util.specs.Template.IsTextOf.{plain, dollar}
+use Rattle.rx_util.specs.Template.IsFrontOf.{none, to_dollar, past_dollar}
 
 -- References
 
@@ -125,6 +126,32 @@ module _ (piece : ℕ → List ℕ) (index : List ℕ → Option ℕ) where
       let again : IsTextOf piece index (drop (place + 1 + (at_dollar piece index (drop (place + 1) template)).1) template) other =
       subst (λ (p : ℕ). IsTextOf piece index (drop (p + 1 + (at_dollar piece index (drop (p + 1) template)).1) template) other) (sym same) after in
       ap (λ (t : List ℕ). text_at template t place) (one_text _ text other later again) ∙ ap (λ (p : ℕ). text_at template other p) same
+
+  -- what is behind a front in the text
+  behind : (template text front : List ℕ) → IsTextOf piece index template text → IsFrontOf piece index template front → (rest : List ℕ) × (text ≡ front ++ rest)
+  behind template text _ is (none _) = (text, refl)
+  behind template _ _ (plain _ e) (to_dollar _ place f) = absurd (true≢false (ap is_place (sym f ∙ e)))
+  behind template _ _ (plain _ e) (past_dollar _ front place f later) = absurd (true≢false (ap is_place (sym f ∙ e)))
+  behind template _ _ (dollar _ text place e later) (to_dollar _ spot f) =
+      let same : place ≡ spot = grind (arith, e, f) in
+      let stands : List ℕ = (at_dollar piece index (drop (place + 1) template)).0 in
+      (stands ++ text, ap (λ (p : ℕ). take p template ++ (stands ++ text)) same)
+  behind template _ _ (dollar _ text place e later) (past_dollar _ front spot f after) =
+      let same : place ≡ spot = grind (arith, e, f) in
+      let again : IsFrontOf piece index (drop (place + 1 + (at_dollar piece index (drop (place + 1) template)).1) template) front =
+      subst (λ (p : ℕ). IsFrontOf piece index (drop (p + 1 + (at_dollar piece index (drop (p + 1) template)).1) template) front) (sym same) after in
+      let more = behind _ text front later again in
+      let stands : List ℕ = (at_dollar piece index (drop (place + 1) template)).0 in
+      (
+        more.0,
+        ap (λ (t : List ℕ). text_at template t place) more.1
+        ∙ ap (λ (t : List ℕ). take place template ++ t) (sym (append_assoc stands front more.0))
+        ∙ sym (append_assoc (take place template) (stands ++ front) more.0)
+        ∙ ap (λ (p : ℕ). text_at template front p ++ more.0) same,
+      )
+
+pub begins : BeginsWithFronts
+begins piece index template text front is from = behind piece index template text front is from
 
 pub one : HasOneText
 one piece index template = let found = has_text piece index template in (found.0, found.1, λ other is. one_text piece index template other found.0 is found.1)

@@ -3,7 +3,7 @@ use Rattle.std.specs.Prelude.{◌≡◌, ℕ, ◌++◌, ◌⊎◌, List, Option,
 use denote.Ref.{Bor, MutBor}
 use Rattle.std.specs.Fn.{Mut, Called}
 use Rattle.rx_search.specs.declared.memory.Memory.{Memory}
-use Rattle.rx_util.specs.Template.{IsTextOf, at_dollar}
+use Rattle.rx_util.specs.Template.{IsTextOf, IsFrontOf, at_dollar}
 
 -- the text of the template is appended
 pub record IsWritten (piece : ℕ → List ℕ) (index : List ℕ → Option ℕ) (template old new : List ℕ) : Type 0 where
@@ -35,14 +35,11 @@ module _ {A N D : Type 0} (append : Mut A (ℕ × (MutBor D × Unit {0})) (Resul
     pub leaves : bytes gone.now ≡ left
 
   module _ (piece : ℕ → List ℕ) (index : List ℕ → Option ℕ) (template old new : List ℕ) where
-    -- A part of the text, from its front on, is appended, and what the call of `append` left at which it ends, if it ends at one
+    -- some pieces of the template are appended, from its front on, and then what the call of `append` left at which it ends, if it ends at one
     pub record IsCutShort : Type 0 where
-      pub text : List ℕ
-      pub part : List ℕ
-      pub rest : List ℕ
-      pub is : IsTextOf piece index template text
-      pub cut : text ≡ part ++ rest
-      pub left : (new ≡ old ++ part) ⊎ IsLeft (old ++ part) new
+      pub front : List ℕ
+      pub is : IsFrontOf piece index template front
+      pub left : (new ≡ old ++ front) ⊎ IsLeft (old ++ front) new
 
   -- the text of the template is appended; after want of memory what was appended so far
   abbrev pub Interpolates : (template old new : List ℕ) → Result (Unit {0}) Memory → Type 0

@@ -64,6 +64,19 @@ pub data IsTextOf (piece : ℕ → List ℕ) (index : List ℕ → Option ℕ) :
       → IsTextOf piece index (drop (place + 1 + (at_dollar piece index (drop (place + 1) template)).1) template) text
       → IsTextOf piece index template (take place template ++ ((at_dollar piece index (drop (place + 1) template)).0 ++ text))
 
+-- some pieces of a template, in order and from its front on: what stands before a `$`, and what that `$` stands for
+pub data IsFrontOf (piece : ℕ → List ℕ) (index : List ℕ → Option ℕ) : (template front : List ℕ) → Type 0 where
+  none : (template : List ℕ) → IsFrontOf piece index template []
+  to_dollar : (template : List ℕ) (place : ℕ) → position is_dollar template ≡ Some place → IsFrontOf piece index template (take place template)
+  past_dollar : (template front : List ℕ) (place : ℕ) → position is_dollar template ≡ Some place
+      → IsFrontOf piece index (drop (place + 1 + (at_dollar piece index (drop (place + 1) template)).1) template) front
+      → IsFrontOf piece index template (take place template ++ ((at_dollar piece index (drop (place + 1) template)).0 ++ front))
+
+-- the text of a template begins with each such front
+abbrev pub BeginsWithFronts : Type 0
+BeginsWithFronts = (piece : ℕ → List ℕ) (index : List ℕ → Option ℕ) (template text front : List ℕ) → IsTextOf piece index template text
+    → IsFrontOf piece index template front → (rest : List ℕ) × (text ≡ front ++ rest)
+
 -- each template has one text
 abbrev pub HasOneText : Type 0
 HasOneText = (piece : ℕ → List ℕ) (index : List ℕ → Option ℕ) (template : List ℕ)

@@ -2,7 +2,7 @@
 ghost use Rattle.std.specs.Prelude.{◌≡◌, ℕ, ◌-◌, ◌<◌, ◌≤◌, List, ◌++◌, length, slice_index, IsUtf8, IfOk, MatchResult, Vec};
 ghost use Rattle.std.specs.Prelude.{string_bytes};
 ghost use Rattle.std.specs.declared.alloc.Global.{Global};
-ghost use Rattle.rx_util.specs.Template.{HasOneText};
+ghost use Rattle.rx_util.specs.Template.{HasOneText, BeginsWithFronts};
 ghost use Rattle.rx_util.specs.Interpolation.{Interpolates, PassesDollar};
 
 use crate::template::{begins_with, number_of, past, place_of, reference_in};
@@ -156,7 +156,8 @@ where
     Ok(len)
 }
 
-/// Each template has one text.
+/// Each template has one text, and it begins with what is appended before memory is wanting.
 pub fn a_template_has_one_text()
-    ensures { HasOneText }
+    ensures text { HasOneText }
+    ensures fronts { BeginsWithFronts }
 {}

@@ -190,7 +190,7 @@ module _ (text : List ℕ) where
       (row-one (scalar_ranges rs) false i (i + len_utf8 c) step) (subst (Row (scalar_ranges rs) false (i + len_utf8 c)) ends later)
 
   -- a literal that has no member of the class
-  pub literal-out : (k : Class) (bytes : List ℕ) (i : ℕ) → literal_is_apart k bytes ≡ true → stands_at text i bytes ≡ true → Row k false i (i + length bytes)
+  literal-out : (k : Class) (bytes : List ℕ) (i : ℕ) → literal_is_apart k bytes ≡ true → stands_at text i bytes ≡ true → Row k false i (i + length bytes)
   literal-out (scalar_ranges rs) bytes i apart h =
       let both = and_parts (is_utf8 bytes) (list_all (λ c. not (is_member rs c)) (chars bytes)) apart in
       let utf8 = IsUtf8-from_is_utf8 bytes both.0 in

@@ -1,5 +1,5 @@
--- Units of a text in a row, each of them in a class or each of them not, and where two such rows of blocks meet.
-use Rattle.std.proofs.Common.{◌≡◌, ℕ, zero, suc, ◌+◌, ◌<◌, ◌≤◌, Bool, true, false, Option, Some, refl, sym, subst, ◌∙◌, arith, true≢false}
+-- Units of a text in a row, each of them in a class or each of them not.
+use Rattle.std.proofs.Common.{◌≡◌, ℕ, zero, suc, ◌+◌, ◌<◌, ◌≤◌, Bool, Option, Some, refl, sym, subst, arith}
 use Rattle.std.specs.Prelude.{nat_lt, nat_eq}
 use Rattle.std.proofs.lemmas.Bool.Decides.{nat_tests}
 use Rattle.rx_model.specs.Meaning.{Pieces}
@@ -62,39 +62,3 @@ module _ (unit : ℕ → Option ℕ) (is_in : ℕ → Bool) where
             by_test (nat_lt k h.0)
             (λ f. absurd (units i h.1.0 k m h.1.1 u (grind (arith, nat_tests)) (grind (arith, nat_tests))))
             (λ f. find count h.0 h.2 (grind (arith, nat_tests))))
-
-    clash : (b : Bool) (k : ℕ) → is_in k ≡ b → UnitAt true k → UnitAt false k → ⊥
-    clash b k e x y = true≢false (sym x.2 ∙ y.2)
-
-    -- Last separator. A block of members ends at c, where a unit that isn't one stands; a longer part from an earlier
-    -- start is units that are no members, and then a block of members. That can't be.
-    pub last-clash : (i k c i' k' c' : ℕ) → i ≤ k → k < c → Chain true k c → UnitAt false c
-        → Chain false i' k' → Chain true k' c' → i' < i → c < c' → ⊥
-    last-clash i k c i' k' c' low block here after before' block' lt later =
-        by_test (nat_lt c k')
-        (λ e.
-        let first = chain-head true k c here block in
-        true≢false (sym first.2 ∙ locate false i' k' k first.0 before' first.1 (omega arith) (grind (arith, nat_tests))))
-        (λ e. true≢false (sym (locate true k' c' c after.0 block' after.1 (grind (arith, nat_tests)) later) ∙ after.2))
-
-    -- First separator. Both parts begin with a block of members, which units that are no members follow. The blocks end
-    -- at one place.
-    pub first-meet : (i k c i' k' c' : ℕ) → i < k → k ≤ c → Chain true i k → Chain false k c → UnitAt false c
-        → Chain true i' k' → Chain false k' c' → i' < i → c < c' → k' ≡ k
-    first-meet i k c i' k' c' block le here rest after here' rest' lt later =
-        let first = chain-head true i k here block in
-        -- the first member lies in the other block
-        let inside : i < k' = by_test (nat_lt i k')
-        (λ e. grind (arith, nat_tests))
-        (λ e. absurd (true≢false (sym first.2 ∙ locate false k' c' i first.0 rest' first.1 (grind (arith, nat_tests)) (omega arith)))) in
-        -- at k there is no member
-        let ends : UnitAt false k = by_test (nat_lt k c)
-        (λ e. chain-head false k c rest (grind (arith, nat_tests)))
-        (λ e. let same : c ≡ k = grind (arith, nat_tests) in subst (UnitAt false) same after) in
-        by_test (nat_lt k k')
-        (λ e. absurd (true≢false (sym (locate true i' k' k ends.0 here' ends.1 (omega arith) (grind (arith, nat_tests))) ∙ ends.2)))
-        (λ e. by_test (nat_lt k' k)
-        (λ f.
-        let ends' = chain-head false k' c' rest' (grind (arith, nat_tests)) in
-        absurd (true≢false (sym (locate true i k k' ends'.0 here ends'.1 (omega arith) (grind (arith, nat_tests))) ∙ ends'.2)))
-        (λ f. grind (arith, nat_tests)))

@@ -1,6 +1,6 @@
 -- Separators whatever the literals are: a block may always be drawn out to an earlier start, or cut at an earlier end.
 use Rattle.std.proofs.Common.{◌≡◌, ℕ, zero, suc, ◌+◌, ◌<◌, ◌≤◌, Bool, true, false, List, ◌++◌, length, drop, Option, Some, None, refl, sym, ap, subst, ◌∙◌, inl, inr, arith, true≢false}
-use Rattle.std.specs.Prelude.{nat_lt, nat_le, nat_eq, not, IfSome, is_some, encode_utf8}
+use Rattle.std.specs.Prelude.{nat_lt, nat_le, nat_eq, ◌&&◌, not, IfSome, is_some, encode_utf8}
 use Rattle.std.proofs.lemmas.List.{take-append-drop}
 use Rattle.std.proofs.lemmas.Bool.{and_parts, or_cases}
 use Rattle.std.proofs.lemmas.Option.{none-some, same_Some, cond_some}
@@ -14,7 +14,7 @@ use Rattle.rx_model.proofs.lemmas.meaning.EmptyLemmas.{means-rises, in_turn-rise
 use Rattle.rx_model.proofs.lemmas.meaning.CharLemmas.{member_len-is, byte_len-is, char_at_from}
 use Rattle.rx_hir.specs.Length.{maximum_len, sum_of_maximum_len}
 use Rattle.rx_hir.specs.Normal.{is_zero}
-use Rattle.rx_order.specs.Tests.{is_apart, all_apart, plain_class, separator_class, is_last_consuming, last_class, are_apart_but_last, first_class, are_apart_but_first, passes, separates}
+use Rattle.rx_order.specs.Tests.{is_apart, all_apart, plain_class, separator_class, is_last_consuming, last_class, are_apart_but_last, first_class, are_apart_but_first, literals_are_apart, has_two, passes, has_last_separator, has_first_separator, separates}
 use Rattle.rx_order.proofs.lemmas.Core.{IsOrdered}
 use Rattle.rx_order.proofs.lemmas.Chain.{AreUnits, Step, chain-head, locate}
 use Rattle.rx_order.proofs.lemmas.Apart.{unit_of, is_in, Row, row-empty, row-join, units, class-long, mapped, scalar-step, byte-step, means-out, in_turn-out}
@@ -313,3 +313,32 @@ module _ (t : ℕ) (text : List ℕ) where
   separates-ordered (literal bytes) e ls = absurd (true≢false (sym e))
   separates-ordered (look kind) e ls = absurd (true≢false (sym e))
   separates-ordered (alternation subs) e ls = absurd (true≢false (sym e))
+
+  -- So do those of the tests, which look at the literals as well.
+  pub last-ordered : (p : Expression) (ls : List (List ℕ)) → has_last_separator p ls ≡ true → IsOrdered t text p ls
+  unfolding Means has_last_separator
+  last-ordered (capture group name sub) ls e = last-ordered sub ls e
+  last-ordered (concat subs) ls e =
+      let two = and_parts (has_two subs) (passes (last_class subs) (λ k. are_apart_but_last k subs && literals_are_apart k ls)) e in
+      let is = passed (last_class subs) (λ k. are_apart_but_last k subs && literals_are_apart k ls) two.1 in
+      last-wider subs is.0 is.1 (and_parts (are_apart_but_last is.0 subs) (literals_are_apart is.0 ls) is.2).0 ls
+  last-ordered empty ls e = absurd (true≢false (sym e))
+  last-ordered (literal bytes) ls e = absurd (true≢false (sym e))
+  last-ordered (class members) ls e = absurd (true≢false (sym e))
+  last-ordered (look kind) ls e = absurd (true≢false (sym e))
+  last-ordered (repetition least greatest greedy sub) ls e = absurd (true≢false (sym e))
+  last-ordered (alternation subs) ls e = absurd (true≢false (sym e))
+
+  pub first-ordered : (p : Expression) (ls : List (List ℕ)) → has_first_separator p ls ≡ true → IsOrdered t text p ls
+  unfolding Means has_first_separator
+  first-ordered (capture group name sub) ls e = first-ordered sub ls e
+  first-ordered (concat subs) ls e =
+      let two = and_parts (has_two subs) (passes (first_class subs) (λ k. are_apart_but_first k subs && literals_are_apart k ls)) e in
+      let is = passed (first_class subs) (λ k. are_apart_but_first k subs && literals_are_apart k ls) two.1 in
+      first-wider subs is.0 is.1 (and_parts (are_apart_but_first is.0 subs) (literals_are_apart is.0 ls) is.2).0 ls
+  first-ordered empty ls e = absurd (true≢false (sym e))
+  first-ordered (literal bytes) ls e = absurd (true≢false (sym e))
+  first-ordered (class members) ls e = absurd (true≢false (sym e))
+  first-ordered (look kind) ls e = absurd (true≢false (sym e))
+  first-ordered (repetition least greatest greedy sub) ls e = absurd (true≢false (sym e))
+  first-ordered (alternation subs) ls e = absurd (true≢false (sym e))

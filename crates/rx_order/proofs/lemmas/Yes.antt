@@ -10,7 +10,7 @@ use Rattle.rx_order.specs.Tests.{has_fixed_length, cannot_consume_all, has_last_
 use Rattle.rx_order.proofs.lemmas.Core.{IsOrdered}
 use Rattle.rx_order.proofs.lemmas.Forms.{suffix-from, fixed-ordered}
 use Rattle.rx_order.proofs.lemmas.Consume.{byte-ordered}
-use Rattle.rx_order.proofs.lemmas.Separators.{last-ordered, first-ordered}
+use Rattle.rx_order.proofs.lemmas.Wider.{last-ordered, first-ordered}
 
 pub suffix-ordered : (x : Expression) (s : List ℕ) → suffix_has_no_earlier x s ≡ true → (t : ℕ) (text : List ℕ) → IsOrdered t text x (s ∷ [])
 suffix-ordered x s pass t text =

@@ -1,6 +1,6 @@
 use Rattle.std.specs.Prelude.{[], ◌∷◌}
 use Rattle.rx_order.proofs.lemmas.Forms.{inner-from, suffix-from}
-use Rattle.rx_order.proofs.lemmas.Separators.{first-ordered}
+use Rattle.rx_order.proofs.lemmas.Wider.{first-ordered}
 use Rattle.rx_order.proofs.laws.a_first_separator_keeps_the_order.Goals as goal
 
 pub returns-clause-suffix : goal.returns-clause-suffix

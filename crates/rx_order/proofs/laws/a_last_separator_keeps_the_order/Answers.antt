@@ -1,6 +1,6 @@
 use Rattle.std.specs.Prelude.{[], ◌∷◌}
 use Rattle.rx_order.proofs.lemmas.Forms.{inner-from, suffix-from}
-use Rattle.rx_order.proofs.lemmas.Separators.{last-ordered}
+use Rattle.rx_order.proofs.lemmas.Wider.{last-ordered}
 use Rattle.rx_order.proofs.laws.a_last_separator_keeps_the_order.Goals as goal
 
 pub returns-clause-suffix : goal.returns-clause-suffix
