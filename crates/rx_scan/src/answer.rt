@@ -16,6 +16,7 @@ use crate::arguments::{Command, Off, Scan};
 use crate::haystacks::scan_for;
 use crate::input::{INPUT_LIMIT, read_patterns, split_lines};
 use crate::outcome::RowsText;
+use crate::output::joined;
 use crate::size::are_small;
 use crate::status::Status;
 use rx_gen::push_number;
@@ -240,7 +241,8 @@ fn all_rows<R: Threads + Wait + Sync, G: Gate + Sync>(
 {
     let haystacks = split_lines(alloc, haystacks)?;
     // The workers print what they find (DECISIONS: one scan for rows, their text and their numbers).
-    let text = scan_for(rt, alloc, regex, &haystacks, asked.workers, gate, &RowsText)?;
+    let texts = scan_for(rt, alloc, regex, &haystacks, asked.workers, gate, &RowsText)?;
+    let text = joined(alloc, &texts)?;
     Ok(Answer {
         status: Status::Rows,
         text,
