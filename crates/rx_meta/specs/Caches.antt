@@ -9,4 +9,4 @@ use Rattle.rx_meta.specs.declared.cache_maker.CacheMaker.{CacheMaker}
 
 -- the cache is of the regex's own
 abbrev pub IsLentBy : RegexValue → PoolGuard CacheValue CacheMaker → Type 0
-IsLentBy regex lent = arc_value (maker_of lent.place.stack.now).strategy ≡ regex.strategy
+IsLentBy regex lent = arc_value (maker_of lent.stack.now).strategy ≡ regex.strategy

@@ -2,5 +2,4 @@ pub mod MachineLemmas
 pub mod StackLemmas
 pub mod TemplateLemmas
 pub mod InterpolationLemmas
-pub mod HandLemmas
 pub mod LockLemmas

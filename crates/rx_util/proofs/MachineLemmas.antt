@@ -1,6 +1,6 @@
 -- The machine of a pool's stack: each event keeps it sound.
 use Rattle.std.proofs.Common.{◌≡◌, ◌≢◌, ℕ, zero, suc, ◌+◌, ◌-◌, ◌<◌, ◌≤◌, List, [], ◌∷◌, ◌++◌, length, take, drop, get_or, slice_index, subst, eqb-true, eq-eqb, ne_eqb, true≢false, refl, ap, sym, ◌∙◌, arith, length-append, length-drop}
-use Rattle.std.specs.Prelude.{Bool, true, false, Option, Some, None, IfSome, IsSome, is_some, unwrap_or, ◌==◌, nat_lt, if◌then◌else◌}
+use Rattle.std.specs.Prelude.{Bool, true, false, Option, Some, None, IfSome, is_some, unwrap_or, ◌==◌, nat_lt, if◌then◌else◌}
 use Rattle.std.specs.List.{remove}
 use Rattle.std.proofs.lemmas.List.{take_more, take_all, drop_more, take-append-drop, length-take-le}
 use Rattle.std.proofs.lemmas.List.Sums.{sum_by-append}
@@ -101,7 +101,7 @@ not_below : (n : ℕ) → ◌≡◌ {A = ℕ} (if nat_lt n n then 1 else 0) 0
 not_below n = grind (arith, nat_tests)
 
 -- at first all is sound
-pub sound-first : IsSound at_first
+sound-first : IsSound at_first
 sound-first = record { once = λ n. grind (arith, nat_tests); count = refl }
 
 -- the number that is taken moves
@@ -166,30 +166,3 @@ stays-sound events = sound-run events at_first sound-first
 
 pub none-is-lent-twice : NoneIsLentTwice
 none-is-lent-twice events event = free-lends (run events at_first) event (stays-sound events)
-
-absent_step : (n count : ℕ) (xs : List ℕ) (test : Bool) → (slice_index xs count == n) ≡ test → suc count ≤ length xs
-    → (if test then Some count else last_place n count xs) ≡ None → (last_place n count xs ≡ None → times n (take count xs) ≡ 0)
-    → times n (take (suc count) xs) ≡ 0
-absent_step n count xs true is le e before = absurd (true≢false (ap (λ (o : Option ℕ). is_some o) e))
-absent_step n count xs false is le e before =
-    let next : count + 1 ≡ suc count = omega arith in
-    let more : take (suc count) xs ≡ take count xs ++ slice_index xs count ∷ [] = subst (λ k. take k xs ≡ take count xs ++ slice_index xs count ∷ []) next
-    (take_more xs count 0 (omega arith)) in
-    let other : one n (slice_index xs count) ≡ 0 = ap (λ (t : Bool). if t then 1 else 0) is in
-    ap (λ (ys : List ℕ). times n ys) more ∙ times-push n (slice_index xs count) (take count xs) ∙ omega (arith, before e, other)
-
--- where a number has no place among the first ones, it is none of them
-absent : (n count : ℕ) (xs : List ℕ) → count ≤ length xs → last_place n count xs ≡ None → times n (take count xs) ≡ 0
-absent n zero xs le e = refl
-absent n (suc count) xs le e = absent_step n count xs (slice_index xs count == n) refl le e (absent n count xs (omega arith))
-
-there_at : (n : ℕ) (xs : List ℕ) (o : Option ℕ) → place_of n xs ≡ o → 0 < times n xs → IsSome o
-there_at n xs None e lt =
-    let none : times n (take (length xs) xs) ≡ 0 = absent n (length xs) xs (omega arith) e in
-    let all : take (length xs) xs ≡ xs = take_all (length xs) xs (omega arith) in
-    absurd (let same : times n xs ≡ 0 = ap (λ (ys : List ℕ). times n ys) (sym all) ∙ none in omega (arith, same))
-there_at n xs (Some i) e lt = refl
-
--- a number that stands on a list has a place there
-pub place-there : (n : ℕ) (xs : List ℕ) → 0 < times n xs → IsSome (place_of n xs)
-place-there n xs lt = there_at n xs (place_of n xs) refl lt

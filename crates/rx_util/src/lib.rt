@@ -15,7 +15,6 @@ mod template;
 mod threads;
 
 pub use lazy::Lazy;
-pub use lock::each_number_is_in_one_place;
 pub use maker::{FromFn, Maker};
 pub use pool::{Pool, PoolGuard};
 pub use stack::{Empty, Stack, no_number_is_lent_twice};

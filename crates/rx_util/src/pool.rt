@@ -1,8 +1,8 @@
 //! Pools of values that many threads use in turn.
-ghost use Rattle.std.specs.Prelude.{◌≡◌, ◌<◌, [], All, IfOk, Some, max, vec_len};
+ghost use Rattle.std.specs.Prelude.{◌≡◌, ◌<◌, All, IfOk, max, vec_len};
 ghost use Rattle.rx_util.specs.Held.{maker_of};
 
-use crate::lock::{Lent, Lock};
+use crate::lock::Lock;
 use crate::maker::Maker;
 use rx_search::Memory;
 use std::alloc::Global;
@@ -88,24 +88,26 @@ impl<T: Drop, M: Maker<Value = T> + Drop> Pool<T, M> {
     pub fn get<R: Wait>(&self, rt: &R) -> Result<PoolGuard<'_, T, M>, Memory>
         requires { M.can_make self.now.maker }
         ensures stack { IfOk result (λ guard. guard.index < vec_len self.now.stacks) }
-        ensures maker { IfOk result (λ guard. maker_of guard.place.stack.now ≡ self.now.maker) }
+        ensures maker { IfOk result (λ guard. maker_of guard.stack.now ≡ self.now.maker) }
         ensures value { IfOk result (λ guard. M.stands_for self.now.maker guard.value) }
     {
         let turn = self.turn.fetch_add(1, Ordering::SeqCst);
         let index = turn % self.stacks.len();
         let stack = &self.stacks[index];
         match stack.take(rt) {
-            Ok((lent, value)) => Ok(PoolGuard {
-                place: Place { stack, lent },
+            Ok((number, value)) => Ok(PoolGuard {
+                stack,
                 index,
+                number,
                 value,
             }),
-            Err(nothing) => {
+            Err(empty) => {
                 let value = self.maker.make()?;
-                let lent = stack.make(rt, nothing)?;
+                let number = stack.make(rt, empty)?;
                 Ok(PoolGuard {
-                    place: Place { stack, lent },
+                    stack,
                     index,
+                    number,
                     value,
                 })
             }
@@ -113,23 +115,13 @@ impl<T: Drop, M: Maker<Value = T> + Drop> Pool<T, M> {
     }
 }
 
-/// A number that is lent, and the stack that lent it.
-#[derive(Drop)]
-struct Place<'p, T: Drop, M: Maker<Value = T>> {
-    stack: &'p Lock<T, M>,
-    lent: Lent<T, M>,
-    ghost same: { lent.seat.table_id ≡ stack.now.table.shared.table_id },
-    ghost alike: { lent.seat.me.0.maker ≡ maker_of stack.now },
-    ghost numbered: { lent.seat.me.0.number ≡ Some lent.number },
-    ghost none: { lent.seat.me.1 ≡ [] },
-}
-
 /// A value that was taken from a pool. Where it is dropped and not put back, the value is freed, and its number is never
 /// lent again.
 #[derive(Drop)]
 pub struct PoolGuard<'p, T: Drop, M: Maker<Value = T>> {
-    place: Place<'p, T, M>,
+    stack: &'p Lock<T, M>,
     index: usize,
+    number: u128,
     // A proof follows what is written to a field (DECISIONS: a guard borrows the lock of its stack).
     /// The value, which [`PoolGuard::value_mut`] lends.
     pub value: T,
@@ -159,20 +151,22 @@ impl<'p, T: Drop, M: Maker<Value = T>> PoolGuard<'p, T, M> {
 
     /// Its number on that stack.
     pub fn number(&self) -> u128
-        ensures { result ≡ self.now.place.lent.number }
+        ensures { result ≡ self.now.number }
     {
-        self.place.lent.number()
+        self.number
     }
 
     /// Puts the value back on its stack, where the maker stands for it still. It takes no memory, and may wait for a lock.
     pub fn put<R: Wait>(guard: PoolGuard<'p, T, M>, rt: &R)
-        requires { M.stands_for (maker_of guard.place.stack.now) guard.value }
+        requires { M.stands_for (maker_of guard.stack.now) guard.value }
     {
         let PoolGuard {
-            place: Place { stack, lent },
+            stack,
             index: _,
+            number,
             value,
         } = guard;
-        let _seat = stack.put(rt, lent, value);
+        // The lock's type alone does not tell that the number is lent; a value that is handed back is freed.
+        let _handed_back = stack.put(rt, number, value);
     }
 }

@@ -20,6 +20,6 @@ returns-clause-fits g c =
 pub returns-clause-own : goal.returns-clause-own
 returns-clause-own g c =
     ap (λ (m : CacheMaker). arc_value m.strategy)
-    (subst (λ (r : Result (PoolGuard CacheValue CacheMaker) Memory). IfOk r (λ lent. maker_of lent.place.stack.now ≡ c.caches.result.now.maker))
+    (subst (λ (r : Result (PoolGuard CacheValue CacheMaker) Memory). IfOk r (λ lent. maker_of lent.stack.now ≡ c.caches.result.now.maker))
     c.in_ok-guard.was c.get.ensures.maker)
     ∙ c.caches.ensures
