@@ -1,8 +1,7 @@
 //! What a regex tells with its one-pass DFA, and without it.
-ghost use Rattle.rx_meta.specs.Cache.{Fits};
 
-use crate::regex::{cache_of, configured, matches_in, place_at, told_by};
-use rx_meta::{Cache, Config, Regex};
+use crate::regex::{cache_of, configured, made_over, matches_in, place_at, told_by};
+use rx_meta::{Config, Regex};
 use rx_search::{Anchored, Input, MatchKind, NonMaxUsize};
 use std::alloc::Global;
 use std::process::Abort;
@@ -81,7 +80,7 @@ fn added(rt: &impl Abort, alloc: Global, pattern: &str, limit: Option<usize>) ->
     let config = without(false, true).onepass_size_limit(limit);
     let (regex, cache) = accounted(rt, alloc, config, pattern);
     let (less, room) = accounted(rt, alloc, without(true, true), pattern);
-    (regex - less, cache - room)
+    (regex.saturating_sub(less), cache.saturating_sub(room))
 }
 
 #[test]
@@ -100,7 +99,7 @@ fn a_one_pass_dfa_is_there_where_it_is_wanted(rt: HostRuntime) {
     assert_eq!(rt; added(&rt, alloc, "(a*)a", None), (0, 0));
 }
 
-/// The four places that the slots of the pattern in `ab` hold, under `All`.
+/// The end of the match of `(a)(b)??` in the input, under `All`.
 fn farthest(rt: &impl Abort, alloc: Global, config: Config, input: &Input<'_>) -> Option<usize> {
     let regex = configured(rt, alloc, config.match_kind(MatchKind::All), "(a)(b)??");
     let mut cache = cache_of(rt, alloc, &regex);
@@ -117,20 +116,11 @@ fn under_all_it_tells_the_farthest_end(rt: HostRuntime) {
     assert_eq!(rt; once, Some(2));
 }
 
-/// A cache of the first regex, reset for the second.
-fn reset_for(rt: &impl Abort, alloc: Global, first: &Regex, second: &Regex) -> Cache
-    ensures { Fits second.now result }
-{
-    let mut cache = cache_of(rt, alloc, first);
-    cache.reset(alloc, second).ok().expect(rt, "memory");
-    cache
-}
-
 /// The pattern that is found in `xb` by a cache of `a`, and the places in six slots.
 fn told_after_reset(rt: &impl Abort, alloc: Global) -> (usize, [Option<usize>; 6]) {
     let first = configured(rt, alloc, Config::new(), "a");
     let second = configured(rt, alloc, Config::new(), "(b)(c)?");
-    let mut cache = reset_for(rt, alloc, &first, &second);
+    let mut cache = made_over(rt, alloc, &first, &second);
     let mut slots = [NonMaxUsize::new(9); 6];
     let found = second.search_slots_with(&mut cache, &Input::new(b"xb"), &mut slots);
     let pattern = found.ok().expect(rt, "memory").expect(rt, "a match");
