@@ -229,12 +229,12 @@ fn is_told_after<R: Abort + Wait>(
 #[test]
 fn a_search_goes_on_where_candidates_are_dense(rt: HostRuntime) {
     let alloc = rt.alloc();
-    let suffix = (Some((701, 709)), Some(709), true, (Some(701), Some(702)));
+    let suffix = (Some((702, 710)), Some(710), true, (Some(702), Some(703)));
     let pattern = "([A-Za-z]+)[ \t]+Holmes";
-    assert!(rt; is_told_after(&rt, alloc, pattern, b",Holmes", b" a Holmes", suffix));
-    let inner = (Some((200, 204)), Some(204), true, (Some(200), Some(201)));
+    assert!(rt; is_told_after(&rt, alloc, pattern, b",Holmes", b"  a Holmes", suffix));
+    let inner = (Some((202, 206)), Some(206), true, (Some(202), Some(203)));
     let pattern = "([a-z]+)@[a-z@]+[0-9]";
-    assert!(rt; is_told_after(&rt, alloc, pattern, b",@", b"a@b1", inner));
+    assert!(rt; is_told_after(&rt, alloc, pattern, b",@", b"  a@b1", inner));
 }
 
 const ROWS: [Row; 9] = [
