@@ -7,7 +7,7 @@ The regex of the program has one stack of caches, so a cache that is not given b
 
 Of each call and each kind of engines it asks:
 - that nine calls take memory no oftener than one, but for what is the caller's own: so each call gives the cache back;
-- that for each allocation that fails in the first of three calls that one tells Memory, and the others are right;
+- that for each allocation that fails in three calls the call that it is made for tells Memory, and the others are right;
 - that a search which fails gives its cache back: the next one takes no memory for another.
 Ends with status 1 where one of them is not so.
 """
@@ -44,7 +44,7 @@ CALLS = {'m': ('is_match', 0), 's': ('search', 0), 'h': ('search_half', 0), 'l':
          'a': ('captures_iter and finish', 2), 'k': ('captures_iter and count', 1), 'g': ('split and finish', 0),
          'p': ('splitn and finish', 0)}
 ENGINES = {'f': 'full DFAs', 'l': 'lazy DFAs', 'n': 'none'}
-RIGHT, FIRST_WANTS, NO_REGEX = 100, 101, 91
+RIGHT, ONE_WANTS, NO_REGEX = 100, (101, 103, 109), 91
 
 
 def run(program, counter, job, times, engines, failing=0):
@@ -60,7 +60,7 @@ def failing_runs(program, counter, job, engines, whole):
     wants, others = 0, 0
     for number in range(1, whole + 1):
         status, asked = run(program, counter, job, 3, engines, number)
-        if status == FIRST_WANTS and number > before:
+        if status in ONE_WANTS and number > before:
             wants += 1
             others += asked > whole + 2
         elif not (status == NO_REGEX and number <= before or status == RIGHT):
