@@ -125,7 +125,7 @@ module _ {W : Type 0} (Are : List (List RowValue) → W → Type 0) (regex : Reg
     rows = λ r finds.
         let f : Bor (List ℕ) → List RowValue = λ h. scan_rows r h.now in
         let d = one-of hs n below in
-        let own : answer.0 ≡ f (get_or hs n d) = answer.1.1 d r (finds n d below) in
+        let own : answer.0 ≡ f (get_or hs n d) = answer.2 d r (finds n d below) in
         (λ k. before.rows r finds k ++ own k ∷ []) ∙ sym (map_more f hs n d below);
   }
 

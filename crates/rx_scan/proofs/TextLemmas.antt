@@ -61,14 +61,14 @@ pub piece-kept : (old new : Printed) (more : List ℕ) (i : ℕ) (rows : List Ro
     → IsPiece old i rows piece → IsPiece new i rows piece
 piece-kept old new more i rows piece longer is =
     let len = ap length longer ∙ length-append old.text.items more in
-    let within : piece.start ≤ length old.text.items = omega (arith, is.0, is.1.0) in
+    let within : piece.start ≤ length old.text.items = omega (arith, is.0, is.1) in
     let rest = drop piece.start old.text.items in
-    let fits : piece.end - piece.start ≤ length rest = omega (arith, is.1.0, length-drop piece.start old.text.items) in (
+    let fits : piece.end - piece.start ≤ length rest = omega (arith, is.1, length-drop piece.start old.text.items) in (
       is.0,
-      omega (arith, is.1.0, len),
+      omega (arith, is.1, len),
       λ small. ap (λ l. take (piece.end - piece.start) (drop piece.start l)) longer
           ∙ ap (take (piece.end - piece.start)) (drop-append-le piece.start old.text.items more within)
-          ∙ take-append-le (piece.end - piece.start) rest more fits ∙ is.1.1 small,
+          ∙ take-append-le (piece.end - piece.start) rest more fits ∙ is.2 small,
     )
 
 -- what was printed since the haystack began is a piece
@@ -105,7 +105,7 @@ pub text-more : (store : Printed) (piece : Piece) (all : List (List RowValue)) (
 text-more store piece all rows old new longer told is small =
     let few : length all < 2 ^ 63 = omega (arith, small, length-append all (rows ∷ [])) in
     let next : length all + 1 ≡ 1 + length all = omega arith in
-    longer ∙ (λ k. told few k ++ is.1.1 few k) ∙ ap (λ n. rows_text 1 all ++ flat_map (row_text n) rows) next ∙ sym (rows_text-more 1 all rows)
+    longer ∙ (λ k. told few k ++ is.2 few k) ∙ ap (λ n. rows_text 1 all ++ flat_map (row_text n) rows) next ∙ sym (rows_text-more 1 all rows)
 
 -- a success says what follows from what it says
 pub on-ok : {U E A B : Type 0} (result : Result U E) → (A → B) → OnOk result A → OnOk result B

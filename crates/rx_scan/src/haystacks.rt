@@ -1,5 +1,5 @@
 //! The rows of haystacks.
-ghost use Rattle.std.specs.Prelude.{◌≡◌, ◌<◌, [], ℕ, List, true, length, map, replicate, IfOk, OnOk};
+ghost use Rattle.std.specs.Prelude.{◌≡◌, ◌<◌, [], ℕ, List, true, length, map, replicate, IfOk};
 ghost use Rattle.std.specs.List.{All};
 ghost use Rattle.std.specs.Vec.{vec_items};
 ghost use Rattle.rx_model.specs.Expression.{Expression};
@@ -10,9 +10,8 @@ ghost use Rattle.rx_search.specs.declared.anchored.MatchKind.TheVariants.{Leftmo
 ghost use Rattle.rx_meta.specs.Build.{IsBuilt, patterns_for};
 ghost use Rattle.rx_meta.specs.Config.{ConfigValue, kind_of, utf8_of, prefilter_of, captures_of};
 ghost use Rattle.rx_meta.specs.Regex.{groups_in};
-ghost use Rattle.rx_scan.specs.Haystacks.{AreRowsOf, HasOutcome, HaveOutcomes};
-ghost use Rattle.rx_scan.specs.Outcomes.{Keeps};
-ghost use Rattle.rx_scan.specs.Row.{RowValue, scan_rows};
+ghost use Rattle.rx_scan.specs.Haystacks.{HasOutcome, HaveOutcomes};
+ghost use Rattle.rx_scan.specs.Row.{scan_rows};
 
 use crate::outcome::{AllRows, Outcome};
 use crate::row::{Layout, Row};
@@ -186,18 +185,18 @@ impl<'a, G: Gate, O: Outcome> Task for Works<'a, G, O> {
         finder: &mut RegexFinder<'a>,
         store: &mut O::Store,
     ) -> Result<O::Value, Memory> {
+        a_search_is_for_its_patterns();
         self.gate.reached(index);
         let haystack = self.haystacks[index];
         self.outcome.begin(index, store);
-        find_rows(
-            alloc,
-            index,
-            haystack,
-            &self.layout,
-            self.outcome,
-            finder,
-            store,
-        )?;
+        let mut searcher = Searcher::new(Input::new(haystack));
+        // Each row is handed on as it is found (DECISIONS: one scan for rows, their text and their numbers).
+        'matches: while let Some(found) = searcher.advance(finder)? {
+            let row = self
+                .layout
+                .row(alloc, found.pattern(), finder.slots())?;
+            self.outcome.add(index, row, store)?;
+        }
         Ok(self.outcome.end(alloc, index, store))
     }
 
@@ -245,29 +244,4 @@ fn no_rows<G: Gate, O: Outcome>(
         outcome.put(&store, value, &mut whole)?;
     }
     Ok(whole)
-}
-
-/// Adds the rows of the successive matches in a haystack to the store, one after another.
-fn find_rows<O: Outcome>(
-    alloc: Global,
-    index: usize,
-    haystack: &[u8],
-    layout: &Layout<'_>,
-    outcome: &O,
-    finder: &mut RegexFinder<'_>,
-    store: &mut O::Store,
-) -> Result<(), Memory>
-    requires layout { layout.now.groups.now ≡ groups_in finder.old.regex.now }
-    requires begun { O.holds outcome.now store.old index [] }
-    ensures rows { OnOk result ((rows : List RowValue) × O.holds outcome.now store.new index rows × AreRowsOf finder.old.regex.now haystack.now rows) }
-    ensures keeps { OnOk result (Keeps (O.is outcome.now) store.old store.new) }
-    ensures same { OnOk result (finder.new.regex.now ≡ finder.old.regex.now) }
-{
-    a_search_is_for_its_patterns();
-    let mut searcher = Searcher::new(Input::new(haystack));
-    'matches: while let Some(found) = searcher.advance(finder)? {
-        let row = layout.row(alloc, found.pattern(), finder.slots())?;
-        outcome.add(index, row, store)?;
-    }
-    Ok(())
 }
