@@ -1,12 +1,12 @@
 -- What is found in haystacks, in numbers: the matches of a haystack are no more than it has places, and no longer than it.
-use Rattle.std.proofs.Common.{◌≡◌, ℕ, zero, suc, ◌+◌, ◌-◌, ◌^◌, ◌<◌, ◌≤◌, List, [], ◌∷◌, length, get_or, Result, Ok, Err, IfOk, refl, sym, ap, subst, ◌∙◌, true, lit<, arith}
+use Rattle.std.proofs.Common.{◌≡◌, ℕ, zero, suc, ◌+◌, ◌-◌, ◌^◌, ◌<◌, ◌≤◌, List, [], ◌∷◌, ◌++◌, length, get_or, Some, Result, Ok, Err, IfOk, refl, sym, ap, subst, ◌∙◌, true, lit<, arith}
 use Rattle.std.specs.Prelude.{map, sum_by, codes, nat_lt}
 use Rattle.std.specs.List.{All, AllPairs, list_all}
 use Rattle.std.specs.Str.{IsUtf8}
 use denote.Ref.{Bor}
-use Rattle.std.proofs.lemmas.List.{length-map, get_or-map}
+use Rattle.std.proofs.lemmas.List.{length-map, get_or-map, map-append}
 use Rattle.std.proofs.lemmas.Simd.{map-map}
-use Rattle.std.proofs.lemmas.List.Elements.{All-nil, All-cons, All-map}
+use Rattle.std.proofs.lemmas.List.Elements.{All-nil, All-cons, All-map, All-pop}
 use Rattle.std.proofs.lemmas.List.Sums.{sum_by-cons}
 use Rattle.std.proofs.lemmas.Str.{IsUtf8-from_ascii}
 use Rattle.std.proofs.lemmas.Bool.{and_parts, ltb-true}
@@ -151,3 +151,12 @@ counts-told items (Ok w) hs texts same short told =
     let rows : Bor (List ℕ) → List RowValue = λ h. scan_rows (patterns_of gen_expressions) h.now in
     let fit : All (λ rs. rows_len rs < 2 ^ 64) (map rows hs) = All-map (λ rs. rows_len rs < 2 ^ 64) rows hs (λ i d below. rows-fit (get_or hs i d).now (short i d below)) in
     told fit ∙ sym (map-map counts_of rows hs) ∙ (λ k. map (λ h. rows-told h.now k) hs) ∙ map-map gen_counts (λ (h : Bor (List ℕ)). h.now) hs ∙ ap (map gen_counts) same
+
+-- the numbers of one haystack more
+pub counts-more : (all : List (List RowValue)) (rows : List RowValue) (counts : Counts) (old new : List Counts) → new ≡ old ++ counts ∷ []
+    → (All (λ rs. rows_len rs < 2 ^ 64) all → old ≡ map counts_of all) → (rows_len rows < 2 ^ 64 → counts ≡ counts_of rows)
+    → All (λ rs. rows_len rs < 2 ^ 64) (all ++ rows ∷ []) → new ≡ map counts_of (all ++ rows ∷ [])
+counts-more all rows counts old new longer told is fit =
+    let P : List RowValue → Type 0 = λ rs. rows_len rs < 2 ^ 64 in
+    let parts = All-pop P (all ++ rows ∷ []) all (Some rows) refl fit in
+    longer ∙ (λ k. told parts.0 k ++ is parts.1 k ∷ []) ∙ sym (map-append counts_of all (rows ∷ []))

@@ -3,7 +3,7 @@ use Rattle.rx_scan.proofs.HaystackLemmas.{outcomes-put}
 use Rattle.rx_scan.proofs.haystacks.WorksTask.put.Goals as goal
 
 pub put-requires : goal.put-requires
-put-requires g c = (c.args._index, c.requires.answer.0, c.requires.answer.1)
+put-requires g c = record { value = (c.args._index, c.requires.answer.0, c.requires.answer.1) }
 
 pub returns : goal.returns
 returns g c = outcomes-put (g.O.Outcome.are c.args.self.now.outcome.now) c.args.self.now.regex.now c.args.self.now.haystacks.now

@@ -1,0 +1,5 @@
+use Rattle.rx_scan.proofs.CountedLemmas.{counts-more}
+use Rattle.rx_scan.proofs.counted.CountedOutcome.put.Goals as goal
+
+pub returns : goal.returns
+returns c = ?
