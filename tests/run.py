@@ -18,7 +18,7 @@ A table is a text of cases with an empty line between them. A case is made of th
                       that is not ASCII, and what it had told by then is right
     ? N               the exit status that is wanted, 0 without one
 
-Cases of a program that is not named are left out. Each run that ends otherwise is printed with the place of its case. The last
+Cases of a program that is not named are left out. There are as many runs at once as there are processors. Each run that ends otherwise is printed with the place of its case. The last
 line is `N passed, M failed`, and the exit status is 1 where one failed, and 2 where a table cannot be read.
 """
 import ast
@@ -27,6 +27,7 @@ import re
 import shlex
 import subprocess
 import sys
+from concurrent.futures import ThreadPoolExecutor
 
 FOLDER = os.path.dirname(os.path.abspath(__file__))
 SECONDS = 1200
@@ -179,14 +180,14 @@ def main():
     tables = tables or sorted(os.path.join(FOLDER, name) for name in os.listdir(FOLDER) if name.endswith('.txt'))
     passed = failed = 0
     try:
-        for case in [case for table in tables for case in cases_of(table)]:
-            for program, *words in case.runs or WITHOUT_WORDS:
-                if program not in programs:
-                    continue
-                wrong = fault(programs[program], words, case)
+        cases = [case for table in tables for case in cases_of(table)]
+        runs = [(case, run) for case in cases for run in case.runs or WITHOUT_WORDS if run[0] in programs]
+        with ThreadPoolExecutor(os.cpu_count()) as pool:
+            faults = pool.map(lambda it: fault(programs[it[1][0]], it[1][1:], it[0]), runs)
+            for (case, run), wrong in zip(runs, faults):
                 passed, failed = passed + (not wrong), failed + bool(wrong)
                 if wrong:
-                    print('%s: %s: %s' % (case.place, shlex.join([program] + words), wrong), flush=True)
+                    print('%s: %s: %s' % (case.place, shlex.join(run), wrong), flush=True)
     except (BadTable, OSError) as error:
         print(error)
         print('%d passed, %d failed' % (passed, failed + 1))
