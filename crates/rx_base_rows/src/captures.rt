@@ -44,9 +44,11 @@ fn room_for_all_groups_or_fewer(rt: HostRuntime) {
 }
 
 /// Puts these places into the slots.
-fn put(slots: &mut [Option<NonMaxUsize>], places: &[usize]) {
-    for (slot, place) in slots.iter_mut().zip(places.iter()) {
-        *slot = NonMaxUsize::new(*place);
+fn put(slots: &mut [Option<NonMaxUsize>], places: [usize; 4]) {
+    for k in 0..slots.len() {
+        if k < 4 {
+            slots[k] = NonMaxUsize::new(places[k]);
+        }
     }
 }
 
@@ -55,7 +57,7 @@ fn matched(rt: &impl Abort, alloc: Global) -> Captures {
     let made = Captures::all(alloc, &groups(rt, alloc)).ok();
     let mut captures = made.expect(rt, "memory");
     captures.set_pattern(Some(PatternID::ZERO));
-    put(captures.slots_mut(), &[1, 3, 2, 3]);
+    put(captures.slots_mut(), [1, 3, 2, 3]);
     captures
 }
 
