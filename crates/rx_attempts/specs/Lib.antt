@@ -2,6 +2,7 @@ pub mod Inputs
 pub mod Candidates
 pub mod Premises
 pub mod Refusals
+pub mod Stops
 pub mod Whole
 pub mod Suffix
 pub mod Inner

@@ -10,11 +10,13 @@ ghost use Rattle.rx_dfa.specs.Search.{IsAnswerFor};
 ghost use Rattle.rx_attempts.specs.Candidates.{AreNotEmpty};
 ghost use Rattle.rx_attempts.specs.Premises.{IsByInner};
 ghost use Rattle.rx_attempts.specs.Refusals.{InnerFails};
+ghost use Rattle.rx_attempts.specs.Stops.{StopsBy};
 ghost use Rattle.rx_attempts.specs.Whole.{match_found};
 ghost use Rattle.rx_attempts.specs.Inner.{IsTurn, IsTried, TakesFew};
 ghost use Rattle.rx_attempts.specs.Counts.{HasCounted, HasTried};
 
 use crate::parts::{match_or_stop, next_candidate, up_to};
+use crate::patience::{MOST, Patience, Stop, is_lost, left_after};
 use rx_dfa::Automaton;
 use rx_limited::{Quadratic, RetryError, rev_limited};
 use rx_prefilter::Prefilter;
@@ -33,7 +35,8 @@ use std::sync::ledger::Ledger;
 ///
 /// `Quadratic` from a candidate before which none is confirmed: as by `rev_limited`, where bytes under the end of the candidate before
 /// it would be read again, or a later start was found than that of the span; and where the candidate lies before the place at which the
-/// last search forwards stopped. `Fail` with the place at which an automaton quit, or gave up; `Memory`.
+/// last search forwards stopped. `Fail` with the place at which an automaton quit, or gave up; `Memory`. `Dense`, where the patience was
+/// short and is lost.
 pub fn reverse_inner_attempt<F: Automaton, B: Automaton, L: Ledger>(
     pre: &Prefilter,
     fwd: &F,
@@ -41,8 +44,9 @@ pub fn reverse_inner_attempt<F: Automaton, B: Automaton, L: Ledger>(
     rev: &B,
     rev_cache: &mut B::Cache,
     input: &Input<'_>,
+    patience: Patience,
     steps: &mut Steps<L>,
-) -> Result<Option<Match>, RetryError>
+) -> Result<Option<Match>, Stop>
     requires fwd_fits { F.fits fwd.now fwd_cache.old }
     requires rev_fits { B.fits rev.now rev_cache.old }
     requires forward { (F.dfa fwd.now).nfa.reverse ≡ false }
@@ -53,8 +57,8 @@ pub fn reverse_inner_attempt<F: Automaton, B: Automaton, L: Ledger>(
         → IfOk result (IsAnswerFor (F.dfa fwd.now).kind r input.now match_value) }
     ensures within { IfOk result (λ found. IfSome found (LiesIn input.now)) }
     ensures in_range { IfOk result (λ found. IfSome found (λ m. m.pattern < length (F.dfa fwd.now).nfa.starts)) }
-    ensures err { IfErr result (InnerFails (F.dfa fwd.now) (B.dfa rev.now) pre.now input.now (F.gives_up fwd.now fwd_cache.new) (F.wants fwd.now)
-        (B.gives_up rev.now rev_cache.new) (B.wants rev.now)) }
+    ensures err { IfErr result (StopsBy patience (InnerFails (F.dfa fwd.now) (B.dfa rev.now) pre.now input.now (F.gives_up fwd.now fwd_cache.new)
+        (F.wants fwd.now) (B.gives_up rev.now rev_cache.new) (B.wants rev.now))) }
     ensures ticks { input.now.earliest ≡ false
         → IfOk result (HasCounted (F.dfa fwd.now) (B.dfa rev.now) pre.now input.now (λ s. s.start) steps.old steps.new) }
     ensures few { steps.new ≤ steps.old + 8 * (span_len input.now + 1) }
@@ -68,13 +72,18 @@ pub fn reverse_inner_attempt<F: Automaton, B: Automaton, L: Ledger>(
     let mut from = input.start();
     let mut min_start = 0;
     let mut stopped = 0;
+    let mut left = MOST;
     'candidates: while let Some(found) = next_candidate(pre, input, from) {
+        left = left_after(left, found.start - from);
+        if is_lost(patience, left) {
+            return Err(Stop::Dense);
+        }
         let guards = Guards { min_start, stopped };
         let tried = match try_candidate(
             fwd, fwd_cache, rev, rev_cache, input, found, guards, steps,
         ) {
             Ok(tried) => tried,
-            Err(error) => return Err(error),
+            Err(error) => return Err(Stop::Retry(error)),
         };
         stopped = match tried {
             Ok(whole) => return Ok(Some(whole)),
@@ -124,7 +133,8 @@ fn try_candidate<F: Automaton, B: Automaton, L: Ledger>(
         → IfErr result (InnerFails (F.dfa fwd.now) (B.dfa rev.now) needles input.now (F.gives_up fwd.now fwd_cache.new) (F.wants fwd.now)
         (B.gives_up rev.now rev_cache.new) (B.wants rev.now)) }
     ensures ticks { (needles : List (List ℕ)) → input.now.earliest ≡ false
-        → IfOk result (HasTried (F.dfa fwd.now) (B.dfa rev.now) needles input.now (λ s. s.start) found steps.old steps.new) }
+        → IfOk result (HasTried (F.dfa fwd.now) (B.dfa rev.now) needles input.now (λ s. s.start) found guards.min_start guards.stopped
+        steps.old steps.new) }
     ensures few { IfOk result (λ told. IfErr told (λ place. TakesFew input.now found.start guards.min_start steps.old steps.new place)) }
     ensures most { steps.new ≤ steps.old + 2 * span_len input.now + 2 }
     ensures fwd_fits { F.fits fwd.now fwd_cache.new }

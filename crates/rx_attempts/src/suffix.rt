@@ -14,11 +14,13 @@ ghost use Rattle.rx_limited.specs.Retry.{JustFails};
 ghost use Rattle.rx_attempts.specs.Inputs.{from_start};
 ghost use Rattle.rx_attempts.specs.Premises.{IsBySuffix};
 ghost use Rattle.rx_attempts.specs.Refusals.{SuffixFails};
+ghost use Rattle.rx_attempts.specs.Stops.{StopsBy};
 ghost use Rattle.rx_attempts.specs.Whole.{IsWhole};
 ghost use Rattle.rx_attempts.specs.Suffix.{FirstSuffix, BackFails};
 ghost use Rattle.rx_attempts.specs.Counts.{HasCounted, HasCountedBack};
 
 use crate::parts::{match_or_stop, next_candidate, up_to};
+use crate::patience::{MOST, Patience, Stop, is_lost, left_after};
 use rx_dfa::Automaton;
 use rx_limited::{RetryError, rev_limited};
 use rx_prefilter::Prefilter;
@@ -36,7 +38,7 @@ use std::sync::ledger::Ledger;
 ///
 /// `Quadratic` as by `rev_limited`, from a candidate before which none is confirmed: bytes under the end of the candidate before it
 /// would be read again, or a later start was found than that of the span. `Fail` with the place at which an automaton quit, or gave
-/// up; `Memory`.
+/// up; `Memory`. `Dense`, where the patience was short and is lost.
 pub fn reverse_suffix_attempt<F: Automaton, B: Automaton, L: Ledger>(
     pre: &Prefilter,
     fwd: &F,
@@ -44,8 +46,9 @@ pub fn reverse_suffix_attempt<F: Automaton, B: Automaton, L: Ledger>(
     rev: &B,
     rev_cache: &mut B::Cache,
     input: &Input<'_>,
+    patience: Patience,
     steps: &mut Steps<L>,
-) -> Result<Option<Match>, RetryError>
+) -> Result<Option<Match>, Stop>
     requires fwd_fits { F.fits fwd.now fwd_cache.old }
     requires rev_fits { B.fits rev.now rev_cache.old }
     requires forward { (F.dfa fwd.now).nfa.reverse ≡ false }
@@ -56,8 +59,8 @@ pub fn reverse_suffix_attempt<F: Automaton, B: Automaton, L: Ledger>(
         → IfOk result (IsAnswerFor (F.dfa fwd.now).kind r input.now match_value) }
     ensures within { IfOk result (λ found. IfSome found (LiesIn input.now)) }
     ensures in_range { IfOk result (λ found. IfSome found (λ m. m.pattern < length (F.dfa fwd.now).nfa.starts)) }
-    ensures err { IfErr result (SuffixFails (F.dfa fwd.now) (B.dfa rev.now) pre.now input.now (F.gives_up fwd.now fwd_cache.new) (F.wants fwd.now)
-        (B.gives_up rev.now rev_cache.new) (B.wants rev.now)) }
+    ensures err { IfErr result (StopsBy patience (SuffixFails (F.dfa fwd.now) (B.dfa rev.now) pre.now input.now (F.gives_up fwd.now fwd_cache.new)
+        (F.wants fwd.now) (B.gives_up rev.now rev_cache.new) (B.wants rev.now))) }
     ensures ticks { input.now.earliest ≡ false
         → IfOk result (HasCounted (F.dfa fwd.now) (B.dfa rev.now) pre.now input.now (λ s. s.end) steps.old steps.new) }
     ensures few { steps.new ≤ steps.old + 8 * (span_len input.now + 1) }
@@ -68,13 +71,16 @@ pub fn reverse_suffix_attempt<F: Automaton, B: Automaton, L: Ledger>(
     if input.is_done() {
         return Ok(None);
     }
-    let begins = match first_start(pre, rev, rev_cache, input, steps) {
+    let begins = match first_start(pre, rev, rev_cache, input, patience, steps) {
         Ok(begins) => begins,
-        Err(error) => return Err(error),
+        Err(stop) => return Err(stop),
     };
-    match begins {
-        Some(start) => match_from(fwd, fwd_cache, input, start, steps),
-        None => Ok(None),
+    let Some(start) = begins else {
+        return Ok(None);
+    };
+    match match_from(fwd, fwd_cache, input, start, steps) {
+        Ok(found) => Ok(found),
+        Err(error) => Err(Stop::Retry(error)),
     }
 }
 
@@ -84,15 +90,16 @@ fn first_start<B: Automaton, L: Ledger>(
     rev: &B,
     rev_cache: &mut B::Cache,
     input: &Input<'_>,
+    patience: Patience,
     steps: &mut Steps<L>,
-) -> Result<Option<HalfMatch>, RetryError>
+) -> Result<Option<HalfMatch>, Stop>
     requires fits { B.fits rev.now rev_cache.old }
     requires reverse { (B.dfa rev.now).nfa.reverse ≡ true }
     requires suffix { (s : List ℕ) × (pre.now ≡ s ∷ []) × (0 < length s) }
     requires in_order { input.now.start ≤ input.now.end }
     ensures first { IfOk result (FirstSuffix (B.dfa rev.now) pre.now input.now) }
     ensures lies { IfOk result (λ found. IfSome found (HalfLiesIn input.now)) }
-    ensures err { IfErr result (BackFails (B.dfa rev.now) pre.now input.now (B.gives_up rev.now rev_cache.new) (B.wants rev.now)) }
+    ensures err { IfErr result (StopsBy patience (BackFails (B.dfa rev.now) pre.now input.now (B.gives_up rev.now rev_cache.new) (B.wants rev.now))) }
     ensures ticks { (fwd : Dfa) → IfOk result (HasCountedBack fwd (B.dfa rev.now) pre.now input.now (λ s. s.end) steps.old steps.new) }
     ensures few { steps.new ≤ steps.old + 4 * span_len input.now }
     ensures fits { B.fits rev.now rev_cache.new }
@@ -100,11 +107,16 @@ fn first_start<B: Automaton, L: Ledger>(
     let _haystack = input.haystack();
     let mut from = input.start();
     let mut min_start = 0;
+    let mut left = MOST;
     'candidates: while let Some(found) = next_candidate(pre, input, from) {
+        left = left_after(left, found.start - from);
+        if is_lost(patience, left) {
+            return Err(Stop::Dense);
+        }
         let part = up_to(input, found.end);
         let begins = match rev_limited(rev, rev_cache, &part, min_start, steps) {
             Ok(begins) => begins,
-            Err(error) => return Err(error),
+            Err(error) => return Err(Stop::Retry(error)),
         };
         if let Some(start) = begins {
             return Ok(Some(start));

@@ -27,13 +27,15 @@ use Rattle.rx_dfa.specs.declared.lazy.lazy_cache.LazyCache.{LazyCache}
 use Rattle.rx_order.specs.Inner.{inner_of}
 use Rattle.rx_order.specs.Tests.{inner_has_no_earlier}
 use Rattle.rx_strategy.specs.Attempts.{HasSuffix, HasInner}
+use Rattle.rx_onepass.specs.Dfa.{Dfa as OnceDfa, explicit_slots}
 use Rattle.rx_strategy.specs.Availability.{is_within, may_be_lazy, table_memory, AreDfasBeside}
-use Rattle.rx_strategy.specs.Config.{kind_of, prefilter_of, auto_prefilter_of, utf8_of, compiler_of, reverse_compiler_of, prefix_compiler_of, asks_for_dfas, dfa_of, hybrid_of, is_leftmost}
+use Rattle.rx_strategy.specs.Config.{kind_of, prefilter_of, auto_prefilter_of, utf8_of, compiler_of, reverse_compiler_of, prefix_compiler_of, asks_for_dfas, dfa_of, hybrid_of, onepass_of, is_leftmost}
 use Rattle.rx_strategy.specs.Config.{dfa_size_limit_of, dfa_state_limit_of, hybrid_cache_capacity_of}
 use Rattle.rx_strategy.specs.Core.{CoreValue, IsCoreFor, IsCoreOf, core_memory, reverse_memory}
 use Rattle.rx_strategy.specs.Dfas.{pair_of, tables_memory as full_memory, are_lazy, FitsLazies, states_memory as lazy_memory}
 use Rattle.rx_strategy.specs.Impossible.{is_always_anchored_start}
 use Rattle.rx_strategy.specs.Prefix.{PrefixValue, dfa_in, dfa_of as prefix_dfa_of, prefix_limit, IsSortOf, HasNoPrefix, table_of, is_lazy_sort, prefix_states, FitsSort}
+use Rattle.rx_strategy.specs.OnePass.{IsOnePassOf, wants_onepass, accounted_onepass, onepass_memory as once_memory}
 use Rattle.rx_strategy.specs.declared.dfas.Dfas.{Dfas}
 use Rattle.rx_strategy.specs.declared.dfas.Dfas.TheVariants.{Absent, Full, Lazy}
 use Rattle.rx_strategy.specs.declared.lazies.Lazies.{Lazies}
@@ -59,11 +61,11 @@ use Rattle.rx_syntax.specs.Patterns.{all_read}
 use Rattle.rx_thompson.specs.Error.{error_of as compiler_error_of}
 use Rattle.rx_meta.specs.Cache.{CacheValue, Fits, IsAsMadeFor, accounted_for, states_memory}
 use Rattle.rx_meta.specs.Impossible.{IsKnownImpossible}
-use Rattle.rx_meta.specs.Build.{patterns_for, AreFew, AreAllowed, engine_memory, cache_memory, nfas_memory, memory_beside, memory_by, cache_memory_by, prefilter_by, least_capacity, HasRoom, HaveNoDfa, IsBuilt, IsBuiltOf, IsRefusal, IsRefused, IsRefusedFor}
+use Rattle.rx_meta.specs.Build.{patterns_for, AreFew, AreAllowed, engine_memory, onepass_cache, cache_memory, nfas_memory, memory_beside, memory_by, cache_memory_by, prefilter_by, least_capacity, HasRoom, HaveNoDfa, IsBuilt, IsBuiltOf, IsRefusal, IsRefused, IsRefusedFor}
 use Rattle.rx_meta.specs.Error.{error_of}
 use Rattle.rx_meta.specs.Name.{Way, by_literals, from_end, by_suffix, by_inner, plain, chosen, accounted, is_fast, end_alone, suffix_by, inner_by, literals_or, from_end_or, suffix_or, inner_or_plain, way_for, way_name, accelerated_by, is_fast_by}
 use Rattle.rx_meta.specs.Reading.{reading_of}
-use Rattle.rx_meta.specs.Regex.{RegexValue, Serves, kind_in, groups_in, pattern_count, properties_in, prefilter_in, regex_memory, tables_memory, has_lazy, has_dfas, reads_prefix, is_all_lazy, name_of, is_accelerated, IsMadeUnder}
+use Rattle.rx_meta.specs.Regex.{RegexValue, Serves, kind_in, groups_in, pattern_count, properties_in, prefilter_in, regex_memory, onepass_memory, tables_memory, has_onepass, has_lazy, has_dfas, reads_prefix, is_all_lazy, name_of, is_accelerated, IsMadeUnder}
 use Rattle.rx_meta.specs.declared.error.BuildError.{BuildError}
 use Rattle.rx_meta.specs.declared.error.BuildError.TheVariants.{Syntax, NFA, Memory}
 use Rattle.rx_meta.proofs.NameLemmas.{not-inner, same-prefix, none-reads}
@@ -76,16 +78,16 @@ allowed-of : (c : Config) (hs : List Expression) → AreAllowedStates (compiler_
 allowed-of c hs allowed = record { few = few-of hs allowed.few; states = allowed.states; size = allowed.size }
 
 -- a part that was cut at the greatest number of 64 bits cuts no more than the whole
-min-once : (a b c d e : ℕ) → min (2 ^ 64 - 1) (a + min (2 ^ 64 - 1) (b + c + d + e)) ≡ min (2 ^ 64 - 1) (a + b + (c + d) + e)
-min-once a b c d e = omega arith
+min-once : (a b c d o e : ℕ) → min (2 ^ 64 - 1) (a + min (2 ^ 64 - 1) (b + c + d + o + e)) ≡ min (2 ^ 64 - 1) (a + b + (c + d) + (o + e))
+min-once a b c d o e = omega arith
 
 -- likewise of what is beside it
 min-more : (a b more : ℕ) → min (2 ^ 64 - 1) (min (2 ^ 64 - 1) (a + b) + more) ≡ min (2 ^ 64 - 1) (a + (b + more))
 min-more a b more = omega arith
 
-min-prefixed : (a b needles states table : ℕ)
-    → min (2 ^ 64 - 1) (min (2 ^ 64 - 1) (a + b) + needles + (states + table)) ≡ min (2 ^ 64 - 1) (a + (b + table + needles + states))
-min-prefixed a b needles states table = omega arith
+min-prefixed : (a o b needles states table : ℕ)
+    → min (2 ^ 64 - 1) (min (2 ^ 64 - 1) (a + (o + b)) + needles + (states + table)) ≡ min (2 ^ 64 - 1) (a + (o + (b + table) + needles + states))
+min-prefixed a o b needles states table = omega arith
 
 -- what is accounted for the NFA that reads backwards
 back-memory : (k : CompilerConfig) (hs : List Expression) (o : Option Nfa) (b : Bool) → is_some o ≡ b → IfSome o (IsCompiled k hs)
@@ -100,6 +102,18 @@ back-runs c hs None made = tt
 back-runs c hs (Some back) made =
     let runs = made.reverse_runs refl (utf8_of c) in
     record { patterns = runs.patterns; each = runs.each; all = runs.all }
+
+-- the cache of a one-pass DFA, where there is one
+once-cache : (c : Config) (nfa : Nfa) (h : Expression) (o : Option OnceDfa) (hs : List Expression) → IsOnePassOf c nfa h o → nfa.slots ≡ slots_of hs
+    → length nfa.starts ≡ length hs → accounted_onepass o ≡ (if is_some o then onepass_cache hs else 0)
+once-cache c nfa h None hs is slots count = refl
+once-cache c nfa h (Some d) hs is slots count =
+    ap (λ (n : Nfa). 8 * explicit_slots n) is.1.nfa_is ∙ (λ i. 8 * (slots i - 2 * count i))
+
+-- which is there only where one may be used
+once-gone : (c : Config) (nfa : Nfa) (h : Expression) (o : Option OnceDfa) → IsOnePassOf c nfa h o → onepass_of c ≡ false → is_some o ≡ false
+once-gone c nfa h None is off = refl
+once-gone c nfa h (Some d) is off = absurd (true≢false (sym (and_parts (onepass_of c) (wants_onepass h) is.0).0 ∙ off))
 
 -- the tables of full DFAs, which are there only where they are asked for
 dfas-tables : (c : Config) (nfa : Nfa) (reverse : Option Nfa) (dfas : Dfas) → AreDfasBeside c nfa reverse dfas → dfa_of c ≡ false → full_memory dfas ≡ 0
@@ -219,34 +233,39 @@ module _ (c : Config) (hs : List Expression) (core : CoreValue) (made : IsCoreOf
       let both = dfas-states c core.nfa core.reverse core.dfas made.dfas on rooms.lazies fits in omega arith
   core-states on false (Some rooms) fits more = omega arith
 
-  core-accounted : min (2 ^ 64 - 1) (64 * (length core.nfa.starts + 1) + core_memory core) ≡ memory_beside c hs (full_memory core.dfas)
+  core-accounted : min (2 ^ 64 - 1) (64 * (length core.nfa.starts + 1) + core_memory core)
+      ≡ memory_beside c hs (once_memory core.onepass.dfa + full_memory core.dfas)
   unfolding states
   core-accounted =
       let back : reverse_memory core.reverse ≡ (if asks_for_dfas c then states else 0) =
       back-memory (reverse_compiler_of c) hs core.reverse (asks_for_dfas c) made.asked made.reverse in
       ap (min (2 ^ 64 - 1))
       (λ i. 64 * (core-count i + 1)
-      + min (2 ^ 64 - 1) (prefilter_memory (made.pre i) + state_size * made.compiled.accounted i + back i + full_memory core.dfas))
-      ∙ min-once (64 * (length hs + 1)) (prefilter_memory (prefilter_for c hs)) states (if asks_for_dfas c then states else 0) (full_memory core.dfas)
+      + min (2 ^ 64 - 1) (prefilter_memory (made.pre i) + state_size * made.compiled.accounted i + back i + once_memory core.onepass.dfa
+      + full_memory core.dfas))
+      ∙ min-once (64 * (length hs + 1)) (prefilter_memory (prefilter_for c hs)) states (if asks_for_dfas c then states else 0)
+      (once_memory core.onepass.dfa) (full_memory core.dfas)
 
-  core-cache : accounted_core core ≡ cache_memory c hs
+  core-cache : accounted_core core ≡ cache_memory c hs (is_some core.onepass.dfa)
   core-cache =
       let one : accounted_memory core.nfa ≡ engine_memory hs = (λ i. min (2 ^ 64 - 1) (16 * made.compiled.accounted i * made.compiled.slots i)) in
-      λ i. min (2 ^ 64 - 1) (one i + (if made.backtracks i then one i else 0))
+      let once = once-cache c core.nfa (alternation (expressions hs)) core.onepass.dfa hs made.onepass.dfa made.compiled.slots core-count in
+      λ i. min (2 ^ 64 - 1) (one i + once i + (if made.backtracks i then one i else 0))
 
   -- .. and beside it for a search for literals, and for what reads their prefix
   core-beside : (more : ℕ) → min (2 ^ 64 - 1) (min (2 ^ 64 - 1) (64 * (length core.nfa.starts + 1) + core_memory core) + more)
-      ≡ memory_beside c hs (full_memory core.dfas + more)
+      ≡ memory_beside c hs (once_memory core.onepass.dfa + full_memory core.dfas + more)
   core-beside more =
       ap (λ n. min (2 ^ 64 - 1) (n + more)) core-accounted
-      ∙ min-more (64 * (length hs + 1) + prefilter_memory (prefilter_for c hs) + nfas_memory c hs) (full_memory core.dfas) more
+      ∙ min-more (64 * (length hs + 1) + prefilter_memory (prefilter_for c hs) + nfas_memory c hs) (once_memory core.onepass.dfa + full_memory core.dfas) more
 
   core-prefixed : (needles table states : ℕ)
       → min (2 ^ 64 - 1) (min (2 ^ 64 - 1) (64 * (length core.nfa.starts + 1) + core_memory core) + needles + (states + table))
-      ≡ memory_beside c hs (full_memory core.dfas + table + needles + states)
+      ≡ memory_beside c hs (once_memory core.onepass.dfa + (full_memory core.dfas + table) + needles + states)
   core-prefixed needles table states =
       ap (λ n. min (2 ^ 64 - 1) (n + needles + (states + table))) core-accounted
-      ∙ min-prefixed (64 * (length hs + 1) + prefilter_memory (prefilter_for c hs) + nfas_memory c hs) (full_memory core.dfas) needles states table
+      ∙ min-prefixed (64 * (length hs + 1) + prefilter_memory (prefilter_for c hs) + nfas_memory c hs) (once_memory core.onepass.dfa) (full_memory core.dfas) needles
+      states table
 
   core-there : hybrid_of c ≡ true → least_capacity hs ≤ hybrid_cache_capacity_of c → is_some (pair_of core.dfas) ≡ true
   core-there on fits =
@@ -335,7 +354,7 @@ some-not-none o needles some none = none-is-some (sym none ∙ some)
 
 built-pre : (c : Config) (hs : List Expression) (p : PreValue) → IsPreOf c hs p → AreAllowedStates (compiler_of c) hs
     → IsBuilt c hs (record { config = c; strategy = Pre p })
-unfolding kind_in Serves pattern_count groups_in regex_memory tables_memory has_lazy has_dfas reads_prefix is_all_lazy name_of is_accelerated IsMadeUnder accounted_for Fits IsAsMadeFor states_memory properties_in prefilter_in IsKnownImpossible strategy_name
+unfolding kind_in Serves pattern_count groups_in regex_memory onepass_memory tables_memory has_onepass has_lazy has_dfas reads_prefix is_all_lazy name_of is_accelerated IsMadeUnder accounted_for Fits IsAsMadeFor states_memory properties_in prefilter_in IsKnownImpossible strategy_name
 built-pre c hs p made allowed =
     let one = one-of p.needles hs made.whole in
     let of : IsPreFor p (patterns_for c hs) =
@@ -344,6 +363,7 @@ built-pre c hs p made allowed =
     record {
       config = refl;
       made = made;
+      no_onepass = λ off. refl;
       no_tables = λ off. refl;
       small_tables = no-quarter (dfa_size_limit_of c);
       no_lazy = λ off. refl;
@@ -355,7 +375,7 @@ built-pre c hs p made allowed =
       ordered = pre-ordered p (patterns_for c hs) of;
       allowed = allowed-of c hs allowed;
       memory = ap (λ w. memory_by w c hs 0) (sym way);
-      cache = with-literals (λ o. cache_memory_by o c hs) c hs p.needles made.literals;
+      cache = with-literals (λ o. cache_memory_by o c hs false) c hs p.needles made.literals;
       properties = made.properties;
       impossible = λ v known. (hs, made.properties, known);
       pre = with-literals (λ o. prefilter_by o c hs) c hs p.needles made.literals;
@@ -490,12 +510,13 @@ module _ (c : Config) (hs : List Expression) (core : CoreValue) (plainly : IsPla
 
   built-anchored : is_from_end (TheCore core) (alternation (expressions hs)) ≡ true
       → IsBuilt c hs (record { config = c; strategy = ReverseAnchored (TheCore core) })
-  unfolding kind_in Serves pattern_count groups_in regex_memory tables_memory has_lazy has_dfas reads_prefix is_all_lazy name_of is_accelerated IsMadeUnder accounted_for Fits IsAsMadeFor states_memory properties_in prefilter_in IsKnownImpossible strategy_name has
+  unfolding kind_in Serves pattern_count groups_in regex_memory onepass_memory tables_memory has_onepass has_lazy has_dfas reads_prefix is_all_lazy name_of is_accelerated IsMadeUnder accounted_for Fits IsAsMadeFor states_memory properties_in prefilter_in IsKnownImpossible strategy_name has
   built-anchored is =
       let way = way-from-end c hs core plainly (λ prefix. false) is in
       record {
         config = refl;
         made = (plainly, is);
+        no_onepass = once-gone c core.nfa (alternation (expressions hs)) core.onepass.dfa made.onepass.dfa;
         no_tables = dfas-tables c core.nfa core.reverse core.dfas made.dfas;
         small_tables = dfas-small c core.nfa core.reverse core.dfas made.dfas;
         no_lazy = dfas-lazy c core.nfa core.reverse core.dfas made.dfas;
@@ -506,8 +527,8 @@ module _ (c : Config) (hs : List Expression) (core : CoreValue) (plainly : IsPla
         groups = made.compiled.groups;
         ordered = made.compiled.ordered;
         allowed = allowed-of c hs allowed;
-        memory = core-accounted c hs core made ∙ ap (λ w. memory_by w c hs (full_memory core.dfas)) (sym way);
-        cache = core-cache c hs core made ∙ without (λ o. cache_memory_by o c hs) c hs plainly.literals;
+        memory = core-accounted c hs core made ∙ ap (λ w. memory_by w c hs (once_memory core.onepass.dfa + full_memory core.dfas)) (sym way);
+        cache = core-cache c hs core made ∙ without (λ o. cache_memory_by o c hs (is_some core.onepass.dfa)) c hs plainly.literals;
         properties = made.properties;
         impossible = λ v known. (hs, made.properties, known);
         pre = made.pre ∙ without (λ o. prefilter_by o c hs) c hs plainly.literals;
@@ -527,7 +548,7 @@ module _ (c : Config) (hs : List Expression) (core : CoreValue) (plainly : IsPla
 
     built-core : suffix_for c (TheCore core) hs ≡ None → HasNoInner c (inner_for c (TheCore core) hs)
         → IsBuilt c hs (record { config = c; strategy = Core (TheCore core) })
-    unfolding kind_in Serves pattern_count groups_in regex_memory tables_memory has_lazy has_dfas reads_prefix is_all_lazy name_of is_accelerated IsMadeUnder accounted_for Fits IsAsMadeFor states_memory properties_in prefilter_in IsKnownImpossible strategy_name has
+    unfolding kind_in Serves pattern_count groups_in regex_memory onepass_memory tables_memory has_onepass has_lazy has_dfas reads_prefix is_all_lazy name_of is_accelerated IsMadeUnder accounted_for Fits IsAsMadeFor states_memory properties_in prefilter_in IsKnownImpossible strategy_name has
     built-core none gone =
         let found = inner_for c (TheCore core) hs in
         let way = way-endless c hs core plainly (λ prefix. false) forwards none found refl ∙ none-reads found in
@@ -536,6 +557,7 @@ module _ (c : Config) (hs : List Expression) (core : CoreValue) (plainly : IsPla
         record {
           config = refl;
           made = (record { forwards = core-forwards; no_suffix = none }, gone);
+          no_onepass = once-gone c core.nfa (alternation (expressions hs)) core.onepass.dfa made.onepass.dfa;
           no_tables = dfas-tables c core.nfa core.reverse core.dfas made.dfas;
           small_tables = dfas-small c core.nfa core.reverse core.dfas made.dfas;
           no_lazy = dfas-lazy c core.nfa core.reverse core.dfas made.dfas;
@@ -546,8 +568,8 @@ module _ (c : Config) (hs : List Expression) (core : CoreValue) (plainly : IsPla
           groups = made.compiled.groups;
           ordered = made.compiled.ordered;
           allowed = allowed-of c hs allowed;
-          memory = core-accounted c hs core made ∙ ap (λ w. memory_by w c hs (full_memory core.dfas)) (sym way);
-          cache = core-cache c hs core made ∙ without (λ o. cache_memory_by o c hs) c hs plainly.literals;
+          memory = core-accounted c hs core made ∙ ap (λ w. memory_by w c hs (once_memory core.onepass.dfa + full_memory core.dfas)) (sym way);
+          cache = core-cache c hs core made ∙ without (λ o. cache_memory_by o c hs (is_some core.onepass.dfa)) c hs plainly.literals;
           properties = made.properties;
           impossible = λ v known. (hs, made.properties, known);
           pre = made.pre ∙ without (λ o. prefilter_by o c hs) c hs plainly.literals;
@@ -565,7 +587,7 @@ module _ (c : Config) (hs : List Expression) (core : CoreValue) (plainly : IsPla
 
     built-by-suffix : (needles : List (List ℕ)) → IsSuffixOf c hs (TheCore core) (record { core = TheCore core; needles = needles })
         → IsBuilt c hs (record { config = c; strategy = ReverseSuffix (record { core = TheCore core; needles = needles }) })
-    unfolding kind_in Serves pattern_count groups_in regex_memory tables_memory has_lazy has_dfas reads_prefix is_all_lazy name_of is_accelerated IsMadeUnder accounted_for Fits IsAsMadeFor states_memory properties_in prefilter_in IsKnownImpossible strategy_name has
+    unfolding kind_in Serves pattern_count groups_in regex_memory onepass_memory tables_memory has_onepass has_lazy has_dfas reads_prefix is_all_lazy name_of is_accelerated IsMadeUnder accounted_for Fits IsAsMadeFor states_memory properties_in prefilter_in IsKnownImpossible strategy_name has
     built-by-suffix needles of =
         let way = way-by-suffix c hs core plainly (λ prefix. false) forwards of.suffix of.chosen in
         let served = core-serves c hs core made in
@@ -574,6 +596,7 @@ module _ (c : Config) (hs : List Expression) (core : CoreValue) (plainly : IsPla
         record {
           config = refl;
           made = (core-forwards, of);
+          no_onepass = once-gone c core.nfa (alternation (expressions hs)) core.onepass.dfa made.onepass.dfa;
           no_tables = dfas-tables c core.nfa core.reverse core.dfas made.dfas;
           small_tables = dfas-small c core.nfa core.reverse core.dfas made.dfas;
           no_lazy = dfas-lazy c core.nfa core.reverse core.dfas made.dfas;
@@ -585,9 +608,9 @@ module _ (c : Config) (hs : List Expression) (core : CoreValue) (plainly : IsPla
           ordered = made.compiled.ordered;
           allowed = allowed-of c hs allowed;
           memory = core-beside c hs core made (accounted (chosen needles) needles)
-              ∙ ap (λ (ns : List (List ℕ)). memory_beside c hs (full_memory core.dfas + accounted (chosen ns) ns)) of.needle
-              ∙ ap (λ w. memory_by w c hs (full_memory core.dfas)) (sym way);
-          cache = core-cache c hs core made ∙ without (λ o. cache_memory_by o c hs) c hs plainly.literals;
+              ∙ ap (λ (ns : List (List ℕ)). memory_beside c hs (once_memory core.onepass.dfa + full_memory core.dfas + accounted (chosen ns) ns)) of.needle
+              ∙ ap (λ w. memory_by w c hs (once_memory core.onepass.dfa + full_memory core.dfas)) (sym way);
+          cache = core-cache c hs core made ∙ without (λ o. cache_memory_by o c hs (is_some core.onepass.dfa)) c hs plainly.literals;
           properties = made.properties;
           impossible = λ v known. (hs, made.properties, known);
           pre = made.pre ∙ without (λ o. prefilter_by o c hs) c hs plainly.literals;
@@ -605,7 +628,7 @@ module _ (c : Config) (hs : List Expression) (core : CoreValue) (plainly : IsPla
     built-by-inner : suffix_for c (TheCore core) hs ≡ None → (needles : List (List ℕ)) (prefix : PrefixValue)
         → IsInnerOf c hs (TheCore core) (record { core = TheCore core; needles = needles; prefix = prefix })
         → IsBuilt c hs (record { config = c; strategy = ReverseInner (record { core = TheCore core; needles = needles; prefix = prefix }) })
-    unfolding kind_in Serves pattern_count groups_in regex_memory tables_memory has_lazy has_dfas reads_prefix is_all_lazy name_of is_accelerated IsMadeUnder accounted_for Fits IsAsMadeFor states_memory properties_in prefilter_in IsKnownImpossible strategy_name has
+    unfolding kind_in Serves pattern_count groups_in regex_memory onepass_memory tables_memory has_onepass has_lazy has_dfas reads_prefix is_all_lazy name_of is_accelerated IsMadeUnder accounted_for Fits IsAsMadeFor states_memory properties_in prefilter_in IsKnownImpossible strategy_name has
     built-by-inner none needles prefix of =
         let way = way-endless c hs core plainly (λ p. true) forwards none (Some (of.prefix, needles)) of.chosen in
         let sort = of.reads.sort in
@@ -616,6 +639,7 @@ module _ (c : Config) (hs : List Expression) (core : CoreValue) (plainly : IsPla
         record {
           config = refl;
           made = (record { forwards = core-forwards; no_suffix = none }, of);
+          no_onepass = once-gone c core.nfa (alternation (expressions hs)) core.onepass.dfa made.onepass.dfa;
           no_tables = λ off i. dfas-tables c core.nfa core.reverse core.dfas made.dfas off i + sort-tables c prefix.nfa prefix.sort sort off i;
           small_tables = half-beside (dfa_size_limit_of c) (full_memory core.dfas) table
               (dfas-small c core.nfa core.reverse core.dfas made.dfas) (sort-small c prefix.nfa prefix.sort sort);
@@ -628,9 +652,9 @@ module _ (c : Config) (hs : List Expression) (core : CoreValue) (plainly : IsPla
           ordered = made.compiled.ordered;
           allowed = allowed-of c hs allowed;
           memory = core-prefixed c hs core made (accounted (chosen needles) needles) table (state_size * prefix.nfa.accounted)
-              ∙ ap (λ n. memory_beside c hs (full_memory core.dfas + table + accounted (chosen needles) needles + state_size * n)) states
-              ∙ ap (λ w. memory_by w c hs (full_memory core.dfas + table)) (sym way);
-          cache = core-cache c hs core made ∙ without (λ o. cache_memory_by o c hs) c hs plainly.literals;
+              ∙ ap (λ n. memory_beside c hs (once_memory core.onepass.dfa + (full_memory core.dfas + table) + accounted (chosen needles) needles + state_size * n)) states
+              ∙ ap (λ w. memory_by w c hs (once_memory core.onepass.dfa + (full_memory core.dfas + table))) (sym way);
+          cache = core-cache c hs core made ∙ without (λ o. cache_memory_by o c hs (is_some core.onepass.dfa)) c hs plainly.literals;
           properties = made.properties;
           impossible = λ v known. (hs, made.properties, known);
           pre = made.pre ∙ without (λ o. prefilter_by o c hs) c hs plainly.literals;

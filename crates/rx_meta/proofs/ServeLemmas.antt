@@ -74,13 +74,12 @@ module _ (regex : RegexValue) (v : InputValue) where
   whether-of (Ok there) a = λ r p. a r (premises-of r p)
   whether-of (Err e) a = tt
 
-  -- what an attempt answers, if it has an answer
+  -- what an attempt answers, if it has an answer: no needles are looked for
   pub attempt-of : {E : Type 0} (result : Result (Option MatchValue) E)
-      → ((r : Patterns) → Premises (strategy.IsFor regex.strategy r) (strategy.prefilter_in regex.strategy) r v
-      → IfOk result (IsAnswerFor (strategy.kind_in regex.strategy) r v match_value))
-      → (r : Patterns) → Premises (Serves regex r) (given_needles regex) r v → IfOk result (IsAnswerFor (kind_in regex) r v match_value)
-  unfolding kind_in
-  attempt-of result a r p = a r (premises-of r p)
+      → ((r : Patterns) → Premises (strategy.IsFor regex.strategy r) None r v → IfOk result (IsAnswerFor (strategy.kind_in regex.strategy) r v match_value))
+      → (r : Patterns) → Premises (Serves regex r) None r v → IfOk result (IsAnswerFor (kind_in regex) r v match_value)
+  unfolding Serves kind_in
+  attempt-of result a r p = a r (record { is_for = p.is_for.0; begins = λ off. tt; utf8 = p.utf8 })
 
   -- what is added to a set
   pub adds-of : (old new : List Bool)

@@ -1,5 +1,5 @@
 -- What a build answers.
-use Rattle.std.specs.Prelude.{◌≡◌, ℕ, true, false, ◌+◌, ◌-◌, ◌*◌, ◌^◌, ◌/◌, ◌<◌, ◌≤◌, min, List, [], ◌∷◌, length, Option, Some, None, IfSome, IsSomeAnd, slice_get, Ok, Err, if◌then◌else◌}
+use Rattle.std.specs.Prelude.{◌≡◌, ℕ, Bool, true, false, ◌+◌, ◌-◌, ◌*◌, ◌^◌, ◌/◌, ◌<◌, ◌≤◌, min, List, [], ◌∷◌, length, Option, Some, None, IfSome, IsSomeAnd, slice_get, Ok, Err, if◌then◌else◌}
 use Rattle.rx_model.specs.Expression.{Expression, alternation, AreOrdered}
 use Rattle.rx_model.specs.Search.{Patterns}
 use Rattle.rx_search.specs.Input.{InputValue}
@@ -14,12 +14,12 @@ use Rattle.rx_thompson.specs.declared.error.BuildError.{BuildError as CompilerEr
 use Rattle.rx_thompson.specs.declared.error.BuildError.TheVariants.{Syntax as Refused, TooManyPatterns, TooManyGroups, TooManyStates}
 use Rattle.rx_thompson.specs.declared.error.BuildError.TheVariants.{ExceededSizeLimit, Memory as NoMemory}
 use Rattle.rx_meta.specs.Cache.{CacheValue, Fits, IsAsMadeFor, accounted_for, states_memory}
-use Rattle.rx_meta.specs.Config.{Config, kind_of, utf8_of, terminator_of, captures_of, size_limit_of, has_backtracker, asks_for_dfas, dfa_of, hybrid_of, dfa_size_limit_of, dfa_state_limit_of, hybrid_cache_capacity_of}
+use Rattle.rx_meta.specs.Config.{Config, kind_of, utf8_of, terminator_of, captures_of, size_limit_of, has_backtracker, asks_for_dfas, onepass_of, dfa_of, hybrid_of, dfa_size_limit_of, dfa_state_limit_of, hybrid_cache_capacity_of}
 use Rattle.rx_meta.specs.Impossible.{is_impossible, IsKnownImpossible}
 use Rattle.rx_meta.specs.Name.{Way, by_literals, from_end, by_suffix, by_inner, plain, literals_for, chosen, accounted, way_for, way_name, accelerated_by}
 use Rattle.rx_meta.specs.Prefilter.{prefilter_for, prefilter_memory}
 use Rattle.rx_meta.specs.Reading.{reading_of}
-use Rattle.rx_meta.specs.Regex.{RegexValue, Serves, kind_in, groups_in, pattern_count, properties_in, prefilter_in, regex_memory, tables_memory, has_lazy, has_dfas, reads_prefix, is_all_lazy, name_of, is_accelerated, IsMadeUnder}
+use Rattle.rx_meta.specs.Regex.{RegexValue, Serves, kind_in, groups_in, pattern_count, properties_in, prefilter_in, regex_memory, onepass_memory, tables_memory, has_onepass, has_lazy, has_dfas, reads_prefix, is_all_lazy, name_of, is_accelerated, IsMadeUnder}
 use Rattle.rx_meta.specs.declared.error.BuildError.{BuildError}
 use Rattle.rx_meta.specs.declared.error.BuildError.TheVariants.{Syntax, NFA, Memory}
 
@@ -43,9 +43,15 @@ pub record AreAllowed (c : Config) (hs : List Expression) : Type 0 where
 abbrev pub engine_memory : List Expression → ℕ
 engine_memory hs = min (2 ^ 64 - 1) (16 * nfa_states hs * slots_of hs)
 
--- what is accounted for a cache: as much for the backtracker too, where there is one
-abbrev pub cache_memory : Config → List Expression → ℕ
-cache_memory c hs = min (2 ^ 64 - 1) (engine_memory hs + (if has_backtracker c then engine_memory hs else 0))
+-- what is accounted for the cache of a one-pass DFA: 8 for each slot of an explicit group
+abbrev pub onepass_cache : List Expression → ℕ
+onepass_cache hs = 8 * (slots_of hs - 2 * length hs)
+
+-- What is accounted for a cache: for the PikeVM, for the one-pass DFA, where there is one, and as much as for the PikeVM for the
+-- backtracker, where there is one.
+abbrev pub cache_memory : Config → List Expression → (onepass : Bool) → ℕ
+cache_memory c hs onepass =
+    min (2 ^ 64 - 1) (engine_memory hs + (if onepass then onepass_cache hs else 0) + (if has_backtracker c then engine_memory hs else 0))
 
 -- What is accounted for its NFAs: as much for the one that reads backwards, which is there where DFAs are asked for.
 abbrev pub nfas_memory : Config → List Expression → ℕ
@@ -65,9 +71,9 @@ memory_by (by_inner prefix needles) c hs tables = memory_beside c hs (tables + a
 memory_by plain c hs tables = memory_beside c hs tables
 
 -- and for a cache of it, which is nothing where it looks for literals alone
-abbrev pub cache_memory_by : Option (List (List ℕ)) → Config → List Expression → ℕ
-cache_memory_by (Some needles) c hs = 0
-cache_memory_by None c hs = cache_memory c hs
+abbrev pub cache_memory_by : Option (List (List ℕ)) → Config → List Expression → (onepass : Bool) → ℕ
+cache_memory_by (Some needles) c hs onepass = 0
+cache_memory_by None c hs onepass = cache_memory c hs onepass
 
 -- the needles of the prefilter beside its engines, which it has none of there
 abbrev pub prefilter_by : Option (List (List ℕ)) → Config → List Expression → Option (List (List ℕ))
@@ -116,6 +122,8 @@ pub record IsBuilt (c : Config) (hs : List Expression) (regex : RegexValue) : Ty
   pub config : regex.config ≡ c
   -- its engines and its DFAs are those that the configuration has for these expressions
   pub made : IsMadeUnder c hs regex
+  -- a one-pass DFA is there only where one may be used
+  pub no_onepass : onepass_of c ≡ false → has_onepass regex ≡ false
   -- a full DFA is there only where it is asked for, and its table is within a quarter of the limit, or half of it for that of a prefix
   pub no_tables : dfa_of c ≡ false → tables_memory regex ≡ 0
   pub small_tables : IfSome (dfa_size_limit_of c) (λ limit. tables_memory regex ≤ (if reads_prefix regex then limit else limit / 2))
@@ -136,8 +144,8 @@ pub record IsBuilt (c : Config) (hs : List Expression) (regex : RegexValue) : Ty
   -- no count and no cost passes its limit
   pub allowed : AreAllowed c hs
   -- what is accounted for it, and for its caches
-  pub memory : regex_memory regex ≡ memory_by (way_of c hs regex) c hs (tables_memory regex)
-  pub cache : accounted_for regex ≡ cache_memory_by (literals_for c hs) c hs
+  pub memory : regex_memory regex ≡ memory_by (way_of c hs regex) c hs (onepass_memory regex + tables_memory regex)
+  pub cache : accounted_for regex ≡ cache_memory_by (literals_for c hs) c hs (has_onepass regex)
   -- its properties are those of the expressions together, so that it is known where no match is possible
   pub properties : AreOf (alternation (expressions hs)) (properties_in regex)
   pub impossible : (v : InputValue) → is_impossible hs v ≡ true → IsKnownImpossible regex v

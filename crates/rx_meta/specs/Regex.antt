@@ -61,6 +61,14 @@ name_of regex = strategy.name_of regex.strategy
 unfoldable pub is_accelerated : RegexValue → Bool
 is_accelerated regex = strategy.is_accelerated regex.strategy
 
+-- it has a one-pass DFA
+unfoldable pub has_onepass : RegexValue → Bool
+has_onepass regex = strategy.has_onepass regex.strategy
+
+-- what is accounted for the table of that, if it is there
+unfoldable pub onepass_memory : RegexValue → ℕ
+onepass_memory regex = strategy.onepass_in regex.strategy
+
 -- it has DFAs
 unfoldable pub has_dfas : RegexValue → Bool
 has_dfas regex = strategy.has_dfas regex.strategy

@@ -1,7 +1,7 @@
 //! Attempts: searches from candidate to candidate that give up where they would read bytes again, with the number of their steps.
 #![tactic(auto, unfolding(crate::specs::Cache::Fits, crate::specs::Cache::AccountsAlike, crate::specs::Regex::pattern_count, crate::specs::Attempts::SuffixFails, crate::specs::Attempts::InnerFails, crate::specs::Attempts::CountsSuffix, crate::specs::Attempts::CountsInner))]
 
-ghost use Rattle.std.specs.Prelude.{◌≡◌, ◌≤◌, ◌<◌, ◌+◌, ◌*◌, codes, false, IfOk, IfSome};
+ghost use Rattle.std.specs.Prelude.{◌≡◌, ◌≤◌, ◌<◌, ◌+◌, ◌*◌, codes, false, None, IfOk, IfSome};
 ghost use Rattle.std.specs.Result.{IfErr};
 ghost use Rattle.rx_model.specs.Search.{Patterns, is_anchored};
 ghost use Rattle.rx_search.specs.Input.{span_len};
@@ -10,7 +10,7 @@ ghost use Rattle.rx_search.specs.Promise.{Premises};
 ghost use Rattle.rx_search.specs.Told.{LiesIn};
 ghost use Rattle.rx_meta.specs.Attempts.{IsAnswerFor, SuffixFails, InnerFails, CountsSuffix, CountsInner};
 ghost use Rattle.rx_meta.specs.Cache.{Fits, AccountsAlike};
-ghost use Rattle.rx_meta.specs.Regex.{Serves, given_needles, kind_in, pattern_count, name_of};
+ghost use Rattle.rx_meta.specs.Regex.{Serves, kind_in, pattern_count, name_of};
 
 use crate::cache::Cache;
 use crate::regex::Regex;
@@ -39,7 +39,7 @@ pub fn reverse_suffix_attempt<L: Ledger>(
     requires strategy { name_of regex.now ≡ codes "reverse suffix" }
     requires fits { Fits regex.now cache.old }
     requires free { is_anchored input.now.anchor ≡ false }
-    ensures answer { (r : Patterns) → Premises (Serves regex.now r) (given_needles regex.now) r input.now
+    ensures answer { (r : Patterns) → Premises (Serves regex.now r) None r input.now
         → IfOk result (IsAnswerFor (kind_in regex.now) r input.now match_value) }
     ensures within { IfOk result (λ found. IfSome found (LiesIn input.now)) }
     ensures in_range { IfOk result (λ found. IfSome found (λ m. m.pattern < pattern_count regex.now)) }
@@ -69,7 +69,7 @@ pub fn reverse_inner_attempt<L: Ledger>(
     requires strategy { name_of regex.now ≡ codes "reverse inner" }
     requires fits { Fits regex.now cache.old }
     requires free { is_anchored input.now.anchor ≡ false }
-    ensures answer { (r : Patterns) → Premises (Serves regex.now r) (given_needles regex.now) r input.now
+    ensures answer { (r : Patterns) → Premises (Serves regex.now r) None r input.now
         → IfOk result (IsAnswerFor (kind_in regex.now) r input.now match_value) }
     ensures within { IfOk result (λ found. IfSome found (LiesIn input.now)) }
     ensures in_range { IfOk result (λ found. IfSome found (λ m. m.pattern < pattern_count regex.now)) }

@@ -1,6 +1,7 @@
 //! What makes the caches of a regex.
-ghost use Rattle.std.specs.Prelude.{◌≡◌, IfOk};
+ghost use Rattle.std.specs.Prelude.{◌≡◌, IfOk, max, vec_len};
 ghost use Rattle.std.specs.Arc.{arc_value};
+ghost use Rattle.rx_strategy.specs.Config.{pool_capacity_of};
 
 use crate::cache::Cache;
 use rx_search::Memory;
@@ -57,9 +58,10 @@ impl CacheMaker {
         })
     }
 
-    /// Caches of this maker, of which none is made yet, on as many stacks as the configuration says.
+    /// Caches of this maker, of which none is made yet, on as many stacks as the configuration says, and on one at least.
     pub(crate) fn into_pool(self, config: &Config) -> Result<Pool<Cache, CacheMaker>, Memory>
-        ensures { IfOk result (λ pool. pool.maker ≡ self) }
+        ensures maker { IfOk result (λ pool. pool.maker ≡ self) }
+        ensures stacks { IfOk result (λ pool. vec_len pool.stacks ≡ max (pool_capacity_of config.now) 1) }
     {
         Pool::with_capacity(self.alloc, config.get_pool_capacity(), self)
     }

@@ -47,17 +47,21 @@ use std::sync::{Arc, Wait};
 #[derive(Drop)]
 pub struct Regex {
     config: Config,
-    /// Its maker has the strategy.
+    /// Its maker has the strategy, and it has as many stacks as the configuration says.
     caches: Pool<Cache, CacheMaker>,
 }
 
 impl Model for Regex {
+    ghost use Rattle.std.specs.Prelude.{◌≡◌, max, vec_len};
     ghost use Rattle.std.specs.Arc.{arc_value};
+    ghost use Rattle.rx_strategy.specs.Config.{pool_capacity_of};
     ghost use Rattle.rx_meta.specs.Regex.{RegexValue};
 
     ghost Value = { RegexValue };
 
     ghost view = { λ r. record { config = r.config; strategy = arc_value r.caches.maker.strategy } };
+
+    ghost invariant = { λ r. vec_len r.caches.stacks ≡ max (pool_capacity_of r.config) 1 };
 }
 
 impl Regex {
@@ -447,8 +451,8 @@ impl Regex {
     }
 
     /// The bytes that are accounted for the regex. Where it looks for literals alone they are those of that search. Else they are 64 for
-    /// the properties of each pattern and for those of all of them together, and what is accounted for its prefilter, its NFAs and its
-    /// full DFAs, and for the search for the literals by which it goes from candidate to candidate; or the greatest `usize` where they
+    /// the properties of each pattern and for those of all of them together, and what is accounted for its prefilter, its NFAs, its
+    /// one-pass DFA and its full DFAs, and for the search for the literals by which it goes from candidate to candidate; or the greatest `usize` where they
     /// are more.
     #[tactic(auto, unfolding(crate::specs::Regex::regex_memory))]
     pub fn memory_usage(&self) -> usize

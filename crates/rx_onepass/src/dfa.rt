@@ -1,12 +1,14 @@
 //! The one-pass DFA: its table, and what it tells of itself.
-ghost use Rattle.std.specs.Prelude.{◌≡◌, ◌+◌, ◌*◌, ◌^◌, ◌≤◌, length, [], ◌∷◌, None, replicate, IfOk, OnOk, OnErr, IfErr};
+ghost use Rattle.std.specs.Prelude.{◌≡◌, ◌+◌, ◌*◌, ◌^◌, ◌≤◌, length, [], ◌∷◌, None, replicate, IfOk, OnOk, OnErr, IfErr, IfSome};
 ghost use Rattle.rx_model.specs.Expression.{empty};
 ghost use Rattle.rx_reader.specs.Config.{default};
 ghost use Rattle.rx_nfa.specs.Config as nfa_configs;
 ghost use Rattle.rx_search.specs.ByteClasses.{alphabet_len, class_count, IsLeastPower};
 ghost use Rattle.rx_search.specs.GroupInfo.{slot_count};
-ghost use Rattle.rx_onepass_build.specs.Config.{nothing_set};
-ghost use Rattle.rx_onepass.specs.Dfa.{explicit_slots};
+ghost use Rattle.rx_onepass_table.specs.Rows.{IsWhole};
+ghost use Rattle.rx_onepass_build.specs.Config.{nothing_set, size_limit_of};
+ghost use Rattle.rx_onepass_build.specs.Entries.{state_limit};
+ghost use Rattle.rx_onepass.specs.Dfa.{IsSound, explicit_slots};
 ghost use Rattle.rx_onepass.specs.Patterns.{IsBuiltFrom, IsRefusalFrom, IsBuiltByDefault, IsRefusalByDefault};
 
 use crate::build_error::BuildError;
@@ -156,9 +158,12 @@ impl DFA {
         self.nfa.pattern_len()
     }
 
-    /// How many states there are, the dead one among them.
+    /// How many states there are, among them the dead one, which is state 0. Those that tell a match come last.
     pub fn state_len(&self) -> usize
-        ensures { result ≡ self.now.table.rows }
+        ensures value { result ≡ self.now.table.rows }
+        ensures few { result ≤ state_limit }
+        ensures whole { IsWhole self.now.table }
+        ensures sound { IsSound self.now }
     {
         self.built.table.rows()
     }
@@ -184,9 +189,11 @@ impl DFA {
         self.built.table.stride()
     }
 
-    /// The bytes that are accounted for the table: 8 for each cell, and 4 for each start.
+    /// The bytes that are accounted for the table: 8 for each cell, and 4 for each start. They are within the configured limit.
     pub fn memory_usage(&self) -> usize
-        ensures { result ≡ 8 * length self.now.table.cells + 4 * length self.now.starts }
+        ensures value { result ≡ 8 * length self.now.table.cells + 4 * length self.now.starts }
+        ensures cells { length self.now.table.cells ≡ self.now.table.rows * self.now.table.stride }
+        ensures within { IfSome (size_limit_of self.now.config) (λ limit. result ≤ limit) }
     {
         8 * self.cells() + 4 * self.start_len()
     }
@@ -195,6 +202,8 @@ impl DFA {
     fn cells(&self) -> usize
         ensures value { result ≡ length self.now.table.cells }
         ensures small { result ≤ 2 ^ 30 }
+        ensures rows { result ≡ self.now.table.rows * self.now.table.stride }
+        ensures sound { IsSound self.now }
     {
         self.built.table.len()
     }

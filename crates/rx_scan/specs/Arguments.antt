@@ -55,6 +55,7 @@ config_without off = record nothing_set {
   backtrack = Some (not off.backtrack);
   dfa = Some (not off.dfa);
   hybrid = Some (not off.hybrid);
+  onepass = Some (not off.onepass);
 }
 
 abbrev pub is_nonempty : List ℕ → Bool

@@ -8,7 +8,6 @@ ghost use Rattle.rx_gen.specs.Numbers.{number_up_to};
 use rx_gen::number_up_to;
 use rx_meta::Config;
 
-// Each letter is read, also where it changes nothing yet (DECISIONS: the words for workers and for all that can be switched off).
 /// What a scan is to do without. None of it changes a row.
 #[derive(Clone, Copy, Debug, PartialEq, Eq)]
 pub struct Off {
@@ -72,7 +71,7 @@ impl Off {
         auto_prefilter: false,
     };
 
-    /// The configuration of a regex without these. There is no one-pass DFA yet that could be switched off.
+    /// The configuration of a regex without these.
     pub fn config(&self) -> Config
         ensures { result ≡ config_without self.now }
     {
@@ -82,6 +81,7 @@ impl Off {
             .backtrack(!self.backtrack)
             .dfa(!self.dfa)
             .hybrid(!self.hybrid)
+            .onepass(!self.onepass)
     }
 }
 

@@ -9,7 +9,7 @@ use Rattle.rx_search.specs.Matches.{MatchValue, HalfMatchValue, match_value, hal
 use Rattle.rx_search.specs.Promise.{Premises}
 use Rattle.rx_search.specs.declared.anchored.MatchKind.{MatchKind}
 use Rattle.rx_dfa.specs.Search.{IsAnswerFor}
-use Rattle.rx_limited.specs.declared.retry_error.RetryError.{RetryError}
+use Rattle.rx_attempts.specs.declared.patience.Stop.{Stop}
 use Rattle.rx_strategy.specs.Attempts.{IsToldBy}
 use Rattle.rx_strategy.specs.Strategy as core
 use Rattle.rx_strategy.specs.declared.strategy.Strategy.{Strategy as CoreStrategy}
@@ -39,9 +39,9 @@ pub attempt-answer : (s : CoreStrategy) (v : InputValue) (For : Patterns → Typ
 attempt-answer (TheCore c) v For of part found is told = for-dfa c v For of c.kind part found is told
 
 -- of an attempt that has an answer, and of any
-module _ (s : CoreStrategy) (v : InputValue) (tried : Result (Option MatchValue) RetryError) where
+module _ (s : CoreStrategy) (v : InputValue) (tried : Result (Option MatchValue) Stop) where
   found-of : (found : Option MatchValue) → tried ≡ Ok found → (r : Patterns) → HasTried s v tried r → IsAnswerFor (core.kind_in s) r v match_value found
-  found-of found is r has = subst (λ (t : Result (Option MatchValue) RetryError). IfOk t (IsAnswerFor (core.kind_in s) r v match_value)) is has.1
+  found-of found is r has = subst (λ (t : Result (Option MatchValue) Stop). IfOk t (IsAnswerFor (core.kind_in s) r v match_value)) is has.1
 
   -- the half of what was found
   pub tried-half : (found : Option MatchValue) → tried ≡ Ok found → core.tells_in s ≡ true → (half : Option HalfMatchValue)
@@ -62,7 +62,7 @@ module _ (s : CoreStrategy) (v : InputValue) (tried : Result (Option MatchValue)
   pub tried-whether : (found : Option MatchValue) → tried ≡ Ok found → (there : Bool) → there ≡ is_some found
       → TellsWhether (λ r. HasTriedWhether s v tried r) (core.prefilter_in s) v there
   tried-whether found is there so r p =
-      so ∙ subst (λ (t : Result (Option MatchValue) RetryError). IfOk t (λ found. is_some found ≡ is_some (next_in r v))) is p.is_for.1
+      so ∙ subst (λ (t : Result (Option MatchValue) Stop). IfOk t (λ found. is_some found ≡ is_some (next_in r v))) is p.is_for.1
 
   pub whether-core : (r : Patterns) → Premises (HasTriedWhether s v tried r) (core.prefilter_in s) r v → core.IsFor s r
   whether-core r p = p.is_for.0

@@ -5,10 +5,10 @@ use Rattle.rx_model.specs.Search.{Patterns}
 use Rattle.rx_search.specs.Input.{InputValue, next_in}
 use Rattle.rx_search.specs.Matches.{MatchValue, match_value}
 use Rattle.rx_dfa.specs.Search.{IsAnswerFor}
-use Rattle.rx_limited.specs.declared.retry_error.RetryError.{RetryError}
 use Rattle.rx_order.specs.Inner.{inner_of}
 use Rattle.rx_order.specs.Order.{SuffixIsNoEarlier, InnerIsNoEarlier}
 use Rattle.rx_attempts.specs.Candidates.{AreNotEmpty}
+use Rattle.rx_attempts.specs.declared.patience.Stop.{Stop}
 use Rattle.rx_strategy.specs.Attempts.{HasSuffix, HasInner, IsOneNeedle}
 use Rattle.rx_strategy.specs.Prefix.{PrefixValue, dfa_of, IsPrefixOf, HasNoPrefix}
 use Rattle.rx_strategy.specs.Strategy as core
@@ -44,11 +44,11 @@ abbrev pub IsInnerFor : InnerValue → Patterns → Type 0
 IsInnerFor i r = core.IsFor i.core r × HasInner (dfa_of i.prefix) i.needles r
 
 -- The core is for the patterns, and what an attempt found, if it has an answer, is the answer of them.
-abbrev pub HasTried : CoreStrategy → InputValue → Result (Option MatchValue) RetryError → Patterns → Type 0
+abbrev pub HasTried : CoreStrategy → InputValue → Result (Option MatchValue) Stop → Patterns → Type 0
 HasTried c v tried r = core.IsFor c r × IfOk tried (IsAnswerFor (core.kind_in c) r v match_value)
 
 -- .. and something is found exactly where there is a match
-abbrev pub HasTriedWhether : CoreStrategy → InputValue → Result (Option MatchValue) RetryError → Patterns → Type 0
+abbrev pub HasTriedWhether : CoreStrategy → InputValue → Result (Option MatchValue) Stop → Patterns → Type 0
 HasTriedWhether c v tried r = core.IsFor c r × IfOk tried (λ found. is_some found ≡ is_some (next_in r v))
 
 -- .. of the only one of these expressions

@@ -102,6 +102,14 @@ strategy_memory (ReverseAnchored c) = core_memory c
 strategy_memory (ReverseSuffix s) = suffix_memory s
 strategy_memory (ReverseInner i) = inner_memory i
 
+-- what is accounted for the table of its one-pass DFA, if it has one
+abbrev pub onepass_in : Strategy → ℕ
+onepass_in (Pre p) = 0
+onepass_in (Core c) = core.onepass_in c
+onepass_in (ReverseAnchored c) = core.onepass_in c
+onepass_in (ReverseSuffix s) = core.onepass_in s.core
+onepass_in (ReverseInner i) = core.onepass_in i.core
+
 -- what is accounted for the tables of its full DFAs, if it has some
 abbrev pub tables_in : Strategy → ℕ
 tables_in (Pre p) = 0
@@ -109,6 +117,14 @@ tables_in (Core c) = core.tables_in c
 tables_in (ReverseAnchored c) = core.tables_in c
 tables_in (ReverseSuffix s) = core.tables_in s.core
 tables_in (ReverseInner i) = core.tables_in i.core + table_of i.prefix.sort
+
+-- it has a one-pass DFA
+abbrev pub has_onepass : Strategy → Bool
+has_onepass (Pre p) = false
+has_onepass (Core c) = core.has_onepass c
+has_onepass (ReverseAnchored c) = core.has_onepass c
+has_onepass (ReverseSuffix s) = core.has_onepass s.core
+has_onepass (ReverseInner i) = core.has_onepass i.core
 
 -- it has DFAs
 abbrev pub has_dfas : Strategy → Bool

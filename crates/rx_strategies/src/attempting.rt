@@ -1,5 +1,5 @@
 //! Attempts by the strategies that search by candidates, for those who read the number of steps.
-ghost use Rattle.std.specs.Prelude.{◌≡◌, ◌≤◌, ◌<◌, ◌+◌, ◌*◌, true, false, IfOk, IfSome, IsSomeAnd};
+ghost use Rattle.std.specs.Prelude.{◌≡◌, ◌≤◌, ◌<◌, ◌+◌, ◌*◌, true, false, None, IfOk, IfSome, IsSomeAnd};
 ghost use Rattle.std.specs.Result.{IfErr};
 ghost use Rattle.rx_model.specs.Search.{Patterns, is_anchored};
 ghost use Rattle.rx_search.specs.Input.{span_len};
@@ -13,12 +13,13 @@ ghost use Rattle.rx_strategy.specs.Strategy as core;
 ghost use Rattle.rx_strategies.specs.Attempting.{is_by_suffix, is_by_inner, SuffixFails, InnerFails, CountsSuffix, CountsInner, SuffixFailsWith, InnerFailsWith};
 ghost use Rattle.rx_strategies.specs.Attempts.{IsSuffixFor, IsInnerFor};
 ghost use Rattle.rx_strategies.specs.Cache.{Fits, AccountsAlike, AreAlike};
-ghost use Rattle.rx_strategies.specs.Strategy.{IsFor, kind_in, pattern_count, prefilter_in};
+ghost use Rattle.rx_strategies.specs.Strategy.{IsFor, kind_in, pattern_count};
 
 use crate::cache::Cache;
 use crate::inner::ReverseInner;
 use crate::strategy::Strategy;
 use crate::suffix::ReverseSuffix;
+use rx_attempts::{Patience, Stop};
 use rx_limited::RetryError;
 use rx_search::{Input, Match, Steps};
 use rx_strategy::PrefixCache;
@@ -39,7 +40,7 @@ pub fn reverse_suffix_attempt<L: Ledger>(
     requires by_suffix { is_by_suffix strategy.now ≡ true }
     requires fits { Fits strategy.now cache.old }
     requires free { is_anchored input.now.anchor ≡ false }
-    ensures answer { (r : Patterns) → Premises (IsFor strategy.now r) (prefilter_in strategy.now) r input.now
+    ensures answer { (r : Patterns) → Premises (IsFor strategy.now r) None r input.now
         → IfOk result (IsAnswerFor (kind_in strategy.now) r input.now match_value) }
     ensures within { IfOk result (λ found. IfSome found (LiesIn input.now)) }
     ensures in_range { IfOk result (λ found. IfSome found (λ m. m.pattern < pattern_count strategy.now)) }
@@ -70,7 +71,7 @@ pub fn reverse_inner_attempt<L: Ledger>(
     requires by_inner { is_by_inner strategy.now ≡ true }
     requires fits { Fits strategy.now cache.old }
     requires free { is_anchored input.now.anchor ≡ false }
-    ensures answer { (r : Patterns) → Premises (IsFor strategy.now r) (prefilter_in strategy.now) r input.now
+    ensures answer { (r : Patterns) → Premises (IsFor strategy.now r) None r input.now
         → IfOk result (IsAnswerFor (kind_in strategy.now) r input.now match_value) }
     ensures within { IfOk result (λ found. IfSome found (LiesIn input.now)) }
     ensures in_range { IfOk result (λ found. IfSome found (λ m. m.pattern < pattern_count strategy.now)) }
@@ -92,7 +93,7 @@ pub fn reverse_inner_attempt<L: Ledger>(
     }
 }
 
-/// An attempt by the literal that ends each match, with the cache of the core.
+/// An attempt by the literal that ends each match, of endless patience, with the cache of the core.
 fn by_suffix<L: Ledger>(
     suffix: &ReverseSuffix,
     rooms: &mut Option<rx_strategy::Cache>,
@@ -101,7 +102,7 @@ fn by_suffix<L: Ledger>(
 ) -> Result<Option<Match>, RetryError>
     requires fits { IsSomeAnd rooms.old (lower.Fits suffix.now.core) }
     requires free { is_anchored input.now.anchor ≡ false }
-    ensures answer { (r : Patterns) → Premises (IsSuffixFor suffix.now r) (core.prefilter_in suffix.now.core) r input.now
+    ensures answer { (r : Patterns) → Premises (IsSuffixFor suffix.now r) None r input.now
         → IfOk result (IsAnswerFor (core.kind_in suffix.now.core) r input.now match_value) }
     ensures within { IfOk result (λ found. IfSome found (LiesIn input.now)) }
     ensures in_range { IfOk result (λ found. IfSome found (λ m. m.pattern < core.pattern_count suffix.now.core)) }
@@ -115,10 +116,14 @@ fn by_suffix<L: Ledger>(
     let Some(rooms) = rooms else {
         unreachable!();
     };
-    suffix.try_search(rooms, input, steps)
+    match suffix.try_search(rooms, input, Patience::Endless, steps) {
+        Ok(found) => Ok(found),
+        Err(Stop::Retry(error)) => Err(error),
+        Err(Stop::Dense) => unreachable!(),
+    }
 }
 
-/// An attempt by the literals within each match, with the caches of the core and of what reads the prefix.
+/// An attempt by the literals within each match, of endless patience, with the caches of the core and of what reads the prefix.
 fn by_inner<L: Ledger>(
     inner: &ReverseInner,
     rooms: &mut Option<rx_strategy::Cache>,
@@ -129,7 +134,7 @@ fn by_inner<L: Ledger>(
     requires fits { IsSomeAnd rooms.old (lower.Fits inner.now.core) }
     requires states_fit { FitsPrefix inner.now.prefix states.old }
     requires free { is_anchored input.now.anchor ≡ false }
-    ensures answer { (r : Patterns) → Premises (IsInnerFor inner.now r) (core.prefilter_in inner.now.core) r input.now
+    ensures answer { (r : Patterns) → Premises (IsInnerFor inner.now r) None r input.now
         → IfOk result (IsAnswerFor (core.kind_in inner.now.core) r input.now match_value) }
     ensures within { IfOk result (λ found. IfSome found (LiesIn input.now)) }
     ensures in_range { IfOk result (λ found. IfSome found (λ m. m.pattern < core.pattern_count inner.now.core)) }
@@ -145,5 +150,9 @@ fn by_inner<L: Ledger>(
     let Some(rooms) = rooms else {
         unreachable!();
     };
-    inner.try_search(rooms, states, input, steps)
+    match inner.try_search(rooms, states, input, Patience::Endless, steps) {
+        Ok(found) => Ok(found),
+        Err(Stop::Retry(error)) => Err(error),
+        Err(Stop::Dense) => unreachable!(),
+    }
 }

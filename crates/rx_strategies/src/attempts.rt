@@ -14,6 +14,7 @@ ghost use Rattle.rx_strategy.specs.Strategy.{kind_in, pattern_count, prefilter_i
 ghost use Rattle.rx_strategies.specs.Attempts.{HasTried, HasTriedWhether};
 ghost use Rattle.rx_strategies.specs.Choice.{may_attempt};
 
+use rx_attempts::Stop;
 use rx_limited::RetryError;
 use rx_search::{HalfMatch, Input, Look, Match, MatchKind, Memory, NonMaxUsize};
 use rx_strategy::{Cache, Config, Strategy};
@@ -63,14 +64,14 @@ pub(crate) fn tells_free(core: &Strategy, input: &Input<'_>) -> bool
 }
 
 /// The end of the next match, with its pattern, after an attempt: of the match that it found; or else what the core answers, where bytes
-/// would be read again and again, and its engines alone, where a DFA has no answer.
+/// would be read again and again or patience was lost, and its engines alone, where a DFA has no answer.
 ///
 /// `Memory`: there was no memory for the search.
 pub(crate) fn half_after(
     core: &Strategy,
     cache: &mut Cache,
     input: &Input<'_>,
-    tried: Result<Option<Match>, RetryError>,
+    tried: Result<Option<Match>, Stop>,
 ) -> Result<Option<HalfMatch>, Memory>
     requires fits { Fits core.now cache.old }
     requires spanned { IsSpanned input.now }
@@ -86,7 +87,8 @@ pub(crate) fn half_after(
 {
     match tried {
         Ok(found) => Ok(half_match(found)),
-        Err(RetryError::Quadratic(_)) => core.search_half(cache, input),
+        Err(Stop::Dense) => core.search_half(cache, input),
+        Err(Stop::Retry(RetryError::Quadratic(_))) => core.search_half(cache, input),
         Err(_) => Ok(core.search_half_nofail(cache, input)),
     }
 }
@@ -98,7 +100,7 @@ pub(crate) fn slots_after(
     core: &Strategy,
     cache: &mut Cache,
     input: &Input<'_>,
-    tried: Result<Option<Match>, RetryError>,
+    tried: Result<Option<Match>, Stop>,
     slots: &mut [Option<NonMaxUsize>],
 ) -> Result<Option<Match>, Memory>
     requires fits { Fits core.now cache.old }
@@ -119,7 +121,8 @@ pub(crate) fn slots_after(
 {
     match tried {
         Ok(found) => Ok(core.tell_found(cache, input, found, slots)),
-        Err(RetryError::Quadratic(_)) => core.search_slots(cache, input, slots),
+        Err(Stop::Dense) => core.search_slots(cache, input, slots),
+        Err(Stop::Retry(RetryError::Quadratic(_))) => core.search_slots(cache, input, slots),
         Err(_) => Ok(core.search_slots_nofail(cache, input, slots)),
     }
 }
@@ -131,7 +134,7 @@ pub(crate) fn whether_after(
     core: &Strategy,
     cache: &mut Cache,
     input: &Input<'_>,
-    tried: Result<Option<Match>, RetryError>,
+    tried: Result<Option<Match>, Stop>,
 ) -> Result<bool, Memory>
     requires fits { Fits core.now cache.old }
     requires spanned { IsSpanned input.now }
@@ -142,7 +145,8 @@ pub(crate) fn whether_after(
 {
     match tried {
         Ok(found) => Ok(found.is_some()),
-        Err(RetryError::Quadratic(_)) => core.is_match(cache, input),
+        Err(Stop::Dense) => core.is_match(cache, input),
+        Err(Stop::Retry(RetryError::Quadratic(_))) => core.is_match(cache, input),
         Err(_) => Ok(core.is_match_nofail(cache, input)),
     }
 }

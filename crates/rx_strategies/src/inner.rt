@@ -8,6 +8,7 @@ ghost use Rattle.rx_search.specs.Matches.{match_value, half_match_value};
 ghost use Rattle.rx_search.specs.Promise.{Premises};
 ghost use Rattle.rx_search.specs.Told.{AreWithin, LiesIn, HalfLiesIn};
 ghost use Rattle.rx_dfa.specs.Search.{IsAnswerFor};
+ghost use Rattle.rx_attempts.specs.Stops.{StopsBy};
 ghost use Rattle.rx_strategy.specs.Cache.{Fits, AccountsAlike};
 ghost use Rattle.rx_strategy.specs.Impossible.{IsKnownImpossible};
 ghost use Rattle.rx_strategy.specs.Strategy.{IsMadeOf, kind_in, pattern_count, prefilter_in, properties_of, InnerFailsFor, CountsInner};
@@ -17,8 +18,8 @@ ghost use Rattle.rx_strategies.specs.Choice.{if_inner_in_order};
 ghost use Rattle.rx_strategies.specs.Attempts.{IsInnerFor, IsInnerTried, IsInnerFound};
 
 use crate::attempts::{half_after, may_attempt, slots_after, tells_free, whether_after};
+use rx_attempts::{Patience, Stop};
 use rx_hir::Hir;
-use rx_limited::RetryError;
 use rx_order::{InnerPrefilter, inner_has_no_earlier_match};
 use rx_prefilter::Prefilter;
 use rx_search::{HalfMatch, Input, Match, Memory, NonMaxUsize, Steps};
@@ -29,8 +30,8 @@ use std::sync::ledger::{Blank, Ledger};
 
 /// A search for one expression by literals, one of which lies within each of its matches: the span is searched for the literals, backwards
 /// by what stands before them from where one lies, and forwards from the start that is so found. No match starts earlier than the first
-/// one that is confirmed so. Where the search is anchored, or bytes would be read again and again, the core is asked, and its engines
-/// alone where a DFA has no answer.
+/// one that is confirmed so. Where the search is anchored, bytes would be read again and again, or such places lie close together, the
+/// core is asked, and its engines alone where a DFA has no answer.
 #[derive(Drop)]
 pub struct ReverseInner {
     core: Strategy,
@@ -107,22 +108,24 @@ impl ReverseInner {
     ///
     /// # Errors
     ///
-    /// `Quadratic` where bytes would be read again and again; `Fail` where a DFA quit or gave up; `Memory`.
+    /// `Quadratic` where bytes would be read again and again; `Fail` where a DFA quit or gave up; `Memory`; `Dense` where a short patience is
+    /// lost.
     pub fn try_search<L: Ledger>(
         &self,
         cache: &mut Cache,
         states: &mut PrefixCache,
         input: &Input<'_>,
+        patience: Patience,
         steps: &mut Steps<L>,
-    ) -> Result<Option<Match>, RetryError>
+    ) -> Result<Option<Match>, Stop>
         requires fits { Fits self.now.core cache.old }
         requires states_fit { FitsPrefix self.now.prefix states.old }
         requires free { is_anchored input.now.anchor ≡ false }
-        ensures answer { (r : Patterns) → Premises (IsInnerFor self.now r) (prefilter_in self.now.core) r input.now
+        ensures answer { (r : Patterns) → Premises (IsInnerFor self.now r) None r input.now
             → IfOk result (IsAnswerFor (kind_in self.now.core) r input.now match_value) }
         ensures within { IfOk result (λ found. IfSome found (LiesIn input.now)) }
         ensures in_range { IfOk result (λ found. IfSome found (λ m. m.pattern < pattern_count self.now.core)) }
-        ensures err { IfErr result (InnerFailsFor self.now.core self.now.prefix self.now.needles input.now cache.new states.new) }
+        ensures err { IfErr result (StopsBy patience (InnerFailsFor self.now.core self.now.prefix self.now.needles input.now cache.new states.new)) }
         ensures ticks { input.now.earliest ≡ false → IfOk result (CountsInner self.now.core self.now.prefix self.now.needles input.now steps.old steps.new) }
         ensures few { steps.new ≤ steps.old + 8 * (span_len input.now + 1) }
         ensures cache { Fits self.now.core cache.new }
@@ -130,8 +133,15 @@ impl ReverseInner {
         ensures states_same { are_states self.now.prefix ≡ false → states.new ≡ states.old }
         ensures memory { AccountsAlike self.now.core cache.old cache.new }
     {
-        self.core
-            .try_reverse_inner(cache, &self.pre, &self.prefix, states, input, steps)
+        self.core.try_reverse_inner(
+            cache,
+            &self.pre,
+            &self.prefix,
+            states,
+            input,
+            patience,
+            steps,
+        )
     }
 
     /// The end of the next match in the input's span, with its pattern, where matches are told.
@@ -221,21 +231,21 @@ impl ReverseInner {
         whether_after(&self.core, cache, input, tried)
     }
 
-    /// As `try_search`, where nobody reads the count.
+    /// As `try_search`, with a short patience, where nobody reads the count.
     fn attempt<L: Ledger>(
         &self,
         blank: Blank,
         cache: &mut Cache,
         states: &mut PrefixCache,
         input: &Input<'_>,
-    ) -> Result<Option<Match>, RetryError>
+    ) -> Result<Option<Match>, Stop>
         requires name { blank.name ≡ L.name }
         requires parts { blank.parts ≡ L.parts }
         requires some { 0 < blank.parts }
         requires fits { Fits self.now.core cache.old }
         requires states_fit { FitsPrefix self.now.prefix states.old }
         requires free { is_anchored input.now.anchor ≡ false }
-        ensures answer { (r : Patterns) → Premises (IsInnerFor self.now r) (prefilter_in self.now.core) r input.now
+        ensures answer { (r : Patterns) → Premises (IsInnerFor self.now r) None r input.now
             → IfOk result (IsAnswerFor (kind_in self.now.core) r input.now match_value) }
         ensures within { IfOk result (λ found. IfSome found (LiesIn input.now)) }
         ensures in_range { IfOk result (λ found. IfSome found (λ m. m.pattern < pattern_count self.now.core)) }
@@ -245,7 +255,7 @@ impl ReverseInner {
         ensures memory { AccountsAlike self.now.core cache.old cache.new }
     {
         let mut steps = Steps::<L>::open(blank);
-        self.try_search(cache, states, input, &mut steps)
+        self.try_search(cache, states, input, Patience::Short, &mut steps)
     }
 }
 

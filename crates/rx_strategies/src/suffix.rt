@@ -8,14 +8,15 @@ ghost use Rattle.rx_search.specs.Matches.{match_value, half_match_value};
 ghost use Rattle.rx_search.specs.Promise.{Premises};
 ghost use Rattle.rx_search.specs.Told.{AreWithin, LiesIn, HalfLiesIn};
 ghost use Rattle.rx_dfa.specs.Search.{IsAnswerFor};
+ghost use Rattle.rx_attempts.specs.Stops.{StopsBy};
 ghost use Rattle.rx_strategy.specs.Cache.{Fits, AccountsAlike};
 ghost use Rattle.rx_strategy.specs.Impossible.{IsKnownImpossible};
 ghost use Rattle.rx_strategy.specs.Strategy.{IsMadeOf, kind_in, pattern_count, prefilter_in, properties_of, SuffixFailsFor, CountsSuffix};
 ghost use Rattle.rx_strategies.specs.Attempts.{IsSuffixFor, IsSuffixTried, IsSuffixFound, IsOrderedSearch};
 
 use crate::attempts::{half_after, may_attempt, slots_after, tells_free, whether_after};
+use rx_attempts::{Patience, Stop};
 use rx_hir::Hir;
-use rx_limited::RetryError;
 use rx_literal::{longest_common_suffix, suffixes};
 use rx_order::suffix_has_no_earlier_match;
 use rx_prefilter::Prefilter;
@@ -27,7 +28,8 @@ use std::sync::ledger::{Blank, Ledger};
 
 /// A search for one expression by a literal that ends each of its matches: the span is searched for the literal, backwards from where it
 /// lies, and forwards from the start that is so found. No match starts earlier than the first one that is confirmed so. Where the search
-/// is anchored, or bytes would be read again and again, the core is asked, and its engines alone where a DFA has no answer.
+/// is anchored, bytes would be read again and again, or such places lie close together, the core is asked, and its engines alone where a
+/// DFA has no answer.
 #[derive(Drop)]
 pub struct ReverseSuffix {
     core: Strategy,
@@ -88,26 +90,29 @@ impl ReverseSuffix {
     ///
     /// # Errors
     ///
-    /// `Quadratic` where bytes would be read again and again; `Fail` where a DFA quit or gave up; `Memory`.
+    /// `Quadratic` where bytes would be read again and again; `Fail` where a DFA quit or gave up; `Memory`; `Dense` where a short patience is
+    /// lost.
     pub fn try_search<L: Ledger>(
         &self,
         cache: &mut Cache,
         input: &Input<'_>,
+        patience: Patience,
         steps: &mut Steps<L>,
-    ) -> Result<Option<Match>, RetryError>
+    ) -> Result<Option<Match>, Stop>
         requires fits { Fits self.now.core cache.old }
         requires free { is_anchored input.now.anchor ≡ false }
-        ensures answer { (r : Patterns) → Premises (IsSuffixFor self.now r) (prefilter_in self.now.core) r input.now
+        ensures answer { (r : Patterns) → Premises (IsSuffixFor self.now r) None r input.now
             → IfOk result (IsAnswerFor (kind_in self.now.core) r input.now match_value) }
         ensures within { IfOk result (λ found. IfSome found (LiesIn input.now)) }
         ensures in_range { IfOk result (λ found. IfSome found (λ m. m.pattern < pattern_count self.now.core)) }
-        ensures err { IfErr result (SuffixFailsFor self.now.core self.now.needles input.now cache.new) }
+        ensures err { IfErr result (StopsBy patience (SuffixFailsFor self.now.core self.now.needles input.now cache.new)) }
         ensures ticks { input.now.earliest ≡ false → IfOk result (CountsSuffix self.now.core self.now.needles input.now steps.old steps.new) }
         ensures few { steps.new ≤ steps.old + 8 * (span_len input.now + 1) }
         ensures cache { Fits self.now.core cache.new }
         ensures memory { AccountsAlike self.now.core cache.old cache.new }
     {
-        self.core.try_reverse_suffix(cache, &self.pre, input, steps)
+        self.core
+            .try_reverse_suffix(cache, &self.pre, input, patience, steps)
     }
 
     /// The end of the next match in the input's span, with its pattern, where matches are told.
@@ -181,19 +186,19 @@ impl ReverseSuffix {
         whether_after(&self.core, cache, input, tried)
     }
 
-    /// As `try_search`, where nobody reads the count.
+    /// As `try_search`, with a short patience, where nobody reads the count.
     fn attempt<L: Ledger>(
         &self,
         blank: Blank,
         cache: &mut Cache,
         input: &Input<'_>,
-    ) -> Result<Option<Match>, RetryError>
+    ) -> Result<Option<Match>, Stop>
         requires name { blank.name ≡ L.name }
         requires parts { blank.parts ≡ L.parts }
         requires some { 0 < blank.parts }
         requires fits { Fits self.now.core cache.old }
         requires free { is_anchored input.now.anchor ≡ false }
-        ensures answer { (r : Patterns) → Premises (IsSuffixFor self.now r) (prefilter_in self.now.core) r input.now
+        ensures answer { (r : Patterns) → Premises (IsSuffixFor self.now r) None r input.now
             → IfOk result (IsAnswerFor (kind_in self.now.core) r input.now match_value) }
         ensures within { IfOk result (λ found. IfSome found (LiesIn input.now)) }
         ensures in_range { IfOk result (λ found. IfSome found (λ m. m.pattern < pattern_count self.now.core)) }
@@ -201,7 +206,7 @@ impl ReverseSuffix {
         ensures memory { AccountsAlike self.now.core cache.old cache.new }
     {
         let mut steps = Steps::<L>::open(blank);
-        self.try_search(cache, input, &mut steps)
+        self.try_search(cache, input, Patience::Short, &mut steps)
     }
 }
 

@@ -20,7 +20,7 @@ use Rattle.rx_strategy.specs.Core.{CoreValue, IsCoreFor}
 use Rattle.rx_strategy.specs.Impossible.{is_always_anchored_start}
 use Rattle.rx_strategy.proofs.ImpossibleLemmas.{start-place, meant-among}
 
-is-free : (anchor : Anchor) → is_anchored anchor ≡ false → anchor ≡ free
+pub is-free : (anchor : Anchor) → is_anchored anchor ≡ false → anchor ≡ free
 is-free free e = refl
 is-free anchored e = absurd (true≢false e)
 is-free (anchored_to p) e = absurd (true≢false e)
@@ -30,7 +30,7 @@ module _ (r : Patterns) (hay : List ℕ) (b a : ℕ) where
   unanchored-start i may = let is = may.0.0 in let le = may.0.1 in ((omega arith, omega arith), may.1)
 
   -- a match of the anchored search is one of the other
-  unanchored : (m : Match) → IsMatch r hay anchored b a m → IsMatch r hay free b a m
+  pub unanchored : (m : Match) → IsMatch r hay anchored b a m → IsMatch r hay free b a m
   unanchored m is = record {
     start = unanchored-start m.start is.start;
     sought = tt;
@@ -77,7 +77,7 @@ module _ (r : Patterns) (hay : List ℕ) (b a : ℕ) where
         ]
 
     -- both have the same next match
-    same-next : next_match r hay anchored b a ≡ next_match r hay free b a
+    pub same-next : next_match r hay anchored b a ≡ next_match r hay free b a
     same-next =
         elim (tells (next_match r hay free b a)) [
           | inl none ↦ none-anchored none ∙ sym none

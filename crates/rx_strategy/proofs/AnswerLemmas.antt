@@ -31,7 +31,7 @@ told_of-whole all e m = refl
 told_of-whole implicit e m = refl
 told_of-whole none e m = cc
 
-told-whole : (w : WhichCaptures) → tells w ≡ true → (o : Option Match) → option_map (told_of w) o ≡ o
+pub told-whole : (w : WhichCaptures) → tells w ≡ true → (o : Option Match) → option_map (told_of w) o ≡ o
 told-whole w e None = refl
 told-whole w e (Some m) = ap Some (told_of-whole w e m)
 
@@ -240,9 +240,9 @@ module _ (c : CoreValue) (v : InputValue) where
         }
 
     -- which is known where each run begins with a needle
-    pub engine-told : v.end ≤ length v.haystack → (BeginsEachRun c.pre c.nfa v → IsSearched c.nfa v slots found) → (r : Patterns)
-        → Premises (IsCoreFor c r) c.pre r v → IsToldFor kind r v slots found
-    engine-told within searched r p = searched-told (searched (core-begins within r p)) r p.is_for
+    pub engine-told : v.end ≤ length v.haystack → ((r : Patterns) → IsCoreFor c r → BeginsEachRun c.pre c.nfa v → IsToldFor kind r v slots found)
+        → (r : Patterns) → Premises (IsCoreFor c r) c.pre r v → IsToldFor kind r v slots found
+    engine-told within told r p = told r p.is_for (core-begins within r p)
 
     module _ (told-for : (r : Patterns) → Premises (IsCoreFor c r) c.pre r v → IsToldFor kind r v slots found) where
       pub core-answers : tells c.which_captures ≡ true → IsAnswer (λ r. IsCoreFor c r) c.pre kind v match_value found

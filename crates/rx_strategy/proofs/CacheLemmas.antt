@@ -8,9 +8,11 @@ use Rattle.rx_strategy.specs.Cache.{CacheValue, Fits, FitsAsBefore, FitsBacktrac
 use Rattle.rx_strategy.specs.Strategy.{has_lazy}
 use Rattle.rx_strategy.specs.Core.{CoreValue, pikevm_of}
 use Rattle.rx_strategy.specs.Dfas.{lazies_of, AreCachesOf, FitsLazies, HoldNoStates, states_memory}
+use Rattle.rx_strategy.specs.OnePass.{FitsOnePass}
 use Rattle.rx_strategy.specs.declared.dfas.Dfas.{Dfas}
 use Rattle.rx_strategy.specs.declared.dfas.Dfas.TheVariants.{Lazy}
 use Rattle.rx_strategy.specs.declared.lazies.Lazies.{Lazies}
+use Rattle.rx_strategy.specs.declared.onepass.OnePass.{OnePass}
 use Rattle.rx_strategy.specs.declared.strategy.Strategy.{Strategy}
 use Rattle.rx_strategy.specs.declared.strategy.Strategy.TheVariants.{Core}
 
@@ -20,11 +22,17 @@ on-err (Err e) p = p
 
 -- each part fits what it fitted, and so does the whole
 module _ (old new : CacheValue) (pikevm : (vm : PikeVMValue) → FitsPikeVM vm old.pikevm → FitsPikeVM vm new.pikevm)
+    (onepass : (o : OnePass) → FitsOnePass o old.onepass → FitsOnePass o new.onepass)
     (backtrack : (c : CoreValue) → FitsBacktracker c old.backtrack → FitsBacktracker c new.backtrack)
     (lazies : (dfas : Dfas) → FitsLazies dfas old.lazies → FitsLazies dfas new.lazies) where
   pub still-fits : (s : Strategy) → Fits s old → Fits s new
   still-fits (Core c) f =
-      record { pikevm = pikevm (pikevm_of c) f.pikevm; backtrack = backtrack c f.backtrack; lazies = lazies c.dfas f.lazies }
+      record {
+        pikevm = pikevm (pikevm_of c) f.pikevm;
+        onepass = onepass c.onepass f.onepass;
+        backtrack = backtrack c f.backtrack;
+        lazies = lazies c.dfas f.lazies;
+      }
 
   pub as-before : new.memory ≡ old.memory → states_memory new.lazies ≡ states_memory old.lazies → FitsAsBefore old new
   as-before memory states = record { fits = still-fits; memory = λ i. min (2 ^ 64 - 1) (memory i + states i) }

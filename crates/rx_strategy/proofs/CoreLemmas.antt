@@ -18,6 +18,7 @@ use Rattle.rx_strategy.specs.Availability.{AreDfasBeside}
 use Rattle.rx_strategy.specs.Config.{kind_of, backtrack_of, is_leftmost, has_backtracker, asks_for_dfas, captures_of, compiler_of, reverse_compiler_of}
 use Rattle.rx_strategy.specs.Core.{CoreValue, IsCoreOf}
 use Rattle.rx_strategy.specs.Dfas.{ArePair, IsPairOf, ServeNfa}
+use Rattle.rx_strategy.specs.OnePass.{IsOnePassBeside}
 use Rattle.rx_strategy.specs.Prefilter.{prefilter_for}
 use Rattle.rx_strategy.specs.declared.dfas.Dfas.{Dfas}
 use Rattle.rx_strategy.specs.declared.dfas.Dfas.TheVariants.{Absent, Full, Lazy}
@@ -99,14 +100,15 @@ compiled-back c hs (Some reverse) back = back.1
 
 -- the core that is made of these is that of the expressions
 pub core-made : (config : Config) (hs : List Expression) (core made : CoreValue) → core ≡ made → made.kind ≡ kind_of config
-    → made.which_captures ≡ captures_of config → made.backtracks ≡ has_backtracker config → made.pre ≡ prefilter_for config hs
+    → made.which_captures ≡ captures_of config → IsOnePassBeside config made.nfa (alternation (expressions hs)) made.onepass → made.backtracks ≡ has_backtracker config → made.pre ≡ prefilter_for config hs
     → IsCompiled (compiler_of config) hs made.nfa → IsCompiledBack config hs made.reverse → AreOf (alternation (expressions hs)) made.properties
     → AreDfasBeside config made.nfa made.reverse made.dfas → IsCoreOf config hs core
-core-made config hs core made is kind which backtracks pre compiled back properties dfas =
+core-made config hs core made is kind which onepass backtracks pre compiled back properties dfas =
     subst (IsCoreOf config hs) (sym is) (record {
       compiled = compiled;
       kind = kind;
       which_captures = which;
+      onepass = onepass;
       backtracks = backtracks;
       pre = pre;
       properties = properties;

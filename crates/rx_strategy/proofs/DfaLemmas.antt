@@ -1,19 +1,19 @@
 -- What the DFAs of a core answer.
-use Rattle.std.proofs.Common.{◌≡◌, ◌≢◌, ℕ, ◌+◌, ◌-◌, ◌<◌, ◌≤◌, max, List, length, refl, sym, ap, ◌∙◌, subst, arith, true≢false}
+use Rattle.std.proofs.Common.{◌≡◌, ◌≢◌, ℕ, ◌+◌, ◌-◌, ◌<◌, ◌≤◌, max, List, length, refl, sym, ap, ◌∙◌, subst, arith, true≢false, inl, inr}
 use Rattle.std.specs.Prelude.{true, false, Option, Some, None, option_map, is_some, IfSome, IsSomeAnd, Result, Ok, Err, IfOk, slice_get}
 use Rattle.rx_model.specs.Expression.{Expression, alternation, AreOrdered}
 use Rattle.rx_model.specs.Length.{minimum_len}
 use Rattle.rx_model.specs.Meaning.{Means}
 use Rattle.rx_model.specs.Runs.{nowhere}
 use Rattle.rx_model.specs.Graph.{at}
-use Rattle.rx_model.specs.Matches.{IsMatch, IsSought, MayStart, part_of}
-use Rattle.rx_model.specs.Search.{Patterns, WhichCaptures, Match, Anchor, anchored_to, told_of, is_anchored, slot_of, next_match}
+use Rattle.rx_model.specs.Matches.{IsMatch, IsStart, IsSought, MayStart, part_of}
+use Rattle.rx_model.specs.Search.{Patterns, WhichCaptures, Match, Anchor, free, anchored, anchored_to, told_of, is_anchored, slot_of, next_match}
 use Rattle.rx_model.proofs.lemmas.matches.MatchLemmas.{next-within}
 use Rattle.rx_model.proofs.lemmas.matches.NarrowLemmas.{next-narrowed}
 use Rattle.rx_model.proofs.lemmas.matches.WithinLemmas.{next-run, match-within, match-means, match-next, run-later, trace-later}
 use Rattle.rx_model.proofs.lemmas.meaning.CoverLemmas.{means-run}
 use Rattle.rx_model.proofs.lemmas.meaning.LengthLemmas.{means-long}
-use Rattle.rx_model.proofs.lemmas.runs.FirstLemmas.{none-is-some}
+use Rattle.rx_model.proofs.lemmas.runs.FirstLemmas.{none-is-some, some-is}
 use Rattle.rx_model.proofs.lemmas.runs.RiseLemmas.{mapped-some}
 use Rattle.rx_search.specs.Input.{InputValue, next_in}
 use Rattle.rx_search.specs.Matches.{MatchValue, HalfMatchValue, match_value, half_match_value}
@@ -25,17 +25,16 @@ use Rattle.rx_hir.specs.Length.{maximum_len}
 use Rattle.rx_hir.specs.Normal.{expressions}
 use Rattle.rx_hir.proofs.SpanLemmas.{means-short, saturated-some, in_64_bits-some}
 use Rattle.rx_nfa.specs.Nfa.{Nfa, IsNfaOf, HasReverseRuns}
-use Rattle.rx_nfa.specs.NextMatch.{next_match_in}
 use Rattle.rx_dfa.specs.Automaton.{Dfa}
 use Rattle.rx_dfa.specs.Search.{IsAnswerFor}
 use Rattle.rx_dfa.proofs.lemmas.AnswerLemmas.{run-match}
 use Rattle.rx_dfa.proofs.lemmas.WalkLemmas.{RunsTo}
 use Rattle.rx_engines.specs.Needles.{BeginsEachRun}
-use Rattle.rx_strategy.specs.Core.{CoreValue, IsCoreFor, IsSearched, IsToldFor}
+use Rattle.rx_strategy.specs.Core.{CoreValue, IsCoreFor, IsToldFor}
 use Rattle.rx_strategy.specs.Dfas.{pair_of, ArePair, AreLeftmost, IsPairOf, ServeNfa, IsSearchFor, SearchFor, HaveRoomIn, IsPatternOf}
-use Rattle.rx_strategy.specs.Narrow.{narrowed, IsLenOf, of_len}
+use Rattle.rx_strategy.specs.Narrow.{narrowed, IsLenOf, of_len, BeginsWithSpan, from_start}
 use Rattle.rx_strategy.specs.declared.dfas.Dfas.{Dfas}
-use Rattle.rx_strategy.proofs.AnswerLemmas.{agree, is_some-map, next-is_match, span-told, half-told, searched-told}
+use Rattle.rx_strategy.proofs.AnswerLemmas.{is_some-map, span-told, half-told}
 use Rattle.rx_strategy.proofs.ImpossibleLemmas.{meant-among}
 
 -- each run of an anchored search begins with a needle, since none is looked for
@@ -146,6 +145,12 @@ widened-found : (r : Patterns) (v : InputValue) (m : Match) → IsMatch r v.hays
 widened-found r v m is slots None known = tt
 widened-found r v m is slots (Some x) known = (known.0, widened r v.haystack v.anchor v.end v.start m is known.0 known.1, known.2)
 
+-- an anchored search has one start
+anchored-start : (anchor : Anchor) → is_anchored anchor ≡ true → (b a i : ℕ) → IsStart anchor b a i → i ≡ a
+anchored-start free is b a i start = absurd (true≢false (sym is))
+anchored-start anchored is b a i start = start.0
+anchored-start (anchored_to p) is b a i start = start.0
+
 -- What DFAs answer of a search for these patterns.
 module _ (c : CoreValue) (v : InputValue) where
   -- where all matches have one length, a match is known by its end
@@ -191,76 +196,74 @@ module _ (c : CoreValue) (v : InputValue) where
       is_match = of-found o is.is_match;
     }
 
+  -- where a match begins with the span, it is known by its end
+  module _ (r : Patterns) (h : HalfMatchValue) (begins : BeginsWithSpan v h) where
+    starts-there : (m : Match) → IsMatch r v.haystack v.anchor v.end v.start m → h ≡ half_match_value m → v.start ≡ m.start
+    starts-there m is half = elim begins [
+      | inl none-read ↦ (
+          let offset : h.offset ≡ m.trace.end = ap (λ (x : HalfMatchValue). x.offset) half in
+          let within = match-within r v.haystack v.anchor v.end v.start m is in
+          omega arith)
+      | inr one ↦ sym (anchored-start v.anchor one v.end v.start m.start is.start.0)
+    ]
+
+    begun : (m : Match) → IsMatch r v.haystack v.anchor v.end v.start m → h ≡ half_match_value m → from_start v h ≡ match_value m
+    begun m is half =
+        let start = starts-there m is half in
+        λ k. record { pattern = (half k).pattern; start = start k; end = (half k).offset }
+
+    begun-next : (next : Option Match) → next_in r v ≡ next → Some h ≡ option_map half_match_value next
+        → Some (from_start v h) ≡ option_map match_value next
+    begun-next None e is = none-is-some (sym is)
+    begun-next (Some m) e is = ap Some (begun m (next-run r v.haystack v.anchor v.end v.start m e) (some-is is))
+
+    pub answers-begun : (kind : MatchKind) → IsAnswerFor kind r v half_match_value (Some h) → IsAnswerFor kind r v match_value (Some (from_start v h))
+    answers-begun kind is =
+        let m = is.is_match.0 in
+        let half : h ≡ half_match_value m = is.is_match.2 ∙ half-told r.which_captures m in
+        record {
+          value = λ leftmost whole. begun-next (next_in r v) refl (is.value leftmost whole);
+          exists = is.exists;
+          is_match = (m, is.is_match.1, begun m is.is_match.1 half ∙ sym (span-told r.which_captures m));
+        }
+
   -- A search narrowed to a match that was found.
-  module _ (within : v.end ≤ length v.haystack) (r : Patterns) (of : IsCoreFor c r) (slots : List (Option ℕ)) where
+  module _ (r : Patterns) (of : IsCoreFor c r) (slots : List (Option ℕ)) (kind : MatchKind) where
     abbrev w : WhichCaptures
     w = r.which_captures
 
-    abbrev next : Option Match
-    next = next_match_in c.nfa v
-
-    theirs : next ≡ option_map (told_of w) (next_in r v)
-    theirs = agree c.nfa v within r of.nfa
-
-    -- what is searched for, by its value and its slots
-    searched : (found : Option MatchValue) → found ≡ option_map match_value next → IfSome next (HasSlots slots) → IsSearched c.nfa v slots found
-    searched found value has = record {
-      value = λ _. value;
-      patterns = λ s is_of. agree c.nfa v within s is_of;
-      exists = ap is_some value ∙ is_some-map match_value next;
-      is_match = λ s is_of. next-is_match s v slots next (agree c.nfa v within s is_of) has found value;
-      slots = λ _. has;
-    }
-
     -- where it is the next one, it is found again
-    narrowed-searched : v.earliest ≡ false → (f : MatchValue) → Some f ≡ option_map match_value (next_in r v) → (found : Option MatchValue)
-        → IsSearched c.nfa (narrowed v f) slots found → IsSearched c.nfa v slots found
-    narrowed-searched whole f is found part =
+    again : (f : MatchValue) → Some f ≡ option_map match_value (next_in r v) → next_in r (narrowed v f) ≡ next_in r v
+    again f is =
         let m = mapped-some match_value (next_in r v) f (sym is) in
-        let again : next_in r (narrowed v f) ≡ Some m.0 =
-        subst (λ (x : MatchValue). next_in r (narrowed v x) ≡ Some m.0) m.2 (next-narrowed r v.haystack v.anchor v.end v.start m.0 m.1) in
-        let last = (next-within r v.haystack v.anchor v.end v.start m.0 m.1).2 in
-        let end : m.0.trace.end ≤ length v.haystack = omega arith in
-        let near : f.end ≤ length v.haystack = subst (λ (x : MatchValue). x.end ≤ length v.haystack) m.2 end in
-        let same : next_match_in c.nfa (narrowed v f) ≡ next =
-        agree c.nfa (narrowed v f) near r of.nfa ∙ ap (option_map (told_of w)) (again ∙ sym m.1) ∙ sym theirs in
-        searched found (part.value whole ∙ ap (option_map match_value) same) (subst (λ (o : Option Match). IfSome o (HasSlots slots)) same (part.slots whole))
-
-    none-searched : None ≡ option_map match_value (next_in r v) → IsSearched c.nfa v slots None
-    none-searched is =
-        let gone = none-there (next_in r v) is in
-        let none : next ≡ None = theirs ∙ ap (option_map (told_of w)) gone in
-        searched None (sym (ap (option_map match_value) none)) (subst (λ (o : Option Match). IfSome o (HasSlots slots)) (sym none) tt)
-      where
-        none-there : (o : Option Match) → None ≡ option_map match_value o → o ≡ None
-        none-there None e = refl
-        none-there (Some m) e = none-is-some e
-
-    narrowed-next : (kind : MatchKind) (f : MatchValue) → IsAnswerFor kind r v match_value (Some f) → (found : Option MatchValue)
-        → IsSearched c.nfa (narrowed v f) slots found → kind ≡ LeftmostFirst → v.earliest ≡ false → IsToldFor kind r v slots found
-    narrowed-next kind f is found part leftmost whole =
-        searched-told c v kind slots found (narrowed-searched whole f (is.value leftmost whole) found part) r of
+        subst (λ (x : MatchValue). next_in r (narrowed v x) ≡ Some m.0) m.2 (next-narrowed r v.haystack v.anchor v.end v.start m.0 m.1) ∙ sym m.1
 
     -- A search narrowed to any match finds a match, and to the next one that one.
-    pub narrowed-told : (kind : MatchKind) (f : MatchValue) → IsAnswerFor kind r v match_value (Some f) → (found : Option MatchValue)
-        → IsSearched c.nfa (narrowed v f) slots found → IsToldFor kind r v slots found
-    narrowed-told kind f is found part =
+    pub narrowed-told : (f : MatchValue) → IsAnswerFor kind r v match_value (Some f) → (found : Option MatchValue)
+        → IsToldFor kind r (narrowed v f) slots found → IsToldFor kind r v slots found
+    narrowed-told f is found part =
         let m = is.is_match.0 in
         let known : IsMatch r v.haystack v.anchor v.end v.start m = is.is_match.1 in
         let same : f ≡ match_value m = is.is_match.2 ∙ span-told w m in
-        let own : IsSearched c.nfa (covered_by v m) slots found = subst (λ (x : MatchValue). IsSearched c.nfa (narrowed v x) slots found) same part in
+        let own : IsToldFor kind r (covered_by v m) slots found = subst (λ (x : MatchValue). IsToldFor kind r (narrowed v x) slots found) same part in
         record {
-          value = λ leftmost whole. (narrowed-next kind f is found part leftmost whole).value leftmost whole;
-          exists =
-              own.exists ∙ ap is_some (own.patterns r of.nfa) ∙ is_some-map (told_of w) (next_in r (covered_by v m))
-              ∙ covered r v.haystack v.anchor v.end v.start of.ordered m known ∙ is.exists;
-          is_match = widened-found r v m known slots found (own.is_match r of.nfa);
-          slots = λ leftmost whole. (narrowed-next kind f is found part leftmost whole).slots leftmost whole;
+          value = λ leftmost whole. part.value leftmost whole ∙ ap (option_map match_value) (again f (is.value leftmost whole));
+          exists = own.exists ∙ covered r v.haystack v.anchor v.end v.start of.ordered m known ∙ is.exists;
+          is_match = widened-found r v m known slots found own.is_match;
+          slots = λ leftmost whole.
+              subst (λ (o : Option Match). IfSome (option_map (told_of w) o) (HasSlots slots)) (again f (is.value leftmost whole)) (part.slots leftmost whole);
         }
 
-    pub none-told : (kind : MatchKind) → IsAnswerFor kind r v match_value None → IsToldFor kind r v slots None
-    none-told kind is = searched-told c v kind slots None (none-searched (none-there (next_in r v) is.exists)) r of
+    pub none-told : IsAnswerFor kind r v match_value None → IsToldFor kind r v slots None
+    none-told is =
+        let gone = none-there (next_in r v) is.exists in
+        record {
+          value = λ leftmost whole. is.value leftmost whole;
+          exists = is.exists;
+          is_match = tt;
+          slots = λ leftmost whole. subst (λ (o : Option Match). IfSome (option_map (told_of w) o) (HasSlots slots)) (sym gone) tt;
+        }
       where
-        none-there : (o : Option Match) → false ≡ is_some o → None ≡ option_map match_value o
+        none-there : (o : Option Match) → false ≡ is_some o → o ≡ None
         none-there None e = refl
         none-there (Some m) e = absurd (true≢false (sym e))

@@ -5,6 +5,7 @@ pub mod StrategyLemmas
 pub mod ImpossibleLemmas
 pub mod AnchorLemmas
 pub mod InfoLemmas
+pub mod OnePassLemmas
 pub mod DfaLemmas
 pub mod EndingLemmas
 pub mod AttemptLemmas

@@ -12,6 +12,7 @@ use Rattle.rx_dfa.specs.contracts.dense.Dense as dense
 use Rattle.rx_engines.proofs.pikevm.vm.PikeVM.TheSendSync as pikevm
 use Rattle.rx_engines.proofs.backtrack.backtracker.BoundedBacktracker.TheSendSync as backtracker
 use Rattle.rx_strategy.proofs.info.RegexInfo.TheSendSync as info
+use Rattle.rx_strategy.proofs.onepass.OnePass.TheSendSync as once
 use Rattle.rx_strategy.specs.contracts.dfas.Dfas as dfas
 use Rattle.rx_strategy.specs.contracts.prefix.PrefixDfa as prefix
 use Rattle.rx_strategy.specs.contracts.prefix.Sort as sort
@@ -32,11 +33,13 @@ dfas_sync = search (sendable, crosses, dense_sync, lazy.the_sync) fits 5000 dept
 
 pub core_send : IsSend core.the_row
 core_send =
-    search (sendable, crosses, pikevm.the_send, backtracker.the_send, prefilter.the_send, info.the_field_send, nfa.the_send, dfas_send) fits 5000 depth 40
+    search (sendable, crosses, pikevm.the_send, once.the_field_send, backtracker.the_send, prefilter.the_send, info.the_field_send, nfa.the_send, dfas_send)
+    fits 5000 depth 40
 
 pub core_sync : IsSync core.the_row
 core_sync =
-    search (sendable, crosses, pikevm.the_sync, backtracker.the_sync, prefilter.the_sync, info.the_field_sync, nfa.the_sync, dfas_sync) fits 5000 depth 40
+    search (sendable, crosses, pikevm.the_sync, once.the_field_sync, backtracker.the_sync, prefilter.the_sync, info.the_field_sync, nfa.the_sync, dfas_sync)
+    fits 5000 depth 40
 
 pub strategy_send : IsSend strategy.the_row
 strategy_send = search (sendable, crosses, core_send) fits 5000 depth 40

@@ -7,6 +7,7 @@ use Rattle.rx_engines.specs.Engine.{accounted_memory, Fits as FitsPikeVM}
 use Rattle.rx_dfa.specs.LazyProps.{IsCacheOf-prop}
 use Rattle.rx_strategy.specs.Core.{CoreValue, pikevm_of}
 use Rattle.rx_strategy.specs.Dfas.{are_lazy, FitsLazies, HoldNoStates, states_memory}
+use Rattle.rx_strategy.specs.OnePass.{FitsOnePass, accounted_onepass}
 use Rattle.rx_strategy.specs.declared.lazies.Lazies.{Lazies}
 use Rattle.rx_strategy.specs.declared.strategy.Strategy.{Strategy}
 use Rattle.rx_strategy.specs.declared.strategy.Strategy.TheVariants.{Core}
@@ -14,6 +15,8 @@ use Rattle.rx_strategy.specs.declared.strategy.Strategy.TheVariants.{Core}
 pub record CacheValue : Type 0 where
   -- the room for each engine
   pub pikevm : pike.Room
+  -- the slots that the one-pass DFA writes to
+  pub onepass : Option ℕ
   pub backtrack : Option bounded.Room
   -- the caches of lazy DFAs, if there are some
   pub lazies : Option Lazies
@@ -32,6 +35,7 @@ backtrack_memory (Some room) = room.memory
 -- a cache with this room serves the core
 pub record FitsCore (c : CoreValue) (cache : CacheValue) : Type 0 where
   pub pikevm : FitsPikeVM (pikevm_of c) cache.pikevm
+  pub onepass : FitsOnePass c.onepass cache.onepass
   pub backtrack : FitsBacktracker c cache.backtrack
   pub lazies : FitsLazies c.dfas cache.lazies
 
@@ -66,9 +70,9 @@ AccountsAlike (Core core) old new = AccountsAlikeIn core old new
 abbrev pub accounted_backtrack : CoreValue → ℕ
 accounted_backtrack c = if c.backtracks then accounted_memory c.nfa else 0
 
--- What is accounted for a cache of the core that holds no state of a lazy DFA, as a new one: as much for each engine, up to the greatest number of 64 bits
+-- What is accounted for a cache of the core that holds no state of a lazy DFA, as a new one: for each engine, up to the greatest number of 64 bits.
 abbrev pub accounted_core : CoreValue → ℕ
-accounted_core c = min (2 ^ 64 - 1) (accounted_memory c.nfa + accounted_backtrack c)
+accounted_core c = min (2 ^ 64 - 1) (accounted_memory c.nfa + accounted_onepass c.onepass.dfa + accounted_backtrack c)
 
 -- what is accounted for a cache that is made for the strategy
 abbrev pub accounted_for : Strategy → ℕ

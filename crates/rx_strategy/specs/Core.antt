@@ -21,9 +21,11 @@ use Rattle.rx_strategy.specs.Availability.{AreDfasBeside}
 use Rattle.rx_strategy.specs.Config.{kind_of, captures_of, compiler_of, reverse_compiler_of, asks_for_dfas, has_backtracker}
 use Rattle.rx_strategy.specs.Impossible.{is_impossible}
 use Rattle.rx_strategy.specs.Dfas.{tables_memory}
+use Rattle.rx_strategy.specs.OnePass.{IsOnePassBeside, onepass_memory}
 use Rattle.rx_strategy.specs.Prefilter.{prefilter_for, prefilter_memory}
 use Rattle.rx_strategy.specs.declared.config.Config.{Config}
 use Rattle.rx_strategy.specs.declared.dfas.Dfas.{Dfas}
+use Rattle.rx_strategy.specs.declared.onepass.OnePass.{OnePass}
 
 pub record CoreValue : Type 0 where
   pub nfa : Nfa
@@ -31,6 +33,8 @@ pub record CoreValue : Type 0 where
   pub kind : MatchKind
   -- which groups are told
   pub which_captures : WhichCaptures
+  -- the one-pass DFA, if there is one
+  pub onepass : OnePass
   -- there is a backtracker
   pub backtracks : Bool
   -- the needles of its prefilter, if it has one
@@ -74,6 +78,8 @@ pub record IsCoreOf (config : Config) (hs : List Expression) (c : CoreValue) : T
   pub compiled : IsCompiled (compiler_of config) hs c.nfa
   pub kind : c.kind ≡ kind_of config
   pub which_captures : c.which_captures ≡ captures_of config
+  -- which one-pass DFA is there
+  pub onepass : IsOnePassBeside config c.nfa (alternation (expressions hs)) c.onepass
   -- there is a backtracker exactly where the configuration asks for one, and none under `All`
   pub backtracks : c.backtracks ≡ has_backtracker config
   -- it searches with the prefilter that these expressions have under the configuration
@@ -93,7 +99,7 @@ reverse_memory (Some nfa) = state_size * nfa.accounted
 
 -- what is accounted for the core itself
 abbrev pub core_memory : CoreValue → ℕ
-core_memory c = min (2 ^ 64 - 1) (prefilter_memory c.pre + state_size * c.nfa.accounted + reverse_memory c.reverse + tables_memory c.dfas)
+core_memory c = min (2 ^ 64 - 1) (prefilter_memory c.pre + state_size * c.nfa.accounted + reverse_memory c.reverse + onepass_memory c.onepass.dfa + tables_memory c.dfas)
 
 -- The properties are those of some patterns together, of which the NFA has no match where none is possible.
 pub record AreKnownOf (p : Properties) (nfa : Nfa) : Type 0 where
@@ -101,8 +107,8 @@ pub record AreKnownOf (p : Properties) (nfa : Nfa) : Type 0 where
   pub properties : AreOf (alternation (expressions patterns)) p
   pub none : (v : InputValue) → v.end ≤ length v.haystack → is_impossible patterns v ≡ true → next_match_in nfa v ≡ None
 
--- What an engine that always answers tells of a search, in the slots and else, whichever it is. Where it has a prefilter,
--- this is known of an input in which each run of the NFA begins with one of its needles.
+-- What the backtracker and the PikeVM tell of a search, in the slots and else. With a prefilter this is known of an
+-- input in which each run of the NFA begins with one of its needles.
 pub record IsSearched (nfa : Nfa) (v : InputValue) (told : List (Option ℕ)) (found : Option MatchValue) : Type 0 where
   -- without `earliest` the next match of its NFA
   pub value : v.earliest ≡ false → found ≡ option_map match_value (next_match_in nfa v)

@@ -3,6 +3,7 @@ pub mod Impossible
 pub mod Prefilter
 pub mod Availability
 pub mod Dfas
+pub mod OnePass
 pub mod Core
 pub mod Nofail
 pub mod Narrow

@@ -14,6 +14,7 @@ use Rattle.rx_strategy.specs.Cache.{CacheValue}
 use Rattle.rx_strategy.specs.Core.{IsCoreFor, IsCoreOf, core_finds, core_memory}
 use Rattle.rx_strategy.specs.Dfas.{tables_memory, are_lazy, pair_of}
 use Rattle.rx_strategy.specs.Ending.{is_fast_by}
+use Rattle.rx_strategy.specs.OnePass.{onepass_memory}
 use Rattle.rx_strategy.specs.Prefix.{PrefixValue, dfa_of, prefix_gives_up, prefix_wants}
 use Rattle.rx_dfa.specs.declared.lazy.lazy_cache.LazyCache.{LazyCache}
 use Rattle.rx_strategy.specs.declared.config.Config.{Config}
@@ -48,9 +49,17 @@ abbrev pub prefilter_in : Strategy → Option (List (List ℕ))
 prefilter_in (Core core) = core.pre
 
 -- The bytes that are accounted for the strategy itself, up to the greatest number of 64 bits: those of its prefilter, those of each
--- accounted state of its NFAs, in both directions where DFAs are asked for, and those of the tables of its full DFAs.
+-- accounted state of its NFAs, in both directions where DFAs are asked for, and those of the tables of its one-pass DFA and its full DFAs.
 abbrev pub strategy_memory : Strategy → ℕ
 strategy_memory (Core core) = core_memory core
+
+-- what is accounted for the table of its one-pass DFA, if it has one
+abbrev pub onepass_in : Strategy → ℕ
+onepass_in (Core core) = onepass_memory core.onepass.dfa
+
+-- which is there
+abbrev pub has_onepass : Strategy → Bool
+has_onepass (Core core) = is_some core.onepass.dfa
 
 -- what is accounted for the tables of its full DFAs, if it has some
 abbrev pub tables_in : Strategy → ℕ

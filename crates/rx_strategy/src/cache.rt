@@ -18,6 +18,7 @@ use std::marker::Model;
 #[derive(Drop)]
 pub struct Cache {
     pub(crate) pikevm: pikevm::Cache,
+    pub(crate) onepass: Option<rx_onepass::Cache>,
     pub(crate) backtrack: Option<backtrack::Cache>,
     /// The states of lazy DFAs.
     pub(crate) lazies: Option<Lazies>,
@@ -30,7 +31,7 @@ impl Model for Cache {
 
     ghost Value = { CacheValue };
 
-    ghost view = { λ c. record { pikevm = c.pikevm; backtrack = c.backtrack; lazies = c.lazies; memory = c.memory } };
+    ghost view = { λ c. record { pikevm = c.pikevm; onepass = c.onepass; backtrack = c.backtrack; lazies = c.lazies; memory = c.memory } };
 }
 
 impl Cache {
@@ -75,14 +76,26 @@ impl Cache {
         ensures empty { IfOk result HoldsNoStates }
     {
         let pikevm = self.pikevm.clone(alloc)?;
+        let onepass = self.clone_onepass()?;
         let backtrack = self.clone_backtrack(alloc)?;
         let lazies = self.clone_lazies(alloc)?;
         Ok(Cache {
             pikevm,
+            onepass,
             backtrack,
             lazies,
             memory: self.memory,
         })
+    }
+
+    /// The one-pass DFA's cache once more.
+    fn clone_onepass(&self) -> Result<Option<rx_onepass::Cache>, Memory>
+        ensures { IfOk result (λ c. c ≡ self.now.onepass) }
+    {
+        match &self.onepass {
+            Some(cache) => Ok(Some(cache.clone()?)),
+            None => Ok(None),
+        }
     }
 
     /// The backtracker's cache once more.

@@ -6,6 +6,7 @@ ghost use Rattle.rx_strategy.specs.Config.{byte_classes_of, pool_capacity_of, hy
 ghost use Rattle.rx_strategy.specs.Config.{backtrack_of, compiler_of, has_backtracker, nothing_set, overwritten};
 ghost use Rattle.rx_strategy.specs.Config.{reverse_compiler_of, prefix_compiler_of, asks_for_dfas};
 ghost use Rattle.rx_strategy.specs.Availability.{may_be_full, table_limit};
+ghost use Rattle.rx_strategy.specs.OnePass.{onepass_config};
 ghost use Rattle.rx_strategy.specs.Prefix.{prefix_limit};
 
 use rx_nfa::{NFA, WhichCaptures};
@@ -427,6 +428,17 @@ impl Config {
             Some(limit) => Some(limit / 2),
             None => None,
         }
+    }
+
+    /// How a one-pass DFA is built under this configuration: with starts for each pattern.
+    pub(crate) fn onepass_config(&self) -> rx_onepass::Config
+        ensures { result ≡ onepass_config self.now }
+    {
+        rx_onepass::Config::new()
+            .match_kind(self.get_match_kind())
+            .starts_for_each_pattern(true)
+            .byte_classes(self.get_byte_classes())
+            .size_limit(self.get_onepass_size_limit())
     }
 
     /// Whether a strategy under this configuration has the bounded backtracker.

@@ -7,6 +7,7 @@ ghost use Rattle.rx_search.specs.Input.{IsSpanned, span_len};
 ghost use Rattle.rx_strategy.specs.Impossible.{is_above, is_always_anchored_start, is_always_anchored_end, begins_too_late};
 ghost use Rattle.rx_strategy.specs.Impossible.{ends_too_early, is_too_short, is_anchored_start, is_too_long, is_impossible};
 ghost use Rattle.rx_strategy.specs.Narrow.{IsLenOf};
+ghost use Rattle.rx_strategy.specs.OnePass.{wants_onepass};
 
 use rx_hir::{Hir, Properties};
 use rx_search::{Input, Look, Memory};
@@ -131,6 +132,16 @@ impl RegexInfo {
             Some(greatest) if greatest == least => Some(least),
             _ => None,
         }
+    }
+
+    /// Whether the patterns want a one-pass DFA: for their groups, or for a look-around at which a DFA may quit.
+    pub(crate) fn wants_onepass(&self) -> bool
+        ensures { (h : Expression) → AreOf h self.now.properties → result ≡ wants_onepass h }
+    {
+        let looks = self.properties.look_set();
+        self.properties.explicit_captures_len() > 0
+            || looks.contains(Look::WordUnicode)
+            || looks.contains(Look::WordUnicodeNegate)
     }
 
     /// Whether the span is longer than the greatest length of a match, where one is known.

@@ -12,6 +12,7 @@ mod info;
 mod laws;
 mod lazies;
 mod narrow;
+mod onepass;
 mod prefilter;
 mod prefix;
 mod span;

@@ -1,7 +1,7 @@
 //! What is known of a match that was found.
-ghost use Rattle.std.specs.Prelude.{◌≡◌, option_map, IfSome};
+ghost use Rattle.std.specs.Prelude.{◌≡◌, option_map, IfSome, true};
 ghost use Rattle.rx_search.specs.Told.{LiesIn, HalfLiesIn};
-ghost use Rattle.rx_strategy.specs.Narrow.{narrowed, of_len};
+ghost use Rattle.rx_strategy.specs.Narrow.{narrowed, of_len, BeginsWithSpan, from_start};
 
 use rx_search::{Anchored, HalfMatch, Input, Match, Span};
 
@@ -38,4 +38,29 @@ fn match_to(input: &Input<'_>, end: HalfMatch, len: usize) -> Match
     let place = end.offset();
     let start = place.saturating_sub(len).max(input.start());
     Match::new(end.pattern(), Span { start, end: place })
+}
+
+/// Whether a match that ends there can begin where the span does and nowhere else: it is empty, or the search is anchored.
+pub(crate) fn begins_with_span(input: &Input<'_>, end: HalfMatch) -> bool
+    ensures { result ≡ true → BeginsWithSpan input.now end }
+{
+    if end.offset() == input.start() {
+        return true;
+    }
+    input.get_anchored().is_anchored()
+}
+
+/// The match that begins where the span does and ends there.
+pub(crate) fn match_from_start(input: &Input<'_>, end: HalfMatch) -> Match
+    requires { HalfLiesIn input.now end }
+    ensures { result ≡ from_start input.now end }
+{
+    let place = end.offset();
+    Match::new(
+        end.pattern(),
+        Span {
+            start: input.start(),
+            end: place,
+        },
+    )
 }

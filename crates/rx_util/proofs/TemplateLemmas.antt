@@ -141,13 +141,12 @@ module _ (piece : ℕ → List ℕ) (index : List ℕ → Option ℕ) where
       let again : IsFrontOf piece index (drop (place + 1 + (at_dollar piece index (drop (place + 1) template)).1) template) front =
       subst (λ (p : ℕ). IsFrontOf piece index (drop (p + 1 + (at_dollar piece index (drop (p + 1) template)).1) template) front) (sym same) after in
       let more = behind _ text front later again in
-      let stands : List ℕ = (at_dollar piece index (drop (place + 1) template)).0 in
-      (
+      let stands : List ℕ = (at_dollar piece index (drop (place + 1) template)).0 in (
         more.0,
         ap (λ (t : List ℕ). text_at template t place) more.1
-        ∙ ap (λ (t : List ℕ). take place template ++ t) (sym (append_assoc stands front more.0))
-        ∙ sym (append_assoc (take place template) (stands ++ front) more.0)
-        ∙ ap (λ (p : ℕ). text_at template front p ++ more.0) same,
+            ∙ ap (λ (t : List ℕ). take place template ++ t) (sym (append_assoc stands front more.0))
+            ∙ sym (append_assoc (take place template) (stands ++ front) more.0)
+            ∙ ap (λ (p : ℕ). text_at template front p ++ more.0) same,
       )
 
 pub begins : BeginsWithFronts

@@ -4,7 +4,7 @@ use super::*;
 use rx_search::Memory;
 use std::alloc::Global;
 use std::sync::Wait;
-use std::sync::atomic::{AtomicBool, Ordering};
+use std::sync::atomic::{AtomicBool, AtomicUsize, Ordering};
 use std::test::Fail;
 use std::thread::{join, yield_now};
 
@@ -48,6 +48,68 @@ fn a_value_is_made_once(rt: HostRuntime) -> Result<(), Fail> {
     Ok(())
 }
 
+/// Makes the letter `a`, but at its second call finds no memory.
+#[derive(Drop)]
+struct FailsOnce {
+    alloc: Global,
+    calls: AtomicUsize,
+}
+
+impl Maker for FailsOnce {
+    type Value = String;
+
+    fn make(&self) -> Result<String, Memory> {
+        if self.calls.fetch_add(1, Ordering::SeqCst) == 1 {
+            return Err(Memory);
+        }
+        Ok(String::from_str(self.alloc, "a")?)
+    }
+}
+
+/// The numbers of three values that are taken at once, where the second one is asked for twice, and whether it was refused.
+fn asked_again<R: Wait>(
+    rt: &R,
+    pool: &Pool<String, FailsOnce>,
+) -> Result<(u128, u128, u128, bool), Memory> {
+    let first = pool.get(rt)?;
+    let is_refused = pool.get(rt).is_err();
+    let second = pool.get(rt)?;
+    let third = pool.get(rt)?;
+    let numbers = (first.number(), second.number(), third.number());
+    PoolGuard::put(first, rt);
+    PoolGuard::put(second, rt);
+    PoolGuard::put(third, rt);
+    Ok((numbers.0, numbers.1, numbers.2, is_refused))
+}
+
+#[test]
+fn a_pool_serves_after_want_of_memory(rt: HostRuntime) -> Result<(), Fail> {
+    let alloc = rt.alloc();
+    let maker = FailsOnce {
+        alloc,
+        calls: AtomicUsize::new(0),
+    };
+    let pool = Pool::with_capacity(alloc, 1, maker)?;
+    assert_eq!(rt; asked_again(&rt, &pool)?, (0, 1, 2, true));
+    let last = pool.get(&rt)?;
+    assert_eq!(rt; (last.number(), last.value().as_str()), (2, "a"));
+    PoolGuard::put(last, &rt);
+    Ok(())
+}
+
+#[test]
+fn a_value_is_made_after_want_of_memory(rt: HostRuntime) -> Result<(), Fail> {
+    let alloc = rt.alloc();
+    let maker = FailsOnce {
+        alloc,
+        calls: AtomicUsize::new(1),
+    };
+    let lazy = Lazy::new(alloc, maker);
+    assert_eq!(rt; lazy.get(alloc).is_err(), true);
+    assert_eq!(rt; lazy.get(alloc)?.as_str(), "a");
+    Ok(())
+}
+
 /// Takes two values at once, and makes them differ.
 fn two_at_once<R: Wait>(
     rt: &R,
@@ -76,6 +138,21 @@ fn two_guards_hold_two_values(rt: HostRuntime) -> Result<(), Fail> {
     let pool = Pool::with_available_parallelism_capacity(alloc, 4, Letters { alloc })?;
     let (one, two, differ) = two_at_once(&rt, &pool)?;
     assert_eq!(rt; (one.as_str(), two.as_str(), differ), ("ab", "ac", true));
+    Ok(())
+}
+
+#[test]
+fn values_come_back_from_each_stack(rt: HostRuntime) -> Result<(), Fail> {
+    let alloc = rt.alloc();
+    let pool = Pool::with_capacity(alloc, 2, Letters { alloc })?;
+    let _texts = two_at_once(&rt, &pool)?;
+    let one = pool.get(&rt)?;
+    let two = pool.get(&rt)?;
+    let places = (one.stack(), one.number(), two.stack(), two.number());
+    assert_eq!(rt; places, (0, 0, 1, 0));
+    assert_eq!(rt; (one.value().as_str(), two.value().as_str()), ("ab", "ac"));
+    PoolGuard::put(one, &rt);
+    PoolGuard::put(two, &rt);
     Ok(())
 }
 
@@ -195,6 +272,52 @@ fn templates_are_filled_in(rt: HostRuntime) -> Result<(), Fail> {
         let (text, bytes) = filled_in(rt.alloc(), template, texts)?;
         assert_eq!(rt; text.as_str(), wanted);
         assert_eq!(rt; bytes.as_slice(), wanted.as_bytes());
+    }
+    Ok(())
+}
+
+/// What was appended to `x` of a template, as a text and as bytes, where group 2 wants memory at once and group 3 behind a `!`.
+fn cut_short(alloc: Global, template: &str) -> Result<(String, Vec<u8>, bool), Memory> {
+    let mut text = String::from_str(alloc, "x")?;
+    let group = |number: usize, dst: &mut String| -> Result<(), Memory> {
+        if number == 2 {
+            return Err(Memory);
+        }
+        dst.push('!')?;
+        if number == 3 { Err(Memory) } else { Ok(()) }
+    };
+    let told = interpolate::string(template, group, |name: &str| index_of(name), &mut text);
+    let mut bytes = Vec::from_slice(alloc, b"x")?;
+    let group = |number: usize, dst: &mut Vec<u8>| -> Result<(), Memory> {
+        if number == 2 {
+            return Err(Memory);
+        }
+        dst.push(b'!')?;
+        if number == 3 { Err(Memory) } else { Ok(()) }
+    };
+    let told_bytes = interpolate::bytes(
+        template.as_bytes(),
+        group,
+        |name: &str| index_of(name),
+        &mut bytes,
+    );
+    Ok((text, bytes, told.is_err() && told_bytes.is_err()))
+}
+
+#[test]
+fn templates_end_where_memory_is_wanting(rt: HostRuntime) -> Result<(), Fail> {
+    let rows = [
+        ("a${1}b$$c${2}d", "xa!b$c", true),
+        ("a$bar b${3}d", "xa! b!", true),
+        ("$foo$1", "x", true),
+        ("a${1}b", "xa!b", false),
+    ];
+    for (template, wanted, is_cut) in rows {
+        let (text, bytes, is_err) = cut_short(rt.alloc(), template)?;
+        assert_eq!(rt;
+            (text.as_str(), bytes.as_slice(), is_err),
+            (wanted, wanted.as_bytes(), is_cut)
+        );
     }
     Ok(())
 }

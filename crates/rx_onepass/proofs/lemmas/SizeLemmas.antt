@@ -1,11 +1,13 @@
 -- How large a table and its starts are.
-use Rattle.std.proofs.Common.{◌≡◌, ℕ, zero, suc, ◌+◌, ◌^◌, ◌≤◌, List, length, ap, inl, inr, arith, slice_index}
+use Rattle.std.proofs.Common.{◌≡◌, ℕ, zero, suc, ◌+◌, ◌*◌, ◌^◌, ◌≤◌, List, length, IfSome, sym, ◌∙◌, ap, ap₂, subst, inl, inr, arith, slice_index}
+use Rattle.std.proofs.Math.Nat.{mul_comm}
 use Rattle.std.specs.Prelude.{true, false, Bool}
 use Rattle.rx_search.specs.ByteClasses.{AreClasses, alphabet_len}
 use Rattle.rx_nfa.specs.Nfa.{Nfa}
 use Rattle.rx_onepass_table.specs.Rows.{IsWhole}
 use Rattle.rx_onepass_build.specs.Build.{start_count}
-use Rattle.rx_onepass_build.specs.Config.{each_of}
+use Rattle.rx_onepass_build.specs.Config.{each_of, size_limit_of}
+use Rattle.rx_onepass_build.specs.Entries.{size_of}
 use Rattle.rx_onepass_build.proofs.lemmas.LayoutLemmas.{pow-narrow, product-below}
 use Rattle.rx_onepass.specs.Dfa.{Dfa, IsSound}
 
@@ -41,3 +43,16 @@ module _ (d : Dfa) (s : IsSound d) where
       let count = s.starts_are.count in
       let few = count-few d.nfa (each_of d.config) 4194303 s.admitted.patterns in
       omega arith
+
+  -- each row has as many cells
+  pub cells-of-rows : IsWhole d.table → length d.table.cells ≡ d.table.rows * d.table.stride
+  cells-of-rows whole = whole.len ∙ mul_comm d.table.stride d.table.rows
+
+  -- what is accounted is within the limit
+  pub accounted-within : (size : ℕ) → size ≡ 8 * (d.table.rows * d.table.stride) + 4 * length d.starts
+      → IfSome (size_limit_of d.config) (λ limit. size ≤ limit)
+  accounted-within size is =
+      let starts = s.starts_are.count ∙ sym s.layout_is.starts_are in
+      let same : size ≡ size_of s.layout d.table.rows = is ∙ ap₂ (λ stride n. 8 * (d.table.rows * stride) + 4 * n) s.stride starts in
+      subst (λ o. IfSome o (λ limit. size ≤ limit)) s.layout_is.limit_is
+      (subst (λ n. IfSome s.layout.limit (λ limit. n ≤ limit)) (sym same) s.within)

@@ -12,15 +12,15 @@ ghost use Rattle.rx_dfa.specs.Search.{IsAnswerFor};
 ghost use Rattle.rx_attempts.specs.Candidates.{AreNotEmpty};
 ghost use Rattle.rx_attempts.specs.Counts.{HasCounted};
 ghost use Rattle.rx_attempts.specs.Refusals.{SuffixFails, InnerFails};
+ghost use Rattle.rx_attempts.specs.Stops.{StopsBy};
 ghost use Rattle.rx_strategy.specs.Dfas.{ArePaired, IsSearchFor, SearchFor, are_lazy, pair_of, FitsLazies, IsPatternOf, AreCachesOf};
 ghost use Rattle.rx_strategy.specs.Attempts.{HasSuffix, HasInner, IsOneNeedle, SuffixFailsIn, InnerFailsIn, HasCountedSuffix, HasCountedInner};
 
 use crate::dfas::Dfas;
 use crate::lazies::Lazies;
-use rx_attempts::{reverse_inner_attempt, reverse_suffix_attempt};
+use rx_attempts::{Patience, Stop, reverse_inner_attempt, reverse_suffix_attempt};
 use rx_dfa::Automaton;
 use rx_dfa::lazy::Lazy;
-use rx_limited::RetryError;
 use rx_prefilter::Prefilter;
 use rx_search::{Input, Match, Steps};
 use std::sync::ledger::Ledger;
@@ -33,8 +33,9 @@ impl Dfas {
         lazies: &mut Option<Lazies>,
         pre: &Prefilter,
         input: &Input<'_>,
+        patience: Patience,
         steps: &mut Steps<L>,
-    ) -> Result<Option<Match>, RetryError>
+    ) -> Result<Option<Match>, Stop>
         requires fits { FitsLazies self.now lazies.old }
         requires there { is_some (pair_of self.now) ≡ true }
         requires paired { ArePaired self.now }
@@ -44,7 +45,7 @@ impl Dfas {
             → IfOk result (IsAnswerFor kind r input.now match_value) }
         ensures within { IfOk result (λ found. IfSome found (LiesIn input.now)) }
         ensures in_range { IfOk result (λ found. IfSome found (λ m. IsPatternOf self.now m.pattern)) }
-        ensures err { IfErr result (SuffixFailsIn self.now pre.now input.now lazies.new) }
+        ensures err { IfErr result (StopsBy patience (SuffixFailsIn self.now pre.now input.now lazies.new)) }
         ensures ticks { input.now.earliest ≡ false → IfOk result (HasCountedSuffix self.now pre.now input.now steps.old steps.new) }
         ensures few { steps.new ≤ steps.old + 8 * (span_len input.now + 1) }
         ensures fits { FitsLazies self.now lazies.new }
@@ -59,13 +60,14 @@ impl Dfas {
                 &mut (),
                 pre,
                 input,
+                patience,
                 steps,
             ),
             Dfas::Lazy { forward, backward } => {
                 let Some(both) = lazies else {
                     unreachable!();
                 };
-                by_suffix_in(forward, backward, both, pre, input, steps)
+                by_suffix_in(forward, backward, both, pre, input, patience, steps)
             }
         }
     }
@@ -79,8 +81,9 @@ impl Dfas {
         rev: &B,
         rev_cache: &mut B::Cache,
         input: &Input<'_>,
+        patience: Patience,
         steps: &mut Steps<L>,
-    ) -> Result<Option<Match>, RetryError>
+    ) -> Result<Option<Match>, Stop>
         requires fits { FitsLazies self.now lazies.old }
         requires rev_fits { B.fits rev.now rev_cache.old }
         requires there { is_some (pair_of self.now) ≡ true }
@@ -92,8 +95,8 @@ impl Dfas {
             → IfOk result (IsAnswerFor kind r input.now match_value) }
         ensures within { IfOk result (λ found. IfSome found (LiesIn input.now)) }
         ensures in_range { IfOk result (λ found. IfSome found (λ m. IsPatternOf self.now m.pattern)) }
-        ensures err { IfErr result (InnerFailsIn self.now (B.dfa rev.now) pre.now input.now lazies.new
-            (B.gives_up rev.now rev_cache.new) (B.wants rev.now)) }
+        ensures err { IfErr result (StopsBy patience (InnerFailsIn self.now (B.dfa rev.now) pre.now input.now lazies.new
+            (B.gives_up rev.now rev_cache.new) (B.wants rev.now))) }
         ensures ticks { input.now.earliest ≡ false
             → IfOk result (HasCountedInner self.now (B.dfa rev.now) pre.now input.now steps.old steps.new) }
         ensures few { steps.new ≤ steps.old + 8 * (span_len input.now + 1) }
@@ -110,13 +113,14 @@ impl Dfas {
                 rev_cache,
                 pre,
                 input,
+                patience,
                 steps,
             ),
             Dfas::Lazy { forward, .. } => {
                 let Some(both) = lazies else {
                     unreachable!();
                 };
-                by_inner_in(forward, both, rev, rev_cache, pre, input, steps)
+                by_inner_in(forward, both, rev, rev_cache, pre, input, patience, steps)
             }
         }
     }
@@ -130,8 +134,9 @@ fn by_suffix<F: Automaton, B: Automaton, L: Ledger>(
     rev_cache: &mut B::Cache,
     pre: &Prefilter,
     input: &Input<'_>,
+    patience: Patience,
     steps: &mut Steps<L>,
-) -> Result<Option<Match>, RetryError>
+) -> Result<Option<Match>, Stop>
     requires fwd_fits { F.fits forward.now fwd_cache.old }
     requires rev_fits { B.fits backward.now rev_cache.old }
     requires forward { (F.dfa forward.now).nfa.reverse ≡ false }
@@ -142,15 +147,17 @@ fn by_suffix<F: Automaton, B: Automaton, L: Ledger>(
         → IfOk result (IsAnswerFor kind r input.now match_value) }
     ensures within { IfOk result (λ found. IfSome found (LiesIn input.now)) }
     ensures in_range { IfOk result (λ found. IfSome found (λ m. m.pattern < length (F.dfa forward.now).nfa.starts)) }
-    ensures err { IfErr result (SuffixFails (F.dfa forward.now) (B.dfa backward.now) pre.now input.now (F.gives_up forward.now fwd_cache.new)
-        (F.wants forward.now) (B.gives_up backward.now rev_cache.new) (B.wants backward.now)) }
+    ensures err { IfErr result (StopsBy patience (SuffixFails (F.dfa forward.now) (B.dfa backward.now) pre.now input.now (F.gives_up forward.now fwd_cache.new)
+        (F.wants forward.now) (B.gives_up backward.now rev_cache.new) (B.wants backward.now))) }
     ensures ticks { input.now.earliest ≡ false
         → IfOk result (HasCounted (F.dfa forward.now) (B.dfa backward.now) pre.now input.now (λ s. s.end) steps.old steps.new) }
     ensures few { steps.new ≤ steps.old + 8 * (span_len input.now + 1) }
     ensures fwd_fits { F.fits forward.now fwd_cache.new }
     ensures rev_fits { B.fits backward.now rev_cache.new }
 {
-    reverse_suffix_attempt(pre, forward, fwd_cache, backward, rev_cache, input, steps)
+    reverse_suffix_attempt(
+        pre, forward, fwd_cache, backward, rev_cache, input, patience, steps,
+    )
 }
 
 /// The same by lazy DFAs, with the caches that are their own.
@@ -160,8 +167,9 @@ fn by_suffix_in<L: Ledger>(
     both: &mut Lazies,
     pre: &Prefilter,
     input: &Input<'_>,
+    patience: Patience,
     steps: &mut Steps<L>,
-) -> Result<Option<Match>, RetryError>
+) -> Result<Option<Match>, Stop>
     requires fits { AreCachesOf (forward.now, backward.now) both.old }
     requires forward { forward.now.dfa.nfa.reverse ≡ false }
     requires backward { backward.now.dfa.nfa.reverse ≡ true }
@@ -171,8 +179,8 @@ fn by_suffix_in<L: Ledger>(
         → IfOk result (IsAnswerFor kind r input.now match_value) }
     ensures within { IfOk result (λ found. IfSome found (LiesIn input.now)) }
     ensures in_range { IfOk result (λ found. IfSome found (λ m. m.pattern < length forward.now.dfa.nfa.starts)) }
-    ensures err { IfErr result (SuffixFails forward.now.dfa backward.now.dfa pre.now input.now (GaveUpOn forward.now both.new.forward.rows) (Unit {0})
-        (GaveUpOn backward.now both.new.backward.rows) (Unit {0})) }
+    ensures err { IfErr result (StopsBy patience (SuffixFails forward.now.dfa backward.now.dfa pre.now input.now (GaveUpOn forward.now both.new.forward.rows)
+        (Unit {0}) (GaveUpOn backward.now both.new.backward.rows) (Unit {0}))) }
     ensures ticks { input.now.earliest ≡ false
         → IfOk result (HasCounted forward.now.dfa backward.now.dfa pre.now input.now (λ s. s.end) steps.old steps.new) }
     ensures few { steps.new ≤ steps.old + 8 * (span_len input.now + 1) }
@@ -185,6 +193,7 @@ fn by_suffix_in<L: Ledger>(
         &mut both.backward,
         pre,
         input,
+        patience,
         steps,
     )
 }
@@ -197,8 +206,9 @@ fn by_inner<F: Automaton, B: Automaton, L: Ledger>(
     rev_cache: &mut B::Cache,
     pre: &Prefilter,
     input: &Input<'_>,
+    patience: Patience,
     steps: &mut Steps<L>,
-) -> Result<Option<Match>, RetryError>
+) -> Result<Option<Match>, Stop>
     requires fwd_fits { F.fits forward.now fwd_cache.old }
     requires rev_fits { B.fits rev.now rev_cache.old }
     requires forward { (F.dfa forward.now).nfa.reverse ≡ false }
@@ -209,15 +219,17 @@ fn by_inner<F: Automaton, B: Automaton, L: Ledger>(
         → IfOk result (IsAnswerFor kind r input.now match_value) }
     ensures within { IfOk result (λ found. IfSome found (LiesIn input.now)) }
     ensures in_range { IfOk result (λ found. IfSome found (λ m. m.pattern < length (F.dfa forward.now).nfa.starts)) }
-    ensures err { IfErr result (InnerFails (F.dfa forward.now) (B.dfa rev.now) pre.now input.now (F.gives_up forward.now fwd_cache.new)
-        (F.wants forward.now) (B.gives_up rev.now rev_cache.new) (B.wants rev.now)) }
+    ensures err { IfErr result (StopsBy patience (InnerFails (F.dfa forward.now) (B.dfa rev.now) pre.now input.now (F.gives_up forward.now fwd_cache.new)
+        (F.wants forward.now) (B.gives_up rev.now rev_cache.new) (B.wants rev.now))) }
     ensures ticks { input.now.earliest ≡ false
         → IfOk result (HasCounted (F.dfa forward.now) (B.dfa rev.now) pre.now input.now (λ s. s.start) steps.old steps.new) }
     ensures few { steps.new ≤ steps.old + 8 * (span_len input.now + 1) }
     ensures fwd_fits { F.fits forward.now fwd_cache.new }
     ensures rev_fits { B.fits rev.now rev_cache.new }
 {
-    reverse_inner_attempt(pre, forward, fwd_cache, rev, rev_cache, input, steps)
+    reverse_inner_attempt(
+        pre, forward, fwd_cache, rev, rev_cache, input, patience, steps,
+    )
 }
 
 /// The same by a lazy DFA that reads forwards, with the cache that is its own.
@@ -228,8 +240,9 @@ fn by_inner_in<B: Automaton, L: Ledger>(
     rev_cache: &mut B::Cache,
     pre: &Prefilter,
     input: &Input<'_>,
+    patience: Patience,
     steps: &mut Steps<L>,
-) -> Result<Option<Match>, RetryError>
+) -> Result<Option<Match>, Stop>
     requires fits { IsCacheOf forward.now both.old.forward }
     requires rev_fits { B.fits rev.now rev_cache.old }
     requires forward { forward.now.dfa.nfa.reverse ≡ false }
@@ -240,8 +253,8 @@ fn by_inner_in<B: Automaton, L: Ledger>(
         → IfOk result (IsAnswerFor kind r input.now match_value) }
     ensures within { IfOk result (λ found. IfSome found (LiesIn input.now)) }
     ensures in_range { IfOk result (λ found. IfSome found (λ m. m.pattern < length forward.now.dfa.nfa.starts)) }
-    ensures err { IfErr result (InnerFails forward.now.dfa (B.dfa rev.now) pre.now input.now (GaveUpOn forward.now both.new.forward.rows) (Unit {0})
-        (B.gives_up rev.now rev_cache.new) (B.wants rev.now)) }
+    ensures err { IfErr result (StopsBy patience (InnerFails forward.now.dfa (B.dfa rev.now) pre.now input.now (GaveUpOn forward.now both.new.forward.rows)
+        (Unit {0}) (B.gives_up rev.now rev_cache.new) (B.wants rev.now))) }
     ensures ticks { input.now.earliest ≡ false
         → IfOk result (HasCounted forward.now.dfa (B.dfa rev.now) pre.now input.now (λ s. s.start) steps.old steps.new) }
     ensures few { steps.new ≤ steps.old + 8 * (span_len input.now + 1) }
@@ -256,6 +269,7 @@ fn by_inner_in<B: Automaton, L: Ledger>(
         rev_cache,
         pre,
         input,
+        patience,
         steps,
     )
 }

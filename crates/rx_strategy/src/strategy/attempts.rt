@@ -9,6 +9,7 @@ ghost use Rattle.rx_search.specs.Promise.{Premises};
 ghost use Rattle.rx_search.specs.Told.{AreWithin, LiesIn, HalfLiesIn};
 ghost use Rattle.rx_dfa.specs.Search.{IsAnswerFor};
 ghost use Rattle.rx_attempts.specs.Candidates.{AreNotEmpty};
+ghost use Rattle.rx_attempts.specs.Stops.{StopsBy};
 ghost use Rattle.rx_strategy.specs.Attempts.{HasSuffix, HasInner, IsOneNeedle, IsToldBy};
 ghost use Rattle.rx_strategy.specs.Cache.{Fits, AccountsAlike};
 ghost use Rattle.rx_strategy.specs.Prefix.{dfa_of, are_states, FitsPrefix};
@@ -18,7 +19,7 @@ ghost use Rattle.rx_strategy.specs.Strategy.{SuffixFailsFor, InnerFailsFor, Coun
 use crate::cache::Cache;
 use crate::prefix::{PrefixCache, PrefixDfa};
 use crate::strategy::Strategy;
-use rx_limited::RetryError;
+use rx_attempts::{Patience, Stop};
 use rx_prefilter::Prefilter;
 use rx_search::{HalfMatch, Input, Match, NonMaxUsize, Steps};
 use std::sync::ledger::Ledger;
@@ -29,30 +30,32 @@ impl Strategy {
     ///
     /// # Errors
     ///
-    /// `Quadratic` where bytes would be read again and again; `Fail` where a DFA quit or gave up; `Memory`.
+    /// `Quadratic` where bytes would be read again and again; `Fail` where a DFA quit or gave up; `Memory`; `Dense` where a short patience is
+    /// lost.
     pub fn try_reverse_suffix<L: Ledger>(
         &self,
         cache: &mut Cache,
         pre: &Prefilter,
         input: &Input<'_>,
+        patience: Patience,
         steps: &mut Steps<L>,
-    ) -> Result<Option<Match>, RetryError>
+    ) -> Result<Option<Match>, Stop>
         requires fits { Fits self.now cache.old }
         requires there { has_dfas self.now ≡ true }
         requires free { is_anchored input.now.anchor ≡ false }
         requires suffix { IsOneNeedle pre.now }
-        ensures answer { (r : Patterns) → Premises (IsFor self.now r) (prefilter_in self.now) r input.now → HasSuffix pre.now r
+        ensures answer { (r : Patterns) → Premises (IsFor self.now r) None r input.now → HasSuffix pre.now r
             → IfOk result (IsAnswerFor (kind_in self.now) r input.now match_value) }
         ensures within { IfOk result (λ found. IfSome found (LiesIn input.now)) }
         ensures in_range { IfOk result (λ found. IfSome found (λ m. m.pattern < pattern_count self.now)) }
-        ensures err { IfErr result (SuffixFailsFor self.now pre.now input.now cache.new) }
+        ensures err { IfErr result (StopsBy patience (SuffixFailsFor self.now pre.now input.now cache.new)) }
         ensures ticks { input.now.earliest ≡ false → IfOk result (CountsSuffix self.now pre.now input.now steps.old steps.new) }
         ensures few { steps.new ≤ steps.old + 8 * (span_len input.now + 1) }
         ensures cache { Fits self.now cache.new }
         ensures memory { AccountsAlike self.now cache.old cache.new }
     {
         match self {
-            Strategy::Core(core) => core.try_reverse_suffix(cache, pre, input, steps),
+            Strategy::Core(core) => core.try_reverse_suffix(cache, pre, input, patience, steps),
         }
     }
 
@@ -70,18 +73,19 @@ impl Strategy {
         prefix: &PrefixDfa,
         states: &mut PrefixCache,
         input: &Input<'_>,
+        patience: Patience,
         steps: &mut Steps<L>,
-    ) -> Result<Option<Match>, RetryError>
+    ) -> Result<Option<Match>, Stop>
         requires fits { Fits self.now cache.old }
         requires states_fit { FitsPrefix prefix.now states.old }
         requires there { has_dfas self.now ≡ true }
         requires free { is_anchored input.now.anchor ≡ false }
         requires needles { AreNotEmpty pre.now }
-        ensures answer { (r : Patterns) → Premises (IsFor self.now r) (prefilter_in self.now) r input.now → HasInner (dfa_of prefix.now) pre.now r
+        ensures answer { (r : Patterns) → Premises (IsFor self.now r) None r input.now → HasInner (dfa_of prefix.now) pre.now r
             → IfOk result (IsAnswerFor (kind_in self.now) r input.now match_value) }
         ensures within { IfOk result (λ found. IfSome found (LiesIn input.now)) }
         ensures in_range { IfOk result (λ found. IfSome found (λ m. m.pattern < pattern_count self.now)) }
-        ensures err { IfErr result (InnerFailsFor self.now prefix.now pre.now input.now cache.new states.new) }
+        ensures err { IfErr result (StopsBy patience (InnerFailsFor self.now prefix.now pre.now input.now cache.new states.new)) }
         ensures ticks { input.now.earliest ≡ false → IfOk result (CountsInner self.now prefix.now pre.now input.now steps.old steps.new) }
         ensures few { steps.new ≤ steps.old + 8 * (span_len input.now + 1) }
         ensures cache { Fits self.now cache.new }
@@ -91,7 +95,7 @@ impl Strategy {
     {
         match self {
             Strategy::Core(core) => core.try_reverse_inner(
-                cache, pre, prefix, states, input, steps,
+                cache, pre, prefix, states, input, patience, steps,
             ),
         }
     }

@@ -23,6 +23,7 @@ ghost use Rattle.rx_strategy.specs.Core.{CoreValue, IsCoreFor, AreKnownOf, IsSea
 ghost use Rattle.rx_strategy.specs.Dfas.{ServeNfa};
 ghost use Rattle.rx_strategy.specs.Impossible.{is_always_anchored_start, is_impossible};
 ghost use Rattle.rx_strategy.specs.Narrow.{IsLenOf};
+ghost use Rattle.rx_strategy.specs.OnePass.{IsOnePassBeside, ServesOnce, onepass_serves};
 ghost use Rattle.rx_strategy.specs.Nofail.{IsAskedFor};
 
 mod attempts;
@@ -32,7 +33,8 @@ use crate::cache::Cache;
 use crate::config::{Config, shared};
 use crate::dfas::{Dfas, NoAnswer};
 use crate::info::RegexInfo;
-use crate::narrow::{match_of_len, narrowed};
+use crate::narrow::{begins_with_span, match_from_start, match_of_len, narrowed};
+use crate::onepass::{OnePass, find_in_one_pass};
 use crate::prefilter::memory_usage as accounted;
 use crate::span::leave_span;
 use rx_engines::backtrack::{self, BoundedBacktracker};
@@ -40,18 +42,20 @@ use rx_engines::empty;
 use rx_engines::pikevm::PikeVM;
 use rx_hir::Properties;
 use rx_nfa::{NFA, WhichCaptures};
+use rx_onepass::DFA;
 use rx_prefilter::Prefilter;
 use rx_search::{Anchored, HalfMatch, Input, Match, MatchKind, Memory, NonMaxUsize, PatternSet};
 use std::alloc::Global;
 use std::marker::Model;
 
 /// The DFAs and the engines over one NFA. A search asks the DFAs, where they are there; where they have no answer, it asks an engine
-/// that always answers: the bounded backtracker where it serves, and else the PikeVM. Which of them serves a search changes no
-/// answer that is promised.
+/// that always answers: the one-pass DFA where it serves, else the bounded backtracker where that serves, and else the PikeVM. Which
+/// of them serves a search changes no answer that is promised.
 #[derive(Drop)]
 pub struct Core {
     pikevm: PikeVM,
     kind: MatchKind,
+    onepass: OnePass,
     backtrack: Option<BoundedBacktracker>,
     which_captures: WhichCaptures,
     pre: Option<Prefilter>,
@@ -67,6 +71,7 @@ impl Model for Core {
     ghost use Rattle.rx_nfa.specs.Config.{captures_kind};
     ghost use Rattle.rx_strategy.specs.Core.{CoreValue, AreKnownOf};
     ghost use Rattle.rx_strategy.specs.Dfas.{ServeNfa};
+    ghost use Rattle.rx_strategy.specs.OnePass.{ServesOnce};
 
     ghost Value = { CoreValue };
 
@@ -74,6 +79,7 @@ impl Model for Core {
       nfa = c.pikevm.nfa;
       kind = c.pikevm.kind;
       which_captures = captures_kind c.which_captures;
+      onepass = c.onepass;
       backtracks = is_some c.backtrack;
       pre = c.pre;
       properties = c.info.properties;
@@ -83,10 +89,10 @@ impl Model for Core {
 
     ghost invariant = { λ c. IfSome c.backtrack (λ b. (b.nfa ≡ c.pikevm.nfa) × (b.pre ≡ c.pre) × (c.pikevm.kind ≡ LeftmostFirst))
         × AreKnownOf c.info.properties c.pikevm.nfa × (c.pikevm.pre ≡ c.pre) × ServeNfa c.pikevm.nfa c.pikevm.kind c.reverse c.dfas
-        × (c.kind ≡ c.pikevm.kind) };
+        × (c.kind ≡ c.pikevm.kind) × ServesOnce c.pikevm.nfa c.pikevm.kind c.info.properties c.onepass };
 }
 
-/// An engine that answers each search that it is asked for.
+/// An engine that answers each search that it is asked for, by the states of the NFA.
 pub(crate) enum Nofail<'a> {
     Backtrack(&'a BoundedBacktracker),
     PikeVM(&'a PikeVM),
@@ -110,21 +116,25 @@ impl Core {
           nfa = nfa;
           kind = kind_of config.now;
           which_captures = captures_of config.now;
+          onepass = core.onepass;
           backtracks = has_backtracker config.now;
           pre = pre;
           properties = info.properties;
           reverse = reverse;
           dfas = core.dfas;
         }) }
+        ensures onepass { IfOk result (λ core. (h : Expression) → AreOf h info.properties → IsOnePassBeside config.now nfa h core.onepass) }
         ensures dfas { IfOk result (λ core. AreDfasBeside config.now nfa reverse core.dfas) }
     {
         let kind = config.get_match_kind();
+        let onepass = OnePass::new(alloc, config, &nfa, &info)?;
         let backtrack = backtracker(config, &nfa, &pre)?;
         let dfas = Dfas::new(alloc, config, &nfa, reverse.as_ref())?;
         let own = shared(pre.as_ref())?;
         Ok(Core {
             pikevm: PikeVM::build_from_nfa(nfa, kind, own),
             kind,
+            onepass,
             backtrack,
             which_captures: config.get_which_captures(),
             pre,
@@ -141,13 +151,15 @@ impl Core {
         self.pikevm.get_nfa()
     }
 
-    /// The bytes that are accounted for the core itself: those of its prefilter, of its NFAs, and of the tables of full DFAs.
+    /// The bytes that are accounted for the core itself: those of its prefilter, of its NFAs, and of the tables of the one-pass DFA and of
+    /// full DFAs.
     pub(crate) fn memory_usage(&self) -> usize
         ensures { result ≡ core_memory self.now }
     {
         accounted(&self.pre)
             .saturating_add(self.get_nfa().memory_usage())
             .saturating_add(reverse_memory(&self.reverse))
+            .saturating_add(self.onepass.memory_usage())
             .saturating_add(self.dfas.memory_usage())
     }
 
@@ -168,13 +180,16 @@ impl Core {
         ensures empty { IfOk result HoldsNoStates }
     {
         let pikevm = self.pikevm.create_cache(alloc)?;
+        let onepass = self.onepass.create_cache(alloc)?;
         let backtrack = self.backtrack_cache(alloc)?;
         let lazies = self.dfas.create_cache(alloc)?;
         let memory = pikevm
             .memory_usage()
+            .saturating_add(self.onepass.cache_memory())
             .saturating_add(memory_usage(&backtrack));
         Ok(Cache {
             pikevm,
+            onepass,
             backtrack,
             lazies,
             memory,
@@ -202,10 +217,15 @@ impl Core {
         ensures kept { FitsCore self.now cache.old → StillFits cache.old cache.new }
     {
         cache.pikevm.reset(alloc, &self.pikevm)?;
+        self.onepass.fit_cache(alloc, &mut cache.onepass)?;
         let backtrack = self.reset_backtrack(alloc, &mut cache.backtrack)?;
         // What the lazy DFAs of another core left would be wrong here.
         self.dfas.reset_cache(alloc, &mut cache.lazies)?;
-        cache.memory = cache.pikevm.memory_usage().saturating_add(backtrack);
+        cache.memory = cache
+            .pikevm
+            .memory_usage()
+            .saturating_add(self.onepass.cache_memory())
+            .saturating_add(backtrack);
         Ok(())
     }
 
@@ -422,7 +442,7 @@ impl Core {
     }
 
     /// The next match in the input's span, with slots of groups: the DFAs find the span of a match, and an engine that keeps slots reads
-    /// no more than that.
+    /// no more than that. Where the one-pass DFA serves the input itself, nothing is read twice.
     fn search_groups(
         &self,
         cache: &mut Cache,
@@ -431,6 +451,7 @@ impl Core {
     ) -> Option<Match>
         requires fits { FitsCore self.now cache.old }
         requires spanned { IsSpanned input.now }
+        requires told { tells self.now.which_captures ≡ true }
         ensures told { (r : Patterns) → Premises (IsCoreFor self.now r) self.now.pre r input.now
             → IsToldFor self.now.kind r input.now slots.new result }
         ensures within { IfSome result (LiesIn input.now) }
@@ -440,6 +461,9 @@ impl Core {
         ensures cache { FitsCore self.now cache.new }
         ensures memory { AccountsAlikeIn self.now cache.old cache.new }
     {
+        if self.get_onepass(input).is_some() {
+            return self.search_nofail(cache, input, slots);
+        }
         match self.try_search_mayfail(cache, input) {
             Ok(found) => self.search_found(cache, input, &found, slots),
             Err(_) => self.search_nofail(cache, input, slots),
@@ -457,6 +481,7 @@ impl Core {
     ) -> Option<Match>
         requires fits { FitsCore self.now cache.old }
         requires spanned { IsSpanned input.now }
+        requires told { tells self.now.which_captures ≡ true }
         requires lies { IfSome found.now (LiesIn input.now) }
         ensures told { (r : Patterns) → IsCoreFor self.now r → IsAnswerFor self.now.kind r input.now match_value found.now
             → IsToldFor self.now.kind r input.now slots.new result }
@@ -579,6 +604,10 @@ impl Core {
         ensures cache { FitsCore self.now cache.new }
         ensures memory { AccountsAlikeIn self.now cache.old cache.new }
     {
+        // Nothing is read backwards where the place is known.
+        if begins_with_span(input, end) {
+            return Ok(Some(match_from_start(input, end)));
+        }
         self.get_dfas()
             .try_search_start(&mut cache.lazies, input, end)
     }
@@ -660,6 +689,15 @@ impl Core {
         &self.dfas
     }
 
+    /// The one-pass DFA, where it serves the input.
+    pub(crate) fn get_onepass(&self, input: &Input<'_>) -> Option<&DFA>
+        ensures serves { MatchOption (option_copied result) (onepass_serves self.now.onepass input.now ≡ false)
+            (λ d. (onepass_serves self.now.onepass input.now ≡ true) × (self.now.onepass.dfa ≡ Some d)) }
+        ensures once { ServesOnce self.now.nfa self.now.kind self.now.properties self.now.onepass }
+    {
+        self.onepass.get(input)
+    }
+
     /// Whether matches are told.
     pub(crate) fn tells(&self) -> bool
         ensures { result ≡ tells self.now.which_captures }
@@ -671,8 +709,32 @@ impl Core {
         }
     }
 
-    /// The next match in the input's span, with its slots, by an engine that always answers.
+    /// The next match in the input's span, with its slots, by an engine that always answers, where matches are told.
     fn search_nofail(
+        &self,
+        cache: &mut Cache,
+        input: &Input<'_>,
+        slots: &mut [Option<NonMaxUsize>],
+    ) -> Option<Match>
+        requires fits { FitsCore self.now cache.old }
+        requires told { tells self.now.which_captures ≡ true }
+        ensures told { (r : Patterns) → IsCoreFor self.now r → BeginsEachRun self.now.pre self.now.nfa input.now
+            → IsToldFor self.now.kind r input.now slots.new result }
+        ensures within { IfSome result (LiesIn input.now) }
+        ensures in_range { IfSome result (λ m. m.pattern < length self.now.nfa.starts) }
+        ensures slots_within { AreWithin input.now slots.new }
+        ensures none { IfNone result (slots.new ≡ replicate (length slots.old) None) }
+        ensures cache { FitsCore self.now cache.new }
+        ensures memory { AccountsAlikeIn self.now cache.old cache.new }
+    {
+        match self.get_onepass(input) {
+            Some(engine) => find_in_one_pass(engine, &mut cache.onepass, input, slots),
+            None => self.search_states(cache, input, slots),
+        }
+    }
+
+    /// The same by an engine that goes through the states of the NFA, under each kind of captures.
+    fn search_states(
         &self,
         cache: &mut Cache,
         input: &Input<'_>,

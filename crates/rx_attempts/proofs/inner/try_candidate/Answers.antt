@@ -1,11 +1,12 @@
-use Rattle.std.proofs.Common.{◌≡◌, ◌≤◌, ◌+◌, ◌-◌, ◌∙◌, ap, subst, arith}
-use Rattle.std.specs.Prelude.{Option, IfSome}
+use Rattle.std.proofs.Common.{◌≡◌, ◌≤◌, ◌+◌, ◌-◌, ◌∙◌, ap, subst, arith, rules}
+use Rattle.std.specs.Prelude.{Option, Some, None, IfSome}
 use Rattle.rx_search.specs.Input.{InputValue}
 use Rattle.rx_search.specs.Matches.{HalfMatchValue}
 use Rattle.rx_search.specs.Told.{HalfLiesIn}
 use Rattle.rx_limited.specs.Calls.{calls_backwards}
-use Rattle.rx_limited.specs.Limited.{FindsStart}
+use Rattle.rx_limited.specs.Limited.{FindsStart, IsWithin}
 use Rattle.rx_attempts.specs.Inputs.{up_to}
+use Rattle.rx_attempts.specs.Counts.{IsUnguarded}
 use Rattle.rx_attempts.proofs.lemmas.StepLemmas.{back-most, back-few, both-few}
 use Rattle.rx_search.specs.declared.span.Span.{Span}
 use Rattle.rx_attempts.proofs.lemmas.CountLemmas.{result-tried, tried-nothing}
@@ -136,9 +137,15 @@ returns-in-Some-clause-ticks g c =
     let taken : mid ≡ old + calls_backwards rev (up_to v now.start) =
     c.in-Ok.ensures.ticks ∙ ap (λ (w : InputValue). old + calls_backwards rev w) part in
     let found = subst (FindsStart rev (up_to v now.start)) c.in-Some.is back in
+    let min_start = c.args.guards.min_start in
+    let stopped = c.args.guards.stopped in
+    let behind : stopped ≤ now.start = search rules in
+    let within = subst (λ (w : InputValue). IsWithin rev w min_start c.in-Ok.begins) part c.in-Ok.ensures.within in
     λ needles every.
-    result-tried fwd rev needles v (λ (s : Span). s.start) now old mid c.match_or_stop.new.steps c.in-Some.start found taken c.match_or_stop.result
-    (c.match_or_stop.ensures.ticks every) c.match_or_stop.ensures.begins
+    let free : IsUnguarded fwd rev needles v (λ (s : Span). s.start) now min_start stopped (Some c.in-Some.start) =
+    record { back = subst (IsWithin rev (up_to v now.start) min_start) c.in-Some.is within; behind = behind } in
+    result-tried fwd rev needles v (λ (s : Span). s.start) now min_start stopped old mid c.match_or_stop.new.steps c.in-Some.start found free taken
+    c.match_or_stop.result (c.match_or_stop.ensures.ticks every) c.match_or_stop.ensures.begins c.match_or_stop.ensures.stopped
 
 pub returns-in-None-clause-ticks : goal.returns-in-None-clause-ticks
 returns-in-None-clause-ticks g c =
@@ -153,4 +160,11 @@ returns-in-None-clause-ticks g c =
     let taken : mid ≡ old + calls_backwards rev (up_to v now.start) =
     c.in-Ok.ensures.ticks ∙ ap (λ (w : InputValue). old + calls_backwards rev w) part in
     let found = subst (FindsStart rev (up_to v now.start)) c.in-None.is back in
-    λ needles every. tried-nothing fwd rev needles v (λ (s : Span). s.start) now old mid c.args.guards.stopped found taken
+    let min_start = c.args.guards.min_start in
+    let stopped = c.args.guards.stopped in
+    let behind : stopped ≤ now.start = search rules in
+    let within = subst (λ (w : InputValue). IsWithin rev w min_start c.in-Ok.begins) part c.in-Ok.ensures.within in
+    λ needles every.
+    let free : IsUnguarded fwd rev needles v (λ (s : Span). s.start) now min_start stopped None =
+    record { back = subst (IsWithin rev (up_to v now.start) min_start) c.in-None.is within; behind = behind } in
+    tried-nothing fwd rev needles v (λ (s : Span). s.start) now min_start stopped old mid found free taken

@@ -1,18 +1,34 @@
-use Rattle.std.proofs.Common.{◌≡◌, ◌≤◌, ◌+◌, ◌-◌, length, ◌∙◌, ap, subst, arith}
-use Rattle.std.specs.Prelude.{Option, None, IfSome}
+use Rattle.std.proofs.Common.{ℕ, ◌≡◌, ◌≤◌, ◌+◌, ◌-◌, length, sym, ◌∙◌, ap, subst, arith}
+use Rattle.std.specs.Prelude.{Option, Some, None, IfSome}
 use Rattle.rx_search.specs.Input.{InputValue}
 use Rattle.rx_search.specs.Matches.{HalfMatchValue}
 use Rattle.rx_search.specs.Told.{HalfLiesIn}
 use Rattle.rx_limited.specs.Calls.{calls_backwards}
-use Rattle.rx_limited.specs.Limited.{FindsStart, LimitedFails}
+use Rattle.rx_limited.specs.Limited.{FindsStart, IsWithin, LimitedFails}
 use Rattle.rx_attempts.specs.Inputs.{up_to}
 use Rattle.rx_attempts.specs.Candidates.{IsNextCandidate}
 use Rattle.rx_attempts.proofs.lemmas.NeedleLemmas.{taken-long}
 use Rattle.rx_attempts.proofs.lemmas.FailLemmas.{suffix-back}
-use Rattle.rx_attempts.proofs.lemmas.SuffixLemmas.{not-empty, suffix-ended, suffix-over, suffix-before, suffix-least, suffix-few, suffix-total, suffix-on, suffix-found}
+use Rattle.rx_attempts.proofs.lemmas.SuffixLemmas.{not-empty, suffix-fresh, suffix-ended, suffix-over, suffix-before, suffix-least, suffix-few, suffix-total, suffix-on, suffix-found}
 use Rattle.rx_search.specs.declared.span.Span.{Span}
-use Rattle.rx_attempts.proofs.lemmas.CountLemmas.{counts-to, counts-add}
+use Rattle.rx_attempts.specs.Counts.{IsUnguarded, Leaves}
+use Rattle.rx_attempts.specs.Suffix.{GoesOn}
+use Rattle.rx_attempts.proofs.lemmas.CountLemmas.{leaves-fresh, leaves-add, counted-back}
 use Rattle.rx_attempts.proofs.suffix.first_start.Goals as goal
+
+pub candidates-init : goal.candidates-init
+candidates-init g c =
+    let rev = g.B.Automaton.dfa c.args.rev.now in
+    let needles = c.args.pre.now in
+    let v = c.args.input.now in
+    let old = c.args.steps.now in
+    let at = sym c.start-from.ensures.value in
+    record {
+      on = subst (λ (k : ℕ). GoesOn rev needles v k 0 old old) at (suffix-fresh rev needles v c.requires.in_order old);
+      counts = λ fwd.
+          subst (λ (k : ℕ). Leaves fwd rev needles v (λ (s : Span). s.end) k 0 0 old old) at (leaves-fresh fwd rev needles v (λ (s : Span). s.end) old);
+      fits = c.requires.fits;
+    }
 
 pub up_to-part-requires-clause-low : goal.up_to-part-requires-clause-low
 up_to-part-requires-clause-low g c =
@@ -237,10 +253,13 @@ candidates-preserved g c =
     let back = subst (λ (w : InputValue). FindsStart rev w c.in-Ok.begins) c.up_to-part.ensures c.in-Ok.ensures.answer in
     let ticks : new ≡ mid + calls_backwards rev (up_to v now.end) =
     c.in-Ok.ensures.ticks ∙ ap (λ (w : InputValue). mid + calls_backwards rev w) c.up_to-part.ensures in
+    let within = subst (λ (w : InputValue). IsWithin rev w min_start c.in-Ok.begins) c.up_to-part.ensures c.in-Ok.ensures.within in
     record {
       counts = λ fwd.
-          counts-add fwd rev needles v (λ (s : Span). s.end) from old mid (c.candidates.invariant.counts fwd) now next None
-          (subst (FindsStart rev (up_to v now.end)) c.in_default-begins.is back) new (omega (arith, ticks));
+          let free : IsUnguarded fwd rev needles v (λ (s : Span). s.end) now min_start 0 None =
+          record { back = subst (IsWithin rev (up_to v now.end) min_start) c.in_default-begins.is within; behind = omega arith } in
+          leaves-add fwd rev needles v (λ (s : Span). s.end) from min_start 0 old mid (c.candidates.invariant.counts fwd) now next None
+          (subst (FindsStart rev (up_to v now.end)) c.in_default-begins.is back) free new (omega (arith, ticks));
       on = suffix-on rev needles s one bytes v spanned from min_start old mid on now next (subst (FindsStart rev (up_to v now.end)) c.in_default-begins.is back) new taken;
       fits = c.rev_limited.ensures.fits;
     }
@@ -272,14 +291,12 @@ returns-in-Some-begins-clause-ticks g c =
     let back = subst (λ (w : InputValue). FindsStart rev w c.in-Ok.begins) c.up_to-part.ensures c.in-Ok.ensures.answer in
     let ticks : new ≡ mid + calls_backwards rev (up_to v now.end) =
     c.in-Ok.ensures.ticks ∙ ap (λ (w : InputValue). mid + calls_backwards rev w) c.up_to-part.ensures in
-    λ fwd. (
-      now,
-      mid,
-      counts-to fwd rev needles v (λ (s : Span). s.end) from old mid (c.candidates.invariant.counts fwd) now next,
-      next.0,
-      subst (FindsStart rev (up_to v now.end)) c.in-Some-begins.is back,
-      ticks,
-    )
+    let within = subst (λ (w : InputValue). IsWithin rev w min_start c.in-Ok.begins) c.up_to-part.ensures c.in-Ok.ensures.within in
+    λ fwd.
+    let free : IsUnguarded fwd rev needles v (λ (s : Span). s.end) now min_start 0 (Some c.in-Some-begins.start) =
+    record { back = subst (IsWithin rev (up_to v now.end) min_start) c.in-Some-begins.is within; behind = omega arith } in
+    counted-back fwd rev needles v (λ (s : Span). s.end) from min_start 0 old mid (c.candidates.invariant.counts fwd) now next c.in-Some-begins.start
+    (subst (FindsStart rev (up_to v now.end)) c.in-Some-begins.is back) free new ticks
 
 pub returns-clause-first : goal.returns-clause-first
 returns-clause-first g c =
@@ -314,4 +331,16 @@ returns-clause-few g c =
     suffix-ended rev needles s one bytes v spanned from min_start old mid on
 
 pub returns-clause-ticks : goal.returns-clause-ticks
-returns-clause-ticks g c = λ fwd. (c.candidates.from, c.candidates.invariant.counts fwd)
+returns-clause-ticks g c = λ fwd. (c.candidates.from, (c.candidates.invariant.counts fwd).counts)
+
+pub returns-then-is_lost-clause-few : goal.returns-then-is_lost-clause-few
+returns-then-is_lost-clause-few g c =
+    let rev = g.B.Automaton.dfa c.args.rev.now in
+    let needles = c.args.pre.now in
+    let v = c.args.input.now in
+    let spanned = c.haystack-haystack.ensures.spanned.end in
+    let s = c.requires.suffix.0 in
+    let one = c.requires.suffix.1 in
+    let bytes = c.requires.suffix.2 in
+    suffix-ended rev needles s one bytes v spanned c.candidates.from c.candidates.min_start c.args.steps.now c.candidates.steps
+    c.candidates.invariant.on

@@ -1,15 +1,12 @@
 use Rattle.std.proofs.Common.{◌<◌, ap, subst, rules}
 use Rattle.std.specs.Prelude.{slice_get}
-use Rattle.std.proofs.lemmas.Result.{IfOk-weaker}
-use Rattle.rx_search.specs.Matches.{match_value}
-use Rattle.rx_dfa.specs.Search.{IsAnswerFor}
 use Rattle.rx_dfa.proofs.lemmas.BothLemmas.{not-anchored}
 use Rattle.rx_attempts.specs.Suffix.{FirstSuffix}
 use Rattle.rx_attempts.proofs.lemmas.EndLemmas.{past-nothing}
 use Rattle.rx_attempts.proofs.lemmas.SuffixLemmas.{suffix-nothing, suffix-answer}
 use Rattle.rx_search.specs.declared.span.Span.{Span}
 use Rattle.rx_attempts.specs.Counts.{HasCountedBack}
-use Rattle.rx_attempts.proofs.lemmas.CountLemmas.{counts-fresh, counted-nothing, result-counted}
+use Rattle.rx_attempts.proofs.lemmas.CountLemmas.{counts-fresh, counted-nothing, counted-found}
 use Rattle.rx_attempts.proofs.suffix.reverse_suffix_attempt.Goals as goal
 
 pub returns-then-is_done-clause-answer : goal.returns-then-is_done-clause-answer
@@ -26,8 +23,8 @@ returns-then-is_done-clause-answer g c =
     let past : v.end < v.start = search rules in
     λ r nfa p. past-nothing fwd.kind r p.expression p.is (p.starts.ordered 0 p.expression (ap (λ hs. slice_get hs 0) p.is)) v is_free past
 
-pub returns-in-Some-clause-answer : goal.returns-in-Some-clause-answer
-returns-in-Some-clause-answer g c =
+pub returns-in-Ok-match_from-clause-answer : goal.returns-in-Ok-match_from-clause-answer
+returns-in-Ok-match_from-clause-answer g c =
     let fwd = g.F.Automaton.dfa c.args.fwd.now in
     let rev = g.B.Automaton.dfa c.args.rev.now in
     let needles = c.args.pre.now in
@@ -40,12 +37,11 @@ returns-in-Some-clause-answer g c =
     let start = c.in-Some.start in
     let first = subst (FirstSuffix rev needles v) c.in-Some.is c.in-Ok.ensures.first in
     λ r nfa p.
-    IfOk-weaker c.match_from.result _ (IsAnswerFor fwd.kind r v match_value)
-    (λ found whole. suffix-answer rev needles s one bytes v spanned fwd.kind is_free r p start first found whole)
-    (c.match_from.ensures.whole r (record { is_for = nfa; begins = λ off. tt; utf8 = p.utf8 }))
+    suffix-answer rev needles s one bytes v spanned fwd.kind is_free r p start first c.in-Ok-match_from.found
+    (c.in-Ok-match_from.ensures.whole r (record { is_for = nfa; begins = λ off. tt; utf8 = p.utf8 }))
 
-pub returns-in-None-clause-answer : goal.returns-in-None-clause-answer
-returns-in-None-clause-answer g c =
+pub returns-in_default-clause-answer : goal.returns-in_default-clause-answer
+returns-in_default-clause-answer g c =
     let fwd = g.F.Automaton.dfa c.args.fwd.now in
     let rev = g.B.Automaton.dfa c.args.rev.now in
     let needles = c.args.pre.now in
@@ -55,7 +51,7 @@ returns-in-None-clause-answer g c =
     let one = c.requires.suffix.1 in
     let bytes = c.requires.suffix.2 in
     let is_free = not-anchored v.anchor c.requires.free in
-    let first = subst (FirstSuffix rev needles v) c.in-None.is c.in-Ok.ensures.first in
+    let first = subst (FirstSuffix rev needles v) c.in_default.is c.in-Ok.ensures.first in
     λ r nfa p. suffix-nothing rev needles s one bytes v spanned fwd.kind is_free r p first
 
 pub returns-then-is_done-clause-ticks : goal.returns-then-is_done-clause-ticks
@@ -67,22 +63,22 @@ returns-then-is_done-clause-ticks g c =
     λ every. counted-nothing fwd rev needles v (λ (s : Span). s.end) v.start c.args.steps.now c.args.steps.now
     (counts-fresh fwd rev needles v (λ (s : Span). s.end) c.args.steps.now)
 
-pub returns-in-Some-clause-ticks : goal.returns-in-Some-clause-ticks
-returns-in-Some-clause-ticks g c =
+pub returns-in-Ok-match_from-clause-ticks : goal.returns-in-Ok-match_from-clause-ticks
+returns-in-Ok-match_from-clause-ticks g c =
     let fwd = g.F.Automaton.dfa c.args.fwd.now in
     let rev = g.B.Automaton.dfa c.args.rev.now in
     let needles = c.args.pre.now in
     let v = c.args.input.now in
     let back = subst (HasCountedBack fwd rev needles v (λ (s : Span). s.end) c.args.steps.now c.first_start.new.steps) c.in-Some.is (c.in-Ok.ensures.ticks fwd) in
     λ every.
-    result-counted fwd rev needles v (λ (s : Span). s.end) c.args.steps.now c.first_start.new.steps c.match_from.new.steps c.in-Some.start back
-    c.match_from.result (c.match_from.ensures.ticks every) c.match_from.ensures.begins
+    counted-found fwd rev needles v (λ (s : Span). s.end) c.args.steps.now c.first_start.new.steps c.in-Some.start back c.match_from.new.steps
+    (c.in-Ok-match_from.ensures.ticks every) c.in-Ok-match_from.found c.in-Ok-match_from.ensures.begins
 
-pub returns-in-None-clause-ticks : goal.returns-in-None-clause-ticks
-returns-in-None-clause-ticks g c =
+pub returns-in_default-clause-ticks : goal.returns-in_default-clause-ticks
+returns-in_default-clause-ticks g c =
     let fwd = g.F.Automaton.dfa c.args.fwd.now in
     let rev = g.B.Automaton.dfa c.args.rev.now in
     let needles = c.args.pre.now in
     let v = c.args.input.now in
-    let back = subst (HasCountedBack fwd rev needles v (λ (s : Span). s.end) c.args.steps.now c.first_start.new.steps) c.in-None.is (c.in-Ok.ensures.ticks fwd) in
+    let back = subst (HasCountedBack fwd rev needles v (λ (s : Span). s.end) c.args.steps.now c.first_start.new.steps) c.in_default.is (c.in-Ok.ensures.ticks fwd) in
     λ every. counted-nothing fwd rev needles v (λ (s : Span). s.end) back.0 c.args.steps.now c.first_start.new.steps back.1

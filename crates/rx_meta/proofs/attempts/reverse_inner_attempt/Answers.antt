@@ -1,11 +1,11 @@
 use Rattle.std.proofs.Common.{ap, ◌∙◌, subst}
-use Rattle.std.specs.Prelude.{IfOk}
+use Rattle.std.specs.Prelude.{None, IfOk}
 use Rattle.rx_model.specs.Search.{Patterns}
 use Rattle.rx_search.specs.Matches.{match_value}
 use Rattle.rx_search.specs.Promise.{Premises}
 use Rattle.rx_dfa.specs.Search.{IsAnswerFor}
 use Rattle.rx_strategies.specs.Strategy.{name_of as strategy_name}
-use Rattle.rx_meta.specs.Regex.{RegexValue, Serves, given_needles, kind_in, name_of}
+use Rattle.rx_meta.specs.Regex.{RegexValue, Serves, kind_in, name_of}
 use Rattle.rx_meta.proofs.NameLemmas.{named-inner}
 use Rattle.rx_meta.proofs.ServeLemmas.{with_strategy, attempt-of}
 use Rattle.rx_meta.proofs.attempts.reverse_inner_attempt.Goals as goal
@@ -17,7 +17,7 @@ reverse_inner_attempt-requires-clause-by_inner g c = named-inner c.strategy.resu
 pub returns-clause-answer : goal.returns-clause-answer
 returns-clause-answer g c =
     let called = c.reverse_inner_attempt in
-    subst (λ (regex : RegexValue). (r : Patterns) → Premises (Serves regex r) (given_needles regex) r c.args.input.now
+    subst (λ (regex : RegexValue). (r : Patterns) → Premises (Serves regex r) None r c.args.input.now
     → IfOk called.result (IsAnswerFor (kind_in regex) r c.args.input.now match_value))
     (with_strategy c.args.regex.now c.strategy.ensures)
     (attempt-of _ c.args.input.now called.result called.ensures.answer)

@@ -1,4 +1,4 @@
-use Rattle.std.proofs.Common.{◌≡◌, ℕ}
+use Rattle.std.proofs.Common.{◌≡◌, ℕ, List}
 use Rattle.std.specs.Prelude.{map}
 use Rattle.rx_model.specs.Search.{Patterns}
 use Rattle.rx_search.specs.Input.{from_place, whole}
@@ -7,18 +7,20 @@ use Rattle.rx_search.proofs.SearcherLemmas.{Progress}
 use Rattle.rx_meta.specs.Finder.{PromisesFor}
 use Rattle.rx_meta.specs.Regex.{searches}
 use Rattle.rx_scan.specs.Haystacks.{FindsRows}
-use Rattle.rx_scan.specs.Row.{row_of}
+use Rattle.rx_scan.specs.Outcomes.{Keeps}
+use Rattle.rx_scan.specs.Row.{RowValue, row_of}
 use Rattle.rx_scan.proofs.haystacks.find_rows.Given as goal
 
-abbrev pub invariant-loop-rows : goal.invariant-loop-rows
-invariant-loop-rows l = record {
+abbrev pub invariant-matches : goal.invariant-matches
+invariant-matches g l = record {
   same : l.finder.regex.now ≡ l.initial.finder.regex.now;
   place : (i : ℕ) → from_place i l.searcher.input ≡ from_place i (whole l.haystack);
   promised : (r : Patterns) → FindsRows l.initial.finder.regex.now r l.haystack → AtEachPlace (PromisesFor l.finder.regex.now) l.searcher.input;
-  told : (r : Patterns) → FindsRows l.initial.finder.regex.now r l.haystack
-      → Progress (searches l.finder.regex.now) (row_of r) (map (row_of r) (successive (searches l.initial.finder.regex.now) (whole l.haystack))) l.rows.items
-      l.searcher;
+  keeps : Keeps (g.O.Outcome.is l.outcome) l.initial.store l.store;
+  told : (rows : List RowValue) × g.O.Outcome.holds l.outcome l.store l.index rows
+      × ((r : Patterns) → FindsRows l.initial.finder.regex.now r l.haystack
+      → Progress (searches l.finder.regex.now) (row_of r) (map (row_of r) (successive (searches l.initial.finder.regex.now) (whole l.haystack))) rows l.searcher);
 }
 
-abbrev pub decreases-loop-rows : goal.decreases-loop-rows
-decreases-loop-rows l = places_left l.searcher
+abbrev pub decreases-matches : goal.decreases-matches
+decreases-matches g l = places_left l.searcher

@@ -9,12 +9,19 @@ pub returns-in-Ok-clause-answer : goal.returns-in-Ok-clause-answer
 returns-in-Ok-clause-answer c =
     tried-half c.args.core.now c.args.input.now c.args.tried c.in-Ok.found c.in-Ok.is c.requires.told c.half_match.result c.half_match.ensures
 
-pub returns-in-Err-Quadratic-clause-answer : goal.returns-in-Err-Quadratic-clause-answer
-returns-in-Err-Quadratic-clause-answer c =
+pub returns-in-Err-Dense-clause-answer : goal.returns-in-Err-Dense-clause-answer
+returns-in-Err-Dense-clause-answer c =
     let s = c.args.core.now in
     let v = c.args.input.now in
     ok-answers (λ r. HasTried s v c.args.tried r) (λ r. IsFor s r) (prefilter_in s) v (tried-core s v c.args.tried) (kind_in s) half_match_value
     c.search_half.result c.search_half.ensures.answer
+
+pub returns-in-Err-Retry-Quadratic-clause-answer : goal.returns-in-Err-Retry-Quadratic-clause-answer
+returns-in-Err-Retry-Quadratic-clause-answer c =
+    let s = c.args.core.now in
+    let v = c.args.input.now in
+    ok-answers (λ r. HasTried s v c.args.tried r) (λ r. IsFor s r) (prefilter_in s) v (tried-core s v c.args.tried) (kind_in s) half_match_value
+    c.search_half-in-Err-Retry-Quadratic.result c.search_half-in-Err-Retry-Quadratic.ensures.answer
 
 pub returns-in-Err-clause-answer : goal.returns-in-Err-clause-answer
 returns-in-Err-clause-answer c =

@@ -8,12 +8,19 @@ pub returns-in-Ok-clause-value : goal.returns-in-Ok-clause-value
 returns-in-Ok-clause-value c =
     tried-whether c.args.core.now c.args.input.now c.args.tried c.in-Ok.found c.in-Ok.is c.is_some.result c.is_some.ensures
 
-pub returns-in-Err-Quadratic-clause-value : goal.returns-in-Err-Quadratic-clause-value
-returns-in-Err-Quadratic-clause-value c =
+pub returns-in-Err-Dense-clause-value : goal.returns-in-Err-Dense-clause-value
+returns-in-Err-Dense-clause-value c =
     let s = c.args.core.now in
     let v = c.args.input.now in
     ok-whether (λ r. HasTriedWhether s v c.args.tried r) (λ r. IsFor s r) (prefilter_in s) v (whether-core s v c.args.tried) c.is_match.result
     c.is_match.ensures.value
+
+pub returns-in-Err-Retry-Quadratic-clause-value : goal.returns-in-Err-Retry-Quadratic-clause-value
+returns-in-Err-Retry-Quadratic-clause-value c =
+    let s = c.args.core.now in
+    let v = c.args.input.now in
+    ok-whether (λ r. HasTriedWhether s v c.args.tried r) (λ r. IsFor s r) (prefilter_in s) v (whether-core s v c.args.tried) c.is_match-in-Err-Retry-Quadratic.result
+    c.is_match-in-Err-Retry-Quadratic.ensures.value
 
 pub returns-in-Err-clause-value : goal.returns-in-Err-clause-value
 returns-in-Err-clause-value c =

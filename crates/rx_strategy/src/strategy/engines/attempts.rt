@@ -9,6 +9,7 @@ ghost use Rattle.rx_search.specs.Promise.{Premises};
 ghost use Rattle.rx_search.specs.Told.{tells, AreWithin, LiesIn, HalfLiesIn};
 ghost use Rattle.rx_dfa.specs.Search.{IsAnswerFor};
 ghost use Rattle.rx_attempts.specs.Candidates.{AreNotEmpty};
+ghost use Rattle.rx_attempts.specs.Stops.{StopsBy};
 ghost use Rattle.rx_strategy.specs.Attempts.{HasSuffix, HasInner, IsOneNeedle, SuffixFailsIn, InnerFailsIn, HasCountedSuffix, HasCountedInner, IsToldBy};
 ghost use Rattle.rx_strategy.specs.Cache.{FitsCore, AccountsAlikeIn};
 ghost use Rattle.rx_strategy.specs.Core.{IsCoreFor};
@@ -17,10 +18,11 @@ ghost use Rattle.rx_strategy.specs.Prefix.{dfa_of, are_states, FitsPrefix, prefi
 
 use crate::cache::Cache;
 use crate::found::half_match;
+use crate::onepass::meets_in_one_pass;
 use crate::prefix::{PrefixCache, PrefixDfa, Sort};
 use crate::span::leave_span;
 use crate::strategy::engines::Core;
-use rx_limited::RetryError;
+use rx_attempts::{Patience, Stop};
 use rx_prefilter::Prefilter;
 use rx_search::{HalfMatch, Input, Match, NonMaxUsize, Steps};
 use std::sync::ledger::Ledger;
@@ -32,24 +34,25 @@ impl Core {
         cache: &mut Cache,
         pre: &Prefilter,
         input: &Input<'_>,
+        patience: Patience,
         steps: &mut Steps<L>,
-    ) -> Result<Option<Match>, RetryError>
+    ) -> Result<Option<Match>, Stop>
         requires fits { FitsCore self.now cache.old }
         requires there { is_some (pair_of self.now.dfas) ≡ true }
         requires free { is_anchored input.now.anchor ≡ false }
         requires suffix { IsOneNeedle pre.now }
-        ensures answer { (r : Patterns) → Premises (IsCoreFor self.now r) self.now.pre r input.now → HasSuffix pre.now r
+        ensures answer { (r : Patterns) → Premises (IsCoreFor self.now r) None r input.now → HasSuffix pre.now r
             → IfOk result (IsAnswerFor self.now.kind r input.now match_value) }
         ensures within { IfOk result (λ found. IfSome found (LiesIn input.now)) }
         ensures in_range { IfOk result (λ found. IfSome found (λ m. m.pattern < length self.now.nfa.starts)) }
-        ensures err { IfErr result (SuffixFailsIn self.now.dfas pre.now input.now cache.new.lazies) }
+        ensures err { IfErr result (StopsBy patience (SuffixFailsIn self.now.dfas pre.now input.now cache.new.lazies)) }
         ensures ticks { input.now.earliest ≡ false → IfOk result (HasCountedSuffix self.now.dfas pre.now input.now steps.old steps.new) }
         ensures few { steps.new ≤ steps.old + 8 * (span_len input.now + 1) }
         ensures cache { FitsCore self.now cache.new }
         ensures memory { AccountsAlikeIn self.now cache.old cache.new }
     {
         self.get_dfas()
-            .try_reverse_suffix(&mut cache.lazies, pre, input, steps)
+            .try_reverse_suffix(&mut cache.lazies, pre, input, patience, steps)
     }
 
     /// The next match in the input's span of one expression with one of these literals behind its prefix, by an attempt; or why it has no
@@ -61,19 +64,20 @@ impl Core {
         prefix: &PrefixDfa,
         states: &mut PrefixCache,
         input: &Input<'_>,
+        patience: Patience,
         steps: &mut Steps<L>,
-    ) -> Result<Option<Match>, RetryError>
+    ) -> Result<Option<Match>, Stop>
         requires fits { FitsCore self.now cache.old }
         requires states_fit { FitsPrefix prefix.now states.old }
         requires there { is_some (pair_of self.now.dfas) ≡ true }
         requires free { is_anchored input.now.anchor ≡ false }
         requires needles { AreNotEmpty pre.now }
-        ensures answer { (r : Patterns) → Premises (IsCoreFor self.now r) self.now.pre r input.now → HasInner (dfa_of prefix.now) pre.now r
+        ensures answer { (r : Patterns) → Premises (IsCoreFor self.now r) None r input.now → HasInner (dfa_of prefix.now) pre.now r
             → IfOk result (IsAnswerFor self.now.kind r input.now match_value) }
         ensures within { IfOk result (λ found. IfSome found (LiesIn input.now)) }
         ensures in_range { IfOk result (λ found. IfSome found (λ m. m.pattern < length self.now.nfa.starts)) }
-        ensures err { IfErr result (InnerFailsIn self.now.dfas (dfa_of prefix.now) pre.now input.now cache.new.lazies
-            (prefix_gives_up prefix.now.sort states.new) (prefix_wants prefix.now.sort)) }
+        ensures err { IfErr result (StopsBy patience (InnerFailsIn self.now.dfas (dfa_of prefix.now) pre.now input.now cache.new.lazies
+            (prefix_gives_up prefix.now.sort states.new) (prefix_wants prefix.now.sort))) }
         ensures ticks { input.now.earliest ≡ false
             → IfOk result (HasCountedInner self.now.dfas (dfa_of prefix.now) pre.now input.now steps.old steps.new) }
         ensures few { steps.new ≤ steps.old + 8 * (span_len input.now + 1) }
@@ -90,13 +94,22 @@ impl Core {
                 rev,
                 &mut (),
                 input,
+                patience,
                 steps,
             ),
             Sort::Lazy(rev) => {
                 let Some(rev_cache) = &mut states.lazy else {
                     unreachable!();
                 };
-                dfas.try_reverse_inner(&mut cache.lazies, pre, rev, rev_cache, input, steps)
+                dfas.try_reverse_inner(
+                    &mut cache.lazies,
+                    pre,
+                    rev,
+                    rev_cache,
+                    input,
+                    patience,
+                    steps,
+                )
             }
         }
     }
@@ -149,8 +162,11 @@ impl Core {
         ensures cache { FitsCore self.now cache.new }
         ensures memory { AccountsAlikeIn self.now cache.old cache.new }
     {
-        // It can stop at the first match (DECISIONS: of the engines that always answer).
-        self.pikevm.is_match(&mut cache.pikevm, input)
+        // Either can stop at the first match (DECISIONS: of the engines that always answer).
+        match self.get_onepass(input) {
+            Some(engine) => meets_in_one_pass(engine, &mut cache.onepass, input),
+            None => self.pikevm.is_match(&mut cache.pikevm, input),
+        }
     }
 
     /// The match that was found, with its slots, where matches are told. Of the patterns for which it is the answer, the slots are those of

@@ -1,6 +1,6 @@
 use Rattle.std.proofs.Common.{◌≡◌, ap, ◌∙◌, subst, true}
 use Rattle.std.proofs.lemmas.Result.{IfOk-weaker}
-use Rattle.std.specs.Prelude.{IfOk}
+use Rattle.std.specs.Prelude.{None, IfOk}
 use Rattle.rx_model.specs.Search.{Patterns}
 use Rattle.rx_search.specs.Answer.{TellsWhether}
 use Rattle.rx_search.specs.Input.{InputValue}
@@ -31,11 +31,11 @@ returns-clause-value c =
     let any : InputValue = record v { earliest = true } in
     let is_any : c.set_earliest.new.self ≡ any = c.set_earliest.ensures ∙ ap (λ (x : InputValue). record x { earliest = true }) c.clone-any.ensures.value in
     let told =
-    subst (λ (w : InputValue). (r : Patterns) → Premises (IsInnerFor k r) (prefilter_in s) r w → IfOk tried (IsAnswerFor (kind_in s) r w match_value))
+    subst (λ (w : InputValue). (r : Patterns) → Premises (IsInnerFor k r) None r w → IfOk tried (IsAnswerFor (kind_in s) r w match_value))
     is_any c.attempt-tried.ensures.answer in
     ok-whether (λ r. IsInnerFor k r) (λ r. HasTriedWhether s v tried r) (prefilter_in s) v
     (λ r p.
-    let asked : Premises (IsInnerFor k r) (prefilter_in s) r any = record { is_for = p.is_for; begins = p.begins; utf8 = p.utf8 } in
+    let asked : Premises (IsInnerFor k r) None r any = record { is_for = p.is_for; begins = λ off. tt; utf8 = p.utf8 } in
     (p.is_for.0, IfOk-weaker tried _ _ (λ found is. is.exists) (told r asked)))
     c.whether_after.result
     (subst (λ (t : Strategy). IfOk c.whether_after.result (TellsWhether (λ r. HasTriedWhether t v tried r) (prefilter_in t) v))

@@ -4,6 +4,7 @@ use Rattle.rx_search.specs.Answer.{IsAnswer, AreSlotsOfAnswer}
 use Rattle.rx_search.specs.Matches.{match_value}
 use Rattle.rx_strategy.specs.Strategy.{IsFor, kind_in, prefilter_in}
 use Rattle.rx_strategy.specs.declared.strategy.Strategy.{Strategy}
+use Rattle.rx_strategy.proofs.DfaLemmas.{less-asked}
 use Rattle.rx_strategies.specs.Attempts.{InnerValue, IsInnerFor, HasTried}
 use Rattle.rx_strategies.proofs.AttemptLemmas.{ok-answers, ok-slots}
 use Rattle.rx_strategies.proofs.inner.ReverseInner.search_slots.Goals as goal
@@ -33,7 +34,7 @@ returns-clause-answer c =
     let s = k.core in
     let v = c.args.input.now in
     let tried = c.attempt-tried.result in
-    ok-answers (λ r. IsInnerFor k r) (λ r. HasTried s v tried r) (prefilter_in s) v (λ r p. (p.is_for.0, c.attempt-tried.ensures.answer r p)) (kind_in s)
+    ok-answers (λ r. IsInnerFor k r) (λ r. HasTried s v tried r) (prefilter_in s) v (λ r p. (p.is_for.0, c.attempt-tried.ensures.answer r (less-asked (prefilter_in s) r v p))) (kind_in s)
     match_value c.slots_after.result
     (subst (λ (t : Strategy). IfOk c.slots_after.result (IsAnswer (λ r. HasTried t v tried r) (prefilter_in t) (kind_in t) v match_value))
     (ap (λ (x : InnerValue). x.core) c.self.view_is) c.slots_after.ensures.answer)
@@ -45,7 +46,7 @@ returns-clause-slots c =
     let v = c.args.input.now in
     let tried = c.attempt-tried.result in
     let slots = c.slots_after.new.slots in
-    ok-slots (λ r. IsInnerFor k r) (λ r. HasTried s v tried r) (prefilter_in s) v (λ r p. (p.is_for.0, c.attempt-tried.ensures.answer r p)) (kind_in s)
+    ok-slots (λ r. IsInnerFor k r) (λ r. HasTried s v tried r) (prefilter_in s) v (λ r p. (p.is_for.0, c.attempt-tried.ensures.answer r (less-asked (prefilter_in s) r v p))) (kind_in s)
     match_value slots c.slots_after.result
     (subst (λ (t : Strategy). IfOk c.slots_after.result (AreSlotsOfAnswer (λ r. HasTried t v tried r) (prefilter_in t) (kind_in t) v match_value slots))
     (ap (λ (x : InnerValue). x.core) c.self.view_is) c.slots_after.ensures.slots)

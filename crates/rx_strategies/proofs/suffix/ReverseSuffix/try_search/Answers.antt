@@ -1,11 +1,11 @@
 use Rattle.std.proofs.Common.{subst}
-use Rattle.std.specs.Prelude.{IfOk}
+use Rattle.std.specs.Prelude.{None, IfOk}
 use Rattle.rx_model.specs.Search.{Patterns}
 use Rattle.rx_search.specs.Matches.{match_value}
 use Rattle.rx_search.specs.Promise.{Premises}
 use Rattle.rx_dfa.specs.Search.{IsAnswerFor}
 use Rattle.rx_strategy.specs.Attempts.{HasSuffix}
-use Rattle.rx_strategy.specs.Strategy.{IsFor, kind_in, prefilter_in}
+use Rattle.rx_strategy.specs.Strategy.{IsFor, kind_in}
 use Rattle.rx_strategy.proofs.AnswerLemmas.{more-premises}
 use Rattle.rx_strategies.specs.Attempts.{SuffixValue, IsSuffixFor}
 use Rattle.rx_strategies.proofs.suffix.ReverseSuffix.try_search.Goals as goal
@@ -15,7 +15,7 @@ returns-clause-answer g c =
     let v = c.args.input.now in
     let s = c.self.inside.core in
     subst
-    (λ (k : SuffixValue). (r : Patterns) → Premises (IsSuffixFor k r) (prefilter_in k.core) r v
+    (λ (k : SuffixValue). (r : Patterns) → Premises (IsSuffixFor k r) None r v
     → IfOk c.try_reverse_suffix.result (IsAnswerFor (kind_in k.core) r v match_value))
     c.self.view_is
-    (λ r p. c.try_reverse_suffix.ensures.answer r (more-premises (λ q. IsFor s q × HasSuffix c.self.inside.pre q) (λ q. IsFor s q) (prefilter_in s) v (λ q given. given.is_for.0) r p) p.is_for.1)
+    (λ r p. c.try_reverse_suffix.ensures.answer r (more-premises (λ q. IsFor s q × HasSuffix c.self.inside.pre q) (λ q. IsFor s q) None v (λ q given. given.is_for.0) r p) p.is_for.1)

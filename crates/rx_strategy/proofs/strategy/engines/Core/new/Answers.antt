@@ -1,12 +1,16 @@
 use Rattle.std.proofs.Common.{◌≡◌, sym, ap, ◌∙◌, subst}
 use Rattle.std.specs.Prelude.{Option}
+use Rattle.rx_model.specs.Expression.{alternation}
+use Rattle.rx_hir.specs.Normal.{expressions}
 use Rattle.rx_nfa.specs.Nfa.{Nfa}
 use Rattle.rx_search.specs.declared.anchored.MatchKind.{MatchKind}
 use Rattle.rx_engines.specs.Engine.{PikeVMValue}
 use Rattle.rx_strategy.specs.Availability.{AreDfasBeside}
 use Rattle.rx_strategy.specs.Core.{AreKnownOf}
 use Rattle.rx_strategy.specs.Dfas.{ServeNfa}
+use Rattle.rx_strategy.specs.OnePass.{ServesOnce}
 use Rattle.rx_strategy.proofs.CoreLemmas.{engines-agree, dfas-serve}
+use Rattle.rx_strategy.proofs.OnePassLemmas.{serves-once}
 use Rattle.rx_strategy.proofs.strategy.engines.Core.new.Goals as goal
 
 pub invariant_of-result : goal.invariant_of-result
@@ -22,4 +26,7 @@ invariant_of-result c =
       subst (λ (p : Nfa × MatchKind). ServeNfa p.0 p.1 c.args.reverse c.in_ok-dfas.dfas) (λ i. (sym same i, sym kind i))
           (dfas-serve c.args.config.now c.args.nfa c.args.reverse c.in_ok-dfas.dfas dfas c.requires.reads.0 c.requires.reads.1),
       sym (ap (λ (e : PikeVMValue). e.kind) is),
+      subst (λ (p : Nfa × MatchKind). ServesOnce p.0 p.1 c.args.info.properties c.in_ok-onepass.onepass) (λ i. (sym same i, sym kind i))
+          (serves-once c.args.config.now c.args.nfa c.args.info.properties c.in_ok-onepass.onepass c.in_ok-onepass.ensures
+          (alternation (expressions c.requires.known.patterns)) c.requires.known.properties),
     )

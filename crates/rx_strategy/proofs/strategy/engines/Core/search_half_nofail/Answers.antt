@@ -11,5 +11,5 @@ returns-clause-answer c =
     let slots = c.search_nofail.new.slots in
     let found = c.search_nofail.result in
     part-answers (λ r. IsCoreFor core r) core.pre core.kind v match_value half_of found c.half_match.result c.half_match.ensures
-    (core-answers core v core.kind slots found (engine-told core v core.kind slots found c.requires.spanned.end c.search_nofail.ensures.answer)
+    (core-answers core v core.kind slots found (engine-told core v core.kind slots found c.requires.spanned.end c.search_nofail.ensures.told)
     c.requires.told)

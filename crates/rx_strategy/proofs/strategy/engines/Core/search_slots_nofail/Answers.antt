@@ -7,7 +7,7 @@ returns-clause-answer c =
     let v = c.args.input.now in
     let slots = c.search_nofail.new.slots in
     let found = c.search_nofail.result in
-    core-answers core v core.kind slots found (engine-told core v core.kind slots found c.requires.spanned.end c.search_nofail.ensures.answer)
+    core-answers core v core.kind slots found (engine-told core v core.kind slots found c.requires.spanned.end c.search_nofail.ensures.told)
     c.requires.told
 
 pub returns-clause-slots : goal.returns-clause-slots
@@ -16,4 +16,4 @@ returns-clause-slots c =
     let v = c.args.input.now in
     let slots = c.search_nofail.new.slots in
     let found = c.search_nofail.result in
-    core-slots core v core.kind slots found (engine-told core v core.kind slots found c.requires.spanned.end c.search_nofail.ensures.answer)
+    core-slots core v core.kind slots found (engine-told core v core.kind slots found c.requires.spanned.end c.search_nofail.ensures.told)

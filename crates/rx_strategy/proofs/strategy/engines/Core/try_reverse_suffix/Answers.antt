@@ -1,5 +1,5 @@
 use Rattle.std.specs.Prelude.{None}
-use Rattle.rx_strategy.proofs.DfaLemmas.{core-searches, in-nfa, less-asked}
+use Rattle.rx_strategy.proofs.DfaLemmas.{core-searches, in-nfa}
 use Rattle.rx_search.specs.Matches.{MatchValue}
 use Rattle.rx_strategy.proofs.strategy.engines.Core.try_reverse_suffix.Goals as goal
 
@@ -8,7 +8,7 @@ returns-clause-answer g c r p has =
     let core = c.args.self.now in
     let v = c.args.input.now in
     c.try_reverse_suffix.ensures.answer core.kind r
-    (core-searches core c.get_dfas.result.now c.get_dfas.ensures.serve None r v (less-asked core.pre r v p)) has
+    (core-searches core c.get_dfas.result.now c.get_dfas.ensures.serve None r v p) has
 
 pub returns-clause-in_range : goal.returns-clause-in_range
 returns-clause-in_range g c =
