@@ -99,6 +99,10 @@ state_writes (Match pattern) = None
 abbrev pub state_at : List State → ℕ → State
 state_at states q = slice_index_or states q Fail
 
+-- no two of the states accept one pattern
+abbrev pub AcceptsOnce : List State → Type 0
+AcceptsOnce states = (p q r : ℕ) → state_accepts (state_at states q) ≡ Some p → state_accepts (state_at states r) ≡ Some p → q ≡ r
+
 abbrev pub machine : Surroundings → List State → (end : ℕ) → Machine
 machine around states end = record {
   states = length states;
