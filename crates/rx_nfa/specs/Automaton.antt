@@ -1,5 +1,5 @@
 -- The states of an NFA as a machine over the places of a text, which is read forwards or backwards.
-use Rattle.std.specs.Prelude.{ℕ, suc, ◌+◌, ◌-◌, ◌<◌, Bool, false, ◌&&◌, List, [], ◌∷◌, length, map, All, ⊤, Option, Some, None, if◌then◌else◌, nat_lt, nat_le, slice_index, slice_index_or}
+use Rattle.std.specs.Prelude.{◌≡◌, ℕ, suc, ◌+◌, ◌-◌, ◌<◌, Bool, false, ◌&&◌, List, [], ◌∷◌, length, map, All, ⊤, Option, Some, None, if◌then◌else◌, nat_lt, nat_le, slice_index, slice_index_or}
 use Rattle.rx_model.specs.Look as model
 use Rattle.rx_model.specs.Look.{holds}
 use Rattle.rx_model.specs.Runs.{Configuration, PriorityGraph}

@@ -62,7 +62,7 @@ returns-clause-extends c =
 pub returns-clause-accepted : goal.returns-clause-accepted
 returns-clause-accepted c =
     let first = ap (λ (d : Draft). d.accepted) c.in_ok-accept.ensures.states in
-    let close = c.in_ok-close.ensures.built.extends.accepted in
+    let last_bound = c.in_ok-close.ensures.built.extends.accepted in
     let body = c.in_ok-body.ensures.built.extends.accepted in
-    let open = c.in_ok-open.ensures.built.extends.accepted in
+    let first_bound = c.in_ok-open.ensures.built.extends.accepted in
     omega arith

@@ -1,5 +1,5 @@
 -- Which patterns the states of a draft accept: each at one state alone.
-use Rattle.std.proofs.Common.{◌≡◌, ℕ, zero, suc, ◌+◌, ◌-◌, ◌<◌, ◌≤◌, ◌⊎◌, List, [], ◌∷◌, ◌++◌, sym, ◌∙◌, ap, subst, inl, inr, ⊎_elim, arith, length, get_or, get_or-set_other, get_or-set_same}
+use Rattle.std.proofs.Common.{◌≡◌, ℕ, zero, suc, ◌+◌, ◌-◌, ◌<◌, ◌≤◌, ◌⊎◌, List, [], ◌∷◌, ◌++◌, refl, sym, ◌∙◌, ap, inl, inr, ⊎_elim, arith, length, get_or, get_or-set_other, get_or-set_same}
 use Rattle.std.specs.Prelude.{nat_lt, Option, Some, None, slice_set}
 use Rattle.std.proofs.lemmas.Bool.{cases_lt}
 use Rattle.std.proofs.lemmas.List.{length-append, get_or_append_left, get_or-append_right}
@@ -10,6 +10,7 @@ use Rattle.rx_nfa.specs.Automaton.{state_at, state_accepts, AcceptsOnce}
 use Rattle.rx_nfa.specs.Draft.{Draft, pushed, accepting, patched}
 use Rattle.rx_nfa.specs.Prefixes.{IsBranch}
 use Rattle.rx_nfa.specs.Row.{AddsReaders, reading}
+use Rattle.rx_nfa.specs.declared.state.Transition.{Transition}
 use Rattle.rx_nfa.specs.declared.state.State.{State}
 use Rattle.rx_nfa.specs.declared.state.State.TheVariants.{ByteRange, Sparse, Look, Union, Capture, Fail, Match}
 use Rattle.rx_nfa.proofs.lemmas.classes.RowLemmas.{no_transitions}
@@ -37,7 +38,7 @@ silent-absurd : {A : Type 0} (s t : State) (p : ℕ) → t ≡ s → state_accep
 silent-absurd s t p same none some = none-is-some (sym none ∙ ap state_accepts (sym same) ∙ some)
 
 -- a state that only reads bytes accepts nothing
-pub reader-silent : (s : State) (ts : List _) → reading s ≡ Some ts → state_accepts s ≡ None
+pub reader-silent : (s : State) (ts : List Transition) → reading s ≡ Some ts → state_accepts s ≡ None
 reader-silent (ByteRange low high next) ts is = refl
 reader-silent (Sparse transitions) ts is = refl
 reader-silent (Look look next) ts is = refl
@@ -99,12 +100,12 @@ pushed-silent states s none q p some =
 pub patched-silent : (states : List State) (k : ℕ) (s : State) → k < length states → state_accepts s ≡ None → AcceptsNoMore states (slice_set states k s)
 patched-silent states k s inside none q p some =
     ⊎_elim
-    (λ below. sym (ap state_accepts (get_or-set_other states k q s Fail (λ same. absurd (omega arith)))) ∙ some)
+    (λ below. sym (ap state_accepts (get_or-set_other states k q s Fail (omega arith))) ∙ some)
     (λ above.
     ⊎_elim
     (λ here. let same : q ≡ k = omega arith in
     silent-absurd s (state_at (slice_set states k s) q) p (ap (state_at (slice_set states k s)) same ∙ get_or-set_same states k s Fail inside) none some)
-    (λ past. sym (ap state_accepts (get_or-set_other states k q s Fail (λ same. absurd (omega arith)))) ∙ some)
+    (λ past. sym (ap state_accepts (get_or-set_other states k q s Fail (omega arith))) ∙ some)
     (cases_lt q (suc k)))
     (cases_lt q k)
 
@@ -139,3 +140,20 @@ module _ (states : List State) (accepted pattern : ℕ) (new : accepted ≤ patt
           | inr last ↦ one.0 ∙ sym last.0
         ]
       ]
+
+pub once-pushed : (states : List State) (s : State) → state_accepts s ≡ None → AcceptsOnce states → AcceptsOnce (states ++ s ∷ [])
+once-pushed states s none = once-kept states (states ++ s ∷ []) (pushed-silent states s none)
+
+pub below-pushed : (accepted : ℕ) (states : List State) (s : State) → state_accepts s ≡ None
+    → ((q p : ℕ) → state_accepts (state_at states q) ≡ Some p → p < accepted)
+    → (q p : ℕ) → state_accepts (state_at (states ++ s ∷ []) q) ≡ Some p → p < accepted
+below-pushed accepted states s none = below-kept accepted states (states ++ s ∷ []) (pushed-silent states s none)
+
+pub once-patched : (states : List State) (k : ℕ) (s : State) → k < length states → state_accepts s ≡ None → AcceptsOnce states
+    → AcceptsOnce (slice_set states k s)
+once-patched states k s inside none = once-kept states (slice_set states k s) (patched-silent states k s inside none)
+
+pub below-patched : (accepted : ℕ) (states : List State) (k : ℕ) (s : State) → k < length states → state_accepts s ≡ None
+    → ((q p : ℕ) → state_accepts (state_at states q) ≡ Some p → p < accepted)
+    → (q p : ℕ) → state_accepts (state_at (slice_set states k s) q) ≡ Some p → p < accepted
+below-patched accepted states k s inside none = below-kept accepted states (slice_set states k s) (patched-silent states k s inside none)
