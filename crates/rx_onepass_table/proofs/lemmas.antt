@@ -7,3 +7,4 @@ pub mod StepLemmas
 pub mod AlongLemmas
 pub mod SearchLemmas
 pub mod CellLemmas
+pub mod ShownLemmas

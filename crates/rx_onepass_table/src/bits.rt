@@ -110,15 +110,19 @@ pub fn write_slots(set: u32, at: usize, places: &mut [Option<NonMaxUsize>])
     write_each(set, at, places);
 }
 
-/// The same, slot by slot.
+/// The same, slot by slot, as far as there are members left.
 fn write_each(set: u32, at: usize, places: &mut [Option<NonMaxUsize>])
     requires { at < usize.MAX }
     ensures len { length places.new ≡ length places.old }
     ensures value { (k : ℕ) → k < length places.new
         → slice_index_or places.new k None ≡ (if bit_at set k == 1 then Some at else slice_index_or places.old k None) }
 {
-    for k in 0..places.len() {
-        places[k] = pick(set, k, at, places[k]);
+    let mut left = set;
+    let mut k = 0;
+    while left > 0 && k < places.len() {
+        places[k] = pick(left, 0, at, places[k]);
+        left /= 2;
+        k += 1;
     }
 }
 

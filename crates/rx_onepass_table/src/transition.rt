@@ -65,6 +65,15 @@ impl Transition {
         self.word < TARGET_UNIT
     }
 
+    /// Whether nothing is told on the way: no slot is written, and no look-around is asked for.
+    #[inline(always)]
+    pub fn is_plain(self) -> bool
+        ensures slots { IsTrue result → self.slots ≡ 0 }
+        ensures looks { IsTrue result → self.looks ≡ 0 }
+    {
+        self.word % WINS_UNIT == 0
+    }
+
     /// The number of the row that it leads to.
     #[inline(always)]
     pub fn target(self) -> usize
