@@ -2,7 +2,9 @@
 use Rattle.std.proofs.Common.{◌≡◌, ℕ, zero, suc, ◌+◌, ◌-◌, ◌/◌, ◌^◌, ◌<◌, ◌≤◌, ◌==◌, List, [], ◌∷◌, length, refl, sym, ◌∙◌, ap, subst, arith, true≢false}
 use Rattle.std.specs.Prelude.{Bool, true, false, not, ◌&&◌, Option, Some, None, IfSome, if◌then◌else◌, slice_index, slice_index_or}
 use Rattle.std.specs.Int.{bit_at}
+use Rattle.std.proofs.lemmas.Bool.Decides.{nat_tests}
 use Rattle.std.proofs.lemmas.Nat.Bits.{bit_at-suc, bit_at-zero}
+use Rattle.rx_model.proofs.lemmas.runs.RunLemmas.{by_test}
 use Rattle.rx_model.specs.Runs.{Trace}
 use Rattle.rx_search.specs.Matches.{HalfMatchValue}
 use Rattle.rx_nfa.specs.Nfa.{Nfa}
@@ -13,7 +15,7 @@ use Rattle.rx_onepass_table.specs.Words.{Step, dead}
 use Rattle.rx_onepass_table.specs.declared.walk.Told.{Told}
 use Rattle.rx_onepass_table.proofs.lemmas.SetLemmas.{none-asked}
 
-put-length : (set place k : ℕ) (slots : List (Option ℕ)) → length (put_from set place k slots) ≡ length slots
+pub put-length : (set place k : ℕ) (slots : List (Option ℕ)) → length (put_from set place k slots) ≡ length slots
 unfolding put_from
 put-length set place k [] = refl
 put-length set place k (slot ∷ slots) = ap suc (put-length set place (suc k) slots)
@@ -33,7 +35,9 @@ put-behind set place k (slot ∷ slots) (suc i) lt =
 -- each slot of those that are put
 pub put-each : (set place : ℕ) (slots : List (Option ℕ)) (k : ℕ) → k < length (put_from set place 0 slots)
     → slice_index_or (put_from set place 0 slots) k None ≡ (if bit_at set k == 1 then Some place else slice_index_or slots k None)
-put-each set place slots k lt = let long = put-length set place 0 slots in put-behind set place 0 slots k (omega arith)
+put-each set place slots k lt =
+    let long = put-length set place 0 slots in let same : 0 + k ≡ k = omega arith in
+    put-behind set place 0 slots k (omega arith) ∙ ap (λ n. if bit_at set n == 1 then Some place else slice_index_or slots k None) same
 
 -- as many slots are shown
 pub shown-length : (left : Option Told) (places out : List (Option ℕ)) → length places ≡ length out → length (shown left places out) ≡ length out
@@ -80,8 +84,7 @@ pub dead-stops : (nfa : Nfa) (text : List ℕ) (s : Step) (place : ℕ) → s.ta
 dead-stops nfa text s place e = ap (λ n. not (n == dead) && all_hold nfa.terminator text s.looks place) e
 
 alive : (target : ℕ) → (target ≡ dead → ⊥) → not (target == dead) ≡ true
-alive zero live = absurd (live refl)
-alive (suc n) live = refl
+alive target live = by_test (target == dead) (λ e. absurd (live (grind (arith, nat_tests)))) (λ e. ap not e)
 
 -- one that leads somewhere, where its look-arounds hold or not
 pub alive-goes : (nfa : Nfa) (text : List ℕ) (s : Step) (place : ℕ) (b : Bool) → (s.target ≡ dead → ⊥) → b ≡ all_hold nfa.terminator text s.looks place

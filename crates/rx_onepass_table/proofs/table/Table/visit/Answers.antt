@@ -1,4 +1,4 @@
-use Rattle.std.proofs.Common.{◌+◌, ◌==◌, refl, sym, ◌∙◌, ap, subst, if◌then◌else◌, length}
+use Rattle.std.proofs.Common.{◌+◌, ◌==◌, refl, sym, ◌∙◌, ap, subst, if◌then◌else◌, length, true≢false}
 use Rattle.std.specs.Prelude.{Some, None, slice_index_or}
 use Rattle.std.specs.Int.{bit_at}
 use Rattle.rx_onepass_table.specs.Along.{goes_on}
@@ -42,7 +42,7 @@ returns-then-not-pass-clause-over c =
     (c.tell-told.ensures.telling c.args.places.now c.args.out.now) n s c.args.earliest
     (ap (λ (s : Step). goes_on c.args.nfa.now c.args.text.now s c.args.at) (sym c.transition-step.ensures.value)
     ∙ alive-goes c.args.nfa.now c.args.text.now c.transition-step.result c.args.at c.pass.result
-    (λ e. absurd (c.if-is_dead.false (c.is_dead.ensures.1 e))) c.pass.ensures.passed.looks
+    (λ e. true≢false (sym (c.is_dead.ensures.1 e) ∙ c.if-is_dead.false)) c.pass.ensures.passed.looks
     ∙ c.if-not-pass.true))
 
 pub returns-then-is_plain-clause-on : goal.returns-then-is_plain-clause-on
@@ -61,14 +61,14 @@ returns-then-is_plain-clause-on c =
     (c.tell-told.ensures.telling c.args.places.now c.args.out.now) n s c.args.earliest
     ((λ k. stops (sym c.tell-told.ensures.value k) c.args.earliest c.args.may_win (sym wins k)) ∙ sym c.stops.ensures ∙ c.if-stops.false)
     (ap (λ (s : Step). goes_on c.args.nfa.now c.args.text.now s c.args.at) (sym c.transition-step.ensures.value)
-    ∙ plain-goes c.args.nfa.now c.args.text.now c.transition-step.result c.args.at (λ e. absurd (c.if-is_dead.false (c.is_dead.ensures.1 e)))
+    ∙ plain-goes c.args.nfa.now c.args.text.now c.transition-step.result c.args.at (λ e. true≢false (sym (c.is_dead.ensures.1 e) ∙ c.if-is_dead.false))
     (c.is_plain.ensures.looks c.if-is_plain.true))
     c.args.places.now refl (plain-writes _ c.args.at c.args.places.now slots))
 
 pub returns-clause-on : goal.returns-clause-on
 returns-clause-on c =
     let wins = c.match_wins.ensures ∙ ap (λ (s : Step). s.wins) c.transition-step.ensures.value in
-    let target = c.target.ensures ∙ ap (λ (s : Step). s.target) c.transition-step.ensures.value in
+    let target = c.target-2.ensures ∙ ap (λ (s : Step). s.target) c.transition-step.ensures.value in
     let slots = ap (λ (s : Step). s.slots) c.transition-step.ensures.value in
     let before = shown c.args.left.now c.args.places.now c.args.out.now in
     let after = shown c.tell-told.new.left c.args.places.now c.args.out.now in
@@ -88,7 +88,7 @@ returns-clause-on c =
     ((λ k. stops (sym c.tell-told.ensures.value k) c.args.earliest c.args.may_win (sym wins k)) ∙ sym c.stops.ensures ∙ c.if-stops.false)
     (ap (λ (s : Step). goes_on c.args.nfa.now c.args.text.now s c.args.at) (sym c.transition-step.ensures.value)
     ∙ alive-goes c.args.nfa.now c.args.text.now c.transition-step.result c.args.at c.pass.result
-    (λ e. absurd (c.if-is_dead.false (c.is_dead.ensures.1 e))) c.pass.ensures.passed.looks
+    (λ e. true≢false (sym (c.is_dead.ensures.1 e) ∙ c.if-is_dead.false)) c.pass.ensures.passed.looks
     ∙ goes)
     c.pass.new.places c.pass.ensures.places
     (λ k lt.
