@@ -3,8 +3,8 @@
 
 usage: bench/guards.py [RXSCAN]   (a built program in place of ours, which `cd crates/rxscan && rt run` builds)
 
-Each text is one line of 4, 8 and 16 MiB, in which each guard in turn has to answer, since without it the same bytes would be read again
-for each candidate: where a search backwards would read under the candidate before it (`below`), where it came to the start of the span and
+Each text is one line of 4, 8 and 16 MiB, on which each guard in turn answers. Their candidates are dense, so a search that loses patience
+is linear there too: this shows that the time is, and not that a guard makes it so. The guards: where a search backwards would read under the candidate before it (`below`), where it came to the start of the span and
 found a later start (`at the start`), and where a candidate lies before the place at which a search forwards stopped (`candidate`). The last
 text makes each of sixteen thousand lines do so. Of three turns the least processor time counts. Beside it stands the time of the core alone
 (`off:p`), whose rows have to be the same. Ends with status 1 where the time grows by more than 2.5 while the text grows by 2.
