@@ -1,5 +1,5 @@
 -- The states of an NFA as a machine over the places of a text, which is read forwards or backwards.
-use Rattle.std.specs.Prelude.{ℕ, suc, ◌+◌, ◌-◌, ◌<◌, Bool, false, ◌&&◌, List, [], ◌∷◌, length, map, All, ⊤, Option, Some, None, if◌then◌else◌, nat_lt, nat_le, slice_index, slice_index_or}
+use Rattle.std.specs.Prelude.{◌≡◌, ℕ, suc, ◌+◌, ◌-◌, ◌<◌, Bool, false, ◌&&◌, List, [], ◌∷◌, length, map, All, ⊤, Option, Some, None, if◌then◌else◌, nat_lt, nat_le, slice_index, slice_index_or}
 use Rattle.rx_model.specs.Look as model
 use Rattle.rx_model.specs.Look.{holds}
 use Rattle.rx_model.specs.Runs.{Configuration, PriorityGraph}
@@ -98,6 +98,10 @@ state_writes (Match pattern) = None
 -- the state of this number
 abbrev pub state_at : List State → ℕ → State
 state_at states q = slice_index_or states q Fail
+
+-- no two of the states accept one pattern
+abbrev pub AcceptsOnce : List State → Type 0
+AcceptsOnce states = (p q r : ℕ) → state_accepts (state_at states q) ≡ Some p → state_accepts (state_at states r) ≡ Some p → q ≡ r
 
 abbrev pub machine : Surroundings → List State → (end : ℕ) → Machine
 machine around states end = record {

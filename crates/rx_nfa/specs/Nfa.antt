@@ -9,7 +9,7 @@ use Rattle.rx_model.specs.Search.{Patterns, told, first, first_where, first_of_p
 use Rattle.rx_search.specs.GroupInfo.{slot_count}
 use Rattle.rx_search.specs.LookSet.{has}
 use Rattle.rx_search.specs.Limits.{id_limit}
-use Rattle.rx_nfa.specs.Automaton.{at, automaton, automaton_over, backwards, asks_for, NamesBelow, IsWithin}
+use Rattle.rx_nfa.specs.Automaton.{at, automaton, automaton_over, backwards, asks_for, AcceptsOnce, NamesBelow, IsWithin}
 use Rattle.rx_nfa.specs.ByteClasses.{AreClassesOf}
 use Rattle.rx_nfa.specs.Row.{HasSortedTransitions}
 use Rattle.rx_nfa.specs.Slots.{WritesOwnSlots}
@@ -43,8 +43,8 @@ pub record Nfa : Type 0 where
   pub accounted : ℕ
 
 -- every state, pattern and slot that is named is there, the slots are those of the groups, and each that is written is one
--- of its pattern; transitions are sorted, the look-arounds are those of the states, and the classes of bytes tell apart what
--- they tell apart
+-- of its pattern; each pattern is accepted at one state alone; transitions are sorted, the look-arounds are those of the states, and
+-- the classes of bytes tell apart what they tell apart
 pub record IsInRange (nfa : Nfa) : Type 0 where
   pub start_anchored : nfa.start_anchored < length nfa.states
   pub starts : All (λ q. q < length nfa.states) nfa.starts
@@ -52,6 +52,7 @@ pub record IsInRange (nfa : Nfa) : Type 0 where
   pub within : All (IsWithin (length nfa.starts) nfa.slots) nfa.states
   pub slots : nfa.slots ≡ slot_count nfa.groups
   pub own : All (WritesOwnSlots nfa.groups) nfa.states
+  pub once : AcceptsOnce nfa.states
   pub sorted : All HasSortedTransitions nfa.states
   pub looks : (kind : Look) → has nfa.looks kind ≡ list_any (asks_for kind) nfa.states
   pub classes : AreClassesOf nfa.terminator nfa.states nfa.classes

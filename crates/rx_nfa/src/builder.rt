@@ -1,7 +1,7 @@
 //! An NFA in the making.
-ghost use Rattle.std.specs.Prelude.{◌≡◌, ◌+◌, ◌<◌, ◌≤◌, [], length, All, IfOk, OnOk, OnErr};
+ghost use Rattle.std.specs.Prelude.{◌≡◌, ◌+◌, ◌<◌, ◌≤◌, [], length, None, All, IfOk, OnOk, OnErr};
 ghost use Rattle.rx_search.specs.Limits.{id_limit};
-ghost use Rattle.rx_nfa.specs.Automaton.{NamesBelow, IsWithin};
+ghost use Rattle.rx_nfa.specs.Automaton.{state_accepts, NamesBelow, IsWithin};
 ghost use Rattle.rx_model.specs.Graph.{build_state, set};
 ghost use Rattle.rx_model.specs.Text.{scalar_ranges, byte_ranges};
 ghost use Rattle.rx_search.specs.GroupInfo.{slot_count};
@@ -9,7 +9,7 @@ ghost use Rattle.rx_class.specs.ClassViews.{class_view};
 ghost use Rattle.rx_hir.specs.Cost.{states_of_class};
 ghost use Rattle.rx_nfa.specs.Built.{Built};
 ghost use Rattle.rx_nfa.specs.Directed.{build_class};
-ghost use Rattle.rx_nfa.specs.Draft.{AreInRange, pushed, patched};
+ghost use Rattle.rx_nfa.specs.Draft.{AreInRange, pushed, accepting, patched};
 ghost use Rattle.rx_nfa.specs.Row.{HasSortedTransitions};
 ghost use Rattle.rx_nfa.specs.Slots.{WritesOwnSlots};
 ghost use Rattle.rx_nfa.specs.Nfa.{IsInRange};
@@ -22,7 +22,7 @@ use crate::looks::looks_of;
 use crate::nfa::NFA;
 use crate::nfa::inner::Inner;
 use rx_hir::{Class, ClassBytes, ClassUnicode};
-use rx_search::{GroupInfo, LookMatcher, Memory, StateID};
+use rx_search::{GroupInfo, LookMatcher, Memory, PatternID, StateID};
 use std::alloc::Global;
 use std::marker::Model;
 use std::mem;
@@ -39,12 +39,15 @@ pub struct Facts {
 }
 
 /// The states so far. Every state and pattern that they name is there. They write slots of the groups of the patterns
-/// that they name, and of these the first `written_len` alone. Their transitions are sorted.
+/// that they name, and of these the first `written_len` alone. Their transitions are sorted. Each pattern is accepted at one state
+/// alone.
 #[derive(Drop)]
 pub struct Builder {
     states: Vec<State>,
     group_info: GroupInfo,
     written_len: usize,
+    /// No pattern from this one on is accepted yet.
+    accepted: usize,
 }
 
 impl Model for Builder {
@@ -56,24 +59,27 @@ impl Model for Builder {
       states = b.states.items;
       groups = b.group_info;
       slots = b.written_len;
+      accepted = b.accepted;
     } };
 
     ghost invariant = { λ b. AreInRange (record {
       states = b.states.items;
       groups = b.group_info;
       slots = b.written_len;
+      accepted = b.accepted;
     }) };
 }
 
 impl Builder {
     /// No states yet, for patterns with these groups, and so many slots that may be written.
     pub fn new(alloc: Global, group_info: GroupInfo, written_len: usize) -> Builder
-        ensures { result ≡ record { states = []; groups = group_info; slots = written_len } }
+        ensures { result ≡ record { states = []; groups = group_info; slots = written_len; accepted = 0 } }
     {
         Builder {
             states: Vec::new(alloc),
             group_info,
             written_len,
+            accepted: 0,
         }
     }
 
@@ -85,18 +91,33 @@ impl Builder {
         &self.states
     }
 
-    /// Appends a state, and answers its number.
+    /// Appends a state that accepts no pattern, and answers its number.
     pub fn push(&mut self, state: State) -> Result<StateID, Memory>
         requires room { length self.old.states < id_limit }
         requires names { NamesBelow (length self.old.states) state }
         requires within { IsWithin (length self.old.groups) self.old.slots state }
         requires own { WritesOwnSlots self.old.groups state }
         requires sorted { HasSortedTransitions state }
+        requires silent { state_accepts state ≡ None }
         ensures id { IfOk result (λ id. id ≡ length self.old.states) }
         ensures states { IfOk result (λ id. self.new ≡ pushed self.old state) }
     {
         let id = StateID::new(self.states.len()).unwrap();
         self.states.push(state)?;
+        Ok(id)
+    }
+
+    /// Appends the state that accepts this pattern, which none accepts yet, and answers its number.
+    pub fn push_match(&mut self, pattern: PatternID) -> Result<StateID, Memory>
+        requires room { length self.old.states < id_limit }
+        requires there { pattern < length self.old.groups }
+        requires new { self.old.accepted ≤ pattern }
+        ensures id { IfOk result (λ id. id ≡ length self.old.states) }
+        ensures states { IfOk result (λ id. self.new ≡ accepting self.old pattern) }
+    {
+        let id = StateID::new(self.states.len()).unwrap();
+        self.states.push(State::Match { pattern })?;
+        self.accepted = pattern.as_usize() + 1;
         Ok(id)
     }
 
@@ -180,13 +201,14 @@ impl Builder {
         Ok(start)
     }
 
-    /// Puts another state in place of the one of this number.
+    /// Puts another state, which accepts no pattern, in place of the one of this number.
     pub fn patch(&mut self, id: StateID, state: State)
         requires inside { id < length self.old.states }
         requires names { NamesBelow (length self.old.states) state }
         requires within { IsWithin (length self.old.groups) self.old.slots state }
         requires own { WritesOwnSlots self.old.groups state }
         requires sorted { HasSortedTransitions state }
+        requires silent { state_accepts state ≡ None }
         ensures { self.new ≡ patched self.old id state }
     {
         self.states[id.as_usize()] = state;

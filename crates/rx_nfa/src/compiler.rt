@@ -10,7 +10,7 @@ ghost use Rattle.rx_nfa.specs.Built.{Built, bound, compiled_pattern, HasPart, Ha
 ghost use Rattle.rx_nfa.specs.Config.{captures_kind, captures_of, overwritten, nothing_set};
 ghost use Rattle.rx_nfa.specs.Compiled.{patterns_of, groups_of, slots_of, slots_written, nfa_states, AreFew, AreAllowed, IsCompiled, IsRefusal};
 ghost use Rattle.rx_nfa.specs.Directed.{directed_part, part_for};
-ghost use Rattle.rx_nfa.specs.Draft.{Extends};
+ghost use Rattle.rx_nfa.specs.Draft.{Continues};
 ghost use Rattle.rx_nfa.specs.Room.{HasRoom};
 ghost use Rattle.rx_nfa.specs.Slots.{IsSlotOf};
 
@@ -196,8 +196,9 @@ fn compile_patterns(
     requires few { AreFew exprs.now }
     requires groups { builder.old.groups ≡ groups_of exprs.now }
     requires slots { builder.old.slots ≡ slots_written (captures_kind which) exprs.now }
+    requires new { builder.old.accepted ≡ 0 }
     requires fits { length builder.old.states + nfa_states exprs.now ≤ id_limit }
-    ensures extends { OnOk result (Extends builder.old builder.new) }
+    ensures extends { OnOk result (Continues builder.old builder.new) }
     ensures len { IfOk result (λ starts. length starts.items ≡ length exprs.now) }
     ensures has { IfOk result (λ starts. HasParts builder.new.states (directed_part reverse (patterns_of exprs.now true 0 (captures_kind which))) exprs.now
         (length exprs.now) starts.items) }
@@ -232,8 +233,10 @@ fn compile_pattern(
     requires room { HasRoom builder.old groups.now (greatest_group hir.now) }
     requires whole { IfSome groups.now.whole_slot (λ slot. slot + 1 < builder.old.slots) }
     requires own { IfSome groups.now.whole_slot (λ slot. slot ≡ 2 * groups.now.pattern) }
+    requires new { builder.old.accepted ≤ groups.now.pattern }
     requires fits { length builder.old.states + (accounted_states hir.now + 3) ≤ id_limit }
-    ensures extends { OnOk result (Extends builder.old builder.new) }
+    ensures extends { OnOk result (Continues builder.old builder.new) }
+    ensures accepted { OnOk result (builder.new.accepted ≡ groups.now.pattern + 1) }
     ensures has { IfOk result (λ start. HasPart builder.new.states
         (compiled_pattern groups.now.whole_slot (part_for groups.now hir.now) groups.now.pattern) start) }
     ensures inside { IfOk result (λ start. start < length builder.new.states) }
@@ -242,7 +245,7 @@ fn compile_pattern(
 {
     let pattern = groups.pattern;
     let last_slot = second_slot(groups.whole_slot);
-    let accept = builder.push(State::Match { pattern })?;
+    let accept = builder.push_match(pattern)?;
     let close = push_bound(alloc, builder, pattern, last_slot, accept)?;
     let body = compile(alloc, builder, groups, hir, close)?;
     let open = push_bound(alloc, builder, pattern, groups.whole_slot, body)?;

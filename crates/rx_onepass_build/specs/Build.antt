@@ -9,7 +9,7 @@ use Rattle.rx_nfa.specs.Automaton.{state_at, state_accepts}
 use Rattle.rx_nfa.specs.Nfa.{Nfa}
 use Rattle.rx_nfa.specs.declared.state.State.{State}
 use Rattle.rx_nfa.specs.declared.state.State.TheVariants.{ByteRange, Sparse, Look as Asks, Union, Capture, Fail, Match as Accepting}
-use Rattle.rx_onepass_table.specs.Entry.{IsEntry, IsClear, Conflicts, explicit_start}
+use Rattle.rx_onepass_table.specs.Entry.{IsEntry, IsClear, AcceptsBoth, Conflicts, explicit_start}
 use Rattle.rx_onepass_table.specs.Rows.{TableValue, IsRowOf, IsTableOf}
 use Rattle.rx_onepass_table.specs.Walks.{WalksTo, ReachesTwice}
 use Rattle.rx_onepass_table.specs.Words.{few_looks, slot_limit, no_pattern}
@@ -79,8 +79,7 @@ pub record IsLayoutOf (config : Config) (nfa : Nfa) (layout : Layout) : Type 0 w
 
 -- Why there is no table.
 
--- Two walks from the entry lead to two different states that accept, of these patterns. Where one state alone accepts a pattern,
--- these are two different patterns.
+-- Two walks from the entry lead to two different states that accept, of these patterns.
 pub record AcceptsTwice (nfa : Nfa) (entry first second : ℕ) : Type 0 where
   pub way : List ℕ
   pub way_too : List ℕ
@@ -96,7 +95,7 @@ pub record AcceptsTwice (nfa : Nfa) (entry first second : ℕ) : Type 0 where
 abbrev pub IsAmbiguous : Nfa → (each : Bool) → NotOnePass → Type 0
 IsAmbiguous nfa each (Slots given) = ⊥
 IsAmbiguous nfa each (Twice state) = (entry : ℕ) × IsEntry nfa each entry × ReachesTwice nfa.states entry state
-IsAmbiguous nfa each (Match first second) = (entry : ℕ) × IsEntry nfa each entry × AcceptsTwice nfa entry first second
+IsAmbiguous nfa each (Match first second) = (entry : ℕ) × IsEntry nfa each entry × AcceptsBoth nfa entry first second
 IsAmbiguous nfa each (Transition state byte) = IsEntry nfa each state × Conflicts nfa state byte
 
 -- why states were made in vain

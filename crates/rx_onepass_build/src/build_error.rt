@@ -14,7 +14,7 @@ pub enum NotOnePass {
     Slots { given: usize },
     /// Two different epsilon walks from one entry lead to this state of the NFA.
     State { state: StateID },
-    /// From one entry epsilon walks lead to two different states that match, of these patterns.
+    /// Two different patterns match at the place of one entry.
     Match { first: PatternID, second: PatternID },
     /// From this state of the NFA, an entry, two steps on this byte differ.
     Transition { state: StateID, byte: u8 },

@@ -1,3 +1,4 @@
+pub mod AcceptLemmas
 pub mod AccountedLemmas
 pub mod BuiltLemmas
 pub mod LoopLemmas

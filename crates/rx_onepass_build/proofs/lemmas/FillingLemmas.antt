@@ -13,12 +13,11 @@ use Rattle.rx_nfa.specs.Automaton.{state_at, state_accepts}
 use Rattle.rx_nfa.specs.Nfa.{Nfa}
 use Rattle.rx_nfa.specs.Ordered.{target}
 use Rattle.rx_onepass_table.specs.Along.{kind_at}
-use Rattle.rx_onepass_table.specs.Entry.{Accepts, Reads, IsOutdone, Conflicts, WriteAlike, AskAlike, explicit_start}
+use Rattle.rx_onepass_table.specs.Entry.{Accepts, AcceptsBoth, Reads, IsOutdone, Conflicts, WriteAlike, AskAlike, explicit_start}
 use Rattle.rx_onepass_table.specs.Rows.{AreSlots, AreLooks, IsRowOf}
 use Rattle.rx_onepass_table.specs.Walks.{WalksTo}
 use Rattle.rx_onepass_table.specs.Words.{Step, Final, dead}
 use Rattle.rx_onepass_table.proofs.lemmas.SetLemmas.{number-back}
-use Rattle.rx_onepass_build.specs.Build.{AcceptsTwice}
 use Rattle.rx_onepass_build.specs.Entries.{AreNumbered, Stays, AreEntries}
 use Rattle.rx_onepass_build.specs.Filling.{step_at, IsStepOn, IsCell, IsToldBy, IsFilling, IsRowBy}
 use Rattle.rx_onepass_build.specs.Rows.{IsPut}
@@ -112,26 +111,24 @@ module _ (nfa : Nfa) (entry : ℕ) (way : List ℕ) (f : Frame) (w : IsWay nfa e
         one = λ q r one other m n a b. sym (alone q one m a) ∙ alone r other n b;
       }
 
-  pub told-twice : (done : List (List ℕ)) (t : Final) (first second : ℕ) → t.pattern ≡ Some first
+  pub told-twice : ((p q r : ℕ) → state_accepts (state_at nfa.states q) ≡ Some p → state_accepts (state_at nfa.states r) ≡ Some p → q ≡ r)
+      → (done : List (List ℕ)) (t : Final) (first second : ℕ) → t.pattern ≡ Some first
       → state_accepts (state_at nfa.states f.state) ≡ Some second → IsToldBy nfa entry done t
-      → ((one : List ℕ) → Contains done one → WalksTo nfa.states entry one f.state → ⊥) → AcceptsTwice nfa entry first second
-  told-twice done t first second told accepts h new = by t.pattern told h.there
+      → ((one : List ℕ) → Contains done one → WalksTo nfa.states entry one f.state → ⊥) → AcceptsBoth nfa entry first second
+  told-twice once done t first second told accepts h new = by t.pattern told h.there
     where
       by : (o : Option ℕ) → o ≡ Some first → IfSome o (λ p. (one : List ℕ) × Contains done one × Accepts nfa entry p one)
-          → AcceptsTwice nfa entry first second
+          → AcceptsBoth nfa entry first second
       by None e there = none-is-some e
       by (Some p) e there =
           let a = there.2 in
           record {
+            differ = λ same. new there.0 there.1
+                (subst (λ q. WalksTo nfa.states entry there.0 q) (once second a.state f.state (a.accepts ∙ e ∙ ap Some same) accepts) a.leads);
             way = there.0;
             way_too = way;
-            state = a.state;
-            state_too = f.state;
-            leads = a.leads;
-            leads_too = w.leads;
-            accepts = a.accepts ∙ e;
-            accepts_too = accepts;
-            differ = λ same. new there.0 there.1 (subst (λ q. WalksTo nfa.states entry there.0 q) same a.leads);
+            accepts = record { state = a.state; leads = a.leads; accepts = a.accepts ∙ e };
+            accepts_too = record { state = f.state; leads = w.leads; accepts = accepts };
           }
 
 -- a match is preferred exactly where one was told

@@ -11,7 +11,7 @@ use Rattle.rx_hir.specs.Names.{group_names}
 use Rattle.rx_nfa.specs.Compiled.{patterns_of, groups_of, slots_of, slots_written}
 use Rattle.rx_nfa.specs.Config.{captures_kind}
 use Rattle.rx_nfa.proofs.lemmas.parts.ExpressionLemmas.{nfa_states-drop, nfa_states-none}
-use Rattle.rx_nfa.proofs.lemmas.parts.BuiltLemmas.{Extends-trans}
+use Rattle.rx_nfa.proofs.lemmas.parts.BuiltLemmas.{Continues-trans}
 use Rattle.rx_nfa.proofs.lemmas.parts.CompileLemmas.{below-more}
 use Rattle.rx_nfa.proofs.lemmas.runs.GroupLemmas.{groups_at-names, first_slot-group}
 use Rattle.rx_nfa.proofs.lemmas.runs.PatternLemmas.{HasParts-more, sound-more}
@@ -91,7 +91,8 @@ loop-hir-preserved c =
     let long = ap length grown in
     let sum = length-append c.loop-hir.starts.items (start ∷ []) in
     record {
-      extends = Extends-trans c.args.builder.now old new before.extends e;
+      extends = Continues-trans c.args.builder.now old new before.extends e;
+      accepted = c.in_ok-start.ensures.accepted ∙ ap (λ n. n + 1) index;
       len = c.in_ok-push.ensures.len ∙ ap (λ n. n + 1) before.len;
       count =
           (let states = nfa_states-drop exprs k item item (omega arith) c.hir-item.is in
@@ -125,3 +126,10 @@ pub returns-clause-sound : goal.returns-clause-sound
 returns-clause-sound c p h at =
     let inside = slice_get_within c.args.exprs.now p h at in
     c.loop-hir.invariant.sound p h (omega arith) at
+
+pub compile_pattern-requires-clause-new : goal.compile_pattern-requires-clause-new
+compile_pattern-requires-clause-new c =
+    let is = rw c.unwrap-pattern.ensures at c.new.ensures in
+    let index : c.unwrap-pattern.result ≡ c.loop-hir.hir-index = is.0 ∙ c.len.ensures ∙ c.loop-hir.invariant.len in
+    let accepted = c.loop-hir.invariant.accepted in
+    omega arith

@@ -6,12 +6,13 @@ use Rattle.rx_nfa.specs.Built.{HasParts}
 use Rattle.rx_nfa.specs.Directed.{directed_part}
 use Rattle.rx_nfa.specs.Compiled.{patterns_of, first_slot_of, nfa_states}
 use Rattle.rx_nfa.specs.Config.{captures_kind}
-use Rattle.rx_nfa.specs.Draft.{Extends}
+use Rattle.rx_nfa.specs.Draft.{Continues}
 use Rattle.rx_nfa.proofs.compiler.compile_patterns.Given as goal
 
 abbrev pub invariant-loop-hir : goal.invariant-loop-hir
 invariant-loop-hir l = record {
-  extends : Extends l.initial.builder l.builder;
+  extends : Continues l.initial.builder l.builder;
+  accepted : l.builder.accepted ≡ l.hir-index;
   len : vec_len l.starts ≡ l.hir-index;
   count : length l.builder.states + nfa_states (drop l.hir-index l.exprs) ≤ length l.initial.builder.states + nfa_states l.exprs;
   items : length l.starts.items ≡ l.hir-index;

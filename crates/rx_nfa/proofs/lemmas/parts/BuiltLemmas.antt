@@ -9,7 +9,7 @@ use Rattle.rx_nfa.specs.Row.{HasReader}
 use Rattle.rx_nfa.proofs.lemmas.classes.RowLemmas.{HasReader-map}
 use Rattle.rx_nfa.proofs.lemmas.classes.ClassLemmas.{IsClass-map, IsByteClass-map}
 use Rattle.rx_nfa.specs.Automaton.{state_at}
-use Rattle.rx_nfa.specs.Draft.{Draft, Extends, pushed}
+use Rattle.rx_nfa.specs.Draft.{Draft, Continues, Extends, pushed, accepting}
 use Rattle.rx_nfa.specs.States.{Stands}
 use Rattle.rx_nfa.specs.Built.{IsChain, IsImage, Rises, Sends, Mirrors, Built}
 use Rattle.rx_nfa.specs.declared.state.State.{State}
@@ -108,8 +108,25 @@ Keeps-same base states = record { longer = omega arith; kept = λ q above inside
 pub Keeps-extends : (base : ℕ) (old new : Draft) → Extends old new → Keeps base old.states new.states
 Keeps-extends base old new e = record { longer = e.longer; kept = λ q above inside. e.kept q inside }
 
+pub Keeps-continues : (base : ℕ) (old new : Draft) → Continues old new → Keeps base old.states new.states
+Keeps-continues base old new e = record { longer = e.longer; kept = λ q above inside. e.kept q inside }
+
 pub Extends-same : (d : Draft) → Extends d d
-Extends-same d = record { groups = refl; slots = refl; longer = omega arith; kept = λ q inside. refl }
+Extends-same d = record { groups = refl; slots = refl; longer = omega arith; kept = λ q inside. refl; accepted = refl }
+
+pub Extends-continues : (old new : Draft) → Extends old new → Continues old new
+Extends-continues old new e = record { groups = e.groups; slots = e.slots; longer = e.longer; kept = e.kept }
+
+pub Continues-same : (d : Draft) → Continues d d
+Continues-same d = record { groups = refl; slots = refl; longer = omega arith; kept = λ q inside. refl }
+
+pub Continues-trans : (a b c : Draft) → Continues a b → Continues b c → Continues a c
+Continues-trans a b c x y = record {
+  groups = y.groups ∙ x.groups;
+  slots = y.slots ∙ x.slots;
+  longer = (let p = x.longer in let q = y.longer in omega arith);
+  kept = λ q inside. (let p = x.longer in y.kept q (omega arith) ∙ x.kept q inside);
+}
 
 pub Extends-trans : (a b c : Draft) → Extends a b → Extends b c → Extends a c
 Extends-trans a b c x y = record {
@@ -117,6 +134,7 @@ Extends-trans a b c x y = record {
   slots = y.slots ∙ x.slots;
   longer = (let p = x.longer in let q = y.longer in omega arith);
   kept = λ q inside. (let p = x.longer in y.kept q (omega arith) ∙ x.kept q inside);
+  accepted = y.accepted ∙ x.accepted;
 }
 
 pub pushed-length : (d : Draft) (state : State) → length (pushed d state).states ≡ suc (length d.states)
@@ -128,6 +146,15 @@ Extends-pushed d state = record {
   slots = refl;
   longer = (let l = pushed-length d state in omega arith);
   kept = λ q inside. get_or_append_left d.states (state ∷ []) Fail q inside;
+  accepted = refl;
+}
+
+pub Continues-accepting : (d : Draft) (p : ℕ) → Continues d (accepting d p)
+Continues-accepting d p = record {
+  groups = refl;
+  slots = refl;
+  longer = (let l = pushed-length d (Match p) in omega arith);
+  kept = λ q inside. get_or_append_left d.states (Match p ∷ []) Fail q inside;
 }
 
 pub Stands-pushed : (d : Draft) (state : State) → Stands (length d.states) (pushed d state).states (length d.states) state

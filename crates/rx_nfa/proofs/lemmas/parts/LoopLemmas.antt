@@ -36,6 +36,7 @@ module _ (greedy : Bool) (body : graph.Builder) (next onward start : ℕ) (old a
   written-extends = record {
     groups = b.extends.groups;
     slots = b.extends.slots;
+    accepted = b.extends.accepted;
     longer = (let l = same-length in let t = there in omega arith);
     kept = λ q inside.
         (let l = pushed-length old blank in

@@ -13,36 +13,46 @@ use Rattle.rx_nfa.specs.Slots.{WritesOwnSlots}
 use Rattle.rx_nfa.specs.Trie.{IsClass, IsByteClass}
 use Rattle.rx_nfa.specs.Built.{Built}
 use Rattle.rx_nfa.proofs.lemmas.classes.RowLemmas.{reader-within, reader-own, reader-sorted, AddsReaders-all}
+use Rattle.rx_nfa.proofs.lemmas.parts.AcceptLemmas.{below-kept, once-kept, readers-silent}
 use Rattle.rx_nfa.proofs.lemmas.parts.BuiltLemmas.{Built-state}
 
-Extends-readers : (old new : Draft) → new.groups ≡ old.groups → new.slots ≡ old.slots → AddsReaders old.states new.states → Extends old new
-Extends-readers old new groups slots adds = record { groups = groups; slots = slots; longer = adds.longer; kept = adds.kept }
+Extends-readers : (old new : Draft) → new.groups ≡ old.groups → new.slots ≡ old.slots → new.accepted ≡ old.accepted → AddsReaders old.states new.states
+    → Extends old new
+Extends-readers old new groups slots accepted adds = record {
+  groups = groups;
+  slots = slots;
+  longer = adds.longer;
+  kept = adds.kept;
+  accepted = accepted;
+}
 
 -- the states of a class of scalars
 pub Built-scalars : (ranges : List (ℕ × ℕ)) (next : ℕ) (old new : Draft) (q : ℕ) → new.groups ≡ old.groups → new.slots ≡ old.slots
-    → AddsReaders old.states new.states
+    → new.accepted ≡ old.accepted → AddsReaders old.states new.states
     → IsClass (IsReader (length old.states) new.states) next ranges q → Built (graph.build_state (graph.set (scalar_ranges ranges))) next old new q
-Built-scalars ranges next old new q groups slots adds c =
-    Built-state (graph.set (scalar_ranges ranges)) next old new q (Extends-readers old new groups slots adds) c.reads.stands.above c.reads.stands.inside
+Built-scalars ranges next old new q groups slots accepted adds c =
+    Built-state (graph.set (scalar_ranges ranges)) next old new q (Extends-readers old new groups slots accepted adds) c.reads.stands.above c.reads.stands.inside
     (λ f next' is. subst (λ n. IsClass (IsReader (length old.states) new.states) n ranges q) (sym is) c)
 
 -- the state of a class of bytes
 pub Built-bytes : (ranges : List (ℕ × ℕ)) (next : ℕ) (old new : Draft) (q : ℕ) → new.groups ≡ old.groups → new.slots ≡ old.slots
-    → AddsReaders old.states new.states
+    → new.accepted ≡ old.accepted → AddsReaders old.states new.states
     → StaysBelow 255 ranges → IsByteClass (IsReader (length old.states) new.states) next ranges q
     → Built (graph.build_state (graph.set (byte_ranges ranges))) next old new q
-Built-bytes ranges next old new q groups slots adds below c =
-    Built-state (graph.set (byte_ranges ranges)) next old new q (Extends-readers old new groups slots adds) c.reads.stands.above c.reads.stands.inside
+Built-bytes ranges next old new q groups slots accepted adds below c =
+    Built-state (graph.set (byte_ranges ranges)) next old new q (Extends-readers old new groups slots accepted adds) c.reads.stands.above c.reads.stands.inside
     (λ f next' is. (below, subst (λ n. IsByteClass (IsReader (length old.states) new.states) n ranges q) (sym is) c))
 
 -- what is in range stays so where readers were added
-pub AreInRange-adds : (groups : List (List (Option (List ℕ)))) (slots : ℕ) (old new : List State)
-    → AreInRange (record { states = old; groups = groups; slots = slots }) → AddsReaders old new → AreClosed new → length new ≤ id_limit
-    → AreInRange (record { states = new; groups = groups; slots = slots })
-AreInRange-adds groups slots old new r adds closed few = record {
+pub AreInRange-adds : (groups : List (List (Option (List ℕ)))) (slots accepted : ℕ) (old new : List State)
+    → AreInRange (record { states = old; groups = groups; slots = slots; accepted = accepted }) → AddsReaders old new → AreClosed new → length new ≤ id_limit
+    → AreInRange (record { states = new; groups = groups; slots = slots; accepted = accepted })
+AreInRange-adds groups slots accepted old new r adds closed few = record {
   names = closed;
   within = AddsReaders-all (IsWithin (length groups) slots) (λ s ts is a. reader-within (length groups) slots s ts is) old new adds r.within;
   own = AddsReaders-all (WritesOwnSlots groups) (λ s ts is a. reader-own groups s ts is) old new adds r.own;
   sorted = AddsReaders-all HasSortedTransitions reader-sorted old new adds r.sorted;
   few = few;
+  below = below-kept accepted old new (readers-silent old new adds) r.below;
+  once = once-kept old new (readers-silent old new adds) r.once;
 }

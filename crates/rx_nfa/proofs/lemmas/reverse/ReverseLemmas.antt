@@ -134,7 +134,7 @@ module _ (r : Patterns) (nfa : Nfa) (old new : Draft) (e : Extends old new)
 
   has-part : (p : ℕ) (h : Expression) → slice_get r.expressions p ≡ Some h
       → HasPart new.states (compiled_pattern (whole_slot r.which_captures p) (build_directed true (slot_of r p) h) p) (slice_index nfa.starts p)
-  has-part p h is = HasPart-extends old new (directed_part true r p h) (slice_index nfa.starts p) e (has p h (slice_get_within r.expressions p h is) is)
+  has-part p h is = HasPart-extends old new (directed_part true r p h) (slice_index nfa.starts p) (Extends-continues old new e) (has p h (slice_get_within r.expressions p h is) is)
 
   pub each-means : (p q i j : ℕ) (h : Expression) → i ≤ length text → j ≤ length text → slice_get r.expressions p ≡ Some h
       → Back (slice_index nfa.starts p) q i j → (q ≡ p) × Means r.terminator text h i j

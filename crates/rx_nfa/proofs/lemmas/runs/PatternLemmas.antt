@@ -16,7 +16,7 @@ use Rattle.rx_model.proofs.lemmas.graphs.SieveLemmas.{sieved-bounded, sieved-eve
 use Rattle.rx_hir.specs.Sound.{IsSound}
 use Rattle.rx_nfa.specs.Automaton.{at, forwards, automaton, state_accepts, state_writes, state_step}
 use Rattle.rx_nfa.specs.Nfa.{Nfa, HasRuns, HasFirstRuns}
-use Rattle.rx_nfa.specs.Draft.{Draft, Extends, pushed}
+use Rattle.rx_nfa.specs.Draft.{Draft, Continues, Extends, pushed, accepting}
 use Rattle.rx_nfa.specs.States.{Stands}
 use Rattle.rx_nfa.specs.Built.{Sends, Mirrors, Built, build_bounds, compiled_pattern, whole_slot, part_of, HasPart, HasParts, HasPatterns, StartsAll}
 use Rattle.rx_nfa.specs.Directed.{directed_part}
@@ -24,20 +24,20 @@ use Rattle.rx_nfa.proofs.lemmas.parts.OrderLemmas.{directed-forwards}
 use Rattle.rx_nfa.specs.declared.state.State.{State}
 use Rattle.rx_nfa.specs.declared.state.State.TheVariants.{Union, Match}
 use Rattle.rx_nfa.proofs.lemmas.runs.AutomatonLemmas.{automaton-bounded, automaton-successors, automaton-accepted, automaton-written, automaton-successors-past, automaton-accepted-past}
-use Rattle.rx_nfa.proofs.lemmas.parts.BuiltLemmas.{Extends-pushed, Extends-same, Rises-from, Rises-to, Mirrors-kept, Keeps-same, Keeps-extends, Stands-pushed, Stands-kept, pushed-length}
+use Rattle.rx_nfa.proofs.lemmas.parts.BuiltLemmas.{Extends-pushed, Extends-same, Rises-from, Rises-to, Mirrors-kept, Keeps-same, Keeps-extends, Keeps-continues, Stands-pushed, Stands-kept, pushed-length}
 use Rattle.rx_nfa.proofs.lemmas.runs.SilentLemmas.{told-part}
 use Rattle.rx_nfa.proofs.lemmas.runs.ImageLemmas.{image, image-sends, image-either, image-found}
 
 -- what stands among the states stays there
-pub HasPart-extends : (old new : Draft) (part : graph.Part) (start : ℕ) → Extends old new → HasPart old.states part start → HasPart new.states part start
+pub HasPart-extends : (old new : Draft) (part : graph.Part) (start : ℕ) → Continues old new → HasPart old.states part start → HasPart new.states part start
 HasPart-extends old new part start e h = record {
   images = h.images;
   rises = Rises-to 0 (length old.states) (length new.states) h.images e.longer h.rises;
-  mirrors = λ f sends. Mirrors-kept f 0 0 old.states new.states part h.images start (omega arith) (Keeps-extends 0 old new e) (h.mirrors f sends);
+  mirrors = λ f sends. Mirrors-kept f 0 0 old.states new.states part h.images start (omega arith) (Keeps-continues 0 old new e) (h.mirrors f sends);
 }
 
 -- a pattern: its accepting state, and before it the part between its slots
-pub HasPart-pattern : (whole : Option ℕ) (body : graph.Builder) (p : ℕ) (old mid new : Draft) (start : ℕ) → mid ≡ pushed old (Match p)
+pub HasPart-pattern : (whole : Option ℕ) (body : graph.Builder) (p : ℕ) (old mid new : Draft) (start : ℕ) → mid ≡ accepting old p
     → Built (build_bounds whole body) (length old.states) mid new start → HasPart new.states (compiled_pattern whole body p) start
 unfolding compiled_pattern
 HasPart-pattern whole body p old mid new start is b' = record {
@@ -50,7 +50,7 @@ HasPart-pattern whole body p old mid new start is b' = record {
   mirrors = λ f sends. mirrors f sends;
 }
   where
-    b : Built (build_bounds whole body) (length old.states) (pushed old (Match p)) new start
+    b : Built (build_bounds whole body) (length old.states) (accepting old p) new start
     b = subst (λ d. Built (build_bounds whole body) (length old.states) d new start) is b'
 
     mirrors : (f : ℕ → ℕ) → Sends f 0 (length old.states ∷ b.images)
@@ -63,7 +63,7 @@ HasPart-pattern whole body p old mid new start is b' = record {
           start_is = m.start_is;
           each = (
             Stands-kept 0 (length old.states) (pushed old (Match p)).states new.states (omega arith)
-                (Keeps-extends (length old.states) (pushed old (Match p)) new b.extends) (length old.states) (Match p) (Stands-pushed old (Match p)),
+                (Keeps-extends (length old.states) (accepting old p) new b.extends) (length old.states) (Match p) (Stands-pushed old (Match p)),
             m.each,
           );
         }
@@ -214,7 +214,7 @@ module _ (ok : Sieve) (r : Patterns) (text : List ℕ) (end : ℕ) (inside : end
 
 -- one pattern more
 pub HasParts-more : (part : ℕ → Expression → graph.Part) (hs : List Expression) (n : ℕ) (old new : Draft) (starts starts' : List ℕ) (q : ℕ) (h : Expression)
-    → Extends old new → length starts ≡ n → starts' ≡ starts ++ q ∷ []
+    → Continues old new → length starts ≡ n → starts' ≡ starts ++ q ∷ []
     → n < length hs → h ≡ get_or hs n h → HasParts old.states part hs n starts → HasPart new.states (part n h) q → HasParts new.states part hs (n + 1) starts'
 HasParts-more part hs n old new starts starts' q h e long grown inside is has last p x lt here =
     ⊎_elim

@@ -12,7 +12,7 @@ invariant_of-self-2 c =
     let closed = rw c.replace-states.ensures.value at c.in_ok-start.ensures.closed in
     let count = rw c.replace-states.ensures.value at c.in_ok-start.ensures.count in
     let long : length c.self.inside.states.items ≡ length c.args.self.now.states = ap (λ (d : Draft). length d.states) c.self.view_is in
-    AreInRange-adds c.self.inside.group_info c.self.inside.written_len c.self.inside.states.items c.compile_bytes.new.states.items c.self.invariant adds
+    AreInRange-adds c.self.inside.group_info c.self.inside.written_len c.self.inside.accepted c.self.inside.states.items c.compile_bytes.new.states.items c.self.invariant adds
     (closed (omega arith) c.self.invariant.names) (omega arith)
 
 pub returns-clause-built : goal.returns-clause-built
@@ -20,13 +20,14 @@ returns-clause-built c =
     let adds = rw c.replace-states.ensures.value at c.in_ok-start.ensures.grows in
     let class = rw (c.replace-states.ensures.value, c.ranges-2.ensures.value) at c.in_ok-start.ensures.built in
     let below = rw c.ranges-2.ensures.value at c.in_ok-start.ensures.bytes in
-    let new : Draft = record { states = c.compile_bytes.new.states.items; groups = c.self.inside.group_info; slots = c.self.inside.written_len } in
+    let new : Draft = record { states = c.compile_bytes.new.states.items; groups = c.self.inside.group_info; slots = c.self.inside.written_len; accepted = c.self.inside.accepted } in
     subst (λ d. Built (build_state (set (byte_ranges c.args.bytes.now))) c.args.next d new c.in_ok-start.start) c.self.view_is
     (Built-bytes c.args.bytes.now c.args.next (record {
       states = c.self.inside.states.items;
       groups = c.self.inside.group_info;
       slots = c.self.inside.written_len;
-    }) new c.in_ok-start.start refl refl adds below class)
+      accepted = c.self.inside.accepted;
+    }) new c.in_ok-start.start refl refl refl adds below class)
 
 pub returns-clause-count : goal.returns-clause-count
 returns-clause-count c =

@@ -113,7 +113,7 @@ returns-in-Match-clause-err c done way taken told h =
     subst (λ s. IsMadeInVain c.args.job.now.nfa.now c.args.job.now.each c.args.entries.now.layout (error_of s)) (sym second.is) (
       c.args.self.now.entry,
       h.is_entry,
-      told-twice c.args.job.now.nfa.now c.args.self.now.entry way c.args.frame taken.is_way done c.args.self.now.told second.first c.in-Match.pattern
+      told-twice c.args.job.now.nfa.now c.args.self.now.entry way c.args.frame taken.is_way c.requires.job.in_range.once done c.args.self.now.told second.first c.in-Match.pattern
           second.told
           (ap state_accepts (sym c.state.ensures.value ∙ c.in-Match.is)) told taken.new,
     ))
