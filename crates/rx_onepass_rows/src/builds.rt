@@ -1,16 +1,19 @@
 //! Which patterns are one-pass, worked out by hand from the definition; the texts of refusals, and sizes.
 
-use rx_onepass::{BuildError, Builder, Cache, Config, DFA};
+use rx_onepass::{BuildError, Builder, Cache, Config, DFA, NotOnePass};
 use std::alloc::Global;
 use std::process::Abort;
 
 /// The text of the refusals of what is not one-pass, up to what is ambiguous.
 const NOT_ONE_PASS: &str = "one-pass DFA could not be built because pattern is not one-pass: ";
 
+/// A group more than a transition can tell.
+const SEVENTEEN_GROUPS: &str = "(a)(a)(a)(a)(a)(a)(a)(a)(a)(a)(a)(a)(a)(a)(a)(a)(a)";
+
 /// Two patterns, the second one empty where there is one alone; and what is ambiguous of them, nothing where they are one-pass.
 type Row = (&'static str, &'static str, &'static str);
 
-const ROWS: [Row; 44] = [
+const ROWS: [Row; 45] = [
     ("", "", ""),
     ("a", "", ""),
     ("a*b", "", ""),
@@ -38,6 +41,7 @@ const ROWS: [Row; 44] = [
     ("a$|b", "", ""),
     ("a", "b", ""),
     ("a(b)", "c(d)?", ""),
+    ("(a)(a)(a)(a)(a)(a)(a)(a)(a)(a)(a)(a)(a)(a)(a)(a)", "", ""),
     ("a*a", "", "conflicting transition"),
     ("a*[ab]", "", "conflicting transition"),
     ("\\w*\\s", "", "conflicting transition"),
@@ -55,7 +59,7 @@ const ROWS: [Row; 44] = [
     ("^", "$", "multiple epsilon transitions to match state"),
     ("a*", "b*", "multiple epsilon transitions to match state"),
     (
-        "(a)(a)(a)(a)(a)(a)(a)(a)(a)(a)(a)(a)(a)(a)(a)(a)(a)",
+        SEVENTEEN_GROUPS,
         "",
         "too many explicit capturing groups (max is 16)",
     ),
@@ -106,6 +110,25 @@ fn patterns_by_hand(rt: HostRuntime) {
     assert_eq!(rt; first_wrong(rt.alloc()), None);
 }
 
+/// Whether there is no one-pass DFA of the pattern, for this cause.
+fn is_refused_for(alloc: Global, pattern: &str, want: NotOnePass) -> bool {
+    match DFA::new(alloc, pattern) {
+        Ok(_) => false,
+        Err(error) => error == BuildError::NotOnePass(want),
+    }
+}
+
+#[test]
+fn slots_that_are_too_many_are_counted(rt: HostRuntime) {
+    assert!(rt;
+        is_refused_for(
+            rt.alloc(),
+            SEVENTEEN_GROUPS,
+            NotOnePass::Slots { given: 34 }
+        )
+    );
+}
+
 /// Whether the build of the pattern under the limit is refused with this text.
 fn is_refused(alloc: Global, limit: Option<usize>, pattern: &str, want: &str) -> bool {
     let mut builder = Builder::new();
@@ -145,6 +168,18 @@ fn first_other_text(alloc: Global) -> Option<usize> {
 #[test]
 fn texts_of_refusals(rt: HostRuntime) {
     assert_eq!(rt; first_other_text(rt.alloc()), None);
+}
+
+#[test]
+fn texts_that_no_small_pattern_brings(rt: HostRuntime) {
+    let alloc = rt.alloc();
+    let patterns = BuildError::TooManyPatterns { limit: 4194303 };
+    let want = "one-pass DFA exceeded a limit of 4194303 for number of patterns";
+    assert!(rt; is_text(alloc, &patterns, "", want));
+    let states = BuildError::TooManyStates { limit: 2097152 };
+    let want = "one-pass DFA exceeded a limit of 2097152 for number of states";
+    assert!(rt; is_text(alloc, &states, "", want));
+    assert!(rt; is_text(alloc, &BuildError::Memory, "", "out of memory"));
 }
 
 #[test]

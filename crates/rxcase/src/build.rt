@@ -47,17 +47,18 @@ pub struct Building {
     pub kind: MatchKind,
     /// Whether no match splits a character; `utf8:no` turns it off.
     pub utf8: bool,
-    /// Whether a DFA has a column for each class of bytes; `classes:off` gives it one for each byte.
+    /// Whether a full, lazy or one-pass DFA has a column for each class of bytes; `classes:off` gives it one for each byte.
     pub classes: bool,
     /// Whether the table whose size is asked for reads backwards: `backwards`.
     pub backwards: bool,
     /// The bytes that a cache of a lazy DFA may account: `capacity:N`.
     pub capacity: usize,
-    /// The bytes that the table of a full DFA may have, or those that are accounted for the NFA of a strategy: `limit:N`.
+    /// The bytes that the table of a full DFA or of a one-pass DFA may have, or those that are accounted for the NFA of a strategy:
+    /// `limit:N`.
     pub limit: Option<usize>,
     /// What a strategy is to do without.
     pub off: Off,
-    /// Which captures a strategy tells: `captures:implicit`, `captures:none`.
+    /// Which captures a strategy or a one-pass DFA tells: `captures:implicit`, `captures:none`.
     pub captures: WhichCaptures,
 }
 

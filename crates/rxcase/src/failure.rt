@@ -1,5 +1,6 @@
 //! Why an engine tells nothing.
 
+use rx_onepass::BuildError as OnePassError;
 use rx_search::Memory;
 use rx_thompson::BuildError;
 use std::alloc::{AllocError, AllocFailed};
@@ -16,6 +17,8 @@ pub enum Failure {
     TooBig { limit: usize, size: usize },
     /// The capacity of a cache is below the minimum.
     TooSmall { minimum: usize, given: usize },
+    /// There is no one-pass DFA of the patterns.
+    OnePass(OnePassError),
     /// There was no memory.
     Memory,
     /// The input or the output failed.
@@ -31,6 +34,7 @@ impl fmt::Display for Failure {
             Failure::TooSmall { minimum, given } => {
                 write!(f, "{} bytes are below {}", *given, *minimum)
             }
+            Failure::OnePass(error) => write!(f, "{error}"),
             Failure::Memory => write!(f, "out of memory"),
             Failure::System => write!(f, "the system failed"),
         }
@@ -77,6 +81,15 @@ impl From<BuildError> for Failure {
         match error {
             BuildError::Memory => Failure::Memory,
             _ => Failure::Patterns,
+        }
+    }
+}
+
+impl From<OnePassError> for Failure {
+    fn from(error: OnePassError) -> Failure {
+        match error {
+            OnePassError::Memory => Failure::Memory,
+            other => Failure::OnePass(other),
         }
     }
 }

@@ -12,6 +12,7 @@ mod call;
 mod compile;
 mod dfa;
 mod failure;
+mod onepass;
 mod pikevm;
 mod search;
 mod sets;
@@ -83,6 +84,7 @@ fn tell_asked(alloc: Global, ask: &Ask<'_>, told: &mut String) -> Result<(), Fai
         Engine::Lazy => dfa::by_lazy(alloc, ask, told),
         Engine::PikeVM => pikevm::tell(alloc, ask, told),
         Engine::Backtrack => backtrack::tell(alloc, ask, told),
+        Engine::OnePass => onepass::tell(alloc, ask, told),
         Engine::Core => strategy::tell(alloc, ask, told),
     }
 }

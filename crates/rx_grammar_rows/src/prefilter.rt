@@ -4,6 +4,7 @@ ghost use Rattle.std.specs.Prelude.{◌≤◌, length};
 use rx_hir::Hir;
 use rx_prefilter::{Choice, Prefilter};
 use rx_search::{MatchKind, Memory, Span};
+use rx_syntax::parse_many;
 use std::alloc::{AllocError, Global};
 
 /// Needles, parted by commas; a text; the part of it that is searched; and what is told of the search.
@@ -172,75 +173,106 @@ fn searches_by_hand(rt: HostRuntime) {
     assert_eq!(rt; first_wrong(alloc, MatchKind::All, &ROWS), None);
 }
 
-/// Literals, parted by commas; a text; the part of it that is searched; what a prefilter of their prefixes tells as
-/// above, where the matches go by preference, and where all of them are told.
-const PREFIX_ROWS: [(&[u8], &[u8], usize, usize, &[u8], &[u8]); 6] = [
+/// Patterns; a text; the part of it that is searched; what a prefilter of their prefixes tells as above, where the matches go by
+/// preference, and where all of them are told.
+type PrefixRow = (
+    &'static [&'static str],
+    &'static [u8],
+    Span,
+    &'static [u8],
+    &'static [u8],
+);
+
+const PREFIX_ROWS: [PrefixRow; 8] = [
     (
-        b"foo,bar",
+        &["foo", "bar"],
         b"xbarfoo",
-        0,
-        7,
+        Span { start: 0, end: 7 },
         b"multi 1..4 -",
         b"multi 1..4 -",
     ),
     (
-        b"foo,bar",
+        &["foo|bar"],
         b"xbarfoo",
-        1,
-        7,
+        Span { start: 0, end: 7 },
+        b"multi 1..4 -",
+        b"multi 1..4 -",
+    ),
+    (
+        &["foo", "bar"],
+        b"xbarfoo",
+        Span { start: 1, end: 7 },
         b"multi 1..4 1..4",
         b"multi 1..4 1..4",
     ),
-    (b"a", b"ba", 1, 1, b"memchr - -", b"memchr - -"),
-    (b"ab,abc", b"xabc", 0, 4, b"memmem 1..3 -", b"multi 1..3 -"),
-    (b"abc,ab", b"xabc", 0, 4, b"multi 1..4 -", b"multi 1..3 -"),
-    (b"abc,", b"xabc", 0, 4, b"none", b"none"),
+    (
+        &["foo|bar"],
+        b"xbarfoo",
+        Span { start: 1, end: 7 },
+        b"multi 1..4 1..4",
+        b"multi 1..4 1..4",
+    ),
+    (
+        &["a"],
+        b"ba",
+        Span { start: 1, end: 1 },
+        b"memchr - -",
+        b"memchr - -",
+    ),
+    (
+        &["ab|abc"],
+        b"xabc",
+        Span { start: 0, end: 4 },
+        b"memmem 1..3 -",
+        b"multi 1..3 -",
+    ),
+    (
+        &["abc", "ab"],
+        b"xabc",
+        Span { start: 0, end: 4 },
+        b"multi 1..4 -",
+        b"multi 1..3 -",
+    ),
+    (
+        &["abc", ""],
+        b"xabc",
+        Span { start: 0, end: 4 },
+        b"none",
+        b"none",
+    ),
 ];
 
-/// The literals that a text has, parted by commas.
-fn literals_of(alloc: Global, text: &[u8]) -> Result<Vec<Hir>, AllocError> {
-    let mut literals = Vec::new(alloc);
-    for literal in needles_of(alloc, text)? {
-        literals.push(Hir::literal(literal))?;
+/// A prefilter of the prefixes of expressions: of the one, or of all of them.
+fn of_hirs(alloc: Global, kind: MatchKind, hirs: &[Hir]) -> Result<Option<Prefilter>, Memory> {
+    match hirs {
+        [hir] => Prefilter::from_hir_prefix(alloc, kind, hir),
+        _ => Prefilter::from_hirs_prefix(alloc, kind, hirs),
     }
-    Ok(literals)
 }
 
-/// A prefilter of the prefixes of the literals that a text has, as alternatives of one expression.
-fn of_one(alloc: Global, kind: MatchKind, text: &[u8]) -> Result<Option<Prefilter>, Memory> {
-    let alternation = Hir::alternation(alloc, literals_of(alloc, text)?)?;
-    Prefilter::from_hir_prefix(alloc, kind, &alternation)
-}
-
-/// The same, as expressions of their own.
-fn of_several(alloc: Global, kind: MatchKind, text: &[u8]) -> Result<Option<Prefilter>, Memory> {
-    let hirs = literals_of(alloc, text)?;
-    Prefilter::from_hirs_prefix(alloc, kind, &hirs)
-}
-
-/// Whether this is told of a search by the prefixes of these literals.
-fn prefixes_tell(
+/// A prefilter of the prefixes of patterns.
+fn of_patterns(
     alloc: Global,
     kind: MatchKind,
-    literals: &[u8],
-    text: &[u8],
-    span: Span,
-    want: &[u8],
-) -> bool {
-    is_told_of(alloc, of_one(alloc, kind, literals), text, span, want)
-        && is_told_of(alloc, of_several(alloc, kind, literals), text, span, want)
+    patterns: &[&str],
+) -> Result<Option<Prefilter>, Memory> {
+    match parse_many(alloc, patterns) {
+        Ok(hirs) => of_hirs(alloc, kind, &hirs),
+        Err(_) => Err(Memory),
+    }
 }
 
 /// The number of the first of these rows that is not told.
-fn first_wrong_prefix(alloc: Global, kind: MatchKind) -> Option<usize> {
+fn first_wrong_prefix(alloc: Global) -> Option<usize> {
     for k in 0..PREFIX_ROWS.len() {
-        let (literals, text, start, end, preferred, all) = PREFIX_ROWS[k];
-        let want = if kind == MatchKind::All {
-            all
-        } else {
-            preferred
-        };
-        if !prefixes_tell(alloc, kind, literals, text, Span { start, end }, want) {
+        let (patterns, text, span, preferred, all) = PREFIX_ROWS[k];
+        let first = of_patterns(alloc, MatchKind::LeftmostFirst, patterns);
+        let each = of_patterns(alloc, MatchKind::All, patterns);
+        let are_told = (
+            is_told_of(alloc, first, text, span, preferred),
+            is_told_of(alloc, each, text, span, all),
+        );
+        if are_told != (true, true) {
             return Some(k);
         }
     }
@@ -249,9 +281,7 @@ fn first_wrong_prefix(alloc: Global, kind: MatchKind) -> Option<usize> {
 
 #[test]
 fn prefixes_by_hand(rt: HostRuntime) {
-    let alloc = rt.alloc();
-    assert_eq!(rt; first_wrong_prefix(alloc, MatchKind::LeftmostFirst), None);
-    assert_eq!(rt; first_wrong_prefix(alloc, MatchKind::All), None);
+    assert_eq!(rt; first_wrong_prefix(rt.alloc()), None);
 }
 
 /// Needles of three digits, as many as this.
@@ -291,53 +321,46 @@ const COUNTS: [(usize, Choice, Option<usize>); 4] = [
 
 #[test]
 fn many_needles(rt: HostRuntime) {
-    for (count, choice, start) in COUNTS.iter() {
-        let made = choice_and_start(rt.alloc(), *count);
-        assert!(rt; made == Some((*choice, *start)), "{count}");
+    for (count, choice, start) in COUNTS {
+        assert!(rt; choice_and_start(rt.alloc(), count) == Some((choice, start)));
     }
 }
 
-/// Values of this type may go to other threads, and be shared with them.
-fn crosses_threads<T: Send + Sync>(_value: &T) {}
-
-/// Whether it is the prefilter of two needles of three bytes.
-fn has_two_needles(prefilter: &Prefilter) -> bool {
-    crosses_threads(prefilter);
-    prefilter.choice() == Choice::Multi
-        && prefilter.is_fast()
-        && prefilter.max_needle_len() == 3
-        && prefilter.memory_usage() == 6
+/// What a prefilter is, how long its longest needle is, and the bytes that are accounted for it.
+fn facts(prefilter: &Prefilter) -> (Choice, bool, usize, usize) {
+    (
+        prefilter.choice(),
+        prefilter.is_fast(),
+        prefilter.max_needle_len(),
+        prefilter.memory_usage(),
+    )
 }
 
-/// Whether it is the prefilter of two needles of three bytes, and its clone too.
-fn is_of_two(made: Result<Option<Prefilter>, Memory>) -> bool {
+/// The same of a prefilter and its clone.
+fn facts_of_both(prefilter: &Prefilter) -> Option<[(Choice, bool, usize, usize); 2]> {
+    match prefilter.clone() {
+        Ok(copy) => Some([facts(prefilter), facts(&copy)]),
+        Err(_) => None,
+    }
+}
+
+/// The same of what was made.
+fn told_of_both(
+    made: Result<Option<Prefilter>, Memory>,
+) -> Option<[(Choice, bool, usize, usize); 2]> {
     match made {
-        Ok(Some(prefilter)) => {
-            let copy = prefilter.clone();
-            has_two_needles(&prefilter) && copy_has_two(copy)
-        }
-        _ => false,
+        Ok(Some(prefilter)) => facts_of_both(&prefilter),
+        _ => None,
     }
-}
-
-/// The same of the clone.
-fn copy_has_two(copy: Result<Prefilter, Memory>) -> bool {
-    match copy {
-        Ok(copy) => has_two_needles(&copy),
-        Err(_) => false,
-    }
-}
-
-/// Whether each way to make it makes it.
-fn all_are_of_two(alloc: Global, kind: MatchKind) -> bool {
-    is_of_two(of_needles(alloc, kind, b"foo,bar"))
-        && is_of_two(of_one(alloc, kind, b"foo,bar"))
-        && is_of_two(of_several(alloc, kind, b"foo,bar"))
 }
 
 #[test]
 fn a_prefilter_says_what_it_is(rt: HostRuntime) {
     let alloc = rt.alloc();
-    assert!(rt; all_are_of_two(alloc, MatchKind::LeftmostFirst));
-    assert!(rt; all_are_of_two(alloc, MatchKind::All));
+    let wanted = Some([(Choice::Multi, true, 3, 6); 2]);
+    for kind in [MatchKind::LeftmostFirst, MatchKind::All] {
+        assert!(rt; told_of_both(of_needles(alloc, kind, b"foo,bar")) == wanted);
+        assert!(rt; told_of_both(of_patterns(alloc, kind, &["foo", "bar"])) == wanted);
+        assert!(rt; told_of_both(of_patterns(alloc, kind, &["foo|bar"])) == wanted);
+    }
 }

@@ -1,14 +1,13 @@
 //! Tests of slots and draws.
 
-use super::*;
-use std::test::Fail;
+use rx_slots::{Draws, SlotPool};
 
 #[test]
-fn a_slot_is_in_one_hand(rt: HostRuntime) -> Result<(), Fail> {
+fn a_slot_is_in_one_hand(rt: HostRuntime) {
     let alloc = rt.alloc();
-    let mut values = Vec::new(alloc);
-    values.push('a')?;
-    let (pool, mut first) = SlotPool::new(alloc, values)?;
+    let values = vec![in alloc; 'a'; 1].ok().expect(&rt, "memory");
+    let made = SlotPool::new(alloc, values).ok();
+    let (pool, mut first) = made.expect(&rt, "memory");
     let mut second = pool.split(&mut first);
     let Ok((turn, value)) = pool.take(&mut first, 0) else {
         panic!(rt; "the slot is free")
@@ -19,13 +18,13 @@ fn a_slot_is_in_one_hand(rt: HostRuntime) -> Result<(), Fail> {
     pool.join(&mut first, second);
     pool.put(&mut first, 0, turn, value);
     let again = pool.take(&mut first, 0).ok();
-    assert_eq!(rt; (turn, value, found, again), (1, 'a', 1, Some((3, 'a'))));
-    Ok(())
+    assert!(rt; (turn, value, found, again) == (1, 'a', 1, Some((3, 'a'))));
 }
 
 #[test]
-fn each_number_is_drawn_once(rt: HostRuntime) -> Result<(), Fail> {
-    let (draws, mut seat) = Draws::new(rt.alloc(), 2, 1)?;
+fn each_number_is_drawn_once(rt: HostRuntime) {
+    let made = Draws::new(rt.alloc(), 2, 1).ok();
+    let (draws, mut seat) = made.expect(&rt, "memory");
     let Some(first) = draws.draw(&mut seat) else {
         panic!(rt; "two are left")
     };
@@ -33,6 +32,5 @@ fn each_number_is_drawn_once(rt: HostRuntime) -> Result<(), Fail> {
         panic!(rt; "one is left")
     };
     let last = draws.draw(&mut seat);
-    assert_eq!(rt; (first, second, last), (0, 1, None));
-    Ok(())
+    assert!(rt; (first, second, last) == (0, 1, None));
 }
