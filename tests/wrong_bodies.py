@@ -9,9 +9,9 @@ All crates that have some, if none is named.
 
 `rt ci` tries the edits of crates/CRATE/must-fail/, and proves the crate a second time for them. That is dear for a large crate. So
 the wrong bodies that the full check tries of such a crate stand here, and each has a line `only: FUNCTION`: of the edited crate
-that function alone is checked, over the libraries as they were built. An edit is refused where that check ends with a goal that is
-not proved. A limit of the prover, or a text that it cannot read, refuses nothing. The last line is `N passed, M failed`, and the
-exit status is 1 where one failed.
+that function and those that it calls are checked, over the libraries as they were built. An edit is refused where that function has
+a goal that is not proved. A limit of the prover, or a text that it cannot read, refuses nothing. The last line is
+`N passed, M failed`, and the exit status is 1 where one failed.
 """
 import glob
 import os
@@ -82,7 +82,8 @@ def why_not_refused(crate, path):
         return 'the function is still proved with this edit'
     if LIMIT.search(ran.stdout):
         return 'the prover came to a limit of its own'
-    if ran.returncode == 1 and re.search(r'^only=1 proved=0$', ran.stdout, re.M) and not UNREAD.search(ran.stdout):
+    told = re.search(r'^fn \S*\b%s: not proved' % re.escape(function_of(path)), ran.stdout, re.M)
+    if ran.returncode == 1 and told and not UNREAD.search(ran.stdout):
         return None
     return 'no verdict (status %d):\n%s' % (ran.returncode, ran.stdout)
 
