@@ -1,6 +1,6 @@
 -- Which patterns the states of a draft accept: each at one state alone.
 use Rattle.std.proofs.Common.{◌≡◌, ℕ, zero, suc, ◌+◌, ◌-◌, ◌<◌, ◌≤◌, ◌⊎◌, List, [], ◌∷◌, ◌++◌, refl, sym, ◌∙◌, ap, subst, inl, inr, ⊎_elim, arith, length, get_or, get_or-set_other, get_or-set_same}
-use Rattle.std.specs.Prelude.{nat_lt, All, Option, Some, None, slice_set}
+use Rattle.std.specs.Prelude.{All, Some, None, slice_set}
 use Rattle.std.proofs.lemmas.Bool.{cases_lt}
 use Rattle.std.proofs.lemmas.List.{length-append, length_push, get_or_append_left, get_or-append_right}
 use Rattle.std.proofs.lemmas.List.Elements.{All-append, All-cons, All-nil, All-set}

@@ -1,4 +1,4 @@
-use Rattle.std.proofs.Common.{◌≡◌, sym, subst}
+use Rattle.std.proofs.Common.{sym, subst}
 use Rattle.rx_nfa.specs.Draft.{Draft, AreInRange, patched}
 use Rattle.rx_nfa.proofs.lemmas.parts.AcceptLemmas.{AreInRange-patched}
 use Rattle.rx_nfa.proofs.builder.Builder.patch.Goals as goal
