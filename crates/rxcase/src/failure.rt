@@ -3,7 +3,6 @@
 use rx_onepass::BuildError as OnePassError;
 use rx_search::Memory;
 use rx_thompson::BuildError;
-use std::alloc::{AllocError, AllocFailed};
 use std::{fmt, io};
 
 /// Why an engine tells nothing.
@@ -54,18 +53,6 @@ impl Failure {
 
 impl From<Memory> for Failure {
     fn from(_error: Memory) -> Failure {
-        Failure::Memory
-    }
-}
-
-impl From<AllocError> for Failure {
-    fn from(_error: AllocError) -> Failure {
-        Failure::Memory
-    }
-}
-
-impl<T: Drop> From<AllocFailed<T>> for Failure {
-    fn from(_error: AllocFailed<T>) -> Failure {
         Failure::Memory
     }
 }
