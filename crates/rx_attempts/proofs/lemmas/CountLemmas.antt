@@ -130,7 +130,7 @@ module _ (fwd rev : Dfa) (needles : List (List ℕ)) (v : InputValue) (place : S
 
       there : (found : Option MatchValue) → IfSome found (λ m. m.start ≡ start.offset) → (before : ℕ) (c : Counts fwd rev needles v place before old new)
           → BeginsAt start.offset c.trials → HasCountedFirst fwd rev needles v place old new found
-      there None h before c last = inr (start.offset, before, c, last)
+      there None h before c last = inr (start.offset, (before, c, last))
       there (Some m) h before c last = (before, c, subst (λ i. BeginsAt i c.trials) (sym h) last)
 
 module _ (fwd rev : Dfa) (needles : List (List ℕ)) (v : InputValue) (place : Span → ℕ) (now : Span) (min_start stopped old : ℕ) where
