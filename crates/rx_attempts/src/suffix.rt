@@ -17,7 +17,7 @@ ghost use Rattle.rx_attempts.specs.Refusals.{SuffixFails};
 ghost use Rattle.rx_attempts.specs.Stops.{StopsBy};
 ghost use Rattle.rx_attempts.specs.Whole.{IsWhole};
 ghost use Rattle.rx_attempts.specs.Suffix.{FirstSuffix, BackFails};
-ghost use Rattle.rx_attempts.specs.Counts.{HasCounted, HasCountedBack};
+ghost use Rattle.rx_attempts.specs.Counts.{HasCountedFirst, HasCountedBack};
 
 use crate::parts::{match_or_stop, next_candidate, up_to};
 use crate::patience::{MOST, Patience, Stop, is_lost, left_after};
@@ -62,7 +62,7 @@ pub fn reverse_suffix_attempt<F: Automaton, B: Automaton, L: Ledger>(
     ensures err { IfErr result (StopsBy patience (SuffixFails (F.dfa fwd.now) (B.dfa rev.now) pre.now input.now (F.gives_up fwd.now fwd_cache.new)
         (F.wants fwd.now) (B.gives_up rev.now rev_cache.new) (B.wants rev.now))) }
     ensures ticks { input.now.earliest ≡ false
-        → IfOk result (HasCounted (F.dfa fwd.now) (B.dfa rev.now) pre.now input.now (λ s. s.end) steps.old steps.new) }
+        → IfOk result (HasCountedFirst (F.dfa fwd.now) (B.dfa rev.now) pre.now input.now (λ s. s.end) steps.old steps.new) }
     ensures few { steps.new ≤ steps.old + 8 * (span_len input.now + 1) }
     ensures fwd_fits { F.fits fwd.now fwd_cache.new }
     ensures rev_fits { B.fits rev.now rev_cache.new }
