@@ -20,7 +20,7 @@ ghost use Rattle.rx_attempts.specs.Suffix.{FirstSuffix, BackFails};
 ghost use Rattle.rx_attempts.specs.Counts.{HasCountedFirst, HasCountedBack};
 
 use crate::parts::{match_or_stop, next_candidate, up_to};
-use crate::patience::{MOST, Patience, Stop, is_lost, left_after};
+use crate::patience::{FIRST, Patience, Stop, is_lost, left_after};
 use rx_dfa::Automaton;
 use rx_limited::{RetryError, rev_limited};
 use rx_prefilter::Prefilter;
@@ -107,7 +107,7 @@ fn first_start<B: Automaton, L: Ledger>(
     let _haystack = input.haystack();
     let mut from = input.start();
     let mut min_start = 0;
-    let mut left = MOST;
+    let mut left = FIRST;
     'candidates: while let Some(found) = next_candidate(pre, input, from) {
         left = left_after(left, found.start - from);
         if is_lost(patience, left) {
