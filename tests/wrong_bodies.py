@@ -34,6 +34,8 @@ from lanes import lanes  # noqa: E402
 
 # What the prover says of a limit of its own, which is no verdict.
 LIMIT = re.compile(r'antt ran out of (stack|the (steps|memory) that)|(outgrew the memory limit|stopped at the step limit) \(')
+# What it says of a function with a goal that is not proved: by an answer that stands in proofs/, or with none there.
+REFUSED = r'not proved|no proof: expected answers in \S+; `search` did not prove '
 # What the compiler says of a text that does not reach the prover.
 UNREAD = re.compile(r'\berror\[[\w-]+\]')
 
@@ -80,7 +82,7 @@ def why_not_refused(kit, crate, path, kept):
         return 'the function is still proved with this edit'
     if LIMIT.search(ran.stdout):
         return 'the prover came to a limit of its own'
-    told = re.search(r'^fn \S*\b%s: not proved' % re.escape(function), ran.stdout, re.M)
+    told = re.search(r'^fn \S*\b%s: (%s)' % (re.escape(function), REFUSED), ran.stdout, re.M)
     if ran.returncode == 1 and told and not UNREAD.search(ran.stdout):
         return None
     return 'no verdict (status %d):\n%s' % (ran.returncode, ran.stdout)
