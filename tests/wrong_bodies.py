@@ -90,8 +90,11 @@ def why_not_refused(kit, crate, path, kept):
 
 def try_crate(kit, crate):
     """Tries the wrong bodies of a crate that have a line `only:`. Answers how many were refused, and how many not."""
-    counts = [0, 0]
-    with tempfile.TemporaryDirectory() as kept:
+    counts, before = [0, 0], os.path.join(crate.folder, 'out', 'incremental')
+    with tempfile.TemporaryDirectory() as room:
+        kept = os.path.join(room, 'kept')
+        # (what `rt check` kept here, if it did, saves time; no verdict rests on it)
+        kit.linked(before, kept) if os.path.isdir(before) else os.mkdir(kept)
         for path in edits_of(crate.name, True):
             why = why_not_refused(kit, crate, path, kept)
             counts[why is not None] += 1
