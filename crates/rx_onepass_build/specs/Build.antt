@@ -10,7 +10,7 @@ use Rattle.rx_nfa.specs.declared.state.State.{State}
 use Rattle.rx_nfa.specs.declared.state.State.TheVariants.{ByteRange, Sparse, Look as Asks, Union, Capture, Fail, Match as Accepting}
 use Rattle.rx_onepass_table.specs.Entry.{IsEntry, IsClear, AcceptsBoth, Conflicts, explicit_start}
 use Rattle.rx_onepass_table.specs.Rows.{TableValue, IsRowOf, IsTableOf}
-use Rattle.rx_onepass_table.specs.Walks.{ReachesTwice}
+use Rattle.rx_nfa.specs.Walks.{ReachesTwice}
 use Rattle.rx_onepass_table.specs.Words.{few_looks, slot_limit, no_pattern}
 use Rattle.rx_onepass_build.specs.Config.{each_of, shares_of, size_limit_of}
 use Rattle.rx_onepass_build.specs.Entries.{state_limit, IsWithin, AreDistinct, AreEntries, HasEntries, IsAbove}
