@@ -1,5 +1,5 @@
 -- Epsilon walks stay among the states.
-use Rattle.std.proofs.Common.{◌≡◌, ℕ, ◌<◌, List, [], ◌∷◌, length, subst}
+use Rattle.std.proofs.Common.{ℕ, ◌<◌, List, [], ◌∷◌, length, subst}
 use Rattle.std.specs.Prelude.{true, All}
 use Rattle.std.proofs.lemmas.List.Elements.{All-get_or}
 use Rattle.rx_nfa.specs.Automaton.{state_at, NamesBelow}
