@@ -1,5 +1,5 @@
 //! What a search writes to.
-ghost use Rattle.std.specs.Prelude.{◌≡◌, ◌*◌, ◌-◌, ◌≤◌, ◌<◌, ◌^◌, length, min, IfOk, OnOk, OnErr, IsOk};
+ghost use Rattle.std.specs.Prelude.{◌≡◌, ◌*◌, ◌-◌, ◌≤◌, ◌<◌, ◌^◌, ℕ, None, length, min, slice_index_or, IfOk, OnOk, OnErr, IsOk};
 ghost use Rattle.rx_onepass.specs.Dfa.{explicit_slots, Fits};
 ghost use Rattle.rx_onepass.specs.Walked.{IsWalked};
 
@@ -55,7 +55,7 @@ impl Cache {
         Ok(())
     }
 
-    /// The walk of the automaton from this row, with the places here.
+    /// The walk of the automaton from this row, with the places here. No slot has a place before.
     pub(crate) fn walk(
         &mut self,
         dfa: &DFA,
@@ -66,6 +66,7 @@ impl Cache {
         requires fits { Fits dfa.now.nfa self.old }
         requires in_order { input.now.start ≤ input.now.end }
         requires row { row < dfa.now.table.rows }
+        requires empty { (k : ℕ) → slice_index_or slots.old k None ≡ None }
         ensures walked { IsWalked dfa.now input.now row slots.old result slots.new }
         ensures room { length slots.new ≡ length slots.old }
         ensures cache { self.new ≡ self.old }

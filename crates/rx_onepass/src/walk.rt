@@ -1,5 +1,5 @@
 //! A search from a row of the table.
-ghost use Rattle.std.specs.Prelude.{◌≡◌, ◌≤◌, ◌<◌, ◌+◌, ◌*◌, ℕ, length, replicate, is_some, Some, None, IfOk, IfErr, OnOk, slice_set, slice_get, slice_index};
+ghost use Rattle.std.specs.Prelude.{◌≡◌, ◌≤◌, ◌<◌, ◌+◌, ◌*◌, ℕ, length, replicate, is_some, Some, None, IfOk, IfErr, OnOk, slice_set, slice_get, slice_index, slice_index_or};
 ghost use Rattle.rx_search.specs.Anchored.{anchor_of};
 ghost use Rattle.rx_search.specs.Input.{is_char_boundary};
 ghost use Rattle.rx_onepass.specs.Dfa.{Fits, IsSound, explicit_slots};
@@ -162,7 +162,8 @@ impl DFA {
         between
     }
 
-    /// The walk from this row; explicit slots are put into those behind the implicit ones, as far as there is room.
+    /// The walk from this row; explicit slots are put into those behind the implicit ones, as far as there is room. None has a place
+    /// before.
     pub(crate) fn walk(
         &self,
         places: &mut [Option<NonMaxUsize>],
@@ -173,6 +174,7 @@ impl DFA {
         requires fits { Fits self.now.nfa (length places.old) }
         requires in_order { input.now.start ≤ input.now.end }
         requires row { row < self.now.table.rows }
+        requires empty { (k : ℕ) → slice_index_or slots.old k None ≡ None }
         ensures walked { IsWalked self.now input.now row slots.old result slots.new }
         ensures places { length places.new ≡ length places.old }
         ensures room { length slots.new ≡ length slots.old }

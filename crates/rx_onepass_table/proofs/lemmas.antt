@@ -7,3 +7,5 @@ pub mod StepLemmas
 pub mod AlongLemmas
 pub mod SearchLemmas
 pub mod CellLemmas
+pub mod ShownLemmas
+pub mod StayLemmas

@@ -110,19 +110,27 @@ pub fn write_slots(set: u32, at: usize, places: &mut [Option<NonMaxUsize>])
     write_each(set, at, places);
 }
 
-/// The same, slot by slot.
+/// The same, member by member; behind the first one without room there is none with it.
+#[inline(always)]
 fn write_each(set: u32, at: usize, places: &mut [Option<NonMaxUsize>])
     requires { at < usize.MAX }
     ensures len { length places.new ≡ length places.old }
     ensures value { (k : ℕ) → k < length places.new
         → slice_index_or places.new k None ≡ (if bit_at set k == 1 then Some at else slice_index_or places.old k None) }
 {
-    for k in 0..places.len() {
-        places[k] = pick(set, k, at, places[k]);
+    let mut left = set;
+    while left > 0 {
+        let k = left.trailing_zeros() as usize;
+        if k >= places.len() {
+            return;
+        }
+        places[k] = place_of(at);
+        left &= !(1 << k);
     }
 }
 
 /// Puts the place into each slot of the set, and into the others what stands in these places.
+#[inline(never)]
 pub fn put_slots(
     set: u32,
     at: usize,
@@ -137,15 +145,5 @@ pub fn put_slots(
 {
     for k in 0..places.len() {
         out[k] = pick(set, k, at, places[k]);
-    }
-}
-
-/// Leaves None in each place.
-pub fn forget(places: &mut [Option<NonMaxUsize>])
-    ensures len { length places.new ≡ length places.old }
-    ensures value { (k : ℕ) → slice_index_or places.new k None ≡ None }
-{
-    for k in 0..places.len() {
-        places[k] = None;
     }
 }

@@ -1,7 +1,8 @@
 //! A table: a row for each state, with a cell for each class of bytes, and one for a match.
-ghost use Rattle.std.specs.Prelude.{◌≡◌, ◌<◌, ◌*◌, length, is_some, IfOk};
+ghost use Rattle.std.specs.Prelude.{◌≡◌, ◌<◌, ◌≤◌, ◌*◌, ◌^◌, ℕ, IsTrue, length, is_some, slice_index, IfOk};
 ghost use Rattle.rx_search.specs.ByteClasses.{class_count};
 ghost use Rattle.rx_onepass_table.specs.Rows.{TableValue, IsWhole, step_in, final_in};
+ghost use Rattle.rx_onepass_table.specs.Words.{dead};
 
 use crate::pattern_epsilons::PatternEpsilons;
 use crate::transition::Transition;
@@ -94,6 +95,7 @@ impl Table {
         requires { row < self.now.rows }
         ensures value { result ≡ step_in self.now row byte }
         ensures inside { result.target < self.now.rows }
+        ensures few { self.now.rows ≤ 2 ^ 21 }
     {
         let class = self.classes.get(byte) as usize;
         Transition::of_word(self.cells[row * self.stride + class])
@@ -107,6 +109,34 @@ impl Table {
     {
         let column = self.classes.alphabet_len() - 1;
         PatternEpsilons::of_word(self.cells[row * self.stride + column])
+    }
+
+    /// The end of the bytes from this place on that share its class, before this end.
+    #[inline(always)]
+    pub fn same_class(&self, text: &[u8], at: usize, end: usize) -> usize
+        requires at { at < end }
+        requires end { end ≤ length text.now }
+        ensures past { at < result }
+        ensures end { result ≤ end }
+        ensures same { (k : ℕ) → at ≤ k → k < result
+            → slice_index self.now.classes (slice_index text.now k) ≡ slice_index self.now.classes (slice_index text.now at) }
+    {
+        let class = self.classes.get(text[at]);
+        let mut next = at + 1;
+        while next < end && self.classes.get(text[next]) == class {
+            next += 1;
+        }
+        next
+    }
+
+    /// Whether a row is not that of the dead state, and tells what it tells at each place: it asks for no look-around.
+    #[inline(always)]
+    pub fn tells_anywhere(&self, row: usize) -> bool
+        requires { row < self.now.rows }
+        ensures alive { IsTrue result → row ≡ dead → ⊥ }
+        ensures looks { IsTrue result → (final_in self.now row).looks ≡ 0 }
+    {
+        row > 0 && self.pattern_epsilons(row).epsilons().looks == 0
     }
 
     /// Whether a row may tell a match: one for which it is false tells none.

@@ -1,5 +1,5 @@
 //! A transition of the table, in one word.
-ghost use Rattle.std.specs.Prelude.{◌≡◌, ◌+◌, ◌^◌, ◌<◌, ◌↔◌, IsTrue};
+ghost use Rattle.std.specs.Prelude.{◌≡◌, ◌+◌, ◌^◌, ◌<◌, ◌↔◌, IsTrue, false};
 ghost use Rattle.rx_onepass_table.specs.Words.{Step, step_of, dead};
 
 use crate::epsilons::Epsilons;
@@ -63,6 +63,24 @@ impl Transition {
         ensures { IsTrue result ↔ (self.target ≡ dead) }
     {
         self.word < TARGET_UNIT
+    }
+
+    /// Whether nothing is told on the way: no slot is written, and no look-around is asked for.
+    #[inline(always)]
+    pub fn is_plain(self) -> bool
+        ensures slots { IsTrue result → self.slots ≡ 0 }
+        ensures looks { IsTrue result → self.looks ≡ 0 }
+    {
+        self.word % WINS_UNIT == 0
+    }
+
+    /// Whether it leads to this row, and tells nothing else.
+    #[inline(always)]
+    pub fn stays_in(self, row: usize) -> bool
+        requires { row < 2 ^ 21 }
+        ensures { IsTrue result → self ≡ record { target = row; wins = false; slots = 0; looks = 0 } }
+    {
+        self.word == row as u64 * TARGET_UNIT
     }
 
     /// The number of the row that it leads to.

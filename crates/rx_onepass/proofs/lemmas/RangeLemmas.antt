@@ -1,5 +1,5 @@
 -- Slots of which a range was lent.
-use Rattle.std.proofs.Common.{◌≡◌, ℕ, ◌+◌, ◌-◌, ◌<◌, ◌≤◌, List, ◌++◌, length, take, drop, min, length-append, length-drop, refl, sym, ◌∙◌, ap, subst, arith}
+use Rattle.std.proofs.Common.{◌≡◌, ℕ, zero, suc, ◌+◌, ◌-◌, ◌<◌, ◌≤◌, List, [], ◌∷◌, ◌++◌, length, take, drop, min, length-append, length-drop, refl, sym, ◌∙◌, ap, subst, arith}
 use Rattle.std.specs.Prelude.{Bool, false, Option, Some, None, IfSome, nat_lt, slice_index_or}
 use Rattle.std.proofs.lemmas.Bool.Decides.{nat_tests}
 use Rattle.std.proofs.lemmas.List.{get_or_append_left, get_or-append_right, get_or-take, get_or-drop, get_or_past, length-take-le}
@@ -13,6 +13,17 @@ use Rattle.rx_onepass_table.specs.Search.{IsAnswer, AreWritten}
 use Rattle.rx_onepass_build.specs.Config.{kind_of}
 use Rattle.rx_onepass.specs.Dfa.{Dfa, explicit_slots}
 use Rattle.rx_onepass.specs.Walked.{may_win, told_from, IsSlotAt, IsWalked}
+
+take-none : (n : ℕ) (slots : List (Option ℕ)) → ((k : ℕ) → slice_index_or slots k None ≡ None) → (k : ℕ) → slice_index_or (take n slots) k None ≡ None
+take-none zero slots empty k = refl
+take-none (suc n) [] empty k = refl
+take-none (suc n) (slot ∷ slots) empty zero = empty zero
+take-none (suc n) (slot ∷ slots) empty (suc k) = take-none n slots (λ j. empty (suc j)) k
+
+-- where no slot has a place, none of a range has
+pub range-empty : (slots : List (Option ℕ)) (first n : ℕ) → ((k : ℕ) → slice_index_or slots k None ≡ None)
+    → (k : ℕ) → slice_index_or (take n (drop first slots)) k None ≡ None
+range-empty slots first n empty = take-none n (drop first slots) (λ k. get_or-drop first slots k None ∙ empty (first + k))
 
 -- the slots from `first` on, as many as in `out`, are those
 module _ (old out new : List (Option ℕ)) (first count n : ℕ) (long : length out ≡ count) (inside : first + count ≤ length old) (n_is : n ≡ count)

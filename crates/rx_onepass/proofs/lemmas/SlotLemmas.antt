@@ -18,7 +18,7 @@ use Rattle.rx_onepass.specs.Search.{run_in, match_from, is_explicit, slot_of, Ar
 use Rattle.rx_onepass.specs.Walked.{may_win, told_from, IsSlotAt, IsWalked}
 use Rattle.rx_onepass.proofs.lemmas.WalkLemmas.{walk-within}
 
-none-replicated : (n k : ℕ) → ◌≡◌ {A = Option ℕ} (slice_index_or (replicate n None) k None) None
+pub none-replicated : (n k : ℕ) → ◌≡◌ {A = Option ℕ} (slice_index_or (replicate n None) k None) None
 none-replicated zero k = refl
 none-replicated (suc n) zero = refl
 none-replicated (suc n) (suc k) = none-replicated n k

@@ -90,7 +90,7 @@ preferred-none_later true None = refl
 preferred-none_later true (Some t) = refl
 preferred-none_later false here = refl
 
-preferred-some : (wins : Bool) (h : Trace) (later : Option Trace) → is_some (preferred wins (Some h) later) ≡ true
+pub preferred-some : (wins : Bool) (h : Trace) (later : Option Trace) → is_some (preferred wins (Some h) later) ≡ true
 preferred-some true h later = refl
 preferred-some false h None = refl
 preferred-some false h (Some t) = refl

@@ -1,5 +1,5 @@
 use Rattle.std.proofs.Common.{◌≡◌, ◌≤◌, ℕ, length, refl, sym, subst, ap, ◌∙◌, arith}
-use Rattle.std.specs.Prelude.{false, Option, Some, ◌+◌, ◌*◌, slice_set}
+use Rattle.std.specs.Prelude.{false, Option, Some, None, ◌+◌, ◌*◌, slice_index_or, slice_set}
 use Rattle.rx_search.specs.Input.{InputValue}
 use Rattle.rx_search.specs.Matches.{HalfMatchValue, MatchValue}
 use Rattle.rx_onepass_table.specs.Along.{BothTellSame}
@@ -7,7 +7,7 @@ use Rattle.rx_onepass.specs.Search.{run_in, IsFound}
 use Rattle.rx_onepass.specs.Walked.{told_from, IsWalked}
 use Rattle.rx_onepass.proofs.lemmas.CallLemmas.{found-exact}
 use Rattle.rx_onepass.proofs.lemmas.RunLemmas.{run-told, run-not-permitted}
-use Rattle.rx_onepass.proofs.lemmas.SlotLemmas.{found-none, told-none, hit-within, found-some}
+use Rattle.rx_onepass.proofs.lemmas.SlotLemmas.{none-replicated, found-none, told-none, hit-within, found-some}
 use Rattle.rx_onepass.proofs.dfa.DFA.find_from.Goals as goal
 
 pub returns-then-not-may_start-clause-found : goal.returns-then-not-may_start-clause-found
@@ -24,6 +24,9 @@ walk-requires-clause-in_order c =
 
 pub walk-requires-clause-row : goal.walk-requires-clause-row
 walk-requires-clause-row c = c.requires.row.2.inside
+
+pub walk-requires-clause-empty : goal.walk-requires-clause-empty
+walk-requires-clause-empty c k = ap (λ s. slice_index_or s k None) c.requires.empty ∙ none-replicated (length c.args.slots.now) k
 
 pub returns-in_default-clause-found : goal.returns-in_default-clause-found
 returns-in_default-clause-found c =

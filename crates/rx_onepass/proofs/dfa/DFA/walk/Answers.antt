@@ -6,7 +6,7 @@ use Rattle.rx_onepass_table.specs.Search.{IsAnswer}
 use Rattle.rx_onepass_build.specs.Config.{kind_of}
 use Rattle.rx_onepass.specs.Dfa.{Dfa}
 use Rattle.rx_onepass.specs.Walked.{may_win}
-use Rattle.rx_onepass.proofs.lemmas.RangeLemmas.{walked-of}
+use Rattle.rx_onepass.proofs.lemmas.RangeLemmas.{walked-of, range-empty}
 use Rattle.rx_onepass.proofs.dfa.DFA.walk.Goals as goal
 
 pub returns-clause-walked : goal.returns-clause-walked
@@ -28,3 +28,6 @@ returns-clause-walked c =
     c.args.row) c.walk.result c.walk.new.out) c.self.view_is c.walk.ensures.answer in
     walked-of old c.walk.new.out _ first count (first + count - first) long inside n_is refl d v c.args.row c.may_win-may_win.result c.walk.result wins_is
     answer (first_is ∙ ap (λ n. min n (length old)) c.explicit_start.ensures) (count_is ∙ ap (λ n. min n (length old - first)) c.explicit_slots.ensures)
+
+pub walk-requires-clause-empty : goal.walk-requires-clause-empty
+walk-requires-clause-empty c = range-empty c.args.slots.now _ _ c.requires.empty

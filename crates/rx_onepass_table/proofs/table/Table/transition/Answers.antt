@@ -1,4 +1,5 @@
-use Rattle.std.proofs.Common.{◌<◌, ◌+◌, ◌*◌, length, arith, ◌∙◌, subst, sym}
+use Rattle.std.proofs.Common.{◌<◌, ◌≤◌, ◌^◌, ◌+◌, ◌*◌, length, arith, ◌∙◌, subst, sym}
+use Rattle.rx_onepass_table.specs.Rows.{TableValue}
 use Rattle.rx_onepass_table.specs.Words.{Step}
 use Rattle.rx_onepass_table.proofs.lemmas.CellLemmas.{step-index, step-value, step-target}
 use Rattle.rx_onepass_table.proofs.table.Table.transition.Goals as goal
@@ -21,3 +22,6 @@ returns-clause-inside c =
     subst (λ (s : Step). s.target < c.args.self.now.rows) (sym c.of_word.ensures)
     (step-target _ _ c.self.invariant c.self.view_is c.args.row c.requires c.args.byte c.get-class.result c.ranges.byte.fits c.get-class.ensures
     c.index.result.now _ c.index.ensures)
+
+pub returns-clause-few : goal.returns-clause-few
+returns-clause-few c = subst (λ (t : TableValue). t.rows ≤ 2 ^ 21) c.self.view_is c.self.invariant.few

@@ -1,87 +1,17 @@
-use Rattle.std.proofs.Common.{◌≡◌, ◌≤◌, ◌+◌, ◌-◌, suc, length, refl, sym, ◌∙◌, subst, arith}
+use Rattle.std.proofs.Common.{◌-◌, sym, ◌∙◌}
 use Rattle.rx_model.specs.Runs.{everywhere}
 use Rattle.rx_onepass_table.specs.Along.{walk}
-use Rattle.rx_onepass_table.specs.Search.{IsAnswer, IsSearching}
-use Rattle.rx_onepass_table.proofs.lemmas.SearchLemmas.{searching-starts, searching-ends}
+use Rattle.rx_onepass_table.specs.Search.{shown}
+use Rattle.rx_onepass_table.proofs.lemmas.ShownLemmas.{answer-same, shown-length}
 use Rattle.rx_onepass_table.proofs.table.Table.walk.Goals as goal
-
-pub loop-at-init : goal.loop-at-init
-loop-at-init c = record {
-  inside = c.requires.row;
-  room = c.forget.ensures.len ∙ c.requires.room;
-  places_len = refl;
-  out_len = refl;
-  within =
-      subst (λ n. n ≤ length c.haystack-text.result.now) (sym c.end-end.ensures.value)
-      (subst (λ h. c.args.input.now.end ≤ length h) (sym c.haystack-text.ensures.value) c.haystack-text.ensures.spanned.end);
-  left = (let from = c.start-at.ensures.value in let to = c.end-end.ensures.value in let order = c.requires.in_order in omega arith);
-  searching =
-      searching-starts c.args.nfa.now c.args.self.now c.args.may_win c.haystack-text.result.now (c.end-end.result - c.start-at.result) c.start-at.result
-      c.args.row c.forget.new.places c.args.out.now c.forget.ensures.value;
-}
-
-pub returns-in_default-clause-answer : goal.returns-in_default-clause-answer
-returns-in_default-clause-answer c =
-    let before = c.loop-at-test.true in
-    let step : c.end-end.result - c.loop-at.at ≡ suc (c.end-end.result - (c.loop-at.at + 1)) = omega arith in
-    let told =
-    walk c.args.nfa.now c.args.self.now c.args.may_win everywhere c.haystack-text.result.now (c.end-end.result - c.start-at.result) c.start-at.result
-    c.args.row in
-    let same : told ≡ walk c.args.nfa.now c.args.self.now c.args.may_win everywhere c.args.input.now.haystack
-    (c.args.input.now.end - c.args.input.now.start) c.args.input.now.start c.args.row =
-    (λ k. walk c.args.nfa.now c.args.self.now c.args.may_win everywhere (c.haystack-text.ensures.value k)
-    (c.end-end.ensures.value k - c.start-at.ensures.value k) (c.start-at.ensures.value k) c.args.row) in
-    subst (λ e. IsAnswer c.args.nfa.now e (walk c.args.nfa.now c.args.self.now c.args.may_win everywhere c.args.input.now.haystack
-    (c.args.input.now.end - c.args.input.now.start) c.args.input.now.start c.args.row) c.visit.new.best c.visit.new.out) c.get_earliest-earliest.ensures
-    (subst (λ t. IsAnswer c.args.nfa.now c.get_earliest-earliest.result t c.visit.new.best c.visit.new.out) same
-    (c.in_default.ensures.over told (c.end-end.result - (c.loop-at.at + 1))
-    (subst (λ n. IsSearching c.args.nfa.now c.args.self.now c.args.may_win c.haystack-text.result.now told n c.loop-at.at c.loop-at.current
-    c.loop-at.places c.loop-at.best c.loop-at.out) step c.loop-at.invariant.searching)))
-
-pub loop-at-preserved : goal.loop-at-preserved
-loop-at-preserved c =
-    let before = c.loop-at-test.true in
-    let step : c.end-end.result - c.loop-at.at ≡ suc (c.end-end.result - (c.loop-at.at + 1)) = omega arith in
-    let told =
-    walk c.args.nfa.now c.args.self.now c.args.may_win everywhere c.haystack-text.result.now (c.end-end.result - c.start-at.result) c.start-at.result
-    c.args.row in
-    record {
-      inside = c.in-Some.ensures.inside;
-      room = c.visit.ensures.places ∙ c.loop-at.invariant.room ∙ sym c.visit.ensures.out;
-      places_len = c.visit.ensures.places ∙ c.loop-at.invariant.places_len;
-      out_len = c.visit.ensures.out ∙ c.loop-at.invariant.out_len;
-      within = c.loop-at.invariant.within;
-      left = (let left = c.loop-at.invariant.left in omega arith);
-      searching =
-          c.in-Some.ensures.on told (c.end-end.result - (c.loop-at.at + 1))
-          (subst (λ n. IsSearching c.args.nfa.now c.args.self.now c.args.may_win c.haystack-text.result.now told n c.loop-at.at c.loop-at.current
-          c.loop-at.places c.loop-at.best c.loop-at.out) step c.loop-at.invariant.searching);
-    }
 
 pub returns-clause-answer : goal.returns-clause-answer
 returns-clause-answer c =
-    let past = c.loop-at-test.false in
-    let left = c.loop-at.invariant.left in
-    let none : c.end-end.result - c.loop-at.at ≡ 0 = omega arith in
-    let here : c.loop-at.at ≡ c.end-end.result = omega arith in
-    let told =
-    walk c.args.nfa.now c.args.self.now c.args.may_win everywhere c.haystack-text.result.now (c.end-end.result - c.start-at.result) c.start-at.result
-    c.args.row in
-    let same : told ≡ walk c.args.nfa.now c.args.self.now c.args.may_win everywhere c.args.input.now.haystack
-    (c.args.input.now.end - c.args.input.now.start) c.args.input.now.start c.args.row =
-    (λ k. walk c.args.nfa.now c.args.self.now c.args.may_win everywhere (c.haystack-text.ensures.value k)
-    (c.end-end.ensures.value k - c.start-at.ensures.value k) (c.start-at.ensures.value k) c.args.row) in
-    let kept : IsSearching c.args.nfa.now c.args.self.now c.args.may_win c.haystack-text.result.now told 0 c.loop-at.at c.loop-at.current
-    c.loop-at.places c.loop-at.best c.loop-at.out =
-    subst (λ n. IsSearching c.args.nfa.now c.args.self.now c.args.may_win c.haystack-text.result.now told n c.loop-at.at c.loop-at.current
-    c.loop-at.places c.loop-at.best c.loop-at.out) none c.loop-at.invariant.searching in
-    let last : IsSearching c.args.nfa.now c.args.self.now c.args.may_win c.haystack-text.result.now told 0 c.end-end.result c.loop-at.current
-    c.loop-at.places c.loop-at.best c.loop-at.out =
-    subst (λ i. IsSearching c.args.nfa.now c.args.self.now c.args.may_win c.haystack-text.result.now told 0 i c.loop-at.current c.loop-at.places
-    c.loop-at.best c.loop-at.out) here kept in
-    subst (λ e. IsAnswer c.args.nfa.now e (walk c.args.nfa.now c.args.self.now c.args.may_win everywhere c.args.input.now.haystack
-    (c.args.input.now.end - c.args.input.now.start) c.args.input.now.start c.args.row) c.tell.new.best c.tell.new.out) c.get_earliest-earliest.ensures
-    (subst (λ t. IsAnswer c.args.nfa.now c.get_earliest-earliest.result t c.tell.new.best c.tell.new.out) same
-    (searching-ends c.args.nfa.now c.args.self.now c.args.may_win c.haystack-text.result.now told c.loop-at.places c.loop-at.best c.tell.new.best
-    c.loop-at.out c.tell.new.out (c.tell.ensures.out ∙ sym c.loop-at.invariant.room) c.end-end.result c.loop-at.current c.tell.ensures.telling
-    c.get_earliest-earliest.result last))
+    let places = c.pass_over.new.places in
+    let before = c.pass_over.new.out in
+    let room = c.pass_over.ensures.places ∙ sym c.requires.room ∙ sym c.pass_over.ensures.out in
+    answer-same c.args.nfa.now c.args.input.now.earliest
+    (walk c.args.nfa.now c.args.self.now c.args.may_win everywhere c.args.input.now.haystack (c.args.input.now.end - c.args.input.now.start)
+    c.args.input.now.start c.args.row)
+    c.pass_over.new.best c.finish.new.places (shown c.pass_over.new.left places before)
+    (c.finish.ensures.len ∙ room ∙ sym (shown-length c.pass_over.new.left places before room)) c.finish.ensures.value c.pass_over.ensures.answer
