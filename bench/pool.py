@@ -4,7 +4,8 @@
 It makes a program of bench/pool.txt in a copy of the repository, and builds it for measuring, without a proof
 (bench/measuring.py). Prints for a regex with full DFAs, with lazy ones alone and with none the least times of a search in
 nanoseconds: with a cache in hand, by the pool, and by the pool from two and four threads at once; and of an iterator over a line
-of ten bytes, of which there are a million. Ends with status 1 where the pool takes more than twice the time, but for lazy DFAs.
+of ten bytes, of which there are a million. Ends with status 1 where the pool takes more than twice the time, but for lazy DFAs,
+or where a thread finds fewer or more matches than searches with a cache in hand.
 """
 import sys
 

@@ -21,6 +21,8 @@ import subprocess
 import sys
 import tempfile
 from concurrent.futures import ThreadPoolExecutor
+from importlib.machinery import SourceFileLoader
+from importlib.util import module_from_spec, spec_from_loader
 
 TESTS = os.path.dirname(os.path.abspath(__file__))
 TOP = os.path.dirname(TESTS)
@@ -32,6 +34,8 @@ from lanes import lanes  # noqa: E402
 
 # What the prover says of a limit of its own, which is no verdict.
 LIMIT = re.compile(r'antt ran out of (stack|the (steps|memory) that)|(outgrew the memory limit|stopped at the step limit) \(')
+# What it says of a function with a goal that is not proved: by an answer that stands in proofs/, or with none there.
+REFUSED = r'not proved|no proof: expected answers in \S+; `search` did not prove '
 # What the compiler says of a text that does not reach the prover.
 UNREAD = re.compile(r'\berror\[[\w-]+\]')
 
@@ -49,52 +53,50 @@ def edits_of(name, alone):
 
 
 def copy_to(copy):
-    """Copies the crates' texts, and gives their built libraries a second name."""
+    """Copies the crates' texts."""
     for part in ('crates.txt', 'HANDLES'):
         shutil.copy(os.path.join(TOP, part), copy)
-    for name in os.listdir(os.path.join(TOP, 'crates')):
-        crate, to = os.path.join(TOP, 'crates', name), os.path.join(copy, 'crates', name)
-        shutil.copytree(crate, to, symlinks=True, ignore=shutil.ignore_patterns('out', 'must-fail'))
-        if os.path.isdir(os.path.join(crate, 'out', 'rlib')):
-            shutil.copytree(os.path.join(crate, 'out', 'rlib'), os.path.join(to, 'out', 'rlib'), copy_function=os.link)
+    ignored = shutil.ignore_patterns('out', 'must-fail')
+    shutil.copytree(os.path.join(TOP, 'crates'), os.path.join(copy, 'crates'), symlinks=True, ignore=ignored)
 
 
-def why_not_refused(crate, path):
-    """Tries one edit in a crate of a copy. Answers why it is not refused, or nothing where it is."""
+def the_kit():
+    """The kit's `rt`, and its crates by their names. It alone knows the words by which it calls the prover."""
+    loader = SourceFileLoader('rt', os.path.realpath(shutil.which('rt')))
+    kit = module_from_spec(spec_from_loader('rt', loader))
+    loader.exec_module(kit)
+    kit.Crate.allowed = kit.handles_of(TOP)
+    # (its first call sets the handler of a signal, which only the main thread may)
+    kit.rtlib.guarded()
+    return kit, {crate.name: crate for crate in kit.crates_of(TOP)}
+
+
+def why_not_refused(kit, crate, path, kept):
+    """Tries one edit, over what earlier tries kept. Answers why it is not refused, or nothing where it is."""
+    function = function_of(path)
     try:
-        texts = edited(path, crate)
+        ran = kit.checked(crate, edited(path, crate.folder), ['--jobs', '1', '--only', function], kept)
     except BadEdit as why:
         return str(why)
-    before = {}
-    for name, text in texts.items():
-        with open(os.path.join(crate, name), encoding='utf-8') as file:
-            before[name] = file.read()
-        with open(os.path.join(crate, name), 'w', encoding='utf-8') as file:
-            file.write(text)
-    try:
-        words = ['rt', 'check', '--only', function_of(path), '--jobs', '1']
-        ran = subprocess.run(words, cwd=crate, stdin=subprocess.DEVNULL, stdout=subprocess.PIPE, stderr=subprocess.STDOUT, errors='replace')
-    finally:
-        for name, text in before.items():
-            with open(os.path.join(crate, name), 'w', encoding='utf-8') as file:
-                file.write(text)
     if ran.returncode == 0:
         return 'the function is still proved with this edit'
     if LIMIT.search(ran.stdout):
         return 'the prover came to a limit of its own'
-    told = re.search(r'^fn \S*\b%s: not proved' % re.escape(function_of(path)), ran.stdout, re.M)
+    told = re.search(r'^fn \S*\b%s: (%s)' % (re.escape(function), REFUSED), ran.stdout, re.M)
     if ran.returncode == 1 and told and not UNREAD.search(ran.stdout):
         return None
     return 'no verdict (status %d):\n%s' % (ran.returncode, ran.stdout)
 
 
-def try_crate(name):
+def try_crate(kit, crate):
     """Tries the wrong bodies of a crate that have a line `only:`. Answers how many were refused, and how many not."""
-    counts = [0, 0]
-    with tempfile.TemporaryDirectory() as copy:
-        copy_to(copy)
-        for path in edits_of(name, True):
-            why = why_not_refused(os.path.join(copy, 'crates', name), path)
+    counts, before = [0, 0], os.path.join(crate.folder, 'out', 'incremental')
+    with tempfile.TemporaryDirectory() as room:
+        kept = os.path.join(room, 'kept')
+        # (what `rt check` kept here, if it did, saves time; no verdict rests on it)
+        kit.linked(before, kept) if os.path.isdir(before) else os.mkdir(kept)
+        for path in edits_of(crate.name, True):
+            why = why_not_refused(kit, crate, path, kept)
             counts[why is not None] += 1
             label = os.path.relpath(path, TESTS)
             print('%s: %s' % (label, 'refused, as it must be' if why is None else 'NOT REFUSED: ' + why), flush=True)
@@ -103,8 +105,9 @@ def try_crate(name):
 
 def try_alone(names):
     """Tries the wrong bodies that have a line `only:`, of as many crates at once as there is room for."""
+    kit, crates = the_kit()
     with ThreadPoolExecutor(max(lanes(), 1)) as pool:
-        counts = list(pool.map(try_crate, [it for it in names if edits_of(it, True)]))
+        counts = list(pool.map(lambda it: try_crate(kit, crates[it]), [it for it in names if edits_of(it, True)]))
     failed = sum(it[1] for it in counts)
     print('%d passed, %d failed' % (sum(it[0] for it in counts), failed))
     return 1 if failed else 0

@@ -112,10 +112,7 @@ fn patterns_by_hand(rt: HostRuntime) {
 
 /// Whether there is no one-pass DFA of the pattern, for this cause.
 fn is_refused_for(alloc: Global, pattern: &str, want: NotOnePass) -> bool {
-    match DFA::new(alloc, pattern) {
-        Ok(_) => false,
-        Err(error) => error == BuildError::NotOnePass(want),
-    }
+    DFA::new(alloc, pattern).err() == Some(BuildError::NotOnePass(want))
 }
 
 #[test]

@@ -2,6 +2,7 @@ pub mod ReadingLemmas
 pub mod PrefixLemmas
 pub mod NameLemmas
 pub mod AttemptLemmas
+pub mod RefusalLemmas
 pub mod BuildLemmas
 pub mod ServeLemmas
 pub mod FinderLemmas

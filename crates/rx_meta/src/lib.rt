@@ -46,7 +46,8 @@ pub use iterator_laws::{
 };
 pub use laws::{
     a_search_changes_states_alone, a_search_is_for_its_patterns,
-    a_search_without_lazy_dfas_accounts_nothing, attempts_give_up_where_bytes_were_read,
+    a_search_without_lazy_dfas_accounts_nothing, attempts_are_leftmost_first,
+    attempts_give_up_where_bytes_were_read, no_candidate_before_a_refusal_is_confirmed,
 };
 pub use regex::Regex;
 pub use rx_limited::{Quadratic, RetryError};

@@ -23,3 +23,4 @@ pub mod Trees
 pub mod Sharing
 pub mod Compiled
 pub mod Ordered
+pub mod Walks

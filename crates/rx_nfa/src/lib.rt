@@ -20,6 +20,7 @@ mod runs;
 mod sparse;
 mod state;
 mod threads;
+mod walks;
 
 pub use byte_classes::{
     a_look_around_depends_on_the_classes_of_the_bytes_beside_it,
@@ -40,3 +41,4 @@ pub use runs::{
 };
 pub use sparse::matches_byte;
 pub use state::{Alternates, State, Transition, Transitions};
+pub use walks::a_walk_leads_to_a_state;

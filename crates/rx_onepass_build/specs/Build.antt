@@ -10,10 +10,10 @@ use Rattle.rx_nfa.specs.declared.state.State.{State}
 use Rattle.rx_nfa.specs.declared.state.State.TheVariants.{ByteRange, Sparse, Look as Asks, Union, Capture, Fail, Match as Accepting}
 use Rattle.rx_onepass_table.specs.Entry.{IsEntry, IsClear, AcceptsBoth, Conflicts, explicit_start}
 use Rattle.rx_onepass_table.specs.Rows.{TableValue, IsRowOf, IsTableOf}
-use Rattle.rx_onepass_table.specs.Walks.{ReachesTwice}
+use Rattle.rx_nfa.specs.Walks.{ReachesTwice}
 use Rattle.rx_onepass_table.specs.Words.{few_looks, slot_limit, no_pattern}
 use Rattle.rx_onepass_build.specs.Config.{each_of, shares_of, size_limit_of}
-use Rattle.rx_onepass_build.specs.Entries.{state_limit, IsWithin, AreEntries, HasEntries, IsAbove}
+use Rattle.rx_onepass_build.specs.Entries.{state_limit, IsWithin, AreDistinct, AreEntries, HasEntries, IsAbove}
 use Rattle.rx_onepass_build.specs.declared.config.Config.{Config}
 use Rattle.rx_onepass_build.specs.declared.entries.Layout.{Layout}
 use Rattle.rx_onepass_build.specs.declared.build_error.NotOnePass.{NotOnePass}
@@ -136,6 +136,7 @@ pub record IsBuiltOf (config : Config) (nfa : Nfa) (t : TableValue) (starts : Li
   pub entries : List ℕ
   pub table : IsTableOf nfa entries t
   pub rows : t.rows ≡ suc (length entries)
+  pub distinct : AreDistinct entries
   pub starts_are : AreStarts nfa (each_of config) entries starts
   pub are : AreEntries nfa (each_of config) entries
   pub all : (q : ℕ) → IsEntry nfa (each_of config) q → (k : ℕ) × (slice_get entries k ≡ Some q)

@@ -3,7 +3,7 @@ use Rattle.std.specs.Prelude.{◌≡◌, ℕ, suc, List, length, Some, slice_get
 use Rattle.rx_onepass_table.specs.Entry.{IsEntry, IsClear}
 use Rattle.rx_onepass_table.specs.Rows.{IsTableOf}
 use Rattle.rx_onepass_build.specs.Build.{AreStarts}
-use Rattle.rx_onepass_build.specs.Entries.{IsWithin, AreEntries}
+use Rattle.rx_onepass_build.specs.Entries.{IsWithin, AreDistinct, AreEntries}
 use Rattle.rx_onepass_build.specs.declared.built.Built.{Built}
 use Rattle.rx_onepass_build.specs.declared.entries.Layout.{Layout}
 use Rattle.rx_onepass_build.specs.declared.job.Job.{Job}
@@ -14,6 +14,7 @@ pub record IsFinished (j : Job) (entries : List ℕ) (stride : ℕ) (b : Built) 
   pub count : length settled ≡ length entries
   pub kept : (k q : ℕ) → slice_get entries k ≡ Some q → (i : ℕ) × (slice_get settled i ≡ Some q)
   pub own : (i q : ℕ) → slice_get settled i ≡ Some q → (k : ℕ) × (slice_get entries k ≡ Some q)
+  pub distinct : AreDistinct entries → AreDistinct settled
   pub table : IsTableOf j.nfa.now settled b.table
   pub rows : b.table.rows ≡ suc (length entries)
   pub stride_is : b.table.stride ≡ stride
@@ -26,6 +27,7 @@ pub record IsTableFor (j : Job) (layout : Layout) (b : Built) : Type 0 where
   pub entries : List ℕ
   pub table : IsTableOf j.nfa.now entries b.table
   pub rows : b.table.rows ≡ suc (length entries)
+  pub distinct : AreDistinct entries
   pub starts : AreStarts j.nfa.now j.each entries b.starts.items
   pub are : AreEntries j.nfa.now j.each entries
   pub all : (q : ℕ) → IsEntry j.nfa.now j.each q → (k : ℕ) × (slice_get entries k ≡ Some q)

@@ -1,6 +1,6 @@
 -- The order of epsilon walks in which a depth-first search comes to them.
 use Rattle.std.specs.Prelude.{◌≡◌, ℕ, zero, suc, ◌<◌, ◌⊎◌, List, [], ◌∷◌, ◌++◌, Contains}
-use Rattle.rx_onepass_table.specs.Walks.{IsPreferred}
+use Rattle.rx_nfa.specs.Walks.{IsPreferred}
 
 -- the first walk comes before: it is preferred, or the other one goes on from it
 abbrev pub Precedes : List ℕ → List ℕ → Type 0

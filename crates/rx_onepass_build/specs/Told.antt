@@ -7,7 +7,7 @@ use Rattle.rx_nfa.specs.Nfa.{Nfa}
 use Rattle.rx_nfa.specs.declared.state.State.{State}
 use Rattle.rx_onepass_table.specs.Entry.{explicit_start}
 use Rattle.rx_onepass_table.specs.Rows.{AreSlots, AreLooks}
-use Rattle.rx_onepass_table.specs.Walks.{WalksTo, state_asks}
+use Rattle.rx_nfa.specs.Walks.{WalksTo, state_asks}
 use Rattle.rx_onepass_table.specs.Words.{few_looks, slot_limit}
 use Rattle.rx_onepass_table.specs.declared.epsilons.Epsilons.{Epsilons}
 use Rattle.rx_onepass_build.specs.declared.closure.Frame.{Frame}

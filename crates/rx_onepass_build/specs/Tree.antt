@@ -3,7 +3,7 @@ use Rattle.std.specs.Prelude.{◌≡◌, ◌⊎◌, ℕ, ◌≤◌, List, ◌++�
 use Rattle.rx_nfa.specs.Automaton.{state_at}
 use Rattle.rx_nfa.specs.Nfa.{Nfa}
 use Rattle.rx_onepass_table.specs.Entry.{Accepts, IsOutdone}
-use Rattle.rx_onepass_table.specs.Walks.{WalksTo, IsPreferred, epsilon_targets}
+use Rattle.rx_nfa.specs.Walks.{WalksTo, IsPreferred, epsilon_targets}
 use Rattle.rx_onepass_table.specs.declared.epsilons.Epsilons.{Epsilons}
 use Rattle.rx_onepass_build.specs.Order.{Precedes, AreInOrder, GoesOnFrom}
 use Rattle.rx_onepass_build.specs.Told.{TellsPast, IsWay, AreWays, frame_at}

@@ -3,7 +3,7 @@ use Rattle.std.specs.Prelude.{◌≡◌, ◌↔◌, ◌≢◌, ℕ, ◌*◌, ◌
 use Rattle.rx_nfa.specs.Automaton.{state_at, state_accepts}
 use Rattle.rx_nfa.specs.Nfa.{Nfa}
 use Rattle.rx_nfa.specs.Ordered.{target}
-use Rattle.rx_onepass_table.specs.Walks.{WalksTo, ReachesTwice, IsPreferred, written_on, asked_on}
+use Rattle.rx_nfa.specs.Walks.{WalksTo, ReachesTwice, IsPreferred, written_on, asked_on}
 
 -- the first slot of the explicit groups: those of the whole matches come before it
 abbrev pub explicit_start : Nfa → ℕ

@@ -1,5 +1,4 @@
 pub mod Words
-pub mod Walks
 pub mod Entry
 pub mod Rows
 pub mod Along

@@ -5,7 +5,7 @@ use Rattle.rx_model.specs.Look.{Look, look_number}
 use Rattle.rx_search.specs.ByteClasses.{AreClasses, class_count}
 use Rattle.rx_nfa.specs.Nfa.{Nfa}
 use Rattle.rx_onepass_table.specs.Entry.{Accepts, Reads, IsOutdone, IsClear, explicit_start}
-use Rattle.rx_onepass_table.specs.Walks.{written_on, asked_on}
+use Rattle.rx_nfa.specs.Walks.{written_on, asked_on}
 use Rattle.rx_onepass_table.specs.Words.{Step, step_of, Final, final_of, dead, few_looks, slot_limit}
 
 -- A table, as a contract sees it.

@@ -116,6 +116,18 @@ fn under_all_it_tells_the_farthest_end(rt: HostRuntime) {
     assert_eq!(rt; once, Some(2));
 }
 
+/// The places that six slots hold.
+fn places(slots: &[Option<NonMaxUsize>; 6]) -> [Option<usize>; 6] {
+    [
+        place_at(slots, 0),
+        place_at(slots, 1),
+        place_at(slots, 2),
+        place_at(slots, 3),
+        place_at(slots, 4),
+        place_at(slots, 5),
+    ]
+}
+
 /// The pattern that is found in `xb` by a cache of `a`, and the places in six slots.
 fn told_after_reset(rt: &impl Abort, alloc: Global) -> (usize, [Option<usize>; 6]) {
     let first = configured(rt, alloc, Config::new(), "a");
@@ -124,11 +136,7 @@ fn told_after_reset(rt: &impl Abort, alloc: Global) -> (usize, [Option<usize>; 6
     let mut slots = [NonMaxUsize::new(9); 6];
     let found = second.search_slots_with(&mut cache, &Input::new(b"xb"), &mut slots);
     let pattern = found.ok().expect(rt, "memory").expect(rt, "a match");
-    let mut places = [None; 6];
-    for k in 0..6 {
-        places[k] = place_at(&slots, k);
-    }
-    (pattern.as_usize(), places)
+    (pattern.as_usize(), places(&slots))
 }
 
 #[test]

@@ -42,7 +42,7 @@ impl fmt::Display for Failure {
 
 impl Failure {
     /// The status with which the program ends. That an engine is refused is an answer too.
-    pub fn status(self) -> u8 {
+    pub fn status(&self) -> u8 {
         match self {
             Failure::Usage => 2,
             Failure::Memory | Failure::System => 1,

@@ -32,14 +32,14 @@ fn main(rt: HostRuntime) -> ExitCode {
         Ok(()) => ExitCode::SUCCESS,
         Err(failure) => {
             // Where this can't be printed, the status still tells.
-            let _printed = print_failure(&rt, failure);
+            let _printed = print_failure(&rt, &failure);
             ExitCode::from(failure.status())
         }
     }
 }
 
 /// Prints why nothing is told.
-fn print_failure<R: Runtime + AllocGlobal>(rt: &R, failure: Failure) -> io::Result<()> {
+fn print_failure<R: Runtime + AllocGlobal>(rt: &R, failure: &Failure) -> io::Result<()> {
     println!(rt; "{failure}")
 }
 

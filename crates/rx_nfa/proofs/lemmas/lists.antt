@@ -4,3 +4,4 @@ pub mod ClosureLemmas
 pub mod TargetLemmas
 pub mod StageLemmas
 pub mod LaterLemmas
+pub mod WalkLemmas

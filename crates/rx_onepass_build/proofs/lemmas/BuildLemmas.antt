@@ -12,7 +12,7 @@ use Rattle.rx_onepass_table.specs.Rows.{IsRowOf}
 use Rattle.rx_onepass_table.specs.Words.{Step, Final}
 use Rattle.rx_onepass_build.specs.Build.{IsAdmitted, AreClassesFor, IsLayoutOf, AreStarts, IsStartAt, IsInVain, IsRefusalOf, IsBuiltOf}
 use Rattle.rx_onepass_build.specs.Config.{each_of, shares_of}
-use Rattle.rx_onepass_build.specs.Entries.{AreEntries, IsWithin, Stays}
+use Rattle.rx_onepass_build.specs.Entries.{AreDistinct, AreEntries, IsWithin, Stays}
 use Rattle.rx_onepass_build.specs.Finished.{IsFinished, IsTableFor}
 use Rattle.rx_onepass_build.specs.Rows.{AreFilled}
 use Rattle.rx_onepass_build.specs.declared.built.Built.{Built}
@@ -49,12 +49,13 @@ module _ (j : Job) (sorted : All HasSortedTransitions j.nfa.now.states) (entries
       let small = byte-small (state_at j.nfa.now.states r.reader) byte q (state-sorted j.nfa.now.states sorted r.reader) r.goes in
       row-there entries _ q ((row.steps_are byte small).row way q r)
 
-  pub table-for : (layout : Layout) (b : Built) → AreEntries j.nfa.now j.each entries → IsFinished j entries layout.stride b
+  pub table-for : (layout : Layout) (b : Built) → AreEntries j.nfa.now j.each entries → AreDistinct entries → IsFinished j entries layout.stride b
       → IsWithin layout (suc (length entries)) → IsTableFor j layout b
-  table-for layout b are f within = record {
+  table-for layout b are distinct f within = record {
     entries = f.settled;
     table = f.table;
     rows = f.rows ∙ ap suc (sym f.count);
+    distinct = f.distinct distinct;
     starts = f.starts;
     are = λ k q e. (let own = f.own k q e in are own.0 q own.1);
     all = λ q is. (let e = all-there q is in f.kept e.0 q e.1);
@@ -73,6 +74,7 @@ built-of config j layout b each admitted classes laid t = record {
   entries = t.entries;
   table = t.table;
   rows = t.rows;
+  distinct = t.distinct;
   starts_are = subst (λ x. AreStarts j.nfa.now x t.entries b.starts.items) each t.starts;
   are = subst (λ x. AreEntries j.nfa.now x t.entries) each t.are;
   all = λ q is. t.all q (subst (λ x. IsEntry j.nfa.now x q) (sym each) is);

@@ -18,7 +18,7 @@ use Rattle.rx_nfa.specs.declared.state.State.TheVariants.{ByteRange, Sparse, Loo
 use Rattle.rx_nfa.proofs.lemmas.classes.RowLemmas.{route-outside}
 use Rattle.rx_onepass_table.specs.Entry.{Accepts, Reads, IsOutdone, IsClear, Conflicts, explicit_start}
 use Rattle.rx_onepass_table.specs.Rows.{IsStep, IsFinal}
-use Rattle.rx_onepass_table.specs.Walks.{WalksTo, written_on, asked_on}
+use Rattle.rx_nfa.specs.Walks.{WalksTo, written_on, asked_on}
 use Rattle.rx_onepass_table.specs.Words.{Step, Final}
 use Rattle.rx_onepass_table.proofs.lemmas.CellLemmas.{class-below}
 use Rattle.rx_onepass_build.specs.Filling.{step_at, IsStepOn, IsCell, IsToldBy, IsRowBy}

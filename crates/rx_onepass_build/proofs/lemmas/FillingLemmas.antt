@@ -15,7 +15,7 @@ use Rattle.rx_nfa.specs.Ordered.{target}
 use Rattle.rx_onepass_table.specs.Along.{kind_at}
 use Rattle.rx_onepass_table.specs.Entry.{Accepts, AcceptsBoth, Reads, IsOutdone, Conflicts, WriteAlike, AskAlike, explicit_start}
 use Rattle.rx_onepass_table.specs.Rows.{AreSlots, AreLooks, IsRowOf}
-use Rattle.rx_onepass_table.specs.Walks.{WalksTo}
+use Rattle.rx_nfa.specs.Walks.{WalksTo}
 use Rattle.rx_onepass_table.specs.Words.{Step, Final, dead}
 use Rattle.rx_onepass_table.proofs.lemmas.SetLemmas.{number-back}
 use Rattle.rx_onepass_build.specs.Entries.{AreNumbered, Stays, AreEntries}

@@ -11,6 +11,7 @@ use Rattle.rx_onepass_table.specs.Rows.{TableValue, IsWhole, IsRowOf, IsStep, Is
 use Rattle.rx_onepass_table.specs.Words.{Step, step_of, Final, final_of, no_match}
 use Rattle.rx_onepass_table.proofs.lemmas.CellLemmas.{class-below}
 use Rattle.rx_onepass_build.specs.Build.{AreStarts, IsStartAt}
+use Rattle.rx_onepass_build.specs.Entries.{AreDistinct}
 use Rattle.rx_onepass_build.specs.Filling.{step_at}
 use Rattle.rx_onepass_build.specs.Finished.{IsFinished}
 use Rattle.rx_onepass_build.specs.Rows.{AreFilled}
@@ -108,6 +109,14 @@ module _ (entries before after : List ℕ) (h : AreInverse (suc (length entries)
               ∙ ap (λ x. Some (slice_index entries (slice_index before x - 1))) is ∙ ap Some same;
         };
       }
+
+  pub settled-distinct : AreDistinct entries → AreDistinct settled-entries
+  settled-distinct distinct i k q e f =
+      let one = settled-row (suc i) q (record { before = i; row_is = refl; there = e }) in
+      let other = settled-row (suc k) q (record { before = k; row_is = refl; there = f }) in
+      let same = one.is.row_is ∙ ap suc (distinct one.is.before other.is.before q one.is.there other.is.there) ∙ sym other.is.row_is in
+      let back : suc i ≡ suc k =
+      sym (h.forth (suc i) one.inside) ∙ ap (λ x. slice_index after x) same ∙ h.forth (suc k) other.inside in omega arith
 
   step-settled : (nfa : Nfa) (entry byte : ℕ) (s : Step) → IsStep nfa entries entry byte s → IsStep nfa settled-entries entry byte (settled_step after s)
   step-settled nfa entry byte s x = record {
@@ -238,6 +247,7 @@ finished j entries steps finals before after starts stride least rows cells b cl
       (let r = row-settled entries before after h order.first (suc k) q (record { before = k; row_is = refl; there = e }) in (r.before, r.there));
   own = λ i q e.
       (let o = settled-row entries before after h order.first (suc i) q (record { before = i; row_is = refl; there = e }) in (o.is.before, o.is.there));
+  distinct = settled-distinct entries before after h order.first;
   table =
       subst (λ t. IsTableOf j.nfa.now (settled-entries entries before after h order.first) t) (sym same)
       (table-settled entries before after h order.first j steps finals stride least cells classes inside filled (sym count)

@@ -2,7 +2,7 @@
 use Rattle.std.proofs.Common.{◌≡◌, ◌⊎◌, ℕ, zero, suc, ◌+◌, ◌<◌, List, [], ◌∷◌, ◌++◌, refl, sym, ◌∙◌, ap, subst, inl, inr, ⊎_elim, arith}
 use Rattle.std.specs.Prelude.{Contains}
 use Rattle.rx_model.proofs.lemmas.runs.MemberLemmas.{none-among, first-among, later-among, split-among, either-among}
-use Rattle.rx_onepass_table.specs.Walks.{IsPreferred}
+use Rattle.rx_nfa.specs.Walks.{IsPreferred}
 use Rattle.rx_onepass_build.specs.Order.{Precedes, AreInOrder, going_on}
 
 pub precedes-itself : (js : List ℕ) → Precedes js js → ⊥

@@ -17,7 +17,7 @@ use Rattle.rx_nfa.specs.Nfa.{Nfa, IsInRange}
 use Rattle.rx_nfa.specs.declared.state.State.{State}
 use Rattle.rx_nfa.specs.declared.state.State.TheVariants.{Look, Union, Capture, Fail, Match}
 use Rattle.rx_onepass_table.specs.Entry.{explicit_start}
-use Rattle.rx_onepass_table.specs.Walks.{epsilon_targets, state_asks}
+use Rattle.rx_nfa.specs.Walks.{epsilon_targets, state_asks}
 use Rattle.rx_onepass_table.specs.Words.{few_looks, slot_limit, no_pattern}
 use Rattle.rx_onepass_table.specs.declared.epsilons.Epsilons.{Epsilons}
 use Rattle.rx_onepass_build.specs.Build.{IsAdmitted, told_explicit, writes_from}

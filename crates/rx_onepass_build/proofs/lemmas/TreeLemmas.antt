@@ -11,7 +11,7 @@ use Rattle.rx_nfa.specs.Automaton.{state_at}
 use Rattle.rx_nfa.specs.Nfa.{Nfa}
 use Rattle.rx_nfa.proofs.lemmas.lists.ClosureLemmas.{resting-epsilon}
 use Rattle.rx_onepass_table.specs.Entry.{Accepts, IsOutdone}
-use Rattle.rx_onepass_table.specs.Walks.{epsilon_targets, WalksTo, IsPreferred, ReachesTwice}
+use Rattle.rx_nfa.specs.Walks.{epsilon_targets, WalksTo, IsPreferred, ReachesTwice}
 use Rattle.rx_onepass_table.proofs.lemmas.WalkLemmas.{accepting-rests}
 use Rattle.rx_onepass_build.specs.Order.{Precedes, going_on, GoesOnFrom}
 use Rattle.rx_onepass_build.specs.Told.{IsWay, AreWays, frame_at}

@@ -11,8 +11,9 @@ use Rattle.rx_nfa.specs.declared.state.State.{State}
 use Rattle.rx_nfa.specs.declared.state.State.TheVariants.{ByteRange, Sparse, Look, Union, Capture, Fail, Match}
 use Rattle.rx_nfa.proofs.lemmas.lists.TargetLemmas.{route-below}
 use Rattle.std.proofs.lemmas.List.Elements.{All-get_or}
+use Rattle.rx_nfa.proofs.lemmas.lists.WalkLemmas.{walks-inside}
 use Rattle.rx_onepass_table.specs.Entry.{IsEntry}
-use Rattle.rx_onepass_table.specs.Walks.{epsilon_targets, ReachesTwice}
+use Rattle.rx_nfa.specs.Walks.{epsilon_targets, ReachesTwice}
 use Rattle.rx_onepass_table.specs.Words.{no_match}
 use Rattle.rx_onepass_build.specs.Entries.{AreEntries}
 use Rattle.rx_onepass_build.specs.Filling.{no_step, step_at, IsCell, IsToldBy, IsRowBy}
@@ -24,7 +25,7 @@ use Rattle.rx_onepass_build.specs.declared.closure.Closure.{Closure}
 use Rattle.rx_onepass_build.specs.declared.closure.Frame.{Frame}
 use Rattle.rx_onepass_build.specs.declared.job.Job.{Job}
 use Rattle.rx_onepass_build.proofs.lemmas.TreeLemmas.{searched-start, IsTop, searched-top, searched-on, way-new, searched-taken, marked-start, marked-twice, marked-new, marked-on}
-use Rattle.rx_onepass_build.proofs.lemmas.WayLemmas.{way-first, walks-inside}
+use Rattle.rx_onepass_build.proofs.lemmas.WayLemmas.{way-first}
 
 -- where a byte leads is there
 pub target-inside : (states : List State) → All (NamesBelow (length states)) states → (q byte next : ℕ) → q < length states

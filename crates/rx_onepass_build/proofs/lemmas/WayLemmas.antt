@@ -3,17 +3,14 @@ use Rattle.std.proofs.Common.{◌≡◌, ℕ, suc, ◌+◌, ◌<◌, List, [], �
 use Rattle.std.specs.Prelude.{true, All, Option, Some, None, Contains, map, option_to_list}
 use Rattle.std.specs.Int.{bit_at}
 use Rattle.std.proofs.Common.{append_assoc}
-use Rattle.std.proofs.lemmas.List.Elements.{All-get_or}
 use Rattle.std.proofs.lemmas.Nat.Bits.{bit_at-zero}
 use Rattle.rx_model.specs.Look.{Look, look_number}
 use Rattle.rx_model.proofs.lemmas.runs.MemberLemmas.{none-among, first-among, only-among, either-among, front-among, back-among}
-use Rattle.rx_nfa.specs.Automaton.{state_at, state_writes, NamesBelow}
+use Rattle.rx_nfa.specs.Automaton.{state_at, state_writes}
 use Rattle.rx_nfa.specs.Nfa.{Nfa}
 use Rattle.rx_nfa.specs.declared.state.State.{State}
-use Rattle.rx_nfa.specs.declared.state.State.TheVariants.{Fail}
-use Rattle.rx_nfa.proofs.lemmas.lists.ClosureLemmas.{epsilon_successors-below}
 use Rattle.rx_onepass_table.specs.Entry.{explicit_start}
-use Rattle.rx_onepass_table.specs.Walks.{epsilon_targets, state_asks, chosen, WalksTo, written_on, asked_on}
+use Rattle.rx_nfa.specs.Walks.{epsilon_targets, state_asks, chosen, WalksTo, written_on, asked_on}
 use Rattle.rx_onepass_table.specs.declared.epsilons.Epsilons.{Epsilons}
 use Rattle.rx_onepass_table.proofs.lemmas.WalkLemmas.{walks-on}
 use Rattle.rx_onepass_build.specs.Order.{going_on}
@@ -24,15 +21,6 @@ use Rattle.rx_onepass_build.specs.declared.closure.Frame.{Frame}
 pub walks-one : (states : List State) (q : ℕ) (ks : List ℕ) (r s : ℕ) → WalksTo states q ks r → WalksTo states q ks s → r ≡ s
 walks-one states q [] r s w v = sym w ∙ v
 walks-one states q (k ∷ ks) r s w v = walks-one states (chosen states q k) ks r s w.1 v.1
-
--- it leads to a state that is there
-pub walks-inside : (states : List State) → All (NamesBelow (length states)) states → (q : ℕ) (ks : List ℕ) (r : ℕ) → q < length states
-    → WalksTo states q ks r → r < length states
-walks-inside states names q [] r lt w = subst (λ x. x < length states) w lt
-walks-inside states names q (k ∷ ks) r lt w =
-    let on = All-get_or (λ x. x < length states) (epsilon_targets (state_at states q)) k q w.0
-    (epsilon_successors-below (length states) (λ kind. true) (state_at states q) (All-get_or (NamesBelow (length states)) states q Fail lt names)) in
-    walks-inside states names (chosen states q k) ks r on w.1
 
 -- one that goes on takes a choice that is there
 pub walks-next : (states : List State) (q : ℕ) (ks : List ℕ) (r k : ℕ) (rest : List ℕ) (s : ℕ) → WalksTo states q ks r → WalksTo states q (ks ++ k ∷ rest) s

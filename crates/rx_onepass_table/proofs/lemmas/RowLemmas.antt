@@ -21,7 +21,7 @@ use Rattle.rx_nfa.proofs.lemmas.runs.AutomatonLemmas.{automaton-accepted, automa
 use Rattle.rx_onepass_table.specs.Along.{all_hold, written_at, trace_of, told_here, TellSame, BothTellSame}
 use Rattle.rx_onepass_table.specs.Entry.{explicit_start, Accepts}
 use Rattle.rx_onepass_table.specs.Rows.{AreSlots, AreLooks, IsFinal}
-use Rattle.rx_onepass_table.specs.Walks.{written_on}
+use Rattle.rx_nfa.specs.Walks.{written_on}
 use Rattle.rx_onepass_table.specs.Words.{Final, few_looks, slot_limit}
 use Rattle.rx_onepass_table.proofs.lemmas.SetLemmas.{hold-kind, kinds-hold, has-member, member-has, last-slots, last-set}
 use Rattle.rx_onepass_table.proofs.lemmas.TreeLemmas as tree

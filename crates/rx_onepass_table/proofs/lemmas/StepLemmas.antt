@@ -12,7 +12,7 @@ use Rattle.rx_nfa.proofs.lemmas.lists.ClosureLemmas.{resting-epsilon}
 use Rattle.rx_onepass_table.specs.Along.{all_hold, written_at, with_writes, told_here, preferred, goes_on, told_later, TellSame, BothTellSame}
 use Rattle.rx_onepass_table.specs.Entry.{Accepts, Reads}
 use Rattle.rx_onepass_table.specs.Rows.{IsRowOf, IsStep, IsFinal}
-use Rattle.rx_onepass_table.specs.Walks.{written_on, ReachesTwice}
+use Rattle.rx_nfa.specs.Walks.{written_on, ReachesTwice}
 use Rattle.rx_onepass_table.specs.Words.{Step, Final, dead}
 use Rattle.rx_onepass_table.proofs.lemmas.RowLemmas as row
 use Rattle.rx_onepass_table.proofs.lemmas.RowLemmas.{ToldAs, something-told, nothing-told, TellSame-behind}

@@ -14,7 +14,7 @@ use Rattle.rx_nfa.specs.Ordered.{is_resting, at_rest, epsilon_successors, line, 
 use Rattle.rx_nfa.specs.declared.state.State.{State}
 use Rattle.rx_nfa.proofs.lemmas.lists.ClosureLemmas.{resting-epsilon, epsilon_successors-below, step-epsilon, found-rests}
 use Rattle.rx_nfa.proofs.lemmas.lists.PlaceLemmas.{line-has}
-use Rattle.rx_onepass_table.specs.Walks.{epsilon_targets, state_asks, chosen, WalksTo, written_on, asked_on, IsPreferred, ReachesTwice}
+use Rattle.rx_nfa.specs.Walks.{epsilon_targets, state_asks, chosen, WalksTo, written_on, asked_on, IsPreferred, ReachesTwice}
 use Rattle.rx_onepass_table.proofs.lemmas.WalkLemmas.{walks-on, Moves, Stays, moves-or-stays, moving-accepts_nothing}
 
 -- before what a run writes, these slots at the place

@@ -9,7 +9,7 @@ use Rattle.rx_nfa.specs.Automaton.{state_at, state_accepts}
 use Rattle.rx_nfa.specs.Ordered.{is_resting, epsilon_successors, target}
 use Rattle.rx_nfa.specs.declared.state.State.{State}
 use Rattle.rx_nfa.specs.declared.state.State.TheVariants.{ByteRange, Sparse, Look, Union, Capture, Fail, Match}
-use Rattle.rx_onepass_table.specs.Walks.{epsilon_targets, state_asks, chosen, WalksTo, IsPreferred}
+use Rattle.rx_nfa.specs.Walks.{epsilon_targets, state_asks, chosen, WalksTo, IsPreferred}
 
 -- one choice more
 pub walks-on : (states : List State) (q : ℕ) (ks : List ℕ) (r k : ℕ) → WalksTo states q ks r → k < length (epsilon_targets (state_at states r))

@@ -3,14 +3,13 @@ use Rattle.std.proofs.Common.{◌≡◌, ℕ, zero, suc, ◌+◌, ◌-◌, ◌<�
 use Rattle.std.specs.Prelude.{All, Some, None, slice_set}
 use Rattle.std.proofs.lemmas.Bool.{cases_lt}
 use Rattle.std.proofs.lemmas.List.{length-append, length_push, get_or_append_left, get_or-append_right}
-use Rattle.std.proofs.lemmas.List.Elements.{All-append, All-cons, All-nil, All-set}
+use Rattle.std.proofs.lemmas.List.Elements.{All-push, All-set}
 use Rattle.std.proofs.lemmas.Option.{same_Some}
 use Rattle.std.proofs.Math.ListN.{length-set}
 use Rattle.rx_model.proofs.lemmas.runs.FirstLemmas.{none-is-some}
 use Rattle.rx_search.specs.Limits.{id_limit}
 use Rattle.rx_nfa.specs.Automaton.{state_at, state_accepts, AcceptsOnce, NamesBelow, IsWithin}
 use Rattle.rx_nfa.specs.Draft.{Draft, AreInRange, pushed, patched}
-use Rattle.rx_nfa.specs.Prefixes.{IsBranch}
 use Rattle.rx_nfa.specs.Row.{AddsReaders, HasSortedTransitions, reading}
 use Rattle.rx_nfa.specs.Slots.{WritesOwnSlots}
 use Rattle.rx_nfa.specs.declared.state.Transition.{Transition}
@@ -49,16 +48,6 @@ reader-silent (Union alternates) ts is = refl
 reader-silent (Capture next pattern slot) ts is = refl
 reader-silent Fail ts is = refl
 reader-silent (Match pattern) ts is = absurd (no_transitions ts is)
-
--- nor does one of a tree
-pub branch-silent : (IsOne : ℕ → Type 0) (s : State) → IsBranch IsOne s → state_accepts s ≡ None
-branch-silent IsOne (ByteRange low high next) b = refl
-branch-silent IsOne (Sparse transitions) b = refl
-branch-silent IsOne (Look look next) b = refl
-branch-silent IsOne (Union alternates) b = refl
-branch-silent IsOne (Capture next pattern slot) b = refl
-branch-silent IsOne Fail b = refl
-branch-silent IsOne (Match pattern) b = absurd b
 
 -- states that only read bytes were added
 pub readers-silent : (old new : List State) → AddsReaders old new → AcceptsNoMore old new
@@ -147,15 +136,12 @@ module _ (states : List State) (accepted pattern : ℕ) (new : accepted ≤ patt
 -- what is in range stays so with a state more, or another, that accepts nothing
 module _ (d : Draft) (s : State) (within : IsWithin (length d.groups) d.slots s) (own : WritesOwnSlots d.groups s) (sorted : HasSortedTransitions s)
     (silent : state_accepts s ≡ None) (names : NamesBelow (length d.states) s) (r : AreInRange d) where
-  one-all : (P : State → Type 0) → P s → All P d.states → All P (d.states ++ s ∷ [])
-  one-all P one all = All-append P d.states (s ∷ []) all (All-cons P s [] one (All-nil P))
-
   pub AreInRange-pushed : length d.states < id_limit → AreInRange (pushed d s)
   AreInRange-pushed room = record {
     names = AreClosed-push d.states s (NamesBelow-more (length d.states) (length d.states + 1) s (omega arith) names) r.names;
-    within = one-all (IsWithin (length d.groups) d.slots) within r.within;
-    own = one-all (WritesOwnSlots d.groups) own r.own;
-    sorted = one-all HasSortedTransitions sorted r.sorted;
+    within = All-push (IsWithin (length d.groups) d.slots) d.states s r.within within;
+    own = All-push (WritesOwnSlots d.groups) d.states s r.own own;
+    sorted = All-push HasSortedTransitions d.states s r.sorted sorted;
     few = (let long = length_push d.states s in omega arith);
     below = below-kept d.accepted d.states (d.states ++ s ∷ []) (pushed-silent d.states s silent) r.below;
     once = once-kept d.states (d.states ++ s ∷ []) (pushed-silent d.states s silent) r.once;

@@ -5,7 +5,7 @@ use Rattle.std.proofs.lemmas.Result.{err_from_is_err_and}
 use Rattle.rx_onepass_build.specs.Build.{AreStarts}
 use Rattle.rx_onepass_build.specs.Stop.{error_of}
 use Rattle.rx_onepass_build.proofs.lemmas.BuildLemmas.{table-for, starts-stay, starts-inside}
-use Rattle.rx_onepass_build.proofs.lemmas.EntryLemmas.{met-inside, no-table}
+use Rattle.rx_onepass_build.proofs.lemmas.EntryLemmas.{met-inside, no-table, numbered-distinct}
 use Rattle.rx_onepass_build.proofs.lemmas.RowsLemmas.{rows-lead}
 use Rattle.rx_onepass_build.proofs.builder.make_table.Goals as goal
 
@@ -34,6 +34,7 @@ returns-clause-built c =
     c.push_starts.new.starts.items c.in_ok-fill.ensures.of.stays c.in_ok-push_starts.ensures.starts in
     table-for c.args.job.now c.requires.job.in_range.sorted c.fill.new.entries.items.items c.push_starts.new.starts.items c.fill.new.rows.steps.items
     c.fill.new.rows.finals.items c.in_ok-fill.ensures.filled c.in_ok-fill.ensures.all first c.args.layout _ c.in_ok-fill.ensures.are
+    (numbered-distinct c.fill.new.entries.items.items c.fill.new.entries.numbers.items c.in_ok-fill.ensures.met.numbered)
     (c.in_ok-finish.ensures c.fill.new.entries.items.items (sym c.in_ok-fill.ensures.all)
     (met-inside c.fill.new.entries (length c.args.job.now.nfa.now.states) c.in_ok-fill.ensures.met
     (c.in_ok-fill.ensures.of.states ∙ c.in_ok-push_starts.ensures.of.states ∙ c.in_ok-entries.ensures.states ∙ c.states_len-states.ensures.value))

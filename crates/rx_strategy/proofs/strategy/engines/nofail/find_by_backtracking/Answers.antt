@@ -3,7 +3,7 @@ use Rattle.std.specs.Prelude.{is_some}
 use Rattle.rx_search.specs.Matches.{match_value}
 use Rattle.rx_nfa.specs.NextMatch.{next_match_in}
 use Rattle.rx_strategy.proofs.AnswerLemmas.{is_some-map, next-is_match}
-use Rattle.rx_strategy.proofs.strategy.engines.find_by_backtracking.Goals as goal
+use Rattle.rx_strategy.proofs.strategy.engines.nofail.find_by_backtracking.Goals as goal
 
 pub returns-clause-answer : goal.returns-clause-answer
 returns-clause-answer c begins =

@@ -1,6 +1,0 @@
-use denote.Param.Send.{sendable}
-use Rattle.rx_meta.proofs.ThreadLemmas.{regex_sync}
-use Rattle.rx_regex_rows.proofs.pool.two_threads_search_with_one_regex.Goals as goal
-
-pub join-one-requires-send-F : goal.join-one-requires-send-F
-join-one-requires-send-F c κs = search (sendable, regex_sync)
