@@ -136,7 +136,7 @@ impl Table {
         ensures alive { IsTrue result → row ≡ dead → ⊥ }
         ensures looks { IsTrue result → (final_in self.now row).looks ≡ 0 }
     {
-        row > 0 && self.pattern_epsilons(row).epsilons().looks == 0
+        self.pattern_epsilons(row).epsilons().looks == 0 && row > 0
     }
 
     /// Whether a row may tell a match: one for which it is false tells none.

@@ -65,15 +65,6 @@ impl Transition {
         self.word < TARGET_UNIT
     }
 
-    /// Whether nothing is told on the way: no slot is written, and no look-around is asked for.
-    #[inline(always)]
-    pub fn is_plain(self) -> bool
-        ensures slots { IsTrue result → self.slots ≡ 0 }
-        ensures looks { IsTrue result → self.looks ≡ 0 }
-    {
-        self.word % WINS_UNIT == 0
-    }
-
     /// Whether it leads to this row, and tells nothing else.
     #[inline(always)]
     pub fn stays_in(self, row: usize) -> bool

@@ -180,9 +180,6 @@ impl Table {
         if step.is_dead() {
             return None;
         }
-        if step.is_plain() {
-            return Some(step.target());
-        }
         if !pass(nfa, step, text, at, left, places, out) {
             return None;
         }

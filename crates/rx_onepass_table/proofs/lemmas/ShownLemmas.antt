@@ -1,9 +1,8 @@
 -- Slots that are put late: what is shown stays what a search keeps.
-use Rattle.std.proofs.Common.{◌≡◌, ℕ, zero, suc, ◌+◌, ◌-◌, ◌/◌, ◌<◌, ◌≤◌, ◌==◌, List, [], ◌∷◌, length, refl, sym, ◌∙◌, ap, arith}
+use Rattle.std.proofs.Common.{◌≡◌, ℕ, zero, suc, ◌+◌, ◌<◌, ◌==◌, List, [], ◌∷◌, length, refl, sym, ◌∙◌, ap, arith}
 use Rattle.std.specs.Prelude.{Bool, true, false, not, ◌&&◌, Option, Some, None, IfSome, if◌then◌else◌, slice_index_or}
 use Rattle.std.specs.Int.{bit_at}
 use Rattle.std.proofs.lemmas.Bool.Decides.{nat_tests}
-use Rattle.std.proofs.lemmas.Nat.Bits.{bit_at-suc, bit_at-zero}
 use Rattle.rx_model.proofs.lemmas.runs.RunLemmas.{by_test}
 use Rattle.rx_model.specs.Runs.{Trace}
 use Rattle.rx_search.specs.Matches.{HalfMatchValue}
@@ -94,26 +93,3 @@ alive-goes nfa text s place b live holds = ap (λ c. c && all_hold nfa.terminato
 -- one that tells nothing
 pub plain-goes : (nfa : Nfa) (text : List ℕ) (s : Step) (place : ℕ) → (s.target ≡ dead → ⊥) → s.looks ≡ 0 → goes_on nfa text s place ≡ true
 plain-goes nfa text s place live none = alive-goes nfa text s place true live (sym (none-asked nfa.terminator text s.looks place none))
-
-pub plain-writes : (set place : ℕ) (places : List (Option ℕ)) → set ≡ 0 → (k : ℕ) → k < length places
-    → slice_index_or places k None ≡ (if bit_at set k == 1 then Some place else slice_index_or places k None)
-plain-writes set place places none k lt =
-    let bit : bit_at set k ≡ 0 = ap (λ s. bit_at s k) none ∙ bit_at-zero k in
-    sym (ap (λ b. if b == 1 then Some place else slice_index_or places k None) bit)
-
--- Members one after another.
-
--- the members that are left, behind the first
-pub bits-next : (set left k : ℕ) → ((j : ℕ) → bit_at left j ≡ bit_at set (k + j)) → (j : ℕ) → bit_at (left / 2) j ≡ bit_at set (k + 1 + j)
-bits-next set left k are j =
-    let same : k + suc j ≡ k + 1 + j = omega arith in
-    sym (bit_at-suc left j) ∙ are (suc j) ∙ ap (bit_at set) same
-
-pub bits-here : (set left k : ℕ) → ((j : ℕ) → bit_at left j ≡ bit_at set (k + j)) → bit_at left 0 ≡ bit_at set k
-bits-here set left k are = let same : k + 0 ≡ k = omega arith in are 0 ∙ ap (bit_at set) same
-
--- where none is left, none stands from here on
-pub bits-none : (set left k i : ℕ) → ((j : ℕ) → bit_at left j ≡ bit_at set (k + j)) → left ≡ 0 → k ≤ i → bit_at set i ≡ 0
-bits-none set left k i are none le =
-    let same : k + (i - k) ≡ i = omega arith in
-    ap (bit_at set) (sym same) ∙ sym (are (i - k)) ∙ ap (λ n. bit_at n (i - k)) none ∙ bit_at-zero (i - k)

@@ -1,4 +1,4 @@
-use Rattle.std.proofs.Common.{◌+◌, ◌*◌, ◌∙◌, sym, ap, ap₂, arith}
+use Rattle.std.proofs.Common.{◌+◌, ◌*◌, ◌∙◌, sym, ap₂}
 use Rattle.rx_onepass.proofs.lemmas.SizeLemmas.{accounted-within}
 use Rattle.rx_onepass.proofs.dfa.DFA.memory_usage.Goals as goal
 

@@ -1,4 +1,4 @@
-use Rattle.std.proofs.Common.{ap, subst, arith}
+use Rattle.std.proofs.Common.{subst, arith}
 use Rattle.rx_onepass_table.specs.Rows.{IsWhole}
 use Rattle.rx_onepass.specs.Dfa.{Dfa, IsSound}
 use Rattle.rx_onepass.proofs.dfa.DFA.state_len.Goals as goal

@@ -1,11 +1,11 @@
-use Rattle.std.proofs.Common.{◌+◌, ◌==◌, refl, sym, ◌∙◌, ap, subst, if◌then◌else◌, true≢false}
+use Rattle.std.proofs.Common.{◌+◌, ◌==◌, sym, ◌∙◌, ap, subst, if◌then◌else◌, true≢false}
 use Rattle.std.specs.Prelude.{Some, None, slice_index_or}
 use Rattle.std.specs.Int.{bit_at}
 use Rattle.rx_onepass_table.specs.Along.{goes_on}
 use Rattle.rx_onepass_table.specs.Search.{IsAnswer, IsSearching, shown, stops}
 use Rattle.rx_onepass_table.specs.Words.{Step}
 use Rattle.rx_onepass_table.proofs.lemmas.SearchLemmas.{searching-stops, searching-dies, searching-on}
-use Rattle.rx_onepass_table.proofs.lemmas.ShownLemmas.{shown-length, searching-same, dead-stops, alive-goes, plain-goes, plain-writes}
+use Rattle.rx_onepass_table.proofs.lemmas.ShownLemmas.{shown-length, searching-same, dead-stops, alive-goes}
 use Rattle.rx_onepass_table.proofs.table.Table.visit.Goals as goal
 
 pub returns-then-stops-clause-over : goal.returns-then-stops-clause-over
@@ -45,30 +45,10 @@ returns-then-not-pass-clause-over c =
     (λ e. true≢false (sym (c.is_dead.ensures.1 e) ∙ c.if-is_dead.false)) c.pass.ensures.passed.looks
     ∙ c.if-not-pass.true))
 
-pub returns-then-is_plain-clause-on : goal.returns-then-is_plain-clause-on
-returns-then-is_plain-clause-on c =
-    let wins = c.match_wins.ensures ∙ ap (λ (s : Step). s.wins) c.requires.step in
-    let target = c.target.ensures ∙ ap (λ (s : Step). s.target) c.requires.step in
-    let slots = ap (λ (s : Step). s.slots) (sym c.requires.step) ∙ c.is_plain.ensures.slots c.if-is_plain.true in
-    let before = shown c.args.left.now c.args.places.now c.args.out.now in
-    let after = shown c.tell-told.new.left c.args.places.now c.args.out.now in
-    λ told n s.
-    subst
-    (λ r. IsSearching c.args.nfa.now c.args.self.now c.args.may_win c.args.text.now told n (c.args.at + 1) r c.args.places.now c.tell-told.new.best after)
-    (sym target)
-    (searching-on c.args.nfa.now c.args.self.now c.args.may_win c.args.text.now told c.args.places.now c.args.best.now c.tell-told.new.best
-    before after (shown-length c.tell-told.new.left c.args.places.now c.args.out.now c.requires.room ∙ sym c.requires.room) c.args.at c.args.row
-    (c.tell-told.ensures.telling c.args.places.now c.args.out.now) n s c.args.earliest
-    ((λ k. stops (sym c.tell-told.ensures.value k) c.args.earliest c.args.may_win (sym wins k)) ∙ sym c.stops.ensures ∙ c.if-stops.false)
-    (ap (λ (s : Step). goes_on c.args.nfa.now c.args.text.now s c.args.at) (sym c.requires.step)
-    ∙ plain-goes c.args.nfa.now c.args.text.now c.args.step c.args.at (λ e. true≢false (sym (c.is_dead.ensures.1 e) ∙ c.if-is_dead.false))
-    (c.is_plain.ensures.looks c.if-is_plain.true))
-    c.args.places.now refl (plain-writes _ c.args.at c.args.places.now slots))
-
 pub returns-clause-on : goal.returns-clause-on
 returns-clause-on c =
     let wins = c.match_wins.ensures ∙ ap (λ (s : Step). s.wins) c.requires.step in
-    let target = c.target-2.ensures ∙ ap (λ (s : Step). s.target) c.requires.step in
+    let target = c.target.ensures ∙ ap (λ (s : Step). s.target) c.requires.step in
     let slots = ap (λ (s : Step). s.slots) c.requires.step in
     let before = shown c.args.left.now c.args.places.now c.args.out.now in
     let after = shown c.tell-told.new.left c.args.places.now c.args.out.now in
