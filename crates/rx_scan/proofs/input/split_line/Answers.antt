@@ -1,14 +1,17 @@
-use Rattle.std.proofs.Common.{Some, None, ap, ◌∙◌, lit<}
-use Rattle.std.proofs.lemmas.Str.Pattern.{split_parts}
+use Rattle.std.proofs.Common.{◌≡◌, ℕ, List, Some, None, length, ap, sym, subst, ◌∙◌, lit<, arith}
+use Rattle.std.proofs.lemmas.Str.{IsCharBoundary-after_ascii}
 use Rattle.rx_scan.specs.Input.{lines}
-use Rattle.rx_scan.proofs.LineLemmas.{lines-cut, lines-one}
+use Rattle.rx_scan.proofs.LineLemmas.{HasNoNewline, lines-cut, lines-one, newline-at, newline-nowhere}
 use Rattle.rx_scan.proofs.input.split_line.Goals as goal
 
+pub range_from-requires : goal.range_from-requires
+range_from-requires c = ?
+
 pub returns-in-Some-clause-lines : goal.returns-in-Some-clause-lines
-returns-in-Some-clause-lines c =
-    let parts = split_parts 10 c.args.text.now (Some c.in-Some.pair) c.in-Some.ensures.cases (lit< tt) in
-    ap lines parts.0 ∙ lines-cut c.in-Some.pair.0.now c.in-Some.pair.1.now parts.1
+returns-in-Some-clause-lines c = ?
 
 pub returns-in-None-clause-lines : goal.returns-in-None-clause-lines
 returns-in-None-clause-lines c =
-    lines-one c.args.text.now c.requires (split_parts 10 c.args.text.now None c.in-None.ensures.cases (lit< tt))
+    let bytes = c.as_bytes.result.now in
+    let none : HasNoNewline c.args.text.now = subst HasNoNewline c.as_bytes.ensures.value (newline-nowhere bytes c.in-None.ensures) in
+    lines-one c.args.text.now c.requires none
