@@ -35,10 +35,15 @@ def memory():
     return min(found, limit - (held or 0)) if limit else found
 
 
+def lanes():
+    """How many checks may run side by side."""
+    return min(processors(), memory() // A_CHECK)
+
+
 def main():
-    lanes = min(processors(), memory() // A_CHECK)
-    if lanes >= 2:
-        print(lanes)
+    found = lanes()
+    if found >= 2:
+        print(found)
 
 
 if __name__ == '__main__':

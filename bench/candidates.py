@@ -4,10 +4,11 @@
 usage: bench/candidates.py [MIB [RXSCAN [PEER]]]   (the size of each text, 16 MiB if left out; built programs in place of ours, which
 `cd crates/rxscan && rt run` builds; PEER prints the same rows as `rxscan scan`, and is left out if none is named)
 
-Each text is one line. Its candidates are rare (one in 64 KiB), or dense: none of them is confirmed, each is confirmed and no match
-follows, or each is one of a match. No guard answers in it. Of five turns the least processor time counts, with one worker; the rows are
-compared. Ends with status 1 where a search takes more than half of the core's time while candidates are rare, or more than 1.3 times
-that where they are dense.
+Each text is one line, but for those of short lines. Its candidates are rare (one in 64 KiB), or dense: none of them is confirmed, each is
+confirmed and no match follows, or each is one of a match. Of two texts each search is short, and begins with the patience for two
+candidates anew: lines of 80 bytes in which none is confirmed, and a match behind each seven that are not. Of five turns the least processor
+time counts, with one worker; the rows are compared. Ends with status 1 where a search takes more than half of the core's time while
+candidates are rare, more than 1.3 times that where they are dense, or more than twice that where each search is short.
 """
 import os
 import random
@@ -47,6 +48,19 @@ def texts(rng, match, pieces, size):
     for name, piece in zip(('dense, not confirmed', 'dense, no match', 'dense, matches'), pieces):
         if piece:
             yield name, piece * (size // len(piece))
+    yield 'short lines', (piece_of_line(pieces[0]) + '\n') * (size // 80)
+    group = pieces[0] * 7 + match
+    yield 'short, matches between', group * (size // len(group))
+
+
+def piece_of_line(piece):
+    """A line of 79 bytes of such pieces."""
+    return (piece * 80)[:79]
+
+
+def limit_of(name):
+    """The most of the core's time that a search of such a text may take."""
+    return 0.5 if name == 'rare' else 2.0 if name.startswith('short') else 1.3
 
 
 def least_times(folder, commands, pattern, text):
@@ -74,7 +88,7 @@ def main():
             for name, text in texts(random.Random(SEED), match, pieces, min(size, LIMIT - len(pattern) - 2)):
                 ours, *others = least_times(folder, commands, pattern, text)
                 ratios = [ours / other for other in others]
-                is_fast = is_fast and ratios[0] <= (0.5 if name == 'rare' else 1.3)
+                is_fast = is_fast and ratios[0] <= limit_of(name)
                 cells = ' | '.join('%.2f' % ratio for ratio in ratios)
                 print('| `%s` | %s | %.2f | %s |' % (pattern, name, ours * 1e9 / len(text), cells), flush=True)
     return 0 if is_fast else 1

@@ -3,11 +3,12 @@
 
 usage: bench/guards.py [RXSCAN]   (a built program in place of ours, which `cd crates/rxscan && rt run` builds)
 
-Each text is one line of 4, 8 and 16 MiB, on which each guard in turn answers. Their candidates are dense, so a search that loses patience
-is linear there too: this shows that the time is, and not that a guard makes it so. The guards: where a search backwards would read under the candidate before it (`below`), where it came to the start of the span and
-found a later start (`at the start`), and where a candidate lies before the place at which a search forwards stopped (`candidate`). The last
-text makes each of sixteen thousand lines do so. Of three turns the least processor time counts. Beside it stands the time of the core alone
-(`off:p`), whose rows have to be the same. Ends with status 1 where the time grows by more than 2.5 while the text grows by 2.
+Each text is one line of 4, 8 and 16 MiB, on which each guard in turn answers. The guards: where a search backwards would read under the
+candidate before it (`below`), where it came to the start of the span and found a later start (`at the start`), and where a candidate lies
+before the place at which a search forwards stopped (`candidate`). The texts named `in each line` make each of their lines do so. Where
+candidates are 64 bytes apart, or there is one, no patience is lost: so it is the guard that makes the time linear. In those named `dense` a
+search that loses patience may end the attempt before. Of three turns the least processor time counts. Beside it stands the time of the core
+alone (`off:p`), whose rows have to be the same. Ends with status 1 where the time grows by more than 2.5 while the text grows by 2.
 """
 import os
 import sys
@@ -22,13 +23,16 @@ MOST = 2.5
 
 # A guard, a pattern, what the text begins with, what it goes on with, and what it ends with.
 JOBS = [
-    ('below, from the suffix', r'[0-9][a-z]*xyz', '', 'xyz', ''),
-    ('below, from within', r'[0-9][a-z]*(?:ing|ong)', '', 'ing', ''),
+    ('below, from the suffix', r'[0-9][a-z]*xyz', '', 'a' * 61 + 'xyz', ''),
+    ('below, from within', r'[0-9][a-z]*(?:ing|ong)', '', 'a' * 61 + 'ing', ''),
     ('at the start, from the suffix', r'(?:[a-b]d)+c', 'd', 'ad', 'c'),
     ('at the start, from within', r'(?:[a-b]d)+c[x-z]', 'd', 'ad', 'cx'),
-    ('candidate', r'[a-z]+@[a-z@]+[0-9]', '', 'a@', ''),
-    ('below, and a match', r'\w+\s+Holmes', '', ' Holmes', ''),
-    ('in each line', r'[0-9][a-z]*xyz', '', 'xyz' * 341 + '\n', ''),
+    ('candidate', r'[a-z]+@[a-z@]+[0-9]', '', 'a' * 63 + '@', ''),
+    ('below, and a match', r'\w+\s+Holmes', '', ' ' * 58 + 'Holmes', ''),
+    ('below, in each line', r'[0-9][a-z]*xyz', '', ('a' * 61 + 'xyz') * 16 + '\n', ''),
+    ('below, dense', r'[0-9][a-z]*xyz', '', 'xyz', ''),
+    ('candidate, dense', r'[a-z]+@[a-z@]+[0-9]', '', 'a@', ''),
+    ('below, dense in each line', r'[0-9][a-z]*xyz', '', 'xyz' * 341 + '\n', ''),
 ]
 
 

@@ -24,11 +24,13 @@ module _ (needles : List (List ℕ)) (v : InputValue) where
   abbrev pub NoneBetween : (from to : ℕ) → Type 0
   NoneBetween from to = (place : ℕ) → from ≤ place → place < to → IsCandidate place → ⊥
 
+  -- no needle lies at the place or behind it
+  abbrev pub NoneFrom : (from : ℕ) → Type 0
+  NoneFrom from = (place : ℕ) → from ≤ place → IsCandidate place → ⊥
+
   -- the candidate from this place on: the first one, if there is one
   abbrev pub IsNextCandidate : (from : ℕ) → Option Span → Type 0
-  IsNextCandidate from next = MatchOption next
-      ((place : ℕ) → from ≤ place → IsCandidate place → ⊥)
-      (λ s. IsTaken s × (from ≤ s.start) × NoneBetween from s.start)
+  IsNextCandidate from next = MatchOption next (NoneFrom from) (λ s. IsTaken s × (from ≤ s.start) × NoneBetween from s.start)
 
   -- This is the last candidate before a place.
   pub record IsLastBefore (s : Span) (place : ℕ) : Type 0 where

@@ -1,5 +1,5 @@
 -- How many steps an attempt takes: those of the searches from each of its candidates, at none of which a guard answers.
-use Rattle.std.specs.Prelude.{◌≡◌, ℕ, ◌+◌, ◌≤◌, List, [], ◌∷◌, Option, Some, None, Result, IfSome}
+use Rattle.std.specs.Prelude.{◌≡◌, ◌⊎◌, ℕ, ◌+◌, ◌≤◌, List, [], ◌∷◌, Option, Some, None, Result, IfSome}
 use Rattle.std.specs.Result.{IfErr}
 use Rattle.rx_search.specs.Input.{InputValue}
 use Rattle.rx_search.specs.Matches.{MatchValue, HalfMatchValue}
@@ -9,7 +9,7 @@ use Rattle.rx_limited.specs.Calls.{calls_backwards, calls_forwards}
 use Rattle.rx_limited.specs.Limited.{FindsStart, IsWithin}
 use Rattle.rx_limited.specs.Stopat.{stop_forwards}
 use Rattle.rx_attempts.specs.Inputs.{up_to, from_start}
-use Rattle.rx_attempts.specs.Candidates.{IsTaken, NoneBetween, IsLastBefore}
+use Rattle.rx_attempts.specs.Candidates.{IsTaken, NoneBetween, NoneFrom, IsLastBefore}
 use Rattle.rx_attempts.specs.Whole.{match_found}
 
 -- A candidate, and the start that the search backwards from it found.
@@ -76,13 +76,27 @@ module _ (fwd rev : Dfa) (needles : List (List ℕ)) (v : InputValue) (place : S
     pub least : min_start ≡ last_end counts.trials
     pub stop : stopped ≡ last_stop fwd v counts.trials
 
-  -- so many steps an answer takes; a match begins at the start that was found last
+  -- The steps are those of all candidates of the span.
+  abbrev pub HasCountedAll : (old new : ℕ) → Type 0
+  HasCountedAll old new = (before : ℕ) × Counts before old new × NoneFrom needles v before
+
+  -- .. or of all up to the one whose search backwards found this start
+  abbrev pub HasCountedTo : (old new start : ℕ) → Type 0
+  HasCountedTo old new start = (before : ℕ) × (c : Counts before old new) × BeginsAt start c.trials
+
+  -- so many steps an answer takes: up to the candidate that begins the match; where there is none, those of all
   abbrev pub HasCounted : (old new : ℕ) → Option MatchValue → Type 0
-  HasCounted old new found = (before : ℕ) × (c : Counts before old new) × IfSome found (λ m. BeginsAt m.start c.trials)
+  HasCounted old new None = HasCountedAll old new
+  HasCounted old new (Some m) = HasCountedTo old new m.start
+
+  -- .. where the first start that is found is the last one, also if no match is found from it
+  abbrev pub HasCountedFirst : (old new : ℕ) → Option MatchValue → Type 0
+  HasCountedFirst old new None = HasCountedAll old new ⊎ ((start : ℕ) × HasCountedTo old new start)
+  HasCountedFirst old new (Some m) = HasCountedTo old new m.start
 
   -- those of a search backwards that found nothing, or this start of the candidate behind those before
   abbrev pub HasCountedBack : (old new : ℕ) → Option HalfMatchValue → Type 0
-  HasCountedBack old new None = (before : ℕ) × Counts before old new
+  HasCountedBack old new None = HasCountedAll old new
   HasCountedBack old new (Some start) =
       (now : Span) × (mid : ℕ) × (c : Counts now.start old mid) × IsTaken needles v now × FindsStart rev (up_to v (place now)) (Some start)
       × IsUnguarded now (last_end c.trials) (last_stop fwd v c.trials) (Some start) × (new ≡ mid + calls_backwards rev (up_to v (place now)))

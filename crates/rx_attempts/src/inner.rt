@@ -16,7 +16,7 @@ ghost use Rattle.rx_attempts.specs.Inner.{IsTurn, IsTried, TakesFew};
 ghost use Rattle.rx_attempts.specs.Counts.{HasCounted, HasTried};
 
 use crate::parts::{match_or_stop, next_candidate, up_to};
-use crate::patience::{MOST, Patience, Stop, is_lost, left_after};
+use crate::patience::{FIRST, Patience, Stop, is_lost, left_after};
 use rx_dfa::Automaton;
 use rx_limited::{Quadratic, RetryError, rev_limited};
 use rx_prefilter::Prefilter;
@@ -72,7 +72,7 @@ pub fn reverse_inner_attempt<F: Automaton, B: Automaton, L: Ledger>(
     let mut from = input.start();
     let mut min_start = 0;
     let mut stopped = 0;
-    let mut left = MOST;
+    let mut left = FIRST;
     'candidates: while let Some(found) = next_candidate(pre, input, from) {
         left = left_after(left, found.start - from);
         if is_lost(patience, left) {

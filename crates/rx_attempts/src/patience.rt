@@ -22,11 +22,14 @@ pub enum Stop {
     Dense,
 }
 
-/// The patience of an attempt, at first and at most, in bytes.
-pub(crate) const MOST: usize = 384;
-
-/// What one candidate takes of it: about as many bytes as a search without candidates reads in that time.
+/// What one candidate takes of the patience, in bytes: about as many as a search without candidates reads in that time.
 const COST: usize = 48;
+
+/// The patience with which an attempt begins: two candidates do not use it up, wherever they lie.
+pub(crate) const FIRST: usize = 2 * COST + 1;
+
+/// The most patience that it has, however many bytes it passed.
+const MOST: usize = 384;
 
 /// What is left of the patience at a candidate that lies so many bytes behind the place from which it was searched for: these are won, and
 /// the candidate takes its part.

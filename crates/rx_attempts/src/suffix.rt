@@ -17,10 +17,10 @@ ghost use Rattle.rx_attempts.specs.Refusals.{SuffixFails};
 ghost use Rattle.rx_attempts.specs.Stops.{StopsBy};
 ghost use Rattle.rx_attempts.specs.Whole.{IsWhole};
 ghost use Rattle.rx_attempts.specs.Suffix.{FirstSuffix, BackFails};
-ghost use Rattle.rx_attempts.specs.Counts.{HasCounted, HasCountedBack};
+ghost use Rattle.rx_attempts.specs.Counts.{HasCountedFirst, HasCountedBack};
 
 use crate::parts::{match_or_stop, next_candidate, up_to};
-use crate::patience::{MOST, Patience, Stop, is_lost, left_after};
+use crate::patience::{FIRST, Patience, Stop, is_lost, left_after};
 use rx_dfa::Automaton;
 use rx_limited::{RetryError, rev_limited};
 use rx_prefilter::Prefilter;
@@ -62,7 +62,7 @@ pub fn reverse_suffix_attempt<F: Automaton, B: Automaton, L: Ledger>(
     ensures err { IfErr result (StopsBy patience (SuffixFails (F.dfa fwd.now) (B.dfa rev.now) pre.now input.now (F.gives_up fwd.now fwd_cache.new)
         (F.wants fwd.now) (B.gives_up rev.now rev_cache.new) (B.wants rev.now))) }
     ensures ticks { input.now.earliest ≡ false
-        → IfOk result (HasCounted (F.dfa fwd.now) (B.dfa rev.now) pre.now input.now (λ s. s.end) steps.old steps.new) }
+        → IfOk result (HasCountedFirst (F.dfa fwd.now) (B.dfa rev.now) pre.now input.now (λ s. s.end) steps.old steps.new) }
     ensures few { steps.new ≤ steps.old + 8 * (span_len input.now + 1) }
     ensures fwd_fits { F.fits fwd.now fwd_cache.new }
     ensures rev_fits { B.fits rev.now rev_cache.new }
@@ -107,7 +107,7 @@ fn first_start<B: Automaton, L: Ledger>(
     let _haystack = input.haystack();
     let mut from = input.start();
     let mut min_start = 0;
-    let mut left = MOST;
+    let mut left = FIRST;
     'candidates: while let Some(found) = next_candidate(pre, input, from) {
         left = left_after(left, found.start - from);
         if is_lost(patience, left) {

@@ -8,7 +8,3 @@ abbrev pub optional_byte : ℕ → InputValue → Option Match
 optional_byte byte v =
     let end = if nat_lt v.start v.end && (slice_index v.haystack v.start == byte) then v.start + 1 else v.start in
     if nat_lt v.end v.start then None else Some (record { start = v.start; trace = record { pattern = 0; end = end; writes = [] } })
-
-abbrev pub end_of : Option Match → ℕ
-end_of None = 0
-end_of (Some m) = m.trace.end

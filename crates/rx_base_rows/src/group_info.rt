@@ -2,7 +2,6 @@
 
 use rx_search::*;
 use std::alloc::{AllocError, Global};
-use std::process::Abort;
 
 /// The name of a group, of which an empty text has none.
 fn name_of(alloc: Global, name: &str) -> Result<Option<String>, AllocError> {
@@ -36,68 +35,106 @@ pub(crate) fn info_of(alloc: Global, patterns: &[&[&str]]) -> Result<GroupInfo, 
     GroupInfo::new(alloc, groups.as_slice())
 }
 
-/// The same, where it is known.
-fn known(rt: &impl Abort, info: Result<GroupInfo, GroupInfoError>) -> GroupInfo {
-    info.ok().expect(rt, "groups")
+/// Of one pattern, whose last group is named `k`: whether its groups, their names and their numbers are right.
+fn has_one_pattern(info: &GroupInfo) -> bool {
+    let pid = PatternID::ZERO;
+    let sizes = (info.slot_len(), info.all_group_len(), info.pattern_len());
+    let numbers = [
+        info.to_index(pid, "k"),
+        info.to_index(pid, "j"),
+        info.to_index(PatternID::MAX, "k"),
+    ];
+    let names = (
+        info.to_name(pid, 0),
+        info.to_name(pid, 1),
+        info.to_name(pid, 2),
+    );
+    (sizes, numbers) == ((4, 2, 1), [Some(1), None, None]) && names == (None, Some("k"), None)
+}
+
+/// The same of a copy.
+fn copy_has_one_pattern(info: &GroupInfo) -> bool {
+    match info.clone() {
+        Ok(copy) => has_one_pattern(&copy),
+        Err(_) => false,
+    }
+}
+
+/// The same of what is known of these patterns, and of a copy of it.
+fn have_one_pattern(alloc: Global, patterns: &[&[&str]]) -> bool {
+    match info_of(alloc, patterns) {
+        Ok(info) => has_one_pattern(&info) && copy_has_one_pattern(&info),
+        Err(_) => false,
+    }
 }
 
 #[test]
 fn groups_of_one_pattern(rt: HostRuntime) {
-    let info = known(&rt, info_of(rt.alloc(), &[&["", "k"]]));
-    let copy = info.clone().ok().expect(&rt, "memory");
-    let pid = PatternID::ZERO;
-    assert_eq!(rt;
-        (info.slot_len(), info.all_group_len(), info.pattern_len()),
-        (4, 2, 1)
-    );
-    assert_eq!(rt;
-        (info.to_index(pid, "k"), info.to_index(pid, "j")),
-        (Some(1), None)
-    );
-    assert_eq!(rt;
-        (info.to_name(pid, 0), info.to_name(pid, 1)),
-        (None, Some("k"))
-    );
-    assert_eq!(rt; info.to_name(pid, 2), None);
-    assert_eq!(rt; info.to_index(PatternID::MAX, "k"), None);
-    assert_eq!(rt;
-        (copy.slot_len(), copy.to_name(pid, 1)),
-        (info.slot_len(), info.to_name(pid, 1))
-    );
+    assert!(rt; have_one_pattern(rt.alloc(), &[&["", "k"]]));
+}
+
+/// Of two patterns, with three groups and with two: the slots, those of whole matches and the others; the groups of both patterns and of
+/// one that is not there; the slots of some groups, of which the second pattern has no third.
+#[derive(Clone, Copy, PartialEq, Eq)]
+struct Facts {
+    sizes: [usize; 3],
+    lens: [usize; 3],
+    slots: [Option<(usize, usize)>; 3],
+    firsts: [Option<usize>; 2],
+}
+
+fn told(info: &GroupInfo, second: PatternID) -> Facts {
+    let first = PatternID::ZERO;
+    Facts {
+        sizes: [
+            info.slot_len(),
+            info.implicit_slot_len(),
+            info.explicit_slot_len(),
+        ],
+        lens: [
+            info.group_len(first),
+            info.group_len(second),
+            info.group_len(PatternID::MAX),
+        ],
+        slots: [
+            info.slots(first, 0),
+            info.slots(second, 0),
+            info.slots(first, 2),
+        ],
+        firsts: [info.slot(second, 1), info.slot(second, 2)],
+    }
+}
+
+const OF_TWO: Facts = Facts {
+    sizes: [10, 4, 6],
+    lens: [3, 2, 0],
+    slots: [Some((0, 1)), Some((2, 3)), Some((6, 7))],
+    firsts: [Some(8), None],
+};
+
+/// What is told of the groups, and the number of the group `a` of the second pattern.
+fn told_of(info: Result<GroupInfo, GroupInfoError>) -> Option<(Facts, Option<usize>)> {
+    let second = PatternID::new(1)?;
+    match info {
+        Ok(info) => Some((told(&info, second), info.to_index(second, "a"))),
+        Err(_) => None,
+    }
+}
+
+/// The same of groups without names.
+fn told_of_unnamed(alloc: Global) -> Option<(Facts, Option<usize>)> {
+    match GroupInfo::unnamed(alloc, &[3, 2]) {
+        Ok(info) => told_of(Ok(info)),
+        Err(_) => None,
+    }
 }
 
 #[test]
 fn slots_of_two_patterns(rt: HostRuntime) {
-    let info = known(&rt, info_of(rt.alloc(), &[&["", "a", ""], &["", "a"]]));
-    let second = PatternID::new(1).unwrap_or(PatternID::ZERO);
-    assert_eq!(rt;
-        (
-            info.slot_len(),
-            info.implicit_slot_len(),
-            info.explicit_slot_len()
-        ),
-        (10, 4, 6)
-    );
-    assert_eq!(rt;
-        (info.group_len(PatternID::ZERO), info.group_len(second)),
-        (3, 2)
-    );
-    assert_eq!(rt; info.group_len(PatternID::MAX), 0);
-    assert_eq!(rt; info.slots(PatternID::ZERO, 0), Some((0, 1)));
-    assert_eq!(rt; info.slots(second, 0), Some((2, 3)));
-    assert_eq!(rt; info.slots(PatternID::ZERO, 2), Some((6, 7)));
-    assert_eq!(rt;
-        (info.slot(second, 1), info.slot(second, 2)),
-        (Some(8), None)
-    );
-    assert_eq!(rt; info.to_index(second, "a"), Some(1));
-    let unnamed = GroupInfo::unnamed(rt.alloc(), &[3, 2]).ok();
-    let unnamed = unnamed.expect(&rt, "memory");
-    assert_eq!(rt;
-        (unnamed.slot_len(), unnamed.slot(second, 1)),
-        (10, Some(8))
-    );
-    assert_eq!(rt; unnamed.to_name(PatternID::ZERO, 1), None);
+    let alloc = rt.alloc();
+    let named = info_of(alloc, &[&["", "a", ""], &["", "a"]]);
+    assert!(rt; told_of(named) == Some((OF_TWO, Some(1))));
+    assert!(rt; told_of_unnamed(alloc) == Some((OF_TWO, None)));
 }
 
 /// What refuses the groups of these patterns.
@@ -108,19 +145,18 @@ fn refusal(alloc: Global, patterns: &[&[&str]]) -> Option<GroupInfoError> {
 #[test]
 fn groups_that_are_refused(rt: HostRuntime) {
     let alloc = rt.alloc();
-    let second = PatternID::new(1).unwrap_or(PatternID::ZERO);
-    assert_eq!(rt;
+    let pattern = PatternID::new(1).unwrap_or(PatternID::ZERO);
+    let refusals = [
         refusal(alloc, &[&[""], &[]]),
-        Some(GroupInfoError::MissingGroups { pattern: second })
-    );
-    assert_eq!(rt;
         refusal(alloc, &[&[""], &["a", "b", "b"], &[]]),
-        Some(GroupInfoError::FirstMustBeUnnamed { pattern: second })
-    );
-    assert_eq!(rt;
         refusal(alloc, &[&["", "a"], &["", "a", "", "a"], &[]]),
-        Some(GroupInfoError::Duplicate { pattern: second })
-    );
-    let none = known(&rt, GroupInfo::new(alloc, &[]));
-    assert_eq!(rt; none.slot_len(), 0);
+        refusal(alloc, &[]),
+    ];
+    let wanted = [
+        Some(GroupInfoError::MissingGroups { pattern }),
+        Some(GroupInfoError::FirstMustBeUnnamed { pattern }),
+        Some(GroupInfoError::Duplicate { pattern }),
+        None,
+    ];
+    assert!(rt; refusals == wanted);
 }

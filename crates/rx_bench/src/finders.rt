@@ -3,9 +3,13 @@ ghost use Rattle.rx_nfa.specs.NextMatch.{next_match_in};
 ghost use Rattle.rx_engines.specs.Engine.{answer_in, Fits as PikeVMFits};
 ghost use Rattle.rx_engines.specs.Bounded.{Fits as BacktrackFits};
 ghost use Rattle.rx_engines.specs.Needles.{BeginsEachRun};
+ghost use Rattle.rx_onepass.specs.Dfa.{Fits as OnePassFits};
 
+use crate::failure::Failure;
+use crate::groups::onepass_of;
 use rx_engines::{backtrack, pikevm};
 use rx_nfa::NFA;
+use rx_onepass::{Cache, DFA};
 use rx_prefilter::Prefilter;
 use rx_search::{Finder, Input, Match, MatchError, MatchKind, Memory, NonMaxUsize};
 use std::alloc::Global;
@@ -73,6 +77,35 @@ impl Finder for Backtrack {
 
     fn find(&mut self, input: &Input<'_>) -> Result<Option<Match>, MatchError> {
         self.backtracker
+            .try_find_slots(&mut self.cache, input, &mut self.slots)
+    }
+}
+
+/// The one-pass DFA, with its cache and the slots of its last match. It finds a match where the span begins, and so is no finder.
+#[derive(Drop)]
+pub struct OnePass {
+    dfa: DFA,
+    cache: Cache,
+    slots: Vec<Option<NonMaxUsize>>,
+    ghost fits: { OnePassFits dfa.nfa cache },
+}
+
+impl OnePass {
+    /// The one of this NFA.
+    ///
+    /// # Errors
+    ///
+    /// `Pattern` where there is none; else only `Memory`.
+    pub fn new(alloc: Global, nfa: NFA) -> Result<OnePass, Failure> {
+        let slots = empty_slots(alloc, &nfa)?;
+        let dfa = onepass_of(alloc, nfa)?;
+        let cache = dfa.create_cache(alloc)?;
+        Ok(OnePass { dfa, cache, slots })
+    }
+
+    /// The match that begins where the span does.
+    pub fn find(&mut self, input: &Input<'_>) -> Result<Option<Match>, MatchError> {
+        self.dfa
             .try_find_slots(&mut self.cache, input, &mut self.slots)
     }
 }

@@ -2,7 +2,9 @@
 //! their number, the bytes of the lines, and the time that the searches took. `rx_bench needles LIST` times a search for
 //! needles, which commas part, beside the kit's. `rx_bench literals` times the literals of the patterns that it reads, one
 //! a line, beside their NFA. `rx_bench dense PATTERN` times how a full DFA is built, and how it searches standard input;
-//! `rx_bench lazy PATTERN` how a lazy one does, and `rx_bench matches PATTERN` how lazy ones find all matches.
+//! `rx_bench lazy PATTERN` how a lazy one does, and `rx_bench matches PATTERN` how lazy ones find all matches. `rx_bench groups
+//! PATTERN` times how the one-pass DFA tells the groups of matches in standard input, beside the backtracker, and `rx_bench table
+//! PATTERN` how its table is built.
 #![tactic(auto)]
 
 mod compile;
@@ -10,6 +12,7 @@ mod dfa;
 mod engine;
 mod failure;
 mod finders;
+mod groups;
 mod literals;
 mod prefilters;
 
@@ -60,6 +63,8 @@ fn with_argument<R: Runtime + AllocGlobal>(
         "dense" => dfa::dense(rt, argument),
         "lazy" => dfa::lazy(rt, argument),
         "matches" => dfa::matches(rt, argument),
+        "groups" => groups::groups(rt, argument),
+        "table" => groups::table(rt, argument),
         _ => searches(rt, command, argument),
     }
 }

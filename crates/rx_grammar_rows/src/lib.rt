@@ -1,17 +1,21 @@
-//! Tests of the reader, the translation and the compiler of patterns.
+//! Tests of the grammar, of expressions, their literals and prefilters, and of NFAs, each from patterns on.
 #![tactic(auto)]
 
 #[cfg(test)]
-mod backwards;
-#[cfg(test)]
 mod config;
+#[cfg(test)]
+mod hir;
 #[cfg(test)]
 mod literals;
 #[cfg(test)]
+mod nfa;
+#[cfg(test)]
+mod order;
+#[cfg(test)]
+mod prefilter;
+#[cfg(test)]
 mod reader;
 #[cfg(test)]
-mod strip;
+mod refusals;
 #[cfg(test)]
 mod syntax;
-#[cfg(test)]
-mod thompson;

@@ -1,15 +1,18 @@
 //! The literals of patterns, from their texts on.
 
 use rx_hir::Hir;
-use rx_literal::{Literal, Seq, longest_common_suffix, prefixes, suffixes};
-use rx_syntax::parse;
+use rx_literal::{
+    Literal, Seq, is_look_free, longest_common_suffix, prefixes, prefixes_of, suffixes,
+};
+use rx_search::Memory;
+use rx_syntax::{parse, parse_many};
 use std::alloc::{AllocError, Global};
 
 /// A pattern; its prefixes, and its suffixes, each in order, a star behind one that is inexact, and a dash where there are
 /// infinitely many; the longest common suffix, or a dash where there is none.
 type Row = (&'static str, &'static [u8], &'static [u8], &'static [u8]);
 
-const ROWS: [Row; 8] = [
+const ROWS: [Row; 9] = [
     ("ab|cd", b"ab cd ", b"ab cd ", b""),
     ("a*b", b"a* b ", b"ab* b ", b"b"),
     (r"\w+Holmes", b"-", b"Holmes* ", b"Holmes"),
@@ -17,6 +20,8 @@ const ROWS: [Row; 8] = [
     ("[ab]c|dc", b"ac bc dc ", b"ac bc dc ", b"c"),
     ("(?i)a", b"A a ", b"A a ", b""),
     (r"\bfoo\b", b"foo ", b"foo ", b"foo"),
+    // No first run ends with this prefix where more text follows.
+    ("a$", b"a ", b"a ", b"a"),
     ("(?:a|ab)??c", b"c ac abc ", b"c ac abc ", b"c"),
 ];
 
@@ -110,4 +115,76 @@ fn first_wrong(alloc: Global) -> Option<usize> {
 #[test]
 fn literals_of_patterns(rt: HostRuntime) {
     assert_eq!(rt; first_wrong(rt.alloc()), None);
+}
+
+/// Whether no look-around stands in the pattern.
+fn is_free(alloc: Global, pattern: &str) -> Option<bool> {
+    match parse(alloc, pattern) {
+        Ok(hir) => Some(is_look_free(&hir)),
+        Err(_) => None,
+    }
+}
+
+#[test]
+fn look_free(rt: HostRuntime) {
+    let alloc = rt.alloc();
+    let free = [is_free(alloc, "[a-z]+Holmes"), is_free(alloc, "a$")];
+    assert!(rt; free == [Some(true), Some(false)]);
+}
+
+/// Whether literals were made, and are these.
+fn are_made(alloc: Global, made: Result<Seq, Memory>, want: &[u8]) -> bool {
+    match made {
+        Ok(seq) => are_told(alloc, &seq, want),
+        Err(_) => false,
+    }
+}
+
+/// Whether these are the literals that may be found first, and those that may be found at all.
+fn are_trimmed(alloc: Global, seq: Seq, first: &[u8], all: &[u8]) -> bool {
+    are_made(alloc, seq.trimmed_for_all(alloc), all)
+        && are_made(alloc, seq.trimmed_by_preference(alloc), first)
+}
+
+/// Whether these are the prefixes of the patterns that may be found first, and at all.
+fn are_left(alloc: Global, patterns: &[&str], first: &[u8], all: &[u8]) -> bool {
+    match parse_many(alloc, patterns) {
+        Ok(hirs) => match prefixes_of(alloc, &hirs) {
+            Ok(seq) => are_trimmed(alloc, seq, first, all),
+            Err(_) => false,
+        },
+        Err(_) => false,
+    }
+}
+
+#[test]
+fn trimmed(rt: HostRuntime) {
+    assert!(rt; are_left(rt.alloc(), &["b", "ba"], b"b ", b"b ba "));
+}
+
+/// `ab`, inexact, and `a`.
+fn ab_and_a(alloc: Global) -> Result<Seq, Memory> {
+    let mut literals = Vec::new(alloc);
+    literals.push(Literal::inexact(Vec::from_slice(alloc, b"ab")?))?;
+    literals.push(Literal::exact(Vec::from_slice(alloc, b"a")?))?;
+    Ok(Seq::new(literals))
+}
+
+/// A copy of them, trimmed.
+fn trimmed_copy(alloc: Global) -> Result<Seq, Memory> {
+    ab_and_a(alloc)?.clone()?.trimmed_for_all(alloc)
+}
+
+/// More literals than a sequence may have.
+fn too_many(alloc: Global) -> Result<Seq, Memory> {
+    let literal = Literal::exact(Vec::from_slice(alloc, b"a")?);
+    Ok(Seq::new(vec![in alloc; literal; 251]?))
+}
+
+#[test]
+fn made(rt: HostRuntime) {
+    let alloc = rt.alloc();
+    assert!(rt; are_made(alloc, ab_and_a(alloc), b"ab* a "));
+    assert!(rt; are_made(alloc, trimmed_copy(alloc), b"a ab* "));
+    assert!(rt; are_made(alloc, too_many(alloc), b"-"));
 }

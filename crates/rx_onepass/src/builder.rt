@@ -61,7 +61,7 @@ impl Builder {
     ///
     /// Before a state is made are refused, in this order: a kind of look-around past `Look::WordUnicodeNegate`, more patterns than
     /// 4194303, more than 32 slots of groups that the patterns name, where these are told. Then, as the states are made, what is
-    /// met first: a state that two walks lead to, two states that match, two steps on a byte that differ, too many states, or a
+    /// met first: a state that two walks lead to, two patterns that match, two steps on a byte that differ, too many states, or a
     /// table above the size limit.
     ///
     /// # Errors

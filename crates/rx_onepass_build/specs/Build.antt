@@ -1,17 +1,16 @@
 -- What the build of a one-pass DFA answers.
-use Rattle.std.specs.Prelude.{◌≡◌, ◌≢◌, ℕ, suc, ◌+◌, ◌-◌, ◌^◌, ◌<◌, ◌≤◌, Bool, true, false, List, length, Some, EachIndex, nat_le, if◌then◌else◌, slice_get, slice_index}
+use Rattle.std.specs.Prelude.{◌≡◌, ℕ, suc, ◌+◌, ◌-◌, ◌^◌, ◌<◌, ◌≤◌, Bool, true, false, List, length, Some, EachIndex, nat_le, if◌then◌else◌, slice_get, slice_index}
 use Rattle.std.specs.List.{list_any}
 use Rattle.rx_model.specs.Look.{Look, look_number}
 use Rattle.rx_search.specs.ByteClasses.{AreClasses, alphabet_len, IsLeastPower}
 use Rattle.rx_search.specs.Look.{kind_of}
 use Rattle.rx_search.specs.LookSet.{has}
-use Rattle.rx_nfa.specs.Automaton.{state_at, state_accepts}
 use Rattle.rx_nfa.specs.Nfa.{Nfa}
 use Rattle.rx_nfa.specs.declared.state.State.{State}
 use Rattle.rx_nfa.specs.declared.state.State.TheVariants.{ByteRange, Sparse, Look as Asks, Union, Capture, Fail, Match as Accepting}
 use Rattle.rx_onepass_table.specs.Entry.{IsEntry, IsClear, AcceptsBoth, Conflicts, explicit_start}
 use Rattle.rx_onepass_table.specs.Rows.{TableValue, IsRowOf, IsTableOf}
-use Rattle.rx_onepass_table.specs.Walks.{WalksTo, ReachesTwice}
+use Rattle.rx_onepass_table.specs.Walks.{ReachesTwice}
 use Rattle.rx_onepass_table.specs.Words.{few_looks, slot_limit, no_pattern}
 use Rattle.rx_onepass_build.specs.Config.{each_of, shares_of, size_limit_of}
 use Rattle.rx_onepass_build.specs.Entries.{state_limit, IsWithin, AreEntries, HasEntries, IsAbove}
@@ -79,18 +78,6 @@ pub record IsLayoutOf (config : Config) (nfa : Nfa) (layout : Layout) : Type 0 w
 
 -- Why there is no table.
 
--- Two walks from the entry lead to two different states that accept, of these patterns.
-pub record AcceptsTwice (nfa : Nfa) (entry first second : ℕ) : Type 0 where
-  pub way : List ℕ
-  pub way_too : List ℕ
-  pub state : ℕ
-  pub state_too : ℕ
-  pub leads : WalksTo nfa.states entry way state
-  pub leads_too : WalksTo nfa.states entry way_too state_too
-  pub accepts : state_accepts (state_at nfa.states state) ≡ Some first
-  pub accepts_too : state_accepts (state_at nfa.states state_too) ≡ Some second
-  pub differ : state ≢ state_too
-
 -- an entry leaves more than one way on
 abbrev pub IsAmbiguous : Nfa → (each : Bool) → NotOnePass → Type 0
 IsAmbiguous nfa each (Slots given) = ⊥
@@ -131,11 +118,6 @@ IsRefusalOf config nfa Memory = Unit {0}
 
 -- What is built.
 
--- nothing is ambiguous from the entry
-pub record IsOnePass (nfa : Nfa) (entry : ℕ) : Type 0 where
-  pub clear : IsClear nfa entry
-  pub once : (first second : ℕ) → AcceptsTwice nfa entry first second → ⊥
-
 -- the start stands at this place among the starts, as the number of its row
 pub record IsStartAt (entries starts : List ℕ) (place start : ℕ) : Type 0 where
   pub row : ℕ
@@ -157,7 +139,7 @@ pub record IsBuiltOf (config : Config) (nfa : Nfa) (t : TableValue) (starts : Li
   pub starts_are : AreStarts nfa (each_of config) entries starts
   pub are : AreEntries nfa (each_of config) entries
   pub all : (q : ℕ) → IsEntry nfa (each_of config) q → (k : ℕ) × (slice_get entries k ≡ Some q)
-  pub one_pass : (q : ℕ) → IsEntry nfa (each_of config) q → IsOnePass nfa q
+  pub clear : (q : ℕ) → IsEntry nfa (each_of config) q → IsClear nfa q
   pub layout : Layout
   pub layout_is : IsLayoutOf config nfa layout
   pub stride : t.stride ≡ layout.stride

@@ -51,7 +51,6 @@ pub record IsToldBy (nfa : Nfa) (entry : ℕ) (done : List (List ℕ)) (f : Fina
   pub pattern : (p : ℕ) (way : List ℕ) → Contains done way → Accepts nfa entry p way → f.pattern ≡ Some p
   pub slots : (p : ℕ) (way : List ℕ) → Contains done way → Accepts nfa entry p way → AreSlots nfa f.slots entry way
   pub looks : (p : ℕ) (way : List ℕ) → Contains done way → Accepts nfa entry p way → AreLooks nfa f.looks entry way
-  pub one : (p q : ℕ) (way other : List ℕ) → Contains done way → Contains done other → Accepts nfa entry p way → Accepts nfa entry q other → way ≡ other
 
 -- A row in the making, where the cells below this class are those of one walk more.
 pub record IsFilling (j : Job) (entries : List ℕ) (entry : ℕ) (done more : List (List ℕ)) (class : ℕ) (cells : List Step) : Type 0 where

@@ -1,10 +1,9 @@
 -- Rows, as they are made one after another.
 use Rattle.std.specs.Prelude.{◌≡◌, ◌↔◌, ℕ, ◌+◌, ◌*◌, ◌<◌, ◌≤◌, ◌==◌, Bool, true, false, List, [], ◌∷◌, length, reverse, Some, IsTrue, if◌then◌else◌, slice_get, slice_index, slice_index_or}
 use Rattle.rx_search.specs.ByteClasses.{class_count}
-use Rattle.rx_onepass_table.specs.Entry.{IsOutdone}
+use Rattle.rx_onepass_table.specs.Entry.{IsOutdone, IsClear}
 use Rattle.rx_onepass_table.specs.Rows.{IsStep, IsFinal}
 use Rattle.rx_onepass_table.specs.Words.{Step, Final, no_match, dead}
-use Rattle.rx_onepass_build.specs.Build.{IsOnePass}
 use Rattle.rx_onepass_build.specs.Entries.{Stays}
 use Rattle.rx_onepass_build.specs.Filling.{IsRowBy, IsToldBy, step_at}
 use Rattle.rx_onepass_build.specs.Told.{IsWay}
@@ -58,14 +57,14 @@ pub record IsFilled (j : Job) (entries : List ℕ) (entry : ℕ) (cells : List S
   pub width : length cells ≡ class_count j.classes.now
   pub steps : (byte : ℕ) → byte < 256 → IsStep j.nfa.now entries entry byte (step_at cells (slice_index j.classes.now byte))
   pub final : IsFinal j.nfa.now entry told
-  pub one_pass : IsOnePass j.nfa.now entry
+  pub clear : IsClear j.nfa.now entry
 
 -- the same of a row among others
 pub record IsRowAt (j : Job) (entries : List ℕ) (entry k : ℕ) (steps : List Step) (finals : List Final) : Type 0 where
   pub steps_are : (byte : ℕ) → byte < 256
       → IsStep j.nfa.now entries entry byte (step_at steps (k * class_count j.classes.now + slice_index j.classes.now byte))
   pub final : IsFinal j.nfa.now entry (slice_index_or finals k no_match)
-  pub one_pass : IsOnePass j.nfa.now entry
+  pub clear : IsClear j.nfa.now entry
 
 -- The rows of the first entries, one after another.
 pub record AreFilled (j : Job) (entries : List ℕ) (steps : List Step) (finals : List Final) : Type 0 where

@@ -7,7 +7,7 @@ ghost use Rattle.rx_nfa.specs.Ordered.{target};
 ghost use Rattle.rx_onepass_table.specs.Entry.{IsEntry, explicit_start};
 ghost use Rattle.rx_onepass_table.specs.Words.{Step, few_looks, slot_limit, no_match, no_pattern};
 ghost use Rattle.rx_onepass_build.specs.declared.stop.Stop.TheVariants.{State as Twice};
-ghost use Rattle.rx_onepass_build.specs.Build.{IsMadeInVain, IsOnePass};
+ghost use Rattle.rx_onepass_build.specs.Build.{IsMadeInVain};
 ghost use Rattle.rx_onepass_build.specs.Entries.{AreMet, Stays, AreEntries};
 ghost use Rattle.rx_onepass_build.specs.Told.{IsSmall, TellsPast, frame_at};
 ghost use Rattle.rx_onepass_build.specs.Tree.{IsTaken, GoesOn};

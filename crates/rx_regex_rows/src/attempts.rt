@@ -3,7 +3,7 @@ ghost use Rattle.std.specs.Prelude.{◌≡◌, ◌<◌};
 ghost use Rattle.rx_meta.specs.Cache.{Fits};
 
 use crate::dfas::{
-    FULL, LAZY, NOTHING, Row, Sort, after_end, found_with, input_from, span_of, told_with,
+    FULL, LAZY, NOTHING, Row, Sort, Told, after_end, found_with, input_from, span_of, told_with,
     with_alone,
 };
 use crate::regex::{cache_of, configured};
@@ -82,7 +82,7 @@ fn attempted(rt: &impl Abort, alloc: Global, regex: &Regex, text: &[u8]) -> (Tri
 /// A pattern, a text, what an attempt comes to, and the span that a search tells.
 type Attempt = (&'static str, &'static str, Tried, Option<(usize, usize)>);
 
-const ATTEMPTS: [Attempt; 9] = [
+const ATTEMPTS: [Attempt; 11] = [
     // Before the second candidate the byte at 6 would be read again.
     (
         r"\w+\s+Holmes",
@@ -127,6 +127,14 @@ const ATTEMPTS: [Attempt; 9] = [
     ),
     ("(a|aa)b", "xxaab", Tried::Found(Some((2, 5))), Some((2, 5))),
     ("(a|aa)b", "xxbb", Tried::Found(None), None),
+    // A DFA quits at a byte that is not ASCII, since the pattern looks at words.
+    (
+        r"\b[a-zé]+[ \t]+Holmes",
+        "éa Holmes",
+        Tried::Failed,
+        Some((0, 10)),
+    ),
+    (r"\b[a-zé]+@[a-z]+", "éa@b", Tried::Failed, Some((0, 5))),
 ];
 
 /// Whether the attempt and a search tell what is wanted.
@@ -180,6 +188,53 @@ fn a_search_goes_on_where_an_attempt_gives_up(rt: HostRuntime) {
     let text = times(&rt, alloc, b" Holmes", 100);
     let found = found_with(&rt, &regex, &mut cache, &Input::new(&text));
     assert_eq!(rt; found, Some((1, 14)));
+}
+
+/// What calls tell of the text by a regex with DFAs of this sort. It searches by candidates.
+fn told_by<R: Abort + Wait>(
+    rt: &R,
+    alloc: Global,
+    sort: Sort,
+    pattern: &str,
+    text: &[u8],
+) -> Option<Told> {
+    let regex = configured(rt, alloc, with_alone(Config::new(), sort), pattern);
+    let mut cache = cache_of(rt, alloc, &regex);
+    let told = told_with(rt, alloc, &regex, &mut cache, &Input::new(text));
+    if regex.strategy_name() == "core" {
+        return None;
+    }
+    Some(told)
+}
+
+/// Whether calls tell this of a text in which the piece stands a hundred times before its end, and an attempt the same match.
+fn is_told_after<R: Abort + Wait>(
+    rt: &R,
+    alloc: Global,
+    pattern: &str,
+    piece: &[u8],
+    last: &[u8],
+    wanted: Told,
+) -> bool {
+    let mut text = times(rt, alloc, piece, 100);
+    text.extend_from_slice(last).ok().expect(rt, "room");
+    let regex = configured(rt, alloc, Config::new(), pattern);
+    let (tried, _) = attempted(rt, alloc, &regex, &text);
+    tried == Tried::Found(wanted.0)
+        && told_by(rt, alloc, FULL, pattern, &text) == Some(wanted)
+        && told_by(rt, alloc, LAZY, pattern, &text) == Some(wanted)
+}
+
+/// Candidates that lie close together, none of them confirmed, are left to the core. An attempt goes from each to the next.
+#[test]
+fn a_search_goes_on_where_candidates_are_dense(rt: HostRuntime) {
+    let alloc = rt.alloc();
+    let suffix = (Some((702, 710)), Some(710), true, (Some(702), Some(703)));
+    let pattern = "([A-Za-z]+)[ \t]+Holmes";
+    assert!(rt; is_told_after(&rt, alloc, pattern, b",Holmes", b"  a Holmes", suffix));
+    let inner = (Some((202, 206)), Some(206), true, (Some(202), Some(203)));
+    let pattern = "([a-z]+)@[a-z@]+[0-9]";
+    assert!(rt; is_told_after(&rt, alloc, pattern, b",@", b"  a@b1", inner));
 }
 
 const ROWS: [Row; 9] = [

@@ -84,61 +84,92 @@ const GAPS: [Row; 10] = [
     (r"\s*,\s*", "a , ,b", (0, 6), &[(0, 1), (4, 4), (5, 6)]),
 ];
 
+/// Whether the next match is at this span.
+fn is_next_match(matches: &mut FindMatches<'_, '_>, span: (usize, usize)) -> bool {
+    match matches.next() {
+        Some(Ok(found)) => places(found.span()) == span,
+        _ => false,
+    }
+}
+
 /// Whether it gives matches at these spans, and nothing further.
 fn gives_matches(matches: &mut FindMatches<'_, '_>, spans: &[(usize, usize)]) -> bool {
     for span in spans {
-        let Some(Ok(found)) = matches.next() else {
-            return false;
-        };
-        if places(found.span()) != *span {
+        if !is_next_match(matches, *span) {
             return false;
         }
     }
     matches.next().is_none() && matches.next().is_none()
 }
 
+/// Whether the next captures are of a match at this span.
+fn is_next_captured(captures: &mut CapturesMatches<'_, '_>, span: (usize, usize)) -> bool {
+    match captures.next() {
+        Some(Ok(given)) => group(&given, 0) == Some(span),
+        _ => false,
+    }
+}
+
 /// Whether it gives captures of matches at these spans, and nothing further.
 fn gives_captures(captures: &mut CapturesMatches<'_, '_>, spans: &[(usize, usize)]) -> bool {
     for span in spans {
-        let Some(Ok(given)) = captures.next() else {
-            return false;
-        };
-        if group(&given, 0) != Some(*span) {
+        if !is_next_captured(captures, *span) {
             return false;
         }
     }
     captures.next().is_none() && captures.next().is_none()
 }
 
+/// Whether the next gap is at this span.
+fn is_next_gap(gaps: &mut Split<'_, '_>, span: (usize, usize)) -> bool {
+    match gaps.next() {
+        Some(Ok(gap)) => places(gap) == span,
+        _ => false,
+    }
+}
+
 /// Whether it gives gaps at these spans, and nothing further.
 fn gives_gaps(gaps: &mut Split<'_, '_>, spans: &[(usize, usize)]) -> bool {
     for span in spans {
-        let Some(Ok(gap)) = gaps.next() else {
-            return false;
-        };
-        if places(gap) != *span {
+        if !is_next_gap(gaps, *span) {
             return false;
         }
     }
     gaps.next().is_none() && gaps.next().is_none()
 }
 
+/// Whether so many pieces are left at most, and the next one is at this span.
+fn is_next_piece(pieces: &mut SplitN<'_, '_>, left: usize, span: (usize, usize)) -> bool {
+    if pieces.size_hint() != (0, Some(left)) {
+        return false;
+    }
+    match pieces.next() {
+        Some(Ok(piece)) => places(piece) == span,
+        _ => false,
+    }
+}
+
 /// Whether it gives pieces at these spans, of this number at most, and nothing further.
 fn gives_pieces(pieces: &mut SplitN<'_, '_>, limit: usize, spans: &[(usize, usize)]) -> bool {
     let mut left = limit;
     for span in spans {
-        if pieces.size_hint() != (0, Some(left)) || left == 0 {
+        if left == 0 || !is_next_piece(pieces, left, *span) {
             return false;
         }
         left -= 1;
-        let Some(Ok(piece)) = pieces.next() else {
-            return false;
-        };
-        if places(piece) != *span {
-            return false;
-        }
     }
     pieces.next().is_none() && pieces.next().is_none()
+}
+
+/// How many matches the iterator counts.
+fn count_matches<R: Abort + Wait>(
+    rt: &R,
+    alloc: Global,
+    regex: &Regex,
+    input: &Input<'_>,
+) -> Option<usize> {
+    let matches = regex.find_iter(rt, alloc, input).ok().expect(rt, "memory");
+    matches.count(rt).ok()
 }
 
 /// Whether the iterator over matches gives these, and counts them.
@@ -152,9 +183,21 @@ fn are_matches<R: Abort + Wait>(
     let mut matches = regex.find_iter(rt, alloc, input).ok().expect(rt, "memory");
     let are = gives_matches(&mut matches, spans);
     matches.finish(rt);
-    let matches = regex.find_iter(rt, alloc, input).ok().expect(rt, "memory");
-    let count = matches.count(rt).ok();
-    are && count == Some(spans.len())
+    are && count_matches(rt, alloc, regex, input) == Some(spans.len())
+}
+
+/// How many captures the iterator counts.
+fn count_captures<R: Abort + Wait>(
+    rt: &R,
+    alloc: Global,
+    regex: &Regex,
+    input: &Input<'_>,
+) -> Option<usize> {
+    let captures = regex
+        .captures_iter(rt, alloc, input)
+        .ok()
+        .expect(rt, "memory");
+    captures.count(rt).ok()
 }
 
 /// Whether the iterator over captures gives these matches, and counts them.
@@ -171,12 +214,7 @@ fn are_captured<R: Abort + Wait>(
         .expect(rt, "memory");
     let are = gives_captures(&mut matches, spans);
     matches.finish(rt);
-    let matches = regex
-        .captures_iter(rt, alloc, input)
-        .ok()
-        .expect(rt, "memory");
-    let count = matches.count(rt).ok();
-    are && count == Some(spans.len())
+    are && count_captures(rt, alloc, regex, input) == Some(spans.len())
 }
 
 /// Whether the iterators give the matches of the row.
@@ -348,15 +386,27 @@ fn of_one_piece<R: Abort + Wait>(
     pieces_from(&mut pieces)
 }
 
+/// Those of the four iterators, over matches, captures, gaps and one piece, and how many patterns the regex of the first two has.
+fn of_each<R: Abort + Wait>(
+    rt: &R,
+    alloc: Global,
+    regex: &Regex,
+    input: &Input<'_>,
+) -> ([Places; 4], usize, usize) {
+    let (matches, patterns) = of_matches(rt, alloc, regex, input);
+    let (captures, again) = of_captures(rt, alloc, regex, input);
+    let gaps = of_gaps(rt, alloc, regex, input);
+    let piece = of_one_piece(rt, alloc, regex, input);
+    ([matches, captures, gaps, piece], patterns, again)
+}
+
 #[test]
 fn an_iterator_tells_where_it_searches(rt: HostRuntime) {
-    let alloc = rt.alloc();
-    let regex = regex_of(&rt, alloc, Config::new(), &["b", "ab"]);
+    let regex = regex_of(&rt, rt.alloc(), Config::new(), &["b", "ab"]);
     let input = Input::new(b"xxabx").range(1..5);
-    assert!(rt; of_matches(&rt, alloc, &regex, &input) == ((1, 4, 4), 2));
-    assert!(rt; of_captures(&rt, alloc, &regex, &input) == ((1, 4, 4), 2));
-    assert!(rt; of_gaps(&rt, alloc, &regex, &input) == (1, 4, 4));
-    assert!(rt; of_one_piece(&rt, alloc, &regex, &input) == (1, 1, 1));
+    let (places, patterns, again) = of_each(&rt, rt.alloc(), &regex, &input);
+    assert!(rt; places == [(1, 4, 4), (1, 4, 4), (1, 4, 4), (1, 1, 1)]);
+    assert!(rt; (patterns, again) == (2, 2));
 }
 
 const SETTINGS: [&str; 4] = [
@@ -387,6 +437,24 @@ fn has_text(captures: &Captures, text: &str, name: &str, wanted: &str) -> bool {
     text.as_bytes().get(span.start..span.end) == Some(wanted.as_bytes())
 }
 
+/// Whether these captures are of this key with its value.
+fn is_setting(captures: &Captures, text: &str, setting: (&str, &str)) -> bool {
+    let (key, value) = setting;
+    has_text(captures, text, "key", key) && has_text(captures, text, "val", value)
+}
+
+/// Whether the next captures are of this key with its value.
+fn is_next_setting(
+    captures: &mut CapturesMatches<'_, '_>,
+    text: &str,
+    setting: (&str, &str),
+) -> bool {
+    match captures.next() {
+        Some(Ok(given)) => is_setting(&given, text, setting),
+        _ => false,
+    }
+}
+
 /// Whether it gives these keys with their values, and nothing further.
 fn gives_settings(
     captures: &mut CapturesMatches<'_, '_>,
@@ -394,27 +462,29 @@ fn gives_settings(
     settings: &[(&str, &str)],
 ) -> bool {
     for setting in settings {
-        let (key, value) = *setting;
-        let Some(Ok(given)) = captures.next() else {
-            return false;
-        };
-        if !has_text(&given, text, "key", key) || !has_text(&given, text, "val", value) {
+        if !is_next_setting(captures, text, *setting) {
             return false;
         }
     }
     captures.next().is_none()
 }
 
-#[test]
-fn settings_are_read_by_the_names_of_groups(rt: HostRuntime) {
-    let alloc = rt.alloc();
-    let regex = regex_of(&rt, alloc, Config::new(), &SETTINGS);
+/// Whether the regex reads the settings of the file.
+fn reads_settings<R: Abort + Wait>(rt: &R, alloc: Global, regex: &Regex) -> bool {
     let input = Input::new(SET.as_bytes());
     let mut captures = regex
-        .captures_iter(&rt, alloc, &input)
+        .captures_iter(rt, alloc, &input)
         .ok()
-        .expect(&rt, "memory");
-    assert!(rt; gives_settings(&mut captures, SET, &KEYS_AND_VALUES));
+        .expect(rt, "memory");
+    let are = gives_settings(&mut captures, SET, &KEYS_AND_VALUES);
+    captures.finish(rt);
+    are
+}
+
+#[test]
+fn settings_are_read_by_the_names_of_groups(rt: HostRuntime) {
+    let regex = regex_of(&rt, rt.alloc(), Config::new(), &SETTINGS);
+    assert!(rt; reads_settings(&rt, rt.alloc(), &regex));
 }
 
 /// What captures hold: the number of the pattern, and the spans of two groups.

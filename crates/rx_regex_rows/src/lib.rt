@@ -8,6 +8,8 @@ mod dfas;
 #[cfg(test)]
 mod iterators;
 #[cfg(test)]
+mod onepass;
+#[cfg(test)]
 mod pool;
 #[cfg(test)]
 mod regex;

@@ -5,9 +5,33 @@ use rx_search::{Input, Memory};
 use std::alloc::Global;
 use std::process::Abort;
 use std::sync::Wait;
+use std::thread::{Threads, join};
 
 fn regex_of(rt: &impl Abort, alloc: Global, pattern: &str) -> Regex {
     Regex::new(alloc, pattern).ok().expect(rt, "a regex")
+}
+
+/// Whether each of two texts is told right: there is no match in the first one.
+fn is_right<R: Wait>(rt: &R, alloc: Global, regex: &Regex) -> bool {
+    let one = regex.is_match(rt, alloc, &Input::new(b"7a"));
+    let two = regex.is_match(rt, alloc, &Input::new(b"aab77"));
+    one == Ok(false) && two == Ok(true)
+}
+
+/// The same of two threads at once.
+fn both_right<R: Threads + Wait + Sync>(rt: &R, alloc: Global, regex: &Regex) -> (bool, bool) {
+    join(
+        rt,
+        || is_right(rt, alloc, regex),
+        || is_right(rt, alloc, regex),
+    )
+}
+
+#[test]
+fn two_threads_search_with_one_regex(rt: HostRuntime) {
+    let alloc = rt.alloc();
+    let regex = regex_of(&rt, alloc, "[a-z]+[0-9]");
+    assert_eq!(rt; both_right(&rt, alloc, &regex), (true, true));
 }
 
 /// How many matches two iterators of one regex find, where one is counted while the other stands after its first match and

@@ -189,7 +189,7 @@ fn each_call_makes_a_cache_or_takes_one(rt: HostRuntime) {
 }
 
 /// A cache of the first regex that was made one of the second.
-fn made_over(rt: &impl Abort, alloc: Global, first: &Regex, second: &Regex) -> Cache
+pub(crate) fn made_over(rt: &impl Abort, alloc: Global, first: &Regex, second: &Regex) -> Cache
     ensures { Fits second.now result }
 {
     let mut cache = cache_of(rt, alloc, first);

@@ -80,18 +80,25 @@ const THREE: [&[Told]; 3] = [
     ],
 ];
 
-/// Whether so many workers scan three haystacks for two patterns.
-fn scan_three<R: Threads + Wait + Sync + Abort>(rt: &R, alloc: Global, workers: usize) -> bool {
-    let regex = Regex::new_many(alloc, &["a(b)?", "c"]);
+/// Whether so many workers, with so many caches at most to exchange, scan three haystacks for two patterns.
+fn scan_three<R: Threads + Wait + Sync + Abort>(
+    rt: &R,
+    alloc: Global,
+    workers: usize,
+    caches: usize,
+) -> bool {
+    let mut builder = Regex::builder();
+    builder.configure(Regex::config().pool_capacity(caches));
+    let regex = builder.build_many(alloc, &["a(b)?", "c"]);
     let regex = regex.ok().expect(rt, "a regex");
     scans_so(rt, alloc, &regex, &[b"xab", b"", b"ca"], workers, &THREE)
 }
 
-/// One worker, two, and more than there are haystacks.
+/// One worker, two, and more than there are haystacks; and three with one cache, so that two may have to make their own.
 #[test]
 fn the_number_of_workers_changes_no_row(rt: HostRuntime) {
-    for workers in [1, 2, 64] {
-        assert!(rt; scan_three(&rt, rt.alloc(), workers));
+    for (workers, caches) in [(1, 8), (2, 8), (64, 8), (3, 1)] {
+        assert!(rt; scan_three(&rt, rt.alloc(), workers, caches));
     }
 }
 
@@ -209,6 +216,16 @@ struct HoldFirst {
     seen: AtomicBool,
 }
 
+impl HoldFirst {
+    /// That was told of no haystack yet.
+    fn new() -> HoldFirst {
+        HoldFirst {
+            reached: AtomicBool::new(false),
+            seen: AtomicBool::new(false),
+        }
+    }
+}
+
 impl Gate for HoldFirst {
     fn reached(&self, index: usize) {
         if index == 1 {
@@ -229,10 +246,7 @@ impl Gate for HoldFirst {
 /// Whether haystack 1 was reached while the worker of haystack 0 was held, in a scan with two workers.
 fn reached_meanwhile<R: Threads + Wait + Sync + Abort>(rt: &R, alloc: Global) -> bool {
     let regex = Regex::new(alloc, "a").ok().expect(rt, "a regex");
-    let gate = HoldFirst {
-        reached: AtomicBool::new(false),
-        seen: AtomicBool::new(false),
-    };
+    let gate = HoldFirst::new();
     let rows = scan(rt, alloc, &regex, &[b"a", b"ba"], 2, &gate);
     rows.ok().expect(rt, "memory");
     gate.seen.load(Ordering::SeqCst)
@@ -241,4 +255,23 @@ fn reached_meanwhile<R: Threads + Wait + Sync + Abort>(rt: &R, alloc: Global) ->
 #[test]
 fn two_workers_search_at_once(rt: HostRuntime) {
     assert!(rt; reached_meanwhile(&rt, rt.alloc()));
+}
+
+/// Whether haystack 1 was reached while the worker of haystack 0 was held, in a run of these words.
+fn reached_in_run<R: Threads + Wait + Sync + Abort>(rt: &R, alloc: Global, words: &[&str]) -> bool {
+    let mut source = source_of(rt, alloc, b"a\n\na\nba\n", (64, &[]));
+    let mut sink = sink_of(rt, alloc, (64, &[]));
+    let gate = HoldFirst::new();
+    status_of(rt, alloc, words, &mut source, &mut sink, &gate);
+    gate.seen.load(Ordering::SeqCst)
+}
+
+/// Words of runs over two haystacks, each with two workers: by a number, by none, and under `gen`.
+const RUNS: [&[&str]; 3] = [&["scan", "2"], &["scan"], &["gen", "1", "2", "2"]];
+
+#[test]
+fn a_run_has_the_workers_of_its_words(rt: HostRuntime) {
+    for words in RUNS {
+        assert!(rt; reached_in_run(&rt, rt.alloc(), words));
+    }
 }

@@ -14,6 +14,3 @@ mod threads;
 pub use draws::{DrawSeat, Draws};
 pub use laws::{a_number_is_drawn_once, a_slot_is_in_one_hand_at_most};
 pub use slot_pool::{SlotPool, SlotSeat};
-
-#[cfg(test)]
-mod tests;

@@ -12,7 +12,7 @@ use Rattle.rx_dfa.specs.LazyCache.{GaveUpOn}
 use Rattle.rx_dfa.specs.Search.{IsAnswerFor}
 use Rattle.rx_limited.specs.declared.retry_error.RetryError.{RetryError}
 use Rattle.rx_order.specs.Order.{SuffixIsNoEarlier, InnerIsNoEarlier}
-use Rattle.rx_attempts.specs.Counts.{HasCounted}
+use Rattle.rx_attempts.specs.Counts.{HasCounted, HasCountedFirst}
 use Rattle.rx_attempts.specs.Refusals.{SuffixFails, InnerFails}
 use Rattle.rx_strategy.specs.Dfas.{pair_of}
 use Rattle.rx_strategy.specs.declared.dfas.Dfas.{Dfas}
@@ -64,7 +64,7 @@ InnerFailsIn (Lazy forward backward) rev needles v lazies rev_gives_up rev_wants
 
 -- so many steps an answer takes
 abbrev pub HasCountedSuffix : Dfas → List (List ℕ) → InputValue → (old new : ℕ) → Option MatchValue → Type 0
-HasCountedSuffix dfas needles v old new found = IfSome (pair_of dfas) (λ both. HasCounted both.0 both.1 needles v (λ s. s.end) old new found)
+HasCountedSuffix dfas needles v old new found = IfSome (pair_of dfas) (λ both. HasCountedFirst both.0 both.1 needles v (λ s. s.end) old new found)
 
 abbrev pub HasCountedInner : Dfas → Dfa → List (List ℕ) → InputValue → (old new : ℕ) → Option MatchValue → Type 0
 HasCountedInner dfas rev needles v old new found = IfSome (pair_of dfas) (λ both. HasCounted both.0 rev needles v (λ s. s.start) old new found)

@@ -2,8 +2,8 @@
 use Rattle.std.specs.Prelude.{◌≡◌, true, false}
 use Rattle.rx_search.specs.Input.{InputValue}
 use Rattle.rx_strategy.specs.Core.{CoreValue, pikevm_of, backtracker_of, backtracker_serves}
-use Rattle.rx_strategy.specs.declared.strategy.engines.Nofail.{Nofail}
-use Rattle.rx_strategy.specs.declared.strategy.engines.Nofail.TheVariants.{Backtrack, PikeVM}
+use Rattle.rx_strategy.specs.declared.strategy.engines.nofail.Nofail.{Nofail}
+use Rattle.rx_strategy.specs.declared.strategy.engines.nofail.Nofail.TheVariants.{Backtrack, PikeVM}
 
 -- this engine of the core is asked to search the input: the backtracker exactly where it serves
 abbrev pub IsAskedFor : CoreValue → InputValue → Nofail → Type 0

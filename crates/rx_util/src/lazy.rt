@@ -1,5 +1,5 @@
 //! Values that are made at first use.
-ghost use Rattle.std.specs.Prelude.{◌≡◌, MatchResult, Some, None};
+ghost use Rattle.std.specs.Prelude.{◌≡◌, MatchResult, Some, None, IfSome};
 ghost use Rattle.once_cell.specs.Once.{cell_name, Agrees};
 
 use crate::maker::Maker;
@@ -60,6 +60,16 @@ impl<T: Drop, M: Maker<Value = T>> Lazy<T, M> {
         let maker = &self.maker;
         self.cell
             .get_or_try_init_as(move || boxed(alloc, maker), note)
+    }
+
+    /// Two notes on this value that know it know the same one. It does nothing: a proof calls it.
+    pub fn notes_agree(&self, one: &mut Note<T>, other: Note<T>)
+        requires one { one.old.cell ≡ cell_name self.now.cell }
+        requires other { other.cell ≡ cell_name self.now.cell }
+        ensures same { one.new ≡ one.old }
+        ensures agree { IfSome other.known (Agrees one.old.known) }
+    {
+        one.compare(other);
     }
 }
 

@@ -18,6 +18,3 @@ pub use lazy::Lazy;
 pub use maker::{FromFn, Maker};
 pub use pool::{Pool, PoolGuard};
 pub use stack::{Empty, Stack, no_number_is_lent_twice};
-
-#[cfg(test)]
-mod tests;

@@ -4,43 +4,39 @@ ghost use Rattle.std.specs.Prelude.{◌≡◌, false};
 use crate::ask::Ask;
 use crate::compile::prefilter;
 use crate::failure::Failure;
-use crate::tell::tell_half;
+use crate::told::Told;
 use rx_dfa::{Automaton, try_search_half_fwd, try_search_half_fwd_by};
 use rx_prefilter::Prefilter;
 use rx_search::MatchKind;
 use std::alloc::Global;
 
-/// Appends the end that the automaton finds in the input.
+/// Appends the end that the automaton finds in the input, from candidate to candidate if there is a prefilter.
 pub fn tell<A: Automaton>(
     alloc: Global,
     ask: &Ask<'_>,
     dfa: &A,
     cache: &mut A::Cache,
-    told: &mut String,
-) -> Result<(), Failure>
+    told: &mut Told,
+)
     requires fits { A.fits dfa.now cache.old }
     requires forward { (A.dfa dfa.now).nfa.reverse ≡ false }
 {
-    let pre = prefilter(alloc, ask)?;
-    tell_with(ask, dfa, cache, pre.as_ref(), told)
+    match prefilter(alloc, ask) {
+        Ok(Some(pre)) => tell_by(ask, dfa, cache, &pre, told),
+        Ok(None) => tell_all(ask, dfa, cache, told),
+        Err(_) => told.refuse(Failure::Memory),
+    }
 }
 
-/// Appends the end in the input, from candidate to candidate if there is a prefilter.
-fn tell_with<A: Automaton>(
-    ask: &Ask<'_>,
-    dfa: &A,
-    cache: &mut A::Cache,
-    pre: Option<&Prefilter>,
-    told: &mut String,
-) -> Result<(), Failure>
+/// Appends the end in the input.
+fn tell_all<A: Automaton>(ask: &Ask<'_>, dfa: &A, cache: &mut A::Cache, told: &mut Told)
     requires fits { A.fits dfa.now cache.old }
     requires forward { (A.dfa dfa.now).nfa.reverse ≡ false }
 {
-    if let Some(pre) = pre {
-        return tell_by(ask, dfa, cache, pre, told);
+    match ask.input(ask.input) {
+        Some(input) => told.tell_half(try_search_half_fwd(dfa, cache, &input)),
+        None => told.refuse(Failure::Usage),
     }
-    let input = ask.searching.input(ask.input)?;
-    tell_half(told, try_search_half_fwd(dfa, cache, &input))
 }
 
 /// Appends the end in the input, from candidate to candidate.
@@ -49,16 +45,19 @@ fn tell_by<A: Automaton>(
     dfa: &A,
     cache: &mut A::Cache,
     pre: &Prefilter,
-    told: &mut String,
-) -> Result<(), Failure>
+    told: &mut Told,
+)
     requires fits { A.fits dfa.now cache.old }
     requires forward { (A.dfa dfa.now).nfa.reverse ≡ false }
 {
-    let input = ask.searching.free_input(ask.input)?;
+    let Some(input) = ask.free_input(ask.input) else {
+        told.refuse(Failure::Usage);
+        return;
+    };
     match dfa.match_kind() {
         MatchKind::LeftmostFirst => {
-            tell_half(told, try_search_half_fwd_by(dfa, cache, pre, &input))
+            told.tell_half(try_search_half_fwd_by(dfa, cache, pre, &input));
         }
-        MatchKind::All => Err(Failure::Usage),
+        MatchKind::All => told.refuse(Failure::Usage),
     }
 }

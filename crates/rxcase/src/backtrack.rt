@@ -6,15 +6,18 @@ use crate::ask::Ask;
 use crate::call::Call;
 use crate::compile::{prefilter, source};
 use crate::failure::Failure;
-use crate::tell::{
-    tell_bytes, tell_end, tell_error, tell_match, tell_none, tell_places, tell_slots,
-};
+use crate::told::Told;
 use rx_engines::backtrack::{BoundedBacktracker, Cache};
 use rx_search::{Input, NonMaxUsize};
 use std::alloc::Global;
 
 /// Appends what the backtracker tells of each haystack, with one cache.
-pub fn tell(alloc: Global, ask: &Ask<'_>, told: &mut String) -> Result<(), Failure> {
+pub fn tell(alloc: Global, ask: &Ask<'_>, told: &mut Told) {
+    let ended = tell_made(alloc, ask, told);
+    told.end(ended);
+}
+
+fn tell_made(alloc: Global, ask: &Ask<'_>, told: &mut Told) -> Result<(), Failure> {
     let backtracker = made(alloc, ask)?;
     tell_by(alloc, ask, &backtracker, told)
 }
@@ -23,10 +26,11 @@ fn tell_by(
     alloc: Global,
     ask: &Ask<'_>,
     backtracker: &BoundedBacktracker,
-    told: &mut String,
+    told: &mut Told,
 ) -> Result<(), Failure> {
     let mut cache = cache_for(alloc, ask, backtracker)?;
-    tell_each(alloc, ask, backtracker, &mut cache, told)
+    tell_each(alloc, ask, backtracker, &mut cache, told);
+    Ok(())
 }
 
 /// The backtracker that is asked for.
@@ -83,16 +87,18 @@ fn tell_each(
     ask: &Ask<'_>,
     backtracker: &BoundedBacktracker,
     cache: &mut Cache,
-    told: &mut String,
-) -> Result<(), Failure>
+    told: &mut Told,
+)
     requires { Fits backtracker.now.nfa cache.old }
 {
-    let lines = ask.searching.lines;
+    let lines = ask.has("lines");
     'haystacks: for haystack in ask.haystacks().split(|byte| lines && *byte == b'\n') {
-        let input = ask.searching.input(haystack)?;
-        tell_input(alloc, ask, backtracker, cache, &input, told)?;
+        let Some(input) = ask.input(haystack) else {
+            told.refuse(Failure::Usage);
+            return;
+        };
+        tell_input(alloc, ask, backtracker, cache, &input, told);
     }
-    Ok(())
 }
 
 /// Appends what it tells of an input.
@@ -102,58 +108,51 @@ fn tell_input(
     backtracker: &BoundedBacktracker,
     cache: &mut Cache,
     input: &Input<'_>,
-    told: &mut String,
-) -> Result<(), Failure>
+    told: &mut Told,
+)
     requires { Fits backtracker.now.nfa cache.old }
     ensures { Fits backtracker.now.nfa cache.new }
 {
     match ask.call {
-        Call::Memory => tell_bytes(told, cache.memory_usage()),
-        Call::Span => tell_match(told, backtracker.try_find_slots(cache, input, &mut [])),
-        Call::End => tell_end(told, backtracker.try_find_slots(cache, input, &mut [])),
-        Call::Slots => {
-            let mut slots = ask.slots(alloc, backtracker.get_nfa().slot_len())?;
-            tell_found(backtracker, cache, input, &mut slots, told)
-        }
-        Call::Places => {
-            let mut slots = ask.slots(alloc, backtracker.get_nfa().slot_len())?;
-            tell_places_found(backtracker, cache, input, &mut slots, told)
-        }
-        _ => Err(Failure::Usage),
+        Call::Memory => told.tell_bytes(cache.memory_usage()),
+        Call::Span => told.tell_match(backtracker.try_find_slots(cache, input, &mut [])),
+        Call::Slots | Call::Places => tell_slots(alloc, ask, backtracker, cache, input, told),
+        _ => told.refuse(Failure::Usage),
     }
 }
 
-/// Appends the next match with these slots.
-fn tell_found(
+/// Appends what stands in the slots after a search.
+fn tell_slots(
+    alloc: Global,
+    ask: &Ask<'_>,
     backtracker: &BoundedBacktracker,
     cache: &mut Cache,
     input: &Input<'_>,
-    slots: &mut [Option<NonMaxUsize>],
-    told: &mut String,
-) -> Result<(), Failure>
+    told: &mut Told,
+)
     requires { Fits backtracker.now.nfa cache.old }
     ensures { Fits backtracker.now.nfa cache.new }
 {
-    match backtracker.try_find_slots(cache, input, slots) {
-        Ok(Some(found)) => tell_slots(told, found.pattern(), slots),
-        Ok(None) => tell_none(told),
-        Err(error) => tell_error(told, error),
+    match ask.slots(alloc, backtracker.get_nfa().slot_len()) {
+        Ok(mut slots) => tell_found(ask, backtracker, cache, input, &mut slots, told),
+        Err(_) => told.refuse(Failure::Memory),
     }
 }
 
-/// Appends what stands in these slots after a search.
-fn tell_places_found(
+/// The same of these slots.
+fn tell_found(
+    ask: &Ask<'_>,
     backtracker: &BoundedBacktracker,
     cache: &mut Cache,
     input: &Input<'_>,
     slots: &mut [Option<NonMaxUsize>],
-    told: &mut String,
-) -> Result<(), Failure>
+    told: &mut Told,
+)
     requires { Fits backtracker.now.nfa cache.old }
     ensures { Fits backtracker.now.nfa cache.new }
 {
     match backtracker.try_search_slots(cache, input, slots) {
-        Ok(found) => tell_places(told, found, slots),
-        Err(error) => tell_error(told, error),
+        Ok(found) => told.tell_slots(ask.call, found, slots),
+        Err(error) => told.tell_error(error),
     }
 }

@@ -4,7 +4,7 @@ ghost use Rattle.std.specs.Prelude.{◌≡◌, true, false};
 use crate::ask::Ask;
 use crate::call::Call;
 use crate::failure::Failure;
-use crate::tell::{tell_error, tell_match, tell_one};
+use crate::told::Told;
 use rx_dfa::{Automaton, try_search};
 use rx_search::{Input, MatchError};
 
@@ -16,38 +16,44 @@ pub fn tell<A: Automaton>(
     cache: &mut A::Cache,
     backward: &A,
     second: &mut A::Cache,
-    told: &mut String,
-) -> Result<(), Failure>
+    told: &mut Told,
+)
     requires fits { A.fits forward.now cache.old }
     requires second { A.fits backward.now second.old }
     requires forward { (A.dfa forward.now).nfa.reverse ≡ false }
     requires backward { (A.dfa backward.now).nfa.reverse ≡ true }
 {
     if ask.call == Call::Matches {
-        return tell_lines(forward, cache, backward, second, ask.text()?, told);
+        tell_lines(ask, forward, cache, backward, second, told);
+        return;
     }
-    let input = ask.searching.input(ask.input)?;
-    tell_match(told, try_search(forward, cache, backward, second, &input))
+    match ask.input(ask.input) {
+        Some(input) => told.tell_match(try_search(forward, cache, backward, second, &input)),
+        None => told.refuse(Failure::Usage),
+    }
 }
 
 /// Appends the successive matches in each line.
 fn tell_lines<A: Automaton>(
+    ask: &Ask<'_>,
     forward: &A,
     cache: &mut A::Cache,
     backward: &A,
     second: &mut A::Cache,
-    text: &str,
-    told: &mut String,
-) -> Result<(), Failure>
+    told: &mut Told,
+)
     requires fits { A.fits forward.now cache.old }
     requires second { A.fits backward.now second.old }
     requires forward { (A.dfa forward.now).nfa.reverse ≡ false }
     requires backward { (A.dfa backward.now).nfa.reverse ≡ true }
 {
+    let Some(text) = ask.text() else {
+        told.refuse(Failure::Usage);
+        return;
+    };
     'lines: for line in text.split('\n') {
-        tell_line(forward, cache, backward, second, line.as_bytes(), told)?;
+        tell_line(forward, cache, backward, second, line.as_bytes(), told);
     }
-    Ok(())
 }
 
 /// Appends the successive matches in a line, and why a search came to no end, if one did not.
@@ -57,8 +63,8 @@ fn tell_line<A: Automaton>(
     backward: &A,
     second: &mut A::Cache,
     line: &[u8],
-    told: &mut String,
-) -> Result<(), Failure>
+    told: &mut Told,
+)
     requires fits { A.fits forward.now cache.old }
     requires second { A.fits backward.now second.old }
     requires forward { (A.dfa forward.now).nfa.reverse ≡ false }
@@ -68,7 +74,7 @@ fn tell_line<A: Automaton>(
 {
     let before = told.len();
     let ended = tell_all(forward, cache, backward, second, line, told);
-    tell_rest(told, before, ended)
+    tell_rest(told, before, ended);
 }
 
 /// Appends the successive matches, up to the first search that does not come to its end.
@@ -78,7 +84,7 @@ fn tell_all<A: Automaton>(
     backward: &A,
     second: &mut A::Cache,
     haystack: &[u8],
-    told: &mut String,
+    told: &mut Told,
 ) -> Result<(), MatchError>
     requires fits { A.fits forward.now cache.old }
     requires second { A.fits backward.now second.old }
@@ -103,9 +109,7 @@ fn tell_all<A: Automaton>(
             at += 1;
             continue;
         }
-        if tell_one(told, found, last.is_none()).is_err() {
-            return Err(MatchError::Memory);
-        }
+        told.tell_one(found, last.is_none());
         at = found.end();
         last = Some(at);
     }
@@ -113,17 +117,13 @@ fn tell_all<A: Automaton>(
 }
 
 /// Appends the end of the line that begins behind so many bytes, before it why a search came to no end.
-fn tell_rest(
-    told: &mut String,
-    before: usize,
-    ended: Result<(), MatchError>,
-) -> Result<(), Failure> {
+fn tell_rest(told: &mut Told, before: usize, ended: Result<(), MatchError>) {
     let Err(error) = ended else {
-        told.push('\n')?;
-        return Ok(());
+        told.push("\n");
+        return;
     };
     if told.len() > before {
-        told.push(' ')?;
+        told.push(" ");
     }
-    tell_error(told, error)
+    told.tell_error(error);
 }

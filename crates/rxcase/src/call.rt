@@ -11,6 +11,8 @@ pub enum Engine {
     PikeVM,
     /// The bounded backtracker.
     Backtrack,
+    /// The one-pass DFA.
+    OnePass,
     /// The strategy of a regex.
     Core,
 }
@@ -23,6 +25,7 @@ impl Engine {
             "lazy" => Some(Engine::Lazy),
             "pikevm" => Some(Engine::PikeVM),
             "backtrack" => Some(Engine::Backtrack),
+            "onepass" => Some(Engine::OnePass),
             "core" => Some(Engine::Core),
             _ => None,
         }
@@ -50,7 +53,7 @@ pub enum Call {
     Set,
     /// The bytes that are accounted for a cache; of a lazy DFA before a search for an end, what that tells, and those after it.
     Memory,
-    /// The bytes of a full DFA's table, or those that are accounted for a strategy.
+    /// The bytes of a full DFA's table or of a one-pass DFA's, or those that are accounted for a strategy.
     Size,
 }
 

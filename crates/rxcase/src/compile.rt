@@ -3,7 +3,6 @@ ghost use Rattle.std.specs.Prelude.{◌≡◌, IfOk};
 ghost use Rattle.rx_nfa.specs.Config.{reverse_of};
 
 use crate::ask::Ask;
-use crate::build::Source;
 use crate::failure::Failure;
 use rx_nfa::Config;
 use rx_prefilter::Prefilter;
@@ -20,7 +19,7 @@ pub fn nfa(alloc: Global, ask: &Ask<'_>, reverse: bool) -> Result<NFA, Failure>
     ensures { IfOk result (λ nfa. nfa.reverse ≡ reverse) }
 {
     let patterns = texts(alloc, ask.patterns)?;
-    Ok(compiler(ask.building.utf8, reverse).build_many(alloc, &patterns)?)
+    Ok(compiler(!ask.has("utf8:no"), reverse).build_many(alloc, &patterns)?)
 }
 
 /// The NFA that is asked for, which reads forwards.
@@ -29,11 +28,13 @@ pub fn nfa(alloc: Global, ask: &Ask<'_>, reverse: bool) -> Result<NFA, Failure>
 ///
 /// As `nfa`.
 pub fn source(alloc: Global, ask: &Ask<'_>) -> Result<NFA, Failure> {
-    match ask.building.source {
-        Source::Patterns => nfa(alloc, ask, false),
-        Source::Always => Ok(NFA::always_match(alloc)?),
-        Source::Never => Ok(NFA::never_match(alloc)?),
+    if ask.has("nfa:always") {
+        return Ok(NFA::always_match(alloc)?);
     }
+    if ask.has("nfa:never") {
+        return Ok(NFA::never_match(alloc)?);
+    }
+    nfa(alloc, ask, false)
 }
 
 /// A compiler of NFAs, whether no match of theirs splits a character, and whether they read backwards.
@@ -66,8 +67,8 @@ pub fn prefilter(alloc: Global, ask: &Ask<'_>) -> Result<Option<Prefilter>, Memo
 /// The needles.
 fn needles(alloc: Global, ask: &Ask<'_>) -> Result<Vec<Vec<u8>>, Memory> {
     let mut needles = Vec::new(alloc);
-    for k in 0..ask.options.len() {
-        if let Some(needle) = ask.needle(k) {
+    for option in ask.options {
+        if let Some(needle) = option.strip_prefix("needle:") {
             add(alloc, &mut needles, needle.as_bytes())?;
         }
     }

@@ -3,11 +3,10 @@ ghost use Rattle.std.specs.Prelude.{◌≡◌, ◌≤◌, IfOk, length, false};
 ghost use Rattle.rx_dfa.specs.LazyCache.{IsCacheOf};
 
 use crate::ask::Ask;
-use crate::build::Building;
 use crate::call::Call;
 use crate::compile::nfa;
 use crate::failure::Failure;
-use crate::tell::{tell_bytes, tell_half};
+use crate::told::Told;
 use crate::{ahead, behind, both, sets};
 use rx_dfa::lazy::{Lazy, LazyCache};
 use rx_dfa::{Dense, dense, lazy, try_search_half_fwd};
@@ -16,84 +15,83 @@ use rx_thompson::NFA;
 use std::alloc::Global;
 
 /// Appends what the full DFA tells.
-pub fn by_dense(alloc: Global, ask: &Ask<'_>, told: &mut String) -> Result<(), Failure> {
-    match ask.call {
+pub fn by_dense(alloc: Global, ask: &Ask<'_>, told: &mut Told) {
+    let ended = match ask.call {
         Call::End => dense_ahead(alloc, ask, told),
         Call::Set => dense_set(alloc, ask, told),
         Call::Start => dense_behind(alloc, ask, told),
         Call::Span | Call::Matches => dense_both(alloc, ask, told),
         Call::Size => size(alloc, ask, told),
         _ => Err(Failure::Usage),
-    }
+    };
+    told.end(ended);
 }
 
 /// Appends what lazy DFAs tell.
-pub fn by_lazy(alloc: Global, ask: &Ask<'_>, told: &mut String) -> Result<(), Failure> {
-    match ask.call {
+pub fn by_lazy(alloc: Global, ask: &Ask<'_>, told: &mut Told) {
+    let ended = match ask.call {
         Call::End => lazy_ahead(alloc, ask, told),
         Call::Memory => lazy_memory(alloc, ask, told),
         Call::Set => lazy_set(alloc, ask, told),
         Call::Start => lazy_behind(alloc, ask, told),
         Call::Span | Call::Matches => lazy_both(alloc, ask, told),
         _ => Err(Failure::Usage),
-    }
+    };
+    told.end(ended);
 }
 
-fn dense_ahead(alloc: Global, ask: &Ask<'_>, told: &mut String) -> Result<(), Failure> {
-    let dfa = full(alloc, ask, ask.building.kind, false)?;
-    ahead::tell(alloc, ask, &dfa, &mut (), told)
+fn dense_ahead(alloc: Global, ask: &Ask<'_>, told: &mut Told) -> Result<(), Failure> {
+    let dfa = full(alloc, ask, ask.kind(), false)?;
+    ahead::tell(alloc, ask, &dfa, &mut (), told);
+    Ok(())
 }
 
-fn dense_behind(alloc: Global, ask: &Ask<'_>, told: &mut String) -> Result<(), Failure> {
+fn dense_behind(alloc: Global, ask: &Ask<'_>, told: &mut Told) -> Result<(), Failure> {
     let dfa = full(alloc, ask, MatchKind::All, true)?;
-    behind::tell(ask, &dfa, &mut (), told)
+    behind::tell(ask, &dfa, &mut (), told);
+    Ok(())
 }
 
-fn dense_both(alloc: Global, ask: &Ask<'_>, told: &mut String) -> Result<(), Failure> {
-    let forward = full(alloc, ask, ask.building.kind, false)?;
+fn dense_both(alloc: Global, ask: &Ask<'_>, told: &mut Told) -> Result<(), Failure> {
+    let forward = full(alloc, ask, ask.kind(), false)?;
     dense_from(alloc, ask, &forward, told)
 }
 
-fn dense_from(
-    alloc: Global,
-    ask: &Ask<'_>,
-    forward: &Dense,
-    told: &mut String,
-) -> Result<(), Failure>
+fn dense_from(alloc: Global, ask: &Ask<'_>, forward: &Dense, told: &mut Told) -> Result<(), Failure>
     requires { forward.now.dfa.nfa.reverse ≡ false }
 {
     let backward = full(alloc, ask, MatchKind::All, true)?;
-    both::tell(ask, forward, &mut (), &backward, &mut (), told)
+    both::tell(ask, forward, &mut (), &backward, &mut (), told);
+    Ok(())
 }
 
-fn lazy_ahead(alloc: Global, ask: &Ask<'_>, told: &mut String) -> Result<(), Failure> {
-    let dfa = on_demand(alloc, ask, ask.building.kind, false)?;
-    let mut cache = lazy_cache(alloc, ask, &dfa)?;
-    ahead::tell(alloc, ask, &dfa, &mut cache, told)
+fn lazy_ahead(alloc: Global, ask: &Ask<'_>, told: &mut Told) -> Result<(), Failure> {
+    let dfa = on_demand(alloc, ask, ask.kind(), false)?;
+    lazy_ahead_by(alloc, ask, &dfa, told)
 }
 
-fn lazy_memory(alloc: Global, ask: &Ask<'_>, told: &mut String) -> Result<(), Failure> {
-    let dfa = on_demand(alloc, ask, ask.building.kind, false)?;
-    let mut cache = lazy_cache(alloc, ask, &dfa)?;
-    lazy_accounted(ask, &dfa, &mut cache, told)
-}
-
-/// Appends the bytes that are accounted for the cache, what a search for an end tells, and the bytes after it.
-fn lazy_accounted(
-    ask: &Ask<'_>,
-    dfa: &Lazy,
-    cache: &mut LazyCache,
-    told: &mut String,
-) -> Result<(), Failure>
-    requires fits { IsCacheOf dfa.now cache.old }
-    requires forward { dfa.now.dfa.nfa.reverse ≡ false }
+fn lazy_ahead_by(alloc: Global, ask: &Ask<'_>, dfa: &Lazy, told: &mut Told) -> Result<(), Failure>
+    requires { dfa.now.dfa.nfa.reverse ≡ false }
 {
-    tell_bytes(told, cache.memory_usage())?;
-    tell_half(
-        told,
-        try_search_half_fwd(dfa, cache, &Input::new(ask.input)),
-    )?;
-    tell_bytes(told, cache.memory_usage())
+    let mut cache = LazyCache::new(alloc, dfa)?;
+    ahead::tell(alloc, ask, dfa, &mut cache, told);
+    Ok(())
+}
+
+fn lazy_memory(alloc: Global, ask: &Ask<'_>, told: &mut Told) -> Result<(), Failure> {
+    let dfa = on_demand(alloc, ask, ask.kind(), false)?;
+    lazy_memory_by(alloc, ask, &dfa, told)
+}
+
+/// Appends the bytes that are accounted for a cache, what a search for an end tells, and the bytes after it.
+fn lazy_memory_by(alloc: Global, ask: &Ask<'_>, dfa: &Lazy, told: &mut Told) -> Result<(), Failure>
+    requires { dfa.now.dfa.nfa.reverse ≡ false }
+{
+    let mut cache = lazy_cache(alloc, ask, dfa)?;
+    told.tell_bytes(cache.memory_usage());
+    told.tell_half(try_search_half_fwd(dfa, &mut cache, &Input::new(ask.input)));
+    told.tell_bytes(cache.memory_usage());
+    Ok(())
 }
 
 /// A cache for the DFA: a new one, or that of the earlier engine, reset.
@@ -116,20 +114,21 @@ fn lazy_reset(alloc: Global, earlier: &Ask<'_>, dfa: &Lazy) -> Result<LazyCache,
 
 /// A cache that served a search of the input.
 fn lazy_used(alloc: Global, ask: &Ask<'_>) -> Result<LazyCache, Failure> {
-    let dfa = on_demand(alloc, ask, ask.building.kind, false)?;
+    let dfa = on_demand(alloc, ask, ask.kind(), false)?;
     let mut cache = LazyCache::new(alloc, &dfa)?;
     let _found = try_search_half_fwd(&dfa, &mut cache, &Input::new(ask.input));
     Ok(cache)
 }
 
-fn lazy_behind(alloc: Global, ask: &Ask<'_>, told: &mut String) -> Result<(), Failure> {
+fn lazy_behind(alloc: Global, ask: &Ask<'_>, told: &mut Told) -> Result<(), Failure> {
     let dfa = on_demand(alloc, ask, MatchKind::All, true)?;
     let mut cache = LazyCache::new(alloc, &dfa)?;
-    behind::tell(ask, &dfa, &mut cache, told)
+    behind::tell(ask, &dfa, &mut cache, told);
+    Ok(())
 }
 
-fn lazy_both(alloc: Global, ask: &Ask<'_>, told: &mut String) -> Result<(), Failure> {
-    let forward = on_demand(alloc, ask, ask.building.kind, false)?;
+fn lazy_both(alloc: Global, ask: &Ask<'_>, told: &mut Told) -> Result<(), Failure> {
+    let forward = on_demand(alloc, ask, ask.kind(), false)?;
     let mut cache = LazyCache::new(alloc, &forward)?;
     lazy_from(alloc, ask, &forward, &mut cache, told)
 }
@@ -139,27 +138,29 @@ fn lazy_from(
     ask: &Ask<'_>,
     forward: &Lazy,
     cache: &mut LazyCache,
-    told: &mut String,
+    told: &mut Told,
 ) -> Result<(), Failure>
     requires fits { IsCacheOf forward.now cache.old }
     requires forward { forward.now.dfa.nfa.reverse ≡ false }
 {
     let backward = on_demand(alloc, ask, MatchKind::All, true)?;
     let mut second = LazyCache::new(alloc, &backward)?;
-    both::tell(ask, forward, cache, &backward, &mut second, told)
+    both::tell(ask, forward, cache, &backward, &mut second, told);
+    Ok(())
 }
 
-fn dense_set(alloc: Global, ask: &Ask<'_>, told: &mut String) -> Result<(), Failure> {
+fn dense_set(alloc: Global, ask: &Ask<'_>, told: &mut Told) -> Result<(), Failure> {
     let nfa = nfa(alloc, ask, false)?;
     let mut set = PatternSet::new(alloc, nfa.pattern_len())?;
-    let dfa = full_of(alloc, ask.building, nfa, ask.building.kind)?;
-    sets::tell(ask, &dfa, &mut (), &mut set, told)
+    let dfa = full_of(alloc, ask, nfa, ask.kind())?;
+    sets::tell(ask, &dfa, &mut (), &mut set, told);
+    Ok(())
 }
 
-fn lazy_set(alloc: Global, ask: &Ask<'_>, told: &mut String) -> Result<(), Failure> {
+fn lazy_set(alloc: Global, ask: &Ask<'_>, told: &mut Told) -> Result<(), Failure> {
     let nfa = nfa(alloc, ask, false)?;
     let mut set = PatternSet::new(alloc, nfa.pattern_len())?;
-    let dfa = on_demand_of(alloc, ask.building, nfa, ask.building.kind)?;
+    let dfa = on_demand_of(alloc, ask, nfa, ask.kind())?;
     lazy_filled(alloc, ask, &dfa, &mut set, told)
 }
 
@@ -168,13 +169,14 @@ fn lazy_filled(
     ask: &Ask<'_>,
     dfa: &Lazy,
     set: &mut PatternSet,
-    told: &mut String,
+    told: &mut Told,
 ) -> Result<(), Failure>
     requires forward { dfa.now.dfa.nfa.reverse ≡ false }
     requires room { length dfa.now.dfa.nfa.starts ≤ length set.old }
 {
     let mut cache = LazyCache::new(alloc, dfa)?;
-    sets::tell(ask, dfa, &mut cache, set, told)
+    sets::tell(ask, dfa, &mut cache, set, told);
+    Ok(())
 }
 
 /// A full DFA of the patterns, of this kind, whether it reads backwards.
@@ -182,14 +184,15 @@ fn full(alloc: Global, ask: &Ask<'_>, kind: MatchKind, reverse: bool) -> Result<
     ensures { IfOk result (λ d. d.dfa.nfa.reverse ≡ reverse) }
 {
     let nfa = nfa(alloc, ask, reverse)?;
-    full_of(alloc, ask.building, nfa, kind)
+    full_of(alloc, ask, nfa, kind)
 }
 
 /// A full DFA of the NFA.
-fn full_of(alloc: Global, how: Building, nfa: NFA, kind: MatchKind) -> Result<Dense, Failure>
+fn full_of(alloc: Global, ask: &Ask<'_>, nfa: NFA, kind: MatchKind) -> Result<Dense, Failure>
     ensures { IfOk result (λ d. d.dfa.nfa ≡ nfa) }
 {
-    match Dense::build_from_nfa(alloc, nfa, kind, how.classes, how.limit) {
+    let classes = !ask.has("classes:off");
+    match Dense::build_from_nfa(alloc, nfa, kind, classes, ask.number("limit")) {
         Ok(dfa) => Ok(dfa),
         Err(dense::BuildError::TooBig { limit, size }) => Err(Failure::TooBig { limit, size }),
         Err(dense::BuildError::Memory) => Err(Failure::Memory),
@@ -201,14 +204,16 @@ fn on_demand(alloc: Global, ask: &Ask<'_>, kind: MatchKind, reverse: bool) -> Re
     ensures { IfOk result (λ d. d.dfa.nfa.reverse ≡ reverse) }
 {
     let nfa = nfa(alloc, ask, reverse)?;
-    on_demand_of(alloc, ask.building, nfa, kind)
+    on_demand_of(alloc, ask, nfa, kind)
 }
 
 /// A lazy DFA of the NFA.
-fn on_demand_of(alloc: Global, how: Building, nfa: NFA, kind: MatchKind) -> Result<Lazy, Failure>
+fn on_demand_of(alloc: Global, ask: &Ask<'_>, nfa: NFA, kind: MatchKind) -> Result<Lazy, Failure>
     ensures { IfOk result (λ d. d.dfa.nfa ≡ nfa) }
 {
-    match Lazy::build_from_nfa(alloc, nfa, kind, how.classes, how.capacity) {
+    let classes = !ask.has("classes:off");
+    let capacity = ask.number("capacity").unwrap_or(1 << 20);
+    match Lazy::build_from_nfa(alloc, nfa, kind, classes, capacity) {
         Ok(dfa) => Ok(dfa),
         Err(lazy::BuildError::CacheTooSmall { minimum, given }) => {
             Err(Failure::TooSmall { minimum, given })
@@ -218,7 +223,8 @@ fn on_demand_of(alloc: Global, how: Building, nfa: NFA, kind: MatchKind) -> Resu
 }
 
 /// Appends the bytes of a full DFA's table.
-fn size(alloc: Global, ask: &Ask<'_>, told: &mut String) -> Result<(), Failure> {
-    let dfa = full(alloc, ask, ask.building.kind, ask.building.backwards)?;
-    tell_bytes(told, dfa.memory_usage())
+fn size(alloc: Global, ask: &Ask<'_>, told: &mut Told) -> Result<(), Failure> {
+    let dfa = full(alloc, ask, ask.kind(), ask.has("backwards"))?;
+    told.tell_bytes(dfa.memory_usage());
+    Ok(())
 }

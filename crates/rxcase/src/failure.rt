@@ -1,8 +1,8 @@
 //! Why an engine tells nothing.
 
+use rx_onepass::BuildError as OnePassError;
 use rx_search::Memory;
 use rx_thompson::BuildError;
-use std::alloc::{AllocError, AllocFailed};
 use std::{fmt, io};
 
 /// Why an engine tells nothing.
@@ -16,6 +16,8 @@ pub enum Failure {
     TooBig { limit: usize, size: usize },
     /// The capacity of a cache is below the minimum.
     TooSmall { minimum: usize, given: usize },
+    /// There is no one-pass DFA of the patterns.
+    OnePass(OnePassError),
     /// There was no memory.
     Memory,
     /// The input or the output failed.
@@ -31,6 +33,7 @@ impl fmt::Display for Failure {
             Failure::TooSmall { minimum, given } => {
                 write!(f, "{} bytes are below {}", *given, *minimum)
             }
+            Failure::OnePass(error) => write!(f, "{error}"),
             Failure::Memory => write!(f, "out of memory"),
             Failure::System => write!(f, "the system failed"),
         }
@@ -54,18 +57,6 @@ impl From<Memory> for Failure {
     }
 }
 
-impl From<AllocError> for Failure {
-    fn from(_error: AllocError) -> Failure {
-        Failure::Memory
-    }
-}
-
-impl<T: Drop> From<AllocFailed<T>> for Failure {
-    fn from(_error: AllocFailed<T>) -> Failure {
-        Failure::Memory
-    }
-}
-
 impl From<io::Error> for Failure {
     fn from(_error: io::Error) -> Failure {
         Failure::System
@@ -77,6 +68,15 @@ impl From<BuildError> for Failure {
         match error {
             BuildError::Memory => Failure::Memory,
             _ => Failure::Patterns,
+        }
+    }
+}
+
+impl From<OnePassError> for Failure {
+    fn from(error: OnePassError) -> Failure {
+        match error {
+            OnePassError::Memory => Failure::Memory,
+            other => Failure::OnePass(other),
         }
     }
 }

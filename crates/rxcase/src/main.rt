@@ -7,16 +7,15 @@ mod ask;
 mod backtrack;
 mod behind;
 mod both;
-mod build;
 mod call;
 mod compile;
 mod dfa;
 mod failure;
+mod onepass;
 mod pikevm;
-mod search;
 mod sets;
 mod strategy;
-mod tell;
+mod told;
 
 use ask::{Ask, read};
 use call::Engine;
@@ -26,6 +25,7 @@ use std::io::Read;
 use std::process::ExitCode;
 use std::rt::{Env, Runtime};
 use std::{env, io};
+use told::Told;
 
 fn main(rt: HostRuntime) -> ExitCode {
     match run(&rt) {
@@ -63,26 +63,33 @@ fn answer<'w, R: Runtime + AllocGlobal>(
     input: &'w [u8],
 ) -> Result<(), Failure> {
     match read(words, input) {
-        Some(ask) => print(rt, &ask),
+        Some(ask) => print(rt, &told_of(rt.alloc(), &ask)),
         None => Err(Failure::Usage),
     }
 }
 
 /// Prints what is told.
-fn print<R: Runtime + AllocGlobal>(rt: &R, ask: &Ask<'_>) -> Result<(), Failure> {
-    let mut told = String::new(rt.alloc());
-    tell_asked(rt.alloc(), ask, &mut told)?;
-    print!(rt; "{told}")?;
+fn print<R: Runtime + AllocGlobal>(rt: &R, told: &Told) -> Result<(), Failure> {
+    let text = told.text()?;
+    print!(rt; "{text}")?;
     Ok(())
 }
 
+/// What the engine tells.
+fn told_of(alloc: Global, ask: &Ask<'_>) -> Told {
+    let mut told = Told::new(alloc);
+    tell(alloc, ask, &mut told);
+    told
+}
+
 /// Appends what the engine tells.
-fn tell_asked(alloc: Global, ask: &Ask<'_>, told: &mut String) -> Result<(), Failure> {
+fn tell(alloc: Global, ask: &Ask<'_>, told: &mut Told) {
     match ask.engine {
         Engine::Dense => dfa::by_dense(alloc, ask, told),
         Engine::Lazy => dfa::by_lazy(alloc, ask, told),
         Engine::PikeVM => pikevm::tell(alloc, ask, told),
         Engine::Backtrack => backtrack::tell(alloc, ask, told),
+        Engine::OnePass => onepass::tell(alloc, ask, told),
         Engine::Core => strategy::tell(alloc, ask, told),
     }
 }

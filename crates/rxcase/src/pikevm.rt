@@ -6,29 +6,33 @@ use crate::ask::Ask;
 use crate::call::Call;
 use crate::compile::{prefilter, source};
 use crate::failure::Failure;
-use crate::tell::{
-    tell_bytes, tell_end, tell_match, tell_none, tell_places, tell_set, tell_slots, tell_test,
-};
+use crate::told::Told;
 use rx_engines::pikevm::{Cache, PikeVM};
 use rx_search::{Input, NonMaxUsize, PatternSet};
 use std::alloc::Global;
 
 /// Appends what the PikeVM tells of each haystack, with one cache.
-pub fn tell(alloc: Global, ask: &Ask<'_>, told: &mut String) -> Result<(), Failure> {
+pub fn tell(alloc: Global, ask: &Ask<'_>, told: &mut Told) {
+    let ended = tell_made(alloc, ask, told);
+    told.end(ended);
+}
+
+fn tell_made(alloc: Global, ask: &Ask<'_>, told: &mut Told) -> Result<(), Failure> {
     let vm = made(alloc, ask)?;
     tell_by(alloc, ask, &vm, told)
 }
 
-fn tell_by(alloc: Global, ask: &Ask<'_>, vm: &PikeVM, told: &mut String) -> Result<(), Failure> {
+fn tell_by(alloc: Global, ask: &Ask<'_>, vm: &PikeVM, told: &mut Told) -> Result<(), Failure> {
     let mut cache = cache_for(alloc, ask, vm)?;
-    tell_each(alloc, ask, vm, &mut cache, told)
+    tell_each(alloc, ask, vm, &mut cache, told);
+    Ok(())
 }
 
 /// The PikeVM that is asked for.
 fn made(alloc: Global, ask: &Ask<'_>) -> Result<PikeVM, Failure> {
     let pre = prefilter(alloc, ask)?;
     let nfa = source(alloc, ask)?;
-    Ok(PikeVM::build_from_nfa(nfa, ask.building.kind, pre))
+    Ok(PikeVM::build_from_nfa(nfa, ask.kind(), pre))
 }
 
 /// A cache for it: a new one, or that of the earlier engine, reset.
@@ -61,21 +65,17 @@ fn used_by(alloc: Global, ask: &Ask<'_>, vm: &PikeVM) -> Result<Cache, Failure> 
     Ok(cache)
 }
 
-fn tell_each(
-    alloc: Global,
-    ask: &Ask<'_>,
-    vm: &PikeVM,
-    cache: &mut Cache,
-    told: &mut String,
-) -> Result<(), Failure>
+fn tell_each(alloc: Global, ask: &Ask<'_>, vm: &PikeVM, cache: &mut Cache, told: &mut Told)
     requires { Fits vm.now cache.old }
 {
-    let lines = ask.searching.lines;
+    let lines = ask.has("lines");
     'haystacks: for haystack in ask.haystacks().split(|byte| lines && *byte == b'\n') {
-        let input = ask.searching.input(haystack)?;
-        tell_input(alloc, ask, vm, cache, &input, told)?;
+        let Some(input) = ask.input(haystack) else {
+            told.refuse(Failure::Usage);
+            return;
+        };
+        tell_input(alloc, ask, vm, cache, &input, told);
     }
-    Ok(())
 }
 
 /// Appends what it tells of an input.
@@ -85,59 +85,66 @@ fn tell_input(
     vm: &PikeVM,
     cache: &mut Cache,
     input: &Input<'_>,
-    told: &mut String,
-) -> Result<(), Failure>
+    told: &mut Told,
+)
     requires { Fits vm.now cache.old }
     ensures { Fits vm.now cache.new }
 {
     match ask.call {
-        Call::Memory => tell_bytes(told, cache.memory_usage()),
-        Call::Span => tell_match(told, Ok(vm.find(cache, input))),
-        Call::End => tell_end(told, Ok(vm.find(cache, input))),
-        Call::Test => tell_test(told, vm.is_match(cache, input)),
-        Call::Set => tell_filled(alloc, vm, cache, input, told),
-        Call::Slots => {
-            let mut slots = ask.slots(alloc, vm.get_nfa().slot_len())?;
-            tell_found(vm, cache, input, &mut slots, told)
-        }
-        Call::Places => {
-            let mut slots = ask.slots(alloc, vm.get_nfa().slot_len())?;
-            let found = vm.search_slots(cache, input, &mut slots);
-            tell_places(told, found, &slots)
-        }
-        _ => Err(Failure::Usage),
+        Call::Memory => told.tell_bytes(cache.memory_usage()),
+        Call::Span => told.tell_match(Ok(vm.find(cache, input))),
+        Call::End => told.tell_end(Ok(vm.find(cache, input))),
+        Call::Test => told.tell_test(vm.is_match(cache, input)),
+        Call::Set => tell_set(alloc, vm, cache, input, told),
+        Call::Slots | Call::Places => tell_slots(alloc, ask, vm, cache, input, told),
+        _ => told.refuse(Failure::Usage),
     }
 }
 
-/// Appends the patterns that have a match.
-fn tell_filled(
+/// Appends what stands in the slots after a search.
+fn tell_slots(
     alloc: Global,
+    ask: &Ask<'_>,
     vm: &PikeVM,
     cache: &mut Cache,
     input: &Input<'_>,
-    told: &mut String,
-) -> Result<(), Failure>
+    told: &mut Told,
+)
     requires { Fits vm.now cache.old }
     ensures { Fits vm.now cache.new }
 {
-    let mut set = PatternSet::new(alloc, vm.get_nfa().pattern_len())?;
-    vm.which_overlapping_matches(cache, input, &mut set);
-    tell_set(told, &set)
+    match ask.slots(alloc, vm.get_nfa().slot_len()) {
+        Ok(mut slots) => tell_found(ask, vm, cache, input, &mut slots, told),
+        Err(_) => told.refuse(Failure::Memory),
+    }
 }
 
-/// Appends the next match with these slots.
+/// The same of these slots.
 fn tell_found(
+    ask: &Ask<'_>,
     vm: &PikeVM,
     cache: &mut Cache,
     input: &Input<'_>,
     slots: &mut [Option<NonMaxUsize>],
-    told: &mut String,
-) -> Result<(), Failure>
+    told: &mut Told,
+)
     requires { Fits vm.now cache.old }
     ensures { Fits vm.now cache.new }
 {
-    match vm.find_slots(cache, input, slots) {
-        Some(found) => tell_slots(told, found.pattern(), slots),
-        None => tell_none(told),
+    let found = vm.search_slots(cache, input, slots);
+    told.tell_slots(ask.call, found, slots);
+}
+
+/// Appends the patterns that have a match.
+fn tell_set(alloc: Global, vm: &PikeVM, cache: &mut Cache, input: &Input<'_>, told: &mut Told)
+    requires { Fits vm.now cache.old }
+    ensures { Fits vm.now cache.new }
+{
+    match PatternSet::new(alloc, vm.get_nfa().pattern_len()) {
+        Ok(mut set) => {
+            vm.which_overlapping_matches(cache, input, &mut set);
+            told.tell_set(&set);
+        }
+        Err(_) => told.refuse(Failure::Memory),
     }
 }

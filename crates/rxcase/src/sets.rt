@@ -3,7 +3,7 @@ ghost use Rattle.std.specs.Prelude.{◌≡◌, ◌≤◌, length, false};
 
 use crate::ask::Ask;
 use crate::failure::Failure;
-use crate::tell::{tell_error, tell_set};
+use crate::told::Told;
 use rx_dfa::{Automaton, try_which_overlapping};
 use rx_search::PatternSet;
 
@@ -13,17 +13,19 @@ pub fn tell<A: Automaton>(
     dfa: &A,
     cache: &mut A::Cache,
     set: &mut PatternSet,
-    told: &mut String,
-) -> Result<(), Failure>
+    told: &mut Told,
+)
     requires fits { A.fits dfa.now cache.old }
     requires forward { (A.dfa dfa.now).nfa.reverse ≡ false }
     requires room { length (A.dfa dfa.now).nfa.starts ≤ length set.old }
 {
-    let input = ask.searching.input(ask.input)?;
+    let Some(input) = ask.input(ask.input) else {
+        told.refuse(Failure::Usage);
+        return;
+    };
     let ended = try_which_overlapping(dfa, cache, &input, set);
-    tell_set(told, set)?;
-    match ended {
-        Ok(()) => Ok(()),
-        Err(error) => tell_error(told, error),
+    told.tell_set(set);
+    if let Err(error) = ended {
+        told.tell_error(error);
     }
 }

@@ -6,19 +6,21 @@ use crate::ask::Ask;
 use crate::call::Call;
 use crate::compile::{prefilter, texts};
 use crate::failure::Failure;
-use crate::tell::{
-    tell_bytes, tell_half, tell_match, tell_none, tell_places, tell_slots, tell_test,
-    without_memory,
-};
+use crate::told::Told;
 use rx_hir::Hir;
 use rx_nfa::BuildError;
-use rx_search::{Input, NonMaxUsize};
+use rx_search::{Input, MatchError, Memory, NonMaxUsize};
 use rx_strategy::{Cache, Config, Strategy};
 use rx_syntax::{ParseError, parse_many};
 use std::alloc::Global;
 
 /// Appends what the strategy tells.
-pub fn tell(alloc: Global, ask: &Ask<'_>, told: &mut String) -> Result<(), Failure> {
+pub fn tell(alloc: Global, ask: &Ask<'_>, told: &mut Told) {
+    let ended = tell_made(alloc, ask, told);
+    told.end(ended);
+}
+
+fn tell_made(alloc: Global, ask: &Ask<'_>, told: &mut Told) -> Result<(), Failure> {
     let strategy = made(alloc, ask)?;
     tell_by(alloc, ask, &strategy, told)
 }
@@ -27,14 +29,18 @@ fn tell_by(
     alloc: Global,
     ask: &Ask<'_>,
     strategy: &Strategy,
-    told: &mut String,
+    told: &mut Told,
 ) -> Result<(), Failure> {
     if ask.call == Call::Size {
-        return tell_bytes(told, strategy.memory_usage());
+        told.tell_bytes(strategy.memory_usage());
+        return Ok(());
     }
-    let input = ask.searching.input(ask.input)?;
+    let Some(input) = ask.input(ask.input) else {
+        return Err(Failure::Usage);
+    };
     let mut cache = cache_for(alloc, ask, strategy)?;
-    tell_input(alloc, ask, strategy, &mut cache, &input, told)
+    tell_input(alloc, ask, strategy, &mut cache, &input, told);
+    Ok(())
 }
 
 /// The strategy that is asked for.
@@ -74,16 +80,15 @@ fn parsed(alloc: Global, patterns: &[&str]) -> Result<Vec<Hir>, Failure> {
 /// The configuration that is asked for.
 fn config(alloc: Global, ask: &Ask<'_>) -> Result<Config, Failure> {
     let pre = prefilter(alloc, ask)?;
-    let building = ask.building;
     let config = Config::new()
-        .match_kind(building.kind)
-        .utf8_empty(building.utf8)
-        .which_captures(building.captures)
-        .nfa_size_limit(building.limit)
-        .auto_prefilter(!building.off.auto_prefilter)
-        .dfa(!building.off.dfa)
-        .hybrid(!building.off.hybrid)
-        .backtrack(!building.off.backtrack);
+        .match_kind(ask.kind())
+        .utf8_empty(!ask.has("utf8:no"))
+        .which_captures(ask.captures())
+        .nfa_size_limit(ask.number("limit"))
+        .auto_prefilter(!ask.is_off('p'))
+        .dfa(!ask.is_off('d'))
+        .hybrid(!ask.is_off('h'))
+        .backtrack(!ask.is_off('b'));
     Ok(config.prefilter(pre))
 }
 
@@ -117,6 +122,14 @@ fn used_by(alloc: Global, ask: &Ask<'_>, strategy: &Strategy) -> Result<Cache, F
     Ok(cache)
 }
 
+/// What a search found that may fail for want of memory alone.
+fn without_memory<T: Drop>(found: Result<T, Memory>) -> Result<T, MatchError> {
+    match found {
+        Ok(found) => Ok(found),
+        Err(_) => Err(MatchError::Memory),
+    }
+}
+
 /// Appends what it tells of an input.
 fn tell_input(
     alloc: Global,
@@ -124,47 +137,53 @@ fn tell_input(
     strategy: &Strategy,
     cache: &mut Cache,
     input: &Input<'_>,
-    told: &mut String,
-) -> Result<(), Failure>
+    told: &mut Told,
+)
     requires { Fits strategy.now cache.old }
-    ensures { Fits strategy.now cache.new }
 {
     match ask.call {
-        Call::Memory => tell_bytes(told, cache.memory_usage()),
-        Call::Span => tell_match(told, without_memory(strategy.search(cache, input))),
-        Call::End => tell_half(told, without_memory(strategy.search_half(cache, input))),
+        Call::Memory => told.tell_bytes(cache.memory_usage()),
+        Call::Span => told.tell_match(without_memory(strategy.search(cache, input))),
+        Call::End => told.tell_half(without_memory(strategy.search_half(cache, input))),
         Call::Test => match strategy.is_match(cache, input) {
-            Ok(is_there) => tell_test(told, is_there),
-            Err(_) => Err(Failure::Memory),
+            Ok(is_there) => told.tell_test(is_there),
+            Err(_) => told.refuse(Failure::Memory),
         },
-        Call::Slots | Call::Places => {
-            let mut slots = ask.slots(alloc, strategy.group_info().slot_len())?;
-            tell_found(ask, strategy, cache, input, &mut slots, told)
-        }
-        _ => Err(Failure::Usage),
+        Call::Slots | Call::Places => tell_slots(alloc, ask, strategy, cache, input, told),
+        _ => told.refuse(Failure::Usage),
     }
 }
 
-/// Appends the next match with these slots.
+/// Appends what stands in the slots after a search.
+fn tell_slots(
+    alloc: Global,
+    ask: &Ask<'_>,
+    strategy: &Strategy,
+    cache: &mut Cache,
+    input: &Input<'_>,
+    told: &mut Told,
+)
+    requires { Fits strategy.now cache.old }
+{
+    match ask.slots(alloc, strategy.group_info().slot_len()) {
+        Ok(mut slots) => tell_found(ask, strategy, cache, input, &mut slots, told),
+        Err(_) => told.refuse(Failure::Memory),
+    }
+}
+
+/// The same of these slots.
 fn tell_found(
     ask: &Ask<'_>,
     strategy: &Strategy,
     cache: &mut Cache,
     input: &Input<'_>,
     slots: &mut [Option<NonMaxUsize>],
-    told: &mut String,
-) -> Result<(), Failure>
+    told: &mut Told,
+)
     requires { Fits strategy.now cache.old }
-    ensures { Fits strategy.now cache.new }
 {
-    let pattern = match strategy.search_slots(cache, input, slots) {
-        Ok(Some(found)) => Some(found.pattern()),
-        Ok(None) => None,
-        Err(_) => return Err(Failure::Memory),
-    };
-    match (ask.call, pattern) {
-        (Call::Slots, Some(pattern)) => tell_slots(told, pattern, slots),
-        (Call::Slots, None) => tell_none(told),
-        _ => tell_places(told, pattern, slots),
+    match strategy.search_slots(cache, input, slots) {
+        Ok(found) => told.tell_slots(ask.call, found.map(|found| found.pattern()), slots),
+        Err(_) => told.refuse(Failure::Memory),
     }
 }

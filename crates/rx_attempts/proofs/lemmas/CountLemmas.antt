@@ -1,5 +1,5 @@
 -- The steps of an attempt, candidate by candidate.
-use Rattle.std.proofs.Common.{◌≡◌, ℕ, ◌+◌, ◌≤◌, List, [], ◌∷◌, refl, sym, ap, subst, arith}
+use Rattle.std.proofs.Common.{◌≡◌, ℕ, ◌+◌, ◌<◌, ◌≤◌, List, [], ◌∷◌, inr, refl, sym, ap, subst, arith}
 use Rattle.std.specs.Prelude.{Option, Some, None, IfSome, Result, Ok, Err, IfOk, OnOk, nat_lt}
 use Rattle.std.specs.Result.{IfErr}
 use Rattle.std.proofs.lemmas.Bool.Decides.{nat_tests}
@@ -14,7 +14,7 @@ use Rattle.rx_limited.specs.Stopat.{stop_forwards}
 use Rattle.rx_limited.specs.declared.retry_error.RetryError.{RetryError}
 use Rattle.rx_attempts.specs.Inputs.{up_to, from_start}
 use Rattle.rx_attempts.specs.Candidates.{IsNextCandidate, NoneBetween}
-use Rattle.rx_attempts.specs.Counts.{Trial, stop_after, last_end, last_stop, steps_at, steps_of, IsUnguarded, AreTried, Counts, Leaves, HasCounted, HasCountedBack, HasTried}
+use Rattle.rx_attempts.specs.Counts.{Trial, BeginsAt, stop_after, last_end, last_stop, steps_at, steps_of, IsUnguarded, AreTried, Counts, Leaves, HasCountedAll, HasCounted, HasCountedFirst, HasCountedBack, HasTried}
 use Rattle.rx_attempts.specs.Whole.{match_found}
 
 module _ (fwd rev : Dfa) (needles : List (List ℕ)) (v : InputValue) (place : Span → ℕ) where
@@ -106,34 +106,32 @@ module _ (fwd rev : Dfa) (needles : List (List ℕ)) (v : InputValue) (place : S
       taken,
     )
 
-  -- where no candidate is left
-  pub counted-nothing : (from old mid : ℕ) → Counts fwd rev needles v place from old mid → HasCounted fwd rev needles v place old mid None
-  counted-nothing from old mid counts = (from, counts, tt)
+  -- before the first candidate, where the span ends before it starts
+  pub counted-past : (old : ℕ) → v.end < v.start → HasCountedAll fwd rev needles v place old old
+  counted-past old past = (v.start, counts-fresh old, λ c low x. let inside = x.2.0 in let ends = x.2.2 in omega arith)
 
   -- after a search backwards that found this start, and one forwards
   pub counted-found : (old mid : ℕ) (start : HalfMatchValue) → HasCountedBack fwd rev needles v place old mid (Some start) → (new : ℕ)
       → new ≡ mid + calls_forwards fwd (from_start v start) → (found : Option MatchValue) → IfSome found (λ m. m.start ≡ start.offset)
-      → HasCounted fwd rev needles v place old new found
+      → HasCountedFirst fwd rev needles v place old new found
   counted-found old mid start b new taken found begins =
       let now = b.0 in
-      let counts = b.2 in (
-        now.start + 1,
-        record {
-          trials = record { candidate = now; start = Some start } ∷ counts.trials;
-          tried = (record { taken = b.3; before = omega arith; last = λ c low lt x. omega arith }, b.4, b.5, counts.tried);
-          steps = added old b.1 mid new (steps_of fwd rev needles v place counts.trials) (calls_backwards rev (up_to v (place now)))
-              (calls_forwards fwd (from_start v start)) counts.steps b.6 taken;
-        },
-        there found begins,
-      )
+      let counts = b.2 in
+      let whole : Counts fwd rev needles v place (now.start + 1) old new = record {
+        trials = record { candidate = now; start = Some start } ∷ counts.trials;
+        tried = (record { taken = b.3; before = omega arith; last = λ c low lt x. omega arith }, b.4, b.5, counts.tried);
+        steps = added old b.1 mid new (steps_of fwd rev needles v place counts.trials) (calls_backwards rev (up_to v (place now)))
+            (calls_forwards fwd (from_start v start)) counts.steps b.6 taken;
+      } in
+      there found begins (now.start + 1) whole (start, refl, refl)
     where
       added : (old before mid new sum back more : ℕ) → before ≡ old + sum → mid ≡ before + back → new ≡ mid + more → new ≡ old + (sum + (back + more))
       added old before mid new sum back more e f g = omega arith
 
-      there : (found : Option MatchValue) → IfSome found (λ m. m.start ≡ start.offset)
-          → IfSome found (λ m. (h : HalfMatchValue) × (Some start ≡ Some h) × (h.offset ≡ m.start))
-      there None h = tt
-      there (Some m) h = (start, refl, sym h)
+      there : (found : Option MatchValue) → IfSome found (λ m. m.start ≡ start.offset) → (before : ℕ) (c : Counts fwd rev needles v place before old new)
+          → BeginsAt start.offset c.trials → HasCountedFirst fwd rev needles v place old new found
+      there None h before c last = inr (start.offset, (before, c, last))
+      there (Some m) h before c last = (before, c, subst (λ i. BeginsAt i c.trials) (sym h) last)
 
 module _ (fwd rev : Dfa) (needles : List (List ℕ)) (v : InputValue) (place : Span → ℕ) (now : Span) (min_start stopped old : ℕ) where
   -- the steps of one candidate, where the search backwards found this start

@@ -58,7 +58,7 @@ module _ (j : Job) (sorted : All HasSortedTransitions j.nfa.now.states) (entries
     starts = f.starts;
     are = λ k q e. (let own = f.own k q e in are own.0 q own.1);
     all = λ q is. (let e = all-there q is in f.kept e.0 q e.1);
-    one_pass = λ q is. (let e = all-there q is in f.one_pass e.0 q e.1);
+    clear = λ q is. (let e = all-there q is in f.clear e.0 q e.1);
     stride = f.stride_is;
     classes = f.classes;
     within = subst (IsWithin layout) (sym f.rows) within;
@@ -76,7 +76,7 @@ built-of config j layout b each admitted classes laid t = record {
   starts_are = subst (λ x. AreStarts j.nfa.now x t.entries b.starts.items) each t.starts;
   are = subst (λ x. AreEntries j.nfa.now x t.entries) each t.are;
   all = λ q is. t.all q (subst (λ x. IsEntry j.nfa.now x q) (sym each) is);
-  one_pass = λ q is. t.one_pass q (subst (λ x. IsEntry j.nfa.now x q) (sym each) is);
+  clear = λ q is. t.clear q (subst (λ x. IsEntry j.nfa.now x q) (sym each) is);
   layout = layout;
   layout_is = laid;
   stride = t.stride;

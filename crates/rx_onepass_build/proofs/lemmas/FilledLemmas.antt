@@ -16,19 +16,17 @@ use Rattle.rx_nfa.specs.declared.state.Transition.{Transition}
 use Rattle.rx_nfa.specs.declared.state.State.{State}
 use Rattle.rx_nfa.specs.declared.state.State.TheVariants.{ByteRange, Sparse, Look, Union, Capture, Fail, Match}
 use Rattle.rx_nfa.proofs.lemmas.classes.RowLemmas.{route-outside}
-use Rattle.rx_onepass_table.specs.Entry.{Accepts, Reads, IsOutdone, Conflicts, explicit_start}
+use Rattle.rx_onepass_table.specs.Entry.{Accepts, Reads, IsOutdone, IsClear, Conflicts, explicit_start}
 use Rattle.rx_onepass_table.specs.Rows.{IsStep, IsFinal}
 use Rattle.rx_onepass_table.specs.Walks.{WalksTo, written_on, asked_on}
 use Rattle.rx_onepass_table.specs.Words.{Step, Final}
 use Rattle.rx_onepass_table.proofs.lemmas.CellLemmas.{class-below}
-use Rattle.rx_onepass_build.specs.Build.{AcceptsTwice, IsOnePass}
 use Rattle.rx_onepass_build.specs.Filling.{step_at, IsStepOn, IsCell, IsToldBy, IsRowBy}
 use Rattle.rx_onepass_build.specs.Rows.{IsWalking, IsFilled}
 use Rattle.rx_onepass_build.specs.Tree.{IsSearched, AreMarked}
 use Rattle.rx_onepass_build.specs.declared.closure.Closure.{Closure}
 use Rattle.rx_onepass_build.specs.declared.job.Job.{Job}
 use Rattle.rx_onepass_build.proofs.lemmas.TreeLemmas.{searched-end}
-use Rattle.rx_onepass_build.proofs.lemmas.WayLemmas.{walks-one}
 
 -- where a cell is as each step, no two steps differ
 pub step-alike : (nfa : Nfa) (entries : List ℕ) (entry byte : ℕ) (s : Step) → IsStep nfa entries entry byte s → Conflicts nfa entry byte → ⊥
@@ -131,30 +129,19 @@ module _ (j : Job) (classes : AreClasses j.classes.now) (entries : List ℕ) (en
       by None x = tt
       by (Some p) x = (x.0, x.2)
 
-  one_pass : All HasSortedTransitions j.nfa.now.states → IsOnePass j.nfa.now entry
-  one_pass sorted = record {
-    clear = record {
-      states = λ q r. r.differ (m.once r.one r.other q (looked-at r.one q r.leads) (looked-at r.other q r.leads_too) r.leads r.leads_too);
-      accepts = λ first second a.
-          a.differ (some-is (sym (told.pattern first a.way (looked-at a.way a.accepts.state a.accepts.leads) a.accepts)
-          ∙ told.pattern second a.way_too (looked-at a.way_too a.accepts_too.state a.accepts_too.leads) a.accepts_too));
-      steps = λ byte c.
-          step-alike j.nfa.now entries entry byte (step_at cells (slice_index j.classes.now byte))
-          (steps byte (byte-small (state_at j.nfa.now.states c.reads.reader) byte c.next (state-sorted j.nfa.now.states sorted c.reads.reader) c.reads.goes)) c;
-    };
-    once = once;
+  clear : All HasSortedTransitions j.nfa.now.states → IsClear j.nfa.now entry
+  clear sorted = record {
+    states = λ q r. r.differ (m.once r.one r.other q (looked-at r.one q r.leads) (looked-at r.other q r.leads_too) r.leads r.leads_too);
+    accepts = λ first second a.
+        a.differ (some-is (sym (told.pattern first a.way (looked-at a.way a.accepts.state a.accepts.leads) a.accepts)
+        ∙ told.pattern second a.way_too (looked-at a.way_too a.accepts_too.state a.accepts_too.leads) a.accepts_too));
+    steps = λ byte c.
+        step-alike j.nfa.now entries entry byte (step_at cells (slice_index j.classes.now byte))
+        (steps byte (byte-small (state_at j.nfa.now.states c.reads.reader) byte c.next (state-sorted j.nfa.now.states sorted c.reads.reader) c.reads.goes)) c;
   }
-    where
-      once : (first second : ℕ) → AcceptsTwice j.nfa.now entry first second → ⊥
-      once first second a =
-          let same : a.way ≡ a.way_too =
-          told.one first second a.way a.way_too (looked-at a.way a.state a.leads) (looked-at a.way_too a.state_too a.leads_too)
-          (record { state = a.state; leads = a.leads; accepts = a.accepts }) (record { state = a.state_too; leads = a.leads_too; accepts = a.accepts_too }) in
-          a.differ (walks-one j.nfa.now.states entry a.way_too a.state a.state_too
-          (subst (λ w. WalksTo j.nfa.now.states entry w a.state) same a.leads) a.leads_too)
 
   pub row-filled : All HasSortedTransitions j.nfa.now.states → IsFilled j entries entry cells t
-  row-filled sorted = record { width = h.width; steps = steps; final = final; one_pass = one_pass sorted }
+  row-filled sorted = record { width = h.width; steps = steps; final = final; clear = clear sorted }
 
 -- the search has ended
 pub walking-filled : (j : Job) → AreClasses j.classes.now → All HasSortedTransitions j.nfa.now.states → (entries : List ℕ) (c : Closure)

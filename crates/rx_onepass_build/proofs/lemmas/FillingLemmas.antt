@@ -9,7 +9,7 @@ use Rattle.rx_model.proofs.lemmas.runs.RunLemmas.{by_test}
 use Rattle.rx_model.proofs.lemmas.runs.FirstLemmas.{none-is-some, some-is}
 use Rattle.rx_model.proofs.lemmas.runs.MemberLemmas.{first-among, later-among, split-among}
 use Rattle.rx_search.specs.ByteClasses.{class_count}
-use Rattle.rx_nfa.specs.Automaton.{state_at, state_accepts}
+use Rattle.rx_nfa.specs.Automaton.{state_at, state_accepts, AcceptsOnce}
 use Rattle.rx_nfa.specs.Nfa.{Nfa}
 use Rattle.rx_nfa.specs.Ordered.{target}
 use Rattle.rx_onepass_table.specs.Along.{kind_at}
@@ -78,7 +78,6 @@ module _ (nfa : Nfa) (entry : ℕ) (way : List ℕ) (f : Frame) (w : IsWay nfa e
     pattern = λ p other m a. h.pattern p other (old p other m a) a;
     slots = λ p other m a. h.slots p other (old p other m a) a;
     looks = λ p other m a. h.looks p other (old p other m a) a;
-    one = λ p q one other m n a b. h.one p q one other (old p one m a) (old q other n b) a b;
   }
     where
       old : (p : ℕ) (other : List ℕ) → Contains (way ∷ done) other → Accepts nfa entry p other → Contains done other
@@ -108,11 +107,9 @@ module _ (nfa : Nfa) (entry : ℕ) (way : List ℕ) (f : Frame) (w : IsWay nfa e
         pattern = λ q other m a. sym accepts ∙ accepts-is q (subst (λ x. Accepts nfa entry q x) (sym (alone q other m a)) a);
         slots = λ q other m a. subst (λ x. AreSlots nfa f.epsilons.slots entry x) (alone q other m a) w.slots;
         looks = λ q other m a. subst (λ x. AreLooks nfa f.epsilons.looks entry x) (alone q other m a) w.looks;
-        one = λ q r one other m n a b. sym (alone q one m a) ∙ alone r other n b;
       }
 
-  pub told-twice : ((p q r : ℕ) → state_accepts (state_at nfa.states q) ≡ Some p → state_accepts (state_at nfa.states r) ≡ Some p → q ≡ r)
-      → (done : List (List ℕ)) (t : Final) (first second : ℕ) → t.pattern ≡ Some first
+  pub told-twice : AcceptsOnce nfa.states → (done : List (List ℕ)) (t : Final) (first second : ℕ) → t.pattern ≡ Some first
       → state_accepts (state_at nfa.states f.state) ≡ Some second → IsToldBy nfa entry done t
       → ((one : List ℕ) → Contains done one → WalksTo nfa.states entry one f.state → ⊥) → AcceptsBoth nfa entry first second
   told-twice once done t first second told accepts h new = by t.pattern told h.there

@@ -181,7 +181,7 @@ module _ (entries before after : List ℕ) (h : AreInverse (suc (length entries)
           final =
               subst (λ f. IsFinal j.nfa.now entry f)
               (sym (here.final ∙ before-final row o.live ∙ ap (λ n. slice_index_or finals n no_match) place)) old_row.final;
-          clear = old_row.one_pass.clear;
+          clear = old_row.clear;
         }
 
 -- The parts fit together.
@@ -248,7 +248,7 @@ finished j entries steps finals before after starts stride least rows cells b cl
   starts =
       subst (λ xs. AreStarts j.nfa.now j.each (settled-entries entries before after h order.first) xs) (sym from)
       (starts-settled entries before after h order.first j.nfa.now j.each starts begun);
-  one_pass = λ k q e. (let lt = get-within entries k q e in (filled.rows k q (omega arith) e).one_pass);
+  clear = λ k q e. (let lt = get-within entries k q e in (filled.rows k q (omega arith) e).clear);
 }
   where
     h : AreInverse (suc (length entries)) before after

@@ -69,7 +69,7 @@ module _ (j : Job) (classes : AreClasses j.classes.now) (old new : List ℕ) (st
             (step-stays j.nfa.now old new e byte (step_at steps (k * class_count j.classes.now + slice_index j.classes.now byte)) stays
             (r.steps_are byte small)));
         final = subst (λ f. IsFinal j.nfa.now e f) (sym (get_or_append_left finals (told ∷ []) no_match k lt)) r.final;
-        one_pass = r.one_pass;
+        clear = r.clear;
       }
 
   row-last : (k e : ℕ) → k ≡ length finals → e ≡ entry → IsRowAt j new e k (steps ++ cells) (finals ++ told ∷ [])
@@ -83,7 +83,7 @@ module _ (j : Job) (classes : AreClasses j.classes.now) (old new : List ℕ) (st
     final =
         subst (λ f. IsFinal j.nfa.now entry f)
         (sym (ap (λ i. get_or (finals ++ told ∷ []) i no_match) (last ∙ at-end) ∙ get_or-append-add finals (told ∷ []) 0 no_match)) filled.final;
-    one_pass = filled.one_pass;
+    clear = filled.clear;
   })
     where
       at-end : length finals ≡ length finals + 0

@@ -109,6 +109,5 @@ walking-start j entries c f is are frames state nothing told width cells len mar
     pattern = λ p way m a. absurd (none-among way m);
     slots = λ p way m a. absurd (none-among way m);
     looks = λ p way m a. absurd (none-among way m);
-    one = λ p q way other m n a b. absurd (none-among way m);
   });
 }

@@ -10,7 +10,7 @@ ghost use Rattle.rx_dfa.specs.Automaton.{Dfa};
 ghost use Rattle.rx_dfa.specs.LazyCache.{IsCacheOf, GaveUpOn};
 ghost use Rattle.rx_dfa.specs.Search.{IsAnswerFor};
 ghost use Rattle.rx_attempts.specs.Candidates.{AreNotEmpty};
-ghost use Rattle.rx_attempts.specs.Counts.{HasCounted};
+ghost use Rattle.rx_attempts.specs.Counts.{HasCounted, HasCountedFirst};
 ghost use Rattle.rx_attempts.specs.Refusals.{SuffixFails, InnerFails};
 ghost use Rattle.rx_attempts.specs.Stops.{StopsBy};
 ghost use Rattle.rx_strategy.specs.Dfas.{ArePaired, IsSearchFor, SearchFor, are_lazy, pair_of, FitsLazies, IsPatternOf, AreCachesOf};
@@ -150,7 +150,7 @@ fn by_suffix<F: Automaton, B: Automaton, L: Ledger>(
     ensures err { IfErr result (StopsBy patience (SuffixFails (F.dfa forward.now) (B.dfa backward.now) pre.now input.now (F.gives_up forward.now fwd_cache.new)
         (F.wants forward.now) (B.gives_up backward.now rev_cache.new) (B.wants backward.now))) }
     ensures ticks { input.now.earliest ≡ false
-        → IfOk result (HasCounted (F.dfa forward.now) (B.dfa backward.now) pre.now input.now (λ s. s.end) steps.old steps.new) }
+        → IfOk result (HasCountedFirst (F.dfa forward.now) (B.dfa backward.now) pre.now input.now (λ s. s.end) steps.old steps.new) }
     ensures few { steps.new ≤ steps.old + 8 * (span_len input.now + 1) }
     ensures fwd_fits { F.fits forward.now fwd_cache.new }
     ensures rev_fits { B.fits backward.now rev_cache.new }
@@ -182,7 +182,7 @@ fn by_suffix_in<L: Ledger>(
     ensures err { IfErr result (StopsBy patience (SuffixFails forward.now.dfa backward.now.dfa pre.now input.now (GaveUpOn forward.now both.new.forward.rows)
         (Unit {0}) (GaveUpOn backward.now both.new.backward.rows) (Unit {0}))) }
     ensures ticks { input.now.earliest ≡ false
-        → IfOk result (HasCounted forward.now.dfa backward.now.dfa pre.now input.now (λ s. s.end) steps.old steps.new) }
+        → IfOk result (HasCountedFirst forward.now.dfa backward.now.dfa pre.now input.now (λ s. s.end) steps.old steps.new) }
     ensures few { steps.new ≤ steps.old + 8 * (span_len input.now + 1) }
     ensures fits { AreCachesOf (forward.now, backward.now) both.new }
 {

@@ -6,7 +6,7 @@ use Rattle.rx_dfa.proofs.lemmas.BothLemmas.{not-anchored}
 use Rattle.rx_attempts.specs.Candidates.{IsNextCandidate}
 use Rattle.rx_attempts.specs.Inner.{IsTried, TakesFew, GoesOn}
 use Rattle.rx_attempts.specs.Counts.{HasTried, Leaves}
-use Rattle.rx_attempts.proofs.lemmas.CountLemmas.{counts-fresh, leaves-fresh, leaves-tried, counted-tried, counted-nothing}
+use Rattle.rx_attempts.proofs.lemmas.CountLemmas.{leaves-fresh, leaves-tried, counted-tried, counted-past}
 use Rattle.rx_search.specs.declared.span.Span.{Span}
 use Rattle.rx_attempts.proofs.lemmas.NeedleLemmas.{taken-candidate, taken-long}
 use Rattle.rx_attempts.proofs.lemmas.EndLemmas.{past-nothing}
@@ -177,11 +177,8 @@ returns-clause-answer g c =
 
 pub returns-clause-ticks : goal.returns-clause-ticks
 returns-clause-ticks g c =
-    let fwd = g.F.Automaton.dfa c.args.fwd.now in
-    let rev = g.B.Automaton.dfa c.args.rev.now in
-    λ every.
-    counted-nothing fwd rev c.args.pre.now c.args.input.now (λ (s : Span). s.start) c.candidates.from c.args.steps.now c.candidates.steps
-    (c.candidates.invariant.counts every).counts
+    let over = subst (IsNextCandidate c.args.pre.now c.args.input.now c.candidates.from) c.in_default.is c.next_candidate.ensures in
+    λ every. (c.candidates.from, (c.candidates.invariant.counts every).counts, over)
 
 pub returns-then-is_done-clause-ticks : goal.returns-then-is_done-clause-ticks
 returns-then-is_done-clause-ticks g c =
@@ -189,5 +186,5 @@ returns-then-is_done-clause-ticks g c =
     let rev = g.B.Automaton.dfa c.args.rev.now in
     let needles = c.args.pre.now in
     let v = c.args.input.now in
-    λ every. counted-nothing fwd rev needles v (λ (s : Span). s.start) v.start c.args.steps.now c.args.steps.now
-    (counts-fresh fwd rev needles v (λ (s : Span). s.start) c.args.steps.now)
+    let past : v.end < v.start = search rules in
+    λ every. counted-past fwd rev needles v (λ (s : Span). s.start) c.args.steps.now past

@@ -331,7 +331,9 @@ returns-clause-few g c =
     suffix-ended rev needles s one bytes v spanned from min_start old mid on
 
 pub returns-clause-ticks : goal.returns-clause-ticks
-returns-clause-ticks g c = λ fwd. (c.candidates.from, (c.candidates.invariant.counts fwd).counts)
+returns-clause-ticks g c =
+    let over = subst (IsNextCandidate c.args.pre.now c.args.input.now c.candidates.from) c.in_default.is c.next_candidate.ensures in
+    λ fwd. (c.candidates.from, (c.candidates.invariant.counts fwd).counts, over)
 
 pub returns-then-is_lost-clause-few : goal.returns-then-is_lost-clause-few
 returns-then-is_lost-clause-few g c =

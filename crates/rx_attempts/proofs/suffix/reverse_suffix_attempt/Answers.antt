@@ -1,4 +1,4 @@
-use Rattle.std.proofs.Common.{◌<◌, ap, subst, rules}
+use Rattle.std.proofs.Common.{◌<◌, ap, subst, inl, rules}
 use Rattle.std.specs.Prelude.{slice_get}
 use Rattle.rx_dfa.proofs.lemmas.BothLemmas.{not-anchored}
 use Rattle.rx_attempts.specs.Suffix.{FirstSuffix}
@@ -6,7 +6,7 @@ use Rattle.rx_attempts.proofs.lemmas.EndLemmas.{past-nothing}
 use Rattle.rx_attempts.proofs.lemmas.SuffixLemmas.{suffix-nothing, suffix-answer}
 use Rattle.rx_search.specs.declared.span.Span.{Span}
 use Rattle.rx_attempts.specs.Counts.{HasCountedBack}
-use Rattle.rx_attempts.proofs.lemmas.CountLemmas.{counts-fresh, counted-nothing, counted-found}
+use Rattle.rx_attempts.proofs.lemmas.CountLemmas.{counted-past, counted-found}
 use Rattle.rx_attempts.proofs.suffix.reverse_suffix_attempt.Goals as goal
 
 pub returns-then-is_done-clause-answer : goal.returns-then-is_done-clause-answer
@@ -60,8 +60,8 @@ returns-then-is_done-clause-ticks g c =
     let rev = g.B.Automaton.dfa c.args.rev.now in
     let needles = c.args.pre.now in
     let v = c.args.input.now in
-    λ every. counted-nothing fwd rev needles v (λ (s : Span). s.end) v.start c.args.steps.now c.args.steps.now
-    (counts-fresh fwd rev needles v (λ (s : Span). s.end) c.args.steps.now)
+    let past : v.end < v.start = search rules in
+    λ every. inl (counted-past fwd rev needles v (λ (s : Span). s.end) c.args.steps.now past)
 
 pub returns-in-Ok-match_from-clause-ticks : goal.returns-in-Ok-match_from-clause-ticks
 returns-in-Ok-match_from-clause-ticks g c =
@@ -81,4 +81,4 @@ returns-in_default-clause-ticks g c =
     let needles = c.args.pre.now in
     let v = c.args.input.now in
     let back = subst (HasCountedBack fwd rev needles v (λ (s : Span). s.end) c.args.steps.now c.first_start.new.steps) c.in_default.is (c.in-Ok.ensures.ticks fwd) in
-    λ every. counted-nothing fwd rev needles v (λ (s : Span). s.end) back.0 c.args.steps.now c.first_start.new.steps back.1
+    λ every. inl back

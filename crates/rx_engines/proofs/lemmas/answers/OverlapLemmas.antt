@@ -108,6 +108,7 @@ range-pattern nfa p lt range = record {
   within = range.within;
   slots = range.slots;
   own = range.own;
+  once = range.once;
   sorted = range.sorted;
   looks = range.looks;
   classes = range.classes;

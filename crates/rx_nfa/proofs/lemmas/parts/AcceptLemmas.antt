@@ -1,19 +1,21 @@
 -- Which patterns the states of a draft accept: each at one state alone.
-use Rattle.std.proofs.Common.{◌≡◌, ℕ, zero, suc, ◌+◌, ◌-◌, ◌<◌, ◌≤◌, ◌⊎◌, List, [], ◌∷◌, ◌++◌, refl, sym, ◌∙◌, ap, inl, inr, ⊎_elim, arith, length, get_or, get_or-set_other, get_or-set_same}
-use Rattle.std.specs.Prelude.{nat_lt, Option, Some, None, slice_set}
+use Rattle.std.proofs.Common.{◌≡◌, ℕ, zero, suc, ◌+◌, ◌-◌, ◌<◌, ◌≤◌, ◌⊎◌, List, [], ◌∷◌, ◌++◌, refl, sym, ◌∙◌, ap, subst, inl, inr, ⊎_elim, arith, length, get_or, get_or-set_other, get_or-set_same}
+use Rattle.std.specs.Prelude.{All, Some, None, slice_set}
 use Rattle.std.proofs.lemmas.Bool.{cases_lt}
-use Rattle.std.proofs.lemmas.List.{length-append, get_or_append_left, get_or-append_right}
+use Rattle.std.proofs.lemmas.List.{length-append, length_push, get_or_append_left, get_or-append_right}
+use Rattle.std.proofs.lemmas.List.Elements.{All-push, All-set}
 use Rattle.std.proofs.lemmas.Option.{same_Some}
 use Rattle.std.proofs.Math.ListN.{length-set}
 use Rattle.rx_model.proofs.lemmas.runs.FirstLemmas.{none-is-some}
-use Rattle.rx_nfa.specs.Automaton.{state_at, state_accepts, AcceptsOnce}
-use Rattle.rx_nfa.specs.Draft.{Draft, pushed, accepting, patched}
-use Rattle.rx_nfa.specs.Prefixes.{IsBranch}
-use Rattle.rx_nfa.specs.Row.{AddsReaders, reading}
+use Rattle.rx_search.specs.Limits.{id_limit}
+use Rattle.rx_nfa.specs.Automaton.{state_at, state_accepts, AcceptsOnce, NamesBelow, IsWithin}
+use Rattle.rx_nfa.specs.Draft.{Draft, AreInRange, pushed, patched}
+use Rattle.rx_nfa.specs.Row.{AddsReaders, HasSortedTransitions, reading}
+use Rattle.rx_nfa.specs.Slots.{WritesOwnSlots}
 use Rattle.rx_nfa.specs.declared.state.Transition.{Transition}
 use Rattle.rx_nfa.specs.declared.state.State.{State}
 use Rattle.rx_nfa.specs.declared.state.State.TheVariants.{ByteRange, Sparse, Look, Union, Capture, Fail, Match}
-use Rattle.rx_nfa.proofs.lemmas.classes.RowLemmas.{no_transitions}
+use Rattle.rx_nfa.proofs.lemmas.classes.RowLemmas.{no_transitions, NamesBelow-more, AreClosed-push}
 
 -- no state stands past the last one
 pub state-past : (states : List State) (q : ℕ) → length states ≤ q → state_at states q ≡ Fail
@@ -46,16 +48,6 @@ reader-silent (Union alternates) ts is = refl
 reader-silent (Capture next pattern slot) ts is = refl
 reader-silent Fail ts is = refl
 reader-silent (Match pattern) ts is = absurd (no_transitions ts is)
-
--- nor does one of a tree
-pub branch-silent : (IsOne : ℕ → Type 0) (s : State) → IsBranch IsOne s → state_accepts s ≡ None
-branch-silent IsOne (ByteRange low high next) b = refl
-branch-silent IsOne (Sparse transitions) b = refl
-branch-silent IsOne (Look look next) b = refl
-branch-silent IsOne (Union alternates) b = refl
-branch-silent IsOne (Capture next pattern slot) b = refl
-branch-silent IsOne Fail b = refl
-branch-silent IsOne (Match pattern) b = absurd b
 
 -- states that only read bytes were added
 pub readers-silent : (old new : List State) → AddsReaders old new → AcceptsNoMore old new
@@ -141,19 +133,27 @@ module _ (states : List State) (accepted pattern : ℕ) (new : accepted ≤ patt
         ]
       ]
 
-pub once-pushed : (states : List State) (s : State) → state_accepts s ≡ None → AcceptsOnce states → AcceptsOnce (states ++ s ∷ [])
-once-pushed states s none = once-kept states (states ++ s ∷ []) (pushed-silent states s none)
+-- what is in range stays so with a state more, or another, that accepts nothing
+module _ (d : Draft) (s : State) (within : IsWithin (length d.groups) d.slots s) (own : WritesOwnSlots d.groups s) (sorted : HasSortedTransitions s)
+    (silent : state_accepts s ≡ None) (names : NamesBelow (length d.states) s) (r : AreInRange d) where
+  pub AreInRange-pushed : length d.states < id_limit → AreInRange (pushed d s)
+  AreInRange-pushed room = record {
+    names = AreClosed-push d.states s (NamesBelow-more (length d.states) (length d.states + 1) s (omega arith) names) r.names;
+    within = All-push (IsWithin (length d.groups) d.slots) d.states s r.within within;
+    own = All-push (WritesOwnSlots d.groups) d.states s r.own own;
+    sorted = All-push HasSortedTransitions d.states s r.sorted sorted;
+    few = (let long = length_push d.states s in omega arith);
+    below = below-kept d.accepted d.states (d.states ++ s ∷ []) (pushed-silent d.states s silent) r.below;
+    once = once-kept d.states (d.states ++ s ∷ []) (pushed-silent d.states s silent) r.once;
+  }
 
-pub below-pushed : (accepted : ℕ) (states : List State) (s : State) → state_accepts s ≡ None
-    → ((q p : ℕ) → state_accepts (state_at states q) ≡ Some p → p < accepted)
-    → (q p : ℕ) → state_accepts (state_at (states ++ s ∷ []) q) ≡ Some p → p < accepted
-below-pushed accepted states s none = below-kept accepted states (states ++ s ∷ []) (pushed-silent states s none)
-
-pub once-patched : (states : List State) (k : ℕ) (s : State) → k < length states → state_accepts s ≡ None → AcceptsOnce states
-    → AcceptsOnce (slice_set states k s)
-once-patched states k s inside none = once-kept states (slice_set states k s) (patched-silent states k s inside none)
-
-pub below-patched : (accepted : ℕ) (states : List State) (k : ℕ) (s : State) → k < length states → state_accepts s ≡ None
-    → ((q p : ℕ) → state_accepts (state_at states q) ≡ Some p → p < accepted)
-    → (q p : ℕ) → state_accepts (state_at (slice_set states k s) q) ≡ Some p → p < accepted
-below-patched accepted states k s inside none = below-kept accepted states (slice_set states k s) (patched-silent states k s inside none)
+  pub AreInRange-patched : (k : ℕ) → k < length d.states → AreInRange (patched d k s)
+  AreInRange-patched k inside = record {
+    names = subst (λ n. All (NamesBelow n) (slice_set d.states k s)) (sym (length-set d.states k s)) (All-set (NamesBelow (length d.states)) d.states k s names r.names);
+    within = All-set (IsWithin (length d.groups) d.slots) d.states k s within r.within;
+    own = All-set (WritesOwnSlots d.groups) d.states k s own r.own;
+    sorted = All-set HasSortedTransitions d.states k s sorted r.sorted;
+    few = (let same = length-set d.states k s in let few = r.few in omega arith);
+    below = below-kept d.accepted d.states (slice_set d.states k s) (patched-silent d.states k s inside silent) r.below;
+    once = once-kept d.states (slice_set d.states k s) (patched-silent d.states k s inside silent) r.once;
+  }

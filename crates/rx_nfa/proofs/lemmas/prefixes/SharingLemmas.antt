@@ -1,11 +1,11 @@
 -- One tree more in place of a union of chains.
-use Rattle.std.proofs.Common.{◌≡◌, ℕ, suc, ◌≤◌, ◌<◌, List, Option, length, refl, sym, ◌∙◌, ap, subst, inl, inr, ⊎_elim, arith}
-use Rattle.std.specs.Prelude.{map}
+use Rattle.std.proofs.Common.{◌≡◌, ℕ, suc, ◌≤◌, ◌<◌, List, [], ◌∷◌, ◌++◌, Option, length, refl, sym, ◌∙◌, ap, subst, inl, inr, ⊎_elim, arith}
+use Rattle.std.specs.Prelude.{All, None, map}
 use Rattle.std.specs.Vec.{vec_items}
 use Rattle.std.proofs.lemmas.Bool.{cases_lt}
 use Rattle.std.proofs.lemmas.List.{get_or_past}
 use Rattle.std.proofs.lemmas.List.Elements.{All-weaker}
-use Rattle.rx_nfa.specs.Automaton.{state_at, NamesBelow, IsWithin}
+use Rattle.rx_nfa.specs.Automaton.{state_at, state_accepts, NamesBelow, IsWithin}
 use Rattle.rx_nfa.specs.Forks.{IsFork}
 use Rattle.rx_nfa.specs.Named.{first_in, Spans, AreNamed}
 use Rattle.rx_nfa.specs.Prefixes.{LeadsInto, IsBranch, IsOutside}
@@ -51,14 +51,6 @@ leads-names n (Capture next pattern slot) h = h
 leads-names n Fail h = tt
 leads-names n (Match pattern) h = tt
 
-target-below : (n top next : ℕ) → top ≤ n → next < n → (t : ℕ) → IsTarget top next t → t < n
-target-below n top next le lt t (inl below) = omega arith
-target-below n top next le lt t (inr same) = omega arith
-
-pub branch-names : (n top next : ℕ) (s : State) → top ≤ n → next < n → IsBranch (IsTarget top next) s → NamesBelow n s
-branch-names n top next s le lt h =
-    leads-names n s (LeadsInto-map (IsTarget top next) (λ t. t < n) (target-below n top next le lt) s (branch-leads (IsTarget top next) s h))
-
 pub branch-within : (P : ℕ → Type 0) (patterns slots : ℕ) (s : State) → IsBranch P s → IsWithin patterns slots s
 branch-within P patterns slots (ByteRange low high next) h = tt
 branch-within P patterns slots (Sparse transitions) h = tt
@@ -85,6 +77,23 @@ branch-sorted P (Union alternates) h = tt
 branch-sorted P (Capture next pattern slot) h = tt
 branch-sorted P Fail h = tt
 branch-sorted P (Match pattern) h = tt
+
+pub branch-silent : (P : ℕ → Type 0) (s : State) → IsBranch P s → state_accepts s ≡ None
+branch-silent P (ByteRange low high next) h = refl
+branch-silent P (Sparse transitions) h = refl
+branch-silent P (Look look next) h = absurd h
+branch-silent P (Union alternates) h = refl
+branch-silent P (Capture next pattern slot) h = absurd h
+branch-silent P Fail h = refl
+branch-silent P (Match pattern) h = absurd h
+
+in-middle : (P : State → Type 0) (rest done : List State) (s : State) → All P ((rest ++ s ∷ []) ++ done) → P s
+in-middle P [] done s h = h 0 s (omega arith)
+in-middle P (x ∷ rest) done s h = in-middle P rest done s (λ k d lt. h (suc k) d (omega arith))
+
+-- what holds of all states holds of the one that is taken from those that are left
+pub popped : (P : State → Type 0) (all left rest done : List State) (s : State) → all ≡ left ++ done → left ≡ rest ++ s ∷ [] → All P all → P s
+popped P all left rest done s split taken h = in-middle P rest done s (subst (All P) (split ∙ ap (λ xs. xs ++ done) taken) h)
 
 -- Nothing was shared yet.
 pub Sharing-none : (named : List Named) (states : List State) → Sharing named states states 0

@@ -19,7 +19,7 @@ use Rattle.rx_nfa.specs.Nfa.{Nfa, LeadsBack, HasReverseRuns}
 use Rattle.rx_nfa.specs.States.{Stands}
 use Rattle.rx_nfa.specs.declared.state.State.{State}
 use Rattle.rx_nfa.specs.declared.state.State.TheVariants.{Union, Match}
-use Rattle.rx_nfa.proofs.lemmas.parts.BuiltLemmas.{Extends-same, Extends-pushed, Stands-pushed, Stands-from}
+use Rattle.rx_nfa.proofs.lemmas.parts.BuiltLemmas.{Extends-same, Extends-pushed, Extends-continues, Stands-pushed, Stands-from}
 use Rattle.rx_nfa.proofs.lemmas.runs.AutomatonLemmas.{automaton-accepted, automaton-successors}
 use Rattle.rx_nfa.proofs.lemmas.runs.ImageLemmas.{image, image-sends}
 use Rattle.rx_nfa.proofs.lemmas.runs.PatternLemmas.{HasPart-extends}

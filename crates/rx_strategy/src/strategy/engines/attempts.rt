@@ -1,30 +1,28 @@
-//! What a core answers by attempts, and without its DFAs.
-ghost use Rattle.std.specs.Prelude.{◌≡◌, ◌≤◌, ◌<◌, ◌+◌, ◌*◌, false, true, length, None, replicate, is_some, IfOk, IfSome, IfNone};
-ghost use Rattle.std.specs.Result.{IfErr};
+//! What a core answers by attempts.
+ghost use Rattle.std.specs.Prelude.{◌≡◌, ◌≤◌, ◌<◌, true, false, length, None, replicate, is_some, IfOk, IfNone, IfSome, ◌+◌, ◌*◌};
 ghost use Rattle.rx_model.specs.Search.{Patterns, is_anchored};
-ghost use Rattle.rx_search.specs.Answer.{IsAnswer, AreSlotsOfAnswer, TellsWhether};
 ghost use Rattle.rx_search.specs.Input.{IsSpanned, span_len};
-ghost use Rattle.rx_search.specs.Matches.{match_value, half_match_value};
+ghost use Rattle.rx_search.specs.Matches.{match_value};
 ghost use Rattle.rx_search.specs.Promise.{Premises};
-ghost use Rattle.rx_search.specs.Told.{tells, AreWithin, LiesIn, HalfLiesIn};
+ghost use Rattle.rx_search.specs.Told.{tells, AreWithin, LiesIn};
 ghost use Rattle.rx_dfa.specs.Search.{IsAnswerFor};
-ghost use Rattle.rx_attempts.specs.Candidates.{AreNotEmpty};
-ghost use Rattle.rx_attempts.specs.Stops.{StopsBy};
-ghost use Rattle.rx_strategy.specs.Attempts.{HasSuffix, HasInner, IsOneNeedle, SuffixFailsIn, InnerFailsIn, HasCountedSuffix, HasCountedInner, IsToldBy};
+ghost use Rattle.rx_search.specs.Answer.{IsAnswer, AreSlotsOfAnswer};
 ghost use Rattle.rx_strategy.specs.Cache.{FitsCore, AccountsAlikeIn};
 ghost use Rattle.rx_strategy.specs.Core.{IsCoreFor};
 ghost use Rattle.rx_strategy.specs.Dfas.{pair_of};
+ghost use Rattle.std.specs.Result.{IfErr};
+ghost use Rattle.rx_attempts.specs.Candidates.{AreNotEmpty};
+ghost use Rattle.rx_attempts.specs.Stops.{StopsBy};
+ghost use Rattle.rx_strategy.specs.Attempts.{HasSuffix, HasInner, IsOneNeedle, SuffixFailsIn, InnerFailsIn, HasCountedSuffix, HasCountedInner, IsToldBy};
 ghost use Rattle.rx_strategy.specs.Prefix.{dfa_of, are_states, FitsPrefix, prefix_gives_up, prefix_wants};
 
 use crate::cache::Cache;
-use crate::found::half_match;
-use crate::onepass::meets_in_one_pass;
 use crate::prefix::{PrefixCache, PrefixDfa, Sort};
 use crate::span::leave_span;
 use crate::strategy::engines::Core;
 use rx_attempts::{Patience, Stop};
 use rx_prefilter::Prefilter;
-use rx_search::{HalfMatch, Input, Match, NonMaxUsize, Steps};
+use rx_search::{Input, Match, NonMaxUsize, Steps};
 use std::sync::ledger::Ledger;
 
 impl Core {
@@ -111,61 +109,6 @@ impl Core {
                     steps,
                 )
             }
-        }
-    }
-
-    /// As `search_half`, by an engine that always answers, where matches are told.
-    pub(crate) fn search_half_nofail(
-        &self,
-        cache: &mut Cache,
-        input: &Input<'_>,
-    ) -> Option<HalfMatch>
-        requires fits { FitsCore self.now cache.old }
-        requires spanned { IsSpanned input.now }
-        requires told { tells self.now.which_captures ≡ true }
-        ensures answer { IsAnswer (IsCoreFor self.now) self.now.pre self.now.kind input.now half_match_value result }
-        ensures within { IfSome result (HalfLiesIn input.now) }
-        ensures in_range { IfSome result (λ half. half.pattern < length self.now.nfa.starts) }
-        ensures cache { FitsCore self.now cache.new }
-        ensures memory { AccountsAlikeIn self.now cache.old cache.new }
-    {
-        half_match(self.search_nofail(cache, input, &mut []))
-    }
-
-    /// As `search_slots`, by an engine that always answers, where matches are told.
-    pub(crate) fn search_slots_nofail(
-        &self,
-        cache: &mut Cache,
-        input: &Input<'_>,
-        slots: &mut [Option<NonMaxUsize>],
-    ) -> Option<Match>
-        requires fits { FitsCore self.now cache.old }
-        requires spanned { IsSpanned input.now }
-        requires told { tells self.now.which_captures ≡ true }
-        ensures answer { IsAnswer (IsCoreFor self.now) self.now.pre self.now.kind input.now match_value result }
-        ensures slots { AreSlotsOfAnswer (IsCoreFor self.now) self.now.pre self.now.kind input.now match_value slots.new result }
-        ensures within { IfSome result (LiesIn input.now) }
-        ensures in_range { IfSome result (λ m. m.pattern < length self.now.nfa.starts) }
-        ensures none { IfNone result (slots.new ≡ replicate (length slots.old) None) }
-        ensures slots_within { AreWithin input.now slots.new }
-        ensures cache { FitsCore self.now cache.new }
-        ensures memory { AccountsAlikeIn self.now cache.old cache.new }
-    {
-        self.search_nofail(cache, input, slots)
-    }
-
-    /// As `is_match`, by an engine that always answers.
-    pub(crate) fn is_match_nofail(&self, cache: &mut Cache, input: &Input<'_>) -> bool
-        requires fits { FitsCore self.now cache.old }
-        requires spanned { IsSpanned input.now }
-        ensures value { TellsWhether (IsCoreFor self.now) self.now.pre input.now result }
-        ensures cache { FitsCore self.now cache.new }
-        ensures memory { AccountsAlikeIn self.now cache.old cache.new }
-    {
-        // Either can stop at the first match (DECISIONS: of the engines that always answer).
-        match self.get_onepass(input) {
-            Some(engine) => meets_in_one_pass(engine, &mut cache.onepass, input),
-            None => self.pikevm.is_match(&mut cache.pikevm, input),
         }
     }
 

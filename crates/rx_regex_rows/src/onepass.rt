@@ -1,0 +1,147 @@
+//! What a regex tells with its one-pass DFA, and without it.
+
+use crate::regex::{cache_of, configured, made_over, matches_in, place_at, told_by};
+use rx_meta::{Config, Regex};
+use rx_search::{Anchored, Input, MatchKind, NonMaxUsize};
+use std::alloc::Global;
+use std::process::Abort;
+use std::sync::Wait;
+
+/// What is searched: a pattern and a haystack.
+type Row = (&'static str, &'static [u8]);
+
+/// Patterns that are one-pass, with groups or with a Unicode word boundary.
+const ROWS: [Row; 12] = [
+    ("(a)(b)?", b"xab"),
+    ("(a)(b)?", b"abx"),
+    ("(a)(b)?", b"a"),
+    ("^(a)(b)?", b"ab"),
+    ("^(a)(b)?", b"xab"),
+    ("(a+)=([0-9]+)", b"-aa=10-"),
+    ("(a+)=([0-9]+)", b"aa=10"),
+    ("(?:(a)|(b))*", b"aba"),
+    (r"\b(a)\b", b"a a"),
+    (r"\ba\B", b"a\xC3\xA9"),
+    ("()", b""),
+    ("(é)?", b"\xC3\xA9"),
+];
+
+/// A configuration that leaves out what is named, or nothing.
+fn without(onepass: bool, dfas: bool) -> Config {
+    Config::new().onepass(!onepass).dfa(!dfas).hybrid(!dfas)
+}
+
+/// Whether both regexes tell the same of the input, anchored and not.
+fn agree<R: Abort + Wait>(
+    rt: &R,
+    alloc: Global,
+    one: &Regex,
+    other: &Regex,
+    haystack: &[u8],
+) -> bool {
+    let free = Input::new(haystack);
+    let anchored = Input::new(haystack).anchored(Anchored::Yes);
+    told_by(rt, alloc, one, &free) == told_by(rt, alloc, other, &free)
+        && told_by(rt, alloc, one, &anchored) == told_by(rt, alloc, other, &anchored)
+        && matches_in(rt, alloc, one, &free) == matches_in(rt, alloc, other, &free)
+        && matches_in(rt, alloc, one, &anchored) == matches_in(rt, alloc, other, &anchored)
+}
+
+/// Whether a row is told alike with a one-pass DFA and without, beside DFAs or alone.
+fn is_told_alike<R: Abort + Wait>(rt: &R, alloc: Global, row: Row, dfas: bool) -> bool {
+    let (pattern, haystack) = row;
+    let one = configured(rt, alloc, without(false, dfas), pattern);
+    let other = configured(rt, alloc, without(true, dfas), pattern);
+    agree(rt, alloc, &one, &other, haystack)
+}
+
+#[test]
+fn a_one_pass_dfa_changes_no_answer(rt: HostRuntime) {
+    for k in 0..ROWS.len() {
+        assert!(rt; is_told_alike(&rt, rt.alloc(), ROWS[k], false), "row {k}");
+        assert!(rt;
+            is_told_alike(&rt, rt.alloc(), ROWS[k], true),
+            "row {k} without DFAs"
+        );
+    }
+}
+
+/// What is accounted for the regex of the pattern under this configuration, and for a cache of it.
+fn accounted(rt: &impl Abort, alloc: Global, config: Config, pattern: &str) -> (usize, usize) {
+    let regex = configured(rt, alloc, config, pattern);
+    (
+        regex.memory_usage(),
+        cache_of(rt, alloc, &regex).memory_usage(),
+    )
+}
+
+/// What a one-pass DFA adds to what is accounted for the regex of the pattern, and for a cache of it.
+fn added(rt: &impl Abort, alloc: Global, pattern: &str, limit: Option<usize>) -> (usize, usize) {
+    let config = without(false, true).onepass_size_limit(limit);
+    let (regex, cache) = accounted(rt, alloc, config, pattern);
+    let (less, room) = accounted(rt, alloc, without(true, true), pattern);
+    (regex.saturating_sub(less), cache.saturating_sub(room))
+}
+
+#[test]
+fn a_one_pass_dfa_is_there_where_it_is_wanted(rt: HostRuntime) {
+    let alloc = rt.alloc();
+    // Three rows of four cells, and a start of all patterns and one of each; two slots.
+    assert_eq!(rt; added(&rt, alloc, "(a)", None), (8 * 3 * 4 + 4 * 2, 8 * 2));
+    assert_eq!(rt; added(&rt, alloc, "(a)", Some(104)), (104, 16));
+    assert_eq!(rt; added(&rt, alloc, "(a)", Some(103)), (0, 0));
+    // Without groups, but for a Unicode word boundary.
+    assert_eq!(rt; added(&rt, alloc, "a", None), (0, 0));
+    assert_eq!(rt; added(&rt, alloc, r"(?-u:\b)a", None), (0, 0));
+    assert!(rt; added(&rt, alloc, r"\ba", None).0 > 0);
+    assert!(rt; added(&rt, alloc, r"\Ba", None).0 > 0);
+    // It is not one-pass.
+    assert_eq!(rt; added(&rt, alloc, "(a*)a", None), (0, 0));
+}
+
+/// The end of the match of `(a)(b)??` in the input, under `All`.
+fn farthest(rt: &impl Abort, alloc: Global, config: Config, input: &Input<'_>) -> Option<usize> {
+    let regex = configured(rt, alloc, config.match_kind(MatchKind::All), "(a)(b)??");
+    let mut cache = cache_of(rt, alloc, &regex);
+    let mut slots = [None; 6];
+    let found = regex.search_slots_with(&mut cache, input, &mut slots);
+    let _pattern = found.ok().expect(rt, "memory").expect(rt, "a match");
+    place_at(&slots, 1)
+}
+
+#[test]
+fn under_all_it_tells_the_farthest_end(rt: HostRuntime) {
+    let input = Input::new(b"ab").anchored(Anchored::Yes);
+    let once = farthest(&rt, rt.alloc(), without(false, true), &input);
+    assert_eq!(rt; once, Some(2));
+}
+
+/// The places that six slots hold.
+fn places(slots: &[Option<NonMaxUsize>; 6]) -> [Option<usize>; 6] {
+    [
+        place_at(slots, 0),
+        place_at(slots, 1),
+        place_at(slots, 2),
+        place_at(slots, 3),
+        place_at(slots, 4),
+        place_at(slots, 5),
+    ]
+}
+
+/// The pattern that is found in `xb` by a cache of `a`, and the places in six slots.
+fn told_after_reset(rt: &impl Abort, alloc: Global) -> (usize, [Option<usize>; 6]) {
+    let first = configured(rt, alloc, Config::new(), "a");
+    let second = configured(rt, alloc, Config::new(), "(b)(c)?");
+    let mut cache = made_over(rt, alloc, &first, &second);
+    let mut slots = [NonMaxUsize::new(9); 6];
+    let found = second.search_slots_with(&mut cache, &Input::new(b"xb"), &mut slots);
+    let pattern = found.ok().expect(rt, "memory").expect(rt, "a match");
+    (pattern.as_usize(), places(&slots))
+}
+
+#[test]
+fn a_cache_of_a_regex_without_groups_is_reset_for_one_with_groups(rt: HostRuntime) {
+    let (pattern, places) = told_after_reset(&rt, rt.alloc());
+    assert_eq!(rt; pattern, 0);
+    assert!(rt; places == [Some(1), Some(2), Some(1), Some(2), None, None]);
+}
