@@ -150,7 +150,8 @@ counts-told items (Err error) hs texts same short told = tt
 counts-told items (Ok w) hs texts same short told =
     let rows : Bor (List ℕ) → List RowValue = λ h. scan_rows (patterns_of gen_expressions) h.now in
     let fit : All (λ rs. rows_len rs < 2 ^ 64) (map rows hs) = All-map (λ rs. rows_len rs < 2 ^ 64) rows hs (λ i d below. rows-fit (get_or hs i d).now (short i d below)) in
-    told fit ∙ sym (map-map counts_of rows hs) ∙ (λ k. map (λ h. rows-told h.now k) hs) ∙ map-map gen_counts (λ (h : Bor (List ℕ)). h.now) hs ∙ ap (map gen_counts) same
+    told fit ∙ map-map counts_of rows hs ∙ (λ k. map (λ h. rows-told h.now k) hs) ∙ sym (map-map gen_counts (λ (h : Bor (List ℕ)). h.now) hs)
+    ∙ ap (map gen_counts) same
 
 -- the numbers of one haystack more
 pub counts-more : (all : List (List RowValue)) (rows : List RowValue) (counts : Counts) (old new : List Counts) → new ≡ old ++ counts ∷ []
