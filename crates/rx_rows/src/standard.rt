@@ -3,6 +3,7 @@
 use rx_scan::{Failed, Sink, Source, StandardInput, StandardOutput};
 use std::io;
 use std::io::{ErrorKind, Read, Write};
+use std::test::Fail;
 
 /// A reader and a writer that fails at each call.
 #[derive(Drop)]
@@ -38,74 +39,48 @@ impl Write for Full {
     }
 }
 
-/// What a read or a write tells, and how many faults were counted then.
-type Told = (Result<usize, Failed>, u64);
-
-/// Three faults, one after another.
-const FAULTS: [Told; 3] = [(Err(Failed), 1), (Err(Failed), 2), (Err(Failed), 3)];
-
-/// What the next read tells.
-fn read<R: Read>(source: &mut StandardInput<R>, buf: &mut [u8]) -> Told {
-    let told = source.read(buf);
-    (told, source.faults())
-}
-
-/// What the next write tells.
-fn written<W: Write>(sink: &mut StandardOutput<W>, piece: &[u8]) -> Told {
-    let told = sink.write(piece);
-    (told, sink.faults())
-}
-
 #[test]
-fn the_input_passes_bytes(rt: HostRuntime) {
+fn the_input_passes_bytes_and_counts_faults(rt: HostRuntime) -> Result<(), Fail> {
     let mut buf = [0u8; 4];
     let mut source = StandardInput::new(b"abcde".as_slice());
-    let first = read(&mut source, &mut buf);
-    let filled = buf;
-    let nothing = read(&mut source, &mut []);
-    let second = read(&mut source, &mut buf);
-    let last = read(&mut source, &mut buf);
-    assert!(rt; [first, nothing, second, last] == [(Ok(4), 0), (Ok(0), 0), (Ok(1), 0), (Ok(0), 0)]);
-    assert!(rt; filled.as_slice() == b"abcd".as_slice() && buf[0] == b'e');
-}
+    assert_eq!(rt; source.read(&mut buf), Ok(4));
+    assert_eq!(rt; buf.as_slice(), b"abcd".as_slice());
+    assert_eq!(rt; source.read(&mut []), Ok(0));
+    assert_eq!(rt; source.read(&mut buf), Ok(1));
+    assert_eq!(rt; &buf[..1], b"e".as_slice());
+    assert_eq!(rt; source.read(&mut buf), Ok(0));
+    assert_eq!(rt; source.faults(), 0);
 
-#[test]
-fn the_input_counts_faults(rt: HostRuntime) {
-    let mut buf = [0u8; 4];
     let mut broken = StandardInput::new(Broken);
-    let first = read(&mut broken, &mut buf);
-    let second = read(&mut broken, &mut buf);
-    let third = read(&mut broken, &mut buf);
-    assert!(rt; [first, second, third] == FAULTS);
+    for faults in 1..4u64 {
+        assert_eq!(rt; broken.read(&mut buf), Err(Failed));
+        assert_eq!(rt; broken.faults(), faults);
+    }
+    Ok(())
 }
 
 #[test]
-fn the_output_passes_bytes(rt: HostRuntime) {
+fn the_output_passes_bytes_and_counts_faults(rt: HostRuntime) -> Result<(), Fail> {
     let mut held = [0u8; 4];
     let mut sink = StandardOutput::new(held.as_mut_slice());
-    let first = written(&mut sink, b"abc");
-    let nothing = written(&mut sink, b"");
-    let second = written(&mut sink, b"de");
-    // It is full.
-    let last = written(&mut sink, b"e");
-    assert!(rt;
-        [first, nothing, second, last] == [(Ok(3), 0), (Ok(0), 0), (Ok(1), 0), (Err(Failed), 1)]
-    );
-    assert!(rt; held.as_slice() == b"abcd".as_slice());
-}
+    assert_eq!(rt; sink.write(b"abc"), Ok(3));
+    assert_eq!(rt; sink.write(b""), Ok(0));
+    assert_eq!(rt; sink.write(b"de"), Ok(1));
+    assert_eq!(rt; sink.faults(), 0);
+    assert_eq!(rt; sink.write(b"e"), Err(Failed));
+    assert_eq!(rt; sink.faults(), 1);
+    assert_eq!(rt; held.as_slice(), b"abcd".as_slice());
 
-/// What three writes of a byte tell, and then one of nothing.
-fn faults_of<W: Write>(sink: &mut StandardOutput<W>) -> ([Told; 3], Told) {
-    let first = written(sink, b"a");
-    let second = written(sink, b"a");
-    let third = written(sink, b"a");
-    ([first, second, third], written(sink, b""))
-}
-
-#[test]
-fn the_output_counts_faults(rt: HostRuntime) {
-    let broken = faults_of(&mut StandardOutput::new(Broken));
-    let full = faults_of(&mut StandardOutput::new(Full));
-    let wanted = (FAULTS, (Ok(0), 3));
-    assert!(rt; (broken, full) == (wanted, wanted));
+    let mut broken = StandardOutput::new(Broken);
+    let mut full = StandardOutput::new(Full);
+    for faults in 1..4u64 {
+        assert_eq!(rt; broken.write(b"a"), Err(Failed));
+        assert_eq!(rt; broken.faults(), faults);
+        assert_eq!(rt; full.write(b"a"), Err(Failed));
+        assert_eq!(rt; full.faults(), faults);
+    }
+    assert_eq!(rt; broken.write(b""), Ok(0));
+    assert_eq!(rt; full.write(b""), Ok(0));
+    assert_eq!(rt; full.faults(), 3);
+    Ok(())
 }

@@ -1,12 +1,12 @@
 -- What is found in haystacks, in numbers: the matches of a haystack are no more than it has places, and no longer than it.
-use Rattle.std.proofs.Common.{◌≡◌, ℕ, zero, suc, ◌+◌, ◌-◌, ◌^◌, ◌<◌, ◌≤◌, List, [], ◌∷◌, length, get_or, Result, Ok, Err, IfOk, refl, sym, ap, subst, ◌∙◌, true, lit<, arith}
+use Rattle.std.proofs.Common.{◌≡◌, ℕ, zero, suc, ◌+◌, ◌-◌, ◌^◌, ◌<◌, ◌≤◌, List, [], ◌∷◌, ◌++◌, length, get_or, Some, Result, Ok, Err, IfOk, refl, sym, ap, subst, ◌∙◌, true, lit<, arith}
 use Rattle.std.specs.Prelude.{map, sum_by, codes, nat_lt}
 use Rattle.std.specs.List.{All, AllPairs, list_all}
 use Rattle.std.specs.Str.{IsUtf8}
 use denote.Ref.{Bor}
-use Rattle.std.proofs.lemmas.List.{length-map, get_or-map, map-id}
+use Rattle.std.proofs.lemmas.List.{length-map, get_or-map, map-append}
 use Rattle.std.proofs.lemmas.Simd.{map-map}
-use Rattle.std.proofs.lemmas.List.Elements.{All-nil, All-cons, All-map}
+use Rattle.std.proofs.lemmas.List.Elements.{All-nil, All-cons, All-map, All-pop}
 use Rattle.std.proofs.lemmas.List.Sums.{sum_by-cons}
 use Rattle.std.proofs.lemmas.Str.{IsUtf8-from_ascii}
 use Rattle.std.proofs.lemmas.Bool.{and_parts, ltb-true}
@@ -24,11 +24,8 @@ use Rattle.rx_syntax.proofs.lemmas.translation.Utf8Lemmas.{of_patterns}
 use Rattle.rx_scan.specs.Answer.{match_len, counts_in, gen_patterns, read_or_none, gen_expressions, gen_counts}
 use Rattle.rx_scan.specs.Counted.{row_len, rows_len, counts_of}
 use Rattle.rx_search.specs.declared.memory.Memory.{Memory}
-use Rattle.rx_workers.specs.Answers.{AreAnswers}
-use Rattle.rx_scan.specs.Haystacks.{AreOutcomes}
 use Rattle.rx_scan.specs.Patterns.{patterns_of, MeanUtf8}
-use Rattle.rx_scan.specs.Row.{row_of, scan_rows}
-use Rattle.rx_scan.proofs.HaystackLemmas.{answers-map}
+use Rattle.rx_scan.specs.Row.{RowValue, row_of, scan_rows}
 
 -- the second match starts after the first, and not before its end
 abbrev IsLater : Match → Match → Type 0
@@ -87,14 +84,14 @@ rows-covered r (m ∷ ms) =
 rows-counts : (r : Patterns) (ms : List Match) → counts_of (map (row_of r) ms) ≡ counts_in ms
 rows-counts r ms = λ i. record { matches = length-map ms (row_of r) i; covered = rows-covered r ms i }
 
--- what the rows of a short haystack became are its numbers
-pub counted : (text : List ℕ) (counts : Counts) → length text ≤ 15
-    → (rows_len (scan_rows (patterns_of gen_expressions) text) < 2 ^ 64 → counts ≡ counts_of (scan_rows (patterns_of gen_expressions) text))
-    → counts ≡ gen_counts text
-counted text counts small is =
+-- the rows of a short haystack are few, and their numbers are those of its matches
+pub rows-fit : (text : List ℕ) → length text ≤ 15 → rows_len (scan_rows (patterns_of gen_expressions) text) < 2 ^ 64
+rows-fit text small =
     let r = patterns_of gen_expressions in
-    let ms = matches r text free (length text) 0 in
-    is (omega (arith, small, gen-short text, rows-covered r ms)) ∙ rows-counts r ms
+    omega (arith, small, gen-short text, rows-covered r (matches r text free (length text) 0))
+
+rows-told : (text : List ℕ) → counts_of (scan_rows (patterns_of gen_expressions) text) ≡ gen_counts text
+rows-told text = let r = patterns_of gen_expressions in rows-counts r (matches r text free (length text) 0)
 
 -- the totals of at most a million haystacks fit
 module _ (seed count : ℕ) (many : count ≤ 1000000) where
@@ -146,14 +143,21 @@ All-unmap P f xs all = λ k d below. subst P (get_or-map f xs k d (f d) below) (
 -- what the rows of short haystacks became are the numbers of these
 pub counts-told : {W : Type 0} (items : W → List Counts) (result : Result W Memory) (hs : List (Bor (List ℕ))) (texts : List (List ℕ))
     → map (λ h. h.now) hs ≡ texts → All (λ h. length h.now ≤ 15) hs
-    → IfOk result (λ w. AreOutcomes (λ _ rows counts. rows_len rows < 2 ^ 64 → counts ≡ counts_of rows) (patterns_of gen_expressions) hs (items w))
+    → IfOk result (λ w. All (λ rows. rows_len rows < 2 ^ 64) (map (λ h. scan_rows (patterns_of gen_expressions) h.now) hs)
+    → items w ≡ map counts_of (map (λ h. scan_rows (patterns_of gen_expressions) h.now) hs))
     → IfOk result (λ w. items w ≡ map gen_counts texts)
 counts-told items (Err error) hs texts same short told = tt
 counts-told items (Ok w) hs texts same short told =
-    let each : AreAnswers (length hs) (λ i counts. (d : Bor (List ℕ)) → counts ≡ gen_counts (get_or hs i d).now) (items w) =
-    record {
-      count = told.count;
-      each = λ i v below d. counted (get_or hs i d).now (get_or (items w) i v) (short i d below) (told.each i v below d);
-    } in
-    sym (map-id (items w)) ∙ answers-map (λ v. v) (λ (h : Bor (List ℕ)). gen_counts h.now) hs (items w) each
-    ∙ sym (map-map gen_counts (λ (h : Bor (List ℕ)). h.now) hs) ∙ ap (map gen_counts) same
+    let rows : Bor (List ℕ) → List RowValue = λ h. scan_rows (patterns_of gen_expressions) h.now in
+    let fit : All (λ rs. rows_len rs < 2 ^ 64) (map rows hs) = All-map (λ rs. rows_len rs < 2 ^ 64) rows hs (λ i d below. rows-fit (get_or hs i d).now (short i d below)) in
+    told fit ∙ map-map counts_of rows hs ∙ (λ k. map (λ h. rows-told h.now k) hs) ∙ sym (map-map gen_counts (λ (h : Bor (List ℕ)). h.now) hs)
+    ∙ ap (map gen_counts) same
+
+-- the numbers of one haystack more
+pub counts-more : (all : List (List RowValue)) (rows : List RowValue) (counts : Counts) (old new : List Counts) → new ≡ old ++ counts ∷ []
+    → (All (λ rs. rows_len rs < 2 ^ 64) all → old ≡ map counts_of all) → (rows_len rows < 2 ^ 64 → counts ≡ counts_of rows)
+    → All (λ rs. rows_len rs < 2 ^ 64) (all ++ rows ∷ []) → new ≡ map counts_of (all ++ rows ∷ [])
+counts-more all rows counts old new longer told is fit =
+    let P : List RowValue → Type 0 = λ rs. rows_len rs < 2 ^ 64 in
+    let parts = All-pop P (all ++ rows ∷ []) all (Some rows) refl fit in
+    longer ∙ (λ k. told parts.0 k ++ is parts.1 k ∷ []) ∙ sym (map-append counts_of all (rows ∷ []))

@@ -1,9 +1,9 @@
 -- What a regex finds in a haystack, one match after another.
-use Rattle.std.proofs.Common.{◌≡◌, ℕ, suc, ◌+◌, ◌<◌, ◌≤◌, Bool, true, false, cond, List, [], ◌∷◌, length, get_or, Option, Some, None, Result, Ok, Err, IfOk, refl, sym, ap, subst, ◌∙◌, arith}
+use Rattle.std.proofs.Common.{◌≡◌, ℕ, suc, ◌+◌, ◌<◌, ◌≤◌, Bool, true, false, cond, List, [], ◌∷◌, ◌++◌, length, get_or, Option, Some, None, Result, Ok, Err, IfOk, refl, sym, ap, subst, ◌∙◌, arith}
 use Rattle.std.specs.List.{All}
-use Rattle.std.specs.Prelude.{map, MatchOption}
+use Rattle.std.specs.Prelude.{map, replicate, OnOk, MatchOption}
 use denote.Ref.{Bor}
-use Rattle.std.proofs.lemmas.List.{get_or_default}
+use Rattle.std.proofs.lemmas.List.{get_or_default, length-append, take_all, map_more}
 use Rattle.rx_model.specs.Search.{Patterns, Match, next_match, matches, free, is_empty_at, next_after}
 use Rattle.rx_model.specs.Utf8.{MeansUtf8}
 use Rattle.rx_search.specs.declared.memory.Memory.{Memory}
@@ -18,9 +18,8 @@ use Rattle.rx_search.specs.declared.anchored.MatchKind.TheVariants.{LeftmostFirs
 use Rattle.rx_search.proofs.SearcherLemmas.{successive-matches}
 use Rattle.rx_meta.specs.Finder.{PromisesFor}
 use Rattle.rx_meta.specs.Regex.{RegexValue, Serves, searches, given_needles, kind_in, groups_in}
-use Rattle.rx_scan.specs.Haystacks.{FindsRows, HasOutcome, AreOutcomes}
+use Rattle.rx_scan.specs.Haystacks.{FindsRows, AreRowsOf, HasOutcome, HaveOutcomes}
 use Rattle.rx_scan.specs.Row.{RowValue, row_of, scan_rows}
-use Rattle.rx_workers.specs.Answers.{AreAnswers}
 
 -- what a regex searches is the next match of its patterns, where matches are told
 abbrev pub SearchesForItsPatterns : Type 0
@@ -98,56 +97,60 @@ serves-finds regex r text serves begins leftmost groups told utf8 = record {
   groups = groups;
 }
 
--- the same regex finds the same
-pub same-finds : (now first : RegexValue) (r : Patterns) (text : List ℕ) → now ≡ first → FindsRows first r text → FindsRows now r text
-same-finds now first r text same finds = subst (λ (regex : RegexValue). FindsRows regex r text) (sym same) finds
-
--- what the rows of a haystack became, where they are those that a search of it finds
-outcome-at : {V : Type 0} (Is : ℕ → List RowValue → V → Type 0) (value : V) (rows : List RowValue) (now first : RegexValue) (hs : List (Bor (List ℕ))) (i : ℕ)
-    (e : Bor (List ℕ)) → now ≡ first → i < length hs → ((r : Patterns) → FindsRows now r (get_or hs i e).now → rows ≡ scan_rows r (get_or hs i e).now)
-    → Is i rows value → HasOutcome Is first hs i value
-outcome-at Is value rows now first hs i e same below found is = λ r d finds.
+-- what are the rows of a haystack to one regex are to the same
+pub rows-there : (rows : List RowValue) (now first : RegexValue) (hs : List (Bor (List ℕ))) (i : ℕ) (e : Bor (List ℕ)) → now ≡ first → i < length hs
+    → AreRowsOf now (get_or hs i e).now rows → (d : Bor (List ℕ)) → AreRowsOf first (get_or hs i d).now rows
+rows-there rows now first hs i e same below are = λ d.
     let there : get_or hs i e ≡ get_or hs i d = get_or_default hs i e d below in
-    let here : FindsRows first r (get_or hs i e).now = subst (λ (b : Bor (List ℕ)). FindsRows first r b.now) (sym there) finds in
-    let told = found r (same-finds now first r (get_or hs i e).now same here) ∙ ap (λ (b : Bor (List ℕ)). scan_rows r b.now) there in
-    subst (λ rows. Is i rows value) told is
+    subst (λ (b : Bor (List ℕ)). AreRowsOf first b.now rows) there (subst (λ (regex : RegexValue). AreRowsOf regex (get_or hs i e).now rows) same are)
 
-pub outcome-found : {V : Type 0} (Is : ℕ → List RowValue → V → Type 0) (result : Result V Memory) (rows : List RowValue) (now first : RegexValue)
-    (hs : List (Bor (List ℕ))) (i : ℕ) (e : Bor (List ℕ)) → now ≡ first → i < length hs
-    → ((r : Patterns) → FindsRows now r (get_or hs i e).now → rows ≡ scan_rows r (get_or hs i e).now)
-    → IfOk result (Is i rows) → IfOk result (HasOutcome Is first hs i)
-outcome-found Is (Err error) rows now first hs i e same below found is = tt
-outcome-found Is (Ok value) rows now first hs i e same below found is = outcome-at Is value rows now first hs i e same below found is
+-- a haystack of a list that has one
+one-of : (hs : List (Bor (List ℕ))) (i : ℕ) → i < length hs → Bor (List ℕ)
+one-of [] i below = absurd (omega (arith, below))
+one-of (h ∷ hs) i below = h
 
-module _ {V : Type 0} (Is : ℕ → List RowValue → V → Type 0) (r : Patterns) (hs : List (Bor (List ℕ))) where
-  -- what the rows of each haystack became, by its number, is that of its matches
-  pub outcomes-found : {W : Type 0} (items : W → List V) (regex : RegexValue) (result : Result W Memory)
-      → IfOk result (λ w. AreAnswers (length hs) (λ i v. HasOutcome Is regex hs i v) (items w)) → All (λ h. FindsRows regex r h.now) hs
-      → IfOk result (λ w. AreOutcomes Is r hs (items w))
-  outcomes-found items regex (Err error) answers finds = tt
-  outcomes-found items regex (Ok w) answers finds =
-      record { count = answers.count; each = λ i v below d. answers.each i v below r d (finds i d below) }
+module _ {W : Type 0} (Are : List (List RowValue) → W → Type 0) (regex : RegexValue) (hs : List (Bor (List ℕ))) where
+  -- none yet
+  pub outcomes-none : (whole : W) → Are [] whole → HaveOutcomes Are regex hs 0 whole
+  outcomes-none whole are = record { all = []; are = are; count = refl; rows = λ r finds. refl }
 
-  -- where no match is told, it is what no rows become
-  pub outcomes-silent : {W : Type 0} (items : W → List V) (result : Result W Memory) → tells r.which_captures ≡ false
-      → IfOk result (λ w. AreAnswers (length hs) (λ i v. Is i [] v) (items w)) → IfOk result (λ w. AreOutcomes Is r hs (items w))
-  outcomes-silent items (Err error) silent answers = tt
-  outcomes-silent items (Ok w) silent answers = record {
-    count = answers.count;
-    each = λ i v below d.
-        let none : scan_rows r (get_or hs i d).now ≡ [] =
-        ap (λ (b : Bool). cond b (map (row_of r) (matches r (get_or hs i d).now free (length (get_or hs i d).now) 0)) []) silent in
-        subst (λ rows. Is i rows (get_or (items w) i v)) (sym none) (answers.each i v below);
+  -- those of one haystack more
+  pub outcomes-more : {V : Type 0} (Is : ℕ → List RowValue → V → Type 0) (n : ℕ) (old new : W) (value : V) → n < length hs
+      → (before : HaveOutcomes Are regex hs n old) (answer : HasOutcome Is regex hs n value) → Are (before.all ++ answer.0 ∷ []) new
+      → HaveOutcomes Are regex hs (n + 1) new
+  outcomes-more Is n old new value below before answer are = record {
+    all = before.all ++ answer.0 ∷ [];
+    are = are;
+    count = length-append before.all (answer.0 ∷ []) ∙ ap (λ k. k + 1) before.count;
+    rows = λ r finds.
+        let f : Bor (List ℕ) → List RowValue = λ h. scan_rows r h.now in
+        let d = one-of hs n below in
+        let own : answer.0 ≡ f (get_or hs n d) = answer.2 d r (finds n d below) in
+        (λ k. before.rows r finds k ++ own k ∷ []) ∙ sym (map_more f hs n d below);
   }
 
--- an answer to each number is a list of them
-pub answers-map : {V X Y : Type 0} (items : V → Y) (f : X → Y) (xs : List X) (vs : List V)
-    → AreAnswers (length xs) (λ i v. (d : X) → items v ≡ f (get_or xs i d)) vs → map items vs ≡ map f xs
-answers-map items f [] [] answers = refl
-answers-map items f [] (v ∷ vs) answers = absurd (omega (arith, answers.count))
-answers-map items f (x ∷ xs) [] answers = absurd (omega (arith, answers.count))
-answers-map {V} {X} items f (x ∷ xs) (v ∷ vs) answers =
-    let first : items v ≡ f x = answers.each 0 v (omega arith) x in
-    let rest : AreAnswers (length xs) (λ i w. (d : X) → items w ≡ f (get_or xs i d)) vs =
-    record { count = omega (arith, answers.count); each = λ i w below. answers.each (suc i) w (omega (arith, below)) } in
-    let after = answers-map items f xs vs rest in λ k. first k ∷ after k
+  pub outcomes-put : {V U E : Type 0} (Is : ℕ → List RowValue → V → Type 0) (n : ℕ) (old new : W) (value : V) → n < length hs
+      → (before : HaveOutcomes Are regex hs n old) (answer : HasOutcome Is regex hs n value) (result : Result U E)
+      → OnOk result (Are (before.all ++ answer.0 ∷ []) new) → OnOk result (HaveOutcomes Are regex hs (n + 1) new)
+  outcomes-put Is n old new value below before answer (Err error) are = tt
+  outcomes-put Is n old new value below before answer (Ok u) are = outcomes-more Is n old new value below before answer are
+
+  -- those of all
+  pub outcomes-whole : (r : Patterns) (result : Result W Memory) → IfOk result (HaveOutcomes Are regex hs (length hs)) → All (λ h. FindsRows regex r h.now) hs
+      → IfOk result (Are (map (λ h. scan_rows r h.now) hs))
+  outcomes-whole r (Err error) have finds = tt
+  outcomes-whole r (Ok w) have finds =
+      subst (λ all. Are all w) (have.rows r finds ∙ ap (map (λ h. scan_rows r h.now)) (take_all (length hs) hs (omega arith))) have.are
+
+  -- where no match is told, none has rows
+  pub outcomes-silent : (r : Patterns) (result : Result W Memory) → tells r.which_captures ≡ false → IfOk result (Are (replicate (length hs) []))
+      → IfOk result (Are (map (λ h. scan_rows r h.now) hs))
+  outcomes-silent r (Err error) silent are = tt
+  outcomes-silent r (Ok w) silent are = subst (λ all. Are all w) (sym (all-none hs)) are
+    where
+      none : (h : Bor (List ℕ)) → scan_rows r h.now ≡ []
+      none h = ap (λ (b : Bool). cond b (map (row_of r) (matches r h.now free (length h.now) 0)) []) silent
+
+      all-none : (xs : List (Bor (List ℕ))) → map (λ h. scan_rows r h.now) xs ≡ replicate (length xs) []
+      all-none [] = refl
+      all-none (h ∷ xs) = λ k. none h k ∷ all-none xs k

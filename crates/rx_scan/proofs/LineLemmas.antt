@@ -1,8 +1,9 @@
 -- Where a text is cut into lines.
-use Rattle.std.proofs.Common.{◌≡◌, ℕ, suc, ◌<◌, ◌≢◌, false, eqb, List, [], ◌∷◌, ◌++◌, length, get_or, refl, sym, ap, ◌∙◌, append_assoc, append-nil, arith}
+use Rattle.std.proofs.Common.{◌≡◌, ℕ, suc, ◌+◌, ◌<◌, ◌≢◌, false, eqb, List, [], ◌∷◌, ◌++◌, length, take, drop, get_or, refl, sym, ap, ◌∙◌, append_assoc, append-nil, length-take, drop-cons, arith}
 use Rattle.std.specs.Prelude.{map}
-use Rattle.std.proofs.lemmas.List.{map-append}
-use Rattle.std.proofs.lemmas.Bool.{ne_eqb}
+use Rattle.std.proofs.lemmas.List.{map-append, get_or-take, take-append-drop}
+use Rattle.std.proofs.lemmas.Bool.{ne_eqb, eqb-true, eq-eqb}
+use Rattle.memchr.specs.Find.{NoneBefore, Nowhere, Passes, is_byte}
 use Rattle.rx_scan.specs.Input.{lines, line_byte}
 
 -- no byte is a newline
@@ -52,3 +53,22 @@ pub lines-over : {V : Type 0} (now : V → List ℕ) (vs : List V) (rest : List 
 unfolding lines
 lines-over now vs [] whole none told = sym (append-nil (map now vs)) ∙ told
 lines-over now vs (b ∷ rest) whole none told = absurd (omega arith)
+
+-- the first newline: it is one, and none is before it
+pub newline-at : (text : List ℕ) (at : ℕ) → NoneBefore (Passes (is_byte 10) text) 0 (length text) at → Passes (is_byte 10) text at
+    → (at < length text) × (get_or text at 0 ≡ 10) × (text ≡ take at text ++ (10 ∷ drop (at + 1) text)) × HasNoNewline (take at text)
+newline-at text at none is =
+    let below = none.high in
+    let byte : get_or text at 0 ≡ 10 = eqb-true (get_or text at 0) 10 is in
+    let next : suc at ≡ at + 1 = omega arith in (
+      below,
+      byte,
+      sym (take-append-drop at text) ∙ ap (λ l. take at text ++ l) (drop-cons text at 0 below ∙ (λ k. byte k ∷ drop (next k) text)),
+      λ i within newline.
+          let early : i < at = omega (arith, within, length-take at text) in
+          none.before i (omega arith) early (eq-eqb (get_or text i 0) 10 (sym (get_or-take at text i 0 early) ∙ newline)),
+    )
+
+-- no newline
+pub newline-nowhere : (text : List ℕ) → Nowhere (Passes (is_byte 10) text) 0 (length text) → HasNoNewline text
+newline-nowhere text none = λ i below newline. none i (omega arith) below (eq-eqb (get_or text i 0) 10 newline)

@@ -1,14 +1,13 @@
 -- The text of rows, group by group and haystack by haystack.
-use denote.Ref.{Bor}
-use Rattle.std.proofs.Common.{◌≡◌, ℕ, suc, ◌+◌, ◌^◌, ◌<◌, ◌≤◌, List, [], ◌∷◌, ◌++◌, length, drop, get_or, Option, None, refl, sym, ap, ◌∙◌, append_assoc, arith, drop-cons}
-use Rattle.std.specs.Prelude.{map}
+use Rattle.std.proofs.Common.{◌≡◌, ℕ, suc, ◌+◌, ◌-◌, ◌^◌, ◌<◌, ◌≤◌, List, [], ◌∷◌, ◌++◌, length, take, drop, get_or, Option, None, Result, Ok, Err, refl, sym, ap, ◌∙◌, append_assoc, append-nil, length-append, length-drop, arith, drop-cons}
+use Rattle.std.specs.Prelude.{OnOk}
 use Rattle.std.specs.List.{flat_map}
-use Rattle.std.proofs.lemmas.List.{get_or_read}
-use Rattle.std.proofs.lemmas.List.Concat.{flat_map-cons}
-use Rattle.std.proofs.lemmas.Simd.{map-map}
-use Rattle.rx_model.specs.Search.{Patterns}
-use Rattle.rx_scan.specs.Row.{scan_rows, group_text, groups_text, row_text, rows_text}
-use Rattle.rx_workers.specs.Answers.{AreAnswers}
+use Rattle.std.proofs.lemmas.List.{get_or_read, take_all, take-append-le, drop-append-le}
+use Rattle.std.proofs.lemmas.List.Concat.{flat_map-append}
+use Rattle.rx_scan.specs.Outcomes.{IsPrinted, IsPiece}
+use Rattle.rx_scan.specs.Row.{RowValue, group_text, groups_text, row_text, rows_text}
+use Rattle.rx_scan.specs.declared.outcome.Piece.{Piece}
+use Rattle.rx_scan.specs.declared.outcome.Printed.{Printed}
 
 -- the groups from the slot at `at` on: the first of them, and the others
 pub groups_text-drop : (slots : List (Option ℕ)) (at g : ℕ) → at + 1 < length slots
@@ -44,38 +43,71 @@ told-more slots at g start end old new all below s e more told =
     ∙ ap (λ y. old ++ (group_text g (get_or slots at None) y ++ rest)) second
     ∙ ap (λ l. old ++ l) (sym (groups_text-drop slots at g below)) ∙ told
 
--- the texts of the rows of all haystacks
-module _ {V : Type 0} (items : V → List ℕ) (r : Patterns) where
-  texts-from : (line : ℕ) (hs : List (Bor (List ℕ))) (vs : List V)
-      → AreAnswers (length hs) (λ i v. (d : Bor (List ℕ)) → items v ≡ flat_map (row_text (line + i)) (scan_rows r (get_or hs i d).now)) vs
-      → flat_map items vs ≡ rows_text line (map (λ h. scan_rows r h.now) hs)
-  unfolding rows_text
-  texts-from line [] [] answers = refl
-  texts-from line [] (v ∷ vs) answers = absurd (omega (arith, answers.count))
-  texts-from line (h ∷ hs) [] answers = absurd (omega (arith, answers.count))
-  texts-from line (h ∷ hs) (v ∷ vs) answers =
-      let here : line + 0 ≡ line = omega arith in
-      let first : items v ≡ flat_map (row_text line) (scan_rows r h.now) =
-      answers.each 0 v (omega arith) h ∙ ap (λ n. flat_map (row_text n) (scan_rows r h.now)) here in
-      let rest : AreAnswers (length hs) (λ i w. (d : Bor (List ℕ)) → items w ≡ flat_map (row_text (line + 1 + i)) (scan_rows r (get_or hs i d).now)) vs =
-      record {
-        count = omega (arith, answers.count);
-        each = λ i w below d.
-            let next : line + suc i ≡ line + 1 + i = omega arith in
-            answers.each (suc i) w (omega (arith, below)) d ∙ ap (λ n. flat_map (row_text n) (scan_rows r (get_or hs i d).now)) next;
-      } in
-      let others = texts-from (line + 1) hs vs rest in
-      flat_map-cons items v vs ∙ (λ k. first k ++ others k)
+-- one row more of the haystack that is searched
+pub printed-more : (old new : Printed) (i line : ℕ) (rows : List RowValue) (row : RowValue) → new.start ≡ old.start
+    → new.text.items ≡ old.text.items ++ row_text line row → (i < 2 ^ 63 → line ≡ i + 1) → IsPrinted old i rows → IsPrinted new i (rows ++ row ∷ [])
+printed-more old new i line rows row start longer number is = (
+  omega (arith, start, is.0, ap length longer ∙ length-append old.text.items (row_text line row)),
+  λ small.
+      ap (λ k. drop k new.text.items) start ∙ ap (drop old.start) longer ∙ drop-append-le old.start old.text.items (row_text line row) is.0
+      ∙ (λ k. is.1 small k ++ row_text (number small k) row) ∙ sym (flat_map-push (row_text (i + 1)) rows row),
+)
+  where
+    flat_map-push : (f : RowValue → List ℕ) (xs : List RowValue) (x : RowValue) → flat_map f (xs ++ x ∷ []) ≡ flat_map f xs ++ f x
+    flat_map-push f xs x = flat_map-append f xs (x ∷ []) ∙ ap (λ l. flat_map f xs ++ l) (append-nil (f x))
 
-  pub texts-told : (hs : List (Bor (List ℕ))) (vs : List V) (texts : List (List ℕ)) → length hs < 2 ^ 63 → map (λ h. h.now) hs ≡ texts
-      → AreAnswers (length hs) (λ i v. (d : Bor (List ℕ)) → i < 2 ^ 63 → items v ≡ flat_map (row_text (i + 1)) (scan_rows r (get_or hs i d).now)) vs
-      → flat_map items vs ≡ rows_text 1 (map (scan_rows r) texts)
-  texts-told hs vs texts small same answers =
-      let in_order : AreAnswers (length hs) (λ i v. (d : Bor (List ℕ)) → items v ≡ flat_map (row_text (1 + i)) (scan_rows r (get_or hs i d).now)) vs =
-      record {
-        count = answers.count;
-        each = λ i v below d.
-            let line : i + 1 ≡ 1 + i = omega arith in
-            answers.each i v below d (omega (arith, below, small)) ∙ ap (λ n. flat_map (row_text n) (scan_rows r (get_or hs i d).now)) line;
-      } in
-      texts-from 1 hs vs in_order ∙ ap (rows_text 1) (sym (map-map (scan_rows r) (λ h. h.now) hs) ∙ ap (map (scan_rows r)) same)
+-- a piece of a text is one of a longer text
+pub piece-kept : (old new : Printed) (more : List ℕ) (i : ℕ) (rows : List RowValue) (piece : Piece) → new.text.items ≡ old.text.items ++ more
+    → IsPiece old i rows piece → IsPiece new i rows piece
+piece-kept old new more i rows piece longer is =
+    let len = ap length longer ∙ length-append old.text.items more in
+    let within : piece.start ≤ length old.text.items = omega (arith, is.0, is.1) in
+    let rest = drop piece.start old.text.items in
+    let fits : piece.end - piece.start ≤ length rest = omega (arith, is.1, length-drop piece.start old.text.items) in (
+      is.0,
+      omega (arith, is.1, len),
+      λ small. ap (λ l. take (piece.end - piece.start) (drop piece.start l)) longer
+          ∙ ap (take (piece.end - piece.start)) (drop-append-le piece.start old.text.items more within)
+          ∙ take-append-le (piece.end - piece.start) rest more fits ∙ is.2 small,
+    )
+
+-- what was printed since the haystack began is a piece
+pub printed-piece : (store : Printed) (i : ℕ) (rows : List RowValue) (piece : Piece) → piece.start ≡ store.start → piece.end ≡ length store.text.items
+    → IsPrinted store i rows → IsPiece store i rows piece
+printed-piece store i rows piece start end is =
+    let rest = drop store.start store.text.items in (
+      omega (arith, start, end, is.0),
+      omega (arith, end),
+      λ small. (λ k. take (piece.end - piece.start) (drop (start k) store.text.items))
+          ∙ take_all (piece.end - piece.start) rest (omega (arith, start, end, length-drop store.start store.text.items)) ∙ is.1 small,
+    )
+
+-- the text of the haystacks' rows, and of those of one haystack more
+pub rows_text-more : (line : ℕ) (all : List (List RowValue)) (rows : List RowValue)
+    → rows_text line (all ++ rows ∷ []) ≡ rows_text line all ++ flat_map (row_text (line + length all)) rows
+unfolding rows_text
+rows_text-more line [] rows =
+    let here : line ≡ line + 0 = omega arith in
+    append-nil (flat_map (row_text line) rows) ∙ ap (λ n. flat_map (row_text n) rows) here
+rows_text-more line (own ∷ all) rows =
+    let next : line + 1 + length all ≡ line + suc (length all) = omega arith in
+    ap (λ l. flat_map (row_text line) own ++ l) (rows_text-more (line + 1) all rows ∙ ap (λ n. rows_text (line + 1) all ++ flat_map (row_text n) rows) next)
+    ∙ sym (append_assoc (flat_map (row_text line) own) (rows_text (line + 1) all) (flat_map (row_text (line + suc (length all))) rows))
+
+pub rows_text-none : rows_text 1 [] ≡ []
+unfolding rows_text
+rows_text-none = refl
+
+-- the piece of a haystack's rows comes next in the text of all
+pub text-more : (store : Printed) (piece : Piece) (all : List (List RowValue)) (rows : List RowValue) (old new : List ℕ)
+    → new ≡ old ++ take (piece.end - piece.start) (drop piece.start store.text.items) → (length all < 2 ^ 63 → old ≡ rows_text 1 all)
+    → IsPiece store (length all) rows piece → length (all ++ rows ∷ []) < 2 ^ 63 → new ≡ rows_text 1 (all ++ rows ∷ [])
+text-more store piece all rows old new longer told is small =
+    let few : length all < 2 ^ 63 = omega (arith, small, length-append all (rows ∷ [])) in
+    let next : length all + 1 ≡ 1 + length all = omega arith in
+    longer ∙ (λ k. told few k ++ is.2 few k) ∙ ap (λ n. rows_text 1 all ++ flat_map (row_text n) rows) next ∙ sym (rows_text-more 1 all rows)
+
+-- a success says what follows from what it says
+pub on-ok : {U E A B : Type 0} (result : Result U E) → (A → B) → OnOk result A → OnOk result B
+on-ok (Ok u) f a = f a
+on-ok (Err e) f a = tt

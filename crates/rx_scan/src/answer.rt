@@ -16,7 +16,6 @@ use crate::arguments::{Command, Off, Scan};
 use crate::haystacks::scan_for;
 use crate::input::{INPUT_LIMIT, read_patterns, split_lines};
 use crate::outcome::RowsText;
-use crate::output::joined;
 use crate::size::are_small;
 use crate::status::Status;
 use rx_gen::push_number;
@@ -241,8 +240,7 @@ fn all_rows<R: Threads + Wait + Sync, G: Gate + Sync>(
 {
     let haystacks = split_lines(alloc, haystacks)?;
     // The workers print what they find (DECISIONS: one scan for rows, their text and their numbers).
-    let texts = scan_for(rt, alloc, regex, &haystacks, asked.workers, gate, &RowsText)?;
-    let text = joined(alloc, &texts)?;
+    let text = scan_for(rt, alloc, regex, &haystacks, asked.workers, gate, &RowsText)?;
     Ok(Answer {
         status: Status::Rows,
         text,

@@ -1,5 +1,6 @@
 //! Matches, in numbers.
-ghost use Rattle.std.specs.Prelude.{◌≡◌, ◌<◌, ◌^◌, ◌∷◌, ℕ, List, Option, sum_by};
+ghost use Rattle.std.specs.Prelude.{◌≡◌, ◌<◌, ◌^◌, ◌∷◌, ℕ, List, Option, map, sum_by};
+ghost use Rattle.std.specs.List.{All};
 ghost use Rattle.rx_scan.specs.Counted.{slots_len, row_len, rows_len, counts_of};
 
 use crate::outcome::Outcome;
@@ -13,16 +14,47 @@ use std::alloc::Global;
 pub struct Counted;
 
 impl Outcome for Counted {
+    // Those of the haystack that is searched.
+    type Store = Vec<Row>;
+
     type Value = Counts;
 
-    // A sum that does not fit is not promised; no haystack has so many matches.
-    ghost is = { λ _ _ rows counts. rows_len rows < 2 ^ 64 → counts ≡ counts_of rows };
+    type Whole = Vec<Counts>;
 
-    fn of(&self, _alloc: Global, _index: usize, rows: Vec<Row>) -> Result<Counts, Memory> {
-        Ok(Counts {
-            matches: rows.len(),
-            covered: covered_by(&rows),
-        })
+    ghost holds = { λ _ store _ rows. store.items ≡ rows };
+
+    // A sum that does not fit is not promised; no haystack has so many matches.
+    ghost is = { λ _ _ _ rows counts. rows_len rows < 2 ^ 64 → counts ≡ counts_of rows };
+
+    ghost are = { λ _ all whole. All (λ rows. rows_len rows < 2 ^ 64) all → whole.items ≡ map counts_of all };
+
+    fn open(&self, alloc: Global) -> Vec<Row> {
+        Vec::new(alloc)
+    }
+
+    fn begin(&self, _index: usize, store: &mut Vec<Row>) {
+        store.clear();
+    }
+
+    fn add(&self, _index: usize, row: Row, store: &mut Vec<Row>) -> Result<(), Memory> {
+        store.push(row)?;
+        Ok(())
+    }
+
+    fn end(&self, _alloc: Global, _index: usize, store: &mut Vec<Row>) -> Counts {
+        Counts {
+            matches: store.len(),
+            covered: covered_by(store),
+        }
+    }
+
+    fn nothing(&self, alloc: Global) -> Vec<Counts> {
+        Vec::new(alloc)
+    }
+
+    fn put(&self, _store: &Vec<Row>, value: Counts, whole: &mut Vec<Counts>) -> Result<(), Memory> {
+        whole.push(value)?;
+        Ok(())
     }
 }
 

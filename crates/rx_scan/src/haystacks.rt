@@ -1,9 +1,8 @@
 //! The rows of haystacks.
-ghost use Rattle.std.specs.Prelude.{◌≡◌, ◌<◌, [], ℕ, List, true, length, map, IfOk, OnOk};
+ghost use Rattle.std.specs.Prelude.{◌≡◌, ◌<◌, [], ℕ, List, true, length, map, replicate, IfOk};
 ghost use Rattle.std.specs.List.{All};
 ghost use Rattle.std.specs.Vec.{vec_items};
 ghost use Rattle.rx_model.specs.Expression.{Expression};
-ghost use Rattle.rx_model.specs.Search.{Patterns};
 ghost use Rattle.rx_model.specs.Utf8.{MeansUtf8};
 ghost use Rattle.rx_search.specs.Needles.{BeginsEachMatch};
 ghost use Rattle.rx_search.specs.Told.{tells};
@@ -11,9 +10,8 @@ ghost use Rattle.rx_search.specs.declared.anchored.MatchKind.TheVariants.{Leftmo
 ghost use Rattle.rx_meta.specs.Build.{IsBuilt, patterns_for};
 ghost use Rattle.rx_meta.specs.Config.{ConfigValue, kind_of, utf8_of, prefilter_of, captures_of};
 ghost use Rattle.rx_meta.specs.Regex.{groups_in};
-ghost use Rattle.rx_scan.specs.Haystacks.{FindsRows, HasOutcome, AreOutcomes};
+ghost use Rattle.rx_scan.specs.Haystacks.{HasOutcome, HaveOutcomes};
 ghost use Rattle.rx_scan.specs.Row.{scan_rows};
-ghost use Rattle.rx_workers.specs.Answers.{AreAnswers};
 
 use crate::outcome::{AllRows, Outcome};
 use crate::row::{Layout, Row};
@@ -101,7 +99,7 @@ pub fn scan<R: Threads + Wait + Sync, G: Gate + Sync>(
     Ok(rows)
 }
 
-/// What the rows of each haystack become, in order: the same, whatever that is (DECISIONS: one scan for rows, their text and their numbers).
+/// What the rows of all haystacks become: the same, whatever that is (DECISIONS: one scan for rows, their text and their numbers).
 ///
 /// # Errors
 ///
@@ -114,12 +112,12 @@ pub fn scan_for<R: Threads + Wait + Sync, G: Gate + Sync, O: Outcome + Sync>(
     workers: usize,
     gate: &G,
     outcome: &O,
-) -> Result<Vec<O::Value>, Memory>
+) -> Result<O::Whole, Memory>
     requires { 0 < workers }
     ensures { (config : ConfigValue) (hs : List Expression) → IsBuilt config hs regex.now → kind_of config ≡ LeftmostFirst
         → BeginsEachMatch (prefilter_of config) (patterns_for config hs)
         → (utf8_of config ≡ true → All (λ h. MeansUtf8 (patterns_for config hs) h.now) haystacks.now)
-        → IfOk result (λ all. AreOutcomes (O.is outcome.now) (patterns_for config hs) haystacks.now all.items) }
+        → IfOk result (O.are outcome.now (map (λ h. scan_rows (patterns_for config hs) h.now) haystacks.now)) }
 {
     if !tells_matches(regex) {
         return no_rows(alloc, haystacks, gate, outcome);
@@ -150,13 +148,19 @@ struct Works<'a, G, O> {
 impl<'a, G: Gate, O: Outcome> Task for Works<'a, G, O> {
     type Value = O::Value;
 
+    type Store = O::Store;
+
     type Scratch = RegexFinder<'a>;
+
+    type Whole = O::Whole;
 
     ghost size = { λ w. length w.haystacks.now };
 
-    ghost answers = { λ w i value. HasOutcome (O.is w.outcome.now) w.regex.now w.haystacks.now i value };
+    ghost answers = { λ w store i value. HasOutcome (O.is w.outcome.now store) w.regex.now w.haystacks.now i value };
 
     ghost fits = { λ w f. f.regex.now ≡ w.regex.now };
+
+    ghost gathers = { λ w n whole. HaveOutcomes (O.are w.outcome.now) w.regex.now w.haystacks.now n whole };
 
     fn count(&self) -> usize {
         self.haystacks.len()
@@ -170,15 +174,42 @@ impl<'a, G: Gate, O: Outcome> Task for Works<'a, G, O> {
         finder.refit(alloc, self.regex)
     }
 
+    fn open(&self, alloc: Global) -> O::Store {
+        self.outcome.open(alloc)
+    }
+
     fn answer(
         &self,
         alloc: Global,
         index: usize,
         finder: &mut RegexFinder<'a>,
+        store: &mut O::Store,
     ) -> Result<O::Value, Memory> {
+        a_search_is_for_its_patterns();
         self.gate.reached(index);
-        let rows = find_rows(alloc, self.haystacks[index], &self.layout, finder)?;
-        self.outcome.of(alloc, index, rows)
+        let haystack = self.haystacks[index];
+        self.outcome.begin(index, store);
+        let mut searcher = Searcher::new(Input::new(haystack));
+        // Each row is handed on as it is found (DECISIONS: one scan for rows, their text and their numbers).
+        'matches: while let Some(found) = searcher.advance(finder)? {
+            let row = self.layout.row(alloc, found.pattern(), finder.slots())?;
+            self.outcome.add(index, row, store)?;
+        }
+        Ok(self.outcome.end(alloc, index, store))
+    }
+
+    fn begin(&self, alloc: Global) -> O::Whole {
+        self.outcome.nothing(alloc)
+    }
+
+    fn put(
+        &self,
+        _index: usize,
+        store: &O::Store,
+        value: O::Value,
+        whole: &mut O::Whole,
+    ) -> Result<(), Memory> {
+        self.outcome.put(store, value, whole)
     }
 }
 
@@ -199,34 +230,16 @@ fn no_rows<G: Gate, O: Outcome>(
     haystacks: &[&[u8]],
     gate: &G,
     outcome: &O,
-) -> Result<Vec<O::Value>, Memory>
-    ensures { IfOk result (λ all. AreAnswers (length haystacks.now) (λ i value. O.is outcome.now i [] value) all.items) }
+) -> Result<O::Whole, Memory>
+    ensures { IfOk result (O.are outcome.now (replicate (length haystacks.now) [])) }
 {
-    let mut all = Vec::with_capacity(alloc, haystacks.len())?;
+    let mut whole = outcome.nothing(alloc);
+    let mut store = outcome.open(alloc);
     for index in 0..haystacks.len() {
         gate.reached(index);
-        all.push(outcome.of(alloc, index, Vec::new(alloc))?)?;
+        outcome.begin(index, &mut store);
+        let value = outcome.end(alloc, index, &mut store);
+        outcome.put(&store, value, &mut whole)?;
     }
-    Ok(all)
-}
-
-/// The rows of the successive matches in a haystack.
-fn find_rows(
-    alloc: Global,
-    haystack: &[u8],
-    layout: &Layout<'_>,
-    finder: &mut RegexFinder<'_>,
-) -> Result<Vec<Row>, Memory>
-    requires { layout.now.groups.now ≡ groups_in finder.old.regex.now }
-    ensures rows { (r : Patterns) → FindsRows finder.old.regex.now r haystack.now → IfOk result (λ rows. rows.items ≡ scan_rows r haystack.now) }
-    ensures same { OnOk result (finder.new.regex.now ≡ finder.old.regex.now) }
-{
-    a_search_is_for_its_patterns();
-    let mut rows = Vec::new(alloc);
-    let mut searcher = Searcher::new(Input::new(haystack));
-    while let Some(found) = searcher.advance(finder)? {
-        let row = layout.row(alloc, found.pattern(), finder.slots())?;
-        rows.push(row)?;
-    }
-    Ok(rows)
+    Ok(whole)
 }

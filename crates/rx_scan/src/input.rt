@@ -11,6 +11,7 @@ ghost use Rattle.rx_scan.specs.declared.input.ReadError.TheVariants.{Source, Mem
 
 use crate::ends;
 use crate::ends::Failed;
+use memchr::memchr;
 use rx_syntax::{Ast, Config, PatternsError, read_all};
 use std::alloc::{AllocError, Global};
 
@@ -173,8 +174,8 @@ pub fn split_line(text: &str) -> (&str, &str)
     ensures utf8 { IsUtf8 result.0.now × IsUtf8 result.1.now }
     ensures shorter { length result.1.now < length text.now }
 {
-    match text.split_once('\n') {
-        Some(pair) => pair,
+    match memchr(b'\n', text.as_bytes()) {
+        Some(at) => (&text[..at], &text[at + 1..]),
         None => (text, ""),
     }
 }

@@ -1,7 +1,5 @@
 //! Writing: numbers, the text of rows, and a whole text into a sink.
 ghost use Rattle.std.specs.Prelude.{◌≡◌, ◌++◌, ◌<◌, ◌≤◌, ℕ, List, Option, Some, decimal, length, take, IfOk, OnOk, OnErr};
-ghost use Rattle.std.specs.List.{flat_map};
-ghost use Rattle.std.specs.Vec.{vec_items};
 ghost use Rattle.rx_scan.specs.Ends.{HasRisen, Gains, GainsPrefix};
 ghost use Rattle.rx_scan.specs.Row.{span_text, group_text, groups_text, slots_text, row_text};
 
@@ -9,7 +7,6 @@ use crate::ends::{Failed, Sink};
 use crate::row::Row;
 use rx_gen::push_number;
 use rx_search::{Memory, NonMaxUsize};
-use std::alloc::Global;
 
 /// Appends `START..END`, or `-` where one of them is not told.
 fn push_span(
@@ -59,50 +56,16 @@ fn push_groups(text: &mut Vec<u8>, slots: &[Option<NonMaxUsize>]) -> Result<(), 
     Ok(())
 }
 
-/// Appends the rows of a haystack, which is the line of this number, counted from 1.
+/// Appends the text of a row of the haystack that is the line of this number, counted from 1: `LINE:PATTERN:START..END`, then
+/// ` G=START..END` or ` G=-` for each group from 1 on, and a newline.
 ///
 /// # Errors
 ///
 /// `Memory`, where there was no memory for the text; a front of it may have been appended.
-pub fn print_rows(text: &mut Vec<u8>, line: usize, rows: &[Row]) -> Result<(), Memory>
-    ensures { OnOk result (text.new.items ≡ text.old.items ++ flat_map (row_text line) rows.now) }
-{
-    // What is printed is what `scan` answers, as data (DECISIONS: the text of a row is defined from the row as data).
-    for row in rows {
-        print_row(text, line, row)?;
-    }
-    Ok(())
-}
-
-/// These texts, one after another.
-///
-/// # Errors
-///
-/// `Memory`, where there was no memory for all of them.
-pub fn joined(alloc: Global, texts: &[Vec<u8>]) -> Result<Vec<u8>, Memory>
-    ensures { IfOk result (λ all. all.items ≡ flat_map vec_items texts.now) }
-{
-    // So nothing is copied twice.
-    let mut all = Vec::with_capacity(alloc, len_of_all(texts))?;
-    for text in texts {
-        all.extend_from_slice(text)?;
-    }
-    Ok(all)
-}
-
-/// How many bytes they have together.
-fn len_of_all(texts: &[Vec<u8>]) -> usize {
-    let mut len: usize = 0;
-    for text in texts {
-        len = len.saturating_add(text.len());
-    }
-    len
-}
-
-/// Appends `LINE:PATTERN:START..END`, then ` G=START..END` or ` G=-` for each group from 1 on, and a newline.
-fn print_row(text: &mut Vec<u8>, line: usize, row: &Row) -> Result<(), Memory>
+pub fn print_row(text: &mut Vec<u8>, line: usize, row: &Row) -> Result<(), Memory>
     ensures { OnOk result (text.new.items ≡ text.old.items ++ row_text line row.now) }
 {
+    // What is printed is what `scan` answers, as data (DECISIONS: the text of a row is defined from the row as data).
     push_number(text, line)?;
     text.extend_from_slice(b":")?;
     push_number(text, row.pattern.as_usize())?;

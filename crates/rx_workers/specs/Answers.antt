@@ -1,22 +1,23 @@
--- The answers to the works of a task, as they are found and put together.
-use Rattle.std.specs.Prelude.{◌≡◌, ℕ, ◌<◌, List, length, get_or, Option, IfSome}
+-- The answers to the works of a task, as they are found.
+use Rattle.std.specs.Prelude.{ℕ, ◌<◌}
 use Rattle.std.specs.List.{All}
 use Rattle.rx_workers.specs.declared.found.Found.{Found}
+use Rattle.rx_workers.specs.declared.found.Notes.{Notes}
+use Rattle.rx_workers.specs.declared.found.Queue.{Queue}
 
-module _ {V : Type 0} (size : ℕ) (Is : ℕ → V → Type 0) where
-  -- it is the answer to the number that it names
-  abbrev pub IsFound : Found V → Type 0
-  IsFound f = (f.index < size) × Is f.index f.value
+module _ {V S : Type 0} (size : ℕ) (Is : S → ℕ → V → Type 0) where
+  -- with this store it is the answer to the number that it names
+  abbrev pub IsFound : S → Found V → Type 0
+  IsFound store f = (f.index < size) × Is store f.index f.value
 
   -- each is the answer to the number that it names
-  abbrev pub AreFound : List (Found V) → Type 0
-  AreFound fs = All IsFound fs
+  abbrev pub AreFound : Notes V S → Type 0
+  AreFound notes = All (IsFound notes.store) notes.found.items
 
-  -- there is an answer to each number, in order
-  pub record AreAnswers (vs : List V) : Type 0 where
-    pub count : length vs ≡ size
-    pub each : (i : ℕ) (d : V) → i < size → Is i (get_or vs i d)
+  -- .. of those that were not taken yet
+  abbrev pub AreQueued : Queue V S → Type 0
+  AreQueued queue = All (IsFound queue.store) queue.found.items
 
--- there is a place for each number, and what stands there is its answer
-abbrev pub AreSome : {V : Type 0} → ℕ → (ℕ → V → Type 0) → List (Option V) → Type 0
-AreSome size Is vs = AreAnswers size (λ i o. IfSome o (Is i)) vs
+-- what is an answer with one store is one with the other
+abbrev pub Keeps : {V S : Type 0} (Is : S → ℕ → V → Type 0) → (before after : S) → Type 0
+Keeps {V} Is before after = (i : ℕ) (value : V) → Is before i value → Is after i value

@@ -1,18 +1,19 @@
-//! What the workers found, number by number.
-ghost use Rattle.std.specs.Prelude.{◌<◌, ℕ, IfOk, IfSome};
+//! What the workers found, put together number by number.
+ghost use Rattle.std.specs.Prelude.{◌≡◌, ◌+◌, ◌<◌, IfOk, IfSome, OnOk};
 ghost use Rattle.rx_slots.specs.SlotSeats.{IsSlotSeat};
 ghost use Rattle.std.specs.List.{All};
 ghost use Rattle.rx_workers.specs.Places.{IsLeft, IsFree};
-ghost use Rattle.rx_workers.specs.Answers.{AreFound, AreSome, AreAnswers};
+ghost use Rattle.rx_workers.specs.Answers.{AreFound, AreQueued};
 
-use crate::found::Found;
+use crate::found::{Notes, Queue};
 use crate::place::Left;
 use crate::task::Task;
 use rx_search::Memory;
 use rx_slots::{SlotPool, SlotSeat};
 use std::alloc::Global;
+use std::collections::VecDeque;
 
-/// The answer to each number that a worker found, once all have ended. Their seats end too.
+/// What each worker found, once all have ended. Their seats end too.
 ///
 /// # Errors
 ///
@@ -22,17 +23,17 @@ pub fn gather<T: Task>(
     task: &T,
     pool: &SlotPool<T::Scratch>,
     seat: &mut SlotSeat<T::Scratch>,
-    left: Vec<Left<T::Value, T::Scratch>>,
-) -> Result<Vec<Option<T::Value>>, Memory>
+    left: Vec<Left<T::Value, T::Store, T::Scratch>>,
+) -> Result<Vec<Queue<T::Value, T::Store>>, Memory>
     requires seat { IsSlotSeat pool.now seat.old }
     requires left { All (IsLeft pool.now (T.size task.now) (T.answers task.now)) left.items }
-    ensures { IfOk result (λ all. AreSome (T.size task.now) (T.answers task.now) all.items) }
+    ensures { IfOk result (λ all. All (AreQueued (T.size task.now) (T.answers task.now)) all.items) }
 {
-    let mut all = none_yet(alloc, task);
+    let mut all = Ok(Vec::new(alloc));
     for one in left {
-        let Left { found, seat: other } = one;
+        let Left { notes, seat: other } = one;
         join(pool, seat, other);
-        all = with_found(task, all, found);
+        all = with_notes(task, all, notes);
     }
     all
 }
@@ -48,37 +49,26 @@ fn join<S: Drop>(pool: &SlotPool<S>, seat: &mut SlotSeat<S>, other: Option<SlotS
     }
 }
 
-/// No answer to any number.
-fn none_yet<T: Task>(alloc: Global, task: &T) -> Result<Vec<Option<T::Value>>, Memory>
-    ensures { IfOk result (λ all. AreSome (T.size task.now) (T.answers task.now) all.items) }
-{
-    let count = task.count();
-    let mut all = Vec::with_capacity(alloc, count)?;
-    for _place in 0..count {
-        all.push(None)?;
-    }
-    Ok(all)
-}
-
-/// The answers with those that one worker found.
-fn with_found<T: Task>(
+/// What workers found, with what another one did.
+fn with_notes<T: Task>(
     _task: &T,
-    all: Result<Vec<Option<T::Value>>, Memory>,
-    found: Result<Vec<Found<T::Value>>, Memory>,
-) -> Result<Vec<Option<T::Value>>, Memory>
-    requires all { IfOk all (λ all. AreSome (T.size _task.now) (T.answers _task.now) all.items) }
-    requires found { IfOk found (λ found. AreFound (T.size _task.now) (T.answers _task.now) found.items) }
-    ensures { IfOk result (λ all. AreSome (T.size _task.now) (T.answers _task.now) all.items) }
+    all: Result<Vec<Queue<T::Value, T::Store>>, Memory>,
+    notes: Result<Notes<T::Value, T::Store>, Memory>,
+) -> Result<Vec<Queue<T::Value, T::Store>>, Memory>
+    requires all { IfOk all (λ all. All (AreQueued (T.size _task.now) (T.answers _task.now)) all.items) }
+    requires notes { IfOk notes (AreFound (T.size _task.now) (T.answers _task.now)) }
+    ensures { IfOk result (λ all. All (AreQueued (T.size _task.now) (T.answers _task.now)) all.items) }
 {
     let mut all = all?;
-    for one in found? {
-        let Found { index, value } = one;
-        all[index] = Some(value);
-    }
+    let Notes { found, store } = notes?;
+    all.push(Queue {
+        found: VecDeque::from_vec(found),
+        store,
+    })?;
     Ok(all)
 }
 
-/// Each answer, in order. Where none was found the caller looks for it.
+/// All answers together. Where none was found to a number, the caller looks for it.
 ///
 /// # Errors
 ///
@@ -86,34 +76,93 @@ fn with_found<T: Task>(
 pub fn complete<T: Task>(
     alloc: Global,
     task: &T,
-    found: Vec<Option<T::Value>>,
-) -> Result<Vec<T::Value>, Memory>
-    requires { AreSome (T.size task.now) (T.answers task.now) found.items }
-    ensures { IfOk result (λ all. AreAnswers (T.size task.now) (T.answers task.now) all.items) }
+    queues: Vec<Queue<T::Value, T::Store>>,
+) -> Result<T::Whole, Memory>
+    requires { All (AreQueued (T.size task.now) (T.answers task.now)) queues.items }
+    ensures { IfOk result (T.gathers task.now (T.size task.now)) }
 {
-    let mut all = Vec::with_capacity(alloc, found.len())?;
-    for one in found {
-        let value = found_or_now(alloc, task, all.len(), one)?;
-        all.push(value)?;
+    let count = task.count();
+    let finders = finders(alloc, count, &queues)?;
+    let mut queues = queues;
+    let mut whole = task.begin(alloc);
+    for index in 0..count {
+        // Whose it is is looked at again, so that nothing rests on this list (DECISIONS: who found an answer is a hint).
+        let worker = finders.get(index).copied().unwrap_or(0) as usize;
+        put_next(alloc, task, index, worker, &mut queues, &mut whole)?;
+    }
+    Ok(whole)
+}
+
+/// For each number the worker that found an answer to it, if one did.
+fn finders<V, S>(alloc: Global, count: usize, queues: &[Queue<V, S>]) -> Result<Vec<u32>, Memory> {
+    let mut all = vec![in alloc; 0u32; count]?;
+    let mut worker: u32 = 0;
+    for queue in queues {
+        for one in &queue.found {
+            if let Some(finder) = all.get_mut(one.index) {
+                *finder = worker;
+            }
+        }
+        worker = worker.saturating_add(1);
     }
     Ok(all)
 }
 
-/// The answer that was found, or else the one that is looked for now.
-fn found_or_now<T: Task>(
+/// Adds the answer to the number that comes next: that which this worker found, or else the one that is looked for now.
+fn put_next<T: Task>(
     alloc: Global,
     task: &T,
     index: usize,
-    found: Option<T::Value>,
-) -> Result<T::Value, Memory>
+    worker: usize,
+    all: &mut Vec<Queue<T::Value, T::Store>>,
+    whole: &mut T::Whole,
+) -> Result<(), Memory>
     requires there { index < T.size task.now }
-    requires found { IfSome found (T.answers task.now index) }
-    ensures { IfOk result (T.answers task.now index) }
+    requires all { All (AreQueued (T.size task.now) (T.answers task.now)) all.old.items }
+    requires before { T.gathers task.now index whole.old }
+    ensures put { OnOk result (T.gathers task.now (index + 1) whole.new) }
+    ensures all { OnOk result (All (AreQueued (T.size task.now) (T.answers task.now)) all.new.items) }
 {
-    if let Some(value) = found {
-        return Ok(value);
+    if worker < all.len() {
+        let queue = &mut all[worker];
+        if let Some(value) = next_of(task, index, queue) {
+            return task.put(index, &queue.store, value, whole);
+        }
     }
+    put_now(alloc, task, index, whole)
+}
+
+/// The next answer of this worker, if it is that to this number.
+fn next_of<T: Task>(
+    _task: &T,
+    index: usize,
+    queue: &mut Queue<T::Value, T::Store>,
+) -> Option<T::Value>
+    requires { AreQueued (T.size _task.now) (T.answers _task.now) queue.old }
+    ensures value { IfSome result (T.answers _task.now queue.new.store index) }
+    ensures rest { AreQueued (T.size _task.now) (T.answers _task.now) queue.new }
+{
+    let one = queue.found.pop_front()?;
+    if one.index != index {
+        return None;
+    }
+    Some(one.value)
+}
+
+/// Looks for the answer to the number that comes next, and adds it.
+fn put_now<T: Task>(
+    alloc: Global,
+    task: &T,
+    index: usize,
+    whole: &mut T::Whole,
+) -> Result<(), Memory>
+    requires there { index < T.size task.now }
+    requires before { T.gathers task.now index whole.old }
+    ensures { OnOk result (T.gathers task.now (index + 1) whole.new) }
+{
+    let mut store = task.open(alloc);
     let mut scratch = task.make(alloc)?;
     task.fit(alloc, &mut scratch)?;
-    task.answer(alloc, index, &mut scratch)
+    let value = task.answer(alloc, index, &mut scratch, &mut store)?;
+    task.put(index, &store, value, whole)
 }

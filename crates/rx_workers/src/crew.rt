@@ -4,7 +4,6 @@ ghost use Rattle.rx_slots.specs.DrawSeats.{limit_of};
 ghost use Rattle.rx_slots.specs.SlotSeats.{IsSlotSeat, slots_of};
 ghost use Rattle.std.specs.List.{All};
 ghost use Rattle.rx_workers.specs.Places.{IsPlace, IsLeft};
-ghost use Rattle.rx_workers.specs.Answers.{AreAnswers};
 
 use crate::answers::{complete, gather};
 use crate::place::{Left, Place, places};
@@ -15,7 +14,7 @@ use rx_slots::{Draws, SlotPool, SlotSeat};
 use std::alloc::Global;
 use std::thread::{Threads, map_vec};
 
-/// The answer to each work of a task, in order.
+/// What the answers to the works of a task are together.
 ///
 /// There are so many workers, but no more than works, and at least one. Each draws one number after another, until none is left, and works with
 /// a scratch value from a slot; of these there are so many as workers, but no more than `slots`, and at least one. Where the
@@ -31,8 +30,8 @@ pub fn do_all<R: Threads + Sync, T: Task + Sync>(
     task: &T,
     workers: usize,
     slots: usize,
-) -> Result<Vec<T::Value>, Memory>
-    ensures { IfOk result (λ all. AreAnswers (T.size task.now) (T.answers task.now) all.items) }
+) -> Result<T::Whole, Memory>
+    ensures { IfOk result (T.gathers task.now (T.size task.now)) }
 {
     let count = task.count();
     let workers = workers.min(count).max(1);
@@ -41,8 +40,8 @@ pub fn do_all<R: Threads + Sync, T: Task + Sync>(
     let (draws, first) = Draws::new(alloc, count as u64, workers as u64)?;
     let places = places(alloc, &pool, slots, &mut seat, &draws, first, workers)?;
     let left = work_all(rt, alloc, task, &pool, &draws, places)?;
-    let found = gather(alloc, task, &pool, &mut seat, left)?;
-    complete(alloc, task, found)
+    let notes = gather(alloc, task, &pool, &mut seat, left)?;
+    complete(alloc, task, notes)
 }
 
 /// A pool of so many scratch values.
@@ -70,12 +69,12 @@ fn work_all<R: Threads + Sync, T: Task + Sync>(
     pool: &SlotPool<T::Scratch>,
     draws: &Draws,
     places: Vec<Place<T::Scratch>>,
-) -> Result<Vec<Left<T::Value, T::Scratch>>, Memory>
+) -> Result<Vec<Left<T::Value, T::Store, T::Scratch>>, Memory>
     requires places { All (IsPlace pool.now draws.now) places.items }
     requires size { limit_of draws.now ≡ T.size task.now }
     ensures { IfOk result (λ all. All (IsLeft pool.now (T.size task.now) (T.answers task.now)) all.items) }
 {
-    let one = move |place: Place<T::Scratch>| -> Left<T::Value, T::Scratch>
+    let one = move |place: Place<T::Scratch>| -> Left<T::Value, T::Store, T::Scratch>
         requires { IsPlace pool.now draws.now place × (limit_of draws.now ≡ T.size task.now) }
         ensures { IsLeft pool.entry.now (T.size task.entry.now) (T.answers task.entry.now) result }
     { work(alloc, task, pool, draws, place) };

@@ -1,24 +1,32 @@
 //! What there is to do.
-ghost use Rattle.std.specs.Prelude.{◌≡◌, ◌^◌, ◌<◌, ℕ, IfOk, OnOk};
+ghost use Rattle.std.specs.Prelude.{◌≡◌, ◌+◌, ◌^◌, ◌<◌, ℕ, IfOk, OnOk};
+ghost use Rattle.rx_workers.specs.Answers.{Keeps};
 
 use rx_search::Memory;
 use std::alloc::Global;
 
-/// Works that are numbered, each with an answer that many threads may look for.
+/// Works that are numbered, each with an answer that many threads may look for, and what the answers become together.
 pub trait Task {
-    /// An answer.
+    /// An answer. It may be a place in the store of the worker that found it.
     type Value: Send + Drop;
+    /// What a worker keeps of its answers: a text that each of them is a piece of, say.
+    type Store: Send + Drop;
     /// What a worker works with, and another one may use after it: a cache, say.
     type Scratch: Send + Drop;
+    /// What the answers become together.
+    type Whole: Send + Drop;
 
     /// How many works there are.
     ghost size: { Self → ℕ };
 
-    /// What is an answer to the work of a number.
-    ghost answers: { Self → ℕ → Self.Value → Type 0 };
+    /// What is an answer to the work of a number, with the store of the worker that found it.
+    ghost answers: { Self → Self.Store → ℕ → Self.Value → Type 0 };
 
     /// What a scratch value has to be for a work.
     ghost fits: { Self → Self.Scratch → Type 0 };
+
+    /// What the answers to the numbers below this one are together.
+    ghost gathers: { Self → ℕ → Self.Whole → Type 0 };
 
     /// How many works there are.
     fn count(&self) -> usize
@@ -40,7 +48,10 @@ pub trait Task {
     fn fit(&self, alloc: Global, scratch: &mut Self::Scratch) -> Result<(), Memory>
         ensures { OnOk result (fits self.now scratch.new) };
 
-    /// The answer to the work of a number. The scratch value then fits as before.
+    /// The store of a worker that found nothing yet.
+    fn open(&self, alloc: Global) -> Self::Store;
+
+    /// The answer to the work of a number. The scratch value then fits as before, and what was an answer is one.
     ///
     /// # Errors
     ///
@@ -50,9 +61,32 @@ pub trait Task {
         alloc: Global,
         index: usize,
         scratch: &mut Self::Scratch,
+        store: &mut Self::Store,
     ) -> Result<Self::Value, Memory>
         requires there { index < size self.now }
         requires fit { fits self.now scratch.old }
-        ensures answer { IfOk result (answers self.now index) }
+        ensures answer { IfOk result (answers self.now store.new index) }
+        ensures keeps { OnOk result (Keeps (answers self.now) store.old store.new) }
         ensures stays { OnOk result (fits self.now scratch.new) };
+
+    /// What no answers are together.
+    fn begin(&self, alloc: Global) -> Self::Whole
+        ensures { gathers self.now 0 result };
+
+    /// Adds the answer to the number that comes next.
+    ///
+    /// # Errors
+    ///
+    /// Only want of memory.
+    fn put(
+        &self,
+        index: usize,
+        store: &Self::Store,
+        value: Self::Value,
+        whole: &mut Self::Whole,
+    ) -> Result<(), Memory>
+        requires there { index < size self.now }
+        requires answer { answers self.now store.now index value }
+        requires before { gathers self.now index whole.old }
+        ensures { OnOk result (gathers self.now (index + 1) whole.new) };
 }

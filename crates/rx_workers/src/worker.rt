@@ -5,7 +5,7 @@ ghost use Rattle.rx_slots.specs.SlotSeats.{IsSlotSeat, slot_view, slots_of};
 ghost use Rattle.rx_workers.specs.Places.{IsDrawer, IsPlace, IsLeft, IsFree};
 ghost use Rattle.rx_workers.specs.Answers.{AreFound};
 
-use crate::found::Found;
+use crate::found::{Found, Notes};
 use crate::place::{Left, Place};
 use crate::task::Task;
 use rx_search::Memory;
@@ -19,7 +19,7 @@ pub fn work<T: Task>(
     pool: &SlotPool<T::Scratch>,
     draws: &Draws,
     place: Place<T::Scratch>,
-) -> Left<T::Value, T::Scratch>
+) -> Left<T::Value, T::Store, T::Scratch>
     requires place { IsPlace pool.now draws.now place }
     requires size { limit_of draws.now ≡ T.size task.now }
     ensures { IsLeft pool.now (T.size task.now) (T.answers task.now) result }
@@ -30,15 +30,15 @@ pub fn work<T: Task>(
         mut drawer,
     } = place;
     let Ok((turn, mut scratch)) = pool.take(&mut seat, slot) else {
-        let found = work_alone(alloc, task, draws, &mut drawer);
+        let notes = work_alone(alloc, task, draws, &mut drawer);
         return Left {
-            found,
+            notes,
             seat: Some(seat),
         };
     };
-    let found = work_with(alloc, task, draws, &mut drawer, &mut scratch);
+    let notes = work_with(alloc, task, draws, &mut drawer, &mut scratch);
     let seat = put_back(pool, seat, slot, turn, scratch);
-    Left { found, seat }
+    Left { notes, seat }
 }
 
 /// Puts a value back into its slot. There is no seat where the slot is at its greatest turn, at which the seat keeps it.
@@ -68,10 +68,10 @@ fn work_alone<T: Task>(
     task: &T,
     draws: &Draws,
     drawer: &mut DrawSeat,
-) -> Result<Vec<Found<T::Value>>, Memory>
+) -> Result<Notes<T::Value, T::Store>, Memory>
     requires drawer { IsDrawer draws.now drawer.old }
     requires size { limit_of draws.now ≡ T.size task.now }
-    ensures { IfOk result (λ all. AreFound (T.size task.now) (T.answers task.now) all.items) }
+    ensures { IfOk result (AreFound (T.size task.now) (T.answers task.now)) }
 {
     let mut scratch = task.make(alloc)?;
     work_with(alloc, task, draws, drawer, &mut scratch)
@@ -84,21 +84,22 @@ fn work_with<T: Task>(
     draws: &Draws,
     drawer: &mut DrawSeat,
     scratch: &mut T::Scratch,
-) -> Result<Vec<Found<T::Value>>, Memory>
+) -> Result<Notes<T::Value, T::Store>, Memory>
     requires drawer { IsDrawer draws.now drawer.old }
     requires size { limit_of draws.now ≡ T.size task.now }
-    ensures { IfOk result (λ all. AreFound (T.size task.now) (T.answers task.now) all.items) }
+    ensures { IfOk result (AreFound (T.size task.now) (T.answers task.now)) }
 {
     task.fit(alloc, scratch)?;
-    let mut all = Vec::new(alloc);
+    let mut found = Vec::new(alloc);
+    let mut store = task.open(alloc);
     // No clause of a draw bounds the draws (DECISIONS: a worker draws at most 2 ^ 64 - 1 numbers).
     'draws: for _ in 0..u64::MAX {
         let Some(number) = draws.draw(drawer) else {
             break;
         };
         let index = number as usize;
-        let value = task.answer(alloc, index, scratch)?;
-        all.push(Found { index, value })?;
+        let value = task.answer(alloc, index, scratch, &mut store)?;
+        found.push(Found { index, value })?;
     }
-    Ok(all)
+    Ok(Notes { found, store })
 }

@@ -1,6 +1,6 @@
 use Rattle.std.proofs.Common.{[]}
-use Rattle.rx_workers.specs.Answers.{AreAnswers}
+use Rattle.std.specs.Prelude.{replicate}
 use Rattle.rx_scan.proofs.haystacks.no_rows.Given as goal
 
 abbrev pub invariant-loop-index : goal.invariant-loop-index
-invariant-loop-index g l = AreAnswers l.index (λ i value. g.O.Outcome.is l.outcome i [] value) l.all.items
+invariant-loop-index g l = g.O.Outcome.are l.outcome (replicate l.index []) l.whole

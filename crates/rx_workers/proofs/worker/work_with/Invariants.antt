@@ -1,4 +1,5 @@
-use Rattle.rx_workers.specs.Answers.{AreFound}
+use Rattle.rx_workers.specs.Answers.{IsFound}
+use Rattle.std.specs.List.{All}
 use Rattle.rx_workers.specs.Places.{IsDrawer}
 use Rattle.rx_workers.proofs.worker.work_with.Given as goal
 
@@ -6,5 +7,5 @@ abbrev pub invariant-draws : goal.invariant-draws
 invariant-draws g l = record {
   drawer : IsDrawer l.draws l.drawer;
   fits : g.T.Task.fits l.task l.scratch;
-  found : AreFound (g.T.Task.size l.task) (g.T.Task.answers l.task) l.all.items;
+  found : All (IsFound (g.T.Task.size l.task) (g.T.Task.answers l.task) l.store) l.found.items;
 }

@@ -1,12 +1,89 @@
-use Rattle.std.proofs.Common.{sym, ap, ◌∙◌}
-use Rattle.rx_meta.specs.Regex.{groups_in}
-use Rattle.rx_scan.proofs.HaystackLemmas.{outcome-found}
+use Rattle.std.proofs.Common.{◌≡◌, Option, List, ℕ, [], ◌∷◌, ◌++◌, length, get_or, refl, sym, ap, subst, ◌∙◌}
+use denote.Ref.{Bor}
+use Rattle.std.proofs.lemmas.List.{get_or_default}
+use Rattle.rx_model.specs.Search.{Match}
+use Rattle.rx_search.specs.GroupInfo.{slot_count}
+use Rattle.rx_search.specs.Matches.{MatchValue}
+use Rattle.rx_search.specs.Input.{from_place, whole}
+use Rattle.rx_search.specs.Searcher.{SearcherValue, fresh, AtEachPlace}
+use Rattle.rx_search.specs.Told.{HasSlots}
+use Rattle.rx_search.proofs.SearcherLemmas.{Progress-begun, Progress-more, Progress-over}
+use Rattle.rx_meta.specs.Finder.{PromisesFor, AreSlotsOf}
+use Rattle.rx_meta.specs.Regex.{RegexValue, searches, groups_in}
+use Rattle.rx_scan.specs.Haystacks.{FindsRows}
+use Rattle.rx_scan.proofs.HaystackLemmas.{moved-place, promised-from, found-next, found-rows}
 use Rattle.rx_scan.proofs.haystacks.WorksTask.answer.Goals as goal
 
-pub find_rows-requires : goal.find_rows-requires
-find_rows-requires g c = c.args.self.now.own ∙ ap groups_in (sym c.requires.fit)
+pub row-requires : goal.row-requires
+row-requires g c = c.slots.ensures.wide ∙ ap (λ (g : RegexValue). slot_count (groups_in g))
+    (c.in_ok-found.ensures.stays c.matches.finder refl ∙ c.matches.invariant.same ∙ c.requires.fit) ∙ ap slot_count (sym c.args.self.now.own)
+
+pub matches-preserved : goal.matches-preserved
+matches-preserved g c =
+    let first = c.args.finder.now.regex.now in
+    let law = c.a_search_is_for_its_patterns.ensures in
+    let hs = c.args.self.now.haystacks.now in
+    let stays = c.in_ok-found.ensures.stays c.matches.finder refl in
+    let T : Option Match → Type 0 = AreSlotsOf c.advance.new.finder.slots.items in
+    let own : c.args.self.now.layout.groups.now ≡ groups_in first = c.args.self.now.own ∙ ap groups_in (sym c.requires.fit) in
+    let told = c.matches.invariant.told in
+    record {
+      same = stays ∙ c.matches.invariant.same;
+      place = λ d. moved-place _ _ _ _ (whole (get_or hs c.args.index d).now) c.in-Some.is c.in_ok-found.ensures.moved (c.matches.invariant.place d);
+      promised = λ d r finds. c.in_ok-found.ensures.goes_on (c.matches.invariant.promised d r finds);
+      keeps = λ i rows value is. c.in_ok-add.ensures.keeps i rows value (c.matches.invariant.keeps i rows value is);
+      told = (
+        told.0 ++ c.in_ok-row.row ∷ [],
+        c.in_ok-add.ensures.more told.0 told.1,
+        λ d r finds.
+            let text = (get_or hs c.args.index d).now in
+            let promised = c.matches.invariant.promised d r finds in
+            Progress-more (told.2 d r finds) c.in-Some.is (c.in_ok-found.ensures.answer promised) c.in_ok-found.ensures.moved
+            c.in_ok-found.ensures.fewer_left
+            c.in_ok-found.ensures.same_answers
+            (λ x next value.
+            let is =
+            found-next law first r text finds c.matches.finder.regex.now c.matches.searcher x c.matches.invariant.same (c.matches.invariant.place d) next in
+            let pattern : c.pattern.result ≡ x.trace.pattern = c.pattern.ensures ∙ ap (λ (v : MatchValue). v.pattern) (sym value) in
+            let has = subst (λ xs. HasSlots xs x) (sym c.slots.ensures.value) (subst T next (c.in_ok-found.ensures.told promised)) in
+            sym (c.in_ok-row.ensures.value r text (length text) is.0 x (own ∙ finds.groups) is.1 pattern has))
+            refl,
+      );
+    }
+
+pub matches-init : goal.matches-init
+matches-init g c =
+    let hs = c.args.self.now.haystacks.now in
+    let regex = c.args.finder.now.regex.now in
+    let begun : (d : Bor (List ℕ)) → c.new-searcher.result ≡ fresh (whole (get_or hs c.args.index d).now) =
+    λ d. c.new-searcher.ensures ∙ ap fresh (c.new.ensures ∙ ap (λ (b : Bor (List ℕ)). whole b.now) (get_or_default hs c.args.index _ d c.requires.there)) in
+    record {
+      same = refl;
+      place = λ d i. ap (λ (s : SearcherValue). from_place i s.input) (begun d);
+      promised = λ d r finds.
+          let P : SearcherValue → Type 0 = λ s. AtEachPlace (PromisesFor regex) s.input in
+          subst P (sym (begun d)) (promised-from regex r (get_or hs c.args.index d).now finds);
+      keeps = λ i rows value is. is;
+      told = ([], c.begin.ensures.none, λ d r finds. Progress-begun (searches regex) (begun d) refl);
+    }
 
 pub returns-clause-answer : goal.returns-clause-answer
 returns-clause-answer g c =
-    outcome-found (g.O.Outcome.is c.args.self.now.outcome.now) c.of.result c.in_ok-rows.rows.items _ c.args.self.now.regex.now c.args.self.now.haystacks.now
-    c.args.index _ c.requires.fit c.requires.there c.in_ok-rows.ensures.rows c.of.ensures
+    let told = c.matches.invariant.told in
+    let first = c.args.finder.now.regex.now in (
+      told.0,
+      c.end.ensures.value told.0 told.1,
+      λ d r own.
+          let text = (get_or c.args.self.now.haystacks.now c.args.index d).now in
+          let finds : FindsRows first r text = subst (λ (regex : RegexValue). FindsRows regex r text) (sym c.requires.fit) own in
+          Progress-over (told.2 d r finds) c.in_default.is (c.in_ok-found.ensures.answer (c.matches.invariant.promised d r finds))
+          ∙ found-rows c.a_search_is_for_its_patterns.ensures first r text finds,
+    )
+
+pub returns-clause-keeps : goal.returns-clause-keeps
+returns-clause-keeps g c = λ i value has.
+    let begun = c.begin.ensures.keeps i has.0 value has.1 in
+    (has.0, c.end.ensures.keeps i has.0 value (c.matches.invariant.keeps i has.0 value begun), has.2)
+
+pub returns-clause-stays : goal.returns-clause-stays
+returns-clause-stays g c = c.in_ok-found.ensures.stays c.matches.finder refl ∙ c.matches.invariant.same ∙ c.requires.fit
