@@ -144,11 +144,14 @@ impl Told {
         if set.is_empty() {
             self.push("none");
         }
-        let mut parting = "";
+        let mut is_first = true;
         for pattern in set.iter() {
-            let written = write!(self.text, "{parting}{}", pattern.as_usize());
+            if !is_first {
+                self.push(" ");
+            }
+            is_first = false;
+            let written = write!(self.text, "{}", pattern.as_usize());
             self.note(written);
-            parting = " ";
         }
         self.push("\n");
     }
