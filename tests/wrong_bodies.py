@@ -80,11 +80,11 @@ def why_not_refused(kit, crate, path, kept):
         return str(why)
     if ran.returncode == 0:
         return 'the function is still proved with this edit'
-    if LIMIT.search(ran.stdout):
-        return 'the prover came to a limit of its own'
     told = re.search(r'^fn \S*\b%s: (%s)' % (re.escape(function), REFUSED), ran.stdout, re.M)
     if ran.returncode == 1 and told and not UNREAD.search(ran.stdout):
         return None
+    if LIMIT.search(ran.stdout):
+        return 'the prover came to a limit of its own'
     return 'no verdict (status %d):\n%s' % (ran.returncode, ran.stdout)
 
 
