@@ -9,7 +9,7 @@ All crates that have some, if none is named.
 
 `rt ci` tries the edits of crates/CRATE/must-fail/, and proves the crate a second time for them. That is dear for a large crate. So
 the wrong bodies that the full check tries of such a crate stand here, and each has a line `only: FUNCTION`: of the edited crate
-that function and those that it calls are checked, over the libraries as they were built. An edit is refused where that function has
+that function and those that it calls are checked, over the libraries as they were built. An edit is refused where one of these has
 a goal that is not proved. A limit of the prover, or a text that it cannot read, refuses nothing. The last line is
 `N passed, M failed`, and the exit status is 1 where one failed.
 """
@@ -80,7 +80,8 @@ def why_not_refused(kit, crate, path, kept):
         return str(why)
     if ran.returncode == 0:
         return 'the function is still proved with this edit'
-    told = re.search(r'^fn \S*\b%s: (%s)' % (re.escape(function), REFUSED), ran.stdout, re.M)
+    # (all was proved before, so what is not proved now is so by the edit: that function, or a closure in it)
+    told = re.search(r'^\w+ \S+: (%s)' % REFUSED, ran.stdout, re.M)
     if ran.returncode == 1 and told and not UNREAD.search(ran.stdout):
         return None
     if LIMIT.search(ran.stdout):
