@@ -7,7 +7,8 @@ seen. So it leaves processors idle (DECISIONS: every processor has a check). Bot
 import os
 import re
 
-# The most that a check of this repository was seen to take is 5.1 GB, for the tests of rx_regex_rows. In bytes, with room to spare.
+# What to count for a check, in bytes. The most that one was seen to take is 5.8 GB, for the tests of rx_regex_rows; each of the others takes
+# at most 4.1, so as many fit side by side.
 A_CHECK = 5_200_000_000
 
 
