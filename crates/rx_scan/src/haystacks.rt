@@ -192,9 +192,7 @@ impl<'a, G: Gate, O: Outcome> Task for Works<'a, G, O> {
         let mut searcher = Searcher::new(Input::new(haystack));
         // Each row is handed on as it is found (DECISIONS: one scan for rows, their text and their numbers).
         'matches: while let Some(found) = searcher.advance(finder)? {
-            let row = self
-                .layout
-                .row(alloc, found.pattern(), finder.slots())?;
+            let row = self.layout.row(alloc, found.pattern(), finder.slots())?;
             self.outcome.add(index, row, store)?;
         }
         Ok(self.outcome.end(alloc, index, store))

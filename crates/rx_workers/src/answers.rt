@@ -60,15 +60,21 @@ fn with_notes<T: Task>(
     ensures { IfOk result (λ all. All (AreQueued (T.size _task.now) (T.answers _task.now)) all.items) }
 {
     let mut all = all?;
-    let Notes { found, store } = notes?;
+    let Notes {
+        drawn,
+        found,
+        store,
+    } = notes?;
     all.push(Queue {
+        drawn,
         found: VecDeque::from_vec(found),
         store,
     })?;
     Ok(all)
 }
 
-/// All answers together. Where none was found to a number, the caller looks for it.
+/// All answers together, of numbers that were drawn in so many blocks of this size. Where none was found to a number, the
+/// caller looks for it.
 ///
 /// # Errors
 ///
@@ -76,30 +82,36 @@ fn with_notes<T: Task>(
 pub fn complete<T: Task>(
     alloc: Global,
     task: &T,
+    blocks: usize,
+    size: usize,
     queues: Vec<Queue<T::Value, T::Store>>,
 ) -> Result<T::Whole, Memory>
     requires { All (AreQueued (T.size task.now) (T.answers task.now)) queues.items }
     ensures { IfOk result (T.gathers task.now (T.size task.now)) }
 {
-    let count = task.count();
-    let finders = finders(alloc, count, &queues)?;
+    let mut finders = finders(alloc, blocks, &queues)?.into_iter();
     let mut queues = queues;
     let mut whole = task.begin(alloc);
-    for index in 0..count {
-        // Whose it is is looked at again, so that nothing rests on this list (DECISIONS: who found an answer is a hint).
-        let worker = finders.get(index).copied().unwrap_or(0) as usize;
+    let mut worker = 0;
+    let mut next_block = 0;
+    for index in 0..task.count() {
+        if index == next_block {
+            // Whose it is is looked at again, so that nothing rests on this list (DECISIONS: who found an answer is a hint).
+            worker = finders.next().unwrap_or(0) as usize;
+            next_block = index.saturating_add(size);
+        }
         put_next(alloc, task, index, worker, &mut queues, &mut whole)?;
     }
     Ok(whole)
 }
 
-/// For each number the worker that found an answer to it, if one did.
-fn finders<V, S>(alloc: Global, count: usize, queues: &[Queue<V, S>]) -> Result<Vec<u32>, Memory> {
-    let mut all = vec![in alloc; 0u32; count]?;
+/// For each block the worker that drew it, if one did.
+fn finders<V, S>(alloc: Global, blocks: usize, queues: &[Queue<V, S>]) -> Result<Vec<u32>, Memory> {
+    let mut all = vec![in alloc; 0u32; blocks]?;
     let mut worker: u32 = 0;
     for queue in queues {
-        for one in &queue.found {
-            if let Some(finder) = all.get_mut(one.index) {
+        for block in &queue.drawn {
+            if let Some(finder) = all.get_mut(*block) {
                 *finder = worker;
             }
         }
