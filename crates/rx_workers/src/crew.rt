@@ -24,8 +24,8 @@ const LARGEST_BLOCK: usize = 32;
 /// There are so many workers, but no more than works, and at least one. Each draws one block of numbers after another, until
 /// none is left: a number alone where there are few, and up to 32 where each worker draws often all the same. It works with
 /// a scratch value from a slot; of these there are so many as workers, but no more than `slots`, and at least one. Where the
-/// slot of a worker is in another one's hand, it makes a scratch value of its own. A worker for which no thread could be started works
-/// on the caller's. What no worker found the caller looks for, once all have ended.
+/// slot of a worker is in another one's hand, it makes a scratch value of its own. A worker for which no thread could be
+/// started works on the caller's. What no worker found the caller looks for, once all have ended.
 ///
 /// # Errors
 ///
