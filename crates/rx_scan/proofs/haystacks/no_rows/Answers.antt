@@ -1,4 +1,4 @@
-use Rattle.std.proofs.Common.{◌≡◌, ◌++◌, ◌∷◌, [], List, length, sym, subst}
+use Rattle.std.proofs.Common.{◌≡◌, [], List, length, sym, subst}
 use Rattle.std.specs.Prelude.{replicate}
 use Rattle.std.proofs.lemmas.List.{length-replicate, replicate_more}
 use Rattle.rx_scan.specs.Row.{RowValue}

@@ -1,4 +1,4 @@
-use Rattle.std.proofs.Common.{sym, subst, ◌∙◌}
+use Rattle.std.proofs.Common.{sym, subst}
 use Rattle.rx_scan.proofs.HaystackLemmas.{outcomes-put}
 use Rattle.rx_scan.proofs.haystacks.WorksTask.put.Goals as goal
 

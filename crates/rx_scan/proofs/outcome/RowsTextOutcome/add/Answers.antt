@@ -1,4 +1,4 @@
-use Rattle.std.proofs.Common.{◌≡◌, ◌++◌, ◌+◌, ◌<◌, ◌^◌, refl, ap, ◌∙◌, arith}
+use Rattle.std.proofs.Common.{◌≡◌, ◌+◌, ◌<◌, ◌^◌, refl, arith}
 use Rattle.rx_scan.specs.Row.{row_text}
 use Rattle.rx_scan.specs.declared.outcome.Printed.{Printed}
 use Rattle.rx_scan.proofs.TextLemmas.{printed-more, piece-kept, on-ok}

@@ -1,4 +1,4 @@
-use Rattle.std.proofs.Common.{length, arith, lit≤}
+use Rattle.std.proofs.Common.{arith}
 use Rattle.std.proofs.lemmas.List.{drop_all}
 use Rattle.rx_scan.proofs.outcome.RowsTextOutcome.begin.Goals as goal
 
