@@ -1,5 +1,5 @@
 //! The one-pass DFA: its table, and what it tells of itself.
-ghost use Rattle.std.specs.Prelude.{◌≡◌, ◌+◌, ◌*◌, ◌^◌, ◌≤◌, length, [], ◌∷◌, None, replicate, IfOk, OnOk, OnErr, IfErr, IfSome};
+ghost use Rattle.std.specs.Prelude.{◌≡◌, ℕ, ◌+◌, ◌*◌, ◌^◌, ◌≤◌, length, [], ◌∷◌, None, replicate, IfOk, OnOk, OnErr, IfErr, IfSome};
 ghost use Rattle.rx_model.specs.Expression.{empty};
 ghost use Rattle.rx_reader.specs.Config.{default};
 ghost use Rattle.rx_nfa.specs.Config as nfa_configs;
@@ -184,7 +184,8 @@ impl DFA {
 
     /// How many cells a row of the table has: the least power of 2 that has room for a cell of each class, and one of a match.
     pub fn stride(&self) -> usize
-        ensures { result ≡ self.now.table.stride }
+        ensures value { result ≡ self.now.table.stride }
+        ensures power { (k : ℕ) → IsLeastPower (alphabet_len self.now.table.classes) k → result ≡ 2 ^ k }
     {
         self.built.table.stride()
     }
