@@ -12,36 +12,30 @@ import sys
 TOP = os.path.dirname(os.path.dirname(os.path.abspath(__file__)))
 
 
-class BadEdit(Exception):
-    """An edit that cannot be applied."""
-
-
-def edited(path, crate):
-    """The texts of the files of the crate in this folder that the edit changes, by their names, with its changes."""
-    texts, name, old = {}, None, None
+def fault(path, crate):
+    """Why the edit of the crate in this folder cannot be applied, or nothing."""
+    texts, name, old, pairs = {}, None, None, 0
     with open(path, encoding='utf-8') as edit:
         lines = edit.read().split('\n')
     for line in lines:
         if line.startswith('file: '):
             name = line[len('file: '):].strip()
             if not os.path.isfile(os.path.join(crate, name)):
-                raise BadEdit('there is no file ' + name)
+                return 'there is no file ' + name
         elif line.startswith('old: '):
             old = line[len('old: '):]
         elif line.startswith('new:'):
             if not name or not old:
-                raise BadEdit("no 'file:' or no 'old:' before a 'new:'")
+                return "no 'file:' or no 'old:' before a 'new:'"
             if name not in texts:
                 with open(os.path.join(crate, name), encoding='utf-8') as source:
                     texts[name] = source.read()
             count = texts[name].count(old)
             if count != 1:
-                raise BadEdit('its text stands %d times in %s: %s' % (count, name, old))
+                return 'its text stands %d times in %s: %s' % (count, name, old)
             texts[name] = texts[name].replace(old, line[len('new:'):].removeprefix(' '))
-            old = None
-    if not texts:
-        raise BadEdit('it has no pair')
-    return texts
+            old, pairs = None, pairs + 1
+    return None if pairs else 'it has no pair'
 
 
 def main():
@@ -50,9 +44,8 @@ def main():
     for path in glob.glob(os.path.join(TOP, 'tests', 'wrong-bodies', '*', '*.edit')):
         edits.append((path, os.path.join(TOP, 'crates', os.path.basename(os.path.dirname(path)))))
     for path, crate in sorted(edits):
-        try:
-            edited(path, crate)
-        except BadEdit as why:
+        why = fault(path, crate)
+        if why:
             bad += 1
             print('%s: %s' % (os.path.relpath(path, TOP), why))
     return 1 if bad else 0

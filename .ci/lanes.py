@@ -36,15 +36,10 @@ def memory():
     return min(found, limit - (held or 0)) if limit else found
 
 
-def lanes():
-    """How many checks may run side by side."""
-    return min(processors(), memory() // A_CHECK)
-
-
 def main():
-    found = lanes()
-    if found >= 2:
-        print(found)
+    lanes = min(processors(), memory() // A_CHECK)
+    if lanes >= 2:
+        print(lanes)
 
 
 if __name__ == '__main__':
