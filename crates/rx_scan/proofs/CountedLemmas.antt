@@ -154,10 +154,12 @@ counts-told items (Ok w) hs texts same short told =
     ∙ ap (map gen_counts) same
 
 -- the numbers of one haystack more
-pub counts-more : (all : List (List RowValue)) (rows : List RowValue) (counts : Counts) (old new : List Counts) → new ≡ old ++ counts ∷ []
+pub counts-more : (all more : List (List RowValue)) (rows : List RowValue) (counts : Counts) (old new : List Counts) → more ≡ rows ∷ []
+    → new ≡ old ++ counts ∷ []
     → (All (λ rs. rows_len rs < 2 ^ 64) all → old ≡ map counts_of all) → (rows_len rows < 2 ^ 64 → counts ≡ counts_of rows)
-    → All (λ rs. rows_len rs < 2 ^ 64) (all ++ rows ∷ []) → new ≡ map counts_of (all ++ rows ∷ [])
-counts-more all rows counts old new longer told is fit =
+    → All (λ rs. rows_len rs < 2 ^ 64) (all ++ more) → new ≡ map counts_of (all ++ more)
+counts-more all more rows counts old new one longer told is fit =
     let P : List RowValue → Type 0 = λ rs. rows_len rs < 2 ^ 64 in
-    let parts = All-pop P (all ++ rows ∷ []) all (Some rows) refl fit in
+    let parts = All-pop P (all ++ more) all (Some rows) (ap (λ (l : List (List RowValue)). all ++ l) one) fit in
     longer ∙ (λ k. told parts.0 k ++ is parts.1 k ∷ []) ∙ sym (map-append counts_of all (rows ∷ []))
+    ∙ ap (λ (l : List (List RowValue)). map counts_of (all ++ l)) (sym one)

@@ -1,9 +1,10 @@
 -- What a regex finds in a haystack, one match after another.
-use Rattle.std.proofs.Common.{◌≡◌, ℕ, suc, ◌+◌, ◌<◌, ◌≤◌, Bool, true, false, cond, List, [], ◌∷◌, ◌++◌, length, get_or, Option, Some, None, Result, Ok, Err, IfOk, refl, sym, ap, subst, ◌∙◌, arith}
+use Rattle.std.proofs.Common.{◌≡◌, ℕ, suc, ◌+◌, ◌<◌, ◌≤◌, Bool, true, false, cond, List, [], ◌∷◌, ◌++◌, length, take, drop, get_or, Option, Some, None, Result, Ok, Err, IfOk, refl, sym, ap, subst, ◌∙◌, arith, drop-cons}
 use Rattle.std.specs.List.{All}
 use Rattle.std.specs.Prelude.{map, replicate, OnOk, MatchOption}
 use denote.Ref.{Bor}
-use Rattle.std.proofs.lemmas.List.{get_or_default, length-append, take_all, map_more}
+use Rattle.std.proofs.Math.Seq.{take-add}
+use Rattle.std.proofs.lemmas.List.{length-append, take_all, map-append, drop-drop}
 use Rattle.rx_model.specs.Search.{Patterns, Match, next_match, matches, free, is_empty_at, next_after}
 use Rattle.rx_model.specs.Utf8.{MeansUtf8}
 use Rattle.rx_search.specs.declared.memory.Memory.{Memory}
@@ -97,43 +98,67 @@ serves-finds regex r text serves begins leftmost groups told utf8 = record {
   groups = groups;
 }
 
--- what are the rows of a haystack to one regex are to the same
-pub rows-there : (rows : List RowValue) (now first : RegexValue) (hs : List (Bor (List ℕ))) (i : ℕ) (e : Bor (List ℕ)) → now ≡ first → i < length hs
-    → AreRowsOf now (get_or hs i e).now rows → (d : Bor (List ℕ)) → AreRowsOf first (get_or hs i d).now rows
-rows-there rows now first hs i e same below are = λ d.
-    let there : get_or hs i e ≡ get_or hs i d = get_or_default hs i e d below in
-    subst (λ (b : Bor (List ℕ)). AreRowsOf first b.now rows) there (subst (λ (regex : RegexValue). AreRowsOf regex (get_or hs i e).now rows) same are)
-
 -- a haystack of a list that has one
 one-of : (hs : List (Bor (List ℕ))) (i : ℕ) → i < length hs → Bor (List ℕ)
 one-of [] i below = absurd (omega (arith, below))
 one-of (h ∷ hs) i below = h
+
+module _ (regex : RegexValue) (hs : List (Bor (List ℕ))) where
+  -- the rows of one haystack
+  pub rows-one : (i : ℕ) (rows : List RowValue) → i < length hs
+      → ((d : Bor (List ℕ)) (r : Patterns) → FindsRows regex r (get_or hs i d).now → rows ≡ scan_rows r (get_or hs i d).now)
+      → AreRowsOf regex hs i 1 (rows ∷ [])
+  rows-one i rows below own = λ r finds.
+      let d = one-of hs i below in
+      (λ k. own d r (finds i d below) k ∷ []) ∙ ap (λ (l : List (Bor (List ℕ))). map (λ h. scan_rows r h.now) (take 1 l)) (sym (drop-cons hs i d below))
+
+  -- .. of some, and of those that come next
+  pub rows-after : (i n j m : ℕ) (all more : List (List RowValue)) → j ≡ i + n → AreRowsOf regex hs i n all → AreRowsOf regex hs j m more
+      → AreRowsOf regex hs i (n + m) (all ++ more)
+  rows-after i n j m all more next first second = λ r finds.
+      let f : Bor (List ℕ) → List RowValue = λ h. scan_rows r h.now in
+      let rest : drop j hs ≡ drop n (drop i hs) = ap (λ (k : ℕ). drop k hs) next ∙ sym (drop-drop n i hs) in
+      (λ k. first r finds k ++ second r finds k) ∙ sym (map-append f (take n (drop i hs)) (take m (drop j hs)))
+      ∙ ap (λ (l : List (Bor (List ℕ))). map f (take n (drop i hs) ++ take m l)) rest ∙ ap (map f) (sym (take-add n m (drop i hs)))
+
+  -- one answer that is made of two, or both as they were
+  pub outcomes-unite : {V : Type 0} (Is : ℕ → List (List RowValue) → V → Type 0) (i n m : ℕ) (old new second : V) (result : Option V)
+      → (a : HasOutcome Is regex hs i n old) (b : HasOutcome Is regex hs (i + n) m second)
+      → (Is i a.0 old → Is (i + length a.0) b.0 second → MatchOption result (Is i (a.0 ++ b.0) new) (λ back. Is i a.0 new × Is (i + length a.0) b.0 back))
+      → MatchOption result (HasOutcome Is regex hs i (n + m) new) (λ back. HasOutcome Is regex hs i n new × HasOutcome Is regex hs (i + n) m back)
+  outcomes-unite Is i n m old new second None a b united =
+      let there : Is (i + length a.0) b.0 second = subst (λ (k : ℕ). Is (i + k) b.0 second) (sym a.2) b.1 in (
+        a.0 ++ b.0,
+        united a.1 there,
+        length-append a.0 b.0 ∙ (λ k. a.2 k + b.2 k),
+        rows-after i n (i + n) m a.0 b.0 refl a.3 b.3,
+      )
+  outcomes-unite Is i n m old new second (Some back) a b united =
+      let there : Is (i + length a.0) b.0 second = subst (λ (k : ℕ). Is (i + k) b.0 second) (sym a.2) b.1 in
+      let both = united a.1 there in
+      ((a.0, both.0, a.2, a.3), (b.0, subst (λ (k : ℕ). Is (i + k) b.0 back) a.2 both.1, b.2, b.3))
 
 module _ {W : Type 0} (Are : List (List RowValue) → W → Type 0) (regex : RegexValue) (hs : List (Bor (List ℕ))) where
   -- none yet
   pub outcomes-none : (whole : W) → Are [] whole → HaveOutcomes Are regex hs 0 whole
   outcomes-none whole are = record { all = []; are = are; count = refl; rows = λ r finds. refl }
 
-  -- those of one haystack more
-  pub outcomes-more : {V : Type 0} (Is : ℕ → List RowValue → V → Type 0) (n : ℕ) (old new : W) (value : V) → n < length hs
-      → (before : HaveOutcomes Are regex hs n old) (answer : HasOutcome Is regex hs n value) → Are (before.all ++ answer.0 ∷ []) new
-      → HaveOutcomes Are regex hs (n + 1) new
-  outcomes-more Is n old new value below before answer are = record {
-    all = before.all ++ answer.0 ∷ [];
+  -- those of some haystacks more
+  pub outcomes-more : {V : Type 0} (Is : ℕ → List (List RowValue) → V → Type 0) (n m : ℕ) (old new : W) (value : V)
+      → (before : HaveOutcomes Are regex hs n old) (answer : HasOutcome Is regex hs n m value) → Are (before.all ++ answer.0) new
+      → HaveOutcomes Are regex hs (n + m) new
+  outcomes-more Is n m old new value before answer are = record {
+    all = before.all ++ answer.0;
     are = are;
-    count = length-append before.all (answer.0 ∷ []) ∙ ap (λ k. k + 1) before.count;
-    rows = λ r finds.
-        let f : Bor (List ℕ) → List RowValue = λ h. scan_rows r h.now in
-        let d = one-of hs n below in
-        let own : answer.0 ≡ f (get_or hs n d) = answer.2 d r (finds n d below) in
-        (λ k. before.rows r finds k ++ own k ∷ []) ∙ sym (map_more f hs n d below);
+    count = length-append before.all answer.0 ∙ (λ k. before.count k + answer.2 k);
+    rows = rows-after regex hs 0 n n m before.all answer.0 (omega arith) before.rows answer.3;
   }
 
-  pub outcomes-put : {V U E : Type 0} (Is : ℕ → List RowValue → V → Type 0) (n : ℕ) (old new : W) (value : V) → n < length hs
-      → (before : HaveOutcomes Are regex hs n old) (answer : HasOutcome Is regex hs n value) (result : Result U E)
-      → OnOk result (Are (before.all ++ answer.0 ∷ []) new) → OnOk result (HaveOutcomes Are regex hs (n + 1) new)
-  outcomes-put Is n old new value below before answer (Err error) are = tt
-  outcomes-put Is n old new value below before answer (Ok u) are = outcomes-more Is n old new value below before answer are
+  pub outcomes-put : {V U E : Type 0} (Is : ℕ → List (List RowValue) → V → Type 0) (n m : ℕ) (old new : W) (value : V)
+      → (before : HaveOutcomes Are regex hs n old) (answer : HasOutcome Is regex hs n m value) (result : Result U E)
+      → OnOk result (Are (before.all ++ answer.0) new) → OnOk result (HaveOutcomes Are regex hs (n + m) new)
+  outcomes-put Is n m old new value before answer (Err error) are = tt
+  outcomes-put Is n m old new value before answer (Ok u) are = outcomes-more Is n m old new value before answer are
 
   -- those of all
   pub outcomes-whole : (r : Patterns) (result : Result W Memory) → IfOk result (HaveOutcomes Are regex hs (length hs)) → All (λ h. FindsRows regex r h.now) hs

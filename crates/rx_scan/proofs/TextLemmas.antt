@@ -2,7 +2,8 @@
 use Rattle.std.proofs.Common.{◌≡◌, ℕ, suc, ◌+◌, ◌-◌, ◌^◌, ◌<◌, ◌≤◌, List, [], ◌∷◌, ◌++◌, length, take, drop, get_or, Option, None, Result, Ok, Err, refl, sym, ap, ◌∙◌, append_assoc, append-nil, length-append, length-drop, arith, drop-cons}
 use Rattle.std.specs.Prelude.{OnOk}
 use Rattle.std.specs.List.{flat_map}
-use Rattle.std.proofs.lemmas.List.{get_or_read, take_all, take-append-le, drop-append-le}
+use Rattle.std.proofs.Math.Seq.{take-add}
+use Rattle.std.proofs.lemmas.List.{get_or_read, take_all, take-append-le, drop-append-le, drop-drop}
 use Rattle.std.proofs.lemmas.List.Concat.{flat_map-append}
 use Rattle.rx_scan.specs.Outcomes.{IsPrinted, IsPiece}
 use Rattle.rx_scan.specs.Row.{RowValue, group_text, groups_text, row_text, rows_text}
@@ -57,9 +58,9 @@ printed-more old new i line rows row start longer number is = (
     flat_map-push f xs x = flat_map-append f xs (x ∷ []) ∙ ap (λ l. flat_map f xs ++ l) (append-nil (f x))
 
 -- a piece of a text is one of a longer text
-pub piece-kept : (old new : Printed) (more : List ℕ) (i : ℕ) (rows : List RowValue) (piece : Piece) → new.text.items ≡ old.text.items ++ more
-    → IsPiece old i rows piece → IsPiece new i rows piece
-piece-kept old new more i rows piece longer is =
+pub piece-kept : (old new : Printed) (more : List ℕ) (i : ℕ) (all : List (List RowValue)) (piece : Piece) → new.text.items ≡ old.text.items ++ more
+    → IsPiece old i all piece → IsPiece new i all piece
+piece-kept old new more i all piece longer is =
     let len = ap length longer ∙ length-append old.text.items more in
     let within : piece.start ≤ length old.text.items = omega (arith, is.0, is.1) in
     let rest = drop piece.start old.text.items in
@@ -73,39 +74,59 @@ piece-kept old new more i rows piece longer is =
 
 -- what was printed since the haystack began is a piece
 pub printed-piece : (store : Printed) (i : ℕ) (rows : List RowValue) (piece : Piece) → piece.start ≡ store.start → piece.end ≡ length store.text.items
-    → IsPrinted store i rows → IsPiece store i rows piece
+    → IsPrinted store i rows → IsPiece store i (rows ∷ []) piece
+unfolding rows_text
 printed-piece store i rows piece start end is =
     let rest = drop store.start store.text.items in (
       omega (arith, start, end, is.0),
       omega (arith, end),
       λ small. (λ k. take (piece.end - piece.start) (drop (start k) store.text.items))
-          ∙ take_all (piece.end - piece.start) rest (omega (arith, start, end, length-drop store.start store.text.items)) ∙ is.1 small,
+          ∙ take_all (piece.end - piece.start) rest (omega (arith, start, end, length-drop store.start store.text.items)) ∙ is.1 (omega (arith, small))
+          ∙ sym (append-nil (flat_map (row_text (i + 1)) rows)),
     )
 
--- the text of the haystacks' rows, and of those of one haystack more
-pub rows_text-more : (line : ℕ) (all : List (List RowValue)) (rows : List RowValue)
-    → rows_text line (all ++ rows ∷ []) ≡ rows_text line all ++ flat_map (row_text (line + length all)) rows
+-- the text of the haystacks' rows, and of those of the haystacks after them
+pub rows_text-append : (line : ℕ) (all more : List (List RowValue)) → rows_text line (all ++ more) ≡ rows_text line all ++ rows_text (line + length all) more
 unfolding rows_text
-rows_text-more line [] rows =
-    let here : line ≡ line + 0 = omega arith in
-    append-nil (flat_map (row_text line) rows) ∙ ap (λ n. flat_map (row_text n) rows) here
-rows_text-more line (own ∷ all) rows =
+rows_text-append line [] more = let here : line ≡ line + 0 = omega arith in ap (λ n. rows_text n more) here
+rows_text-append line (own ∷ all) more =
     let next : line + 1 + length all ≡ line + suc (length all) = omega arith in
-    ap (λ l. flat_map (row_text line) own ++ l) (rows_text-more (line + 1) all rows ∙ ap (λ n. rows_text (line + 1) all ++ flat_map (row_text n) rows) next)
-    ∙ sym (append_assoc (flat_map (row_text line) own) (rows_text (line + 1) all) (flat_map (row_text (line + suc (length all))) rows))
+    ap (λ l. flat_map (row_text line) own ++ l) (rows_text-append (line + 1) all more ∙ ap (λ n. rows_text (line + 1) all ++ rows_text n more) next)
+    ∙ sym (append_assoc (flat_map (row_text line) own) (rows_text (line + 1) all) (rows_text (line + suc (length all)) more))
+
+-- two pieces, one after the other
+pub pieces-unite : (store : Printed) (i : ℕ) (all more : List (List RowValue)) (first second new : Piece) → new.start ≡ first.start
+    → new.end ≡ second.end → first.end ≡ second.start → IsPiece store i all first → IsPiece store (i + length all) more second
+    → IsPiece store i (all ++ more) new
+pieces-unite store i all more first second new start end seam one two = (
+  omega (arith, start, end, seam, one.0, two.0),
+  omega (arith, end, two.1),
+  λ small.
+      let text = store.text.items in
+      let few = length-append all more in
+      let a = first.end - first.start in
+      let b = second.end - second.start in
+      let long : new.end - new.start ≡ a + b = omega (arith, start, end, seam, one.0, two.0) in
+      let there : first.start + a ≡ second.start = omega (arith, seam, one.0) in
+      let line : i + length all + 1 ≡ i + 1 + length all = omega arith in
+      (λ k. take (long k) (drop (start k) text)) ∙ take-add a b (drop first.start text)
+      ∙ ap (λ (l : List ℕ). take a (drop first.start text) ++ take b l) (drop-drop a first.start text ∙ ap (λ (n : ℕ). drop n text) there)
+      ∙ (λ k. one.2 (omega (arith, small, few)) k ++ two.2 (omega (arith, small, few)) k)
+      ∙ ap (λ (n : ℕ). rows_text (i + 1) all ++ rows_text n more) line ∙ sym (rows_text-append (i + 1) all more),
+)
 
 pub rows_text-none : rows_text 1 [] ≡ []
 unfolding rows_text
 rows_text-none = refl
 
--- the piece of a haystack's rows comes next in the text of all
-pub text-more : (store : Printed) (piece : Piece) (all : List (List RowValue)) (rows : List RowValue) (old new : List ℕ)
+-- the piece of some haystacks' rows comes next in the text of all
+pub text-more : (store : Printed) (piece : Piece) (all more : List (List RowValue)) (old new : List ℕ)
     → new ≡ old ++ take (piece.end - piece.start) (drop piece.start store.text.items) → (length all < 2 ^ 63 → old ≡ rows_text 1 all)
-    → IsPiece store (length all) rows piece → length (all ++ rows ∷ []) < 2 ^ 63 → new ≡ rows_text 1 (all ++ rows ∷ [])
-text-more store piece all rows old new longer told is small =
-    let few : length all < 2 ^ 63 = omega (arith, small, length-append all (rows ∷ [])) in
+    → IsPiece store (length all) more piece → length (all ++ more) < 2 ^ 63 → new ≡ rows_text 1 (all ++ more)
+text-more store piece all more old new longer told is small =
+    let both : length all + length more < 2 ^ 63 = omega (arith, small, length-append all more) in
     let next : length all + 1 ≡ 1 + length all = omega arith in
-    longer ∙ (λ k. told few k ++ is.2 few k) ∙ ap (λ n. rows_text 1 all ++ flat_map (row_text n) rows) next ∙ sym (rows_text-more 1 all rows)
+    longer ∙ (λ k. told (omega (arith, both)) k ++ is.2 both k) ∙ ap (λ n. rows_text 1 all ++ rows_text n more) next ∙ sym (rows_text-append 1 all more)
 
 -- a success says what follows from what it says
 pub on-ok : {U E A B : Type 0} (result : Result U E) → (A → B) → OnOk result A → OnOk result B

@@ -1,5 +1,5 @@
 -- Under what the rows of a haystack are promised.
-use Rattle.std.specs.Prelude.{◌≡◌, ℕ, List, length, get_or, map, take}
+use Rattle.std.specs.Prelude.{◌≡◌, ℕ, List, length, map, take, drop}
 use Rattle.std.specs.List.{All}
 use denote.Ref.{Bor}
 use Rattle.rx_model.specs.Search.{Patterns}
@@ -14,14 +14,16 @@ pub record FindsRows (regex : RegexValue) (r : Patterns) (text : List ℕ) : Typ
   pub promised : Promised (Serves regex r) (given_needles regex) (kind_in regex) r (whole text)
   pub groups : groups_in regex ≡ pattern_groups r.expressions
 
--- These are the rows of the text's successive matches, for all patterns of which a search of it promises the next match.
-abbrev pub AreRowsOf : RegexValue → List ℕ → List RowValue → Type 0
-AreRowsOf regex text rows = (r : Patterns) → FindsRows regex r text → rows ≡ scan_rows r text
+-- These are the rows of the successive matches in each of so many haystacks from this number on, for all patterns of which a search of each
+-- promises the next match.
+abbrev pub AreRowsOf : RegexValue → List (Bor (List ℕ)) → (first count : ℕ) → List (List RowValue) → Type 0
+AreRowsOf regex haystacks i n all =
+    (r : Patterns) → All (λ h. FindsRows regex r h.now) haystacks → all ≡ map (λ h. scan_rows r h.now) (take n (drop i haystacks))
 
--- It is what rows of the haystack of this number have become, which are those of its matches.
-abbrev pub HasOutcome : {V : Type 0} (Is : ℕ → List RowValue → V → Type 0) → RegexValue → List (Bor (List ℕ)) → ℕ → V → Type 0
-HasOutcome Is regex haystacks i value =
-    (rows : List RowValue) × Is i rows value × ((d : Bor (List ℕ)) → AreRowsOf regex (get_or haystacks i d).now rows)
+-- It is what rows of these haystacks have become, which are those of their matches.
+abbrev pub HasOutcome : {V : Type 0} (Is : ℕ → List (List RowValue) → V → Type 0) → RegexValue → List (Bor (List ℕ)) → (first count : ℕ) → V → Type 0
+HasOutcome Is regex haystacks i n value =
+    (all : List (List RowValue)) × Is i all value × (length all ≡ n) × AreRowsOf regex haystacks i n all
 
 -- It is what the rows of the first n haystacks have become, in order.
 pub record HaveOutcomes {W : Type 0} (Are : List (List RowValue) → W → Type 0) (regex : RegexValue) (haystacks : List (Bor (List ℕ))) (n : ℕ)
@@ -29,4 +31,4 @@ pub record HaveOutcomes {W : Type 0} (Are : List (List RowValue) → W → Type 
   pub all : List (List RowValue)
   pub are : Are all whole
   pub count : length all ≡ n
-  pub rows : (r : Patterns) → All (λ h. FindsRows regex r h.now) haystacks → all ≡ map (λ h. scan_rows r h.now) (take n haystacks)
+  pub rows : AreRowsOf regex haystacks 0 n all

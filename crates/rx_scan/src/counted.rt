@@ -24,7 +24,7 @@ impl Outcome for Counted {
     ghost holds = { λ _ store _ rows. store.items ≡ rows };
 
     // A sum that does not fit is not promised; no haystack has so many matches.
-    ghost is = { λ _ _ _ rows counts. rows_len rows < 2 ^ 64 → counts ≡ counts_of rows };
+    ghost is = { λ _ _ _ all counts. (rows : List RowValue) × (all ≡ rows ∷ []) × (rows_len rows < 2 ^ 64 → counts ≡ counts_of rows) };
 
     ghost are = { λ _ all whole. All (λ rows. rows_len rows < 2 ^ 64) all → whole.items ≡ map counts_of all };
 
@@ -46,6 +46,10 @@ impl Outcome for Counted {
             matches: store.len(),
             covered: covered_by(store),
         }
+    }
+
+    fn unite(&self, _store: &Vec<Row>, _first: &mut Counts, second: Counts) -> Option<Counts> {
+        Some(second)
     }
 
     fn nothing(&self, alloc: Global) -> Vec<Counts> {

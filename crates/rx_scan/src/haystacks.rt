@@ -63,7 +63,7 @@ impl From<ScanError> for Memory {
 /// each match of which begins with one of its needles.
 ///
 /// So many workers search, but no more than haystacks: the caller, and each other in a thread of its own where one can be
-/// started. Each draws one haystack after another, so that their number changes no row. `gate` is told of each haystack before
+/// started. Each draws one haystack after another, some ahead where there are many, so that their number changes no row. `gate` is told of each haystack before
 /// it is searched, by the worker that drew it.
 ///
 /// # Errors
@@ -156,7 +156,7 @@ impl<'a, G: Gate, O: Outcome> Task for Works<'a, G, O> {
 
     ghost size = { λ w. length w.haystacks.now };
 
-    ghost answers = { λ w store i value. HasOutcome (O.is w.outcome.now store) w.regex.now w.haystacks.now i value };
+    ghost answers = { λ w store i n value. HasOutcome (O.is w.outcome.now store) w.regex.now w.haystacks.now i n value };
 
     ghost fits = { λ w f. f.regex.now ≡ w.regex.now };
 
@@ -198,6 +198,15 @@ impl<'a, G: Gate, O: Outcome> Task for Works<'a, G, O> {
         Ok(self.outcome.end(alloc, index, store))
     }
 
+    fn unite(
+        &self,
+        store: &O::Store,
+        first: &mut O::Value,
+        second: O::Value,
+    ) -> Option<O::Value> {
+        self.outcome.unite(store, first, second)
+    }
+
     fn begin(&self, alloc: Global) -> O::Whole {
         self.outcome.nothing(alloc)
     }
@@ -205,6 +214,7 @@ impl<'a, G: Gate, O: Outcome> Task for Works<'a, G, O> {
     fn put(
         &self,
         _index: usize,
+        _count: usize,
         store: &O::Store,
         value: O::Value,
         whole: &mut O::Whole,

@@ -1,5 +1,5 @@
 //! What the matches of a haystack become.
-ghost use Rattle.std.specs.Prelude.{◌≡◌, ◌+◌, ◌<◌, ◌^◌, ◌++◌, ◌∷◌, [], ℕ, List, map, length, OnOk};
+ghost use Rattle.std.specs.Prelude.{◌≡◌, ◌+◌, ◌<◌, ◌^◌, ◌++◌, ◌∷◌, [], ℕ, List, map, length, OnOk, MatchOption};
 ghost use Rattle.std.specs.Vec.{vec_items};
 ghost use Rattle.rx_scan.specs.Outcomes.{Keeps, IsPiece, IsPrinted};
 ghost use Rattle.rx_scan.specs.Row.{RowValue, rows_text};
@@ -14,7 +14,7 @@ use std::mem;
 pub trait Outcome {
     /// What a worker keeps of the haystacks that it searched.
     type Store: Send + Drop;
-    /// What the rows of a haystack become. It may be a place in the store.
+    /// What the rows of a haystack become, or those of some haystacks one after another. It may be a place in the store.
     type Value: Send + Drop;
     /// What the rows of all haystacks become.
     type Whole: Send + Drop;
@@ -22,8 +22,8 @@ pub trait Outcome {
     /// Whether these rows of the haystack of a number were added to the store since that began.
     ghost holds: { Self → Self.Store → ℕ → List RowValue → Type 0 };
 
-    /// Whether the rows of the haystack of a number have become this, with the store.
-    ghost is: { Self → Self.Store → ℕ → List RowValue → Self.Value → Type 0 };
+    /// Whether the rows of these haystacks, the first of which has a number, have become this, with the store.
+    ghost is: { Self → Self.Store → ℕ → List (List RowValue) → Self.Value → Type 0 };
 
     /// Whether the rows of so many haystacks have become this.
     ghost are: { Self → List (List RowValue) → Self.Whole → Type 0 };
@@ -50,11 +50,22 @@ pub trait Outcome {
         ensures value { (rows : List RowValue) → holds self.now store.old index rows → is self.now store.new index rows result }
         ensures keeps { Keeps (is self.now) store.old store.new };
 
+    /// Makes one of what the rows of some haystacks became and what those of the haystacks after them did; or gives the second back.
+    fn unite(
+        &self,
+        store: &Self::Store,
+        first: &mut Self::Value,
+        second: Self::Value,
+    ) -> Option<Self::Value>
+        ensures { (i : ℕ) (all more : List (List RowValue)) → is self.now store.now i all first.old → is self.now store.now (i + length all) more second
+            → MatchOption result (is self.now store.now i (all ++ more) first.new)
+                (λ back. is self.now store.now i all first.new × is self.now store.now (i + length all) more back) };
+
     /// What the rows of no haystack become.
     fn nothing(&self, alloc: Global) -> Self::Whole
         ensures { are self.now [] result };
 
-    /// Puts what the rows of the next haystack became to those before it.
+    /// Puts what the rows of the next haystacks became to those before them.
     ///
     /// # Errors
     ///
@@ -65,9 +76,9 @@ pub trait Outcome {
         value: Self::Value,
         whole: &mut Self::Whole,
     ) -> Result<(), Memory>
-        requires value { (i : ℕ) × (rows : List RowValue) × is self.now store.now i rows value }
-        ensures { (all : List (List RowValue)) (rows : List RowValue) → are self.now all whole.old → is self.now store.now (length all) rows value
-            → OnOk result (are self.now (all ++ rows ∷ []) whole.new) };
+        requires value { (i : ℕ) × (more : List (List RowValue)) × is self.now store.now i more value }
+        ensures { (all more : List (List RowValue)) → are self.now all whole.old → is self.now store.now (length all) more value
+            → OnOk result (are self.now (all ++ more) whole.new) };
 }
 
 /// They stay the rows that they are.
@@ -84,7 +95,7 @@ impl Outcome for AllRows {
 
     ghost holds = { λ _ store _ rows. store.items ≡ rows };
 
-    ghost is = { λ _ _ _ rows kept. kept.items ≡ rows };
+    ghost is = { λ _ _ _ all kept. all ≡ kept.items ∷ [] };
 
     ghost are = { λ _ all whole. map vec_items whole.items ≡ all };
 
@@ -103,6 +114,15 @@ impl Outcome for AllRows {
 
     fn end(&self, alloc: Global, _index: usize, store: &mut Vec<Row>) -> Vec<Row> {
         mem::replace(store, Vec::new(alloc))
+    }
+
+    fn unite(
+        &self,
+        _store: &Vec<Row>,
+        _first: &mut Vec<Row>,
+        second: Vec<Row>,
+    ) -> Option<Vec<Row>> {
+        Some(second)
     }
 
     fn nothing(&self, alloc: Global) -> Vec<Vec<Row>> {
@@ -132,7 +152,7 @@ pub struct Printed {
     pub start: usize,
 }
 
-/// A piece of a text.
+/// A piece of a text, of the rows of haystacks one after another.
 #[derive(Clone, Copy, Drop)]
 pub struct Piece {
     pub start: usize,
@@ -148,7 +168,7 @@ impl Outcome for RowsText {
 
     ghost holds = { λ _ store index rows. IsPrinted store index rows };
 
-    ghost is = { λ _ store index rows piece. IsPiece store index rows piece };
+    ghost is = { λ _ store index all piece. IsPiece store index all piece };
 
     // No haystack has a number beyond this one.
     ghost are = { λ _ all whole. length all < 2 ^ 63 → whole.items ≡ rows_text 1 all };
@@ -173,6 +193,14 @@ impl Outcome for RowsText {
             start: store.start,
             end: store.text.len(),
         }
+    }
+
+    fn unite(&self, _store: &Printed, first: &mut Piece, second: Piece) -> Option<Piece> {
+        if first.end != second.start {
+            return Some(second);
+        }
+        first.end = second.end;
+        None
     }
 
     fn nothing(&self, alloc: Global) -> Vec<u8> {

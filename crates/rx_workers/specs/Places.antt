@@ -1,14 +1,18 @@
 -- Where a worker begins, and what it leaves.
-use Rattle.std.specs.Prelude.{◌≡◌, ℕ, ◌<◌, false, [], IfOk, IfSome}
+use Rattle.std.specs.Prelude.{◌≡◌, ℕ, ◌<◌, ◌^◌, false, [], IfOk, IfSome}
 use Rattle.rx_slots.specs.declared.draws.Draws.{Draws}
 use Rattle.rx_slots.specs.declared.draws.DrawSeat.{DrawSeat}
 use Rattle.rx_slots.specs.declared.slot_pool.SlotPool.{SlotPool}
 use Rattle.rx_slots.specs.declared.slot_pool.SlotSeat.{SlotSeat}
-use Rattle.rx_slots.specs.DrawSeats.{IsDrawSeat, draw_view}
+use Rattle.rx_slots.specs.DrawSeats.{IsDrawSeat, draw_view, limit_of}
 use Rattle.rx_slots.specs.SlotSeats.{IsSlotSeat, slot_view, slots_of}
 use Rattle.rx_workers.specs.declared.place.Place.{Place}
 use Rattle.rx_workers.specs.declared.place.Left.{Left}
 use Rattle.rx_workers.specs.Answers.{AreFound}
+
+-- so many numbers are drawn, and one more is a number too
+abbrev pub IsLimit : Draws → ℕ → Type 0
+IsLimit draws size = (limit_of draws ≡ size) × (size < 2 ^ 63)
 
 -- the seat may draw
 abbrev pub IsDrawer : Draws → DrawSeat → Type 0
@@ -24,5 +28,5 @@ module _ {S : Type 0} (pool : SlotPool S) where
   IsPlace draws place = (place.slot < slots_of pool) × IsFree place.seat × IsDrawer draws place.drawer
 
   -- what was found are answers, and the seat is free
-  abbrev pub IsLeft : {V T : Type 0} → ℕ → (T → ℕ → V → Type 0) → Left V T S → Type 0
+  abbrev pub IsLeft : {V T : Type 0} → ℕ → (T → ℕ → ℕ → V → Type 0) → Left V T S → Type 0
   IsLeft size Is left = IfOk left.notes (AreFound size Is) × IfSome left.seat IsFree

@@ -1,11 +1,11 @@
 //! What the workers found, put together number by number.
-ghost use Rattle.std.specs.Prelude.{◌≡◌, ◌+◌, ◌<◌, IfOk, IfSome, OnOk};
+ghost use Rattle.std.specs.Prelude.{◌≡◌, ◌+◌, ◌<◌, ◌≤◌, IfOk, IfSome, OnOk};
 ghost use Rattle.rx_slots.specs.SlotSeats.{IsSlotSeat};
 ghost use Rattle.std.specs.List.{All};
 ghost use Rattle.rx_workers.specs.Places.{IsLeft, IsFree};
-ghost use Rattle.rx_workers.specs.Answers.{AreFound, AreQueued};
+ghost use Rattle.rx_workers.specs.Answers.{AreFound, AreQueued, IsFound};
 
-use crate::found::{Notes, Queue};
+use crate::found::{Found, Notes, Queue};
 use crate::place::Left;
 use crate::task::Task;
 use rx_search::Memory;
@@ -82,33 +82,44 @@ pub fn complete<T: Task>(
     ensures { IfOk result (T.gathers task.now (T.size task.now)) }
 {
     let count = task.count();
-    let finders = finders(alloc, count, &queues)?;
     let mut queues = queues;
     let mut whole = task.begin(alloc);
-    for index in 0..count {
-        // Whose it is is looked at again, so that nothing rests on this list (DECISIONS: who found an answer is a hint).
-        let worker = finders.get(index).copied().unwrap_or(0) as usize;
-        put_next(alloc, task, index, worker, &mut queues, &mut whole)?;
+    let mut index = 0;
+    let mut worker = 0;
+    'numbers: while index < count {
+        // Whose it is is looked at again, so that nothing rests on this guess (DECISIONS: who found an answer is a hint).
+        worker = finder_of(&queues, index, worker);
+        index += put_next(alloc, task, index, worker, &mut queues, &mut whole)?;
     }
     Ok(whole)
 }
 
-/// For each number the worker that found an answer to it, if one did.
-fn finders<V, S>(alloc: Global, count: usize, queues: &[Queue<V, S>]) -> Result<Vec<u32>, Memory> {
-    let mut all = vec![in alloc; 0u32; count]?;
-    let mut worker: u32 = 0;
-    for queue in queues {
-        for one in &queue.found {
-            if let Some(finder) = all.get_mut(one.index) {
-                *finder = worker;
-            }
-        }
-        worker = worker.saturating_add(1);
+/// The worker that found the answer to a number which comes next, if one did: this one, or another.
+fn finder_of<V, S>(queues: &[Queue<V, S>], index: usize, worker: usize) -> usize {
+    if comes_next(queues, index, worker) {
+        return worker;
     }
-    Ok(all)
+    for other in 0..queues.len() {
+        if comes_next(queues, index, other) {
+            return other;
+        }
+    }
+    worker
 }
 
-/// Adds the answer to the number that comes next: that which this worker found, or else the one that is looked for now.
+/// Whether the next answer of a worker is that to this number and those after it.
+fn comes_next<V, S>(queues: &[Queue<V, S>], index: usize, worker: usize) -> bool {
+    match queues.get(worker) {
+        Some(queue) => match queue.found.front() {
+            Some(one) => one.index == index,
+            None => false,
+        },
+        None => false,
+    }
+}
+
+/// Adds the answer to the number that comes next: that which this worker found, or else the one that is looked for now. To how many numbers
+/// an answer was added.
 fn put_next<T: Task>(
     alloc: Global,
     task: &T,
@@ -116,37 +127,41 @@ fn put_next<T: Task>(
     worker: usize,
     all: &mut Vec<Queue<T::Value, T::Store>>,
     whole: &mut T::Whole,
-) -> Result<(), Memory>
+) -> Result<usize, Memory>
     requires there { index < T.size task.now }
     requires all { All (AreQueued (T.size task.now) (T.answers task.now)) all.old.items }
     requires before { T.gathers task.now index whole.old }
-    ensures put { OnOk result (T.gathers task.now (index + 1) whole.new) }
+    ensures put { IfOk result (λ n. T.gathers task.now (index + n) whole.new) }
+    ensures count { IfOk result (λ n. (0 < n) × (index + n ≤ T.size task.now)) }
     ensures all { OnOk result (All (AreQueued (T.size task.now) (T.answers task.now)) all.new.items) }
 {
     if worker < all.len() {
         let queue = &mut all[worker];
-        if let Some(value) = next_of(task, index, queue) {
-            return task.put(index, &queue.store, value, whole);
+        if let Some(Found { count, value, .. }) = next_of(task, index, queue) {
+            task.put(index, count, &queue.store, value, whole)?;
+            return Ok(count);
         }
     }
-    put_now(alloc, task, index, whole)
+    put_now(alloc, task, index, whole)?;
+    Ok(1)
 }
 
-/// The next answer of this worker, if it is that to this number.
+/// The next answer of this worker, if it is that to this number and those after it.
 fn next_of<T: Task>(
     _task: &T,
     index: usize,
     queue: &mut Queue<T::Value, T::Store>,
-) -> Option<T::Value>
+) -> Option<Found<T::Value>>
     requires { AreQueued (T.size _task.now) (T.answers _task.now) queue.old }
-    ensures value { IfSome result (T.answers _task.now queue.new.store index) }
+    ensures found { IfSome result (IsFound (T.size _task.now) (T.answers _task.now) queue.new.store) }
+    ensures index { IfSome result (λ one. one.index ≡ index) }
     ensures rest { AreQueued (T.size _task.now) (T.answers _task.now) queue.new }
 {
     let one = queue.found.pop_front()?;
     if one.index != index {
         return None;
     }
-    Some(one.value)
+    Some(one)
 }
 
 /// Looks for the answer to the number that comes next, and adds it.
@@ -164,5 +179,5 @@ fn put_now<T: Task>(
     let mut scratch = task.make(alloc)?;
     task.fit(alloc, &mut scratch)?;
     let value = task.answer(alloc, index, &mut scratch, &mut store)?;
-    task.put(index, &store, value, whole)
+    task.put(index, 1, &store, value, whole)
 }

@@ -1,9 +1,8 @@
 //! All works, by many threads.
 ghost use Rattle.std.specs.Prelude.{◌≡◌, ◌<◌, ℕ, IfOk};
-ghost use Rattle.rx_slots.specs.DrawSeats.{limit_of};
 ghost use Rattle.rx_slots.specs.SlotSeats.{IsSlotSeat, slots_of};
 ghost use Rattle.std.specs.List.{All};
-ghost use Rattle.rx_workers.specs.Places.{IsPlace, IsLeft};
+ghost use Rattle.rx_workers.specs.Places.{IsLimit, IsPlace, IsLeft};
 
 use crate::answers::{complete, gather};
 use crate::place::{Left, Place, places};
@@ -16,8 +15,8 @@ use std::thread::{Threads, map_vec};
 
 /// What the answers to the works of a task are together.
 ///
-/// There are so many workers, but no more than works, and at least one. Each draws one number after another, until none is left, and works with
-/// a scratch value from a slot; of these there are so many as workers, but no more than `slots`, and at least one. Where the
+/// There are so many workers, but no more than works, and at least one. Each draws one number after another, some ahead where there are many,
+/// until none is left, and works with a scratch value from a slot; of these there are so many as workers, but no more than `slots`, and at least one. Where the
 /// slot of a worker is in another one's hand, it makes a scratch value of its own. A worker for which no thread could be started works
 /// on the caller's. What no worker found the caller looks for, once all have ended.
 ///
@@ -39,9 +38,24 @@ pub fn do_all<R: Threads + Sync, T: Task + Sync>(
     let (pool, mut seat) = scratches(alloc, task, slots)?;
     let (draws, first) = Draws::new(alloc, count as u64, workers as u64)?;
     let places = places(alloc, &pool, slots, &mut seat, &draws, first, workers)?;
-    let left = work_all(rt, alloc, task, &pool, &draws, places)?;
+    let at_a_time = at_a_time(count, workers);
+    let left = work_all(rt, alloc, task, &pool, &draws, at_a_time, places)?;
     let notes = gather(alloc, task, &pool, &mut seat, left)?;
     complete(alloc, task, notes)
+}
+
+/// How many numbers a worker draws at a time, at most.
+const AT_A_TIME: usize = 16;
+
+/// A worker draws a number at a time while each has fewer than this many times as much to do.
+const SHARES: usize = 64;
+
+/// How many numbers each of so many workers draws at a time. All write the word that they draw from, and it goes from
+/// processor to processor, so that a draw costs less where it follows another (DECISIONS: numbers are drawn ahead).
+fn at_a_time(count: usize, workers: usize) -> usize
+    requires { 0 < workers }
+{
+    (count / workers / SHARES).clamp(1, AT_A_TIME)
 }
 
 /// A pool of so many scratch values.
@@ -68,16 +82,17 @@ fn work_all<R: Threads + Sync, T: Task + Sync>(
     task: &T,
     pool: &SlotPool<T::Scratch>,
     draws: &Draws,
+    at_a_time: usize,
     places: Vec<Place<T::Scratch>>,
 ) -> Result<Vec<Left<T::Value, T::Store, T::Scratch>>, Memory>
     requires places { All (IsPlace pool.now draws.now) places.items }
-    requires size { limit_of draws.now ≡ T.size task.now }
+    requires size { IsLimit draws.now (T.size task.now) }
     ensures { IfOk result (λ all. All (IsLeft pool.now (T.size task.now) (T.answers task.now)) all.items) }
 {
     let one = move |place: Place<T::Scratch>| -> Left<T::Value, T::Store, T::Scratch>
-        requires { IsPlace pool.now draws.now place × (limit_of draws.now ≡ T.size task.now) }
+        requires { IsPlace pool.now draws.now place × IsLimit draws.now (T.size task.now) }
         ensures { IsLeft pool.entry.now (T.size task.entry.now) (T.answers task.entry.now) result }
-    { work(alloc, task, pool, draws, place) };
+    { work(alloc, task, pool, draws, at_a_time, place) };
     let left = map_vec(rt, places, &one)?;
     Ok(left)
 }

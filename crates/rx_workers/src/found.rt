@@ -1,10 +1,13 @@
 //! What a worker finds.
 use std::collections::VecDeque;
 
-/// The answer to the work of a number.
+/// The answer to the works of some numbers, one after another.
 #[derive(Drop)]
 pub struct Found<V> {
+    /// The first of them.
     pub index: usize,
+    /// How many they are, which is at least one.
+    pub count: usize,
     pub value: V,
 }
 

@@ -1,5 +1,5 @@
 //! What there is to do.
-ghost use Rattle.std.specs.Prelude.{◌≡◌, ◌+◌, ◌^◌, ◌<◌, ℕ, IfOk, OnOk};
+ghost use Rattle.std.specs.Prelude.{◌≡◌, ◌+◌, ◌^◌, ◌<◌, ◌≤◌, ℕ, IfOk, OnOk, MatchOption};
 ghost use Rattle.rx_workers.specs.Answers.{Keeps};
 
 use rx_search::Memory;
@@ -7,7 +7,7 @@ use std::alloc::Global;
 
 /// Works that are numbered, each with an answer that many threads may look for, and what the answers become together.
 pub trait Task {
-    /// An answer. It may be a place in the store of the worker that found it.
+    /// An answer, to one work or to some with numbers one after another. It may be a place in the store of the worker that found it.
     type Value: Send + Drop;
     /// What a worker keeps of its answers: a text that each of them is a piece of, say.
     type Store: Send + Drop;
@@ -19,8 +19,8 @@ pub trait Task {
     /// How many works there are.
     ghost size: { Self → ℕ };
 
-    /// What is an answer to the work of a number, with the store of the worker that found it.
-    ghost answers: { Self → Self.Store → ℕ → Self.Value → Type 0 };
+    /// What is an answer to the works from a number on, so many, with the store of the worker that found it.
+    ghost answers: { Self → Self.Store → ℕ → ℕ → Self.Value → Type 0 };
 
     /// What a scratch value has to be for a work.
     ghost fits: { Self → Self.Scratch → Type 0 };
@@ -65,15 +65,26 @@ pub trait Task {
     ) -> Result<Self::Value, Memory>
         requires there { index < size self.now }
         requires fit { fits self.now scratch.old }
-        ensures answer { IfOk result (answers self.now store.new index) }
+        ensures answer { IfOk result (answers self.now store.new index 1) }
         ensures keeps { OnOk result (Keeps (answers self.now) store.old store.new) }
         ensures stays { OnOk result (fits self.now scratch.new) };
+
+    /// Makes one answer of two, the second of which is to the numbers that come next; or gives the second one back.
+    fn unite(
+        &self,
+        store: &Self::Store,
+        first: &mut Self::Value,
+        second: Self::Value,
+    ) -> Option<Self::Value>
+        ensures { (i n m : ℕ) → answers self.now store.now i n first.old → answers self.now store.now (i + n) m second
+            → MatchOption result (answers self.now store.now i (n + m) first.new)
+                (λ back. answers self.now store.now i n first.new × answers self.now store.now (i + n) m back) };
 
     /// What no answers are together.
     fn begin(&self, alloc: Global) -> Self::Whole
         ensures { gathers self.now 0 result };
 
-    /// Adds the answer to the number that comes next.
+    /// Adds the answer to so many numbers, which come next.
     ///
     /// # Errors
     ///
@@ -81,12 +92,13 @@ pub trait Task {
     fn put(
         &self,
         index: usize,
+        count: usize,
         store: &Self::Store,
         value: Self::Value,
         whole: &mut Self::Whole,
     ) -> Result<(), Memory>
-        requires there { index < size self.now }
-        requires answer { answers self.now store.now index value }
+        requires there { index + count ≤ size self.now }
+        requires answer { answers self.now store.now index count value }
         requires before { gathers self.now index whole.old }
-        ensures { OnOk result (gathers self.now (index + 1) whole.new) };
+        ensures { OnOk result (gathers self.now (index + count) whole.new) };
 }

@@ -9,3 +9,9 @@ invariant-draws g l = record {
   fits : g.T.Task.fits l.task l.scratch;
   found : All (IsFound (g.T.Task.size l.task) (g.T.Task.answers l.task) l.store) l.found.items;
 }
+
+abbrev pub invariant-loop-number : goal.invariant-loop-number
+invariant-loop-number g l = record {
+  fits : g.T.Task.fits l.task l.scratch;
+  found : All (IsFound (g.T.Task.size l.task) (g.T.Task.answers l.task) l.store) l.found.items;
+}

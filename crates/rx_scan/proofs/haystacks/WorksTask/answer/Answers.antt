@@ -11,7 +11,7 @@ use Rattle.rx_search.proofs.SearcherLemmas.{Progress-begun, Progress-more, Progr
 use Rattle.rx_meta.specs.Finder.{PromisesFor, AreSlotsOf}
 use Rattle.rx_meta.specs.Regex.{RegexValue, searches, groups_in}
 use Rattle.rx_scan.specs.Haystacks.{FindsRows}
-use Rattle.rx_scan.proofs.HaystackLemmas.{moved-place, promised-from, found-next, found-rows}
+use Rattle.rx_scan.proofs.HaystackLemmas.{moved-place, promised-from, found-next, found-rows, rows-one}
 use Rattle.rx_scan.proofs.haystacks.WorksTask.answer.Goals as goal
 
 pub row-requires : goal.row-requires
@@ -70,20 +70,22 @@ matches-init g c =
 pub returns-clause-answer : goal.returns-clause-answer
 returns-clause-answer g c =
     let told = c.matches.invariant.told in
-    let first = c.args.finder.now.regex.now in (
-      told.0,
+    let first = c.args.finder.now.regex.now in
+    let hs = c.args.self.now.haystacks.now in (
+      told.0 ∷ [],
       c.end.ensures.value told.0 told.1,
-      λ d r own.
-          let text = (get_or c.args.self.now.haystacks.now c.args.index d).now in
+      refl,
+      rows-one c.args.self.now.regex.now hs c.args.index told.0 c.requires.there (λ d r own.
+          let text = (get_or hs c.args.index d).now in
           let finds : FindsRows first r text = subst (λ (regex : RegexValue). FindsRows regex r text) (sym c.requires.fit) own in
           Progress-over (told.2 d r finds) c.in_default.is (c.in_ok-found.ensures.answer (c.matches.invariant.promised d r finds))
-          ∙ found-rows c.a_search_is_for_its_patterns.ensures first r text finds,
+          ∙ found-rows c.a_search_is_for_its_patterns.ensures first r text finds),
     )
 
 pub returns-clause-keeps : goal.returns-clause-keeps
-returns-clause-keeps g c = λ i value has.
+returns-clause-keeps g c = λ i n value has.
     let begun = c.begin.ensures.keeps i has.0 value has.1 in
-    (has.0, c.end.ensures.keeps i has.0 value (c.matches.invariant.keeps i has.0 value begun), has.2)
+    (has.0, c.end.ensures.keeps i has.0 value (c.matches.invariant.keeps i has.0 value begun), has.2, has.3)
 
 pub returns-clause-stays : goal.returns-clause-stays
 returns-clause-stays g c = c.in_ok-found.ensures.stays c.matches.finder refl ∙ c.matches.invariant.same ∙ c.requires.fit

@@ -7,6 +7,6 @@ put-requires g c = record { value = (c.args._index, c.requires.answer.0, c.requi
 
 pub returns : goal.returns
 returns g c = outcomes-put (g.O.Outcome.are c.args.self.now.outcome.now) c.args.self.now.regex.now c.args.self.now.haystacks.now
-    (g.O.Outcome.is c.args.self.now.outcome.now c.args.store.now) c.args._index _ _ c.args.value c.requires.there c.requires.before c.requires.answer c.put.result
+    (g.O.Outcome.is c.args.self.now.outcome.now c.args.store.now) c.args._index c.args._count _ _ c.args.value c.requires.before c.requires.answer c.put.result
     (c.put.ensures c.requires.before.all c.requires.answer.0 c.requires.before.are
     (subst (λ k. g.O.Outcome.is c.args.self.now.outcome.now c.args.store.now k c.requires.answer.0 c.args.value) (sym c.requires.before.count) c.requires.answer.1))

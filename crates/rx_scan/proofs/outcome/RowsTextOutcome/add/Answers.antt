@@ -16,4 +16,4 @@ pub returns-clause-keeps : goal.returns-clause-keeps
 returns-clause-keeps c =
     let new : Printed = record { text = c.print_row.new.text; start = c.args.store.now.start } in
     on-ok c.print_row.result
-    (λ longer i rows piece is. piece-kept c.args.store.now new (row_text c.saturating_add.result c.args.row) i rows piece longer is) c.print_row.ensures
+    (λ longer i all piece is. piece-kept c.args.store.now new (row_text c.saturating_add.result c.args.row) i all piece longer is) c.print_row.ensures
