@@ -1,7 +1,8 @@
 //! Matches, in numbers.
-ghost use Rattle.std.specs.Prelude.{◌≡◌, ◌<◌, ◌^◌, ◌∷◌, ℕ, List, Option, map, sum_by};
+ghost use Rattle.std.specs.Prelude.{◌≡◌, ◌<◌, ◌^◌, ◌∷◌, [], ℕ, List, Option, map, sum_by};
 ghost use Rattle.std.specs.List.{All};
 ghost use Rattle.rx_scan.specs.Counted.{slots_len, row_len, rows_len, counts_of};
+ghost use Rattle.rx_scan.specs.Row.{RowValue};
 
 use crate::outcome::Outcome;
 use crate::row::Row;

@@ -198,12 +198,7 @@ impl<'a, G: Gate, O: Outcome> Task for Works<'a, G, O> {
         Ok(self.outcome.end(alloc, index, store))
     }
 
-    fn unite(
-        &self,
-        store: &O::Store,
-        first: &mut O::Value,
-        second: O::Value,
-    ) -> Option<O::Value> {
+    fn unite(&self, store: &O::Store, first: &mut O::Value, second: O::Value) -> Option<O::Value> {
         self.outcome.unite(store, first, second)
     }
 

@@ -47,7 +47,7 @@ pub trait Outcome {
 
     /// What the rows of that haystack become.
     fn end(&self, alloc: Global, index: usize, store: &mut Self::Store) -> Self::Value
-        ensures value { (rows : List RowValue) → holds self.now store.old index rows → is self.now store.new index rows result }
+        ensures value { (rows : List RowValue) → holds self.now store.old index rows → is self.now store.new index (rows ∷ []) result }
         ensures keeps { Keeps (is self.now) store.old store.new };
 
     /// Makes one of what the rows of some haystacks became and what those of the haystacks after them did; or gives the second back.
@@ -59,7 +59,7 @@ pub trait Outcome {
     ) -> Option<Self::Value>
         ensures { (i : ℕ) (all more : List (List RowValue)) → is self.now store.now i all first.old → is self.now store.now (i + length all) more second
             → MatchOption result (is self.now store.now i (all ++ more) first.new)
-                (λ back. is self.now store.now i all first.new × is self.now store.now (i + length all) more back) };
+            (λ back. is self.now store.now i all first.new × is self.now store.now (i + length all) more back) };
 
     /// What the rows of no haystack become.
     fn nothing(&self, alloc: Global) -> Self::Whole

@@ -78,7 +78,7 @@ pub trait Task {
     ) -> Option<Self::Value>
         ensures { (i n m : ℕ) → answers self.now store.now i n first.old → answers self.now store.now (i + n) m second
             → MatchOption result (answers self.now store.now i (n + m) first.new)
-                (λ back. answers self.now store.now i n first.new × answers self.now store.now (i + n) m back) };
+            (λ back. answers self.now store.now i n first.new × answers self.now store.now (i + n) m back) };
 
     /// What no answers are together.
     fn begin(&self, alloc: Global) -> Self::Whole
