@@ -1,7 +1,7 @@
 -- What a regex finds in a haystack, one match after another.
 use Rattle.std.proofs.Common.{◌≡◌, ℕ, suc, ◌+◌, ◌<◌, ◌≤◌, Bool, true, false, cond, List, [], ◌∷◌, ◌++◌, length, take, drop, get_or, Option, Some, None, Result, Ok, Err, IfOk, refl, sym, ap, subst, ◌∙◌, arith, drop-cons}
 use Rattle.std.specs.List.{All}
-use Rattle.std.specs.Prelude.{map, replicate, OnOk, MatchOption}
+use Rattle.std.specs.Prelude.{map, replicate, OnOk, MatchOption, MatchResult}
 use denote.Ref.{Bor}
 use Rattle.std.proofs.Math.Seq.{take-add}
 use Rattle.std.proofs.lemmas.List.{length-append, take_all, map-append, drop-drop}
@@ -122,18 +122,18 @@ module _ (regex : RegexValue) (hs : List (Bor (List ℕ))) where
       ∙ ap (λ (l : List (Bor (List ℕ))). map f (take n (drop i hs) ++ take m l)) rest ∙ ap (map f) (sym (take-add n m (drop i hs)))
 
   -- one answer that is made of two, or both as they were
-  pub outcomes-unite : {V : Type 0} (Is : ℕ → List (List RowValue) → V → Type 0) (i n m : ℕ) (old new second : V) (result : Option V)
+  pub outcomes-unite : {U V : Type 0} (Is : ℕ → List (List RowValue) → V → Type 0) (i n m : ℕ) (old new second : V) (result : Result U V)
       → (a : HasOutcome Is regex hs i n old) (b : HasOutcome Is regex hs (i + n) m second)
-      → (Is i a.0 old → Is (i + length a.0) b.0 second → MatchOption result (Is i (a.0 ++ b.0) new) (λ back. Is i a.0 new × Is (i + length a.0) b.0 back))
-      → MatchOption result (HasOutcome Is regex hs i (n + m) new) (λ back. HasOutcome Is regex hs i n new × HasOutcome Is regex hs (i + n) m back)
-  outcomes-unite Is i n m old new second None a b united =
+      → (Is i a.0 old → Is (i + length a.0) b.0 second → MatchResult result (λ _. Is i (a.0 ++ b.0) new) (λ back. Is i a.0 new × Is (i + length a.0) b.0 back))
+      → MatchResult result (λ _. HasOutcome Is regex hs i (n + m) new) (λ back. HasOutcome Is regex hs i n new × HasOutcome Is regex hs (i + n) m back)
+  outcomes-unite Is i n m old new second (Ok u) a b united =
       let there : Is (i + length a.0) b.0 second = subst (λ (k : ℕ). Is (i + k) b.0 second) (sym a.2) b.1 in (
         a.0 ++ b.0,
         united a.1 there,
         length-append a.0 b.0 ∙ (λ k. a.2 k + b.2 k),
         rows-after i n (i + n) m a.0 b.0 refl a.3 b.3,
       )
-  outcomes-unite Is i n m old new second (Some back) a b united =
+  outcomes-unite Is i n m old new second (Err back) a b united =
       let there : Is (i + length a.0) b.0 second = subst (λ (k : ℕ). Is (i + k) b.0 second) (sym a.2) b.1 in
       let both = united a.1 there in
       ((a.0, both.0, a.2, a.3), (b.0, subst (λ (k : ℕ). Is (i + k) b.0 back) a.2 both.1, b.2, b.3))

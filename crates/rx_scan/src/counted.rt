@@ -49,8 +49,8 @@ impl Outcome for Counted {
         }
     }
 
-    fn unite(&self, _store: &Vec<Row>, _first: &mut Counts, second: Counts) -> Option<Counts> {
-        Some(second)
+    fn unite(&self, _store: &Vec<Row>, _first: &mut Counts, second: Counts) -> Result<(), Counts> {
+        Err(second)
     }
 
     fn nothing(&self, alloc: Global) -> Vec<Counts> {

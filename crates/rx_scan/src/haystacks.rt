@@ -63,7 +63,7 @@ impl From<ScanError> for Memory {
 /// each match of which begins with one of its needles.
 ///
 /// So many workers search, but no more than haystacks: the caller, and each other in a thread of its own where one can be
-/// started. Each draws one haystack after another, some ahead where there are many, so that their number changes no row. `gate` is told of each haystack before
+/// started. Each draws one haystack after another, so that their number changes no row. `gate` is told of each haystack before
 /// it is searched, by the worker that drew it.
 ///
 /// # Errors
@@ -198,7 +198,12 @@ impl<'a, G: Gate, O: Outcome> Task for Works<'a, G, O> {
         Ok(self.outcome.end(alloc, index, store))
     }
 
-    fn unite(&self, store: &O::Store, first: &mut O::Value, second: O::Value) -> Option<O::Value> {
+    fn unite(
+        &self,
+        store: &O::Store,
+        first: &mut O::Value,
+        second: O::Value,
+    ) -> Result<(), O::Value> {
         self.outcome.unite(store, first, second)
     }
 

@@ -1,5 +1,5 @@
 //! What the matches of a haystack become.
-ghost use Rattle.std.specs.Prelude.{◌≡◌, ◌+◌, ◌<◌, ◌^◌, ◌++◌, ◌∷◌, [], ℕ, List, map, length, OnOk, MatchOption};
+ghost use Rattle.std.specs.Prelude.{◌≡◌, ◌+◌, ◌<◌, ◌^◌, ◌++◌, ◌∷◌, [], ℕ, List, map, length, OnOk, MatchResult};
 ghost use Rattle.std.specs.Vec.{vec_items};
 ghost use Rattle.rx_scan.specs.Outcomes.{Keeps, IsPiece, IsPrinted};
 ghost use Rattle.rx_scan.specs.Row.{RowValue, rows_text};
@@ -50,15 +50,19 @@ pub trait Outcome {
         ensures value { (rows : List RowValue) → holds self.now store.old index rows → is self.now store.new index (rows ∷ []) result }
         ensures keeps { Keeps (is self.now) store.old store.new };
 
-    /// Makes one of what the rows of some haystacks became and what those of the haystacks after them did; or gives the second back.
+    /// Makes one of what the rows of some haystacks became and what those of the haystacks after them did.
+    ///
+    /// # Errors
+    ///
+    /// The second, where both stay as they are.
     fn unite(
         &self,
         store: &Self::Store,
         first: &mut Self::Value,
         second: Self::Value,
-    ) -> Option<Self::Value>
+    ) -> Result<(), Self::Value>
         ensures { (i : ℕ) (all more : List (List RowValue)) → is self.now store.now i all first.old → is self.now store.now (i + length all) more second
-            → MatchOption result (is self.now store.now i (all ++ more) first.new)
+            → MatchResult result (λ _. is self.now store.now i (all ++ more) first.new)
             (λ back. is self.now store.now i all first.new × is self.now store.now (i + length all) more back) };
 
     /// What the rows of no haystack become.
@@ -121,8 +125,8 @@ impl Outcome for AllRows {
         _store: &Vec<Row>,
         _first: &mut Vec<Row>,
         second: Vec<Row>,
-    ) -> Option<Vec<Row>> {
-        Some(second)
+    ) -> Result<(), Vec<Row>> {
+        Err(second)
     }
 
     fn nothing(&self, alloc: Global) -> Vec<Vec<Row>> {
@@ -195,12 +199,12 @@ impl Outcome for RowsText {
         }
     }
 
-    fn unite(&self, _store: &Printed, first: &mut Piece, second: Piece) -> Option<Piece> {
+    fn unite(&self, _store: &Printed, first: &mut Piece, second: Piece) -> Result<(), Piece> {
         if first.end != second.start {
-            return Some(second);
+            return Err(second);
         }
         first.end = second.end;
-        None
+        Ok(())
     }
 
     fn nothing(&self, alloc: Global) -> Vec<u8> {

@@ -6,7 +6,7 @@ use Rattle.rx_workers.specs.declared.found.Notes.{Notes}
 use Rattle.rx_workers.specs.declared.found.Queue.{Queue}
 
 module _ {V S : Type 0} (size : ℕ) (Is : S → (first count : ℕ) → V → Type 0) where
-  -- with this store it is the answer to the numbers that it names, of which there is one
+  -- with this store it is the answer to the numbers that it names, at least one
   abbrev pub IsFound : S → Found V → Type 0
   IsFound store f = (0 < f.count) × (f.index + f.count ≤ size) × Is store f.index f.count f.value
 

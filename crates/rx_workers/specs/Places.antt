@@ -10,7 +10,7 @@ use Rattle.rx_workers.specs.declared.place.Place.{Place}
 use Rattle.rx_workers.specs.declared.place.Left.{Left}
 use Rattle.rx_workers.specs.Answers.{AreFound}
 
--- so many numbers are drawn, and one more is a number too
+-- so many numbers are drawn, which are fewer than 2 ^ 63
 abbrev pub IsLimit : Draws → ℕ → Type 0
 IsLimit draws size = (limit_of draws ≡ size) × (size < 2 ^ 63)
 

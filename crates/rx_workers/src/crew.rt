@@ -15,8 +15,8 @@ use std::thread::{Threads, map_vec};
 
 /// What the answers to the works of a task are together.
 ///
-/// There are so many workers, but no more than works, and at least one. Each draws one number after another, some ahead where there are many,
-/// until none is left, and works with a scratch value from a slot; of these there are so many as workers, but no more than `slots`, and at least one. Where the
+/// There are so many workers, but no more than works, and at least one. Each draws one number after another, where there are thousands for each
+/// some ahead, until none is left, and works with a scratch value from a slot; of these there are so many as workers, but no more than `slots`, and at least one. Where the
 /// slot of a worker is in another one's hand, it makes a scratch value of its own. A worker for which no thread could be started works
 /// on the caller's. What no worker found the caller looks for, once all have ended.
 ///
@@ -38,24 +38,25 @@ pub fn do_all<R: Threads + Sync, T: Task + Sync>(
     let (pool, mut seat) = scratches(alloc, task, slots)?;
     let (draws, first) = Draws::new(alloc, count as u64, workers as u64)?;
     let places = places(alloc, &pool, slots, &mut seat, &draws, first, workers)?;
-    let at_a_time = at_a_time(count, workers);
+    let at_a_time = drawn_at_a_time(count, workers);
     let left = work_all(rt, alloc, task, &pool, &draws, at_a_time, places)?;
     let notes = gather(alloc, task, &pool, &mut seat, left)?;
     complete(alloc, task, notes)
 }
 
 /// How many numbers a worker draws at a time, at most.
-const AT_A_TIME: usize = 16;
+const MOST_AT_A_TIME: usize = 16;
 
-/// A worker draws a number at a time while each has fewer than this many times as much to do.
-const SHARES: usize = 64;
+/// How many numbers there are for each worker at least, for each that it draws at a time beyond the first.
+const FOR_EACH: usize = 4096;
 
 /// How many numbers each of so many workers draws at a time. All write the word that they draw from, and it goes from
 /// processor to processor, so that a draw costs less where it follows another (DECISIONS: numbers are drawn ahead).
-fn at_a_time(count: usize, workers: usize) -> usize
+fn drawn_at_a_time(count: usize, workers: usize) -> usize
     requires { 0 < workers }
+    ensures { 0 < result }
 {
-    (count / workers / SHARES).clamp(1, AT_A_TIME)
+    (count / workers / FOR_EACH).clamp(1, MOST_AT_A_TIME)
 }
 
 /// A pool of so many scratch values.

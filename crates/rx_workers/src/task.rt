@@ -1,5 +1,5 @@
 //! What there is to do.
-ghost use Rattle.std.specs.Prelude.{◌≡◌, ◌+◌, ◌^◌, ◌<◌, ◌≤◌, ℕ, IfOk, OnOk, MatchOption};
+ghost use Rattle.std.specs.Prelude.{◌≡◌, ◌+◌, ◌^◌, ◌<◌, ◌≤◌, ℕ, IfOk, OnOk, MatchResult};
 ghost use Rattle.rx_workers.specs.Answers.{Keeps};
 
 use rx_search::Memory;
@@ -19,7 +19,7 @@ pub trait Task {
     /// How many works there are.
     ghost size: { Self → ℕ };
 
-    /// What is an answer to the works from a number on, so many, with the store of the worker that found it.
+    /// What is an answer to so many works, the first of which has this number, with the store of the worker that found it.
     ghost answers: { Self → Self.Store → ℕ → ℕ → Self.Value → Type 0 };
 
     /// What a scratch value has to be for a work.
@@ -69,15 +69,19 @@ pub trait Task {
         ensures keeps { OnOk result (Keeps (answers self.now) store.old store.new) }
         ensures stays { OnOk result (fits self.now scratch.new) };
 
-    /// Makes one answer of two, the second of which is to the numbers that come next; or gives the second one back.
+    /// Makes one answer of two, the second of which is to the numbers that come next.
+    ///
+    /// # Errors
+    ///
+    /// The second one, where both stay answers of their own.
     fn unite(
         &self,
         store: &Self::Store,
         first: &mut Self::Value,
         second: Self::Value,
-    ) -> Option<Self::Value>
+    ) -> Result<(), Self::Value>
         ensures { (i n m : ℕ) → answers self.now store.now i n first.old → answers self.now store.now (i + n) m second
-            → MatchOption result (answers self.now store.now i (n + m) first.new)
+            → MatchResult result (λ _. answers self.now store.now i (n + m) first.new)
             (λ back. answers self.now store.now i n first.new × answers self.now store.now (i + n) m back) };
 
     /// What no answers are together.

@@ -1,5 +1,5 @@
 //! What a worker does.
-ghost use Rattle.std.specs.Prelude.{◌≡◌, ◌<◌, ◌^◌, ◌∷◌, [], ℕ, true, IfOk, IfSome, OnOk};
+ghost use Rattle.std.specs.Prelude.{◌≡◌, ◌<◌, ◌^◌, ◌∷◌, [], ℕ, true, IfOk, IfErr, IfSome, OnOk};
 ghost use Rattle.rx_slots.specs.DrawSeats.{limit_of};
 ghost use Rattle.rx_slots.specs.SlotSeats.{IsSlotSeat, slot_view, slots_of};
 ghost use Rattle.rx_workers.specs.Places.{IsDrawer, IsLimit, IsPlace, IsLeft, IsFree};
@@ -95,10 +95,10 @@ fn work_with<T: Task>(
     ensures { IfOk result (AreFound (T.size task.now) (T.answers task.now)) }
 {
     task.fit(alloc, scratch)?;
-    let mut drawn = Vec::new(alloc);
+    let mut drawn = Vec::with_capacity(alloc, at_a_time)?;
     let mut found = Vec::new(alloc);
     let mut store = task.open(alloc);
-    // No clause of a draw bounds the draws (DECISIONS: a worker draws at most 2 ^ 64 - 1 numbers).
+    // No clause of a draw bounds the draws (DECISIONS: a worker draws at most 2 ^ 64 - 1 times).
     'draws: for _ in 0..u64::MAX {
         let is_more = draw_some(draws, at_a_time, drawer, &mut drawn)?;
         for number in &drawn {
@@ -111,7 +111,8 @@ fn work_with<T: Task>(
     Ok(Notes { found, store })
 }
 
-/// Draws so many numbers, or those that are left, in place of those that were drawn before. Whether there may be more.
+/// Draws so many numbers, or those that are left, in place of those that were drawn before. True where none was missing, so that
+/// more may be left.
 fn draw_some(
     draws: &Draws,
     at_a_time: usize,
@@ -149,7 +150,7 @@ fn answer_one<T: Task>(
     ensures fit { OnOk result (T.fits task.now scratch.new) }
 {
     let value = task.answer(alloc, index, scratch, store)?;
-    if let Some(value) = unite_with_last(task, index, store, value, found) {
+    if let Err(value) = unite_with_last(task, index, store, value, found) {
         found.push(Found {
             index,
             count: 1,
@@ -159,35 +160,34 @@ fn answer_one<T: Task>(
     Ok(())
 }
 
-/// Makes the answer to a number one with the last that was found, where that is to the numbers before this one, and where the task can. Else
-/// gives it back.
+/// Makes the answer to a number one with the last that was found, where that is to the numbers before this one.
+///
+/// # Errors
+///
+/// The answer, where it stays one of its own.
 fn unite_with_last<T: Task>(
     task: &T,
     index: usize,
     store: &T::Store,
     value: T::Value,
     found: &mut [Found<T::Value>],
-) -> Option<T::Value>
+) -> Result<(), T::Value>
     requires room { T.size task.now < 2 ^ 63 }
     requires there { index < T.size task.now }
     requires value { T.answers task.now store.now index 1 value }
     requires before { All (IsFound (T.size task.now) (T.answers task.now) store.now) found.old }
     ensures found { All (IsFound (T.size task.now) (T.answers task.now) store.now) found.new }
-    ensures back { IfSome result (T.answers task.now store.now index 1) }
+    ensures own { IfErr result (T.answers task.now store.now index 1) }
 {
     let len = found.len();
     if len == 0 {
-        return Some(value);
+        return Err(value);
     }
     let last = &mut found[len - 1];
     if last.index + last.count != index {
-        return Some(value);
+        return Err(value);
     }
-    match task.unite(store, &mut last.value, value) {
-        Some(back) => Some(back),
-        None => {
-            last.count += 1;
-            None
-        }
-    }
+    task.unite(store, &mut last.value, value)?;
+    last.count += 1;
+    Ok(())
 }

@@ -1,5 +1,5 @@
-use Rattle.std.proofs.Common.{◌≡◌, ap, sym, subst}
-use Rattle.std.proofs.lemmas.List.Elements.{All-head, All-rest, All-same}
+use Rattle.std.proofs.Common.{◌≡◌}
+use Rattle.std.proofs.lemmas.List.Elements.{All-rest}
 use Rattle.rx_workers.specs.Answers.{IsFound}
 use Rattle.rx_workers.proofs.answers.next_of.Goals as goal
 

@@ -1,4 +1,4 @@
-use Rattle.std.proofs.Common.{sym, subst, ◌∙◌, IfOk}
+use Rattle.std.proofs.Common.{sym, subst, IfOk}
 use Rattle.std.specs.List.{All}
 use Rattle.std.proofs.lemmas.List.Elements.{All-push}
 use Rattle.rx_workers.specs.Answers.{AreFound, AreQueued, IsFound}
