@@ -1,6 +1,6 @@
 -- What the functions of the compiler hand on to one another.
 use Rattle.std.proofs.Common.{◌≡◌, ℕ, zero, suc, ◌+◌, ◌*◌, ◌-◌, ◌≤◌, ◌<◌, List, [], ◌∷◌, ◌++◌, refl, sym, ◌∙◌, ap, subst, arith, length, get_or, take}
-use Rattle.std.specs.Prelude.{Bool, true, false, Option, Some, None, Result, IfOk, IfSome, All, min, ◌^◌, nat_lt, map}
+use Rattle.std.specs.Prelude.{Bool, true, false, Option, Some, None, Result, IfOk, OnOk, IfSome, All, min, ◌^◌, nat_lt, map}
 use Rattle.std.proofs.Math.ListN.{length-set}
 use Rattle.std.proofs.lemmas.Bool.Decides.{nat_tests}
 use Rattle.std.proofs.lemmas.List.{take_more, map-append}
@@ -12,6 +12,7 @@ use Rattle.rx_model.specs.Search.{greatest_group, greatest_in}
 use Rattle.rx_model.proofs.lemmas.runs.RunLemmas.{by_test}
 use Rattle.rx_search.specs.GroupInfo.{groups_at, slot_of_group}
 use Rattle.rx_search.specs.declared.memory.Memory.{Memory}
+use Rattle.rx_hir.specs.Cost.{accounted_states}
 use Rattle.rx_hir.specs.Length.{saturated}
 use Rattle.rx_hir.specs.Normal.{expressions}
 use Rattle.rx_nfa.specs.Built.{Built, ways}
@@ -29,6 +30,11 @@ use Rattle.rx_nfa.proofs.lemmas.parts.ChoiceLemmas.{BuiltEach, BuiltEach-more}
 pub Built-same : (a b : graph.Builder) (next : ℕ) (old new : Draft) (r : Result ℕ Memory) → a ≡ b → IfOk r (λ start. Built a next old new start)
     → IfOk r (λ start. Built b next old new start)
 Built-same a b next old new r e h = subst (λ part. IfOk r (λ start. Built part next old new start)) e h
+
+-- the states of an expression are accounted for it by another name too
+pub count-same : (h d : Expression) (old new : ℕ) (r : Result ℕ Memory) → h ≡ d → OnOk r (new ≤ old + accounted_states h)
+    → OnOk r (new ≤ old + accounted_states d)
+count-same h d old new r e count = subst (λ x. OnOk r (new ≤ old + accounted_states x)) e count
 
 -- there is room for fewer groups, and in a draft of the same groups and slots
 pub HasRoom-kept : (old new : Draft) (groups : Groups) (m n : ℕ) → new.groups ≡ old.groups → new.slots ≡ old.slots → n ≤ m → HasRoom old groups m

@@ -1,4 +1,4 @@
-use Rattle.std.proofs.Common.{◌≡◌, ◌<◌, ◌+◌, ◌-◌, ◌*◌, ◌∙◌, refl, sym, ap, subst, inl, inr, arith, length, drop, take}
+use Rattle.std.proofs.Common.{◌≡◌, ◌<◌, ◌≤◌, ◌+◌, ◌-◌, ◌*◌, ◌∙◌, refl, sym, ap, subst, inl, inr, arith, length, drop, take}
 use Rattle.std.specs.Prelude.{max, false, IfOk, IfSome, map, option_map, string_bytes}
 use Rattle.std.specs.Int.NonZero.{non_zero_usize_get}
 use Rattle.std.proofs.lemmas.List.{take_all}
@@ -7,6 +7,7 @@ use Rattle.rx_model.specs.Expression.{empty, literal, class, look, repetition, c
 use Rattle.rx_model.specs.Graph.{text, build_state, build_group, build_choice, loop_once}
 use Rattle.rx_model.specs.Search.{greatest_group, greatest_in}
 use Rattle.rx_search.specs.GroupInfo.{groups_at, slot_of_group}
+use Rattle.rx_search.specs.Limits.{id_limit}
 use Rattle.rx_search.specs.Look.{kind_of}
 use Rattle.rx_hir.specs.Cost.{accounted_states, accounted_in}
 use Rattle.rx_hir.specs.Sound.{IsSound}
@@ -20,7 +21,7 @@ use Rattle.rx_nfa.proofs.lemmas.parts.AccountedLemmas.{accounted_in-more, accoun
 use Rattle.rx_nfa.specs.Room.{HasRoom}
 use Rattle.rx_nfa.proofs.lemmas.parts.ExpressionLemmas.{depth_at}
 use Rattle.rx_nfa.proofs.lemmas.parts.BuiltLemmas.{Built-nothing}
-use Rattle.rx_nfa.proofs.lemmas.parts.CompileLemmas.{Built-same, HasRoom-kept, HasRoom-less, greatest-at, BuiltEach-next, below-more}
+use Rattle.rx_nfa.proofs.lemmas.parts.CompileLemmas.{Built-same, count-same, HasRoom-kept, HasRoom-less, greatest-at, BuiltEach-next, below-more}
 use Rattle.rx_nfa.specs.Directed.{in_order, build_row, build_sides, build_directed, part_for}
 use Rattle.rx_nfa.specs.Draft.{Draft, pushed}
 use Rattle.rx_nfa.proofs.lemmas.parts.OrderLemmas.{in_order-length, in_order-is, accounted-in_order, row-more, row-none, concat-directed, alternation-directed}
@@ -443,3 +444,119 @@ compile-returns-in-Class-clause-built t c =
     let is : class (class_view c.in-Class.class) ≡ c.args.hir.now = sym (ap kind_view c.in-Class.is) ∙ c.kind.ensures.value in
     Built-same _ _ c.args.next c.args.builder.now c.push_class.new.self c.push_class.result
     (ap (part_for c.args.groups.now) is) c.push_class.ensures.built
+
+pub compile-returns-in-Empty-clause-inside : goal.compile-returns-in-Empty-clause-inside
+compile-returns-in-Empty-clause-inside t c = c.requires.next
+
+pub compile-returns-in-Empty-clause-count : goal.compile-returns-in-Empty-clause-count
+compile-returns-in-Empty-clause-count t c = omega arith
+
+pub compile-returns-in-Empty-clause-sound : goal.compile-returns-in-Empty-clause-sound
+compile-returns-in-Empty-clause-sound t c = c.kind.ensures.sound
+
+pub compile-returns-in-Class-clause-inside : goal.compile-returns-in-Class-clause-inside
+compile-returns-in-Class-clause-inside t c = c.push_class.ensures.inside
+
+pub compile-returns-in-Class-clause-count : goal.compile-returns-in-Class-clause-count
+compile-returns-in-Class-clause-count t c =
+    let is : class (class_view c.in-Class.class) ≡ c.args.hir.now = sym (ap kind_view c.in-Class.is) ∙ c.kind.ensures.value in
+    count-same _ _ (length c.args.builder.now.states) (length c.push_class.new.self.states) c.push_class.result is c.push_class.ensures.count
+
+pub compile-returns-in-Class-clause-sound : goal.compile-returns-in-Class-clause-sound
+compile-returns-in-Class-clause-sound t c = c.kind.ensures.sound
+
+pub compile-returns-in-Literal-clause-inside : goal.compile-returns-in-Literal-clause-inside
+compile-returns-in-Literal-clause-inside t c = c.compile_literal.ensures.inside
+
+pub compile-returns-in-Literal-clause-count : goal.compile-returns-in-Literal-clause-count
+compile-returns-in-Literal-clause-count t c =
+    let is : literal c.deref.result.now ≡ c.args.hir.now = ap literal c.deref.ensures.value ∙ sym (ap kind_view c.in-Literal.is) ∙ c.kind.ensures.value in
+    count-same _ _ (length c.args.builder.now.states) (length c.compile_literal.new.builder.states) c.compile_literal.result is c.compile_literal.ensures.count
+
+pub compile-returns-in-Literal-clause-sound : goal.compile-returns-in-Literal-clause-sound
+compile-returns-in-Literal-clause-sound t c = c.kind.ensures.sound
+
+pub compile-returns-in-Look-clause-inside : goal.compile-returns-in-Look-clause-inside
+compile-returns-in-Look-clause-inside t c = c.compile_look.ensures.inside
+
+pub compile-returns-in-Look-clause-count : goal.compile-returns-in-Look-clause-count
+compile-returns-in-Look-clause-count t c =
+    let is : look (kind_of c.in-Look.look) ≡ c.args.hir.now = sym (ap kind_view c.in-Look.is) ∙ c.kind.ensures.value in
+    count-same _ _ (length c.args.builder.now.states) (length c.compile_look.new.builder.states) c.compile_look.result is c.compile_look.ensures.count
+
+pub compile-returns-in-Look-clause-sound : goal.compile-returns-in-Look-clause-sound
+compile-returns-in-Look-clause-sound t c = c.kind.ensures.sound
+
+pub compile-returns-in-Repetition-clause-inside : goal.compile-returns-in-Repetition-clause-inside
+compile-returns-in-Repetition-clause-inside t c = c.compile_repetition.ensures.inside
+
+pub compile-returns-in-Repetition-clause-count : goal.compile-returns-in-Repetition-clause-count
+compile-returns-in-Repetition-clause-count t c =
+    let r = c.in-Repetition.repetition in
+    let is : repetition r.min r.max r.greedy r.sub.value ≡ c.args.hir.now = sym (ap kind_view c.in-Repetition.is) ∙ c.kind.ensures.value in
+    count-same _ _ (length c.args.builder.now.states) (length c.compile_repetition.new.builder.states) c.compile_repetition.result is c.compile_repetition.ensures.count
+
+pub compile-returns-in-Repetition-clause-sound : goal.compile-returns-in-Repetition-clause-sound
+compile-returns-in-Repetition-clause-sound t c = c.kind.ensures.sound
+
+pub compile-returns-in-Capture-clause-inside : goal.compile-returns-in-Capture-clause-inside
+compile-returns-in-Capture-clause-inside t c = c.compile_capture.ensures.inside
+
+pub compile-returns-in-Capture-clause-count : goal.compile-returns-in-Capture-clause-count
+compile-returns-in-Capture-clause-count t c =
+    let g = c.in-Capture.capture in
+    let is : capture (non_zero_usize_get g.index) (option_map string_bytes g.name) g.sub.value ≡ c.args.hir.now = sym (ap kind_view c.in-Capture.is) ∙ c.kind.ensures.value in
+    count-same _ _ (length c.args.builder.now.states) (length c.compile_capture.new.builder.states) c.compile_capture.result is c.compile_capture.ensures.count
+
+pub compile-returns-in-Capture-clause-sound : goal.compile-returns-in-Capture-clause-sound
+compile-returns-in-Capture-clause-sound t c = c.kind.ensures.sound
+
+pub compile-returns-in-Concat-clause-inside : goal.compile-returns-in-Concat-clause-inside
+compile-returns-in-Concat-clause-inside t c = c.compile_concat.ensures.inside
+
+pub compile-returns-in-Concat-clause-count : goal.compile-returns-in-Concat-clause-count
+compile-returns-in-Concat-clause-count t c =
+    let is : concat (expressions c.deref-in-Concat.result.now) ≡ c.args.hir.now = ap (λ hs. concat (expressions hs)) c.deref-in-Concat.ensures.value ∙ sym (ap kind_view c.in-Concat.is) ∙ c.kind.ensures.value in
+    count-same _ _ (length c.args.builder.now.states) (length c.compile_concat.new.builder.states) c.compile_concat.result is c.compile_concat.ensures.count
+
+pub compile-returns-in-Concat-clause-sound : goal.compile-returns-in-Concat-clause-sound
+compile-returns-in-Concat-clause-sound t c = c.kind.ensures.sound
+
+pub compile-returns-in-Alternation-clause-inside : goal.compile-returns-in-Alternation-clause-inside
+compile-returns-in-Alternation-clause-inside t c = c.compile_alternation.ensures.inside
+
+pub compile-returns-in-Alternation-clause-count : goal.compile-returns-in-Alternation-clause-count
+compile-returns-in-Alternation-clause-count t c =
+    let is : alternation (expressions c.deref-in-Alternation.result.now) ≡ c.args.hir.now = ap (λ hs. alternation (expressions hs)) c.deref-in-Alternation.ensures.value ∙ sym (ap kind_view c.in-Alternation.is) ∙ c.kind.ensures.value in
+    count-same _ _ (length c.args.builder.now.states) (length c.compile_alternation.new.builder.states) c.compile_alternation.result is c.compile_alternation.ensures.count
+
+pub compile-returns-in-Alternation-clause-sound : goal.compile-returns-in-Alternation-clause-sound
+compile-returns-in-Alternation-clause-sound t c = c.kind.ensures.sound
+
+pub compile-compile_literal-requires : goal.compile-compile_literal-requires
+compile-compile_literal-requires t c =
+    let is : literal c.deref.result.now ≡ c.args.hir.now =
+    ap literal c.deref.ensures.value ∙ sym (ap kind_view c.in-Literal.is) ∙ c.kind.ensures.value in
+    record {
+      next = c.requires.next;
+      some = subst IsSound (sym is) c.kind.ensures.sound;
+      fits = subst (λ h. length c.args.builder.now.states + accounted_states h ≤ id_limit) (sym is) c.requires.fits;
+    }
+
+pub compile-compile_look-requires : goal.compile-compile_look-requires
+compile-compile_look-requires t c =
+    let is : look (kind_of c.in-Look.look) ≡ c.args.hir.now = sym (ap kind_view c.in-Look.is) ∙ c.kind.ensures.value in
+    record {
+      next = c.requires.next;
+      fits =
+          (let fits = subst (λ h. length c.args.builder.now.states + accounted_states h ≤ id_limit) (sym is) c.requires.fits in
+          omega arith);
+    }
+
+pub compile-push_class-requires : goal.compile-push_class-requires
+compile-push_class-requires t c =
+    let is : class (class_view c.in-Class.class) ≡ c.args.hir.now = sym (ap kind_view c.in-Class.is) ∙ c.kind.ensures.value in
+    record {
+      next = c.requires.next;
+      room = subst (λ h. length c.args.builder.now.states + accounted_states h ≤ id_limit) (sym is) c.requires.fits;
+    }
