@@ -22,9 +22,10 @@ use Rattle.rx_nfa.specs.Room.{HasRoom}
 use Rattle.rx_nfa.specs.declared.compiler.groups.Groups.{Groups}
 use Rattle.rx_nfa.specs.declared.state.State.{State}
 use Rattle.rx_nfa.specs.declared.state.State.TheVariants.{Union}
-use Rattle.rx_nfa.proofs.lemmas.parts.BuiltLemmas.{Built-then}
+use Rattle.rx_nfa.proofs.lemmas.parts.BuiltLemmas.{Built-then, pushed-length}
 use Rattle.rx_nfa.proofs.lemmas.parts.LoopLemmas.{Built-loop, Built-loop_once, Built-optional, Built-option}
 use Rattle.rx_nfa.proofs.lemmas.parts.ChoiceLemmas.{BuiltEach, BuiltEach-more}
+use Rattle.rx_nfa.proofs.lemmas.parts.ResultLemmas.{IfOk-both, OnOk-of}
 
 -- the part goes by another name
 pub Built-same : (a b : graph.Builder) (next : ℕ) (old new : Draft) (r : Result ℕ Memory) → a ≡ b → IfOk r (λ start. Built a next old new start)
@@ -57,6 +58,29 @@ HasRoom-kept old new groups m n same slots le h =
 
 pub HasRoom-less : (d : Draft) (groups : Groups) (m n : ℕ) → n ≤ m → HasRoom d groups m → HasRoom d groups n
 HasRoom-less d groups m n le h = HasRoom-kept d d groups m n refl refl le h
+
+-- a state was pushed
+pub HasRoom-pushed : (old new : Draft) (state : State) (groups : Groups) (m n : ℕ) → new ≡ pushed old state → n ≤ m → HasRoom old groups m
+    → HasRoom new groups n
+HasRoom-pushed old new state groups m n is le h =
+    HasRoom-kept old new groups m n (ap (λ (d : Draft). d.groups) is) (ap (λ (d : Draft). d.slots) is) le h
+
+pub pushed-grown : (old new : Draft) (state : State) → new ≡ pushed old state → length new.states ≡ length old.states + 1
+pushed-grown old new state is =
+    let same = ap (λ (d : Draft). length d.states) is in
+    let one = pushed-length old state in
+    omega arith
+
+pub pushed-inside : (old new : Draft) (state : State) (r : Result ℕ Memory) → IfOk r (λ q. q ≡ length old.states) → IfOk r (λ q. new ≡ pushed old state)
+    → IfOk r (λ q. q < length new.states)
+pushed-inside old new state r ids grown =
+    IfOk-both (λ q. q ≡ length old.states) (λ q. new ≡ pushed old state) (λ q. q < length new.states) r ids grown
+    (λ q id is. let one = pushed-grown old new state is in omega arith)
+
+pub pushed-count : (old new : Draft) (state : State) (r : Result ℕ Memory) (most : ℕ) → length old.states + 1 ≤ most → IfOk r (λ q. new ≡ pushed old state)
+    → OnOk r (length new.states ≤ most)
+pushed-count old new state r most fits grown =
+    OnOk-of (λ q. new ≡ pushed old state) (length new.states ≤ most) r grown (λ q is. let one = pushed-grown old new state is in omega arith)
 
 pub greatest-at : (hs : List Expression) (k : ℕ) (h d : Expression) → k < length hs → h ≡ get_or hs k d → greatest_group h ≤ greatest_in (expressions hs)
 unfolding greatest_group

@@ -21,7 +21,7 @@ use Rattle.rx_nfa.proofs.lemmas.parts.AccountedLemmas.{accounted_in-more, accoun
 use Rattle.rx_nfa.specs.Room.{HasRoom}
 use Rattle.rx_nfa.proofs.lemmas.parts.ExpressionLemmas.{depth_at}
 use Rattle.rx_nfa.proofs.lemmas.parts.BuiltLemmas.{Built-nothing}
-use Rattle.rx_nfa.proofs.lemmas.parts.CompileLemmas.{Built-same, count-same, HasRoom-kept, HasRoom-less, greatest-at, BuiltEach-next, below-more}
+use Rattle.rx_nfa.proofs.lemmas.parts.CompileLemmas.{Built-same, count-same, HasRoom-kept, HasRoom-less, HasRoom-pushed, pushed-grown, pushed-inside, pushed-count, greatest-at, BuiltEach-next, below-more}
 use Rattle.rx_nfa.specs.Directed.{in_order, build_row, build_sides, build_directed, part_for}
 use Rattle.rx_nfa.specs.Draft.{Draft, pushed}
 use Rattle.rx_nfa.proofs.lemmas.parts.OrderLemmas.{in_order-length, in_order-is, accounted-in_order, row-more, row-none, concat-directed, alternation-directed}
@@ -560,3 +560,120 @@ compile-push_class-requires t c =
       next = c.requires.next;
       room = subst (λ h. length c.args.builder.now.states + accounted_states h ≤ id_limit) (sym is) c.requires.fits;
     }
+
+pub compile_capture-compile-requires : goal.compile_capture-compile-requires
+compile_capture-compile-requires t c =
+    let deep = ap depth c.deref.ensures in
+    let groups : greatest_group c.deref.result.now ≡ greatest_group c.args.capture.now.sub.value = ap greatest_group c.deref.ensures in
+    let states = ap accounted_states c.deref.ensures in
+    let fits = c.requires.fits in
+    (omega arith, (c.requires.next, (subst (HasRoom c.args.builder.now c.args.groups.now) (sym groups) c.requires.room, omega arith)))
+
+pub compile_capture-compile-requires-2 : goal.compile_capture-compile-requires-2
+compile_capture-compile-requires-2 t c =
+    let sub = c.args.capture.now.sub.value in
+    let slot = Slot c.args.next c.args.groups.now.pattern (c.in-Some.first + 2 * (c.get.result - 1) + 1) in
+    let deep = ap depth c.deref-2.ensures in
+    let groups : greatest_group c.deref-2.result.now ≡ greatest_group sub = ap greatest_group c.deref-2.ensures in
+    let states = ap accounted_states c.deref-2.ensures in
+    let grown = pushed-grown c.args.builder.now c.push.new.self slot c.in_ok-close.ensures.states in
+    let id = c.in_ok-close.ensures.id in
+    let fits = c.requires.fits in (
+      omega arith,
+      (
+        omega arith,
+        (
+          HasRoom-pushed c.args.builder.now c.push.new.self slot c.args.groups.now (greatest_group sub) (greatest_group c.deref-2.result.now)
+              c.in_ok-close.ensures.states (omega arith) c.requires.room,
+          omega arith,
+        ),
+      ),
+    )
+
+pub compile_capture-returns-clause-inside : goal.compile_capture-returns-clause-inside
+compile_capture-returns-clause-inside t c =
+    pushed-inside c.compile-2.new.builder c.push-2.new.self
+    (Slot c.in_ok-body.body c.args.groups.now.pattern (c.in-Some.first + 2 * (c.get.result - 1))) c.push-2.result c.push-2.ensures.id c.push-2.ensures.states
+
+pub compile_capture-returns-clause-count : goal.compile_capture-returns-clause-count
+compile_capture-returns-clause-count t c =
+    let slot = Slot c.args.next c.args.groups.now.pattern (c.in-Some.first + 2 * (c.get.result - 1) + 1) in
+    let states = ap accounted_states c.deref-2.ensures in
+    let grown = pushed-grown c.args.builder.now c.push.new.self slot c.in_ok-close.ensures.states in
+    let more = c.in_ok-body.ensures.count in
+    pushed-count c.compile-2.new.builder c.push-2.new.self
+    (Slot c.in_ok-body.body c.args.groups.now.pattern (c.in-Some.first + 2 * (c.get.result - 1))) c.push-2.result _ (omega arith) c.push-2.ensures.states
+
+pub compile_alternation-returns-clause-inside : goal.compile_alternation-returns-clause-inside
+compile_alternation-returns-clause-inside t c =
+    pushed-inside c.loop-sub.builder c.push-2.new.self (Union c.new.result) c.push-2.result c.push-2.ensures.id c.push-2.ensures.states
+
+pub compile_alternation-returns-clause-count : goal.compile_alternation-returns-clause-count
+compile_alternation-returns-clause-count t c =
+    let count = c.loop-sub.invariant.count in
+    pushed-count c.loop-sub.builder c.push-2.new.self (Union c.new.result) c.push-2.result _ (omega arith) c.push-2.ensures.states
+
+pub compile_loop-compile-requires : goal.compile_loop-compile-requires
+compile_loop-compile-requires t c =
+    let sub = c.args.repetition.now.sub.value in
+    let deep = ap depth c.deref.ensures in
+    let groups : greatest_group c.deref.result.now ≡ greatest_group sub = ap greatest_group c.deref.ensures in
+    let states = ap accounted_states c.deref.ensures in
+    let grown = pushed-grown c.args.builder.now c.push.new.self Fail c.in_ok-choice.ensures.states in
+    let id = c.in_ok-choice.ensures.id in
+    let fits = c.requires.fits in (
+      omega arith,
+      (
+        omega arith,
+        (
+          HasRoom-pushed c.args.builder.now c.push.new.self Fail c.args.groups.now (greatest_group sub) (greatest_group c.deref.result.now)
+              c.in_ok-choice.ensures.states (omega arith) c.requires.room,
+          omega arith,
+        ),
+      ),
+    )
+
+pub compile_loop-returns-clause-inside : goal.compile_loop-returns-clause-inside
+compile_loop-returns-clause-inside t c =
+    let grown = pushed-grown c.args.builder.now c.push.new.self Fail c.in_ok-choice.ensures.states in
+    let longer = c.in_ok-body.ensures.built.extends.longer in
+    let written = ap (λ (d : Draft). length d.states) c.patch.ensures in
+    let same = patched-length c.compile.new.builder c.in_ok-choice.choice c.in_ok-state.state in
+    let id = c.in_ok-choice.ensures.id in
+    let inside = c.in_ok-body.ensures.inside in
+    (omega arith, omega arith)
+
+pub compile_loop-returns-clause-count : goal.compile_loop-returns-clause-count
+compile_loop-returns-clause-count t c =
+    let states = ap accounted_states c.deref.ensures in
+    let grown = pushed-grown c.args.builder.now c.push.new.self Fail c.in_ok-choice.ensures.states in
+    let more = c.in_ok-body.ensures.count in
+    let written = ap (λ (d : Draft). length d.states) c.patch.ensures in
+    let same = patched-length c.compile.new.builder c.in_ok-choice.choice c.in_ok-state.state in
+    omega arith
+
+pub compile_options-compile-requires : goal.compile_options-compile-requires
+compile_options-compile-requires t c =
+    let sub = c.args.repetition.now.sub.value in
+    let n = accounted_states c.args.repetition.now.sub.value in
+    let deep = ap depth c.deref.ensures in
+    let groups : greatest_group c.deref.result.now ≡ greatest_group c.args.repetition.now.sub.value = ap greatest_group c.deref.ensures in
+    let states = ap accounted_states c.deref.ensures in
+    let grown = pushed-grown c.loop-option.builder c.push.new.self Fail c.in_ok-choice.ensures.states in
+    let b = c.loop-option.invariant.built.extends in
+    let inside = c.loop-option.invariant.inside in
+    let count = c.loop-option.invariant.count in
+    let more = times-more c.loop-option._option c.args.count (accounted_states c.args.repetition.now.sub.value + 1) (omega arith) in
+    let fits = c.requires.fits in (
+      omega arith,
+      (
+        omega arith,
+        (
+          HasRoom-pushed c.loop-option.builder c.push.new.self Fail c.args.groups.now (greatest_group sub) (greatest_group c.deref.result.now)
+              c.in_ok-choice.ensures.states (omega arith)
+              (HasRoom-kept c.args.builder.now c.loop-option.builder c.args.groups.now (greatest_group sub) (greatest_group sub) b.groups b.slots (omega arith)
+              c.requires.room),
+          omega arith,
+        ),
+      ),
+    )
