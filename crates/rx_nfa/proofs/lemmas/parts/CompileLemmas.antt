@@ -15,10 +15,13 @@ use Rattle.rx_search.specs.declared.memory.Memory.{Memory}
 use Rattle.rx_hir.specs.Cost.{accounted_states}
 use Rattle.rx_hir.specs.Length.{saturated}
 use Rattle.rx_hir.specs.Normal.{expressions}
+use Rattle.rx_nfa.specs.Automaton.{state_accepts, NamesBelow, IsWithin}
 use Rattle.rx_nfa.specs.Built.{Built, ways}
 use Rattle.rx_nfa.specs.Draft.{Draft, pushed, patched}
 use Rattle.rx_nfa.specs.Repeated.{tail, leading}
 use Rattle.rx_nfa.specs.Room.{HasRoom}
+use Rattle.rx_nfa.specs.Row.{HasSortedTransitions}
+use Rattle.rx_nfa.specs.Slots.{WritesOwnSlots}
 use Rattle.rx_nfa.specs.declared.compiler.groups.Groups.{Groups}
 use Rattle.rx_nfa.specs.declared.state.State.{State}
 use Rattle.rx_nfa.specs.declared.state.State.TheVariants.{Union}
@@ -116,6 +119,23 @@ ways-below false n body exit a b = pair n exit body b a
     pair n p q a b zero d lt = a
     pair n p q a b (suc zero) d lt = b
     pair n p q a b (suc (suc k)) d lt = absurd (omega arith)
+
+-- a choice between two ways keeps to all that is asked of a state
+module _ (greedy : Bool) (body exit : ℕ) (state : State) (is : state ≡ Union (ways greedy body exit)) where
+  pub choice-names : (n : ℕ) → body < n → exit < n → NamesBelow n state
+  choice-names n a b = subst (NamesBelow n) (sym is) (ways-below greedy n body exit a b)
+
+  pub choice-within : (patterns slots : ℕ) → IsWithin patterns slots state
+  choice-within patterns slots = subst (IsWithin patterns slots) (sym is) tt
+
+  pub choice-own : (groups : List (List (Option (List ℕ)))) → WritesOwnSlots groups state
+  choice-own groups = subst (WritesOwnSlots groups) (sym is) tt
+
+  pub choice-sorted : HasSortedTransitions state
+  choice-sorted = subst HasSortedTransitions (sym is) tt
+
+  pub choice-silent : state_accepts state ≡ None
+  choice-silent = ap state_accepts is
 
 -- a repetition is its leading copies and its tail
 pub repetition-parts : (consumes : Bool) (min : ℕ) (max : Option ℕ) (greedy : Bool) (body : graph.Builder)

@@ -17,7 +17,7 @@ use Rattle.rx_hir.specs.Depth.{depth}
 use Rattle.rx_class.specs.ClassViews.{class_view}
 use Rattle.rx_hir.specs.HirViews.{kind_view}
 use Rattle.rx_nfa.specs.Built.{Built, slot_from}
-use Rattle.rx_nfa.proofs.lemmas.parts.AccountedLemmas.{accounted_in-more, accounted_in-least, copies-accounted, times-more}
+use Rattle.rx_nfa.proofs.lemmas.parts.AccountedLemmas.{accounted_in-more, accounted_in-least, copies-accounted, tail-least, tail-none, times-more}
 use Rattle.rx_nfa.specs.Room.{HasRoom}
 use Rattle.rx_nfa.proofs.lemmas.parts.ExpressionLemmas.{depth_at}
 use Rattle.rx_nfa.proofs.lemmas.parts.BuiltLemmas.{Built-nothing}
@@ -33,6 +33,7 @@ use Rattle.rx_nfa.proofs.lemmas.parts.BuiltLemmas.{Built-then, pushed-length}
 use Rattle.rx_nfa.proofs.lemmas.runs.GroupLemmas.{named-own}
 use Rattle.rx_nfa.proofs.lemmas.parts.SlotLemmas.{Built-group}
 use Rattle.rx_nfa.proofs.lemmas.parts.ChoiceLemmas.{BuiltEach, Built-choice}
+use Rattle.rx_nfa.proofs.lemmas.parts.CompileLemmas.{choice-names, choice-within, choice-own, choice-sorted, choice-silent}
 use Rattle.rx_nfa.proofs.lemmas.parts.CompileLemmas.{patched-length, loop-closed, optional-closed, option-closed, copy-more, tail-star}
 use Rattle.rx_nfa.proofs.compiler.expression.+compile.Goals as goal
 
@@ -677,3 +678,108 @@ compile_options-compile-requires t c =
         ),
       ),
     )
+
+pub compile_loop-patch-requires : goal.compile_loop-patch-requires
+compile_loop-patch-requires t c =
+    let greedy = c.args.repetition.now.greedy in
+    let is = c.in_ok-state.ensures in
+    let draft = c.compile.new.builder in
+    let grown = pushed-grown c.args.builder.now c.push.new.self Fail c.in_ok-choice.ensures.states in
+    let longer = c.in_ok-body.ensures.built.extends.longer in
+    let id = c.in_ok-choice.ensures.id in
+    let next = c.requires.next in
+    record {
+      inside = omega arith;
+      names = choice-names greedy c.in_ok-body.body c.args.next c.in_ok-state.state is (length draft.states) c.in_ok-body.ensures.inside (omega arith);
+      within = choice-within greedy c.in_ok-body.body c.args.next c.in_ok-state.state is (length draft.groups) draft.slots;
+      own = choice-own greedy c.in_ok-body.body c.args.next c.in_ok-state.state is draft.groups;
+      sorted = choice-sorted greedy c.in_ok-body.body c.args.next c.in_ok-state.state is;
+      silent = choice-silent greedy c.in_ok-body.body c.args.next c.in_ok-state.state is;
+    }
+
+pub compile_options-patch-requires : goal.compile_options-patch-requires
+compile_options-patch-requires t c =
+    let greedy = c.args.repetition.now.greedy in
+    let is = c.in_ok-option.ensures in
+    let draft = c.compile.new.builder in
+    let grown = pushed-grown c.loop-option.builder c.push.new.self Fail c.in_ok-choice.ensures.states in
+    let longer = c.in_ok-body.ensures.built.extends.longer in
+    let id = c.in_ok-choice.ensures.id in
+    let next = c.requires.next in
+    let before = c.loop-option.invariant.built.extends.longer in
+    record {
+      inside = omega arith;
+      names = choice-names greedy c.in_ok-body.body c.args.next c.in_ok-option.option is (length draft.states) c.in_ok-body.ensures.inside (omega arith);
+      within = choice-within greedy c.in_ok-body.body c.args.next c.in_ok-option.option is (length draft.groups) draft.slots;
+      own = choice-own greedy c.in_ok-body.body c.args.next c.in_ok-option.option is draft.groups;
+      sorted = choice-sorted greedy c.in_ok-body.body c.args.next c.in_ok-option.option is;
+      silent = choice-silent greedy c.in_ok-body.body c.args.next c.in_ok-option.option is;
+    }
+
+pub compile_unbounded-patch-requires : goal.compile_unbounded-patch-requires
+compile_unbounded-patch-requires t c =
+    let greedy = c.args.repetition.now.greedy in
+    let is = c.in_ok-state.ensures in
+    let draft = c.compile_loop-2.new.builder in
+    let grown = pushed-grown c.args.builder.now c.push.new.self Fail c.in_ok-choice.ensures.states in
+    let longer = c.in_ok-inner.ensures.from_body.extends.longer in
+    let id = c.in_ok-choice.ensures.id in
+    let next = c.requires.next in
+    record {
+      inside = omega arith;
+      names = choice-names greedy c.in_ok-inner.inner.body c.args.next c.in_ok-state.state is (length draft.states) c.in_ok-inner.ensures.inside.1 (omega arith);
+      within = choice-within greedy c.in_ok-inner.inner.body c.args.next c.in_ok-state.state is (length draft.groups) draft.slots;
+      own = choice-own greedy c.in_ok-inner.inner.body c.args.next c.in_ok-state.state is draft.groups;
+      sorted = choice-sorted greedy c.in_ok-inner.inner.body c.args.next c.in_ok-state.state is;
+      silent = choice-silent greedy c.in_ok-inner.inner.body c.args.next c.in_ok-state.state is;
+    }
+
+pub compile_unbounded-compile_loop-requires : goal.compile_unbounded-compile_loop-requires
+compile_unbounded-compile_loop-requires t c =
+    let least = tail-least c.args.repetition.now.min (accounted_states c.args.repetition.now.sub.value) in
+    let fits = c.requires.fits in
+    (omega arith, (c.requires.next, (c.requires.room, omega arith)))
+
+pub compile_unbounded-compile_loop-requires-then-takes_bytes : goal.compile_unbounded-compile_loop-requires-then-takes_bytes
+compile_unbounded-compile_loop-requires-then-takes_bytes t c =
+    let least = tail-least c.args.repetition.now.min (accounted_states c.args.repetition.now.sub.value) in
+    let fits = c.requires.fits in
+    (omega arith, (c.requires.next, (c.requires.room, omega arith)))
+
+pub compile_unbounded-compile_loop-requires-2 : goal.compile_unbounded-compile_loop-requires-2
+compile_unbounded-compile_loop-requires-2 t c =
+    let sub = c.args.repetition.now.sub.value in
+    let none : c.args.repetition.now.min ≡ 0 = omega arith in
+    let most = tail-none c.args.repetition.now.min (accounted_states c.args.repetition.now.sub.value) none in
+    let grown = pushed-grown c.args.builder.now c.push.new.self Fail c.in_ok-choice.ensures.states in
+    let next = c.requires.next in
+    let fits = c.requires.fits in (
+      omega arith,
+      (
+        omega arith,
+        (
+          HasRoom-pushed c.args.builder.now c.push.new.self Fail c.args.groups.now (greatest_group sub) (greatest_group sub) c.in_ok-choice.ensures.states
+              (omega arith) c.requires.room,
+          omega arith,
+        ),
+      ),
+    )
+
+pub compile_unbounded-returns-clause-count : goal.compile_unbounded-returns-clause-count
+compile_unbounded-returns-clause-count t c =
+    let none : c.args.repetition.now.min ≡ 0 = omega arith in
+    let most = tail-none c.args.repetition.now.min (accounted_states c.args.repetition.now.sub.value) none in
+    let grown = pushed-grown c.args.builder.now c.push.new.self Fail c.in_ok-choice.ensures.states in
+    let more = c.in_ok-inner.ensures.count in
+    let written = ap (λ (d : Draft). length d.states) c.patch.ensures in
+    let same = patched-length c.compile_loop-2.new.builder c.in_ok-choice.choice c.in_ok-state.state in
+    omega arith
+
+pub compile_unbounded-returns-clause-inside : goal.compile_unbounded-returns-clause-inside
+compile_unbounded-returns-clause-inside t c =
+    let grown = pushed-grown c.args.builder.now c.push.new.self Fail c.in_ok-choice.ensures.states in
+    let longer = c.in_ok-inner.ensures.from_body.extends.longer in
+    let id = c.in_ok-choice.ensures.id in
+    let written = ap (λ (d : Draft). length d.states) c.patch.ensures in
+    let same = patched-length c.compile_loop-2.new.builder c.in_ok-choice.choice c.in_ok-state.state in
+    omega arith
