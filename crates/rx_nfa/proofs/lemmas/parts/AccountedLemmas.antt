@@ -65,6 +65,14 @@ copies-accounted (suc k) None n ordered = omega arith
 copies-accounted zero (Some m) n ordered = options-accounted zero m n ordered
 copies-accounted (suc k) (Some m) n ordered = options-accounted (suc k) m n ordered
 
+-- what follows the copies has the states of a loop, and one more where no copy must be there
+pub tail-least : (min n : ℕ) → n + 1 ≤ states_of_tail min None n
+tail-least zero n = omega arith
+tail-least (suc k) n = omega arith
+
+pub tail-none : (min n : ℕ) → min ≡ 0 → states_of_tail min None n ≡ n + 2
+tail-none min n none = ap (λ k. states_of_tail k None n) none
+
 -- one expression more, from the back
 pub accounted_in-more : (hs : List Expression) (k : ℕ) (h d : Expression) → 0 < k → k ≤ length hs → h ≡ get_or hs (k - 1) d
     → accounted_in (expressions (drop (k - 1) hs)) ≡ accounted_states h + accounted_in (expressions (drop k hs))

@@ -1,6 +1,6 @@
 -- What the functions of the compiler hand on to one another.
 use Rattle.std.proofs.Common.{◌≡◌, ℕ, zero, suc, ◌+◌, ◌*◌, ◌-◌, ◌≤◌, ◌<◌, List, [], ◌∷◌, ◌++◌, refl, sym, ◌∙◌, ap, subst, arith, length, get_or, take}
-use Rattle.std.specs.Prelude.{Bool, true, false, Option, Some, None, Result, IfOk, IfSome, All, min, ◌^◌, nat_lt, map}
+use Rattle.std.specs.Prelude.{Bool, true, false, Option, Some, None, Result, IfOk, OnOk, IfSome, All, min, ◌^◌, nat_lt, map}
 use Rattle.std.proofs.Math.ListN.{length-set}
 use Rattle.std.proofs.lemmas.Bool.Decides.{nat_tests}
 use Rattle.std.proofs.lemmas.List.{take_more, map-append}
@@ -12,23 +12,33 @@ use Rattle.rx_model.specs.Search.{greatest_group, greatest_in}
 use Rattle.rx_model.proofs.lemmas.runs.RunLemmas.{by_test}
 use Rattle.rx_search.specs.GroupInfo.{groups_at, slot_of_group}
 use Rattle.rx_search.specs.declared.memory.Memory.{Memory}
+use Rattle.rx_hir.specs.Cost.{accounted_states}
 use Rattle.rx_hir.specs.Length.{saturated}
 use Rattle.rx_hir.specs.Normal.{expressions}
+use Rattle.rx_nfa.specs.Automaton.{state_accepts, NamesBelow, IsWithin}
 use Rattle.rx_nfa.specs.Built.{Built, ways}
 use Rattle.rx_nfa.specs.Draft.{Draft, pushed, patched}
 use Rattle.rx_nfa.specs.Repeated.{tail, leading}
 use Rattle.rx_nfa.specs.Room.{HasRoom}
+use Rattle.rx_nfa.specs.Row.{HasSortedTransitions}
+use Rattle.rx_nfa.specs.Slots.{WritesOwnSlots}
 use Rattle.rx_nfa.specs.declared.compiler.groups.Groups.{Groups}
 use Rattle.rx_nfa.specs.declared.state.State.{State}
 use Rattle.rx_nfa.specs.declared.state.State.TheVariants.{Union}
-use Rattle.rx_nfa.proofs.lemmas.parts.BuiltLemmas.{Built-then}
+use Rattle.rx_nfa.proofs.lemmas.parts.BuiltLemmas.{Built-then, pushed-length}
 use Rattle.rx_nfa.proofs.lemmas.parts.LoopLemmas.{Built-loop, Built-loop_once, Built-optional, Built-option}
 use Rattle.rx_nfa.proofs.lemmas.parts.ChoiceLemmas.{BuiltEach, BuiltEach-more}
+use Rattle.rx_nfa.proofs.lemmas.parts.ResultLemmas.{IfOk-both, OnOk-of}
 
 -- the part goes by another name
 pub Built-same : (a b : graph.Builder) (next : ℕ) (old new : Draft) (r : Result ℕ Memory) → a ≡ b → IfOk r (λ start. Built a next old new start)
     → IfOk r (λ start. Built b next old new start)
 Built-same a b next old new r e h = subst (λ part. IfOk r (λ start. Built part next old new start)) e h
+
+-- the states of an expression are accounted for it by another name too
+pub count-same : (h d : Expression) (old new : ℕ) (r : Result ℕ Memory) → h ≡ d → OnOk r (new ≤ old + accounted_states h)
+    → OnOk r (new ≤ old + accounted_states d)
+count-same h d old new r e count = subst (λ x. OnOk r (new ≤ old + accounted_states x)) e count
 
 -- there is room for fewer groups, and in a draft of the same groups and slots
 pub HasRoom-kept : (old new : Draft) (groups : Groups) (m n : ℕ) → new.groups ≡ old.groups → new.slots ≡ old.slots → n ≤ m → HasRoom old groups m
@@ -51,6 +61,29 @@ HasRoom-kept old new groups m n same slots le h =
 
 pub HasRoom-less : (d : Draft) (groups : Groups) (m n : ℕ) → n ≤ m → HasRoom d groups m → HasRoom d groups n
 HasRoom-less d groups m n le h = HasRoom-kept d d groups m n refl refl le h
+
+-- a state was pushed
+pub HasRoom-pushed : (old new : Draft) (state : State) (groups : Groups) (m n : ℕ) → new ≡ pushed old state → n ≤ m → HasRoom old groups m
+    → HasRoom new groups n
+HasRoom-pushed old new state groups m n is le h =
+    HasRoom-kept old new groups m n (ap (λ (d : Draft). d.groups) is) (ap (λ (d : Draft). d.slots) is) le h
+
+pub pushed-grown : (old new : Draft) (state : State) → new ≡ pushed old state → length new.states ≡ length old.states + 1
+pushed-grown old new state is =
+    let same = ap (λ (d : Draft). length d.states) is in
+    let one = pushed-length old state in
+    omega arith
+
+pub pushed-inside : (old new : Draft) (state : State) (r : Result ℕ Memory) → IfOk r (λ q. q ≡ length old.states) → IfOk r (λ q. new ≡ pushed old state)
+    → IfOk r (λ q. q < length new.states)
+pushed-inside old new state r ids grown =
+    IfOk-both (λ q. q ≡ length old.states) (λ q. new ≡ pushed old state) (λ q. q < length new.states) r ids grown
+    (λ q id is. let one = pushed-grown old new state is in omega arith)
+
+pub pushed-count : (old new : Draft) (state : State) (r : Result ℕ Memory) (most : ℕ) → length old.states + 1 ≤ most → IfOk r (λ q. new ≡ pushed old state)
+    → OnOk r (length new.states ≤ most)
+pushed-count old new state r most fits grown =
+    OnOk-of (λ q. new ≡ pushed old state) (length new.states ≤ most) r grown (λ q is. let one = pushed-grown old new state is in omega arith)
 
 pub greatest-at : (hs : List Expression) (k : ℕ) (h d : Expression) → k < length hs → h ≡ get_or hs k d → greatest_group h ≤ greatest_in (expressions hs)
 unfolding greatest_group
@@ -86,6 +119,23 @@ ways-below false n body exit a b = pair n exit body b a
     pair n p q a b zero d lt = a
     pair n p q a b (suc zero) d lt = b
     pair n p q a b (suc (suc k)) d lt = absurd (omega arith)
+
+-- a choice between two ways keeps to all that is asked of a state
+module _ (greedy : Bool) (body exit : ℕ) (state : State) (is : state ≡ Union (ways greedy body exit)) where
+  pub choice-names : (n : ℕ) → body < n → exit < n → NamesBelow n state
+  choice-names n a b = subst (NamesBelow n) (sym is) (ways-below greedy n body exit a b)
+
+  pub choice-within : (patterns slots : ℕ) → IsWithin patterns slots state
+  choice-within patterns slots = subst (IsWithin patterns slots) (sym is) tt
+
+  pub choice-own : (groups : List (List (Option (List ℕ)))) → WritesOwnSlots groups state
+  choice-own groups = subst (WritesOwnSlots groups) (sym is) tt
+
+  pub choice-sorted : HasSortedTransitions state
+  choice-sorted = subst HasSortedTransitions (sym is) tt
+
+  pub choice-silent : state_accepts state ≡ None
+  choice-silent = ap state_accepts is
 
 -- a repetition is its leading copies and its tail
 pub repetition-parts : (consumes : Bool) (min : ℕ) (max : Option ℕ) (greedy : Bool) (body : graph.Builder)

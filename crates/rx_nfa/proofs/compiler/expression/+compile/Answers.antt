@@ -1,4 +1,4 @@
-use Rattle.std.proofs.Common.{◌≡◌, ◌<◌, ◌+◌, ◌-◌, ◌*◌, ◌∙◌, refl, sym, ap, subst, inl, inr, arith, length, drop, take}
+use Rattle.std.proofs.Common.{◌≡◌, ◌<◌, ◌≤◌, ◌+◌, ◌-◌, ◌*◌, ◌∙◌, refl, sym, ap, subst, inl, inr, arith, length, drop, take}
 use Rattle.std.specs.Prelude.{max, false, IfOk, IfSome, map, option_map, string_bytes}
 use Rattle.std.specs.Int.NonZero.{non_zero_usize_get}
 use Rattle.std.proofs.lemmas.List.{take_all}
@@ -7,6 +7,7 @@ use Rattle.rx_model.specs.Expression.{empty, literal, class, look, repetition, c
 use Rattle.rx_model.specs.Graph.{text, build_state, build_group, build_choice, loop_once}
 use Rattle.rx_model.specs.Search.{greatest_group, greatest_in}
 use Rattle.rx_search.specs.GroupInfo.{groups_at, slot_of_group}
+use Rattle.rx_search.specs.Limits.{id_limit}
 use Rattle.rx_search.specs.Look.{kind_of}
 use Rattle.rx_hir.specs.Cost.{accounted_states, accounted_in}
 use Rattle.rx_hir.specs.Sound.{IsSound}
@@ -16,11 +17,11 @@ use Rattle.rx_hir.specs.Depth.{depth}
 use Rattle.rx_class.specs.ClassViews.{class_view}
 use Rattle.rx_hir.specs.HirViews.{kind_view}
 use Rattle.rx_nfa.specs.Built.{Built, slot_from}
-use Rattle.rx_nfa.proofs.lemmas.parts.AccountedLemmas.{accounted_in-more, accounted_in-least, copies-accounted, times-more}
+use Rattle.rx_nfa.proofs.lemmas.parts.AccountedLemmas.{accounted_in-more, accounted_in-least, copies-accounted, tail-least, tail-none, times-more}
 use Rattle.rx_nfa.specs.Room.{HasRoom}
 use Rattle.rx_nfa.proofs.lemmas.parts.ExpressionLemmas.{depth_at}
 use Rattle.rx_nfa.proofs.lemmas.parts.BuiltLemmas.{Built-nothing}
-use Rattle.rx_nfa.proofs.lemmas.parts.CompileLemmas.{Built-same, HasRoom-kept, HasRoom-less, greatest-at, BuiltEach-next, below-more}
+use Rattle.rx_nfa.proofs.lemmas.parts.CompileLemmas.{Built-same, count-same, HasRoom-kept, HasRoom-less, HasRoom-pushed, pushed-grown, pushed-inside, pushed-count, greatest-at, BuiltEach-next, below-more}
 use Rattle.rx_nfa.specs.Directed.{in_order, build_row, build_sides, build_directed, part_for}
 use Rattle.rx_nfa.specs.Draft.{Draft, pushed}
 use Rattle.rx_nfa.proofs.lemmas.parts.OrderLemmas.{in_order-length, in_order-is, accounted-in_order, row-more, row-none, concat-directed, alternation-directed}
@@ -32,6 +33,7 @@ use Rattle.rx_nfa.proofs.lemmas.parts.BuiltLemmas.{Built-then, pushed-length}
 use Rattle.rx_nfa.proofs.lemmas.runs.GroupLemmas.{named-own}
 use Rattle.rx_nfa.proofs.lemmas.parts.SlotLemmas.{Built-group}
 use Rattle.rx_nfa.proofs.lemmas.parts.ChoiceLemmas.{BuiltEach, Built-choice}
+use Rattle.rx_nfa.proofs.lemmas.parts.CompileLemmas.{choice-names, choice-within, choice-own, choice-sorted, choice-silent}
 use Rattle.rx_nfa.proofs.lemmas.parts.CompileLemmas.{patched-length, loop-closed, optional-closed, option-closed, copy-more, tail-star}
 use Rattle.rx_nfa.proofs.compiler.expression.+compile.Goals as goal
 
@@ -443,3 +445,341 @@ compile-returns-in-Class-clause-built t c =
     let is : class (class_view c.in-Class.class) ≡ c.args.hir.now = sym (ap kind_view c.in-Class.is) ∙ c.kind.ensures.value in
     Built-same _ _ c.args.next c.args.builder.now c.push_class.new.self c.push_class.result
     (ap (part_for c.args.groups.now) is) c.push_class.ensures.built
+
+pub compile-returns-in-Empty-clause-inside : goal.compile-returns-in-Empty-clause-inside
+compile-returns-in-Empty-clause-inside t c = c.requires.next
+
+pub compile-returns-in-Empty-clause-count : goal.compile-returns-in-Empty-clause-count
+compile-returns-in-Empty-clause-count t c = omega arith
+
+pub compile-returns-in-Empty-clause-sound : goal.compile-returns-in-Empty-clause-sound
+compile-returns-in-Empty-clause-sound t c = c.kind.ensures.sound
+
+pub compile-returns-in-Class-clause-inside : goal.compile-returns-in-Class-clause-inside
+compile-returns-in-Class-clause-inside t c = c.push_class.ensures.inside
+
+pub compile-returns-in-Class-clause-count : goal.compile-returns-in-Class-clause-count
+compile-returns-in-Class-clause-count t c =
+    let is : class (class_view c.in-Class.class) ≡ c.args.hir.now = sym (ap kind_view c.in-Class.is) ∙ c.kind.ensures.value in
+    count-same _ _ (length c.args.builder.now.states) (length c.push_class.new.self.states) c.push_class.result is c.push_class.ensures.count
+
+pub compile-returns-in-Class-clause-sound : goal.compile-returns-in-Class-clause-sound
+compile-returns-in-Class-clause-sound t c = c.kind.ensures.sound
+
+pub compile-returns-in-Literal-clause-inside : goal.compile-returns-in-Literal-clause-inside
+compile-returns-in-Literal-clause-inside t c = c.compile_literal.ensures.inside
+
+pub compile-returns-in-Literal-clause-count : goal.compile-returns-in-Literal-clause-count
+compile-returns-in-Literal-clause-count t c =
+    let is : literal c.deref.result.now ≡ c.args.hir.now = ap literal c.deref.ensures.value ∙ sym (ap kind_view c.in-Literal.is) ∙ c.kind.ensures.value in
+    count-same _ _ (length c.args.builder.now.states) (length c.compile_literal.new.builder.states) c.compile_literal.result is c.compile_literal.ensures.count
+
+pub compile-returns-in-Literal-clause-sound : goal.compile-returns-in-Literal-clause-sound
+compile-returns-in-Literal-clause-sound t c = c.kind.ensures.sound
+
+pub compile-returns-in-Look-clause-inside : goal.compile-returns-in-Look-clause-inside
+compile-returns-in-Look-clause-inside t c = c.compile_look.ensures.inside
+
+pub compile-returns-in-Look-clause-count : goal.compile-returns-in-Look-clause-count
+compile-returns-in-Look-clause-count t c =
+    let is : look (kind_of c.in-Look.look) ≡ c.args.hir.now = sym (ap kind_view c.in-Look.is) ∙ c.kind.ensures.value in
+    count-same _ _ (length c.args.builder.now.states) (length c.compile_look.new.builder.states) c.compile_look.result is c.compile_look.ensures.count
+
+pub compile-returns-in-Look-clause-sound : goal.compile-returns-in-Look-clause-sound
+compile-returns-in-Look-clause-sound t c = c.kind.ensures.sound
+
+pub compile-returns-in-Repetition-clause-inside : goal.compile-returns-in-Repetition-clause-inside
+compile-returns-in-Repetition-clause-inside t c = c.compile_repetition.ensures.inside
+
+pub compile-returns-in-Repetition-clause-count : goal.compile-returns-in-Repetition-clause-count
+compile-returns-in-Repetition-clause-count t c =
+    let r = c.in-Repetition.repetition in
+    let is : repetition r.min r.max r.greedy r.sub.value ≡ c.args.hir.now = sym (ap kind_view c.in-Repetition.is) ∙ c.kind.ensures.value in
+    count-same _ _ (length c.args.builder.now.states) (length c.compile_repetition.new.builder.states) c.compile_repetition.result is c.compile_repetition.ensures.count
+
+pub compile-returns-in-Repetition-clause-sound : goal.compile-returns-in-Repetition-clause-sound
+compile-returns-in-Repetition-clause-sound t c = c.kind.ensures.sound
+
+pub compile-returns-in-Capture-clause-inside : goal.compile-returns-in-Capture-clause-inside
+compile-returns-in-Capture-clause-inside t c = c.compile_capture.ensures.inside
+
+pub compile-returns-in-Capture-clause-count : goal.compile-returns-in-Capture-clause-count
+compile-returns-in-Capture-clause-count t c =
+    let g = c.in-Capture.capture in
+    let is : capture (non_zero_usize_get g.index) (option_map string_bytes g.name) g.sub.value ≡ c.args.hir.now = sym (ap kind_view c.in-Capture.is) ∙ c.kind.ensures.value in
+    count-same _ _ (length c.args.builder.now.states) (length c.compile_capture.new.builder.states) c.compile_capture.result is c.compile_capture.ensures.count
+
+pub compile-returns-in-Capture-clause-sound : goal.compile-returns-in-Capture-clause-sound
+compile-returns-in-Capture-clause-sound t c = c.kind.ensures.sound
+
+pub compile-returns-in-Concat-clause-inside : goal.compile-returns-in-Concat-clause-inside
+compile-returns-in-Concat-clause-inside t c = c.compile_concat.ensures.inside
+
+pub compile-returns-in-Concat-clause-count : goal.compile-returns-in-Concat-clause-count
+compile-returns-in-Concat-clause-count t c =
+    let is : concat (expressions c.deref-in-Concat.result.now) ≡ c.args.hir.now = ap (λ hs. concat (expressions hs)) c.deref-in-Concat.ensures.value ∙ sym (ap kind_view c.in-Concat.is) ∙ c.kind.ensures.value in
+    count-same _ _ (length c.args.builder.now.states) (length c.compile_concat.new.builder.states) c.compile_concat.result is c.compile_concat.ensures.count
+
+pub compile-returns-in-Concat-clause-sound : goal.compile-returns-in-Concat-clause-sound
+compile-returns-in-Concat-clause-sound t c = c.kind.ensures.sound
+
+pub compile-returns-in-Alternation-clause-inside : goal.compile-returns-in-Alternation-clause-inside
+compile-returns-in-Alternation-clause-inside t c = c.compile_alternation.ensures.inside
+
+pub compile-returns-in-Alternation-clause-count : goal.compile-returns-in-Alternation-clause-count
+compile-returns-in-Alternation-clause-count t c =
+    let is : alternation (expressions c.deref-in-Alternation.result.now) ≡ c.args.hir.now = ap (λ hs. alternation (expressions hs)) c.deref-in-Alternation.ensures.value ∙ sym (ap kind_view c.in-Alternation.is) ∙ c.kind.ensures.value in
+    count-same _ _ (length c.args.builder.now.states) (length c.compile_alternation.new.builder.states) c.compile_alternation.result is c.compile_alternation.ensures.count
+
+pub compile-returns-in-Alternation-clause-sound : goal.compile-returns-in-Alternation-clause-sound
+compile-returns-in-Alternation-clause-sound t c = c.kind.ensures.sound
+
+pub compile-compile_literal-requires : goal.compile-compile_literal-requires
+compile-compile_literal-requires t c =
+    let is : literal c.deref.result.now ≡ c.args.hir.now =
+    ap literal c.deref.ensures.value ∙ sym (ap kind_view c.in-Literal.is) ∙ c.kind.ensures.value in
+    record {
+      next = c.requires.next;
+      some = subst IsSound (sym is) c.kind.ensures.sound;
+      fits = subst (λ h. length c.args.builder.now.states + accounted_states h ≤ id_limit) (sym is) c.requires.fits;
+    }
+
+pub compile-compile_look-requires : goal.compile-compile_look-requires
+compile-compile_look-requires t c =
+    let is : look (kind_of c.in-Look.look) ≡ c.args.hir.now = sym (ap kind_view c.in-Look.is) ∙ c.kind.ensures.value in
+    record {
+      next = c.requires.next;
+      fits =
+          (let fits = subst (λ h. length c.args.builder.now.states + accounted_states h ≤ id_limit) (sym is) c.requires.fits in
+          omega arith);
+    }
+
+pub compile-push_class-requires : goal.compile-push_class-requires
+compile-push_class-requires t c =
+    let is : class (class_view c.in-Class.class) ≡ c.args.hir.now = sym (ap kind_view c.in-Class.is) ∙ c.kind.ensures.value in
+    record {
+      next = c.requires.next;
+      room = subst (λ h. length c.args.builder.now.states + accounted_states h ≤ id_limit) (sym is) c.requires.fits;
+    }
+
+pub compile_capture-compile-requires : goal.compile_capture-compile-requires
+compile_capture-compile-requires t c =
+    let deep = ap depth c.deref.ensures in
+    let groups : greatest_group c.deref.result.now ≡ greatest_group c.args.capture.now.sub.value = ap greatest_group c.deref.ensures in
+    let states = ap accounted_states c.deref.ensures in
+    let fits = c.requires.fits in
+    (omega arith, (c.requires.next, (subst (HasRoom c.args.builder.now c.args.groups.now) (sym groups) c.requires.room, omega arith)))
+
+pub compile_capture-compile-requires-2 : goal.compile_capture-compile-requires-2
+compile_capture-compile-requires-2 t c =
+    let sub = c.args.capture.now.sub.value in
+    let slot = Slot c.args.next c.args.groups.now.pattern (c.in-Some.first + 2 * (c.get.result - 1) + 1) in
+    let deep = ap depth c.deref-2.ensures in
+    let groups : greatest_group c.deref-2.result.now ≡ greatest_group sub = ap greatest_group c.deref-2.ensures in
+    let states = ap accounted_states c.deref-2.ensures in
+    let grown = pushed-grown c.args.builder.now c.push.new.self slot c.in_ok-close.ensures.states in
+    let id = c.in_ok-close.ensures.id in
+    let fits = c.requires.fits in (
+      omega arith,
+      (
+        omega arith,
+        (
+          HasRoom-pushed c.args.builder.now c.push.new.self slot c.args.groups.now (greatest_group sub) (greatest_group c.deref-2.result.now)
+              c.in_ok-close.ensures.states (omega arith) c.requires.room,
+          omega arith,
+        ),
+      ),
+    )
+
+pub compile_capture-returns-clause-inside : goal.compile_capture-returns-clause-inside
+compile_capture-returns-clause-inside t c =
+    pushed-inside c.compile-2.new.builder c.push-2.new.self
+    (Slot c.in_ok-body.body c.args.groups.now.pattern (c.in-Some.first + 2 * (c.get.result - 1))) c.push-2.result c.push-2.ensures.id c.push-2.ensures.states
+
+pub compile_capture-returns-clause-count : goal.compile_capture-returns-clause-count
+compile_capture-returns-clause-count t c =
+    let slot = Slot c.args.next c.args.groups.now.pattern (c.in-Some.first + 2 * (c.get.result - 1) + 1) in
+    let states = ap accounted_states c.deref-2.ensures in
+    let grown = pushed-grown c.args.builder.now c.push.new.self slot c.in_ok-close.ensures.states in
+    let more = c.in_ok-body.ensures.count in
+    pushed-count c.compile-2.new.builder c.push-2.new.self
+    (Slot c.in_ok-body.body c.args.groups.now.pattern (c.in-Some.first + 2 * (c.get.result - 1))) c.push-2.result _ (omega arith) c.push-2.ensures.states
+
+pub compile_alternation-returns-clause-inside : goal.compile_alternation-returns-clause-inside
+compile_alternation-returns-clause-inside t c =
+    pushed-inside c.loop-sub.builder c.push-2.new.self (Union c.new.result) c.push-2.result c.push-2.ensures.id c.push-2.ensures.states
+
+pub compile_alternation-returns-clause-count : goal.compile_alternation-returns-clause-count
+compile_alternation-returns-clause-count t c =
+    let count = c.loop-sub.invariant.count in
+    pushed-count c.loop-sub.builder c.push-2.new.self (Union c.new.result) c.push-2.result _ (omega arith) c.push-2.ensures.states
+
+pub compile_loop-compile-requires : goal.compile_loop-compile-requires
+compile_loop-compile-requires t c =
+    let sub = c.args.repetition.now.sub.value in
+    let deep = ap depth c.deref.ensures in
+    let groups : greatest_group c.deref.result.now ≡ greatest_group sub = ap greatest_group c.deref.ensures in
+    let states = ap accounted_states c.deref.ensures in
+    let grown = pushed-grown c.args.builder.now c.push.new.self Fail c.in_ok-choice.ensures.states in
+    let id = c.in_ok-choice.ensures.id in
+    let fits = c.requires.fits in (
+      omega arith,
+      (
+        omega arith,
+        (
+          HasRoom-pushed c.args.builder.now c.push.new.self Fail c.args.groups.now (greatest_group sub) (greatest_group c.deref.result.now)
+              c.in_ok-choice.ensures.states (omega arith) c.requires.room,
+          omega arith,
+        ),
+      ),
+    )
+
+pub compile_loop-returns-clause-inside : goal.compile_loop-returns-clause-inside
+compile_loop-returns-clause-inside t c =
+    let grown = pushed-grown c.args.builder.now c.push.new.self Fail c.in_ok-choice.ensures.states in
+    let longer = c.in_ok-body.ensures.built.extends.longer in
+    let written = ap (λ (d : Draft). length d.states) c.patch.ensures in
+    let same = patched-length c.compile.new.builder c.in_ok-choice.choice c.in_ok-state.state in
+    let id = c.in_ok-choice.ensures.id in
+    let inside = c.in_ok-body.ensures.inside in
+    (omega arith, omega arith)
+
+pub compile_loop-returns-clause-count : goal.compile_loop-returns-clause-count
+compile_loop-returns-clause-count t c =
+    let states = ap accounted_states c.deref.ensures in
+    let grown = pushed-grown c.args.builder.now c.push.new.self Fail c.in_ok-choice.ensures.states in
+    let more = c.in_ok-body.ensures.count in
+    let written = ap (λ (d : Draft). length d.states) c.patch.ensures in
+    let same = patched-length c.compile.new.builder c.in_ok-choice.choice c.in_ok-state.state in
+    omega arith
+
+pub compile_options-compile-requires : goal.compile_options-compile-requires
+compile_options-compile-requires t c =
+    let sub = c.args.repetition.now.sub.value in
+    let n = accounted_states c.args.repetition.now.sub.value in
+    let deep = ap depth c.deref.ensures in
+    let groups : greatest_group c.deref.result.now ≡ greatest_group c.args.repetition.now.sub.value = ap greatest_group c.deref.ensures in
+    let states = ap accounted_states c.deref.ensures in
+    let grown = pushed-grown c.loop-option.builder c.push.new.self Fail c.in_ok-choice.ensures.states in
+    let b = c.loop-option.invariant.built.extends in
+    let inside = c.loop-option.invariant.inside in
+    let count = c.loop-option.invariant.count in
+    let more = times-more c.loop-option._option c.args.count (accounted_states c.args.repetition.now.sub.value + 1) (omega arith) in
+    let fits = c.requires.fits in (
+      omega arith,
+      (
+        omega arith,
+        (
+          HasRoom-pushed c.loop-option.builder c.push.new.self Fail c.args.groups.now (greatest_group sub) (greatest_group c.deref.result.now)
+              c.in_ok-choice.ensures.states (omega arith)
+              (HasRoom-kept c.args.builder.now c.loop-option.builder c.args.groups.now (greatest_group sub) (greatest_group sub) b.groups b.slots (omega arith)
+              c.requires.room),
+          omega arith,
+        ),
+      ),
+    )
+
+pub compile_loop-patch-requires : goal.compile_loop-patch-requires
+compile_loop-patch-requires t c =
+    let greedy = c.args.repetition.now.greedy in
+    let is = c.in_ok-state.ensures in
+    let draft = c.compile.new.builder in
+    let grown = pushed-grown c.args.builder.now c.push.new.self Fail c.in_ok-choice.ensures.states in
+    let longer = c.in_ok-body.ensures.built.extends.longer in
+    let id = c.in_ok-choice.ensures.id in
+    let next = c.requires.next in
+    record {
+      inside = omega arith;
+      names = choice-names greedy c.in_ok-body.body c.args.next c.in_ok-state.state is (length draft.states) c.in_ok-body.ensures.inside (omega arith);
+      within = choice-within greedy c.in_ok-body.body c.args.next c.in_ok-state.state is (length draft.groups) draft.slots;
+      own = choice-own greedy c.in_ok-body.body c.args.next c.in_ok-state.state is draft.groups;
+      sorted = choice-sorted greedy c.in_ok-body.body c.args.next c.in_ok-state.state is;
+      silent = choice-silent greedy c.in_ok-body.body c.args.next c.in_ok-state.state is;
+    }
+
+pub compile_options-patch-requires : goal.compile_options-patch-requires
+compile_options-patch-requires t c =
+    let greedy = c.args.repetition.now.greedy in
+    let is = c.in_ok-option.ensures in
+    let draft = c.compile.new.builder in
+    let grown = pushed-grown c.loop-option.builder c.push.new.self Fail c.in_ok-choice.ensures.states in
+    let longer = c.in_ok-body.ensures.built.extends.longer in
+    let id = c.in_ok-choice.ensures.id in
+    let next = c.requires.next in
+    let before = c.loop-option.invariant.built.extends.longer in
+    record {
+      inside = omega arith;
+      names = choice-names greedy c.in_ok-body.body c.args.next c.in_ok-option.option is (length draft.states) c.in_ok-body.ensures.inside (omega arith);
+      within = choice-within greedy c.in_ok-body.body c.args.next c.in_ok-option.option is (length draft.groups) draft.slots;
+      own = choice-own greedy c.in_ok-body.body c.args.next c.in_ok-option.option is draft.groups;
+      sorted = choice-sorted greedy c.in_ok-body.body c.args.next c.in_ok-option.option is;
+      silent = choice-silent greedy c.in_ok-body.body c.args.next c.in_ok-option.option is;
+    }
+
+pub compile_unbounded-patch-requires : goal.compile_unbounded-patch-requires
+compile_unbounded-patch-requires t c =
+    let greedy = c.args.repetition.now.greedy in
+    let is = c.in_ok-state.ensures in
+    let draft = c.compile_loop-2.new.builder in
+    let grown = pushed-grown c.args.builder.now c.push.new.self Fail c.in_ok-choice.ensures.states in
+    let longer = c.in_ok-inner.ensures.from_body.extends.longer in
+    let id = c.in_ok-choice.ensures.id in
+    let next = c.requires.next in
+    record {
+      inside = omega arith;
+      names = choice-names greedy c.in_ok-inner.inner.body c.args.next c.in_ok-state.state is (length draft.states) c.in_ok-inner.ensures.inside.1 (omega arith);
+      within = choice-within greedy c.in_ok-inner.inner.body c.args.next c.in_ok-state.state is (length draft.groups) draft.slots;
+      own = choice-own greedy c.in_ok-inner.inner.body c.args.next c.in_ok-state.state is draft.groups;
+      sorted = choice-sorted greedy c.in_ok-inner.inner.body c.args.next c.in_ok-state.state is;
+      silent = choice-silent greedy c.in_ok-inner.inner.body c.args.next c.in_ok-state.state is;
+    }
+
+pub compile_unbounded-compile_loop-requires : goal.compile_unbounded-compile_loop-requires
+compile_unbounded-compile_loop-requires t c =
+    let least = tail-least c.args.repetition.now.min (accounted_states c.args.repetition.now.sub.value) in
+    let fits = c.requires.fits in
+    (omega arith, (c.requires.next, (c.requires.room, omega arith)))
+
+pub compile_unbounded-compile_loop-requires-then-takes_bytes : goal.compile_unbounded-compile_loop-requires-then-takes_bytes
+compile_unbounded-compile_loop-requires-then-takes_bytes t c =
+    let least = tail-least c.args.repetition.now.min (accounted_states c.args.repetition.now.sub.value) in
+    let fits = c.requires.fits in
+    (omega arith, (c.requires.next, (c.requires.room, omega arith)))
+
+pub compile_unbounded-compile_loop-requires-2 : goal.compile_unbounded-compile_loop-requires-2
+compile_unbounded-compile_loop-requires-2 t c =
+    let sub = c.args.repetition.now.sub.value in
+    let none : c.args.repetition.now.min ≡ 0 = omega arith in
+    let most = tail-none c.args.repetition.now.min (accounted_states c.args.repetition.now.sub.value) none in
+    let grown = pushed-grown c.args.builder.now c.push.new.self Fail c.in_ok-choice.ensures.states in
+    let next = c.requires.next in
+    let fits = c.requires.fits in (
+      omega arith,
+      (
+        omega arith,
+        (
+          HasRoom-pushed c.args.builder.now c.push.new.self Fail c.args.groups.now (greatest_group sub) (greatest_group sub) c.in_ok-choice.ensures.states
+              (omega arith) c.requires.room,
+          omega arith,
+        ),
+      ),
+    )
+
+pub compile_unbounded-returns-clause-count : goal.compile_unbounded-returns-clause-count
+compile_unbounded-returns-clause-count t c =
+    let none : c.args.repetition.now.min ≡ 0 = omega arith in
+    let most = tail-none c.args.repetition.now.min (accounted_states c.args.repetition.now.sub.value) none in
+    let grown = pushed-grown c.args.builder.now c.push.new.self Fail c.in_ok-choice.ensures.states in
+    let more = c.in_ok-inner.ensures.count in
+    let written = ap (λ (d : Draft). length d.states) c.patch.ensures in
+    let same = patched-length c.compile_loop-2.new.builder c.in_ok-choice.choice c.in_ok-state.state in
+    omega arith
+
+pub compile_unbounded-returns-clause-inside : goal.compile_unbounded-returns-clause-inside
+compile_unbounded-returns-clause-inside t c =
+    let grown = pushed-grown c.args.builder.now c.push.new.self Fail c.in_ok-choice.ensures.states in
+    let longer = c.in_ok-inner.ensures.from_body.extends.longer in
+    let id = c.in_ok-choice.ensures.id in
+    let written = ap (λ (d : Draft). length d.states) c.patch.ensures in
+    let same = patched-length c.compile_loop-2.new.builder c.in_ok-choice.choice c.in_ok-state.state in
+    omega arith
