@@ -4,10 +4,13 @@ use Rattle.std.specs.Option.{option_map}
 use Rattle.std.proofs.lemmas.Option.{slice_get-map}
 use Rattle.rx_dfa.specs.StateKey.{key_of}
 use Rattle.rx_dfa.specs.States.{IsState}
+use Rattle.rx_dfa.specs.Dense.{IsRefused}
 use Rattle.rx_dfa.specs.Job.{dfa_in}
 use Rattle.rx_dfa.specs.Found.{plain_keys, special_keys}
 use Rattle.rx_dfa.specs.declared.dense.rows.Cells.{Cells}
-use Rattle.rx_dfa.proofs.lemmas.FilledLemmas.{few-rows, plain-filled, special-filled, plain-within, special-within}
+use Rattle.rx_dfa.proofs.lemmas.FilledLemmas.{few-rows, all-rows, made-refused, plain-filled, special-filled, plain-within, special-within}
+use Rattle.rx_dfa.proofs.lemmas.FindLemmas.{memory-refused}
+use Rattle.rx_dfa.proofs.lemmas.RowLemmas.{grows-same}
 use Rattle.rx_dfa.proofs.dense.rows.fill_next.Goals as goal
 
 pub push_row-requires-clause-state : goal.push_row-requires-clause-state
@@ -94,3 +97,47 @@ pub overflow_add-cells : goal.overflow_add-cells
 overflow_add-cells c =
     let few = few-rows c.args.found.now c.args.cells.now c.requires.within in
     omega arith
+
+pub returns-in_err-copy-clause-grows : goal.returns-in_err-copy-clause-grows
+returns-in_err-copy-clause-grows c = grows-same c.args.found.now
+
+pub returns-in_err-copy-clause-made : goal.returns-in_err-copy-clause-made
+returns-in_err-copy-clause-made c =
+    let f = c.args.found.now in
+    made-refused (dfa_in c.args.job.now) f f _ c.from_residual.result c.requires.found c.from_residual.ensures.1 (memory-refused (dfa_in c.args.job.now) f.stride f.limit)
+
+pub returns-in_err-push_row-clause-made : goal.returns-in_err-push_row-clause-made
+returns-in_err-push_row-clause-made c =
+    let d = dfa_in c.args.job.now in
+    let f = c.args.found.now in
+    made-refused d f c.push_row.new.found _ c.from_residual-in_err-push_row.result c.in_err-push_row.ensures.made.found c.from_residual-in_err-push_row.ensures.1
+    (λ e same. subst (IsRefused d f.stride f.limit) (sym same) c.in_err-push_row.ensures.made.err)
+
+pub returns-in_err-copy-2-clause-grows : goal.returns-in_err-copy-2-clause-grows
+returns-in_err-copy-2-clause-grows c = grows-same c.args.found.now
+
+pub returns-in_err-copy-2-clause-made : goal.returns-in_err-copy-2-clause-made
+returns-in_err-copy-2-clause-made c =
+    let f = c.args.found.now in
+    made-refused (dfa_in c.args.job.now) f f _ c.from_residual-in_err-copy-2.result c.requires.found c.from_residual-in_err-copy-2.ensures.1 (memory-refused (dfa_in c.args.job.now) f.stride f.limit)
+
+pub returns-in_err-push_row-2-clause-made : goal.returns-in_err-push_row-2-clause-made
+returns-in_err-push_row-2-clause-made c =
+    let d = dfa_in c.args.job.now in
+    let f = c.args.found.now in
+    made-refused d f c.push_row-in-Some-get_index.new.found _ c.from_residual-in_err-push_row-2.result c.in_err-push_row-2.ensures.made.found c.from_residual-in_err-push_row-2.ensures.1
+    (λ e same. subst (IsRefused d f.stride f.limit) (sym same) c.in_err-push_row-2.ensures.made.err)
+
+pub returns-clause-grows : goal.returns-clause-grows
+returns-clause-grows c = grows-same c.args.found.now
+
+pub returns-clause-all : goal.returns-clause-all
+returns-clause-all c _ =
+    let f = c.args.found.now in
+    let cells = c.args.cells.now in (
+      all-rows f.plain.keys cells.plain_rows c.in_default.ensures.found.1 c.requires.within.plain,
+      all-rows f.special.keys cells.special_rows c.in_default-get_index.ensures.found.1 c.requires.within.special,
+    )
+
+pub returns-clause-made : goal.returns-clause-made
+returns-clause-made c = record { found = c.requires.found; ok = c.requires.filled; err = tt }
