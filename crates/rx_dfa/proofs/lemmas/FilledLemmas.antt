@@ -1,6 +1,6 @@
 -- A row that is whole, one that is appended to those of its sort, and the table of all rows.
 use Rattle.std.proofs.Common.{◌≡◌, ℕ, zero, suc, ◌+◌, ◌-◌, ◌*◌, ◌<◌, ◌≤◌, inl, inr, List, [], ◌∷◌, ◌++◌, map, take, replicate, length, get_or, refl, sym, ◌∙◌, ap, subst, arith, true≢false}
-use Rattle.std.specs.Prelude.{true, false, Some, Result, IsErrAnd, slice_get, slice_index}
+use Rattle.std.specs.Prelude.{true, false, Some, Result, IfOk, IsErrAnd, slice_get, slice_index}
 use Rattle.std.proofs.lemmas.Bool.{cases_lt}
 use Rattle.std.proofs.lemmas.List.{length-append, length-map, length-replicate, get_or_append_left, get_or-append_right, take_all}
 use Rattle.std.proofs.lemmas.Option.{slice_get_within}
@@ -99,12 +99,16 @@ all-rows keys rows past within =
       | inr le ↦ omega arith
     ]
 
+-- what a clause says of what was made, where an error is handed on
+pub unmade : {A : Type 0} (P : A → Type 0) (Q : BuildError → Type 0) (r : Result A BuildError) → IsErrAnd r Q → IfOk r P
+unmade P Q r is = let e = err_from_is_err_and r is in rw (e.1) tt
+
 -- an error that has its cause, where nothing was made
 pub made-refused : {A : Type 0} {Q : BuildError → Type 0} (d : Dfa) (old new : Found) (P : A → Type 0) (r : Result A BuildError) → AreFound d new
     → IsErrAnd r Q → ((e : BuildError) → Q e → IsRefused d old.stride old.limit e) → IsMade d old new P r
-made-refused d old new P r found is refused =
+made-refused {Q = Q} d old new P r found is refused =
     let e = err_from_is_err_and r is in
-    record { found = found; ok = rw (e.1) tt; err = rw (e.1) (refused (e.0) (e.2)) }
+    record { found = found; ok = unmade P Q r is; err = rw (e.1) (refused (e.0) (e.2)) }
 
 module _ (d : Dfa) (old new : Found) (grows : Grows old new) (c later : Cells) (within : AreWithin old c) (filled : AreFilled d old c) (k : Key) where
   plain-grown : AreRows d new.stride (IsNumber new) (plain_keys new) c.plain_rows c.plain.items

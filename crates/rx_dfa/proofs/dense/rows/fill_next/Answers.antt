@@ -1,4 +1,4 @@
-use Rattle.std.proofs.Common.{◌≡◌, ◌+◌, refl, sym, ◌∙◌, ap, subst, arith}
+use Rattle.std.proofs.Common.{◌≡◌, ◌+◌, refl, sym, ◌∙◌, ap, subst, arith, true≢false}
 use Rattle.std.specs.Prelude.{Some, slice_get}
 use Rattle.std.specs.Option.{option_map}
 use Rattle.std.proofs.lemmas.Option.{slice_get-map}
@@ -8,7 +8,7 @@ use Rattle.rx_dfa.specs.Dense.{IsRefused}
 use Rattle.rx_dfa.specs.Job.{dfa_in}
 use Rattle.rx_dfa.specs.Found.{plain_keys, special_keys}
 use Rattle.rx_dfa.specs.declared.dense.rows.Cells.{Cells}
-use Rattle.rx_dfa.proofs.lemmas.FilledLemmas.{few-rows, all-rows, made-refused, plain-filled, special-filled, plain-within, special-within}
+use Rattle.rx_dfa.proofs.lemmas.FilledLemmas.{few-rows, all-rows, unmade, made-refused, plain-filled, special-filled, plain-within, special-within}
 use Rattle.rx_dfa.proofs.lemmas.FindLemmas.{memory-refused}
 use Rattle.rx_dfa.proofs.lemmas.RowLemmas.{grows-same}
 use Rattle.rx_dfa.proofs.dense.rows.fill_next.Goals as goal
@@ -103,14 +103,16 @@ returns-in_err-copy-clause-grows c = grows-same c.args.found.now
 
 pub returns-in_err-copy-clause-made : goal.returns-in_err-copy-clause-made
 returns-in_err-copy-clause-made c =
+    let d = dfa_in c.args.job.now in
     let f = c.args.found.now in
-    made-refused (dfa_in c.args.job.now) f f _ c.from_residual.result c.requires.found c.from_residual.ensures.1 (memory-refused (dfa_in c.args.job.now) f.stride f.limit)
+    made-refused d f f _ c.from_residual.result c.requires.found c.from_residual.ensures.1 (memory-refused d f.stride f.limit)
 
 pub returns-in_err-push_row-clause-made : goal.returns-in_err-push_row-clause-made
 returns-in_err-push_row-clause-made c =
     let d = dfa_in c.args.job.now in
     let f = c.args.found.now in
-    made-refused d f c.push_row.new.found _ c.from_residual-in_err-push_row.result c.in_err-push_row.ensures.made.found c.from_residual-in_err-push_row.ensures.1
+    made-refused d f c.push_row.new.found _ c.from_residual-in_err-push_row.result c.in_err-push_row.ensures.made.found
+    c.from_residual-in_err-push_row.ensures.1
     (λ e same. subst (IsRefused d f.stride f.limit) (sym same) c.in_err-push_row.ensures.made.err)
 
 pub returns-in_err-copy-2-clause-grows : goal.returns-in_err-copy-2-clause-grows
@@ -118,14 +120,16 @@ returns-in_err-copy-2-clause-grows c = grows-same c.args.found.now
 
 pub returns-in_err-copy-2-clause-made : goal.returns-in_err-copy-2-clause-made
 returns-in_err-copy-2-clause-made c =
+    let d = dfa_in c.args.job.now in
     let f = c.args.found.now in
-    made-refused (dfa_in c.args.job.now) f f _ c.from_residual-in_err-copy-2.result c.requires.found c.from_residual-in_err-copy-2.ensures.1 (memory-refused (dfa_in c.args.job.now) f.stride f.limit)
+    made-refused d f f _ c.from_residual-in_err-copy-2.result c.requires.found c.from_residual-in_err-copy-2.ensures.1 (memory-refused d f.stride f.limit)
 
 pub returns-in_err-push_row-2-clause-made : goal.returns-in_err-push_row-2-clause-made
 returns-in_err-push_row-2-clause-made c =
     let d = dfa_in c.args.job.now in
     let f = c.args.found.now in
-    made-refused d f c.push_row-in-Some-get_index.new.found _ c.from_residual-in_err-push_row-2.result c.in_err-push_row-2.ensures.made.found c.from_residual-in_err-push_row-2.ensures.1
+    made-refused d f c.push_row-in-Some-get_index.new.found _ c.from_residual-in_err-push_row-2.result c.in_err-push_row-2.ensures.made.found
+    c.from_residual-in_err-push_row-2.ensures.1
     (λ e same. subst (IsRefused d f.stride f.limit) (sym same) c.in_err-push_row-2.ensures.made.err)
 
 pub returns-clause-grows : goal.returns-clause-grows
@@ -141,3 +145,75 @@ returns-clause-all c _ =
 
 pub returns-clause-made : goal.returns-clause-made
 returns-clause-made c = record { found = c.requires.found; ok = c.requires.filled; err = tt }
+
+pub returns-in_err-copy-clause-count : goal.returns-in_err-copy-clause-count
+returns-in_err-copy-clause-count c = unmade _ _ c.from_residual.result c.from_residual.ensures.1
+
+pub returns-in_err-copy-clause-known : goal.returns-in_err-copy-clause-known
+returns-in_err-copy-clause-known c = unmade _ _ c.from_residual.result c.from_residual.ensures.1
+
+pub returns-in_err-copy-clause-within : goal.returns-in_err-copy-clause-within
+returns-in_err-copy-clause-within c = unmade _ _ c.from_residual.result c.from_residual.ensures.1
+
+pub returns-in_err-copy-clause-more : goal.returns-in_err-copy-clause-more
+returns-in_err-copy-clause-more c = unmade _ _ c.from_residual.result c.from_residual.ensures.1
+
+pub returns-in_err-copy-clause-all : goal.returns-in_err-copy-clause-all
+returns-in_err-copy-clause-all c = unmade _ _ c.from_residual.result c.from_residual.ensures.1
+
+pub returns-in_err-push_row-clause-count : goal.returns-in_err-push_row-clause-count
+returns-in_err-push_row-clause-count c = unmade _ _ c.from_residual-in_err-push_row.result c.from_residual-in_err-push_row.ensures.1
+
+pub returns-in_err-push_row-clause-known : goal.returns-in_err-push_row-clause-known
+returns-in_err-push_row-clause-known c = unmade _ _ c.from_residual-in_err-push_row.result c.from_residual-in_err-push_row.ensures.1
+
+pub returns-in_err-push_row-clause-within : goal.returns-in_err-push_row-clause-within
+returns-in_err-push_row-clause-within c = unmade _ _ c.from_residual-in_err-push_row.result c.from_residual-in_err-push_row.ensures.1
+
+pub returns-in_err-push_row-clause-more : goal.returns-in_err-push_row-clause-more
+returns-in_err-push_row-clause-more c = unmade _ _ c.from_residual-in_err-push_row.result c.from_residual-in_err-push_row.ensures.1
+
+pub returns-in_err-push_row-clause-all : goal.returns-in_err-push_row-clause-all
+returns-in_err-push_row-clause-all c = unmade _ _ c.from_residual-in_err-push_row.result c.from_residual-in_err-push_row.ensures.1
+
+pub returns-in_err-copy-2-clause-count : goal.returns-in_err-copy-2-clause-count
+returns-in_err-copy-2-clause-count c = unmade _ _ c.from_residual-in_err-copy-2.result c.from_residual-in_err-copy-2.ensures.1
+
+pub returns-in_err-copy-2-clause-known : goal.returns-in_err-copy-2-clause-known
+returns-in_err-copy-2-clause-known c = unmade _ _ c.from_residual-in_err-copy-2.result c.from_residual-in_err-copy-2.ensures.1
+
+pub returns-in_err-copy-2-clause-within : goal.returns-in_err-copy-2-clause-within
+returns-in_err-copy-2-clause-within c = unmade _ _ c.from_residual-in_err-copy-2.result c.from_residual-in_err-copy-2.ensures.1
+
+pub returns-in_err-copy-2-clause-more : goal.returns-in_err-copy-2-clause-more
+returns-in_err-copy-2-clause-more c = unmade _ _ c.from_residual-in_err-copy-2.result c.from_residual-in_err-copy-2.ensures.1
+
+pub returns-in_err-copy-2-clause-all : goal.returns-in_err-copy-2-clause-all
+returns-in_err-copy-2-clause-all c = unmade _ _ c.from_residual-in_err-copy-2.result c.from_residual-in_err-copy-2.ensures.1
+
+pub returns-in_err-push_row-2-clause-count : goal.returns-in_err-push_row-2-clause-count
+returns-in_err-push_row-2-clause-count c = unmade _ _ c.from_residual-in_err-push_row-2.result c.from_residual-in_err-push_row-2.ensures.1
+
+pub returns-in_err-push_row-2-clause-known : goal.returns-in_err-push_row-2-clause-known
+returns-in_err-push_row-2-clause-known c = unmade _ _ c.from_residual-in_err-push_row-2.result c.from_residual-in_err-push_row-2.ensures.1
+
+pub returns-in_err-push_row-2-clause-within : goal.returns-in_err-push_row-2-clause-within
+returns-in_err-push_row-2-clause-within c = unmade _ _ c.from_residual-in_err-push_row-2.result c.from_residual-in_err-push_row-2.ensures.1
+
+pub returns-in_err-push_row-2-clause-more : goal.returns-in_err-push_row-2-clause-more
+returns-in_err-push_row-2-clause-more c = unmade _ _ c.from_residual-in_err-push_row-2.result c.from_residual-in_err-push_row-2.ensures.1
+
+pub returns-in_err-push_row-2-clause-all : goal.returns-in_err-push_row-2-clause-all
+returns-in_err-push_row-2-clause-all c = unmade _ _ c.from_residual-in_err-push_row-2.result c.from_residual-in_err-push_row-2.ensures.1
+
+pub returns-in-Some-clause-more : goal.returns-in-Some-clause-more
+returns-in-Some-clause-more c _ = omega arith
+
+pub returns-in-Some-clause-all : goal.returns-in-Some-clause-all
+returns-in-Some-clause-all c is = absurd (true≢false is)
+
+pub returns-in-Some-get_index-clause-more : goal.returns-in-Some-get_index-clause-more
+returns-in-Some-get_index-clause-more c _ = omega arith
+
+pub returns-in-Some-get_index-clause-all : goal.returns-in-Some-get_index-clause-all
+returns-in-Some-get_index-clause-all c is = absurd (true≢false is)

@@ -52,8 +52,8 @@ returns-clause-goes_on c =
     let v = c.args.input.now in
     let is : c.byte_before-before.result ≡ byte_before v.haystack v.start =
     c.byte_before-before.ensures ∙ (λ j. byte_before (c.haystack-haystack.ensures.value j) (c.start-start.ensures.value j)) in
-    begun-error c.args.self.now.dfa.nfa c.start_at.result c.byte_before-before.result (byte_before v.haystack v.start) c.place_before.result (v.start - 1) v.start ⊥ is
-    (c.place_before.ensures ∙ ap (λ n. n - 1) c.start-start.ensures.value) c.start_at.ensures.err
+    begun-error c.args.self.now.dfa.nfa c.start_at.result c.byte_before-before.result (byte_before v.haystack v.start) c.place_before.result (v.start - 1)
+    v.start ⊥ is (c.place_before.ensures ∙ ap (λ n. n - 1) c.start-start.ensures.value) c.start_at.ensures.err
 
 pub returns-clause-fits : goal.returns-clause-fits
 returns-clause-fits c = c.start_at.ensures.fits
