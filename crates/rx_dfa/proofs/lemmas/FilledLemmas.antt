@@ -1,16 +1,21 @@
 -- A row that is whole, one that is appended to those of its sort, and the table of all rows.
-use Rattle.std.proofs.Common.{◌≡◌, ℕ, zero, suc, ◌+◌, ◌-◌, ◌*◌, ◌<◌, ◌≤◌, List, [], ◌∷◌, ◌++◌, map, take, replicate, length, get_or, refl, sym, ◌∙◌, ap, subst, arith}
-use Rattle.std.specs.Prelude.{Some, slice_get, slice_index}
+use Rattle.std.proofs.Common.{◌≡◌, ℕ, zero, suc, ◌+◌, ◌-◌, ◌*◌, ◌<◌, ◌≤◌, inl, inr, List, [], ◌∷◌, ◌++◌, map, take, replicate, length, get_or, refl, sym, ◌∙◌, ap, subst, arith, true≢false}
+use Rattle.std.specs.Prelude.{true, false, Some, Result, IfOk, IsErrAnd, slice_get, slice_index}
+use Rattle.std.proofs.lemmas.Bool.{cases_lt}
 use Rattle.std.proofs.lemmas.List.{length-append, length-map, length-replicate, get_or_append_left, get_or-append_right, take_all}
 use Rattle.std.proofs.lemmas.Option.{slice_get_within}
+use Rattle.std.proofs.lemmas.Result.{err_from_is_err_and}
 use Rattle.std.proofs.Math.Nat.{mul-le-mul_left}
 use Rattle.rx_determinize.specs.Key.{Key}
 use Rattle.rx_dfa.specs.Automaton.{Dfa, IsSound, last_key}
 use Rattle.rx_dfa.specs.StateKey.{key_of}
 use Rattle.rx_dfa.specs.Numbers.{settled}
 use Rattle.rx_dfa.specs.Table.{IsRow, IsCell, AreRows, AreStarts}
-use Rattle.rx_dfa.specs.Found.{plain_keys, special_keys, IsNumber, Stays, Grows}
+use Rattle.rx_dfa.specs.Dense.{IsRefused}
+use Rattle.rx_dfa.specs.Found.{keys_in, plain_keys, special_keys, IsNumber, AreFound, Stays, Grows, IsMade}
 use Rattle.rx_dfa.specs.Work.{IsPart, IsAppended, AreFilled, AreWithin, AreDrawn}
+use Rattle.rx_dfa.specs.declared.state_key.StateKey.{StateKey}
+use Rattle.rx_dfa.specs.declared.dense.error.BuildError.{BuildError}
 use Rattle.rx_dfa.specs.declared.dense.found.Found.{Found}
 use Rattle.rx_dfa.specs.declared.dense.rows.Cells.{Cells}
 use Rattle.rx_dfa.proofs.lemmas.RowLemmas.{number-grows, part-push, rows-grow, rows-push}
@@ -84,6 +89,26 @@ few-rows f c within =
   where
     few : (n s : ℕ) → 1 ≤ s → n * s < 1073741824 → n < 1073741824
     few n s some lt = let product = mul-le-mul_left n some in omega arith
+
+-- Where no key stands behind the rows of a sort, it has a row for each of its keys.
+pub all-rows : (keys : List StateKey) (rows : ℕ) → (rows < length keys → false ≡ true) → rows ≤ length (keys_in keys) → rows ≡ length (keys_in keys)
+all-rows keys rows past within =
+    let mapped = length-map keys key_of in
+    elim (cases_lt rows (length keys)) [
+      | inl lt ↦ absurd (true≢false (sym (past lt)))
+      | inr le ↦ omega arith
+    ]
+
+-- what a clause says of what was made, where an error is handed on
+pub unmade : {A : Type 0} (P : A → Type 0) (Q : BuildError → Type 0) (r : Result A BuildError) → IsErrAnd r Q → IfOk r P
+unmade P Q r is = let e = err_from_is_err_and r is in rw (e.1) tt
+
+-- an error that has its cause, where nothing was made
+pub made-refused : {A : Type 0} {Q : BuildError → Type 0} (d : Dfa) (old new : Found) (P : A → Type 0) (r : Result A BuildError) → AreFound d new
+    → IsErrAnd r Q → ((e : BuildError) → Q e → IsRefused d old.stride old.limit e) → IsMade d old new P r
+made-refused {Q = Q} d old new P r found is refused =
+    let e = err_from_is_err_and r is in
+    record { found = found; ok = unmade P Q r is; err = rw (e.1) (refused (e.0) (e.2)) }
 
 module _ (d : Dfa) (old new : Found) (grows : Grows old new) (c later : Cells) (within : AreWithin old c) (filled : AreFilled d old c) (k : Key) where
   plain-grown : AreRows d new.stride (IsNumber new) (plain_keys new) c.plain_rows c.plain.items

@@ -37,6 +37,12 @@ dead-after d k dead None =
 
 -- Numbers.
 
+-- the row of a key begins within the numbers of states
+pub found-small : (l : LazyValue) → IsLazySound l → (r : Rows) → AreRowsOf l r → (row stride : ℕ) (k : Key) → stride ≡ l.stride
+    → slice_get r.keys row ≡ Some k → row * stride < offsets
+found-small l sound r h row stride k is got =
+    subst (λ n. row * n < offsets) (sym is) (row-small l sound r h row (slice_get_within r.keys row k got))
+
 mod-number : (place : ℕ) (b : Bool) → place < offsets → (place + (if b then 0 else offsets)) % offsets ≡ place
 mod-number place true lt = omega arith
 mod-number place false lt = omega arith

@@ -1,13 +1,16 @@
-use Rattle.std.proofs.Common.{◌≡◌, ◌+◌, refl, sym, ◌∙◌, ap, subst, arith}
+use Rattle.std.proofs.Common.{◌≡◌, ◌+◌, refl, sym, ◌∙◌, ap, subst, arith, true≢false}
 use Rattle.std.specs.Prelude.{Some, slice_get}
 use Rattle.std.specs.Option.{option_map}
 use Rattle.std.proofs.lemmas.Option.{slice_get-map}
 use Rattle.rx_dfa.specs.StateKey.{key_of}
 use Rattle.rx_dfa.specs.States.{IsState}
+use Rattle.rx_dfa.specs.Dense.{IsRefused}
 use Rattle.rx_dfa.specs.Job.{dfa_in}
 use Rattle.rx_dfa.specs.Found.{plain_keys, special_keys}
 use Rattle.rx_dfa.specs.declared.dense.rows.Cells.{Cells}
-use Rattle.rx_dfa.proofs.lemmas.FilledLemmas.{few-rows, plain-filled, special-filled, plain-within, special-within}
+use Rattle.rx_dfa.proofs.lemmas.FilledLemmas.{few-rows, all-rows, unmade, made-refused, plain-filled, special-filled, plain-within, special-within}
+use Rattle.rx_dfa.proofs.lemmas.FindLemmas.{memory-refused}
+use Rattle.rx_dfa.proofs.lemmas.RowLemmas.{grows-same}
 use Rattle.rx_dfa.proofs.dense.rows.fill_next.Goals as goal
 
 pub push_row-requires-clause-state : goal.push_row-requires-clause-state
@@ -94,3 +97,123 @@ pub overflow_add-cells : goal.overflow_add-cells
 overflow_add-cells c =
     let few = few-rows c.args.found.now c.args.cells.now c.requires.within in
     omega arith
+
+pub returns-in_err-copy-clause-grows : goal.returns-in_err-copy-clause-grows
+returns-in_err-copy-clause-grows c = grows-same c.args.found.now
+
+pub returns-in_err-copy-clause-made : goal.returns-in_err-copy-clause-made
+returns-in_err-copy-clause-made c =
+    let d = dfa_in c.args.job.now in
+    let f = c.args.found.now in
+    made-refused d f f _ c.from_residual.result c.requires.found c.from_residual.ensures.1 (memory-refused d f.stride f.limit)
+
+pub returns-in_err-push_row-clause-made : goal.returns-in_err-push_row-clause-made
+returns-in_err-push_row-clause-made c =
+    let d = dfa_in c.args.job.now in
+    let f = c.args.found.now in
+    made-refused d f c.push_row.new.found _ c.from_residual-in_err-push_row.result c.in_err-push_row.ensures.made.found
+    c.from_residual-in_err-push_row.ensures.1
+    (λ e same. subst (IsRefused d f.stride f.limit) (sym same) c.in_err-push_row.ensures.made.err)
+
+pub returns-in_err-copy-2-clause-grows : goal.returns-in_err-copy-2-clause-grows
+returns-in_err-copy-2-clause-grows c = grows-same c.args.found.now
+
+pub returns-in_err-copy-2-clause-made : goal.returns-in_err-copy-2-clause-made
+returns-in_err-copy-2-clause-made c =
+    let d = dfa_in c.args.job.now in
+    let f = c.args.found.now in
+    made-refused d f f _ c.from_residual-in_err-copy-2.result c.requires.found c.from_residual-in_err-copy-2.ensures.1 (memory-refused d f.stride f.limit)
+
+pub returns-in_err-push_row-2-clause-made : goal.returns-in_err-push_row-2-clause-made
+returns-in_err-push_row-2-clause-made c =
+    let d = dfa_in c.args.job.now in
+    let f = c.args.found.now in
+    made-refused d f c.push_row-in-Some-get_index.new.found _ c.from_residual-in_err-push_row-2.result c.in_err-push_row-2.ensures.made.found
+    c.from_residual-in_err-push_row-2.ensures.1
+    (λ e same. subst (IsRefused d f.stride f.limit) (sym same) c.in_err-push_row-2.ensures.made.err)
+
+pub returns-clause-grows : goal.returns-clause-grows
+returns-clause-grows c = grows-same c.args.found.now
+
+pub returns-clause-all : goal.returns-clause-all
+returns-clause-all c _ =
+    let f = c.args.found.now in
+    let cells = c.args.cells.now in (
+      all-rows f.plain.keys cells.plain_rows c.in_default.ensures.found.1 c.requires.within.plain,
+      all-rows f.special.keys cells.special_rows c.in_default-get_index.ensures.found.1 c.requires.within.special,
+    )
+
+pub returns-clause-made : goal.returns-clause-made
+returns-clause-made c = record { found = c.requires.found; ok = c.requires.filled; err = tt }
+
+pub returns-in_err-copy-clause-count : goal.returns-in_err-copy-clause-count
+returns-in_err-copy-clause-count c = unmade _ _ c.from_residual.result c.from_residual.ensures.1
+
+pub returns-in_err-copy-clause-known : goal.returns-in_err-copy-clause-known
+returns-in_err-copy-clause-known c = unmade _ _ c.from_residual.result c.from_residual.ensures.1
+
+pub returns-in_err-copy-clause-within : goal.returns-in_err-copy-clause-within
+returns-in_err-copy-clause-within c = unmade _ _ c.from_residual.result c.from_residual.ensures.1
+
+pub returns-in_err-copy-clause-more : goal.returns-in_err-copy-clause-more
+returns-in_err-copy-clause-more c = unmade _ _ c.from_residual.result c.from_residual.ensures.1
+
+pub returns-in_err-copy-clause-all : goal.returns-in_err-copy-clause-all
+returns-in_err-copy-clause-all c = unmade _ _ c.from_residual.result c.from_residual.ensures.1
+
+pub returns-in_err-push_row-clause-count : goal.returns-in_err-push_row-clause-count
+returns-in_err-push_row-clause-count c = unmade _ _ c.from_residual-in_err-push_row.result c.from_residual-in_err-push_row.ensures.1
+
+pub returns-in_err-push_row-clause-known : goal.returns-in_err-push_row-clause-known
+returns-in_err-push_row-clause-known c = unmade _ _ c.from_residual-in_err-push_row.result c.from_residual-in_err-push_row.ensures.1
+
+pub returns-in_err-push_row-clause-within : goal.returns-in_err-push_row-clause-within
+returns-in_err-push_row-clause-within c = unmade _ _ c.from_residual-in_err-push_row.result c.from_residual-in_err-push_row.ensures.1
+
+pub returns-in_err-push_row-clause-more : goal.returns-in_err-push_row-clause-more
+returns-in_err-push_row-clause-more c = unmade _ _ c.from_residual-in_err-push_row.result c.from_residual-in_err-push_row.ensures.1
+
+pub returns-in_err-push_row-clause-all : goal.returns-in_err-push_row-clause-all
+returns-in_err-push_row-clause-all c = unmade _ _ c.from_residual-in_err-push_row.result c.from_residual-in_err-push_row.ensures.1
+
+pub returns-in_err-copy-2-clause-count : goal.returns-in_err-copy-2-clause-count
+returns-in_err-copy-2-clause-count c = unmade _ _ c.from_residual-in_err-copy-2.result c.from_residual-in_err-copy-2.ensures.1
+
+pub returns-in_err-copy-2-clause-known : goal.returns-in_err-copy-2-clause-known
+returns-in_err-copy-2-clause-known c = unmade _ _ c.from_residual-in_err-copy-2.result c.from_residual-in_err-copy-2.ensures.1
+
+pub returns-in_err-copy-2-clause-within : goal.returns-in_err-copy-2-clause-within
+returns-in_err-copy-2-clause-within c = unmade _ _ c.from_residual-in_err-copy-2.result c.from_residual-in_err-copy-2.ensures.1
+
+pub returns-in_err-copy-2-clause-more : goal.returns-in_err-copy-2-clause-more
+returns-in_err-copy-2-clause-more c = unmade _ _ c.from_residual-in_err-copy-2.result c.from_residual-in_err-copy-2.ensures.1
+
+pub returns-in_err-copy-2-clause-all : goal.returns-in_err-copy-2-clause-all
+returns-in_err-copy-2-clause-all c = unmade _ _ c.from_residual-in_err-copy-2.result c.from_residual-in_err-copy-2.ensures.1
+
+pub returns-in_err-push_row-2-clause-count : goal.returns-in_err-push_row-2-clause-count
+returns-in_err-push_row-2-clause-count c = unmade _ _ c.from_residual-in_err-push_row-2.result c.from_residual-in_err-push_row-2.ensures.1
+
+pub returns-in_err-push_row-2-clause-known : goal.returns-in_err-push_row-2-clause-known
+returns-in_err-push_row-2-clause-known c = unmade _ _ c.from_residual-in_err-push_row-2.result c.from_residual-in_err-push_row-2.ensures.1
+
+pub returns-in_err-push_row-2-clause-within : goal.returns-in_err-push_row-2-clause-within
+returns-in_err-push_row-2-clause-within c = unmade _ _ c.from_residual-in_err-push_row-2.result c.from_residual-in_err-push_row-2.ensures.1
+
+pub returns-in_err-push_row-2-clause-more : goal.returns-in_err-push_row-2-clause-more
+returns-in_err-push_row-2-clause-more c = unmade _ _ c.from_residual-in_err-push_row-2.result c.from_residual-in_err-push_row-2.ensures.1
+
+pub returns-in_err-push_row-2-clause-all : goal.returns-in_err-push_row-2-clause-all
+returns-in_err-push_row-2-clause-all c = unmade _ _ c.from_residual-in_err-push_row-2.result c.from_residual-in_err-push_row-2.ensures.1
+
+pub returns-in-Some-clause-more : goal.returns-in-Some-clause-more
+returns-in-Some-clause-more c _ = omega arith
+
+pub returns-in-Some-clause-all : goal.returns-in-Some-clause-all
+returns-in-Some-clause-all c is = absurd (true≢false is)
+
+pub returns-in-Some-get_index-clause-more : goal.returns-in-Some-get_index-clause-more
+returns-in-Some-get_index-clause-more c _ = omega arith
+
+pub returns-in-Some-get_index-clause-all : goal.returns-in-Some-get_index-clause-all
+returns-in-Some-get_index-clause-all c is = absurd (true≢false is)

@@ -1,8 +1,11 @@
-use Rattle.std.proofs.Common.{◌≡◌, ◌<◌, [], refl, sym, ap, subst, rules}
+use Rattle.std.proofs.Common.{◌≡◌, ◌<◌, inl, [], refl, sym, ap, subst, rules}
 use Rattle.std.specs.Prelude.{Some, None, IfSome, not}
 use Rattle.rx_search.specs.Anchored.{anchor_of}
 use Rattle.rx_nfa.specs.NextMatch.{start_of}
+use Rattle.rx_determinize.specs.Key.{Key}
 use Rattle.rx_dfa.specs.Automaton.{IsReadable, first_key}
+use Rattle.rx_dfa.specs.Lazy.{StandsFor}
+use Rattle.rx_dfa.proofs.lemmas.BegunLemmas.{first-begun, first-dead, fits-uncounted}
 use Rattle.rx_dfa.proofs.lemmas.ClearingLemmas.{grown-kept, grown-first}
 use Rattle.rx_dfa.proofs.lemmas.LazyLemmas.{beside-readable, begun-reached}
 use Rattle.rx_dfa.proofs.lazy.lazy_dfa.Lazy.start_at.Goals as goal
@@ -40,3 +43,30 @@ returns-in-Err-clause-grown c =
     grown-first c.args.self.now (anchor_of c.args.mode) c.args.beside c.in-Some-start_of.start (not c.is_anchored.result) c.kept_beside-before.result
     c.args.cache.now.rows (record c.args.cache.now.rows { since = None }) c.start.new.cache.rows begins (ap not c.is_anchored.ensures)
     c.kept_beside-before.ensures refl refl refl refl c.start.ensures.grown
+
+pub returns-in-Some-clause-err : goal.returns-in-Some-clause-err
+returns-in-Some-clause-err c = let quits = c.in-Some.ensures.some in (refl, quits.0, quits.1)
+
+pub returns-in-Some-clause-fits : goal.returns-in-Some-clause-fits
+returns-in-Some-clause-fits c = fits-uncounted c.args.self.now c.args.cache.now c.requires
+
+pub returns-in_default-start_of-clause-fits : goal.returns-in_default-start_of-clause-fits
+returns-in_default-start_of-clause-fits c = fits-uncounted c.args.self.now c.args.cache.now c.requires
+
+pub start-requires-clause-fits : goal.start-requires-clause-fits
+start-requires-clause-fits c = fits-uncounted c.args.self.now c.args.cache.now c.requires
+
+pub returns-in_default-start_of-clause-start : goal.returns-in_default-start_of-clause-start
+returns-in_default-start_of-clause-start c =
+    inl (record {
+      dead = first-dead c.args.self.now.dfa (anchor_of c.args.mode) c.args.beside c.in_default-start_of.ensures.value;
+      is = c.dead.ensures;
+    })
+
+pub returns-in-Ok-clause-start : goal.returns-in-Ok-clause-start
+returns-in-Ok-clause-start c =
+    let l = c.args.self.now in
+    subst (λ (k : Key). StandsFor l.stride c.start.new.cache.rows.keys c.in-Ok.state k)
+    (first-begun l.dfa (anchor_of c.args.mode) c.args.beside c.in-Some-start_of.start (not c.is_anchored.result) c.kept_beside-before.result
+    c.in-Some-start_of.ensures.value (ap not c.is_anchored.ensures) c.kept_beside-before.ensures)
+    c.in-Ok.ensures.state
