@@ -76,9 +76,7 @@ impl Cache {
         ensures empty { IfOk result HoldsNoStates }
     {
         let pikevm = self.pikevm.clone(alloc)?;
-        let onepass = self.clone_onepass()?;
-        let backtrack = self.clone_backtrack(alloc)?;
-        let lazies = self.clone_lazies(alloc)?;
+        let (onepass, backtrack, lazies) = self.clone_optional(alloc)?;
         Ok(Cache {
             pikevm,
             onepass,
@@ -86,6 +84,42 @@ impl Cache {
             lazies,
             memory: self.memory,
         })
+    }
+
+    /// The parts that a strategy may lack, once more. Caches for lazy DFAs hold no state.
+    fn clone_optional(
+        &self,
+        alloc: Global,
+    ) -> Result<
+        (
+            Option<rx_onepass::Cache>,
+            Option<backtrack::Cache>,
+            Option<Lazies>,
+        ),
+        Memory,
+    >
+        ensures onepass { IfOk result (λ c. c.0 ≡ self.now.onepass) }
+        ensures backtrack { IfOk result (λ c. c.1 ≡ self.now.backtrack) }
+        ensures fits { IfOk result (λ c. (dfas : Dfas) → FitsLazies dfas self.now.lazies → FitsLazies dfas c.2) }
+        ensures empty { IfOk result (λ c. IfSome c.2 HoldNoStates) }
+    {
+        let onepass = self.clone_onepass()?;
+        let (backtrack, lazies) = self.clone_backtrack_and_lazies(alloc)?;
+        Ok((onepass, backtrack, lazies))
+    }
+
+    /// The backtracker's cache once more, and caches for lazy DFAs, without a state.
+    fn clone_backtrack_and_lazies(
+        &self,
+        alloc: Global,
+    ) -> Result<(Option<backtrack::Cache>, Option<Lazies>), Memory>
+        ensures backtrack { IfOk result (λ c. c.0 ≡ self.now.backtrack) }
+        ensures fits { IfOk result (λ c. (dfas : Dfas) → FitsLazies dfas self.now.lazies → FitsLazies dfas c.1) }
+        ensures empty { IfOk result (λ c. IfSome c.1 HoldNoStates) }
+    {
+        let backtrack = self.clone_backtrack(alloc)?;
+        let lazies = self.clone_lazies(alloc)?;
+        Ok((backtrack, lazies))
     }
 
     /// The one-pass DFA's cache once more.

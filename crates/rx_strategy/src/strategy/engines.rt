@@ -10,9 +10,9 @@ ghost use Rattle.rx_strategy.specs.Cache.{FitsCore, FitsBacktracker, FitsAsBefor
 ghost use Rattle.rx_strategy.specs.Availability.{AreDfasBeside};
 ghost use Rattle.rx_strategy.specs.Config.{kind_of, captures_of, has_backtracker};
 ghost use Rattle.rx_strategy.specs.Core.{CoreValue, IsCoreFor, AreKnownOf, core_memory, reverse_memory};
-ghost use Rattle.rx_strategy.specs.Dfas.{ServeNfa};
+ghost use Rattle.rx_strategy.specs.Dfas.{FitsLazies, HoldNoStates, ServeNfa};
 ghost use Rattle.rx_strategy.specs.Impossible.{is_impossible};
-ghost use Rattle.rx_strategy.specs.OnePass.{IsOnePassBeside, ServesOnce, onepass_serves};
+ghost use Rattle.rx_strategy.specs.OnePass.{FitsOnePass, IsOnePassBeside, ServesOnce, onepass_serves};
 
 mod answers;
 mod attempts;
@@ -24,6 +24,7 @@ use crate::cache::Cache;
 use crate::config::{Config, shared};
 use crate::dfas::Dfas;
 use crate::info::RegexInfo;
+use crate::lazies::Lazies;
 use crate::onepass::OnePass;
 use crate::prefilter::memory_usage as accounted;
 use rx_engines::backtrack::{self, BoundedBacktracker};
@@ -58,7 +59,7 @@ impl Model for Core {
     ghost use Rattle.rx_search.specs.declared.anchored.MatchKind.TheVariants.{LeftmostFirst};
     ghost use Rattle.rx_nfa.specs.Config.{captures_kind};
     ghost use Rattle.rx_strategy.specs.Core.{CoreValue, AreKnownOf};
-    ghost use Rattle.rx_strategy.specs.Dfas.{ServeNfa};
+    ghost use Rattle.rx_strategy.specs.Dfas.{FitsLazies, HoldNoStates, ServeNfa};
     ghost use Rattle.rx_strategy.specs.OnePass.{ServesOnce};
 
     ghost Value = { CoreValue };
@@ -162,9 +163,7 @@ impl Core {
         ensures empty { IfOk result HoldsNoStates }
     {
         let pikevm = self.pikevm.create_cache(alloc)?;
-        let onepass = self.onepass.create_cache(alloc)?;
-        let backtrack = self.backtrack_cache(alloc)?;
-        let lazies = self.dfas.create_cache(alloc)?;
+        let (onepass, backtrack, lazies) = self.optional_caches(alloc)?;
         let memory = pikevm
             .memory_usage()
             .saturating_add(self.onepass.cache_memory())
@@ -176,6 +175,44 @@ impl Core {
             lazies,
             memory,
         })
+    }
+
+    /// A cache for each part that this core may lack, where the part is there.
+    fn optional_caches(
+        &self,
+        alloc: Global,
+    ) -> Result<
+        (
+            Option<rx_onepass::Cache>,
+            Option<backtrack::Cache>,
+            Option<Lazies>,
+        ),
+        Memory,
+    >
+        ensures onepass { IfOk result (λ c. FitsOnePass self.now.onepass c.0) }
+        ensures backtrack { IfOk result (λ c. FitsBacktracker self.now c.1) }
+        ensures memory { IfOk result (λ c. backtrack_memory c.1 ≡ accounted_backtrack self.now) }
+        ensures lazies { IfOk result (λ c. FitsLazies self.now.dfas c.2) }
+        ensures empty { IfOk result (λ c. IfSome c.2 HoldNoStates) }
+    {
+        let onepass = self.onepass.create_cache(alloc)?;
+        let (backtrack, lazies) = self.backtrack_and_lazies(alloc)?;
+        Ok((onepass, backtrack, lazies))
+    }
+
+    /// A cache for the backtracker, and caches for lazy DFAs, where these are there.
+    fn backtrack_and_lazies(
+        &self,
+        alloc: Global,
+    ) -> Result<(Option<backtrack::Cache>, Option<Lazies>), Memory>
+        ensures backtrack { IfOk result (λ c. FitsBacktracker self.now c.0) }
+        ensures memory { IfOk result (λ c. backtrack_memory c.0 ≡ accounted_backtrack self.now) }
+        ensures lazies { IfOk result (λ c. FitsLazies self.now.dfas c.1) }
+        ensures empty { IfOk result (λ c. IfSome c.1 HoldNoStates) }
+    {
+        let backtrack = self.backtrack_cache(alloc)?;
+        let lazies = self.dfas.create_cache(alloc)?;
+        Ok((backtrack, lazies))
     }
 
     /// A cache for the backtracker, where there is one.
