@@ -59,7 +59,7 @@ impl Model for Core {
     ghost use Rattle.rx_search.specs.declared.anchored.MatchKind.TheVariants.{LeftmostFirst};
     ghost use Rattle.rx_nfa.specs.Config.{captures_kind};
     ghost use Rattle.rx_strategy.specs.Core.{CoreValue, AreKnownOf};
-    ghost use Rattle.rx_strategy.specs.Dfas.{FitsLazies, HoldNoStates, ServeNfa};
+    ghost use Rattle.rx_strategy.specs.Dfas.{ServeNfa};
     ghost use Rattle.rx_strategy.specs.OnePass.{ServesOnce};
 
     ghost Value = { CoreValue };
