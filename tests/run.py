@@ -14,6 +14,7 @@ A table is a text of cases with an empty line between them. A case is made of th
                       bytes, as b"\\xff"; N is 1 if left out
     <% LITERAL * N    the same, N times, with the numbers from 0 on in place of `%d`
     > TEXT            a line of the output that is wanted, and `>= LITERAL * N` as above
+    >% LITERAL * N    the same, N times, with the numbers from 1 on, which are those of haystacks, in place of `%d`
     ~ TEXT            a line of the output, or some of its first words with `quit B at N` behind them: the search stopped at a byte B
                       that is not ASCII, and what it had told by then is right
     ? N               the exit status that is wanted, 0 without one
@@ -64,10 +65,10 @@ class Case:
         elif mark in ('<=', '>='):
             text, count = parts_of(rest)
             self.bytes_of(mark[0]).extend(literal(text) * count)
-        elif mark == '<%':
+        elif mark in ('<%', '>%'):
             text, count = parts_of(rest)
-            text = literal(text)
-            self.input.extend(b''.join(text % k for k in range(count)))
+            text, first = literal(text), int(mark == '>%')
+            self.bytes_of(mark[0]).extend(b''.join(text.replace(b'%d', b'%d' % k) for k in range(first, first + count)))
         elif mark == '~':
             self.loose.add(self.output.count(b'\n'))
             self.output.extend(rest.encode() + b'\n')
