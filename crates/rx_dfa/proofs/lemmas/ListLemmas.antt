@@ -40,6 +40,15 @@ unmarked-more items k x old marks lt is below h q =
     let told : has (take (k + 1) items) q ≡ has (take k items) q = here ∙ ap (λ b. has (take k items) q || b) e ∙ or-false (has (take k items) q) in
     get_or-set_other marks x q false false apart ∙ h q ∙ ap (λ b. if b then false else get_or old q false) (sym told))
 
+-- none is left where those of all states on the list were taken off
+pub unmarked-all : (items : List ℕ) (old new : List Bool) (q : ℕ) → get_or old q false ≡ has items q
+    → get_or new q false ≡ (if has items q then false else get_or old q false) → get_or new q false ≡ false
+unmarked-all items old new q marked told = told ∙ (λ j. if has items q then false else marked j) ∙ off (has items q)
+  where
+    off : (b : Bool) → (if b then false else b) ≡ false
+    off true = refl
+    off false = refl
+
 -- the marks where a state comes to the list
 pub marked-push : (items : List ℕ) (marks : List Bool) (x : ℕ) → x < length marks → ((q : ℕ) → q < length marks → get_or marks q false ≡ has items q)
     → (q : ℕ) → q < length marks → get_or (set marks x true) q false ≡ has (items ++ x ∷ []) q

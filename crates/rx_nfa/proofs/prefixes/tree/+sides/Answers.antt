@@ -164,3 +164,52 @@ sides-returns-clause-reads t c =
 
 pub chunk-branches-requires : goal.chunk-branches-requires
 chunk-branches-requires t c = (omega arith, (c.requires.tree, (c.requires.words, c.requires.long (omega arith))))
+
+
+pub chunk-returns-then-levels-gt0-clause-tree : goal.chunk-returns-then-levels-gt0-clause-tree
+chunk-returns-then-levels-gt0-clause-tree t c = c.in_ok-start.ensures.tree
+
+pub chunk-returns-then-levels-gt0-clause-grown : goal.chunk-returns-then-levels-gt0-clause-grown
+chunk-returns-then-levels-gt0-clause-grown t c = c.in_ok-start.ensures.grown
+
+pub chunk-returns-clause-tree : goal.chunk-returns-clause-tree
+chunk-returns-clause-tree t c = c.loop-word.invariant.tree
+
+pub chunk-returns-clause-grown : goal.chunk-returns-clause-grown
+chunk-returns-clause-grown t c = c.loop-word.invariant.grown
+
+pub end_chunk-returns-clause-tree : goal.end_chunk-returns-clause-tree
+end_chunk-returns-clause-tree t c = c.in_ok-chunk-2.ensures.tree
+
+pub end_chunk-returns-clause-grown : goal.end_chunk-returns-clause-grown
+end_chunk-returns-clause-grown t c =
+    Grown-trans c.args.tree.now c.chunk.new.tree c.chunk-2.new.tree c.in_ok-chunk.ensures.grown c.in_ok-chunk-2.ensures.grown
+
+pub end_chunk-returns-clause-long : goal.end_chunk-returns-clause-long
+end_chunk-returns-clause-long t c =
+    between-none vec_items (λ w. 1 < length (vec_items w)) c.args.words.now (c.args.last + 1) (c.args.last + 1) (omega arith)
+
+pub sides-returns-clause-tree : goal.sides-returns-clause-tree
+sides-returns-clause-tree t c = c.in_ok-chunk.ensures.tree
+
+pub sides-returns-clause-grown : goal.sides-returns-clause-grown
+sides-returns-clause-grown t c =
+    Grown-trans c.args.tree.now c.loop-last.tree c.chunk.new.tree c.loop-last.invariant.grown c.in_ok-chunk.ensures.grown
+
+pub branches-returns-clause-tree : goal.branches-returns-clause-tree
+branches-returns-clause-tree t c = c.in_ok-start.ensures.tree
+
+pub branches-returns-clause-grown : goal.branches-returns-clause-grown
+branches-returns-clause-grown t c =
+    Grown-trans c.args.tree.now c.loop-byte.tree c.push.new.self c.loop-byte.invariant.grown c.in_ok-start.ensures.grown
+
+pub branches-push-requires-clause-tree : goal.branches-push-requires-clause-tree
+branches-push-requires-clause-tree t c = c.loop-byte.invariant.tree
+
+pub branches-loop-byte-init : goal.branches-loop-byte-init
+branches-loop-byte-init t c = record {
+  tree = c.requires.tree;
+  grown = Grown-same c.args.tree.now;
+  ascends = rw c.new-row.ensures.items (omega arith);
+  led = λ b lt. absurd (omega arith);
+}

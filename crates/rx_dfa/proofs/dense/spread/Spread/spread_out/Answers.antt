@@ -1,5 +1,6 @@
-use Rattle.std.proofs.Common.{length, sym, ◌∙◌, ap, subst}
+use Rattle.std.proofs.Common.{length, refl, sym, ◌∙◌, ap, subst}
 use Rattle.std.specs.Prelude.{slice_index}
+use Rattle.std.proofs.lemmas.Result.{err_from_is_err_and}
 use Rattle.rx_nfa.specs.Ordered.{AreBelow, targets}
 use Rattle.rx_determinize.specs.Key.{counting, looping, matching}
 use Rattle.rx_dfa.proofs.lemmas.KeyLemmas.{counting-below}
@@ -26,3 +27,15 @@ returns-clause-parts c =
       loops = c.looping-self.ensures ∙ ap (λ xs. looping d.kind d.nfa.states xs c.args.loops) c.as_slice-2.ensures.value;
       matches = c.in_ok-matching.ensures ∙ ap (matching d.kind d.nfa.states) c.as_slice.ensures.value;
     }
+
+pub returns-clause-known : goal.returns-clause-known
+returns-clause-known c = refl
+
+pub returns-clause-room : goal.returns-clause-room
+returns-clause-room c = c.requires.room
+
+pub returns-in_err-matching-clause-parts : goal.returns-in_err-matching-clause-parts
+returns-in_err-matching-clause-parts c = let e = err_from_is_err_and c.from_residual.result c.from_residual.ensures.1 in rw (e.1) tt
+
+pub returns-in_err-matching-clause-known : goal.returns-in_err-matching-clause-known
+returns-in_err-matching-clause-known c = refl
