@@ -21,7 +21,8 @@ AreRowsOf regex haystacks i n all =
     (r : Patterns) → All (λ h. FindsRows regex r h.now) haystacks → all ≡ map (λ h. scan_rows r h.now) (take n (drop i haystacks))
 
 -- It is what rows of these haystacks have become, which are those of their matches.
-abbrev pub HasOutcome : {V : Type 0} (Is : ℕ → List (List RowValue) → V → Type 0) → RegexValue → List (Bor (List ℕ)) → (first count : ℕ) → V → Type 0
+abbrev pub HasOutcome : {V : Type 0} (Is : ℕ → List (List RowValue) → V → Type 0) → RegexValue → List (Bor (List ℕ)) → (first count : ℕ) → V
+    → Type 0
 HasOutcome Is regex haystacks i n value =
     (all : List (List RowValue)) × Is i all value × (length all ≡ n) × AreRowsOf regex haystacks i n all
 

@@ -63,8 +63,8 @@ impl From<ScanError> for Memory {
 /// each match of which begins with one of its needles.
 ///
 /// So many workers search, but no more than haystacks: the caller, and each other in a thread of its own where one can be
-/// started. Each draws one haystack after another, so that their number changes no row. `gate` is told of each haystack before
-/// it is searched, by the worker that drew it.
+/// started. Each draws one haystack after another, and some ahead where there are thousands for each worker; their number
+/// changes no row. `gate` is told of each haystack before it is searched, by the worker that drew it.
 ///
 /// # Errors
 ///

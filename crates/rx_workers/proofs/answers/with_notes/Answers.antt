@@ -6,6 +6,10 @@ use Rattle.rx_workers.proofs.answers.with_notes.Goals as goal
 
 pub returns : goal.returns
 returns g c =
-    let P = AreQueued (g.T.Task.size c.args._task.now) (g.T.Task.answers c.args._task.now) in
-    subst (All P) (sym c.in_ok-push.ensures.items) (All-push P _ _ (subst (λ r. IfOk r (λ all. All P all.items)) c.in_ok-all.was c.requires.all) (subst (All (IsFound (g.T.Task.size c.args._task.now) (g.T.Task.answers c.args._task.now) c.in_ok-found.field-0.store)) (sym c.from_vec.ensures.items)
-    (subst (λ r. IfOk r (AreFound (g.T.Task.size c.args._task.now) (g.T.Task.answers c.args._task.now))) c.in_ok-found.was c.requires.notes)))
+    let size = g.T.Task.size c.args._task.now in
+    let Is = g.T.Task.answers c.args._task.now in
+    let P = AreQueued size Is in
+    let before = subst (λ r. IfOk r (λ all. All P all.items)) c.in_ok-all.was c.requires.all in
+    let found = subst (λ r. IfOk r (AreFound size Is)) c.in_ok-found.was c.requires.notes in
+    subst (All P) (sym c.in_ok-push.ensures.items)
+    (All-push P _ _ before (subst (All (IsFound size Is c.in_ok-found.field-0.store)) (sym c.from_vec.ensures.items) found))

@@ -506,7 +506,8 @@ compile-returns-in-Capture-clause-inside t c = c.compile_capture.ensures.inside
 pub compile-returns-in-Capture-clause-count : goal.compile-returns-in-Capture-clause-count
 compile-returns-in-Capture-clause-count t c =
     let g = c.in-Capture.capture in
-    let is : capture (non_zero_usize_get g.index) (option_map string_bytes g.name) g.sub.value ≡ c.args.hir.now = sym (ap kind_view c.in-Capture.is) ∙ c.kind.ensures.value in
+    let is : capture (non_zero_usize_get g.index) (option_map string_bytes g.name) g.sub.value ≡ c.args.hir.now =
+    sym (ap kind_view c.in-Capture.is) ∙ c.kind.ensures.value in
     count-same _ _ (length c.args.builder.now.states) (length c.compile_capture.new.builder.states) c.compile_capture.result is c.compile_capture.ensures.count
 
 pub compile-returns-in-Capture-clause-sound : goal.compile-returns-in-Capture-clause-sound
@@ -517,7 +518,8 @@ compile-returns-in-Concat-clause-inside t c = c.compile_concat.ensures.inside
 
 pub compile-returns-in-Concat-clause-count : goal.compile-returns-in-Concat-clause-count
 compile-returns-in-Concat-clause-count t c =
-    let is : concat (expressions c.deref-in-Concat.result.now) ≡ c.args.hir.now = ap (λ hs. concat (expressions hs)) c.deref-in-Concat.ensures.value ∙ sym (ap kind_view c.in-Concat.is) ∙ c.kind.ensures.value in
+    let is : concat (expressions c.deref-in-Concat.result.now) ≡ c.args.hir.now =
+    ap (λ hs. concat (expressions hs)) c.deref-in-Concat.ensures.value ∙ sym (ap kind_view c.in-Concat.is) ∙ c.kind.ensures.value in
     count-same _ _ (length c.args.builder.now.states) (length c.compile_concat.new.builder.states) c.compile_concat.result is c.compile_concat.ensures.count
 
 pub compile-returns-in-Concat-clause-sound : goal.compile-returns-in-Concat-clause-sound
@@ -528,8 +530,10 @@ compile-returns-in-Alternation-clause-inside t c = c.compile_alternation.ensures
 
 pub compile-returns-in-Alternation-clause-count : goal.compile-returns-in-Alternation-clause-count
 compile-returns-in-Alternation-clause-count t c =
-    let is : alternation (expressions c.deref-in-Alternation.result.now) ≡ c.args.hir.now = ap (λ hs. alternation (expressions hs)) c.deref-in-Alternation.ensures.value ∙ sym (ap kind_view c.in-Alternation.is) ∙ c.kind.ensures.value in
-    count-same _ _ (length c.args.builder.now.states) (length c.compile_alternation.new.builder.states) c.compile_alternation.result is c.compile_alternation.ensures.count
+    let is : alternation (expressions c.deref-in-Alternation.result.now) ≡ c.args.hir.now =
+    ap (λ hs. alternation (expressions hs)) c.deref-in-Alternation.ensures.value ∙ sym (ap kind_view c.in-Alternation.is) ∙ c.kind.ensures.value in
+    count-same _ _ (length c.args.builder.now.states) (length c.compile_alternation.new.builder.states) c.compile_alternation.result is
+    c.compile_alternation.ensures.count
 
 pub compile-returns-in-Alternation-clause-sound : goal.compile-returns-in-Alternation-clause-sound
 compile-returns-in-Alternation-clause-sound t c = c.kind.ensures.sound
