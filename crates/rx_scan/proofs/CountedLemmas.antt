@@ -6,7 +6,7 @@ use Rattle.std.specs.Str.{IsUtf8}
 use denote.Ref.{Bor}
 use Rattle.std.proofs.lemmas.List.{length-map, get_or-map, map-append}
 use Rattle.std.proofs.lemmas.Simd.{map-map}
-use Rattle.std.proofs.lemmas.List.Elements.{All-nil, All-cons, All-map, All-pop}
+use Rattle.std.proofs.lemmas.List.Elements.{All-nil, All-cons, All-head, All-tail, All-map, All-pop}
 use Rattle.std.proofs.lemmas.List.Sums.{sum_by-cons}
 use Rattle.std.proofs.lemmas.Str.{IsUtf8-from_ascii}
 use Rattle.std.proofs.lemmas.Bool.{and_parts, ltb-true}
@@ -22,7 +22,7 @@ use Rattle.rx_reader.specs.Config.{default}
 use Rattle.rx_syntax.specs.Patterns.{all_read}
 use Rattle.rx_syntax.proofs.lemmas.translation.Utf8Lemmas.{of_patterns}
 use Rattle.rx_scan.specs.Answer.{match_len, counts_in, gen_patterns, read_or_none, gen_expressions, gen_counts}
-use Rattle.rx_scan.specs.Counted.{row_len, rows_len, counts_of}
+use Rattle.rx_scan.specs.Counted.{AreCounted, row_len, rows_len, counts_of}
 use Rattle.rx_search.specs.declared.memory.Memory.{Memory}
 use Rattle.rx_scan.specs.Patterns.{patterns_of, MeanUtf8}
 use Rattle.rx_scan.specs.Row.{RowValue, row_of, scan_rows}
@@ -143,8 +143,7 @@ All-unmap P f xs all = λ k d below. subst P (get_or-map f xs k d (f d) below) (
 -- what the rows of short haystacks became are the numbers of these
 pub counts-told : {W : Type 0} (items : W → List Counts) (result : Result W Memory) (hs : List (Bor (List ℕ))) (texts : List (List ℕ))
     → map (λ h. h.now) hs ≡ texts → All (λ h. length h.now ≤ 15) hs
-    → IfOk result (λ w. All (λ rows. rows_len rows < 2 ^ 64) (map (λ h. scan_rows (patterns_of gen_expressions) h.now) hs)
-    → items w ≡ map counts_of (map (λ h. scan_rows (patterns_of gen_expressions) h.now) hs))
+    → IfOk result (λ w. AreCounted (map (λ h. scan_rows (patterns_of gen_expressions) h.now) hs) (items w))
     → IfOk result (λ w. items w ≡ map gen_counts texts)
 counts-told items (Err error) hs texts same short told = tt
 counts-told items (Ok w) hs texts same short told =
@@ -154,12 +153,21 @@ counts-told items (Ok w) hs texts same short told =
     ∙ ap (map gen_counts) same
 
 -- the numbers of one haystack more
-pub counts-more : (all more : List (List RowValue)) (rows : List RowValue) (counts : Counts) (old new : List Counts) → more ≡ rows ∷ []
-    → new ≡ old ++ counts ∷ []
-    → (All (λ rs. rows_len rs < 2 ^ 64) all → old ≡ map counts_of all) → (rows_len rows < 2 ^ 64 → counts ≡ counts_of rows)
-    → All (λ rs. rows_len rs < 2 ^ 64) (all ++ more) → new ≡ map counts_of (all ++ more)
-counts-more all more rows counts old new one longer told is fit =
+pub counts-more : (all : List (List RowValue)) (rows : List RowValue) (counts : Counts) (old new : List Counts) → new ≡ old ++ counts ∷ []
+    → AreCounted all old → (rows_len rows < 2 ^ 64 → counts ≡ counts_of rows) → AreCounted (all ++ rows ∷ []) new
+counts-more all rows counts old new longer told is fit =
     let P : List RowValue → Type 0 = λ rs. rows_len rs < 2 ^ 64 in
-    let parts = All-pop P (all ++ more) all (Some rows) (ap (λ (l : List (List RowValue)). all ++ l) one) fit in
+    let parts = All-pop P (all ++ rows ∷ []) all (Some rows) refl fit in
     longer ∙ (λ k. told parts.0 k ++ is parts.1 k ∷ []) ∙ sym (map-append counts_of all (rows ∷ []))
-    ∙ ap (λ (l : List (List RowValue)). map counts_of (all ++ l)) (sym one)
+
+-- .. of some
+pub counts-put : (all more : List (List RowValue)) (old new others : List Counts) → new ≡ old ++ others → AreCounted all old → AreCounted more others
+    → AreCounted (all ++ more) new
+counts-put all more old new others longer told is fit =
+    let parts = All-split (λ rs. rows_len rs < 2 ^ 64) all more fit in
+    longer ∙ (λ k. told parts.0 k ++ is parts.1 k) ∙ sym (map-append counts_of all more)
+  where
+    All-split : {X : Type 0} (P : X → Type 0) (xs ys : List X) → All P (xs ++ ys) → All P xs × All P ys
+    All-split P [] ys both = (All-nil P, both)
+    All-split P (x ∷ xs) ys both =
+        let rest = All-split P xs ys (All-tail P x (xs ++ ys) both) in (All-cons P x xs (All-head P x (xs ++ ys) both) rest.0, rest.1)

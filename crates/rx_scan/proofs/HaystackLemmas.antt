@@ -1,7 +1,7 @@
 -- What a regex finds in a haystack, one match after another.
 use Rattle.std.proofs.Common.{◌≡◌, ℕ, suc, ◌+◌, ◌<◌, ◌≤◌, Bool, true, false, cond, List, [], ◌∷◌, ◌++◌, length, take, drop, get_or, Option, Some, None, Result, Ok, Err, IfOk, refl, sym, ap, subst, ◌∙◌, arith, drop-cons}
 use Rattle.std.specs.List.{All}
-use Rattle.std.specs.Prelude.{map, replicate, OnOk, MatchOption, MatchResult}
+use Rattle.std.specs.Prelude.{map, replicate, OnOk, MatchOption}
 use denote.Ref.{Bor}
 use Rattle.std.proofs.Math.Seq.{take-add}
 use Rattle.std.proofs.lemmas.List.{length-append, take_all, map-append, drop-drop}
@@ -121,22 +121,22 @@ module _ (regex : RegexValue) (hs : List (Bor (List ℕ))) where
       (λ k. first r finds k ++ second r finds k) ∙ sym (map-append f (take n (drop i hs)) (take m (drop j hs)))
       ∙ ap (λ (l : List (Bor (List ℕ))). map f (take n (drop i hs) ++ take m l)) rest ∙ ap (map f) (sym (take-add n m (drop i hs)))
 
-  -- one answer that is made of two, or both as they were
-  pub outcomes-unite : {U V : Type 0} (Is : ℕ → List (List RowValue) → V → Type 0) (i n m : ℕ) (old new second : V) (result : Result U V)
-      → (a : HasOutcome Is regex hs i n old) (b : HasOutcome Is regex hs (i + n) m second)
-      → (Is i a.0 old → Is (i + length a.0) b.0 second → MatchResult result (λ _. Is i (a.0 ++ b.0) new) (λ back. Is i a.0 new × Is (i + length a.0) b.0 back))
-      → MatchResult result (λ _. HasOutcome Is regex hs i (n + m) new) (λ back. HasOutcome Is regex hs i n new × HasOutcome Is regex hs (i + n) m back)
-  outcomes-unite Is i n m old new second (Ok u) a b united =
-      let there : Is (i + length a.0) b.0 second = subst (λ (k : ℕ). Is (i + k) b.0 second) (sym a.2) b.1 in (
-        a.0 ++ b.0,
-        united a.1 there,
-        length-append a.0 b.0 ∙ (λ k. a.2 k + b.2 k),
-        rows-after i n (i + n) m a.0 b.0 refl a.3 b.3,
-      )
-  outcomes-unite Is i n m old new second (Err back) a b united =
-      let there : Is (i + length a.0) b.0 second = subst (λ (k : ℕ). Is (i + k) b.0 second) (sym a.2) b.1 in
-      let both = united a.1 there in
-      ((a.0, both.0, a.2, a.3), (b.0, subst (λ (k : ℕ). Is (i + k) b.0 back) a.2 both.1, b.2, b.3))
+  -- .. of none
+  pub outcome-none : {V : Type 0} (Holds : ℕ → List (List RowValue) → List RowValue → V → Type 0) (i : ℕ) (value : V) → Holds i [] [] value
+      → HasOutcome Holds regex hs i 0 value
+  outcome-none Holds i value holds = ([], holds, refl, λ r finds. refl)
+
+  -- .. of one haystack more
+  pub outcome-next : {U V E : Type 0} (Holds : ℕ → List (List RowValue) → List RowValue → V → Type 0) (i n index : ℕ) (rows : List RowValue) (old new : V)
+      (result : Result U E) → index ≡ i + n → AreRowsOf regex hs index 1 (rows ∷ []) → (has : HasOutcome Holds regex hs i n old)
+      → OnOk result (Holds i (has.0 ++ rows ∷ []) [] new) → OnOk result (HasOutcome Holds regex hs i (n + 1) new)
+  outcome-next Holds i n index rows old new (Err error) at own has more = tt
+  outcome-next Holds i n index rows old new (Ok u) at own has more = (
+    has.0 ++ rows ∷ [],
+    more,
+    length-append has.0 (rows ∷ []) ∙ (λ k. has.2 k + 1),
+    rows-after i n index 1 has.0 (rows ∷ []) at has.3 own,
+  )
 
 module _ {W : Type 0} (Are : List (List RowValue) → W → Type 0) (regex : RegexValue) (hs : List (Bor (List ℕ))) where
   -- none yet
@@ -144,21 +144,21 @@ module _ {W : Type 0} (Are : List (List RowValue) → W → Type 0) (regex : Reg
   outcomes-none whole are = record { all = []; are = are; count = refl; rows = λ r finds. refl }
 
   -- those of some haystacks more
-  pub outcomes-more : {V : Type 0} (Is : ℕ → List (List RowValue) → V → Type 0) (n m : ℕ) (old new : W) (value : V)
-      → (before : HaveOutcomes Are regex hs n old) (answer : HasOutcome Is regex hs n m value) → Are (before.all ++ answer.0) new
+  pub outcomes-more : {V : Type 0} (Holds : ℕ → List (List RowValue) → List RowValue → V → Type 0) (n m : ℕ) (old new : W) (value : V)
+      → (before : HaveOutcomes Are regex hs n old) (answer : HasOutcome Holds regex hs n m value) → Are (before.all ++ answer.0) new
       → HaveOutcomes Are regex hs (n + m) new
-  outcomes-more Is n m old new value before answer are = record {
+  outcomes-more Holds n m old new value before answer are = record {
     all = before.all ++ answer.0;
     are = are;
     count = length-append before.all answer.0 ∙ (λ k. before.count k + answer.2 k);
     rows = rows-after regex hs 0 n n m before.all answer.0 (omega arith) before.rows answer.3;
   }
 
-  pub outcomes-put : {V U E : Type 0} (Is : ℕ → List (List RowValue) → V → Type 0) (n m : ℕ) (old new : W) (value : V)
-      → (before : HaveOutcomes Are regex hs n old) (answer : HasOutcome Is regex hs n m value) (result : Result U E)
+  pub outcomes-put : {V U E : Type 0} (Holds : ℕ → List (List RowValue) → List RowValue → V → Type 0) (n m : ℕ) (old new : W) (value : V)
+      → (before : HaveOutcomes Are regex hs n old) (answer : HasOutcome Holds regex hs n m value) (result : Result U E)
       → OnOk result (Are (before.all ++ answer.0) new) → OnOk result (HaveOutcomes Are regex hs (n + m) new)
-  outcomes-put Is n m old new value before answer (Err error) are = tt
-  outcomes-put Is n m old new value before answer (Ok u) are = outcomes-more Is n m old new value before answer are
+  outcomes-put Holds n m old new value before answer (Err error) are = tt
+  outcomes-put Holds n m old new value before answer (Ok u) are = outcomes-more Holds n m old new value before answer are
 
   -- those of all
   pub outcomes-whole : (r : Patterns) (result : Result W Memory) → IfOk result (HaveOutcomes Are regex hs (length hs)) → All (λ h. FindsRows regex r h.now) hs

@@ -4,6 +4,7 @@ pub mod EndLemmas
 pub mod HaystackLemmas
 pub mod LayoutLemmas
 pub mod LineLemmas
+pub mod OutcomeLemmas
 pub mod PatternLemmas
 pub mod NameLemmas
 pub mod ReadingLemmas

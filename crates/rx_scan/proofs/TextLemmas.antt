@@ -1,14 +1,9 @@
 -- The text of rows, group by group and haystack by haystack.
-use Rattle.std.proofs.Common.{◌≡◌, ℕ, suc, ◌+◌, ◌-◌, ◌^◌, ◌<◌, ◌≤◌, List, [], ◌∷◌, ◌++◌, length, take, drop, get_or, Option, None, Result, Ok, Err, refl, sym, ap, ◌∙◌, append_assoc, append-nil, length-append, length-drop, arith, drop-cons}
-use Rattle.std.specs.Prelude.{OnOk}
+use Rattle.std.proofs.Common.{◌≡◌, ℕ, suc, ◌+◌, ◌^◌, ◌<◌, ◌≤◌, List, [], ◌∷◌, ◌++◌, length, drop, get_or, Option, None, refl, sym, ap, ◌∙◌, append_assoc, append-nil, length-append, arith, drop-cons}
 use Rattle.std.specs.List.{flat_map}
-use Rattle.std.proofs.Math.Seq.{take-add}
-use Rattle.std.proofs.lemmas.List.{get_or_read, take_all, take-append-le, drop-append-le, drop-drop}
+use Rattle.std.proofs.lemmas.List.{get_or_read}
 use Rattle.std.proofs.lemmas.List.Concat.{flat_map-append}
-use Rattle.rx_scan.specs.Outcomes.{IsPrinted, IsPiece}
 use Rattle.rx_scan.specs.Row.{RowValue, group_text, groups_text, row_text, rows_text}
-use Rattle.rx_scan.specs.declared.outcome.Piece.{Piece}
-use Rattle.rx_scan.specs.declared.outcome.Printed.{Printed}
 
 -- the groups from the slot at `at` on: the first of them, and the others
 pub groups_text-drop : (slots : List (Option ℕ)) (at g : ℕ) → at + 1 < length slots
@@ -44,47 +39,6 @@ told-more slots at g start end old new all below s e more told =
     ∙ ap (λ y. old ++ (group_text g (get_or slots at None) y ++ rest)) second
     ∙ ap (λ l. old ++ l) (sym (groups_text-drop slots at g below)) ∙ told
 
--- one row more of the haystack that is searched
-pub printed-more : (old new : Printed) (i line : ℕ) (rows : List RowValue) (row : RowValue) → new.start ≡ old.start
-    → new.text.items ≡ old.text.items ++ row_text line row → (i < 2 ^ 63 → line ≡ i + 1) → IsPrinted old i rows → IsPrinted new i (rows ++ row ∷ [])
-printed-more old new i line rows row start longer number is = (
-  omega (arith, start, is.0, ap length longer ∙ length-append old.text.items (row_text line row)),
-  λ small.
-      ap (λ k. drop k new.text.items) start ∙ ap (drop old.start) longer ∙ drop-append-le old.start old.text.items (row_text line row) is.0
-      ∙ (λ k. is.1 small k ++ row_text (number small k) row) ∙ sym (flat_map-push (row_text (i + 1)) rows row),
-)
-  where
-    flat_map-push : (f : RowValue → List ℕ) (xs : List RowValue) (x : RowValue) → flat_map f (xs ++ x ∷ []) ≡ flat_map f xs ++ f x
-    flat_map-push f xs x = flat_map-append f xs (x ∷ []) ∙ ap (λ l. flat_map f xs ++ l) (append-nil (f x))
-
--- a piece of a text is one of a longer text
-pub piece-kept : (old new : Printed) (more : List ℕ) (i : ℕ) (all : List (List RowValue)) (piece : Piece) → new.text.items ≡ old.text.items ++ more
-    → IsPiece old i all piece → IsPiece new i all piece
-piece-kept old new more i all piece longer is =
-    let len = ap length longer ∙ length-append old.text.items more in
-    let within : piece.start ≤ length old.text.items = omega (arith, is.0, is.1) in
-    let rest = drop piece.start old.text.items in
-    let fits : piece.end - piece.start ≤ length rest = omega (arith, is.1, length-drop piece.start old.text.items) in (
-      is.0,
-      omega (arith, is.1, len),
-      λ small. ap (λ l. take (piece.end - piece.start) (drop piece.start l)) longer
-          ∙ ap (take (piece.end - piece.start)) (drop-append-le piece.start old.text.items more within)
-          ∙ take-append-le (piece.end - piece.start) rest more fits ∙ is.2 small,
-    )
-
--- what was printed since the haystack began is a piece
-pub printed-piece : (store : Printed) (i : ℕ) (rows : List RowValue) (piece : Piece) → piece.start ≡ store.start → piece.end ≡ length store.text.items
-    → IsPrinted store i rows → IsPiece store i (rows ∷ []) piece
-unfolding rows_text
-printed-piece store i rows piece start end is =
-    let rest = drop store.start store.text.items in (
-      omega (arith, start, end, is.0),
-      omega (arith, end),
-      λ small. (λ k. take (piece.end - piece.start) (drop (start k) store.text.items))
-          ∙ take_all (piece.end - piece.start) rest (omega (arith, start, end, length-drop store.start store.text.items)) ∙ is.1 (omega (arith, small))
-          ∙ sym (append-nil (flat_map (row_text (i + 1)) rows)),
-    )
-
 -- the text of the haystacks' rows, and of those of the haystacks after them
 pub rows_text-append : (line : ℕ) (all more : List (List RowValue)) → rows_text line (all ++ more) ≡ rows_text line all ++ rows_text (line + length all) more
 unfolding rows_text
@@ -94,41 +48,56 @@ rows_text-append line (own ∷ all) more =
     ap (λ l. flat_map (row_text line) own ++ l) (rows_text-append (line + 1) all more ∙ ap (λ n. rows_text (line + 1) all ++ rows_text n more) next)
     ∙ sym (append_assoc (flat_map (row_text line) own) (rows_text (line + 1) all) (rows_text (line + suc (length all)) more))
 
--- two pieces, one after the other
-pub pieces-unite : (store : Printed) (i : ℕ) (all more : List (List RowValue)) (first second new : Piece) → new.start ≡ first.start
-    → new.end ≡ second.end → first.end ≡ second.start → IsPiece store i all first → IsPiece store (i + length all) more second
-    → IsPiece store i (all ++ more) new
-pieces-unite store i all more first second new start end seam one two = (
-  omega (arith, start, end, seam, one.0, two.0),
-  omega (arith, end, two.1),
-  λ small.
-      let text = store.text.items in
-      let few = length-append all more in
-      let a = first.end - first.start in
-      let b = second.end - second.start in
-      let long : new.end - new.start ≡ a + b = omega (arith, start, end, seam, one.0, two.0) in
-      let there : first.start + a ≡ second.start = omega (arith, seam, one.0) in
-      let line : i + length all + 1 ≡ i + 1 + length all = omega arith in
-      (λ k. take (long k) (drop (start k) text)) ∙ take-add a b (drop first.start text)
-      ∙ ap (λ (l : List ℕ). take a (drop first.start text) ++ take b l) (drop-drop a first.start text ∙ ap (λ (n : ℕ). drop n text) there)
-      ∙ (λ k. one.2 (omega (arith, small, few)) k ++ two.2 (omega (arith, small, few)) k)
-      ∙ ap (λ (n : ℕ). rows_text (i + 1) all ++ rows_text n more) line ∙ sym (rows_text-append (i + 1) all more),
-)
-
-pub rows_text-none : rows_text 1 [] ≡ []
+pub rows_text-none : (line : ℕ) → rows_text line [] ≡ []
 unfolding rows_text
-rows_text-none = refl
+rows_text-none line = refl
 
--- the piece of some haystacks' rows comes next in the text of all
-pub text-more : (store : Printed) (piece : Piece) (all more : List (List RowValue)) (old new : List ℕ)
-    → new ≡ old ++ take (piece.end - piece.start) (drop piece.start store.text.items) → (length all < 2 ^ 63 → old ≡ rows_text 1 all)
-    → IsPiece store (length all) more piece → length (all ++ more) < 2 ^ 63 → new ≡ rows_text 1 (all ++ more)
-text-more store piece all more old new longer told is small =
+pub flat_map-push : {X : Type 0} (f : X → List ℕ) (xs : List X) (x : X) → flat_map f (xs ++ x ∷ []) ≡ flat_map f xs ++ f x
+flat_map-push f xs x = flat_map-append f xs (x ∷ []) ∙ ap (λ l. flat_map f xs ++ l) (append-nil (f x))
+
+-- one row more of the haystack that is searched
+pub text-row : (i index line : ℕ) (all : List (List RowValue)) (rows : List RowValue) (row : RowValue) (old new : List ℕ) → index ≡ i + length all
+    → (index < 2 ^ 63 → line ≡ index + 1) → new ≡ old ++ row_text line row
+    → (i + length all < 2 ^ 63 → old ≡ rows_text (i + 1) all ++ flat_map (row_text (i + length all + 1)) rows)
+    → i + length all < 2 ^ 63 → new ≡ rows_text (i + 1) all ++ flat_map (row_text (i + length all + 1)) (rows ++ row ∷ [])
+text-row i index line all rows row old new at number longer told small =
+    let f : RowValue → List ℕ = row_text (i + length all + 1) in
+    let here : line ≡ i + length all + 1 = number (omega (arith, at, small)) ∙ ap (λ k. k + 1) at in
+    longer ∙ (λ k. told small k ++ row_text (here k) row) ∙ append_assoc (rows_text (i + 1) all) (flat_map f rows) (f row)
+    ∙ ap (λ l. rows_text (i + 1) all ++ l) (sym (flat_map-push f rows row))
+
+-- that haystack has no more
+pub text-end : (i : ℕ) (all : List (List RowValue)) (rows : List RowValue) (text : List ℕ)
+    → (i + length all < 2 ^ 63 → text ≡ rows_text (i + 1) all ++ flat_map (row_text (i + length all + 1)) rows)
+    → i + length (all ++ rows ∷ []) < 2 ^ 63 → text ≡ rows_text (i + 1) (all ++ rows ∷ []) ++ []
+unfolding rows_text
+text-end i all rows text told small =
+    let line : i + length all + 1 ≡ i + 1 + length all = omega arith in
+    told (omega (arith, small, length-append all (rows ∷ []))) ∙ ap (λ n. rows_text (i + 1) all ++ flat_map (row_text n) rows) line
+    ∙ ap (λ l. rows_text (i + 1) all ++ l) (sym (append-nil (flat_map (row_text (i + 1 + length all)) rows)))
+    ∙ sym (rows_text-append (i + 1) all (rows ∷ [])) ∙ sym (append-nil (rows_text (i + 1) (all ++ rows ∷ [])))
+
+-- the text of some haystacks' rows is the next piece of the text of all
+pub pieces-more : {V : Type 0} (items : V → List ℕ) (all more : List (List RowValue)) (old new : List V) (piece : V) → new ≡ old ++ piece ∷ []
+    → (length all < 2 ^ 63 → flat_map items old ≡ rows_text 1 all)
+    → (length all + length more < 2 ^ 63 → items piece ≡ rows_text (length all + 1) more ++ [])
+    → length (all ++ more) < 2 ^ 63 → flat_map items new ≡ rows_text 1 (all ++ more)
+pieces-more items all more old new piece longer told is small =
     let both : length all + length more < 2 ^ 63 = omega (arith, small, length-append all more) in
     let next : length all + 1 ≡ 1 + length all = omega arith in
-    longer ∙ (λ k. told (omega (arith, both)) k ++ is.2 both k) ∙ ap (λ n. rows_text 1 all ++ rows_text n more) next ∙ sym (rows_text-append 1 all more)
+    let own = is both ∙ append-nil (rows_text (length all + 1) more) in
+    ap (flat_map items) longer ∙ flat_map-push items old piece ∙ (λ k. told (omega (arith, both)) k ++ own k)
+    ∙ ap (λ n. rows_text 1 all ++ rows_text n more) next ∙ sym (rows_text-append 1 all more)
 
--- a success says what follows from what it says
-pub on-ok : {U E A B : Type 0} (result : Result U E) → (A → B) → OnOk result A → OnOk result B
-on-ok (Ok u) f a = f a
-on-ok (Err e) f a = tt
+-- .. and no piece of its own, where it is empty
+pub pieces-same : {V : Type 0} (items : V → List ℕ) (all more : List (List RowValue)) (old : List V) (piece : V) → length (items piece) ≡ 0
+    → (length all < 2 ^ 63 → flat_map items old ≡ rows_text 1 all)
+    → (length all + length more < 2 ^ 63 → items piece ≡ rows_text (length all + 1) more ++ [])
+    → length (all ++ more) < 2 ^ 63 → flat_map items old ≡ rows_text 1 (all ++ more)
+pieces-same items all more old piece none told is small =
+    sym (append-nil (flat_map items old)) ∙ ap (λ l. flat_map items old ++ l) (sym (no_items (items piece) none)) ∙ sym (flat_map-push items old piece)
+    ∙ pieces-more items all more old (old ++ piece ∷ []) piece refl told is small
+  where
+    no_items : (xs : List ℕ) → length xs ≡ 0 → xs ≡ []
+    no_items [] e = refl
+    no_items (x ∷ xs) e = absurd (omega arith)

@@ -1,5 +1,5 @@
 -- Under what the rows of a haystack are promised.
-use Rattle.std.specs.Prelude.{◌≡◌, ℕ, List, length, map, take, drop}
+use Rattle.std.specs.Prelude.{◌≡◌, ℕ, List, [], length, map, take, drop}
 use Rattle.std.specs.List.{All}
 use denote.Ref.{Bor}
 use Rattle.rx_model.specs.Search.{Patterns}
@@ -21,10 +21,10 @@ AreRowsOf regex haystacks i n all =
     (r : Patterns) → All (λ h. FindsRows regex r h.now) haystacks → all ≡ map (λ h. scan_rows r h.now) (take n (drop i haystacks))
 
 -- It is what rows of these haystacks have become, which are those of their matches.
-abbrev pub HasOutcome : {V : Type 0} (Is : ℕ → List (List RowValue) → V → Type 0) → RegexValue → List (Bor (List ℕ)) → (first count : ℕ) → V
-    → Type 0
-HasOutcome Is regex haystacks i n value =
-    (all : List (List RowValue)) × Is i all value × (length all ≡ n) × AreRowsOf regex haystacks i n all
+abbrev pub HasOutcome : {V : Type 0} (Holds : ℕ → List (List RowValue) → List RowValue → V → Type 0) → RegexValue → List (Bor (List ℕ))
+    → (first count : ℕ) → V → Type 0
+HasOutcome Holds regex haystacks i n value =
+    (all : List (List RowValue)) × Holds i all [] value × (length all ≡ n) × AreRowsOf regex haystacks i n all
 
 -- It is what the rows of the first n haystacks have become, in order.
 pub record HaveOutcomes {W : Type 0} (Are : List (List RowValue) → W → Type 0) (regex : RegexValue) (haystacks : List (Bor (List ℕ))) (n : ℕ)

@@ -5,7 +5,6 @@ pub mod Ends
 pub mod Haystacks
 pub mod Input
 pub mod Layout
-pub mod Outcomes
 pub mod Patterns
 pub mod Row
 pub mod Run

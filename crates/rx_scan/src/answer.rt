@@ -34,16 +34,33 @@ use std::thread::Threads;
 pub struct Answer {
     /// The status of the call.
     pub status: Status,
-    /// What is written, in bytes.
-    pub text: Vec<u8>,
+    /// What is written, in bytes: one piece after another (DECISIONS: the text of a scan stays in pieces).
+    pub pieces: Vec<Vec<u8>>,
 }
 
 impl Model for Answer {
+    ghost use Rattle.std.specs.List.{flat_map};
+    ghost use Rattle.std.specs.Vec.{vec_items};
     ghost use Rattle.rx_scan.specs.Answer.{AnswerValue};
 
     ghost Value = { AnswerValue };
 
-    ghost view = { λ a. record { status = a.status; text = a.text.items } };
+    ghost view = { λ a. record { status = a.status; text = flat_map vec_items a.pieces.items } };
+}
+
+impl Answer {
+    /// The answer with a text that is in one piece.
+    ///
+    /// # Errors
+    ///
+    /// `Memory`, where there was no memory.
+    pub fn new(alloc: Global, status: Status, text: Vec<u8>) -> Result<Answer, Memory>
+        ensures { IfOk result (λ a. a ≡ record { status = status; text = text.items }) }
+    {
+        let mut pieces = Vec::new(alloc);
+        pieces.push(text)?;
+        Ok(Answer { status, pieces })
+    }
 }
 
 /// The answer to an input. `gate` is told of each haystack before it is searched.
@@ -210,10 +227,7 @@ fn explained(alloc: Global, regex: &Regex) -> Result<Answer, Memory>
     let mut text = Vec::from_slice(alloc, b"strategy ")?;
     text.extend_from_slice(regex.strategy_name().as_bytes())?;
     text.extend_from_slice(b"\n")?;
-    Ok(Answer {
-        status: Status::Rows,
-        text,
-    })
+    Answer::new(alloc, Status::Rows, text)
 }
 
 /// A builder of regexes that do without these.
@@ -240,10 +254,10 @@ fn all_rows<R: Threads + Wait + Sync, G: Gate + Sync>(
 {
     let haystacks = split_lines(alloc, haystacks)?;
     // The workers print what they find (DECISIONS: one scan for rows, their text and their numbers).
-    let text = scan_for(rt, alloc, regex, &haystacks, asked.workers, gate, &RowsText)?;
+    let pieces = scan_for(rt, alloc, regex, &haystacks, asked.workers, gate, &RowsText)?;
     Ok(Answer {
         status: Status::Rows,
-        text,
+        pieces,
     })
 }
 
@@ -256,30 +270,21 @@ fn refused(alloc: Global, pattern: usize, kind: SyntaxErrorKind) -> Result<Answe
     text.extend_from_slice(b": ")?;
     text.extend_from_slice(kind.to_string(alloc)?.as_bytes())?;
     text.extend_from_slice(b"\n")?;
-    Ok(Answer {
-        status: Status::Pattern,
-        text,
-    })
+    Answer::new(alloc, Status::Pattern, text)
 }
 
 fn too_big(alloc: Global) -> Result<Answer, Memory>
     ensures { IfOk result (λ a. a ≡ too_big) }
 {
     let text = Vec::from_slice(alloc, b"patterns too big\n")?;
-    Ok(Answer {
-        status: Status::TooBig,
-        text,
-    })
+    Answer::new(alloc, Status::TooBig, text)
 }
 
 fn too_long(alloc: Global) -> Result<Answer, Memory>
     ensures { IfOk result (λ a. a ≡ too_long) }
 {
     let text = Vec::from_slice(alloc, b"input too long\n")?;
-    Ok(Answer {
-        status: Status::TooLong,
-        text,
-    })
+    Answer::new(alloc, Status::TooLong, text)
 }
 
 /// The longest UTF-8 prefix of the input has this length.
@@ -289,8 +294,5 @@ fn not_utf8(alloc: Global, valid_up_to: usize) -> Result<Answer, Memory>
     let mut text = Vec::from_slice(alloc, b"input is not UTF-8 at byte ")?;
     push_number(&mut text, valid_up_to)?;
     text.extend_from_slice(b"\n")?;
-    Ok(Answer {
-        status: Status::NotUtf8,
-        text,
-    })
+    Answer::new(alloc, Status::NotUtf8, text)
 }

@@ -1,8 +1,6 @@
 //! Matches, in numbers.
-ghost use Rattle.std.specs.Prelude.{◌≡◌, ◌<◌, ◌^◌, ◌∷◌, [], ℕ, List, Option, map, sum_by};
-ghost use Rattle.std.specs.List.{All};
-ghost use Rattle.rx_scan.specs.Counted.{slots_len, row_len, rows_len, counts_of};
-ghost use Rattle.rx_scan.specs.Row.{RowValue};
+ghost use Rattle.std.specs.Prelude.{◌≡◌, ◌<◌, ◌^◌};
+ghost use Rattle.rx_scan.specs.Counted.{AreCounted, slots_len, rows_len};
 
 use crate::outcome::Outcome;
 use crate::row::Row;
@@ -14,51 +12,57 @@ use std::alloc::Global;
 #[derive(Drop)]
 pub struct Counted;
 
-impl Outcome for Counted {
-    // Those of the haystack that is searched.
-    type Store = Vec<Row>;
+/// What was counted in some haystacks.
+#[derive(Drop)]
+pub struct Tally {
+    pub done: Vec<Counts>,
+    /// The rows of the haystack that is searched.
+    pub rows: Vec<Row>,
+}
 
-    type Value = Counts;
+impl Outcome for Counted {
+    type Value = Tally;
 
     type Whole = Vec<Counts>;
 
-    ghost holds = { λ _ store _ rows. store.items ≡ rows };
-
     // A sum that does not fit is not promised; no haystack has so many matches.
-    ghost is = { λ _ _ _ all counts. (rows : List RowValue) × (all ≡ rows ∷ []) × (rows_len rows < 2 ^ 64 → counts ≡ counts_of rows) };
+    ghost holds = { λ _ _ all rows tally. AreCounted all tally.done.items × (tally.rows.items ≡ rows) };
 
-    ghost are = { λ _ all whole. All (λ rows. rows_len rows < 2 ^ 64) all → whole.items ≡ map counts_of all };
+    ghost are = { λ _ all whole. AreCounted all whole.items };
 
-    fn open(&self, alloc: Global) -> Vec<Row> {
-        Vec::new(alloc)
+    fn open(&self, alloc: Global, _room: usize) -> Result<Tally, Memory> {
+        Ok(Tally {
+            done: Vec::new(alloc),
+            rows: Vec::new(alloc),
+        })
     }
 
-    fn begin(&self, _index: usize, store: &mut Vec<Row>) {
-        store.clear();
+    fn room(&self, _tally: &Tally) -> usize {
+        0
     }
 
-    fn add(&self, _index: usize, row: Row, store: &mut Vec<Row>) -> Result<(), Memory> {
-        store.push(row)?;
+    fn add(&self, _index: usize, row: Row, tally: &mut Tally) -> Result<(), Memory> {
+        tally.rows.push(row)?;
         Ok(())
     }
 
-    fn end(&self, _alloc: Global, _index: usize, store: &mut Vec<Row>) -> Counts {
-        Counts {
-            matches: store.len(),
-            covered: covered_by(store),
-        }
-    }
-
-    fn unite(&self, _store: &Vec<Row>, _first: &mut Counts, second: Counts) -> Result<(), Counts> {
-        Err(second)
+    fn end(&self, _alloc: Global, tally: &mut Tally) -> Result<(), Memory> {
+        let counts = Counts {
+            matches: tally.rows.len(),
+            covered: covered_by(&tally.rows),
+        };
+        tally.done.push(counts)?;
+        tally.rows.clear();
+        Ok(())
     }
 
     fn nothing(&self, alloc: Global) -> Vec<Counts> {
         Vec::new(alloc)
     }
 
-    fn put(&self, _store: &Vec<Row>, value: Counts, whole: &mut Vec<Counts>) -> Result<(), Memory> {
-        whole.push(value)?;
+    fn put(&self, tally: Tally, whole: &mut Vec<Counts>) -> Result<(), Memory> {
+        let mut tally = tally;
+        whole.append(&mut tally.done)?;
         Ok(())
     }
 }

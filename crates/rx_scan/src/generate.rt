@@ -88,8 +88,5 @@ fn told(alloc: Global, texts: &[Vec<u8>], found: &[Counts]) -> Result<Answer, Me
     let totals = totals_of(texts, found);
     let mut text = Vec::new(alloc);
     push_totals(&mut text, totals)?;
-    Ok(Answer {
-        status: Status::Generated,
-        text,
-    })
+    Answer::new(alloc, Status::Generated, text)
 }

@@ -148,15 +148,13 @@ struct Works<'a, G, O> {
 impl<'a, G: Gate, O: Outcome> Task for Works<'a, G, O> {
     type Value = O::Value;
 
-    type Store = O::Store;
-
     type Scratch = RegexFinder<'a>;
 
     type Whole = O::Whole;
 
     ghost size = { λ w. length w.haystacks.now };
 
-    ghost answers = { λ w store i n value. HasOutcome (O.is w.outcome.now store) w.regex.now w.haystacks.now i n value };
+    ghost answers = { λ w i n value. HasOutcome (O.holds w.outcome.now) w.regex.now w.haystacks.now i n value };
 
     ghost fits = { λ w f. f.regex.now ≡ w.regex.now };
 
@@ -174,8 +172,12 @@ impl<'a, G: Gate, O: Outcome> Task for Works<'a, G, O> {
         finder.refit(alloc, self.regex)
     }
 
-    fn open(&self, alloc: Global) -> O::Store {
-        self.outcome.open(alloc)
+    fn open(&self, alloc: Global, room: usize) -> Result<O::Value, Memory> {
+        self.outcome.open(alloc, room)
+    }
+
+    fn room(&self, value: &O::Value) -> usize {
+        self.outcome.room(value)
     }
 
     fn answer(
@@ -183,28 +185,18 @@ impl<'a, G: Gate, O: Outcome> Task for Works<'a, G, O> {
         alloc: Global,
         index: usize,
         finder: &mut RegexFinder<'a>,
-        store: &mut O::Store,
-    ) -> Result<O::Value, Memory> {
+        value: &mut O::Value,
+    ) -> Result<(), Memory> {
         a_search_is_for_its_patterns();
         self.gate.reached(index);
         let haystack = self.haystacks[index];
-        self.outcome.begin(index, store);
         let mut searcher = Searcher::new(Input::new(haystack));
         // Each row is handed on as it is found (DECISIONS: one scan for rows, their text and their numbers).
         'matches: while let Some(found) = searcher.advance(finder)? {
             let row = self.layout.row(alloc, found.pattern(), finder.slots())?;
-            self.outcome.add(index, row, store)?;
+            self.outcome.add(index, row, value)?;
         }
-        Ok(self.outcome.end(alloc, index, store))
-    }
-
-    fn unite(
-        &self,
-        store: &O::Store,
-        first: &mut O::Value,
-        second: O::Value,
-    ) -> Result<(), O::Value> {
-        self.outcome.unite(store, first, second)
+        self.outcome.end(alloc, value)
     }
 
     fn begin(&self, alloc: Global) -> O::Whole {
@@ -215,11 +207,10 @@ impl<'a, G: Gate, O: Outcome> Task for Works<'a, G, O> {
         &self,
         _index: usize,
         _count: usize,
-        store: &O::Store,
         value: O::Value,
         whole: &mut O::Whole,
     ) -> Result<(), Memory> {
-        self.outcome.put(store, value, whole)
+        self.outcome.put(value, whole)
     }
 }
 
@@ -243,13 +234,12 @@ fn no_rows<G: Gate, O: Outcome>(
 ) -> Result<O::Whole, Memory>
     ensures { IfOk result (O.are outcome.now (replicate (length haystacks.now) [])) }
 {
-    let mut whole = outcome.nothing(alloc);
-    let mut store = outcome.open(alloc);
+    let mut value = outcome.open(alloc, 0)?;
     for index in 0..haystacks.len() {
         gate.reached(index);
-        outcome.begin(index, &mut store);
-        let value = outcome.end(alloc, index, &mut store);
-        outcome.put(&store, value, &mut whole)?;
+        outcome.end(alloc, &mut value)?;
     }
+    let mut whole = outcome.nothing(alloc);
+    outcome.put(value, &mut whole)?;
     Ok(whole)
 }

@@ -1,8 +1,8 @@
 //! What the matches of a haystack become.
-ghost use Rattle.std.specs.Prelude.{◌≡◌, ◌+◌, ◌<◌, ◌^◌, ◌++◌, ◌∷◌, [], ℕ, List, map, length, OnOk, MatchResult};
+ghost use Rattle.std.specs.Prelude.{◌≡◌, ◌+◌, ◌<◌, ◌^◌, ◌++◌, ◌∷◌, [], ℕ, List, map, length, IfOk, OnOk};
+ghost use Rattle.std.specs.List.{flat_map};
 ghost use Rattle.std.specs.Vec.{vec_items};
-ghost use Rattle.rx_scan.specs.Outcomes.{Keeps, IsPiece, IsPrinted};
-ghost use Rattle.rx_scan.specs.Row.{RowValue, rows_text};
+ghost use Rattle.rx_scan.specs.Row.{RowValue, row_text, rows_text};
 
 use crate::output::print_row;
 use crate::row::Row;
@@ -10,62 +10,49 @@ use rx_search::Memory;
 use std::alloc::Global;
 use std::mem;
 
-/// What a scan makes of the matches of each haystack, in the worker that found them, and of those of all haystacks.
+/// What a scan makes of the matches of haystacks one after another, in the worker that found them, and of those of all haystacks.
 pub trait Outcome {
-    /// What a worker keeps of the haystacks that it searched.
-    type Store: Send + Drop;
-    /// What the rows of a haystack become, or those of some haystacks one after another. It may be a place in the store.
+    /// What the rows of some haystacks one after another become.
     type Value: Send + Drop;
     /// What the rows of all haystacks become.
     type Whole: Send + Drop;
 
-    /// Whether these rows of the haystack of a number were added to the store since that began.
-    ghost holds: { Self → Self.Store → ℕ → List RowValue → Type 0 };
-
-    /// Whether the rows of these haystacks, the first of which has a number, have become this, with the store.
-    ghost is: { Self → Self.Store → ℕ → List (List RowValue) → Self.Value → Type 0 };
+    /// Whether the rows of these haystacks, the first of which has a number, and these rows of the next one have become this.
+    ghost holds: { Self → ℕ → List (List RowValue) → List RowValue → Self.Value → Type 0 };
 
     /// Whether the rows of so many haystacks have become this.
     ghost are: { Self → List (List RowValue) → Self.Whole → Type 0 };
 
-    /// The store of a worker that searched nothing yet.
-    fn open(&self, alloc: Global) -> Self::Store;
-
-    /// Begins the haystack of this number, of which no row was added yet.
-    fn begin(&self, index: usize, store: &mut Self::Store)
-        ensures none { holds self.now store.new index [] }
-        ensures keeps { Keeps (is self.now) store.old store.new };
-
-    /// Adds the next row of that haystack.
+    /// What the rows of no haystack become, with as much room as `room` told of what those of some others became, or 0.
     ///
     /// # Errors
     ///
     /// `Memory`, where there was no memory for it.
-    fn add(&self, index: usize, row: Row, store: &mut Self::Store) -> Result<(), Memory>
-        ensures more { (rows : List RowValue) → holds self.now store.old index rows → OnOk result (holds self.now store.new index (rows ++ row ∷ [])) }
-        ensures keeps { OnOk result (Keeps (is self.now) store.old store.new) };
+    fn open(&self, alloc: Global, room: usize) -> Result<Self::Value, Memory>
+        ensures { IfOk result (λ value. (i : ℕ) → holds self.now i [] [] value) };
 
-    /// What the rows of that haystack become.
-    fn end(&self, alloc: Global, index: usize, store: &mut Self::Store) -> Self::Value
-        ensures value { (rows : List RowValue) → holds self.now store.old index rows → is self.now store.new index (rows ∷ []) result }
-        ensures keeps { Keeps (is self.now) store.old store.new };
+    /// How much room it takes that rows became this.
+    fn room(&self, value: &Self::Value) -> usize;
 
-    /// Makes one of what the rows of some haystacks became and what those of the haystacks after them did.
+    /// Adds the next row of the haystack of this number.
     ///
     /// # Errors
     ///
-    /// The second, where both stay as they are.
-    fn unite(
-        &self,
-        store: &Self::Store,
-        first: &mut Self::Value,
-        second: Self::Value,
-    ) -> Result<(), Self::Value>
-        ensures { (i : ℕ) (all more : List (List RowValue)) → is self.now store.now i all first.old → is self.now store.now (i + length all) more second
-            → MatchResult result (λ _. is self.now store.now i (all ++ more) first.new)
-            (λ back. is self.now store.now i all first.new × is self.now store.now (i + length all) more back) };
+    /// `Memory`, where there was no memory for it.
+    fn add(&self, index: usize, row: Row, value: &mut Self::Value) -> Result<(), Memory>
+        ensures { (i : ℕ) (all : List (List RowValue)) (rows : List RowValue) → index ≡ i + length all → holds self.now i all rows value.old
+            → OnOk result (holds self.now i all (rows ++ row ∷ []) value.new) };
 
-    /// What the rows of no haystack become.
+    /// Ends the haystack, of which all rows were added.
+    ///
+    /// # Errors
+    ///
+    /// `Memory`, where there was no memory for it.
+    fn end(&self, alloc: Global, value: &mut Self::Value) -> Result<(), Memory>
+        ensures { (i : ℕ) (all : List (List RowValue)) (rows : List RowValue) → holds self.now i all rows value.old
+            → OnOk result (holds self.now i (all ++ rows ∷ []) [] value.new) };
+
+    /// What the rows of no haystack become, where these are all.
     fn nothing(&self, alloc: Global) -> Self::Whole
         ensures { are self.now [] result };
 
@@ -74,14 +61,8 @@ pub trait Outcome {
     /// # Errors
     ///
     /// `Memory`, where there was no memory for it.
-    fn put(
-        &self,
-        store: &Self::Store,
-        value: Self::Value,
-        whole: &mut Self::Whole,
-    ) -> Result<(), Memory>
-        requires value { (i : ℕ) × (more : List (List RowValue)) × is self.now store.now i more value }
-        ensures { (all more : List (List RowValue)) → are self.now all whole.old → is self.now store.now (length all) more value
+    fn put(&self, value: Self::Value, whole: &mut Self::Whole) -> Result<(), Memory>
+        ensures { (all more : List (List RowValue)) → are self.now all whole.old → holds self.now (length all) more [] value
             → OnOk result (are self.now (all ++ more) whole.new) };
 }
 
@@ -89,57 +70,52 @@ pub trait Outcome {
 #[derive(Drop)]
 pub struct AllRows;
 
-impl Outcome for AllRows {
-    // Those of the haystack that is searched.
-    type Store = Vec<Row>;
+/// The rows of some haystacks.
+#[derive(Drop)]
+pub struct Kept {
+    pub done: Vec<Vec<Row>>,
+    /// Those of the haystack that is searched.
+    pub rows: Vec<Row>,
+}
 
-    type Value = Vec<Row>;
+impl Outcome for AllRows {
+    type Value = Kept;
 
     type Whole = Vec<Vec<Row>>;
 
-    ghost holds = { λ _ store _ rows. store.items ≡ rows };
-
-    ghost is = { λ _ _ _ all kept. all ≡ kept.items ∷ [] };
+    ghost holds = { λ _ _ all rows kept. (map vec_items kept.done.items ≡ all) × (kept.rows.items ≡ rows) };
 
     ghost are = { λ _ all whole. map vec_items whole.items ≡ all };
 
-    fn open(&self, alloc: Global) -> Vec<Row> {
-        Vec::new(alloc)
+    fn open(&self, alloc: Global, _room: usize) -> Result<Kept, Memory> {
+        Ok(Kept {
+            done: Vec::new(alloc),
+            rows: Vec::new(alloc),
+        })
     }
 
-    fn begin(&self, _index: usize, store: &mut Vec<Row>) {
-        store.clear();
+    fn room(&self, _kept: &Kept) -> usize {
+        0
     }
 
-    fn add(&self, _index: usize, row: Row, store: &mut Vec<Row>) -> Result<(), Memory> {
-        store.push(row)?;
+    fn add(&self, _index: usize, row: Row, kept: &mut Kept) -> Result<(), Memory> {
+        kept.rows.push(row)?;
         Ok(())
     }
 
-    fn end(&self, alloc: Global, _index: usize, store: &mut Vec<Row>) -> Vec<Row> {
-        mem::replace(store, Vec::new(alloc))
-    }
-
-    fn unite(
-        &self,
-        _store: &Vec<Row>,
-        _first: &mut Vec<Row>,
-        second: Vec<Row>,
-    ) -> Result<(), Vec<Row>> {
-        Err(second)
+    fn end(&self, alloc: Global, kept: &mut Kept) -> Result<(), Memory> {
+        let rows = mem::replace(&mut kept.rows, Vec::new(alloc));
+        kept.done.push(rows)?;
+        Ok(())
     }
 
     fn nothing(&self, alloc: Global) -> Vec<Vec<Row>> {
         Vec::new(alloc)
     }
 
-    fn put(
-        &self,
-        _store: &Vec<Row>,
-        value: Vec<Row>,
-        whole: &mut Vec<Vec<Row>>,
-    ) -> Result<(), Memory> {
-        whole.push(value)?;
+    fn put(&self, kept: Kept, whole: &mut Vec<Vec<Row>>) -> Result<(), Memory> {
+        let mut kept = kept;
+        whole.append(&mut kept.done)?;
         Ok(())
     }
 }
@@ -148,71 +124,46 @@ impl Outcome for AllRows {
 #[derive(Drop)]
 pub struct RowsText;
 
-/// The text of all haystacks that a worker searched, one after another.
-#[derive(Drop)]
-pub struct Printed {
-    pub text: Vec<u8>,
-    /// Where that of the haystack begins that is searched.
-    pub start: usize,
-}
-
-/// A piece of a text, of the rows of haystacks one after another.
-#[derive(Clone, Copy, Drop)]
-pub struct Piece {
-    pub start: usize,
-    pub end: usize,
-}
+/// How many bytes a text takes room for before it has any, at most.
+const MOST_ROOM: usize = 65536;
 
 impl Outcome for RowsText {
-    type Store = Printed;
+    type Value = Vec<u8>;
 
-    type Value = Piece;
-
-    type Whole = Vec<u8>;
-
-    ghost holds = { λ _ store index rows. IsPrinted store index rows };
-
-    ghost is = { λ _ store index all piece. IsPiece store index all piece };
+    // Pieces of one text, which no one puts together before it is written (DECISIONS: the text of a scan stays in pieces).
+    type Whole = Vec<Vec<u8>>;
 
     // No haystack has a number beyond this one.
-    ghost are = { λ _ all whole. length all < 2 ^ 63 → whole.items ≡ rows_text 1 all };
+    ghost holds = { λ _ i all rows text. i + length all < 2 ^ 63 → text.items ≡ rows_text (i + 1) all ++ flat_map (row_text (i + length all + 1)) rows };
 
-    fn open(&self, alloc: Global) -> Printed {
-        Printed {
-            text: Vec::new(alloc),
-            start: 0,
-        }
+    ghost are = { λ _ all whole. length all < 2 ^ 63 → flat_map vec_items whole.items ≡ rows_text 1 all };
+
+    fn open(&self, alloc: Global, room: usize) -> Result<Vec<u8>, Memory> {
+        // As many lines have about as much text, which then takes one allocation.
+        let text = Vec::with_capacity(alloc, room.saturating_add(room / 8).min(MOST_ROOM))?;
+        Ok(text)
     }
 
-    fn begin(&self, _index: usize, store: &mut Printed) {
-        store.start = store.text.len();
+    fn room(&self, text: &Vec<u8>) -> usize {
+        text.len()
     }
 
-    fn add(&self, index: usize, row: Row, store: &mut Printed) -> Result<(), Memory> {
-        print_row(&mut store.text, index.saturating_add(1), &row)
+    fn add(&self, index: usize, row: Row, text: &mut Vec<u8>) -> Result<(), Memory> {
+        print_row(text, index.saturating_add(1), &row)
     }
 
-    fn end(&self, _alloc: Global, _index: usize, store: &mut Printed) -> Piece {
-        Piece {
-            start: store.start,
-            end: store.text.len(),
-        }
-    }
-
-    fn unite(&self, _store: &Printed, first: &mut Piece, second: Piece) -> Result<(), Piece> {
-        if first.end != second.start {
-            return Err(second);
-        }
-        first.end = second.end;
+    fn end(&self, _alloc: Global, _text: &mut Vec<u8>) -> Result<(), Memory> {
         Ok(())
     }
 
-    fn nothing(&self, alloc: Global) -> Vec<u8> {
+    fn nothing(&self, alloc: Global) -> Vec<Vec<u8>> {
         Vec::new(alloc)
     }
 
-    fn put(&self, store: &Printed, piece: Piece, whole: &mut Vec<u8>) -> Result<(), Memory> {
-        whole.extend_from_slice(&store.text[piece.start..piece.end])?;
+    fn put(&self, text: Vec<u8>, whole: &mut Vec<Vec<u8>>) -> Result<(), Memory> {
+        if !text.is_empty() {
+            whole.push(text)?;
+        }
         Ok(())
     }
 }

@@ -1,5 +1,7 @@
 //! Writing: numbers, the text of rows, and a whole text into a sink.
-ghost use Rattle.std.specs.Prelude.{◌≡◌, ◌++◌, ◌<◌, ◌≤◌, ℕ, List, Option, Some, decimal, length, take, IfOk, OnOk, OnErr};
+ghost use Rattle.std.specs.Prelude.{◌≡◌, ◌++◌, ◌<◌, ◌≤◌, ℕ, List, Option, Some, decimal, length, take, true, false, IfOk, OnOk, OnErr};
+ghost use Rattle.std.specs.List.{flat_map};
+ghost use Rattle.std.specs.Vec.{vec_items};
 ghost use Rattle.rx_scan.specs.Ends.{HasRisen, Gains, GainsPrefix};
 ghost use Rattle.rx_scan.specs.Row.{span_text, group_text, groups_text, slots_text, row_text};
 
@@ -7,6 +9,7 @@ use crate::ends::{Failed, Sink};
 use crate::row::Row;
 use rx_gen::push_number;
 use rx_search::{Memory, NonMaxUsize};
+use std::alloc::Global;
 
 /// Appends `START..END`, or `-` where one of them is not told.
 fn push_span(
@@ -17,7 +20,7 @@ fn push_span(
     ensures { OnOk result (text.new.items ≡ text.old.items ++ span_text start end) }
 {
     let (Some(start), Some(end)) = (start, end) else {
-        text.extend_from_slice(b"-")?;
+        text.push(b'-')?;
         return Ok(());
     };
     push_number(text, start.get())?;
@@ -35,9 +38,9 @@ fn push_group(
 ) -> Result<(), Memory>
     ensures { OnOk result (text.new.items ≡ text.old.items ++ group_text group start end) }
 {
-    text.extend_from_slice(b" ")?;
+    text.push(b' ')?;
     push_number(text, group)?;
-    text.extend_from_slice(b"=")?;
+    text.push(b'=')?;
     push_span(text, start, end)?;
     Ok(())
 }
@@ -67,11 +70,11 @@ pub fn print_row(text: &mut Vec<u8>, line: usize, row: &Row) -> Result<(), Memor
 {
     // What is printed is what `scan` answers, as data (DECISIONS: the text of a row is defined from the row as data).
     push_number(text, line)?;
-    text.extend_from_slice(b":")?;
+    text.push(b':')?;
     push_number(text, row.pattern.as_usize())?;
-    text.extend_from_slice(b":")?;
+    text.push(b':')?;
     push_slots(text, row.slots.as_slice())?;
-    text.extend_from_slice(b"\n")?;
+    text.push(b'\n')?;
     Ok(())
 }
 
@@ -85,7 +88,7 @@ fn push_slots(text: &mut Vec<u8>, slots: &[Option<NonMaxUsize>]) -> Result<(), M
             push_groups(text, groups)
         }
         _ => {
-            text.extend_from_slice(b"-")?;
+            text.push(b'-')?;
             Ok(())
         }
     }
@@ -99,6 +102,7 @@ fn push_slots(text: &mut Vec<u8>, slots: &[Option<NonMaxUsize>]) -> Result<(), M
 pub fn write_text<K: Sink>(sink: &mut K, text: &[u8]) -> Result<(), Failed>
     ensures ok { OnOk result (Gains (K.held sink.old) (K.held sink.new) text.now) }
     ensures err { OnErr result (GainsPrefix (K.held sink.old) (K.held sink.new) text.now) }
+    ensures counts { K.faults sink.old ≤ K.faults sink.new }
     ensures failed { OnErr result (HasRisen (K.faults sink.old) (K.faults sink.new)) }
 {
     let mut done = 0;
@@ -106,4 +110,52 @@ pub fn write_text<K: Sink>(sink: &mut K, text: &[u8]) -> Result<(), Failed>
         done += sink.write(&text[done..])?;
     }
     Ok(())
+}
+
+/// How many bytes are gathered before they are written, at most.
+const GATHERED: usize = 65536;
+
+/// Writes all of a text that is in pieces, or a front of it that ends where the sink failed. Small pieces are gathered, so that
+/// they are no writes of their own.
+///
+/// # Errors
+///
+/// `Failed`, where the sink failed; it holds a front of the text.
+pub fn write_pieces<K: Sink>(alloc: Global, sink: &mut K, pieces: &[Vec<u8>]) -> Result<(), Failed>
+    ensures ok { OnOk result (Gains (K.held sink.old) (K.held sink.new) (flat_map vec_items pieces.now)) }
+    ensures err { OnErr result (GainsPrefix (K.held sink.old) (K.held sink.new) (flat_map vec_items pieces.now)) }
+    ensures failed { OnErr result (HasRisen (K.faults sink.old) (K.faults sink.new)) }
+{
+    let mut gathered = Vec::new(alloc);
+    for piece in pieces {
+        write_piece(sink, &mut gathered, piece)?;
+    }
+    write_text(sink, &gathered)
+}
+
+/// Gathers a piece, or writes what was gathered, and then the piece.
+fn write_piece<K: Sink>(sink: &mut K, gathered: &mut Vec<u8>, piece: &[u8]) -> Result<(), Failed>
+    ensures ok { OnOk result ((written : List ℕ) × Gains (K.held sink.old) (K.held sink.new) written × (written ++ gathered.new.items ≡ gathered.old.items ++ piece.now)) }
+    ensures err { OnErr result (GainsPrefix (K.held sink.old) (K.held sink.new) (gathered.old.items ++ piece.now)) }
+    ensures counts { K.faults sink.old ≤ K.faults sink.new }
+    ensures failed { OnErr result (HasRisen (K.faults sink.old) (K.faults sink.new)) }
+{
+    if gather(gathered, piece) {
+        return Ok(());
+    }
+    write_text(sink, gathered)?;
+    gathered.clear();
+    if gather(gathered, piece) {
+        return Ok(());
+    }
+    write_text(sink, piece)
+}
+
+/// Appends a piece to those that were gathered, unless they are too long then. False also where there is no memory for it.
+fn gather(gathered: &mut Vec<u8>, piece: &[u8]) -> bool
+    ensures some { result ≡ true → gathered.new.items ≡ gathered.old.items ++ piece.now }
+    ensures none { result ≡ false → gathered.new.items ≡ gathered.old.items }
+{
+    gathered.len().saturating_add(piece.len()) <= GATHERED
+        && gathered.extend_from_slice(piece).is_ok()
 }

@@ -11,7 +11,7 @@ use crate::arguments::{Call, Command, call_of};
 use crate::ends::{Sink, Source};
 use crate::generate::generate;
 use crate::input::{ReadError, read_input};
-use crate::output::write_text;
+use crate::output::{write_pieces, write_text};
 use crate::status::{Status, code_of};
 use rx_search::Gate;
 use std::alloc::Global;
@@ -86,7 +86,7 @@ pub fn run<R: Threads + Wait + Sync, S: Source, K: Sink, G: Gate + Sync>(
     };
     // What is written is known in whole before the first write (DECISIONS: statuses 1 to 6 are decided before anything is searched).
     match answer_call(rt, alloc, &call, source, gate) {
-        Ok(answer) => finish_answer(sink, answer),
+        Ok(answer) => finish_answer(alloc, sink, answer),
         Err(ReadError::Source) => code_of(Status::SourceFailed),
         Err(ReadError::Memory) => code_of(Status::OutOfMemory),
     }
@@ -103,10 +103,13 @@ fn finish<K: Sink>(sink: &mut K, status: Status, text: &[u8]) -> u8
 }
 
 /// Writes the text of an answer, and returns the status of the call.
-fn finish_answer<K: Sink>(sink: &mut K, answer: Answer) -> u8
+fn finish_answer<K: Sink>(alloc: Global, sink: &mut K, answer: Answer) -> u8
     ensures { Finished answer (K.held sink.old) (K.held sink.new) (K.faults sink.old) (K.faults sink.new) result }
 {
-    finish(sink, answer.status, &answer.text)
+    match write_pieces(alloc, sink, &answer.pieces) {
+        Ok(()) => code_of(answer.status),
+        Err(_) => code_of(Status::SinkFailed),
+    }
 }
 
 /// Answers the call, and reads the input where it asks for one.

@@ -28,5 +28,5 @@ module _ {S : Type 0} (pool : SlotPool S) where
   IsPlace draws place = (place.slot < slots_of pool) × IsFree place.seat × IsDrawer draws place.drawer
 
   -- what was found are answers, and the seat is free
-  abbrev pub IsLeft : {V T : Type 0} → ℕ → (T → ℕ → ℕ → V → Type 0) → Left V T S → Type 0
-  IsLeft size Is left = IfOk left.notes (AreFound size Is) × IfSome left.seat IsFree
+  abbrev pub IsLeft : {V : Type 0} → ℕ → (ℕ → ℕ → V → Type 0) → Left V S → Type 0
+  IsLeft size Is left = IfOk left.found (λ found. AreFound size Is found.items) × IfSome left.seat IsFree

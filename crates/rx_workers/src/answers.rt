@@ -3,9 +3,9 @@ ghost use Rattle.std.specs.Prelude.{◌≡◌, ◌+◌, ◌<◌, ◌≤◌, IfOk
 ghost use Rattle.rx_slots.specs.SlotSeats.{IsSlotSeat};
 ghost use Rattle.std.specs.List.{All};
 ghost use Rattle.rx_workers.specs.Places.{IsLeft, IsFree};
-ghost use Rattle.rx_workers.specs.Answers.{AreFound, AreQueued, IsFound};
+ghost use Rattle.rx_workers.specs.Answers.{AreFound, IsFound};
 
-use crate::found::{Found, Notes, Queue};
+use crate::found::Found;
 use crate::place::Left;
 use crate::task::Task;
 use rx_search::Memory;
@@ -23,17 +23,17 @@ pub fn gather<T: Task>(
     task: &T,
     pool: &SlotPool<T::Scratch>,
     seat: &mut SlotSeat<T::Scratch>,
-    left: Vec<Left<T::Value, T::Store, T::Scratch>>,
-) -> Result<Vec<Queue<T::Value, T::Store>>, Memory>
+    left: Vec<Left<T::Value, T::Scratch>>,
+) -> Result<Vec<VecDeque<Found<T::Value>>>, Memory>
     requires seat { IsSlotSeat pool.now seat.old }
     requires left { All (IsLeft pool.now (T.size task.now) (T.answers task.now)) left.items }
-    ensures { IfOk result (λ all. All (AreQueued (T.size task.now) (T.answers task.now)) all.items) }
+    ensures { IfOk result (λ all. All (λ found. AreFound (T.size task.now) (T.answers task.now) found.items) all.items) }
 {
     let mut all = Ok(Vec::new(alloc));
     for one in left {
-        let Left { notes, seat: other } = one;
+        let Left { found, seat: other } = one;
         join(pool, seat, other);
-        all = with_notes(task, all, notes);
+        all = with_found(task, all, found);
     }
     all
 }
@@ -50,21 +50,18 @@ fn join<S: Drop>(pool: &SlotPool<S>, seat: &mut SlotSeat<S>, other: Option<SlotS
 }
 
 /// What workers found, with what another one did.
-fn with_notes<T: Task>(
+fn with_found<T: Task>(
     _task: &T,
-    all: Result<Vec<Queue<T::Value, T::Store>>, Memory>,
-    notes: Result<Notes<T::Value, T::Store>, Memory>,
-) -> Result<Vec<Queue<T::Value, T::Store>>, Memory>
-    requires all { IfOk all (λ all. All (AreQueued (T.size _task.now) (T.answers _task.now)) all.items) }
-    requires notes { IfOk notes (AreFound (T.size _task.now) (T.answers _task.now)) }
-    ensures { IfOk result (λ all. All (AreQueued (T.size _task.now) (T.answers _task.now)) all.items) }
+    all: Result<Vec<VecDeque<Found<T::Value>>>, Memory>,
+    found: Result<Vec<Found<T::Value>>, Memory>,
+) -> Result<Vec<VecDeque<Found<T::Value>>>, Memory>
+    requires all { IfOk all (λ all. All (λ found. AreFound (T.size _task.now) (T.answers _task.now) found.items) all.items) }
+    requires found { IfOk found (λ found. AreFound (T.size _task.now) (T.answers _task.now) found.items) }
+    ensures { IfOk result (λ all. All (λ found. AreFound (T.size _task.now) (T.answers _task.now) found.items) all.items) }
 {
     let mut all = all?;
-    let Notes { found, store } = notes?;
-    all.push(Queue {
-        found: VecDeque::from_vec(found),
-        store,
-    })?;
+    let found = found?;
+    all.push(VecDeque::from_vec(found))?;
     Ok(all)
 }
 
@@ -76,9 +73,9 @@ fn with_notes<T: Task>(
 pub fn complete<T: Task>(
     alloc: Global,
     task: &T,
-    queues: Vec<Queue<T::Value, T::Store>>,
+    queues: Vec<VecDeque<Found<T::Value>>>,
 ) -> Result<T::Whole, Memory>
-    requires { All (AreQueued (T.size task.now) (T.answers task.now)) queues.items }
+    requires { All (λ found. AreFound (T.size task.now) (T.answers task.now) found.items) queues.items }
     ensures { IfOk result (T.gathers task.now (T.size task.now)) }
 {
     let count = task.count();
@@ -95,7 +92,7 @@ pub fn complete<T: Task>(
 }
 
 /// The worker that found the answer to a number which comes next, if one did: this one, or another.
-fn finder_of<V, S>(queues: &[Queue<V, S>], index: usize, worker: usize) -> usize {
+fn finder_of<V>(queues: &[VecDeque<Found<V>>], index: usize, worker: usize) -> usize {
     if comes_next(queues, index, worker) {
         return worker;
     }
@@ -108,9 +105,9 @@ fn finder_of<V, S>(queues: &[Queue<V, S>], index: usize, worker: usize) -> usize
 }
 
 /// Whether the next answer of a worker is that to this number and those after it.
-fn comes_next<V, S>(queues: &[Queue<V, S>], index: usize, worker: usize) -> bool {
+fn comes_next<V>(queues: &[VecDeque<Found<V>>], index: usize, worker: usize) -> bool {
     match queues.get(worker) {
-        Some(queue) => match queue.found.front() {
+        Some(queue) => match queue.front() {
             Some(one) => one.index == index,
             None => false,
         },
@@ -118,27 +115,26 @@ fn comes_next<V, S>(queues: &[Queue<V, S>], index: usize, worker: usize) -> bool
     }
 }
 
-/// Adds the answer to the number that comes next: that which this worker found, or else the one that is looked for now. To how many numbers
-/// an answer was added.
+/// Adds the answer to the number that comes next, and with it those to the numbers after it that this worker found with it; or else the one
+/// that is looked for now. To how many numbers an answer was added.
 fn put_next<T: Task>(
     alloc: Global,
     task: &T,
     index: usize,
     worker: usize,
-    all: &mut Vec<Queue<T::Value, T::Store>>,
+    all: &mut Vec<VecDeque<Found<T::Value>>>,
     whole: &mut T::Whole,
 ) -> Result<usize, Memory>
     requires there { index < T.size task.now }
-    requires all { All (AreQueued (T.size task.now) (T.answers task.now)) all.old.items }
+    requires all { All (λ found. AreFound (T.size task.now) (T.answers task.now) found.items) all.old.items }
     requires before { T.gathers task.now index whole.old }
     ensures put { IfOk result (λ n. T.gathers task.now (index + n) whole.new) }
     ensures count { IfOk result (λ n. (0 < n) × (index + n ≤ T.size task.now)) }
-    ensures all { OnOk result (All (AreQueued (T.size task.now) (T.answers task.now)) all.new.items) }
+    ensures all { OnOk result (All (λ found. AreFound (T.size task.now) (T.answers task.now) found.items) all.new.items) }
 {
     if worker < all.len() {
-        let queue = &mut all[worker];
-        if let Some(Found { count, value, .. }) = next_of(task, index, queue) {
-            task.put(index, count, &queue.store, value, whole)?;
+        if let Some(Found { count, value, .. }) = next_of(task, index, &mut all[worker]) {
+            task.put(index, count, value, whole)?;
             return Ok(count);
         }
     }
@@ -146,18 +142,18 @@ fn put_next<T: Task>(
     Ok(1)
 }
 
-/// The next answer of this worker, if it is that to this number and those after it.
+/// The next answers of this worker, if they are to this number and those after it.
 fn next_of<T: Task>(
     _task: &T,
     index: usize,
-    queue: &mut Queue<T::Value, T::Store>,
+    queue: &mut VecDeque<Found<T::Value>>,
 ) -> Option<Found<T::Value>>
-    requires { AreQueued (T.size _task.now) (T.answers _task.now) queue.old }
-    ensures found { IfSome result (IsFound (T.size _task.now) (T.answers _task.now) queue.new.store) }
+    requires { AreFound (T.size _task.now) (T.answers _task.now) queue.old.items }
+    ensures found { IfSome result (IsFound (T.size _task.now) (T.answers _task.now)) }
     ensures index { IfSome result (λ one. one.index ≡ index) }
-    ensures rest { AreQueued (T.size _task.now) (T.answers _task.now) queue.new }
+    ensures rest { AreFound (T.size _task.now) (T.answers _task.now) queue.new.items }
 {
-    let one = queue.found.pop_front()?;
+    let one = queue.pop_front()?;
     if one.index != index {
         return None;
     }
@@ -175,9 +171,9 @@ fn put_now<T: Task>(
     requires before { T.gathers task.now index whole.old }
     ensures { OnOk result (T.gathers task.now (index + 1) whole.new) }
 {
-    let mut store = task.open(alloc);
+    let mut value = task.open(alloc, 0)?;
     let mut scratch = task.make(alloc)?;
     task.fit(alloc, &mut scratch)?;
-    let value = task.answer(alloc, index, &mut scratch, &mut store)?;
-    task.put(index, 1, &store, value, whole)
+    task.answer(alloc, index, &mut scratch, &mut value)?;
+    task.put(index, 1, value, whole)
 }

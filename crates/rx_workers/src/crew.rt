@@ -41,15 +41,15 @@ pub fn do_all<R: Threads + Sync, T: Task + Sync>(
     let places = places(alloc, &pool, slots, &mut seat, &draws, first, workers)?;
     let at_a_time = drawn_at_a_time(count, workers);
     let left = work_all(rt, alloc, task, &pool, &draws, at_a_time, places)?;
-    let notes = gather(alloc, task, &pool, &mut seat, left)?;
-    complete(alloc, task, notes)
+    let found = gather(alloc, task, &pool, &mut seat, left)?;
+    complete(alloc, task, found)
 }
 
 /// How many numbers a worker draws at a time, at most.
-const MOST_AT_A_TIME: usize = 16;
+const MOST_AT_A_TIME: usize = 64;
 
 /// How many numbers there are for each worker, at least, for each of several that it draws at a time.
-const FOR_EACH: usize = 4096;
+const FOR_EACH: usize = 1024;
 
 /// How many numbers each of so many workers draws at a time. All write the word that they draw from, and it goes from
 /// processor to processor, so that a draw costs less where it follows another (DECISIONS: numbers are drawn ahead).
@@ -86,12 +86,12 @@ fn work_all<R: Threads + Sync, T: Task + Sync>(
     draws: &Draws,
     at_a_time: usize,
     places: Vec<Place<T::Scratch>>,
-) -> Result<Vec<Left<T::Value, T::Store, T::Scratch>>, Memory>
+) -> Result<Vec<Left<T::Value, T::Scratch>>, Memory>
     requires places { All (IsPlace pool.now draws.now) places.items }
     requires size { IsLimit draws.now (T.size task.now) }
     ensures { IfOk result (λ all. All (IsLeft pool.now (T.size task.now) (T.answers task.now)) all.items) }
 {
-    let one = move |place: Place<T::Scratch>| -> Left<T::Value, T::Store, T::Scratch>
+    let one = move |place: Place<T::Scratch>| -> Left<T::Value, T::Scratch>
         requires { IsPlace pool.now draws.now place × IsLimit draws.now (T.size task.now) }
         ensures { IsLeft pool.entry.now (T.size task.entry.now) (T.answers task.entry.now) result }
     { work(alloc, task, pool, draws, at_a_time, place) };

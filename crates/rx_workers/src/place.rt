@@ -6,7 +6,7 @@ ghost use Rattle.rx_slots.specs.Slots.{new_view};
 ghost use Rattle.rx_slots.specs.SlotSeats.{IsSlotSeat, slots_of, slot_view};
 ghost use Rattle.rx_workers.specs.Places.{IsDrawer, IsPlace};
 
-use crate::found::Notes;
+use crate::found::Found;
 use rx_search::Memory;
 use rx_slots::{DrawSeat, Draws, SlotPool, SlotSeat};
 use std::alloc::Global;
@@ -19,10 +19,10 @@ pub struct Place<S> {
     pub drawer: DrawSeat,
 }
 
-/// What a worker found, with its store, and its seat, if that holds no slot.
+/// What a worker found, in the order in which it drew the numbers, and its seat, if that holds no slot.
 #[derive(Drop)]
-pub struct Left<V, T, S> {
-    pub notes: Result<Notes<V, T>, Memory>,
+pub struct Left<V, S> {
+    pub found: Result<Vec<Found<V>>, Memory>,
     pub seat: Option<SlotSeat<S>>,
 }
 

@@ -1,12 +1,12 @@
 //! What a worker does.
-ghost use Rattle.std.specs.Prelude.{◌≡◌, ◌<◌, ◌^◌, ◌∷◌, [], ℕ, true, IfOk, IfErr, IfSome, OnOk};
+ghost use Rattle.std.specs.Prelude.{◌≡◌, ◌+◌, ◌<◌, ◌^◌, ◌∷◌, [], ℕ, true, IfOk, IfSome, OnOk};
 ghost use Rattle.rx_slots.specs.DrawSeats.{limit_of};
 ghost use Rattle.rx_slots.specs.SlotSeats.{IsSlotSeat, slot_view, slots_of};
 ghost use Rattle.rx_workers.specs.Places.{IsDrawer, IsLimit, IsPlace, IsLeft, IsFree};
 ghost use Rattle.std.specs.List.{All};
 ghost use Rattle.rx_workers.specs.Answers.{AreFound, IsFound};
 
-use crate::found::{Found, Notes};
+use crate::found::Found;
 use crate::place::{Left, Place};
 use crate::task::Task;
 use rx_search::Memory;
@@ -22,7 +22,7 @@ pub fn work<T: Task>(
     draws: &Draws,
     at_a_time: usize,
     place: Place<T::Scratch>,
-) -> Left<T::Value, T::Store, T::Scratch>
+) -> Left<T::Value, T::Scratch>
     requires place { IsPlace pool.now draws.now place }
     requires size { IsLimit draws.now (T.size task.now) }
     ensures { IsLeft pool.now (T.size task.now) (T.answers task.now) result }
@@ -33,15 +33,15 @@ pub fn work<T: Task>(
         mut drawer,
     } = place;
     let Ok((turn, mut scratch)) = pool.take(&mut seat, slot) else {
-        let notes = work_alone(alloc, task, draws, at_a_time, &mut drawer);
+        let found = work_alone(alloc, task, draws, at_a_time, &mut drawer);
         return Left {
-            notes,
+            found,
             seat: Some(seat),
         };
     };
-    let notes = work_with(alloc, task, draws, at_a_time, &mut drawer, &mut scratch);
+    let found = work_with(alloc, task, draws, at_a_time, &mut drawer, &mut scratch);
     let seat = put_back(pool, seat, slot, turn, scratch);
-    Left { notes, seat }
+    Left { found, seat }
 }
 
 /// Puts a value back into its slot. There is no seat where the slot is at its greatest turn, at which the seat keeps it.
@@ -72,10 +72,10 @@ fn work_alone<T: Task>(
     draws: &Draws,
     at_a_time: usize,
     drawer: &mut DrawSeat,
-) -> Result<Notes<T::Value, T::Store>, Memory>
+) -> Result<Vec<Found<T::Value>>, Memory>
     requires drawer { IsDrawer draws.now drawer.old }
     requires size { IsLimit draws.now (T.size task.now) }
-    ensures { IfOk result (AreFound (T.size task.now) (T.answers task.now)) }
+    ensures { IfOk result (λ found. AreFound (T.size task.now) (T.answers task.now) found.items) }
 {
     let mut scratch = task.make(alloc)?;
     work_with(alloc, task, draws, at_a_time, drawer, &mut scratch)
@@ -89,26 +89,25 @@ fn work_with<T: Task>(
     at_a_time: usize,
     drawer: &mut DrawSeat,
     scratch: &mut T::Scratch,
-) -> Result<Notes<T::Value, T::Store>, Memory>
+) -> Result<Vec<Found<T::Value>>, Memory>
     requires drawer { IsDrawer draws.now drawer.old }
     requires size { IsLimit draws.now (T.size task.now) }
-    ensures { IfOk result (AreFound (T.size task.now) (T.answers task.now)) }
+    ensures { IfOk result (λ found. AreFound (T.size task.now) (T.answers task.now) found.items) }
 {
     task.fit(alloc, scratch)?;
     let mut drawn = Vec::with_capacity(alloc, at_a_time)?;
     let mut found = Vec::new(alloc);
-    let mut store = task.open(alloc);
     // No clause of a draw bounds the draws (DECISIONS: a worker draws at most 2 ^ 64 - 1 times).
     'draws: for _ in 0..u64::MAX {
         let is_more = draw_some(draws, at_a_time, drawer, &mut drawn)?;
         for number in &drawn {
-            answer_one(alloc, task, *number, scratch, &mut store, &mut found)?;
+            answer_one(alloc, task, *number, scratch, &mut found)?;
         }
         if !is_more {
             break;
         }
     }
-    Ok(Notes { found, store })
+    Ok(found)
 }
 
 /// Draws so many numbers, or those that are left, in place of those that were drawn before. True where none was missing, so that
@@ -133,61 +132,80 @@ fn draw_some(
     Ok(true)
 }
 
-/// Answers the work of a number, and notes the answer.
+/// Answers the work of a number. The answer goes to those that were found last, where these are to the numbers before it.
 fn answer_one<T: Task>(
     alloc: Global,
     task: &T,
     index: usize,
     scratch: &mut T::Scratch,
-    store: &mut T::Store,
     found: &mut Vec<Found<T::Value>>,
 ) -> Result<(), Memory>
     requires room { T.size task.now < 2 ^ 63 }
     requires there { index < T.size task.now }
     requires fit { T.fits task.now scratch.old }
-    requires before { All (IsFound (T.size task.now) (T.answers task.now) store.old) found.old.items }
-    ensures found { OnOk result (All (IsFound (T.size task.now) (T.answers task.now) store.new) found.new.items) }
+    requires before { AreFound (T.size task.now) (T.answers task.now) found.old.items }
+    ensures found { OnOk result (AreFound (T.size task.now) (T.answers task.now) found.new.items) }
     ensures fit { OnOk result (T.fits task.now scratch.new) }
 {
-    let value = task.answer(alloc, index, scratch, store)?;
-    if let Err(value) = unite_with_last(task, index, store, value, found) {
-        found.push(Found {
-            index,
-            count: 1,
-            value,
-        })?;
+    let len = found.len();
+    if len > 0 {
+        let last = &mut found[len - 1];
+        if last.index + last.count == index {
+            return answer_next(alloc, task, index, scratch, last);
+        }
     }
+    answer_anew(alloc, task, index, scratch, found)
+}
+
+/// Answers the work of a number, and notes the answer as the last one.
+fn answer_anew<T: Task>(
+    alloc: Global,
+    task: &T,
+    index: usize,
+    scratch: &mut T::Scratch,
+    found: &mut Vec<Found<T::Value>>,
+) -> Result<(), Memory>
+    requires there { index < T.size task.now }
+    requires fit { T.fits task.now scratch.old }
+    requires before { AreFound (T.size task.now) (T.answers task.now) found.old.items }
+    ensures found { OnOk result (AreFound (T.size task.now) (T.answers task.now) found.new.items) }
+    ensures fit { OnOk result (T.fits task.now scratch.new) }
+{
+    let mut value = task.open(alloc, room_of_last(task, found))?;
+    task.answer(alloc, index, scratch, &mut value)?;
+    found.push(Found {
+        index,
+        count: 1,
+        value,
+    })?;
     Ok(())
 }
 
-/// Makes the answer to a number one with the last that was found, where that is to the numbers before this one.
-///
-/// # Errors
-///
-/// The answer, where it stays one of its own.
-fn unite_with_last<T: Task>(
+/// How much room the answers take that were found last, or 0.
+fn room_of_last<T: Task>(task: &T, found: &[Found<T::Value>]) -> usize {
+    match found {
+        [.., last] => task.room(&last.value),
+        [] => 0,
+    }
+}
+
+/// Adds the answer to the work of a number to those to the numbers before it.
+fn answer_next<T: Task>(
+    alloc: Global,
     task: &T,
     index: usize,
-    store: &T::Store,
-    value: T::Value,
-    found: &mut [Found<T::Value>],
-) -> Result<(), T::Value>
+    scratch: &mut T::Scratch,
+    last: &mut Found<T::Value>,
+) -> Result<(), Memory>
     requires room { T.size task.now < 2 ^ 63 }
     requires there { index < T.size task.now }
-    requires value { T.answers task.now store.now index 1 value }
-    requires before { All (IsFound (T.size task.now) (T.answers task.now) store.now) found.old }
-    ensures found { All (IsFound (T.size task.now) (T.answers task.now) store.now) found.new }
-    ensures own { IfErr result (T.answers task.now store.now index 1) }
+    requires fit { T.fits task.now scratch.old }
+    requires before { IsFound (T.size task.now) (T.answers task.now) last.old }
+    requires next { index ≡ last.old.index + last.old.count }
+    ensures found { OnOk result (IsFound (T.size task.now) (T.answers task.now) last.new) }
+    ensures fit { OnOk result (T.fits task.now scratch.new) }
 {
-    let len = found.len();
-    if len == 0 {
-        return Err(value);
-    }
-    let last = &mut found[len - 1];
-    if last.index + last.count != index {
-        return Err(value);
-    }
-    task.unite(store, &mut last.value, value)?;
+    task.answer(alloc, index, scratch, &mut last.value)?;
     last.count += 1;
     Ok(())
 }

@@ -1,6 +1,6 @@
-use Rattle.rx_scan.proofs.CountedLemmas.{counts-more}
+use Rattle.rx_scan.proofs.CountedLemmas.{counts-put}
 use Rattle.rx_scan.proofs.counted.CountedOutcome.put.Goals as goal
 
 pub returns : goal.returns
-returns c = λ all more told is fit.
-    counts-more all more is.0 c.args.value c.args.whole.now.items c.push.new.self.items is.1 c.in_ok-push.ensures.items told is.2 fit
+returns c = λ all more are holds.
+    counts-put all more c.args.whole.now.items c.append.new.self.items c.args.tally.done.items c.in_ok-append.ensures.items are holds.0

@@ -1,4 +1,4 @@
-use Rattle.std.proofs.Common.{◌≡◌, Option, List, ℕ, [], ◌∷◌, ◌++◌, length, get_or, refl, sym, ap, subst, ◌∙◌}
+use Rattle.std.proofs.Common.{◌≡◌, Option, List, ℕ, ◌+◌, [], ◌∷◌, ◌++◌, length, get_or, refl, sym, ap, subst, ◌∙◌}
 use denote.Ref.{Bor}
 use Rattle.std.proofs.lemmas.List.{get_or_default}
 use Rattle.rx_model.specs.Search.{Match}
@@ -11,7 +11,8 @@ use Rattle.rx_search.proofs.SearcherLemmas.{Progress-begun, Progress-more, Progr
 use Rattle.rx_meta.specs.Finder.{PromisesFor, AreSlotsOf}
 use Rattle.rx_meta.specs.Regex.{RegexValue, searches, groups_in}
 use Rattle.rx_scan.specs.Haystacks.{FindsRows}
-use Rattle.rx_scan.proofs.HaystackLemmas.{moved-place, promised-from, found-next, found-rows, rows-one}
+use Rattle.rx_scan.proofs.HaystackLemmas.{moved-place, promised-from, found-next, found-rows, rows-one, outcome-next}
+use Rattle.rx_scan.proofs.OutcomeLemmas.{ok-of}
 use Rattle.rx_scan.proofs.haystacks.WorksTask.answer.Goals as goal
 
 pub row-requires : goal.row-requires
@@ -31,10 +32,9 @@ matches-preserved g c =
       same = stays ∙ c.matches.invariant.same;
       place = λ d. moved-place _ _ _ _ (whole (get_or hs c.args.index d).now) c.in-Some.is c.in_ok-found.ensures.moved (c.matches.invariant.place d);
       promised = λ d r finds. c.in_ok-found.ensures.goes_on (c.matches.invariant.promised d r finds);
-      keeps = λ i rows value is. c.in_ok-add.ensures.keeps i rows value (c.matches.invariant.keeps i rows value is);
       told = (
         told.0 ++ c.in_ok-row.row ∷ [],
-        c.in_ok-add.ensures.more told.0 told.1,
+        λ i all at before. c.in_ok-add.ensures i all told.0 at (told.1 i all at before),
         λ d r finds.
             let text = (get_or hs c.args.index d).now in
             let promised = c.matches.invariant.promised d r finds in
@@ -63,29 +63,22 @@ matches-init g c =
       promised = λ d r finds.
           let P : SearcherValue → Type 0 = λ s. AtEachPlace (PromisesFor regex) s.input in
           subst P (sym (begun d)) (promised-from regex r (get_or hs c.args.index d).now finds);
-      keeps = λ i rows value is. is;
-      told = ([], c.begin.ensures.none, λ d r finds. Progress-begun (searches regex) (begun d) refl);
+      told = ([], λ i all at before. before, λ d r finds. Progress-begun (searches regex) (begun d) refl);
     }
 
 pub returns-clause-answer : goal.returns-clause-answer
-returns-clause-answer g c =
+returns-clause-answer g c = λ i n at has.
     let told = c.matches.invariant.told in
     let first = c.args.finder.now.regex.now in
-    let hs = c.args.self.now.haystacks.now in (
-      told.0 ∷ [],
-      c.end.ensures.value told.0 told.1,
-      refl,
-      rows-one c.args.self.now.regex.now hs c.args.index told.0 c.requires.there (λ d r own.
-          let text = (get_or hs c.args.index d).now in
-          let finds : FindsRows first r text = subst (λ (regex : RegexValue). FindsRows regex r text) (sym c.requires.fit) own in
-          Progress-over (told.2 d r finds) c.in_default.is (c.in_ok-found.ensures.answer (c.matches.invariant.promised d r finds))
-          ∙ found-rows c.a_search_is_for_its_patterns.ensures first r text finds),
-    )
-
-pub returns-clause-keeps : goal.returns-clause-keeps
-returns-clause-keeps g c = λ i n value has.
-    let begun = c.begin.ensures.keeps i has.0 value has.1 in
-    (has.0, c.end.ensures.keeps i has.0 value (c.matches.invariant.keeps i has.0 value begun), has.2, has.3)
+    let regex = c.args.self.now.regex.now in
+    let hs = c.args.self.now.haystacks.now in
+    outcome-next regex hs (g.O.Outcome.holds c.args.self.now.outcome.now) i n c.args.index told.0 c.args.value.now c.end.new.value c.end.result at
+    (rows-one regex hs c.args.index told.0 c.requires.there (λ d r own.
+    let text = (get_or hs c.args.index d).now in
+    let finds : FindsRows first r text = subst (λ (k : RegexValue). FindsRows k r text) (sym c.requires.fit) own in
+    Progress-over (told.2 d r finds) c.in_default.is (c.in_ok-found.ensures.answer (c.matches.invariant.promised d r finds))
+    ∙ found-rows c.a_search_is_for_its_patterns.ensures first r text finds))
+    has (c.end.ensures i has.0 told.0 (told.1 i has.0 (at ∙ ap (λ m. i + m) (sym has.2)) has.1))
 
 pub returns-clause-stays : goal.returns-clause-stays
-returns-clause-stays g c = c.in_ok-found.ensures.stays c.matches.finder refl ∙ c.matches.invariant.same ∙ c.requires.fit
+returns-clause-stays g c = ok-of c.end.result (c.in_ok-found.ensures.stays c.matches.finder refl ∙ c.matches.invariant.same ∙ c.requires.fit)

@@ -1,5 +1,5 @@
 use denote.Ref.{Bor}
-use Rattle.std.proofs.Common.{◌≡◌, ℕ, List, get_or}
+use Rattle.std.proofs.Common.{◌≡◌, ℕ, ◌+◌, List, [], length, get_or}
 use Rattle.std.specs.Prelude.{map}
 use Rattle.rx_model.specs.Search.{Patterns}
 use Rattle.rx_search.specs.Input.{from_place, whole}
@@ -8,7 +8,6 @@ use Rattle.rx_search.proofs.SearcherLemmas.{Progress}
 use Rattle.rx_meta.specs.Finder.{PromisesFor}
 use Rattle.rx_meta.specs.Regex.{searches}
 use Rattle.rx_scan.specs.Haystacks.{FindsRows}
-use Rattle.rx_scan.specs.Outcomes.{Keeps}
 use Rattle.rx_scan.specs.Row.{RowValue, row_of}
 use Rattle.rx_scan.proofs.haystacks.WorksTask.answer.Given as goal
 
@@ -18,8 +17,9 @@ invariant-matches g l = record {
   place : (d : Bor (List ℕ)) (i : ℕ) → from_place i l.searcher.input ≡ from_place i (whole (get_or l.self.haystacks.now l.index d).now);
   promised : (d : Bor (List ℕ)) (r : Patterns) → FindsRows l.initial.finder.regex.now r (get_or l.self.haystacks.now l.index d).now
       → AtEachPlace (PromisesFor l.finder.regex.now) l.searcher.input;
-  keeps : Keeps (g.O.Outcome.is l.self.outcome.now) l.initial.store l.store;
-  told : (rows : List RowValue) × g.O.Outcome.holds l.self.outcome.now l.store l.index rows
+  told : (rows : List RowValue)
+      × ((i : ℕ) (all : List (List RowValue)) → l.index ≡ i + length all → g.O.Outcome.holds l.self.outcome.now i all [] l.initial.value
+      → g.O.Outcome.holds l.self.outcome.now i all rows l.value)
       × ((d : Bor (List ℕ)) (r : Patterns) → FindsRows l.initial.finder.regex.now r (get_or l.self.haystacks.now l.index d).now
       → Progress (searches l.finder.regex.now) (row_of r)
       (map (row_of r) (successive (searches l.initial.finder.regex.now) (whole (get_or l.self.haystacks.now l.index d).now))) rows l.searcher);

@@ -1,12 +1,11 @@
-use Rattle.std.proofs.Common.{sym, subst, ◌∙◌}
+use Rattle.std.proofs.Common.{[], sym, subst}
 use Rattle.rx_scan.proofs.HaystackLemmas.{outcomes-put}
 use Rattle.rx_scan.proofs.haystacks.WorksTask.put.Goals as goal
 
-pub put-requires : goal.put-requires
-put-requires g c = record { value = (c.args._index, c.requires.answer.0, c.requires.answer.1) }
-
 pub returns : goal.returns
-returns g c = outcomes-put (g.O.Outcome.are c.args.self.now.outcome.now) c.args.self.now.regex.now c.args.self.now.haystacks.now
-    (g.O.Outcome.is c.args.self.now.outcome.now c.args.store.now) c.args._index c.args._count _ _ c.args.value c.requires.before c.requires.answer c.put.result
-    (c.put.ensures c.requires.before.all c.requires.answer.0 c.requires.before.are
-    (subst (λ k. g.O.Outcome.is c.args.self.now.outcome.now c.args.store.now k c.requires.answer.0 c.args.value) (sym c.requires.before.count) c.requires.answer.1))
+returns g c =
+    let holds = g.O.Outcome.holds c.args.self.now.outcome.now in
+    let has = c.requires.answers in
+    outcomes-put (g.O.Outcome.are c.args.self.now.outcome.now) c.args.self.now.regex.now c.args.self.now.haystacks.now holds c.args._index c.args._count _ _
+    c.args.value c.requires.before has c.put.result
+    (c.put.ensures c.requires.before.all has.0 c.requires.before.are (subst (λ k. holds k has.0 [] c.args.value) (sym c.requires.before.count) has.1))
