@@ -133,9 +133,10 @@ pub fn write_pieces<K: Sink>(alloc: Global, sink: &mut K, pieces: &[Vec<u8>]) ->
     write_text(sink, &gathered)
 }
 
-/// Gathers a piece, or writes what was gathered, and then the piece.
+/// Gathers a piece. Where it is too long beside what was gathered, that is written first.
 fn write_piece<K: Sink>(sink: &mut K, gathered: &mut Vec<u8>, piece: &[u8]) -> Result<(), Failed>
-    ensures ok { OnOk result ((written : List ℕ) × Gains (K.held sink.old) (K.held sink.new) written × (written ++ gathered.new.items ≡ gathered.old.items ++ piece.now)) }
+    ensures ok { OnOk result ((written : List ℕ) × Gains (K.held sink.old) (K.held sink.new) written
+        × (written ++ gathered.new.items ≡ gathered.old.items ++ piece.now)) }
     ensures err { OnErr result (GainsPrefix (K.held sink.old) (K.held sink.new) (gathered.old.items ++ piece.now)) }
     ensures counts { K.faults sink.old ≤ K.faults sink.new }
     ensures failed { OnErr result (HasRisen (K.faults sink.old) (K.faults sink.new)) }

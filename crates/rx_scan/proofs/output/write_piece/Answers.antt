@@ -10,8 +10,9 @@ returns-clause-ok g c =
     let piece = c.args.piece.now in
     let same : c.deref.result.now ≡ old = c.deref.ensures.value ∙ c.gather.ensures.none c.if-gather.false in
     let first = subst (Gains (g.K.Sink.held c.args.sink.now) (g.K.Sink.held c.write_text.new.sink)) same c.in_ok-write_text.ensures.ok in
+    let none = c.gather-2.ensures.none c.if-gather-2.false ∙ c.clear.ensures.items in
     on-ok c.write_text-2.result
-    (λ gains. (old ++ piece, Gains-trans _ _ _ old piece first gains, ap (λ l. old ++ piece ++ l) (c.gather-2.ensures.none c.if-gather-2.false ∙ c.clear.ensures.items) ∙ append-nil (old ++ piece)))
+    (λ gains. (old ++ piece, Gains-trans _ _ _ old piece first gains, ap (λ l. old ++ piece ++ l) none ∙ append-nil (old ++ piece)))
     c.write_text-2.ensures.ok
 
 pub returns-in_err-write_text-clause-err : goal.returns-in_err-write_text-clause-err

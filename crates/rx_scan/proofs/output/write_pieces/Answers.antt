@@ -17,7 +17,8 @@ loop-piece-preserved g c =
       told = (
         before.0 ++ more.0,
         Gains-trans _ _ _ before.0 more.0 before.1 more.1,
-        pieces-step vec_items c.args.pieces.now c.loop-piece.piece-index c.piece-item.result c.loop-piece-test.true c.piece-item.is before.0 old before.2 more.0 new same,
+        pieces-step vec_items c.args.pieces.now c.loop-piece.piece-index c.piece-item.result c.loop-piece-test.true c.piece-item.is
+            before.0 old before.2 more.0 new same,
       );
       counts = omega (arith, c.write_piece.ensures.counts, c.loop-piece.invariant.counts);
     }
@@ -34,10 +35,11 @@ pub returns-clause-ok : goal.returns-clause-ok
 returns-clause-ok g c =
     let before = c.loop-piece.invariant.told in
     let P : List ℕ → Type 0 = Gains (g.K.Sink.held c.loop-piece.sink) (g.K.Sink.held c.write_text.new.sink) in
-    let whole = pieces-over vec_items c.args.pieces.now c.loop-piece.piece-index before.0 c.loop-piece.gathered.items (omega (arith, c.loop-piece-test.false)) before.2 in
+    let old = c.loop-piece.gathered.items in
+    let whole = pieces-over vec_items c.args.pieces.now c.loop-piece.piece-index before.0 old (omega (arith, c.loop-piece-test.false)) before.2 in
     on-ok c.write_text.result
     (λ gains. subst (Gains (g.K.Sink.held c.args.sink.now) (g.K.Sink.held c.write_text.new.sink)) whole
-    (Gains-trans _ _ _ before.0 c.loop-piece.gathered.items before.1 (subst P c.deref-2.ensures.value gains)))
+    (Gains-trans _ _ _ before.0 old before.1 (subst P c.deref-2.ensures.value gains)))
     c.write_text.ensures.ok
 
 pub returns-clause-err : goal.returns-clause-err
