@@ -141,16 +141,14 @@ pub All-unmap : {X Y : Type 0} (P : Y → Type 0) (f : X → Y) (xs : List X) �
 All-unmap P f xs all = λ k d below. subst P (get_or-map f xs k d (f d) below) (all k (f d) (omega (arith, below, length-map xs f)))
 
 -- what the rows of short haystacks became are the numbers of these
-pub counts-told : {W : Type 0} (items : W → List Counts) (result : Result W Memory) (hs : List (Bor (List ℕ))) (texts : List (List ℕ))
-    → map (λ h. h.now) hs ≡ texts → All (λ h. length h.now ≤ 15) hs
-    → IfOk result (λ w. AreCounted (map (λ h. scan_rows (patterns_of gen_expressions) h.now) hs) (items w))
+pub counts-told : {W : Type 0} (items : W → List Counts) (result : Result W Memory) (texts : List (List ℕ)) → All (λ text. length text ≤ 15) texts
+    → IfOk result (λ w. AreCounted (map (scan_rows (patterns_of gen_expressions)) texts) (items w))
     → IfOk result (λ w. items w ≡ map gen_counts texts)
-counts-told items (Err error) hs texts same short told = tt
-counts-told items (Ok w) hs texts same short told =
-    let rows : Bor (List ℕ) → List RowValue = λ h. scan_rows (patterns_of gen_expressions) h.now in
-    let fit : All (λ rs. rows_len rs < 2 ^ 64) (map rows hs) = All-map (λ rs. rows_len rs < 2 ^ 64) rows hs (λ i d below. rows-fit (get_or hs i d).now (short i d below)) in
-    told fit ∙ map-map counts_of rows hs ∙ (λ k. map (λ h. rows-told h.now k) hs) ∙ sym (map-map gen_counts (λ (h : Bor (List ℕ)). h.now) hs)
-    ∙ ap (map gen_counts) same
+counts-told items (Err error) texts short told = tt
+counts-told items (Ok w) texts short told =
+    let rows : List ℕ → List RowValue = scan_rows (patterns_of gen_expressions) in
+    let fit : All (λ rs. rows_len rs < 2 ^ 64) (map rows texts) = All-map (λ rs. rows_len rs < 2 ^ 64) rows texts (λ i d below. rows-fit (get_or texts i d) (short i d below)) in
+    told fit ∙ map-map counts_of rows texts ∙ (λ k. map (λ text. rows-told text k) texts)
 
 -- the numbers of one haystack more
 pub counts-more : (all : List (List RowValue)) (rows : List RowValue) (counts : Counts) (old new : List Counts) → new ≡ old ++ counts ∷ []

@@ -2,7 +2,6 @@
 use Rattle.std.proofs.Common.{◌≡◌, ℕ, suc, ◌+◌, ◌<◌, ◌≤◌, Bool, true, false, cond, List, [], ◌∷◌, ◌++◌, length, take, drop, get_or, Option, Some, None, Result, Ok, Err, IfOk, refl, sym, ap, subst, ◌∙◌, arith, drop-cons}
 use Rattle.std.specs.List.{All}
 use Rattle.std.specs.Prelude.{map, replicate, OnOk, MatchOption}
-use denote.Ref.{Bor}
 use Rattle.std.proofs.Math.Seq.{take-add}
 use Rattle.std.proofs.lemmas.List.{length-append, take_all, map-append, drop-drop}
 use Rattle.rx_model.specs.Search.{Patterns, Match, next_match, matches, free, is_empty_at, next_after}
@@ -98,28 +97,22 @@ serves-finds regex r text serves begins leftmost groups told utf8 = record {
   groups = groups;
 }
 
--- a haystack of a list that has one
-one-of : (hs : List (Bor (List ℕ))) (i : ℕ) → i < length hs → Bor (List ℕ)
-one-of [] i below = absurd (omega (arith, below))
-one-of (h ∷ hs) i below = h
-
-module _ (regex : RegexValue) (hs : List (Bor (List ℕ))) where
+module _ (regex : RegexValue) (hs : List (List ℕ)) where
   -- the rows of one haystack
   pub rows-one : (i : ℕ) (rows : List RowValue) → i < length hs
-      → ((d : Bor (List ℕ)) (r : Patterns) → FindsRows regex r (get_or hs i d).now → rows ≡ scan_rows r (get_or hs i d).now)
+      → ((r : Patterns) → FindsRows regex r (get_or hs i []) → rows ≡ scan_rows r (get_or hs i []))
       → AreRowsOf regex hs i 1 (rows ∷ [])
   rows-one i rows below own = λ r finds.
-      let d = one-of hs i below in
-      (λ k. own d r (finds i d below) k ∷ []) ∙ ap (λ (l : List (Bor (List ℕ))). map (λ h. scan_rows r h.now) (take 1 l)) (sym (drop-cons hs i d below))
+      (λ k. own r (finds i [] below) k ∷ []) ∙ ap (λ (l : List (List ℕ)). map (scan_rows r) (take 1 l)) (sym (drop-cons hs i [] below))
 
   -- .. of some, and of those that come next
   pub rows-after : (i n j m : ℕ) (all more : List (List RowValue)) → j ≡ i + n → AreRowsOf regex hs i n all → AreRowsOf regex hs j m more
       → AreRowsOf regex hs i (n + m) (all ++ more)
   rows-after i n j m all more next first second = λ r finds.
-      let f : Bor (List ℕ) → List RowValue = λ h. scan_rows r h.now in
+      let f : List ℕ → List RowValue = scan_rows r in
       let rest : drop j hs ≡ drop n (drop i hs) = ap (λ (k : ℕ). drop k hs) next ∙ sym (drop-drop n i hs) in
       (λ k. first r finds k ++ second r finds k) ∙ sym (map-append f (take n (drop i hs)) (take m (drop j hs)))
-      ∙ ap (λ (l : List (Bor (List ℕ))). map f (take n (drop i hs) ++ take m l)) rest ∙ ap (map f) (sym (take-add n m (drop i hs)))
+      ∙ ap (λ (l : List (List ℕ)). map f (take n (drop i hs) ++ take m l)) rest ∙ ap (map f) (sym (take-add n m (drop i hs)))
 
   -- .. of none
   pub outcome-none : {V : Type 0} (Holds : ℕ → List (List RowValue) → List RowValue → V → Type 0) (i : ℕ) (value : V) → Holds i [] [] value
@@ -138,7 +131,7 @@ module _ (regex : RegexValue) (hs : List (Bor (List ℕ))) where
     rows-after i n index 1 has.0 (rows ∷ []) at has.3 own,
   )
 
-module _ {W : Type 0} (Are : List (List RowValue) → W → Type 0) (regex : RegexValue) (hs : List (Bor (List ℕ))) where
+module _ {W : Type 0} (Are : List (List RowValue) → W → Type 0) (regex : RegexValue) (hs : List (List ℕ)) where
   -- none yet
   pub outcomes-none : (whole : W) → Are [] whole → HaveOutcomes Are regex hs 0 whole
   outcomes-none whole are = record { all = []; are = are; count = refl; rows = λ r finds. refl }
@@ -161,21 +154,21 @@ module _ {W : Type 0} (Are : List (List RowValue) → W → Type 0) (regex : Reg
   outcomes-put Holds n m old new value before answer (Ok u) are = outcomes-more Holds n m old new value before answer are
 
   -- those of all
-  pub outcomes-whole : (r : Patterns) (result : Result W Memory) → IfOk result (HaveOutcomes Are regex hs (length hs)) → All (λ h. FindsRows regex r h.now) hs
-      → IfOk result (Are (map (λ h. scan_rows r h.now) hs))
+  pub outcomes-whole : (r : Patterns) (result : Result W Memory) → IfOk result (HaveOutcomes Are regex hs (length hs)) → All (FindsRows regex r) hs
+      → IfOk result (Are (map (scan_rows r) hs))
   outcomes-whole r (Err error) have finds = tt
   outcomes-whole r (Ok w) have finds =
-      subst (λ all. Are all w) (have.rows r finds ∙ ap (map (λ h. scan_rows r h.now)) (take_all (length hs) hs (omega arith))) have.are
+      subst (λ all. Are all w) (have.rows r finds ∙ ap (map (scan_rows r)) (take_all (length hs) hs (omega arith))) have.are
 
   -- where no match is told, none has rows
   pub outcomes-silent : (r : Patterns) (result : Result W Memory) → tells r.which_captures ≡ false → IfOk result (Are (replicate (length hs) []))
-      → IfOk result (Are (map (λ h. scan_rows r h.now) hs))
+      → IfOk result (Are (map (scan_rows r) hs))
   outcomes-silent r (Err error) silent are = tt
   outcomes-silent r (Ok w) silent are = subst (λ all. Are all w) (sym (all-none hs)) are
     where
-      none : (h : Bor (List ℕ)) → scan_rows r h.now ≡ []
-      none h = ap (λ (b : Bool). cond b (map (row_of r) (matches r h.now free (length h.now) 0)) []) silent
+      none : (h : List ℕ) → scan_rows r h ≡ []
+      none h = ap (λ (b : Bool). cond b (map (row_of r) (matches r h free (length h) 0)) []) silent
 
-      all-none : (xs : List (Bor (List ℕ))) → map (λ h. scan_rows r h.now) xs ≡ replicate (length xs) []
+      all-none : (xs : List (List ℕ)) → map (scan_rows r) xs ≡ replicate (length xs) []
       all-none [] = refl
       all-none (h ∷ xs) = λ k. none h k ∷ all-none xs k

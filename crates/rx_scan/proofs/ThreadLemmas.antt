@@ -6,5 +6,5 @@ use Rattle.rx_meta.proofs.ThreadLemmas.{regex_sync}
 use Rattle.rx_scan.proofs.row.Layout.TheSendSync as layout
 use Rattle.rx_scan.specs.contracts.haystacks.Works as works
 
-pub works_sync : (a : NamedLft) (G O : RattleType) → IsSync G → IsSync O → IsSync (works.the_row a G O)
-works_sync a G O gate outcome = search (sendable, regex_sync, layout.the_field_sync) depth 40
+pub works_sync : (a : NamedLft) (H G O : RattleType) → IsSync H → IsSync G → IsSync O → IsSync (works.the_row a H G O)
+works_sync a H G O haystacks gate outcome = search (sendable, regex_sync, layout.the_field_sync) depth 40

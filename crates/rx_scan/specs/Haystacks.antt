@@ -1,7 +1,6 @@
 -- Under what the rows of a haystack are promised.
 use Rattle.std.specs.Prelude.{◌≡◌, ℕ, List, [], length, map, take, drop}
 use Rattle.std.specs.List.{All}
-use denote.Ref.{Bor}
 use Rattle.rx_model.specs.Search.{Patterns}
 use Rattle.rx_search.specs.Input.{whole}
 use Rattle.rx_search.specs.PatternGroups.{pattern_groups}
@@ -16,18 +15,18 @@ pub record FindsRows (regex : RegexValue) (r : Patterns) (text : List ℕ) : Typ
 
 -- These are the rows of the successive matches in each of so many haystacks from this number on, for all patterns of which a search of each
 -- promises the next match.
-abbrev pub AreRowsOf : RegexValue → List (Bor (List ℕ)) → (first count : ℕ) → List (List RowValue) → Type 0
+abbrev pub AreRowsOf : RegexValue → List (List ℕ) → (first count : ℕ) → List (List RowValue) → Type 0
 AreRowsOf regex haystacks i n all =
-    (r : Patterns) → All (λ h. FindsRows regex r h.now) haystacks → all ≡ map (λ h. scan_rows r h.now) (take n (drop i haystacks))
+    (r : Patterns) → All (FindsRows regex r) haystacks → all ≡ map (scan_rows r) (take n (drop i haystacks))
 
 -- It is what rows of these haystacks have become, which are those of their matches.
-abbrev pub HasOutcome : {V : Type 0} (Holds : ℕ → List (List RowValue) → List RowValue → V → Type 0) → RegexValue → List (Bor (List ℕ))
+abbrev pub HasOutcome : {V : Type 0} (Holds : ℕ → List (List RowValue) → List RowValue → V → Type 0) → RegexValue → List (List ℕ)
     → (first count : ℕ) → V → Type 0
 HasOutcome Holds regex haystacks i n value =
     (all : List (List RowValue)) × Holds i all [] value × (length all ≡ n) × AreRowsOf regex haystacks i n all
 
 -- It is what the rows of the first n haystacks have become, in order.
-pub record HaveOutcomes {W : Type 0} (Are : List (List RowValue) → W → Type 0) (regex : RegexValue) (haystacks : List (Bor (List ℕ))) (n : ℕ)
+pub record HaveOutcomes {W : Type 0} (Are : List (List RowValue) → W → Type 0) (regex : RegexValue) (haystacks : List (List ℕ)) (n : ℕ)
     (whole : W) : Type 0 where
   pub all : List (List RowValue)
   pub are : Are all whole

@@ -5,6 +5,7 @@ pub mod Ends
 pub mod Haystacks
 pub mod Input
 pub mod Layout
+pub mod Lines
 pub mod Patterns
 pub mod Row
 pub mod Run

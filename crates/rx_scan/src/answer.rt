@@ -14,7 +14,8 @@ ghost use Rattle.rx_scan.specs.Patterns.{MeanUtf8, StandForUtf8};
 
 use crate::arguments::{Command, Off, Scan};
 use crate::haystacks::scan_for;
-use crate::input::{INPUT_LIMIT, read_patterns, split_lines};
+use crate::input::{INPUT_LIMIT, read_patterns};
+use crate::lines::Lines;
 use crate::outcome::RowsText;
 use crate::size::are_small;
 use crate::status::Status;
@@ -252,7 +253,7 @@ fn all_rows<R: Threads + Wait + Sync, G: Gate + Sync>(
     ensures { (hs : List Expression) → IsBuilt (config_without asked.now.off) hs regex.now → MeanUtf8 hs
         → IfOk result (λ a. a ≡ all_rows hs (lines haystacks.now)) }
 {
-    let haystacks = split_lines(alloc, haystacks)?;
+    let haystacks = Lines::new(alloc, haystacks)?;
     // The workers print what they find (DECISIONS: one scan for rows, their text and their numbers).
     let pieces = scan_for(rt, alloc, regex, &haystacks, asked.workers, gate, &RowsText)?;
     Ok(Answer {

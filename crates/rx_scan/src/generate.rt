@@ -14,6 +14,7 @@ use crate::answer::Answer;
 use crate::arguments::Generating;
 use crate::counted::Counted;
 use crate::haystacks::scan_for;
+use crate::lines::Slices;
 use crate::status::Status;
 use rx_gen::{Counts, haystacks, push_totals, totals_of};
 use rx_meta::Regex;
@@ -63,7 +64,8 @@ fn count<R: Threads + Wait + Sync, G: Gate + Sync>(
     requires texts { map vec_items texts.now ≡ generated asked.now.seed asked.now.count }
     ensures { IfOk result (λ found. found.items ≡ map gen_counts (map vec_items texts.now)) }
 {
-    let haystacks = slices(alloc, texts)?;
+    let all = slices(alloc, texts)?;
+    let haystacks = Slices { all: &all };
     scan_for(rt, alloc, regex, &haystacks, asked.workers, gate, &Counted)
 }
 

@@ -13,6 +13,7 @@ ghost use Rattle.rx_meta.specs.Regex.{groups_in};
 ghost use Rattle.rx_scan.specs.Haystacks.{HasOutcome, HaveOutcomes};
 ghost use Rattle.rx_scan.specs.Row.{scan_rows};
 
+use crate::lines::{Haystacks, Slices};
 use crate::outcome::{AllRows, Outcome};
 use crate::row::{Layout, Row};
 use rx_meta::{Regex, RegexFinder, WhichCaptures, a_search_is_for_its_patterns};
@@ -63,7 +64,7 @@ impl From<ScanError> for Memory {
 /// each match of which begins with one of its needles.
 ///
 /// So many workers search, but no more than haystacks: the caller, and each other in a thread of its own where one can be
-/// started. Each draws one haystack after another, and some ahead where there are thousands for each worker; their number
+/// started. Each draws one haystack after another, and some ahead where there are hundreds for each worker; their number
 /// changes no row. `gate` is told of each haystack before it is searched, by the worker that drew it.
 ///
 /// # Errors
@@ -95,7 +96,8 @@ pub fn scan<R: Threads + Wait + Sync, G: Gate + Sync>(
         → (utf8_of config ≡ true → All (λ h. MeansUtf8 (patterns_for config hs) h.now) haystacks.now)
         → IfOk result (λ rows. map vec_items rows.items ≡ map (λ h. scan_rows (patterns_for config hs) h.now) haystacks.now) }
 {
-    let rows = scan_for(rt, alloc, regex, haystacks, workers, gate, &AllRows)?;
+    let haystacks = Slices { all: haystacks };
+    let rows = scan_for(rt, alloc, regex, &haystacks, workers, gate, &AllRows)?;
     Ok(rows)
 }
 
@@ -104,11 +106,11 @@ pub fn scan<R: Threads + Wait + Sync, G: Gate + Sync>(
 /// # Errors
 ///
 /// `Memory`, where there was no memory for a cache, a search or the rows.
-pub fn scan_for<R: Threads + Wait + Sync, G: Gate + Sync, O: Outcome + Sync>(
+pub fn scan_for<R: Threads + Wait + Sync, H: Haystacks + Sync, G: Gate + Sync, O: Outcome + Sync>(
     rt: &R,
     alloc: Global,
     regex: &Regex,
-    haystacks: &[&[u8]],
+    haystacks: &H,
     workers: usize,
     gate: &G,
     outcome: &O,
@@ -116,8 +118,8 @@ pub fn scan_for<R: Threads + Wait + Sync, G: Gate + Sync, O: Outcome + Sync>(
     requires { 0 < workers }
     ensures { (config : ConfigValue) (hs : List Expression) → IsBuilt config hs regex.now → kind_of config ≡ LeftmostFirst
         → BeginsEachMatch (prefilter_of config) (patterns_for config hs)
-        → (utf8_of config ≡ true → All (λ h. MeansUtf8 (patterns_for config hs) h.now) haystacks.now)
-        → IfOk result (O.are outcome.now (map (λ h. scan_rows (patterns_for config hs) h.now) haystacks.now)) }
+        → (utf8_of config ≡ true → All (MeansUtf8 (patterns_for config hs)) (H.texts haystacks.now))
+        → IfOk result (O.are outcome.now (map (scan_rows (patterns_for config hs)) (H.texts haystacks.now))) }
 {
     if !tells_matches(regex) {
         return no_rows(alloc, haystacks, gate, outcome);
@@ -136,32 +138,32 @@ pub fn scan_for<R: Threads + Wait + Sync, G: Gate + Sync, O: Outcome + Sync>(
 
 /// The works of a scan: what the rows of each haystack become.
 #[derive(Drop)]
-struct Works<'a, G, O> {
+struct Works<'a, H, G, O> {
     regex: &'a Regex,
-    haystacks: &'a [&'a [u8]],
+    haystacks: &'a H,
     layout: Layout<'a>,
     gate: &'a G,
     outcome: &'a O,
     ghost own: { layout.groups.now ≡ groups_in regex.now },
 }
 
-impl<'a, G: Gate, O: Outcome> Task for Works<'a, G, O> {
+impl<'a, H: Haystacks, G: Gate, O: Outcome> Task for Works<'a, H, G, O> {
     type Value = O::Value;
 
     type Scratch = RegexFinder<'a>;
 
     type Whole = O::Whole;
 
-    ghost size = { λ w. length w.haystacks.now };
+    ghost size = { λ w. length (H.texts w.haystacks.now) };
 
-    ghost answers = { λ w i n value. HasOutcome (O.holds w.outcome.now) w.regex.now w.haystacks.now i n value };
+    ghost answers = { λ w i n value. HasOutcome (O.holds w.outcome.now) w.regex.now (H.texts w.haystacks.now) i n value };
 
     ghost fits = { λ w f. f.regex.now ≡ w.regex.now };
 
-    ghost gathers = { λ w n whole. HaveOutcomes (O.are w.outcome.now) w.regex.now w.haystacks.now n whole };
+    ghost gathers = { λ w n whole. HaveOutcomes (O.are w.outcome.now) w.regex.now (H.texts w.haystacks.now) n whole };
 
     fn count(&self) -> usize {
-        self.haystacks.len()
+        self.haystacks.count()
     }
 
     fn make(&self, alloc: Global) -> Result<RegexFinder<'a>, Memory> {
@@ -189,7 +191,7 @@ impl<'a, G: Gate, O: Outcome> Task for Works<'a, G, O> {
     ) -> Result<(), Memory> {
         a_search_is_for_its_patterns();
         self.gate.reached(index);
-        let haystack = self.haystacks[index];
+        let haystack = self.haystacks.get(index);
         let mut searcher = Searcher::new(Input::new(haystack));
         // Each row is handed on as it is found (DECISIONS: one scan for rows, their text and their numbers).
         'matches: while let Some(found) = searcher.advance(finder)? {
@@ -226,16 +228,16 @@ fn tells_matches(regex: &Regex) -> bool
 }
 
 /// What no rows become, for each haystack. `gate` is told of each.
-fn no_rows<G: Gate, O: Outcome>(
+fn no_rows<H: Haystacks, G: Gate, O: Outcome>(
     alloc: Global,
-    haystacks: &[&[u8]],
+    haystacks: &H,
     gate: &G,
     outcome: &O,
 ) -> Result<O::Whole, Memory>
-    ensures { IfOk result (O.are outcome.now (replicate (length haystacks.now) [])) }
+    ensures { IfOk result (O.are outcome.now (replicate (length (H.texts haystacks.now)) [])) }
 {
     let mut value = outcome.open(alloc, 0)?;
-    for index in 0..haystacks.len() {
+    for index in 0..haystacks.count() {
         gate.reached(index);
         outcome.end(alloc, &mut value)?;
     }

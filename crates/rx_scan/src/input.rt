@@ -1,5 +1,5 @@
 //! Reading: the input to its end, its lines, and the syntax trees of its patterns.
-ghost use Rattle.std.specs.Prelude.{◌≡◌, ◌+◌, ◌<◌, ◌≤◌, [], ◌∷◌, length, map, take, vec_len, IfOk, OnErr, IsErrOf, MatchResult};
+ghost use Rattle.std.specs.Prelude.{◌≡◌, ◌+◌, ◌<◌, ◌≤◌, [], ◌∷◌, drop, length, map, take, vec_len, IfOk, OnErr, IsErrOf, MatchResult};
 ghost use Rattle.std.specs.Io.KnownBytes.{Consumes, IsAtEnd};
 ghost use Rattle.std.specs.List.{All};
 ghost use Rattle.std.specs.Str.{IsUtf8};
@@ -148,29 +148,12 @@ fn split_patterns<'t>(
     Ok((patterns, rest))
 }
 
-/// The lines of a text.
-///
-/// # Errors
-///
-/// `Memory`, where there was no memory for the list.
-pub fn split_lines<'t>(alloc: Global, text: &'t str) -> Result<Vec<&'t [u8]>, rx_search::Memory>
-    ensures lines { IfOk result (λ all. map (λ line. line.now) all.items ≡ lines text.now) }
-    ensures utf8 { IfOk result (λ all. All (λ line. IsUtf8 line.now) all.items) }
-{
-    let mut all = Vec::new(alloc);
-    let mut rest = text;
-    while !rest.is_empty() {
-        let (line, others) = split_line(rest);
-        all.push(line.as_bytes())?;
-        rest = others;
-    }
-    Ok(all)
-}
-
 /// The first line of a text, and what comes after its newline.
 pub fn split_line(text: &str) -> (&str, &str)
     requires { 0 < length text.now }
     ensures lines { lines text.now ≡ result.0.now ∷ lines result.1.now }
+    ensures line { result.0.now ≡ take (length result.0.now) text.now }
+    ensures rest { result.1.now ≡ drop (length result.0.now + 1) text.now }
     ensures utf8 { IsUtf8 result.0.now × IsUtf8 result.1.now }
     ensures shorter { length result.1.now < length text.now }
 {

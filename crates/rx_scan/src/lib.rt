@@ -12,6 +12,7 @@ mod ends;
 mod generate;
 mod haystacks;
 mod input;
+mod lines;
 mod outcome;
 mod output;
 mod program;

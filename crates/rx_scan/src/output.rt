@@ -115,6 +115,9 @@ pub fn write_text<K: Sink>(sink: &mut K, text: &[u8]) -> Result<(), Failed>
 /// How many bytes are gathered before they are written, at most.
 const GATHERED: usize = 65536;
 
+/// How long a piece is, at most, that is gathered. A longer one costs less as a write of its own.
+const SMALL: usize = 8192;
+
 /// Writes all of a text that is in pieces, or a front of it that ends where the sink failed. Small pieces are gathered, so that
 /// they are no writes of their own.
 ///
@@ -157,6 +160,7 @@ fn gather(gathered: &mut Vec<u8>, piece: &[u8]) -> bool
     ensures some { result ≡ true → gathered.new.items ≡ gathered.old.items ++ piece.now }
     ensures none { result ≡ false → gathered.new.items ≡ gathered.old.items }
 {
-    gathered.len().saturating_add(piece.len()) <= GATHERED
+    piece.len() <= SMALL
+        && gathered.len().saturating_add(piece.len()) <= GATHERED
         && gathered.extend_from_slice(piece).is_ok()
 }

@@ -16,7 +16,7 @@ use std::thread::{Threads, map_vec};
 /// What the answers to the works of a task are together.
 ///
 /// There are so many workers, but no more than works, and at least one. Each draws one number after another, and some ahead
-/// where there are thousands for each worker, until none is left. It works with a scratch value from a slot; of these there
+/// where there are hundreds for each worker, until none is left. It works with a scratch value from a slot; of these there
 /// are so many as workers, but no more than `slots`, and at least one. Where the slot of a worker is in another one's hand, it
 /// makes a scratch value of its own. A worker for which no thread could be started works on the caller's. What no worker
 /// found the caller looks for, once all have ended.
@@ -46,10 +46,10 @@ pub fn do_all<R: Threads + Sync, T: Task + Sync>(
 }
 
 /// How many numbers a worker draws at a time, at most.
-const MOST_AT_A_TIME: usize = 64;
+const MOST_AT_A_TIME: usize = 256;
 
 /// How many numbers there are for each worker, at least, for each of several that it draws at a time.
-const FOR_EACH: usize = 1024;
+const FOR_EACH: usize = 256;
 
 /// How many numbers each of so many workers draws at a time. All write the word that they draw from, and it goes from
 /// processor to processor, so that a draw costs less where it follows another (DECISIONS: numbers are drawn ahead).

@@ -13,6 +13,6 @@ loop-index-preserved g c =
 
 pub returns : goal.returns
 returns g c =
-    let all : c.loop-index.index ≡ length c.args.haystacks.now = omega (arith, c.loop-index-test.false, c.loop-index.auto.index-end) in
+    let all : c.loop-index.index ≡ length (g.H.Haystacks.texts c.args.haystacks.now) = omega (arith, c.loop-index-test.false, c.loop-index.auto.index-end) in
     let holds = subst (λ n. g.O.Outcome.holds c.args.outcome.now 0 (replicate n []) [] c.loop-index.value) all c.loop-index.invariant in
-    c.in_ok-put.ensures [] (replicate (length c.args.haystacks.now) []) c.nothing-whole.ensures holds
+    c.in_ok-put.ensures [] (replicate (length (g.H.Haystacks.texts c.args.haystacks.now)) []) c.nothing-whole.ensures holds

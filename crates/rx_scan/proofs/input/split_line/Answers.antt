@@ -1,4 +1,4 @@
-use Rattle.std.proofs.Common.{◌≡◌, ◌<◌, ◌+◌, ◌-◌, ◌∷◌, ℕ, List, length, get_or, take, drop, ap, sym, subst, ◌∙◌, arith}
+use Rattle.std.proofs.Common.{◌≡◌, ◌<◌, ◌+◌, ◌-◌, ◌∷◌, ℕ, List, length, get_or, take, drop, ap, sym, subst, ◌∙◌, arith, length-take, take_all, drop_of_length-le}
 use Rattle.std.proofs.lemmas.Str.{IsCharBoundary-after_ascii}
 use Rattle.rx_scan.specs.Input.{lines}
 use Rattle.rx_scan.proofs.LineLemmas.{HasNoNewline, lines-cut, lines-one, newline-at, newline-nowhere}
@@ -30,3 +30,31 @@ returns-in-None-clause-lines c =
     let bytes = c.as_bytes.result.now in
     let none : HasNoNewline c.args.text.now = subst HasNoNewline c.as_bytes.ensures.value (newline-nowhere bytes c.in-None.ensures) in
     lines-one c.args.text.now c.requires none
+
+pub returns-in-Some-clause-line : goal.returns-in-Some-clause-line
+returns-in-Some-clause-line c =
+    let text : List ℕ = c.args.text.now in
+    let at = c.in-Some.at in
+    let cut = newline-at c.as_bytes.result.now at c.in-Some.ensures.0 c.in-Some.ensures.1 in
+    let below : at < length text = subst (λ bytes. at < length bytes) c.as_bytes.ensures.value cut.0 in
+    let none : at - 0 ≡ at = omega arith in
+    let front : c.range.result.now ≡ take at text = c.range.ensures.value ∙ ap (λ n. take n text) none in
+    let long : length c.range.result.now ≡ at = ap length front ∙ omega (arith, length-take at text, below) in
+    front ∙ ap (λ n. take n text) (sym long)
+
+pub returns-in-Some-clause-rest : goal.returns-in-Some-clause-rest
+returns-in-Some-clause-rest c =
+    let text : List ℕ = c.args.text.now in
+    let at = c.in-Some.at in
+    let cut = newline-at c.as_bytes.result.now at c.in-Some.ensures.0 c.in-Some.ensures.1 in
+    let below : at < length text = subst (λ bytes. at < length bytes) c.as_bytes.ensures.value cut.0 in
+    let none : at - 0 ≡ at = omega arith in
+    let front : c.range.result.now ≡ take at text = c.range.ensures.value ∙ ap (λ n. take n text) none in
+    let long : length c.range.result.now ≡ at = ap length front ∙ omega (arith, length-take at text, below) in
+    c.range_from.ensures.value ∙ ap (λ n. drop (n + 1) text) (sym long)
+
+pub returns-in-None-clause-line : goal.returns-in-None-clause-line
+returns-in-None-clause-line c = sym (take_all (length c.args.text.now) c.args.text.now (omega arith))
+
+pub returns-in-None-clause-rest : goal.returns-in-None-clause-rest
+returns-in-None-clause-rest c = sym (drop_of_length-le c.args.text.now {i = length c.args.text.now + 1} (omega arith))

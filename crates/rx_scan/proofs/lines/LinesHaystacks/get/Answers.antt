@@ -1,0 +1,61 @@
+use Rattle.std.proofs.Common.{rules, ◌≡◌, ◌-◌, ◌<◌, ◌≤◌, [], ℕ, length, get_or, drop, take, arith, ap, sym, ◌∙◌}
+use Rattle.std.proofs.lemmas.List.{get_or_default}
+use Rattle.rx_scan.specs.Lines.{cut_at, line_start}
+use Rattle.rx_scan.proofs.LineLemmas.{cut-length, piece-at}
+use Rattle.rx_scan.proofs.lines.LinesHaystacks.get.Goals as goal
+
+pub index-end-requires : goal.index-end-requires
+index-end-requires c =
+    let many = cut-length c.args.self.now.text.now 0 c.args.self.now.ends.items in
+    omega (arith, c.requires, many)
+
+pub start-requires-clause-there : goal.start-requires-clause-there
+start-requires-clause-there c =
+    let many = cut-length c.args.self.now.text.now 0 c.args.self.now.ends.items in
+    omega (arith, c.requires, many)
+
+pub start-requires-clause-end : goal.start-requires-clause-end
+start-requires-clause-end c =
+    let ends = c.args.self.now.ends.items in
+    let many = cut-length c.args.self.now.text.now 0 ends in
+    c.index-end.ensures ∙ get_or_default ends c.args.index _ 0 (omega (arith, c.requires, many))
+
+pub slice_bounds-result-count : goal.slice_bounds-result-count
+slice_bounds-result-count c =
+    let ends = c.args.self.now.ends.items in
+    let many = cut-length c.args.self.now.text.now 0 ends in
+    let below : c.args.index < length ends = omega (arith, c.requires, many) in
+    let end = c.index-end.ensures ∙ get_or_default ends c.args.index _ 0 below in
+    let one = piece-at c.args.self.now.text.now 0 ends c.args.index c.args.self.now.own below in
+    omega (arith, c.start.ensures, end, one.0)
+
+pub slice_bounds-result-start : goal.slice_bounds-result-start
+slice_bounds-result-start c =
+    let ends = c.args.self.now.ends.items in
+    let many = cut-length c.args.self.now.text.now 0 ends in
+    let below : c.args.index < length ends = omega (arith, c.requires, many) in
+    let end : c.index-end.result.now ≡ get_or ends c.args.index 0 = c.index-end.ensures ∙ get_or_default ends c.args.index _ 0 below in
+    let one = piece-at c.args.self.now.text.now 0 ends c.args.index c.args.self.now.own below in
+    let low : c.start.result ≤ c.index-end.result.now = omega (arith, c.start.ensures, end, one.0) in
+    let high : c.index-end.result.now ≤ length c.args.self.now.text.now = omega (arith, end, one.1) in
+    search rules
+
+pub slice_bounds-result-end : goal.slice_bounds-result-end
+slice_bounds-result-end c =
+    let ends = c.args.self.now.ends.items in
+    let many = cut-length c.args.self.now.text.now 0 ends in
+    let below : c.args.index < length ends = omega (arith, c.requires, many) in
+    let end : c.index-end.result.now ≡ get_or ends c.args.index 0 = c.index-end.ensures ∙ get_or_default ends c.args.index _ 0 below in
+    let one = piece-at c.args.self.now.text.now 0 ends c.args.index c.args.self.now.own below in
+    let low : c.start.result ≤ c.index-end.result.now = omega (arith, c.start.ensures, end, one.0) in
+    let high : c.index-end.result.now ≤ length c.args.self.now.text.now = omega (arith, end, one.1) in
+    search rules
+
+pub returns : goal.returns
+returns c =
+    let text = c.args.self.now.text.now in
+    let ends = c.args.self.now.ends.items in
+    let many = cut-length text 0 ends in
+    let below : c.args.index < length ends = omega (arith, c.requires, many) in
+    let end : c.index-end.result.now ≡ get_or ends c.args.index 0 = c.index-end.ensures ∙ get_or_default ends c.args.index _ 0 below in
+    (λ k. take (end k - c.start.ensures k) (drop (c.start.ensures k) text)) ∙ sym (piece-at text 0 ends c.args.index c.args.self.now.own below).2
