@@ -116,7 +116,7 @@ pub fn write_text<K: Sink>(sink: &mut K, text: &[u8]) -> Result<(), Failed>
 const GATHERED: usize = 65536;
 
 /// How long a piece is, at most, that is gathered. A longer one costs less as a write of its own.
-const SMALL: usize = 8192;
+const SMALL: usize = 16384;
 
 /// Writes all of a text that is in pieces, or a front of it that ends where the sink failed. Small pieces are gathered, so that
 /// they are no writes of their own.

@@ -46,10 +46,10 @@ pub fn do_all<R: Threads + Sync, T: Task + Sync>(
 }
 
 /// How many numbers a worker draws at a time, at most.
-const MOST_AT_A_TIME: usize = 256;
+const MOST_AT_A_TIME: usize = 512;
 
 /// How many numbers there are for each worker, at least, for each of several that it draws at a time.
-const FOR_EACH: usize = 256;
+const FOR_EACH: usize = 128;
 
 /// How many numbers each of so many workers draws at a time. All write the word that they draw from, and it goes from
 /// processor to processor, so that a draw costs less where it follows another (DECISIONS: numbers are drawn ahead).
