@@ -5,7 +5,7 @@ ghost use Rattle.std.specs.Str.{IsUtf8};
 ghost use Rattle.rx_scan.specs.Input.{lines};
 ghost use Rattle.rx_scan.specs.Lines.{AreEnds, AreEnds-prop, cut_at, line_start};
 
-use crate::input::split_line;
+use memchr::memchr_iter;
 use rx_search::Memory;
 use std::alloc::Global;
 
@@ -65,13 +65,13 @@ impl<'t> Lines<'t> {
         ensures room { IfOk result (λ all. length all.ends.items < 2 ^ 63) }
     {
         let mut ends = Vec::new(alloc);
-        let mut at = 0;
-        let mut rest = text;
-        'lines: while !rest.is_empty() {
-            let (line, others) = split_line(rest);
-            ends.push(at + line.len())?;
-            at += line.len() + 1;
-            rest = others;
+        let mut next = 0;
+        'lines: for end in memchr_iter(b'\n', text.as_bytes()) {
+            ends.push(end)?;
+            next = end + 1;
+        }
+        if next < text.len() {
+            ends.push(text.len())?;
         }
         Ok(Lines {
             text: text.as_bytes(),
