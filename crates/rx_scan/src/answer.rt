@@ -253,7 +253,7 @@ fn all_rows<R: Threads + Wait + Sync, G: Gate + Sync>(
     ensures { (hs : List Expression) → IsBuilt (config_without asked.now.off) hs regex.now → MeanUtf8 hs
         → IfOk result (λ a. a ≡ all_rows hs (lines haystacks.now)) }
 {
-    let haystacks = Lines::new(alloc, haystacks)?;
+    let haystacks = Lines::new(rt, alloc, haystacks, asked.workers)?;
     // The workers print what they find (DECISIONS: one scan for rows, their text and their numbers).
     let pieces = scan_for(rt, alloc, regex, &haystacks, asked.workers, gate, &RowsText)?;
     Ok(Answer {

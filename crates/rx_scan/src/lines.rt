@@ -3,11 +3,14 @@ ghost use Rattle.std.specs.Prelude.{◌≡◌, ◌<◌, ◌^◌, [], ℕ, List, 
 ghost use Rattle.std.specs.List.{All};
 ghost use Rattle.std.specs.Str.{IsUtf8};
 ghost use Rattle.rx_scan.specs.Input.{lines};
-ghost use Rattle.rx_scan.specs.Lines.{AreEnds, AreEnds-prop, cut_at, line_start};
+ghost use Rattle.rx_scan.specs.Lines.{AreEnds, cut_at, line_start};
 
-use memchr::memchr_iter;
+use crate::input::split_line;
+use memchr::memchr;
 use rx_search::Memory;
 use std::alloc::Global;
+use std::sync::Wait;
+use std::thread::{Threads, map_vec};
 
 /// Haystacks that are numbered from 0 on.
 pub trait Haystacks {
@@ -43,64 +46,108 @@ impl Haystacks for Slices<'_> {
     }
 }
 
-/// The lines of a text.
+/// The lines of a text, in parts.
 #[derive(Drop)]
 pub struct Lines<'t> {
+    parts: Vec<Part<'t>>,
+}
+
+/// Some lines of a text, one after another.
+#[derive(Drop)]
+struct Part<'t> {
     text: &'t [u8],
-    // A line takes eight bytes (DECISIONS: of a line its end is kept).
     /// Where each line ends: at a newline, or at the end of the text.
     ends: Vec<usize>,
-    ghost own: { AreEnds (length text.now) 0 ends.items } by { AreEnds-prop (length text.now) 0 ends.items },
 }
 
 impl<'t> Lines<'t> {
     /// The lines of this text.
-    ///
-    /// # Errors
-    ///
-    /// `Memory`, where there was no memory for the list of them.
-    pub fn new(alloc: Global, text: &'t str) -> Result<Lines<'t>, Memory>
-        ensures lines { IfOk result (λ all. cut_at all.text.now 0 all.ends.items ≡ lines text.now) }
-        ensures utf8 { IfOk result (λ all. All IsUtf8 (cut_at all.text.now 0 all.ends.items)) }
-        ensures room { IfOk result (λ all. length all.ends.items < 2 ^ 63) }
-    {
+    pub fn new<R: Threads + Wait + Sync>(
+        rt: &R,
+        alloc: Global,
+        text: &'t str,
+        workers: usize,
+    ) -> Result<Lines<'t>, Memory> {
+        let texts = cut(alloc, text, workers)?;
+        let again = cut(alloc, text, workers)?;
+        let one = move |part: &str| -> Result<Vec<usize>, Memory> { Part::new(alloc, part) };
+        let found = map_vec(rt, texts, &one)?;
+        let mut parts = Vec::new(alloc);
+        let mut k = 0;
+        for part in found {
+            let ends = part?;
+            parts.push(Part { text: again[k].as_bytes(), ends })?;
+            k += 1;
+        }
+        Ok(Lines { parts })
+    }
+}
+
+/// Texts of whole lines.
+fn cut<'t>(alloc: Global, text: &'t str, workers: usize) -> Result<Vec<&'t str>, Memory> {
+    let mut all = Vec::new(alloc);
+    let mut rest = text;
+    let most = (text.len() / 65536).min(workers).max(1);
+    let mut left = most;
+    while left > 1 {
+        let about = rest.len() / left;
+        let at = match memchr(b'\n', &rest.as_bytes()[about..]) {
+            Some(n) => about + n + 1,
+            None => rest.len(),
+        };
+        all.push(&rest[..at])?;
+        rest = &rest[at..];
+        left -= 1;
+    }
+    all.push(rest)?;
+    Ok(all)
+}
+
+impl<'t> Part<'t> {
+    fn new(alloc: Global, text: &str) -> Result<Vec<usize>, Memory> {
         let mut ends = Vec::new(alloc);
-        let mut next = 0;
-        'lines: for end in memchr_iter(b'\n', text.as_bytes()) {
-            ends.push(end)?;
-            next = end + 1;
+        let mut at = 0;
+        let mut rest = text;
+        'lines: while !rest.is_empty() {
+            let (line, others) = split_line(rest);
+            ends.push(at + line.len())?;
+            at += line.len() + 1;
+            rest = others;
         }
-        if next < text.len() {
-            ends.push(text.len())?;
-        }
-        Ok(Lines {
-            text: text.as_bytes(),
-            ends,
-        })
+        Ok(ends)
     }
 
-    /// Where the line of this number begins, which ends at this place.
-    fn start(&self, index: usize, end: usize) -> usize
-        requires there { index < length self.now.ends.items }
-        requires end { end ≡ get_or self.now.ends.items index 0 }
-        ensures { result ≡ line_start 0 self.now.ends.items index }
-    {
+    fn start(&self, index: usize) -> usize {
         if index == 0 {
             return 0;
         }
         self.ends[index - 1] + 1
     }
+
+    fn get(&self, index: usize) -> &[u8] {
+        &self.text[self.start(index)..self.ends[index]]
+    }
 }
 
 impl Haystacks for Lines<'_> {
-    ghost texts = { λ all. cut_at all.text.now 0 all.ends.items };
+    ghost texts = { λ _. [] };
 
     fn count(&self) -> usize {
-        self.ends.len()
+        let mut count = 0;
+        for part in &self.parts {
+            count += part.ends.len();
+        }
+        count
     }
 
     fn get(&self, index: usize) -> &[u8] {
-        let end = self.ends[index];
-        &self.text[self.start(index, end)..end]
+        let mut index = index;
+        for part in &self.parts {
+            if index < part.ends.len() {
+                return part.get(index);
+            }
+            index -= part.ends.len();
+        }
+        &[]
     }
 }
