@@ -147,7 +147,8 @@ pub counts-told : {W : Type 0} (items : W → List Counts) (result : Result W Me
 counts-told items (Err error) texts short told = tt
 counts-told items (Ok w) texts short told =
     let rows : List ℕ → List RowValue = scan_rows (patterns_of gen_expressions) in
-    let fit : All (λ rs. rows_len rs < 2 ^ 64) (map rows texts) = All-map (λ rs. rows_len rs < 2 ^ 64) rows texts (λ i d below. rows-fit (get_or texts i d) (short i d below)) in
+    let fit : All (λ rs. rows_len rs < 2 ^ 64) (map rows texts) =
+    All-map (λ rs. rows_len rs < 2 ^ 64) rows texts (λ i d below. rows-fit (get_or texts i d) (short i d below)) in
     told fit ∙ map-map counts_of rows texts ∙ (λ k. map (λ text. rows-told text k) texts)
 
 -- the numbers of one haystack more

@@ -4,7 +4,7 @@ use Rattle.std.specs.List.{All}
 use Rattle.std.specs.Prelude.{map}
 use Rattle.std.specs.Str.{IsUtf8}
 use Rattle.std.proofs.lemmas.List.Elements.{All-push}
-use Rattle.std.proofs.lemmas.List.{map-append, get_or-take, take-append-drop}
+use Rattle.std.proofs.lemmas.List.{get_or_default, map-append, get_or-take, take-append-drop}
 use Rattle.std.proofs.lemmas.Bool.{ne_eqb, eqb-true, eq-eqb}
 use Rattle.memchr.specs.Find.{NoneBefore, Nowhere, Passes, is_byte}
 use Rattle.rx_scan.specs.Input.{lines, line_byte}
@@ -59,6 +59,16 @@ newline-at text at none is =
 pub newline-nowhere : (text : List ℕ) → Nowhere (Passes (is_byte 10) text) 0 (length text) → HasNoNewline text
 newline-nowhere text none = λ i below newline. none i (omega arith) below (eq-eqb (get_or text i 0) 10 newline)
 
+-- the text before a newline, and its length
+pub first-line : (text bytes front : List ℕ) (at : ℕ) → bytes ≡ text → at < length bytes → front ≡ take (at - 0) text
+    → (front ≡ take (length front) text) × (length front ≡ at)
+first-line text bytes front at same below is =
+    let whole : at - 0 ≡ at = omega arith in
+    let within : at < length text = subst (λ (bs : List ℕ). at < length bs) same below in
+    let here : front ≡ take at text = is ∙ ap (λ n. take n text) whole in
+    let long : length front ≡ at = ap length here ∙ omega (arith, length-take at text, within) in
+    (here ∙ ap (λ n. take n text) (sym long), long)
+
 -- where the piece after these begins
 unfoldable pub next_start : (from : ℕ) → (ends : List ℕ) → ℕ
 next_start from [] = from
@@ -76,7 +86,8 @@ unfolding cut_at next_start
 cut-more text from [] end = refl
 cut-more text from (e ∷ ends) end = ap (λ l. take (e - from) (drop from text) ∷ l) (cut-more text (e + 1) ends end)
 
-ends-more : (len from : ℕ) (ends : List ℕ) (end : ℕ) → AreEnds len from ends → next_start from ends ≤ end → end ≤ len → AreEnds len from (ends ++ end ∷ [])
+ends-more : (len from : ℕ) (ends : List ℕ) (end : ℕ) → AreEnds len from ends → next_start from ends ≤ end → end ≤ len
+    → AreEnds len from (ends ++ end ∷ [])
 unfolding AreEnds next_start
 ends-more len from [] end are low high = (low, high, tt)
 ends-more len from (e ∷ ends) end are low high = (are.0, are.1, ends-more len (e + 1) ends end are.2 low high)
@@ -96,6 +107,15 @@ piece-at text from [] i are below = absurd (omega (arith, below))
 piece-at text from (e ∷ ends) zero are below = (are.0, are.1, refl)
 piece-at text from (e ∷ ends) (suc zero) are below = piece-at text (e + 1) ends zero are.2 (omega (arith, below))
 piece-at text from (e ∷ ends) (suc (suc i)) are below = piece-at text (e + 1) ends (suc i) are.2 (omega (arith, below))
+
+-- .. lies within the text
+pub piece-within : (text ends : List ℕ) (i start end : ℕ) → AreEnds (length text) 0 ends → i < length (cut_at text 0 ends) → start ≡ line_start 0 ends i
+    → end ≡ get_or ends i end → (start ≤ end) × (end ≤ length text)
+piece-within text ends i start end are below begins ends_at =
+    let within : i < length ends = omega (arith, below, cut-length text 0 ends) in
+    let here = ends_at ∙ get_or_default ends i end 0 within in
+    let one = piece-at text 0 ends i are within in
+    (omega (arith, begins, here, one.0), omega (arith, here, one.1))
 
 -- where a piece begins: the first, and one that another comes before
 pub start-first : (from : ℕ) (ends : List ℕ) (i : ℕ) → i ≡ 0 → line_start from ends i ≡ from
@@ -139,7 +159,8 @@ Found-more text rest line others at ends ends' found some cut is after utf8 more
     let same : end - next_start 0 ends ≡ length line = ap (λ n. end - n) (sym found.next) ∙ omega arith in
     let piece : take (end - next_start 0 ends) (drop (next_start 0 ends) text) ≡ line =
     (λ k. take (same k) (drop (sym found.next k) text)) ∙ ap (take (length line)) (sym found.left) ∙ sym is in
-    let longer : cut_at text 0 ends' ≡ cut_at text 0 ends ++ line ∷ [] = ap (cut_at text 0) more ∙ cut-more text 0 ends end ∙ ap (λ l. cut_at text 0 ends ++ l ∷ []) piece in
+    let longer : cut_at text 0 ends' ≡ cut_at text 0 ends ++ line ∷ [] =
+    ap (cut_at text 0) more ∙ cut-more text 0 ends end ∙ ap (λ l. cut_at text 0 ends ++ l ∷ []) piece in
     let next : at + length line + 1 ≡ at + (length line + 1) = omega arith in
     record {
       next = sym (ap (next_start 0) more ∙ next-more 0 ends end ∙ next);

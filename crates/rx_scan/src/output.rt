@@ -155,7 +155,8 @@ fn write_piece<K: Sink>(sink: &mut K, gathered: &mut Vec<u8>, piece: &[u8]) -> R
     write_text(sink, piece)
 }
 
-/// Appends a piece to those that were gathered, unless they are too long then. False also where there is no memory for it.
+/// Appends a piece to those that were gathered, unless it is long or they are too long then. False also where there is no
+/// memory for it.
 fn gather(gathered: &mut Vec<u8>, piece: &[u8]) -> bool
     ensures some { result ≡ true → gathered.new.items ≡ gathered.old.items ++ piece.now }
     ensures none { result ≡ false → gathered.new.items ≡ gathered.old.items }

@@ -16,5 +16,6 @@ returns g c = λ hs built utf8.
     let given = cut_at found.text.now 0 found.ends.items in
     let text = c.in_ok-pieces.ensures (config_without c.args.asked.now.off) hs built refl tt (λ _ k d below. utf8 _ (c.in_ok-haystacks.ensures.utf8 k d below)) in
     let few = c.in_ok-haystacks.ensures.room in
-    let told = text (omega (arith, length-map given rows, cut-length found.text.now 0 found.ends.items, few)) ∙ ap (λ ls. rows_text 1 (map rows ls)) c.in_ok-haystacks.ensures.lines in
+    let many = cut-length found.text.now 0 found.ends.items in
+    let told = text (omega (arith, length-map given rows, many, few)) ∙ ap (λ ls. rows_text 1 (map rows ls)) c.in_ok-haystacks.ensures.lines in
     λ i. record { status = Rows; text = told i }

@@ -23,7 +23,8 @@ returns g c = λ config hs built leftmost begins utf8.
 pub returns-then-not-tells_matches : goal.returns-then-not-tells_matches
 returns-then-not-tells_matches g c = λ config hs built leftmost begins utf8.
     let silent : tells (captures_of config) ≡ false = ap (λ k. tells (captures_of k)) (sym built.config) ∙ sym c.if-not-tells_matches.ensures in
-    outcomes-silent (g.O.Outcome.are c.args.outcome.now) c.args.regex.now (g.H.Haystacks.texts c.args.haystacks.now) (patterns_for config hs) c.no_rows.result silent c.no_rows.ensures
+    let texts = g.H.Haystacks.texts c.args.haystacks.now in
+    outcomes-silent (g.O.Outcome.are c.args.outcome.now) c.args.regex.now texts (patterns_for config hs) c.no_rows.result silent c.no_rows.ensures
 
 pub do_all-requires-send-T-Scratch : goal.do_all-requires-send-T-Scratch
 do_all-requires-send-T-Scratch g c κs within = search (sendable, crosses, regex_sync, cache.the_send) fits 5000 depth 40

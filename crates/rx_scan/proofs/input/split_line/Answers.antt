@@ -1,7 +1,7 @@
-use Rattle.std.proofs.Common.{◌≡◌, ◌<◌, ◌+◌, ◌-◌, ◌∷◌, ℕ, List, length, get_or, take, drop, ap, sym, subst, ◌∙◌, arith, length-take, take_all, drop_of_length-le}
+use Rattle.std.proofs.Common.{◌≡◌, ◌<◌, ◌+◌, ◌-◌, ◌∷◌, ℕ, List, length, get_or, take, drop, ap, sym, subst, ◌∙◌, arith, take_all, drop_of_length-le}
 use Rattle.std.proofs.lemmas.Str.{IsCharBoundary-after_ascii}
 use Rattle.rx_scan.specs.Input.{lines}
-use Rattle.rx_scan.proofs.LineLemmas.{HasNoNewline, lines-cut, lines-one, newline-at, newline-nowhere}
+use Rattle.rx_scan.proofs.LineLemmas.{HasNoNewline, first-line, lines-cut, lines-one, newline-at, newline-nowhere}
 use Rattle.rx_scan.proofs.input.split_line.Goals as goal
 
 pub range_from-requires : goal.range_from-requires
@@ -33,25 +33,14 @@ returns-in-None-clause-lines c =
 
 pub returns-in-Some-clause-line : goal.returns-in-Some-clause-line
 returns-in-Some-clause-line c =
-    let text : List ℕ = c.args.text.now in
-    let at = c.in-Some.at in
-    let cut = newline-at c.as_bytes.result.now at c.in-Some.ensures.0 c.in-Some.ensures.1 in
-    let below : at < length text = subst (λ bytes. at < length bytes) c.as_bytes.ensures.value cut.0 in
-    let none : at - 0 ≡ at = omega arith in
-    let front : c.range.result.now ≡ take at text = c.range.ensures.value ∙ ap (λ n. take n text) none in
-    let long : length c.range.result.now ≡ at = ap length front ∙ omega (arith, length-take at text, below) in
-    front ∙ ap (λ n. take n text) (sym long)
+    let cut = newline-at c.as_bytes.result.now c.in-Some.at c.in-Some.ensures.0 c.in-Some.ensures.1 in
+    (first-line c.args.text.now _ c.range.result.now c.in-Some.at c.as_bytes.ensures.value cut.0 c.range.ensures.value).0
 
 pub returns-in-Some-clause-rest : goal.returns-in-Some-clause-rest
 returns-in-Some-clause-rest c =
-    let text : List ℕ = c.args.text.now in
-    let at = c.in-Some.at in
-    let cut = newline-at c.as_bytes.result.now at c.in-Some.ensures.0 c.in-Some.ensures.1 in
-    let below : at < length text = subst (λ bytes. at < length bytes) c.as_bytes.ensures.value cut.0 in
-    let none : at - 0 ≡ at = omega arith in
-    let front : c.range.result.now ≡ take at text = c.range.ensures.value ∙ ap (λ n. take n text) none in
-    let long : length c.range.result.now ≡ at = ap length front ∙ omega (arith, length-take at text, below) in
-    c.range_from.ensures.value ∙ ap (λ n. drop (n + 1) text) (sym long)
+    let cut = newline-at c.as_bytes.result.now c.in-Some.at c.in-Some.ensures.0 c.in-Some.ensures.1 in
+    let front = first-line c.args.text.now _ c.range.result.now c.in-Some.at c.as_bytes.ensures.value cut.0 c.range.ensures.value in
+    c.range_from.ensures.value ∙ ap (λ n. drop (n + 1) c.args.text.now) (sym front.1)
 
 pub returns-in-None-clause-line : goal.returns-in-None-clause-line
 returns-in-None-clause-line c = sym (take_all (length c.args.text.now) c.args.text.now (omega arith))

@@ -53,7 +53,8 @@ pub matches-init : goal.matches-init
 matches-init g c =
     let hs = g.H.Haystacks.texts c.args.self.now.haystacks.now in
     let regex = c.args.finder.now.regex.now in
-    let begun : c.new-searcher.result ≡ fresh (whole (get_or hs c.args.index [])) = c.new-searcher.ensures ∙ ap fresh (c.new.ensures ∙ ap whole c.get-haystack.ensures) in
+    let begun : c.new-searcher.result ≡ fresh (whole (get_or hs c.args.index [])) =
+    c.new-searcher.ensures ∙ ap fresh (c.new.ensures ∙ ap whole c.get-haystack.ensures) in
     record {
       same = refl;
       place = λ i. ap (λ (s : SearcherValue). from_place i s.input) begun;

@@ -6,6 +6,7 @@ pub returns : goal.returns
 returns g c =
     let holds = g.O.Outcome.holds c.args.self.now.outcome.now in
     let has = c.requires.answers in
-    outcomes-put (g.O.Outcome.are c.args.self.now.outcome.now) c.args.self.now.regex.now (g.H.Haystacks.texts c.args.self.now.haystacks.now) holds c.args._index c.args._count _ _
+    let hs = g.H.Haystacks.texts c.args.self.now.haystacks.now in
+    outcomes-put (g.O.Outcome.are c.args.self.now.outcome.now) c.args.self.now.regex.now hs holds c.args._index c.args._count _ _
     c.args.value c.requires.before has c.put.result
     (c.put.ensures c.requires.before.all has.0 c.requires.before.are (subst (λ k. holds k has.0 [] c.args.value) (sym c.requires.before.count) has.1))

@@ -1,7 +1,7 @@
 use Rattle.std.proofs.Common.{rules, ◌≡◌, ◌-◌, ◌<◌, ◌≤◌, [], ℕ, length, get_or, drop, take, arith, ap, sym, ◌∙◌}
 use Rattle.std.proofs.lemmas.List.{get_or_default}
 use Rattle.rx_scan.specs.Lines.{cut_at, line_start}
-use Rattle.rx_scan.proofs.LineLemmas.{cut-length, piece-at}
+use Rattle.rx_scan.proofs.LineLemmas.{cut-length, piece-at, piece-within}
 use Rattle.rx_scan.proofs.lines.LinesHaystacks.get.Goals as goal
 
 pub index-end-requires : goal.index-end-requires
@@ -22,33 +22,24 @@ start-requires-clause-end c =
 
 pub slice_bounds-result-count : goal.slice_bounds-result-count
 slice_bounds-result-count c =
-    let ends = c.args.self.now.ends.items in
-    let many = cut-length c.args.self.now.text.now 0 ends in
-    let below : c.args.index < length ends = omega (arith, c.requires, many) in
-    let end = c.index-end.ensures ∙ get_or_default ends c.args.index _ 0 below in
-    let one = piece-at c.args.self.now.text.now 0 ends c.args.index c.args.self.now.own below in
-    omega (arith, c.start.ensures, end, one.0)
+    let line = c.args.self.now in
+    let within = piece-within line.text.now line.ends.items c.args.index c.start.result _ line.own c.requires c.start.ensures c.index-end.ensures in
+    within.0
 
 pub slice_bounds-result-start : goal.slice_bounds-result-start
 slice_bounds-result-start c =
-    let ends = c.args.self.now.ends.items in
-    let many = cut-length c.args.self.now.text.now 0 ends in
-    let below : c.args.index < length ends = omega (arith, c.requires, many) in
-    let end : c.index-end.result.now ≡ get_or ends c.args.index 0 = c.index-end.ensures ∙ get_or_default ends c.args.index _ 0 below in
-    let one = piece-at c.args.self.now.text.now 0 ends c.args.index c.args.self.now.own below in
-    let low : c.start.result ≤ c.index-end.result.now = omega (arith, c.start.ensures, end, one.0) in
-    let high : c.index-end.result.now ≤ length c.args.self.now.text.now = omega (arith, end, one.1) in
+    let line = c.args.self.now in
+    let within = piece-within line.text.now line.ends.items c.args.index c.start.result _ line.own c.requires c.start.ensures c.index-end.ensures in
+    let low = within.0 in
+    let high = within.1 in
     search rules
 
 pub slice_bounds-result-end : goal.slice_bounds-result-end
 slice_bounds-result-end c =
-    let ends = c.args.self.now.ends.items in
-    let many = cut-length c.args.self.now.text.now 0 ends in
-    let below : c.args.index < length ends = omega (arith, c.requires, many) in
-    let end : c.index-end.result.now ≡ get_or ends c.args.index 0 = c.index-end.ensures ∙ get_or_default ends c.args.index _ 0 below in
-    let one = piece-at c.args.self.now.text.now 0 ends c.args.index c.args.self.now.own below in
-    let low : c.start.result ≤ c.index-end.result.now = omega (arith, c.start.ensures, end, one.0) in
-    let high : c.index-end.result.now ≤ length c.args.self.now.text.now = omega (arith, end, one.1) in
+    let line = c.args.self.now in
+    let within = piece-within line.text.now line.ends.items c.args.index c.start.result _ line.own c.requires c.start.ensures c.index-end.ensures in
+    let low = within.0 in
+    let high = within.1 in
     search rules
 
 pub returns : goal.returns
