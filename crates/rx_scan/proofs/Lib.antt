@@ -7,6 +7,7 @@ pub mod LineLemmas
 pub mod OutcomeLemmas
 pub mod PatternLemmas
 pub mod NameLemmas
+pub mod NewlineLemmas
 pub mod ReadingLemmas
 pub mod RunLemmas
 pub mod SizeLemmas

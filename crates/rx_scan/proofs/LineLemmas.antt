@@ -1,10 +1,6 @@
 -- Where a text is cut into lines.
-use Rattle.std.proofs.Common.{◌≡◌, ℕ, zero, suc, ◌+◌, ◌-◌, ◌<◌, ◌≤◌, ◌≢◌, false, eqb, List, [], ◌∷◌, ◌++◌, length, take, drop, get_or, refl, sym, ap, subst, ◌∙◌, append_assoc, append-nil, length-take, length-drop, drop-cons, drop-drop, arith}
-use Rattle.std.specs.List.{All}
-use Rattle.std.specs.Prelude.{map}
-use Rattle.std.specs.Str.{IsUtf8}
-use Rattle.std.proofs.lemmas.List.Elements.{All-push}
-use Rattle.std.proofs.lemmas.List.{get_or_default, map-append, get_or-take, take-append-drop}
+use Rattle.std.proofs.Common.{◌≡◌, ℕ, zero, suc, ◌+◌, ◌-◌, ◌<◌, ◌≤◌, ◌≢◌, false, eqb, List, [], ◌∷◌, ◌++◌, length, take, drop, get_or, refl, sym, ap, subst, ◌∙◌, length-take, drop-cons, arith}
+use Rattle.std.proofs.lemmas.List.{get_or_default, get_or-take, take-append-drop}
 use Rattle.std.proofs.lemmas.Bool.{ne_eqb, eqb-true, eq-eqb}
 use Rattle.memchr.specs.Find.{NoneBefore, Nowhere, Passes, is_byte}
 use Rattle.rx_scan.specs.Input.{lines, line_byte}
@@ -69,29 +65,6 @@ first-line text bytes front at same below is =
     let long : length front ≡ at = ap length here ∙ omega (arith, length-take at text, within) in
     (here ∙ ap (λ n. take n text) (sym long), long)
 
--- where the piece after these begins
-unfoldable pub next_start : (from : ℕ) → (ends : List ℕ) → ℕ
-next_start from [] = from
-next_start from (end ∷ ends) = next_start (end + 1) ends
-
-next-more : (from : ℕ) (ends : List ℕ) (end : ℕ) → next_start from (ends ++ end ∷ []) ≡ end + 1
-unfolding next_start
-next-more from [] end = refl
-next-more from (e ∷ ends) end = next-more (e + 1) ends end
-
--- a piece more
-cut-more : (text : List ℕ) (from : ℕ) (ends : List ℕ) (end : ℕ)
-    → cut_at text from (ends ++ end ∷ []) ≡ cut_at text from ends ++ take (end - next_start from ends) (drop (next_start from ends) text) ∷ []
-unfolding cut_at next_start
-cut-more text from [] end = refl
-cut-more text from (e ∷ ends) end = ap (λ l. take (e - from) (drop from text) ∷ l) (cut-more text (e + 1) ends end)
-
-ends-more : (len from : ℕ) (ends : List ℕ) (end : ℕ) → AreEnds len from ends → next_start from ends ≤ end → end ≤ len
-    → AreEnds len from (ends ++ end ∷ [])
-unfolding AreEnds next_start
-ends-more len from [] end are low high = (low, high, tt)
-ends-more len from (e ∷ ends) end are low high = (are.0, are.1, ends-more len (e + 1) ends end are.2 low high)
-
 -- as many pieces as ends
 pub cut-length : (text : List ℕ) (from : ℕ) (ends : List ℕ) → length (cut_at text from ends) ≡ length ends
 unfolding cut_at
@@ -129,50 +102,3 @@ start-after from ends zero some = absurd (some refl)
 start-after from ends (suc i) some =
     let before : suc i - 1 ≡ i = omega arith in
     ap (λ k. get_or ends k 0 + 1) (sym before)
-
--- The lines that were found end at these places, and the rest of the text begins at this one.
-pub record Found (text rest : List ℕ) (at : ℕ) (ends : List ℕ) : Type 0 where
-  pub next : at ≡ next_start 0 ends
-  pub are : AreEnds (length text) 0 ends
-  pub left : rest ≡ drop at text
-  pub told : cut_at text 0 ends ++ lines rest ≡ lines text
-  pub each : All IsUtf8 (cut_at text 0 ends)
-
-pub Found-begun : (text : List ℕ) (ends : List ℕ) → ends ≡ [] → Found text text 0 ends
-unfolding AreEnds cut_at next_start
-Found-begun text ends none = record {
-  next = ap (next_start 0) (sym none);
-  are = subst (AreEnds (length text) 0) (sym none) tt;
-  left = refl;
-  told = ap (λ e. cut_at text 0 e ++ lines text) none;
-  each = subst (λ e. All IsUtf8 (cut_at text 0 e)) (sym none) (λ k d below. absurd (omega (arith, below)));
-}
-
--- a line more
-pub Found-more : (text rest line others : List ℕ) (at : ℕ) (ends ends' : List ℕ) → Found text rest at ends → 0 < length rest
-    → lines rest ≡ line ∷ lines others → line ≡ take (length line) rest → others ≡ drop (length line + 1) rest → IsUtf8 line
-    → ends' ≡ ends ++ (at + length line) ∷ [] → Found text others (at + (length line + 1)) ends'
-Found-more text rest line others at ends ends' found some cut is after utf8 more =
-    let end = at + length line in
-    let short : length line ≤ length rest = omega (arith, ap length is, length-take (length line) rest) in
-    let left : length rest ≡ length text - at = ap length found.left ∙ length-drop at text in
-    let same : end - next_start 0 ends ≡ length line = ap (λ n. end - n) (sym found.next) ∙ omega arith in
-    let piece : take (end - next_start 0 ends) (drop (next_start 0 ends) text) ≡ line =
-    (λ k. take (same k) (drop (sym found.next k) text)) ∙ ap (take (length line)) (sym found.left) ∙ sym is in
-    let longer : cut_at text 0 ends' ≡ cut_at text 0 ends ++ line ∷ [] =
-    ap (cut_at text 0) more ∙ cut-more text 0 ends end ∙ ap (λ l. cut_at text 0 ends ++ l ∷ []) piece in
-    let next : at + length line + 1 ≡ at + (length line + 1) = omega arith in
-    record {
-      next = sym (ap (next_start 0) more ∙ next-more 0 ends end ∙ next);
-      are = subst (AreEnds (length text) 0) (sym more) (ends-more (length text) 0 ends end found.are (omega (arith, found.next)) (omega (arith, short, left)));
-      left = after ∙ ap (drop (length line + 1)) found.left ∙ drop-drop (length line + 1) at text;
-      told = ap (λ l. l ++ lines others) longer ∙ append_assoc (cut_at text 0 ends) (line ∷ []) (lines others)
-          ∙ ap (λ l. cut_at text 0 ends ++ l) (sym cut) ∙ found.told;
-      each = subst (All IsUtf8) (sym longer) (All-push IsUtf8 (cut_at text 0 ends) line found.each utf8);
-    }
-
--- no line is left
-pub Found-over : (text rest : List ℕ) (at : ℕ) (ends : List ℕ) → Found text rest at ends → length rest ≡ 0 → cut_at text 0 ends ≡ lines text
-unfolding lines
-Found-over text [] at ends found none = sym (append-nil (cut_at text 0 ends)) ∙ found.told
-Found-over text (b ∷ rest) at ends found none = absurd (omega arith)

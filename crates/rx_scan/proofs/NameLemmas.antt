@@ -1,13 +1,13 @@
 -- The name of the strategy of a regex under the configuration of a scan that switches nothing off.
 use Rattle.std.proofs.Common.{◌≡◌, ℕ, ◌<◌, ◌≤◌, List, [], ◌∷◌, refl, sym, ap, ◌∙◌, arith}
 use Rattle.std.proofs.lemmas.Bool.Decides.{nat_tests}
-use Rattle.std.specs.Prelude.{Bool, true, false, ◌&&◌, Option, Some, None, nat_le}
+use Rattle.std.specs.Prelude.{Bool, true, ◌&&◌, Option, Some, None, nat_le}
 use Rattle.rx_model.specs.Expression.{Expression}
 use Rattle.rx_model.proofs.lemmas.runs.RunLemmas.{by_test}
 use Rattle.rx_hir.specs.Cost.{nfa_states}
-use Rattle.rx_meta.specs.Build.{IsBuilt, IsNamed, HasRoom, HaveNoDfa, way_of}
+use Rattle.rx_meta.specs.Build.{IsBuilt, IsNamed, way_of}
 use Rattle.rx_meta.specs.Config.{ConfigValue}
-use Rattle.rx_meta.specs.Name.{Way, by_inner, literals_for, end_alone, suffix_by, inner_by, literals_or, from_end_or, suffix_or, inner_or_plain, way_for, way_name}
+use Rattle.rx_meta.specs.Name.{by_inner, literals_for, end_alone, suffix_by, inner_by, literals_or, from_end_or, suffix_or, inner_or_plain, way_for, way_name}
 use Rattle.rx_meta.specs.Regex.{RegexValue, name_of, has_dfas, reads_prefix}
 use Rattle.rx_meta.proofs.NameLemmas.{same-way}
 use Rattle.rx_scan.specs.Answer.{has_dfa, strategy_name}

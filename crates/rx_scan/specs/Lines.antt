@@ -1,6 +1,11 @@
 -- The lines of a text, by where they end.
-use Rattle.std.specs.Prelude.{ℕ, zero, suc, ◌+◌, ◌-◌, ◌≤◌, List, [], ◌∷◌, drop, get_or, take}
+use Rattle.std.specs.Prelude.{ℕ, zero, suc, ◌+◌, ◌-◌, ◌≤◌, List, [], ◌∷◌, drop, get_or, take, ◌==◌, if◌then◌else◌}
 use Rattle.std.proofs.Props.{props}
+
+-- the places of the newlines of a text that begins at this place
+unfoldable pub newlines : (at : ℕ) → List ℕ → List ℕ
+newlines at [] = []
+newlines at (b ∷ bytes) = if b == 10 then at ∷ newlines (at + 1) bytes else newlines (at + 1) bytes
 
 -- the pieces of a text from this place on that end at these places, with one byte between them
 unfoldable pub cut_at : List ℕ → (from : ℕ) → (ends : List ℕ) → List (List ℕ)

@@ -83,7 +83,7 @@ pub fn answer_input<R: Threads + Wait + Sync, G: Gate + Sync>(
     if input.len() > INPUT_LIMIT {
         return too_long(alloc);
     }
-    match str::from_utf8(input) {
+    match simdutf8::from_utf8_baseline(input) {
         Ok(text) => answer_text(rt, alloc, command, text, gate),
         Err(error) => not_utf8(alloc, error.valid_up_to()),
     }
@@ -253,7 +253,7 @@ fn all_rows<R: Threads + Wait + Sync, G: Gate + Sync>(
     ensures { (hs : List Expression) → IsBuilt (config_without asked.now.off) hs regex.now → MeanUtf8 hs
         → IfOk result (λ a. a ≡ all_rows hs (lines haystacks.now)) }
 {
-    let haystacks = Lines::new(alloc, haystacks)?;
+    let haystacks = Lines::new(rt, alloc, haystacks, asked.workers)?;
     // The workers print what they find (DECISIONS: one scan for rows, their text and their numbers).
     let pieces = scan_for(rt, alloc, regex, &haystacks, asked.workers, gate, &RowsText)?;
     Ok(Answer {

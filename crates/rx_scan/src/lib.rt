@@ -13,6 +13,7 @@ mod generate;
 mod haystacks;
 mod input;
 mod lines;
+mod newlines;
 mod outcome;
 mod output;
 mod program;

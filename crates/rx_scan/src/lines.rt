@@ -5,9 +5,10 @@ ghost use Rattle.std.specs.Str.{IsUtf8};
 ghost use Rattle.rx_scan.specs.Input.{lines};
 ghost use Rattle.rx_scan.specs.Lines.{AreEnds, AreEnds-prop, cut_at, line_start};
 
-use crate::input::split_line;
+use crate::newlines::line_ends;
 use rx_search::Memory;
 use std::alloc::Global;
+use std::thread::Threads;
 
 /// Haystacks that are numbered from 0 on.
 pub trait Haystacks {
@@ -54,28 +55,25 @@ pub struct Lines<'t> {
 }
 
 impl<'t> Lines<'t> {
-    /// The lines of this text.
+    /// The lines of this text, which so many workers look for, each in a part of it.
     ///
     /// # Errors
     ///
     /// `Memory`, where there was no memory for the list of them.
-    pub fn new(alloc: Global, text: &'t str) -> Result<Lines<'t>, Memory>
+    pub fn new<R: Threads + Sync>(
+        rt: &R,
+        alloc: Global,
+        text: &'t str,
+        workers: usize,
+    ) -> Result<Lines<'t>, Memory>
         ensures lines { IfOk result (λ all. cut_at all.text.now 0 all.ends.items ≡ lines text.now) }
         ensures utf8 { IfOk result (λ all. All IsUtf8 (cut_at all.text.now 0 all.ends.items)) }
         ensures room { IfOk result (λ all. length all.ends.items < 2 ^ 63) }
     {
-        let mut ends = Vec::new(alloc);
-        let mut at = 0;
-        let mut rest = text;
-        'lines: while !rest.is_empty() {
-            let (line, others) = split_line(rest);
-            ends.push(at + line.len())?;
-            at += line.len() + 1;
-            rest = others;
-        }
+        let text = text.as_bytes();
         Ok(Lines {
-            text: text.as_bytes(),
-            ends,
+            text,
+            ends: line_ends(rt, alloc, text, workers)?,
         })
     }
 

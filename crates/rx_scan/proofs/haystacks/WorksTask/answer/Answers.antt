@@ -1,4 +1,4 @@
-use Rattle.std.proofs.Common.{◌≡◌, Option, List, ℕ, ◌+◌, [], ◌∷◌, ◌++◌, length, get_or, refl, sym, ap, subst, ◌∙◌}
+use Rattle.std.proofs.Common.{◌≡◌, Option, ◌+◌, [], ◌∷◌, ◌++◌, length, get_or, refl, sym, ap, subst, ◌∙◌}
 use Rattle.rx_model.specs.Search.{Match}
 use Rattle.rx_search.specs.GroupInfo.{slot_count}
 use Rattle.rx_search.specs.Matches.{MatchValue}

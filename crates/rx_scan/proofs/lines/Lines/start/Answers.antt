@@ -1,6 +1,5 @@
-use Rattle.std.proofs.Common.{◌≡◌, ◌≢◌, ◌+◌, ◌-◌, ◌<◌, ◌≤◌, length, get_or, arith, sym, ap, subst, ◌∙◌}
+use Rattle.std.proofs.Common.{◌+◌, ◌-◌, arith, sym, ap, ◌∙◌}
 use Rattle.std.proofs.lemmas.List.{get_or_default}
-use Rattle.rx_scan.specs.Lines.{line_start}
 use Rattle.rx_scan.proofs.LineLemmas.{piece-at, start-first, start-after}
 use Rattle.rx_scan.proofs.lines.Lines.start.Goals as goal
 

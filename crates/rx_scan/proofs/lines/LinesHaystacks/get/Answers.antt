@@ -1,6 +1,5 @@
-use Rattle.std.proofs.Common.{rules, ◌≡◌, ◌-◌, ◌<◌, ◌≤◌, [], ℕ, length, get_or, drop, take, arith, ap, sym, ◌∙◌}
+use Rattle.std.proofs.Common.{rules, ◌≡◌, ◌-◌, ◌<◌, length, get_or, drop, take, arith, sym, ◌∙◌}
 use Rattle.std.proofs.lemmas.List.{get_or_default}
-use Rattle.rx_scan.specs.Lines.{cut_at, line_start}
 use Rattle.rx_scan.proofs.LineLemmas.{cut-length, piece-at, piece-within}
 use Rattle.rx_scan.proofs.lines.LinesHaystacks.get.Goals as goal
 
