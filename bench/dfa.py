@@ -1,8 +1,8 @@
 #!/usr/bin/env python3
 """Times the DFAs: their searches beside the same loop in Rust and other tools, and how the full one is built, and prints tables.
 
-usage: bench/dfa.py [MIB [RX_BENCH [OTHER..]]]   (the size of the text, 16 MiB if left out; a built rx_bench in place of ours,
-which `rt run` builds; programs that read what `rxscan scan` reads and print the same rows)
+usage: bench/dfa.py [MIB [RX_BENCH [OTHER..]]]   (the size of the text, 16 MiB if left out; a built rx_bench in place of ours;
+programs that read what `rxscan scan` reads and print the same rows)
 
 It builds `bench/dfa.rs` by `rustc -O`. The programs search a text of words, nine times a run, in turns, and the least time of
 three runs counts. A ratio below 1 says that the first one is the faster one.

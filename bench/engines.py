@@ -2,7 +2,7 @@
 """Times the engines on the inputs of compare.py, and prints a table of nanoseconds per byte.
 
 usage: bench/engines.py [MIB [RXSCAN [RX_BENCH]]]   (the size of each input, 1 MiB if left out; a built rxscan to stand
-beside; a built rx_bench in place of ours, which `rt run` builds)
+beside; a built rx_bench in place of ours)
 
 Each input is cut at spaces into lines of about 4 KiB, since the backtracker takes no long ones; no pattern here matches a
 space, so no match is lost. `rx_bench` times the searches alone, with all slots: each engine without a prefilter, and with

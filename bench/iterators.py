@@ -15,8 +15,16 @@ TOP = os.path.dirname(os.path.dirname(os.path.abspath(__file__)))
 MOST = 1.3
 
 
+def texts(program):
+    """The program's texts, each with the module that it is: one file, or a folder of one for each module."""
+    place = os.path.join(TOP, 'bench', program)
+    if not os.path.isdir(place):
+        return [(place + '.txt', 'main')]
+    return [(os.path.join(place, name), name.removesuffix('.txt')) for name in os.listdir(place)]
+
+
 def copy_to(folder, program, below):
-    """Copies the repository's crates, and makes a crate of the program's text, which stands on these."""
+    """Copies the repository's crates, and makes a crate of the program's texts, which stands on these."""
     for name in ('crates.txt', 'HANDLES'):
         shutil.copy(os.path.join(TOP, name), folder)
     for crate in os.listdir(os.path.join(TOP, 'crates')):
@@ -26,7 +34,8 @@ def copy_to(folder, program, below):
                 shutil.copytree(place, os.path.join(folder, 'crates', crate, part))
     crate = os.path.join(folder, 'crates', program)
     os.makedirs(os.path.join(crate, 'src'))
-    shutil.copy(os.path.join(TOP, 'bench', program + '.txt'), os.path.join(crate, 'src', 'main.rt'))
+    for text, module in texts(program):
+        shutil.copy(text, os.path.join(crate, 'src', module + '.rt'))
     with open(os.path.join(folder, 'crates.txt'), 'a') as file:
         file.write('%s: %s\n' % (program, below))
 

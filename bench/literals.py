@@ -1,7 +1,7 @@
 #!/usr/bin/env python3
 """Times the literals of expressions beside the building of their NFA, and prints two tables of ratios.
 
-usage: bench/literals.py [RX_BENCH]   (a built rx_bench in place of ours, which `rt run` builds)
+usage: bench/literals.py [RX_BENCH]   (a built rx_bench in place of ours)
 
 `rx_bench literals` reads patterns, one a line, and times in turns, 99 times each, how their prefixes are made, made and
 trimmed for either kind of matches, and how the NFA of the same expressions is built. The least times of three runs count.

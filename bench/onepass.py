@@ -2,7 +2,7 @@
 """Times the one-pass DFA, and prints tables.
 
 usage: bench/onepass.py [KIB [RX_BENCH]]   (the size of each text, 20 KiB if left out, so that a round ends before a busy machine
-takes the processor away; a built rx_bench in place of ours, which `rt run` builds)
+takes the processor away; a built rx_bench in place of ours)
 
 - The first table is of the groups of matches whose spans are known: the least times in which the one-pass DFA and the backtracker
   tell them, of nine rounds in turns, in each of three runs.

@@ -1,8 +1,7 @@
 #!/usr/bin/env python3
 """Times the prefilters beside the kit's own searches, the same loops in Rust, and `grep -F`, and prints tables of ratios.
 
-usage: bench/prefilters.py [MIB [RX_BENCH]]   (the size of the text, 16 MiB if left out; a built rx_bench in place of ours,
-which `rt run` builds)
+usage: bench/prefilters.py [MIB [RX_BENCH]]   (the size of the text, 16 MiB if left out; a built rx_bench in place of ours)
 
 It builds `bench/loops.rs` by `rustc -O`. `rx_bench needles LIST` searches its input for needles, by a prefilter and by the
 kit's search in turns, each nine times. A ratio is that of the least times, or of the least of three runs where two programs

@@ -1,11 +1,14 @@
-"""The program over rx_bench that scripts time: a built one that the command line names, or ours, which `rt run` builds."""
+"""The program over rx_bench that scripts time: a built one that the command line names, or ours, built for measuring."""
+import atexit
 import os
-import subprocess
+import shutil
 import sys
+import tempfile
 
-TOP = os.path.dirname(os.path.dirname(os.path.abspath(__file__)))
-CRATE = os.path.join(TOP, 'crates', 'rx_bench')
-PROGRAM = os.path.join(CRATE, 'out', 'rx_bench')
+from iterators import build
+
+BELOW = ('rx_memory rx_model rx_search rx_class rx_sets rx_reader rx_hir rx_literal rx_syntax rx_nfa rx_thompson rx_prefilter '
+         'rx_engines rx_determinize rx_dfa rx_onepass_table rx_onepass_build rx_onepass memchr')
 
 
 def rx_bench(words):
@@ -21,8 +24,7 @@ def existing(path):
 
 
 def built():
-    """Our program, built anew. Its run without words ends with status 2."""
-    done = subprocess.run(['rt', 'run'], cwd=CRATE, stdin=subprocess.DEVNULL, stdout=subprocess.PIPE, stderr=subprocess.STDOUT)
-    if not os.path.exists(PROGRAM):
-        sys.exit('no program at %s\n%s' % (PROGRAM, done.stdout.decode(errors='replace')))
-    return PROGRAM
+    """Our program, of the modules in bench/rx_bench, without a proof. It is there until the script ends."""
+    folder = tempfile.mkdtemp()
+    atexit.register(shutil.rmtree, folder)
+    return build(folder, 'rx_bench', BELOW)

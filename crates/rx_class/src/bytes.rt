@@ -6,7 +6,7 @@ ghost use Rattle.rx_class.specs.Outside.{up_to, from};
 ghost use Rattle.rx_class.specs.Ranges.{next_byte, fewest, union, AreByteRanges};
 
 use crate::class::ClassBytes;
-use rx_search::Memory;
+use rx_memory::Memory;
 use std::alloc::Global;
 
 impl ClassBytes {

@@ -2,7 +2,7 @@
 ghost use Rattle.std.specs.Prelude.{◌≡◌, [], length, ◌==◌, IfOk};
 ghost use Rattle.rx_class.specs.Ranges.{AreScalarRanges, AreByteRanges, only_member, is_ascii};
 
-use rx_search::Memory;
+use rx_memory::Memory;
 use std::alloc::{AllocError, Global};
 use std::marker::Model;
 use std::sync::Arc;

@@ -5,7 +5,7 @@ ghost use Rattle.rx_class.specs.Folding.{joined_to, folded};
 ghost use Rattle.std.specs.Char.{IsScalar};
 
 use crate::class::ClassUnicode;
-use rx_search::Memory;
+use rx_memory::Memory;
 
 impl ClassUnicode {
     /// The scalars that share a simple case folding with one of the class, its own among them.

@@ -4,7 +4,7 @@ ghost use Rattle.rx_class.specs.Ranges.{next_scalar, fewest, union, HaveScalarEn
 
 use crate::class::ClassUnicode;
 use crate::scalars::merged;
-use rx_search::Memory;
+use rx_memory::Memory;
 use std::alloc::Global;
 use std::marker::Model;
 

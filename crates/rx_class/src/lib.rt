@@ -1,7 +1,7 @@
 //! Classes of scalars and of bytes, as the fewest ranges that hold their members.
 //!
 //! Classes are made of ranges in any order, united, complemented and folded in case. It stands on rx_model and
-//! rx_search, and on the kit's ucd_case.
+//! rx_memory, and on the kit's ucd_case.
 #![tactic(auto)]
 
 mod bytes;

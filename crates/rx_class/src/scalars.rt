@@ -6,7 +6,7 @@ ghost use Rattle.rx_class.specs.Ranges.{next_scalar, fewest, union, HaveScalarEn
 ghost use Rattle.rx_class.specs.Scalars.{previous_scalar, complement, or_past};
 
 use crate::class::ClassUnicode;
-use rx_search::Memory;
+use rx_memory::Memory;
 use std::alloc::Global;
 
 impl ClassUnicode {

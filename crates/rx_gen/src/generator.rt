@@ -3,7 +3,7 @@ ghost use Rattle.std.specs.Prelude.{◌≡◌, ◌+◌, ◌<◌, ◌^◌, ℕ, m
 ghost use Rattle.std.specs.Vec.{vec_items};
 ghost use Rattle.rx_gen.specs.Generated.{state_at, draw_at, length_at, haystack_at, generated};
 
-use rx_search::Memory;
+use rx_memory::Memory;
 use std::alloc::Global;
 
 /// How many letters there are.

@@ -3,7 +3,7 @@ ghost use Rattle.std.specs.Prelude.{◌≡◌, ◌++◌, ◌^◌, ◌<◌, ◌�
 ghost use Rattle.rx_gen.specs.Numbers.{number_up_to};
 
 use itoa::Buffer;
-use rx_search::Memory;
+use rx_memory::Memory;
 use std::alloc::Global;
 
 /// The number that the word is in decimal, if it is at most `most`. A sign, a needless leading zero or any other byte makes it

@@ -4,7 +4,7 @@ ghost use Rattle.std.specs.Vec.{vec_items};
 ghost use Rattle.rx_gen.specs.Totals.{matches_of, covered_of, totals_of, totals_text};
 
 use crate::number::push_number;
-use rx_search::Memory;
+use rx_memory::Memory;
 
 /// What was found in one haystack.
 #[derive(Clone, Copy, Debug, PartialEq, Eq)]

@@ -5,7 +5,7 @@ use Rattle.rx_model.proofs.lemmas.runs.FirstLemmas.{none-is-some}
 use Rattle.rx_search.specs.Matches.{MatchValue}
 use Rattle.rx_search.specs.Searcher.{SearcherValue, moved_past}
 use Rattle.rx_search.specs.Told.{LiesIn}
-use Rattle.rx_search.specs.declared.memory.Memory.{Memory}
+use Rattle.rx_memory.specs.declared.memory.Memory.{Memory}
 use Rattle.rx_meta.specs.Iterators.{MatchesValue, matches_to_come, most_left, PromisesEach, GivesNext, IsMoved, IsEndedAfter, IsOfSearch, IsReported, ComeBeforeNone}
 use Rattle.rx_meta.specs.Regex.{RegexValue}
 

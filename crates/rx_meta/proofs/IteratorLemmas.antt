@@ -14,7 +14,7 @@ use Rattle.rx_search.specs.Matches.{MatchValue, match_value, half_match_value}
 use Rattle.rx_search.specs.Promise.{Premises, Promised}
 use Rattle.rx_search.specs.Searcher.{SearcherValue, AtEachPlace, AnswersWithin, Gives, IsAnsweredBy, search_from, places_left, upcoming, to_come}
 use Rattle.rx_search.specs.Told.{tells, told_in, matched_pattern, HasSlots}
-use Rattle.rx_search.specs.declared.memory.Memory.{Memory}
+use Rattle.rx_memory.specs.declared.memory.Memory.{Memory}
 use Rattle.rx_search.specs.declared.span.Span.{Span}
 use Rattle.rx_search.proofs.SearcherLemmas.{successive-matches}
 use Rattle.rx_strategy.proofs.AnswerLemmas.{told-yes}

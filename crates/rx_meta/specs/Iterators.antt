@@ -9,7 +9,7 @@ use Rattle.rx_search.specs.Matches.{MatchValue, match_value}
 use Rattle.rx_search.specs.Searcher as successive
 use Rattle.rx_search.specs.Searcher.{SearcherValue, fresh, moved_past, places_left, AtEachPlace, IsAnsweredBy}
 use Rattle.rx_search.specs.Told.{LiesIn}
-use Rattle.rx_search.specs.declared.memory.Memory.{Memory}
+use Rattle.rx_memory.specs.declared.memory.Memory.{Memory}
 use Rattle.rx_search.specs.declared.span.Span.{Span}
 use Rattle.rx_meta.specs.Captures.{IsToldWith}
 use Rattle.rx_meta.specs.Finder.{PromisesFor}

@@ -2,7 +2,7 @@
 ghost use Rattle.std.specs.Prelude.{◌≡◌};
 ghost use Rattle.rx_reader.specs.declared.error.ParseError.TheVariants.{Memory as OutOfMemory};
 
-use rx_search::Memory;
+use rx_memory::Memory;
 use std::alloc::{AllocError, AllocFailed};
 use std::fmt;
 

@@ -2,7 +2,7 @@
 //! configuration, the syntax tree or the first refusal with its kind and piece.
 //!
 //! A contract sees the tree as a `Syntax`, and a text in it as the list of its characters. Laws say how the groups
-//! of a pattern are numbered and named, and that an escaped text reads as itself. It stands on rx_search and rx_sets.
+//! of a pattern are numbered and named, and that an escaped text reads as itself. It stands on rx_memory and rx_sets.
 #![tactic(auto)]
 
 mod assertion;

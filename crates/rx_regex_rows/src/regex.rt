@@ -511,23 +511,6 @@ fn no_prefilter_changes_an_answer(rt: HostRuntime) {
     assert!(rt; told == (Some((0, 0, 2)), 128 + 288));
 }
 
-/// Whether the regex of `a|ab` finds `a` in `ab`, and nothing in `b`.
-fn prefers_the_first<R: Abort + Wait>(rt: &R, alloc: Global, config: Config) -> bool {
-    let regex = configured(rt, alloc, config, "a|ab");
-    let found = found_by(rt, alloc, &regex, &Input::new(b"ab"));
-    let none = found_by(rt, alloc, &regex, &Input::new(b"b"));
-    found == Some((0, 0, 1)) && none == None
-}
-
-#[test]
-fn the_first_alternative_is_preferred(rt: HostRuntime) {
-    let alloc = rt.alloc();
-    let none = Config::new().auto_prefilter(false);
-    assert!(rt; prefers_the_first(&rt, alloc, none));
-    let given = handing_in(alloc, b"a").ok().expect(&rt, "memory");
-    assert!(rt; prefers_the_first(&rt, alloc, given));
-}
-
 /// A pattern, a text with a span of it, whether the search is anchored, and the start and the end of what is found.
 type Row = (
     &'static str,

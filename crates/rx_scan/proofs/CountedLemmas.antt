@@ -22,7 +22,7 @@ use Rattle.rx_syntax.specs.Patterns.{all_read}
 use Rattle.rx_syntax.proofs.lemmas.translation.Utf8Lemmas.{of_patterns}
 use Rattle.rx_scan.specs.Answer.{match_len, counts_in, gen_patterns, read_or_none, gen_expressions, gen_counts}
 use Rattle.rx_scan.specs.Counted.{AreCounted, row_len, rows_len, counts_of}
-use Rattle.rx_search.specs.declared.memory.Memory.{Memory}
+use Rattle.rx_memory.specs.declared.memory.Memory.{Memory}
 use Rattle.rx_scan.specs.Patterns.{patterns_of, MeanUtf8}
 use Rattle.rx_scan.specs.Row.{RowValue, row_of, scan_rows}
 

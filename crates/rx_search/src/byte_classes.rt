@@ -2,7 +2,7 @@
 ghost use Rattle.std.specs.Prelude.{◌≡◌, ℕ, ◌+◌, ◌<◌, ◌≤◌, false, [], ◌∷◌, ◌++◌, if◌then◌else◌, IfOk, OnOk, EachIndex, slice_index, slice_index_or};
 ghost use Rattle.rx_search.specs.ByteClasses.{AreClasses, class_of, alphabet_len, IsLeastPower, AreRepresentatives, is_edge_or_end};
 
-use crate::memory::Memory;
+use rx_memory::Memory;
 use std::alloc::Global;
 use std::marker::Model;
 

@@ -6,9 +6,9 @@ ghost use Rattle.rx_search.specs.Captures.{group_span, named_span, captured_len,
 
 use crate::group_info::GroupInfo;
 use crate::matches::Match;
-use crate::memory::Memory;
 use crate::primitives::{NonMaxUsize, PatternID};
 use crate::span::Span;
+use rx_memory::Memory;
 use std::alloc::Global;
 use std::marker::Model;
 

@@ -4,8 +4,8 @@ ghost use Rattle.rx_search.specs.Limits.{id_limit, slot_limit};
 ghost use Rattle.rx_search.specs.GroupInfo.{names_of, groups_of, fault_of, first_fault, has_duplicate, slot_count, refusal, IsFault, IsRefusal};
 
 use crate::group_error::GroupInfoError;
-use crate::memory::Memory;
 use crate::primitives::PatternID;
+use rx_memory::Memory;
 use std::alloc::Global;
 use std::collections::BTreeSet;
 

@@ -2,8 +2,8 @@
 ghost use Rattle.std.specs.Prelude.{◌≡◌};
 ghost use Rattle.rx_search.specs.declared.group_error.GroupInfoError.TheVariants.{Memory as OutOfMemory};
 
-use crate::memory::Memory;
 use crate::primitives::PatternID;
+use rx_memory::Memory;
 use std::alloc::{AllocError, AllocFailed};
 
 /// Why there is no `GroupInfo` of some groups.

@@ -7,8 +7,8 @@ ghost use Rattle.std.specs.Arc.{arc_value};
 
 use crate::group_check::check;
 use crate::group_error::GroupInfoError;
-use crate::memory::Memory;
 use crate::primitives::PatternID;
+use rx_memory::Memory;
 use std::alloc::Global;
 use std::marker::Model;
 use std::sync::Arc;

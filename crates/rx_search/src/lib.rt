@@ -1,12 +1,11 @@
 //! The words of a search: identifiers, spans, inputs, matches and groups. It stands on rx_model, and takes word
 //! characters from `unicode`, the reading of UTF-8 from `bstr` and the texts of one error from `thiserror`.
 //!
-//! `PatternID`, `StateID` and `NonMaxUsize` are numbers with a limit; `Memory` is the error of a call that only
-//! want of memory can refuse. An `Input` is what a search is given, and contracts see it as a record. A
-//! `Match` is what a search answers. A `Searcher` asks a `Finder` for one match after another, and what it
-//! gives is the list of successive matches. A `GroupInfo` has the capturing groups of patterns, with their names
-//! and slots, and contracts see it as the list of names of each pattern's groups. A `MatchError` says why a search
-//! gives no answer. A `LookMatcher` tells where look-arounds hold. `ByteClasses` has the class of each byte.
+//! `PatternID`, `StateID` and `NonMaxUsize` are numbers with a limit; `Memory` is that of rx_memory. An `Input` is what a
+//! search is given, and contracts see it as a record. A `Match` is what a search answers. A `Searcher` asks a `Finder` for
+//! one match after another, and what it gives is the list of successive matches. A `GroupInfo` has the capturing groups of
+//! patterns, with their names and slots, and contracts see it as the list of names of each pattern's groups. A `MatchError`
+//! says why a search gives no answer. A `LookMatcher` tells where look-arounds hold. `ByteClasses` has the class of each byte.
 //! `Captures` and a `PatternSet` are what searches fill, and `Steps` counts what an engine does.
 #![tactic(auto)]
 
@@ -23,7 +22,6 @@ mod look_matcher;
 mod look_set;
 mod match_error;
 mod matches;
-mod memory;
 mod pattern_set;
 mod primitives;
 mod searcher;
@@ -42,9 +40,9 @@ pub use look_matcher::LookMatcher;
 pub use look_set::{LookSet, LookSetIter};
 pub use match_error::MatchError;
 pub use matches::{HalfMatch, Match};
-pub use memory::Memory;
 pub use pattern_set::{PatternSet, PatternSetIter};
 pub use primitives::{NonMaxUsize, PatternID, StateID};
+pub use rx_memory::Memory;
 pub use searcher::{
     Finder, Searcher, searches_give_the_matches, the_next_match_answers_within_its_span,
 };

@@ -3,7 +3,7 @@ ghost use Rattle.std.specs.Prelude.{◌≡◌};
 ghost use Rattle.rx_search.specs.declared.match_error.MatchError.TheVariants.{Memory as OutOfMemory};
 
 use crate::anchored::Anchored;
-use crate::memory::Memory;
+use rx_memory::Memory;
 use std::alloc::{AllocError, AllocFailed};
 use thiserror::Error;
 

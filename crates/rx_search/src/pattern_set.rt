@@ -4,8 +4,8 @@ ghost use Rattle.std.specs.Iterator.{YieldsFirst, item_count};
 ghost use Rattle.rx_search.specs.PatternSet.{has, count_of, members};
 ghost use Rattle.rx_search.specs.Limits.{id_limit};
 
-use crate::memory::Memory;
 use crate::primitives::PatternID;
+use rx_memory::Memory;
 use std::alloc::Global;
 use std::marker::Model;
 

@@ -8,7 +8,7 @@ ghost use Rattle.rx_sets.specs.Clipped.{is_surrogate, first_scalar, last_scalar,
 ghost use Rattle.rx_sets.specs.Members.{scalars_where};
 
 use rx_class::ClassUnicode;
-use rx_search::Memory;
+use rx_memory::Memory;
 use std::alloc::Global;
 
 /// The scalars in the ranges, each from its first code point to its last.

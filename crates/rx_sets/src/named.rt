@@ -4,7 +4,7 @@ ghost use Rattle.rx_sets.specs.Property.{set_named, set_scalars, property};
 
 use crate::members::class_of;
 use rx_class::ClassUnicode;
-use rx_search::Memory;
+use rx_memory::Memory;
 use std::alloc::Global;
 use unicode::sets::{Set, by_name, normalize};
 

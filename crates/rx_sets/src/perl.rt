@@ -6,7 +6,7 @@ ghost use Rattle.rx_sets.specs.Perl.{is_perl_char, ascii_kind};
 use crate::ascii::ClassAsciiKind;
 use crate::members::class_of;
 use rx_class::ClassUnicode;
-use rx_search::Memory;
+use rx_memory::Memory;
 use std::alloc::Global;
 use unicode::perl::{digit_ranges, space_ranges, word_ranges};
 

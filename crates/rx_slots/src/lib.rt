@@ -1,5 +1,5 @@
 //! What many threads share without a lock: slots that they exchange values through, and numbers that each is drawn once. It
-//! stands on the kit's `atomic_table`, whose rules are kept by every step in every schedule, and on rx_search for the error of
+//! stands on the kit's `atomic_table`, whose rules are kept by every step in every schedule, and on rx_memory for the error of
 //! want of memory.
 //!
 //! Each thread makes its calls with a seat of its own. What a seat knows, its view, exists in proofs alone, and the rule says

@@ -3,7 +3,7 @@ use Rattle.std.proofs.Common.{◌≡◌, ℕ, ◌+◌, ◌⊎◌, inl, inr, ⊎_
 use Rattle.std.specs.Fn.{Mut, Called}
 use Rattle.std.proofs.lemmas.Str.{IsUtf8-drop, IsCharBoundary-after_ascii}
 use Rattle.std.specs.List.{position}
-use Rattle.rx_search.specs.declared.memory.Memory.{Memory}
+use Rattle.rx_memory.specs.declared.memory.Memory.{Memory}
 use Rattle.rx_util.specs.Template.{is_dollar, at_dollar, IsTextOf, IsFrontOf}
 use Rattle.rx_util.specs.Template.IsTextOf.{plain, dollar}
 use Rattle.rx_util.specs.Template.IsFrontOf.{none, to_dollar, past_dollar}

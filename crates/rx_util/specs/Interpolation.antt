@@ -2,7 +2,7 @@
 use Rattle.std.specs.Prelude.{◌≡◌, ℕ, ◌++◌, ◌⊎◌, List, Option, Result, Err, MatchResult, OnOk}
 use denote.Ref.{Bor, MutBor}
 use Rattle.std.specs.Fn.{Mut, Called}
-use Rattle.rx_search.specs.declared.memory.Memory.{Memory}
+use Rattle.rx_memory.specs.declared.memory.Memory.{Memory}
 use Rattle.rx_util.specs.Template.{IsTextOf, IsFrontOf, at_dollar}
 
 -- the text of the template is appended

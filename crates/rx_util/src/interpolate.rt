@@ -6,7 +6,7 @@ ghost use Rattle.rx_util.specs.Template.{HasOneText, BeginsWithFronts};
 ghost use Rattle.rx_util.specs.Interpolation.{Interpolates, PassesDollar};
 
 use crate::template::{begins_with, number_of, past, place_of, reference_in};
-use rx_search::Memory;
+use rx_memory::Memory;
 
 /// Appends the text of a template.
 ///

@@ -4,7 +4,7 @@ ghost use Rattle.once_cell.specs.Once.{cell_name, Agrees};
 
 use crate::maker::Maker;
 use once_cell::race::{Note, OnceBox};
-use rx_search::Memory;
+use rx_memory::Memory;
 use std::alloc::Global;
 
 /// A value that is made at first use. Where threads race for it, each may make one, and all get that of the first to finish.

@@ -1,7 +1,7 @@
 //! What makes a value when it is asked for.
 ghost use Rattle.std.specs.Prelude.{◌≡◌, IfOk};
 
-use rx_search::Memory;
+use rx_memory::Memory;
 
 /// What makes a value when it is asked for.
 pub trait Maker {

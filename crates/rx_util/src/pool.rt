@@ -4,7 +4,7 @@ ghost use Rattle.rx_util.specs.Held.{maker_of};
 
 use crate::lock::Lock;
 use crate::maker::Maker;
-use rx_search::Memory;
+use rx_memory::Memory;
 use std::alloc::Global;
 use std::sync::Wait;
 use std::sync::atomic::{AtomicUsize, Ordering};

@@ -4,7 +4,7 @@ ghost use Rattle.rx_util.specs.PoolMachine.{place_of, happens, NoneIsLentTwice, 
 ghost use Rattle.rx_util.specs.PoolMachine.{Take, Make, Put};
 ghost use Rattle.rx_util.specs.Stack.{numbers_of, nothing, Takes, with_next, with_value};
 
-use rx_search::Memory;
+use rx_memory::Memory;
 use std::alloc::Global;
 use std::marker::Model;
 

@@ -8,7 +8,7 @@ ghost use Rattle.rx_workers.specs.Answers.{AreFound, IsFound};
 use crate::found::Found;
 use crate::place::Left;
 use crate::task::Task;
-use rx_search::Memory;
+use rx_memory::Memory;
 use rx_slots::{SlotPool, SlotSeat};
 use std::alloc::Global;
 use std::collections::VecDeque;

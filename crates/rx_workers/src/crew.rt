@@ -8,7 +8,7 @@ use crate::answers::{complete, gather};
 use crate::place::{Left, Place, places};
 use crate::task::Task;
 use crate::worker::work;
-use rx_search::Memory;
+use rx_memory::Memory;
 use rx_slots::{Draws, SlotPool, SlotSeat};
 use std::alloc::Global;
 use std::thread::{Threads, map_vec};

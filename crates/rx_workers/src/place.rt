@@ -7,7 +7,7 @@ ghost use Rattle.rx_slots.specs.SlotSeats.{IsSlotSeat, slots_of, slot_view};
 ghost use Rattle.rx_workers.specs.Places.{IsDrawer, IsPlace};
 
 use crate::found::Found;
-use rx_search::Memory;
+use rx_memory::Memory;
 use rx_slots::{DrawSeat, Draws, SlotPool, SlotSeat};
 use std::alloc::Global;
 

@@ -1,7 +1,7 @@
 //! What there is to do.
 ghost use Rattle.std.specs.Prelude.{◌≡◌, ◌+◌, ◌^◌, ◌<◌, ◌≤◌, ℕ, IfOk, OnOk};
 
-use rx_search::Memory;
+use rx_memory::Memory;
 use std::alloc::Global;
 
 /// Works that are numbered, each with an answer that many threads may look for, and what the answers become together.

@@ -9,7 +9,7 @@ ghost use Rattle.rx_workers.specs.Answers.{AreFound, IsFound};
 use crate::found::Found;
 use crate::place::{Left, Place};
 use crate::task::Task;
-use rx_search::Memory;
+use rx_memory::Memory;
 use rx_slots::{DrawSeat, Draws, SlotPool, SlotSeat};
 use std::alloc::Global;
 

@@ -5,7 +5,7 @@ ghost use Rattle.rx_slots.specs.DrawSeats.{IsDrawSeat, draw_view, limit_of};
 
 use super::{Another, Bounds, Draw, DrawSeat, Draws};
 use atomic_table::Table;
-use rx_search::Memory;
+use rx_memory::Memory;
 use std::alloc::Global;
 
 impl Draws {

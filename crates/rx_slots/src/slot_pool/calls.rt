@@ -5,7 +5,7 @@ ghost use Rattle.rx_slots.specs.SlotSeats.{IsSlotSeat, slot_view, slots_of, IsTa
 
 use super::{Put, Seats, SlotPool, SlotSeat, Take};
 use atomic_table::Table;
-use rx_search::Memory;
+use rx_memory::Memory;
 use std::alloc::Global;
 
 impl<T: Drop> SlotPool<T> {

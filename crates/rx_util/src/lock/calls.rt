@@ -6,7 +6,7 @@ use super::{Holds, LetsGo, Lock};
 use crate::maker::Maker;
 use crate::stack::{Empty, Stack};
 use atomic_table::{Seat, Table};
-use rx_search::Memory;
+use rx_memory::Memory;
 use std::alloc::Global;
 use std::sync::Wait;
 

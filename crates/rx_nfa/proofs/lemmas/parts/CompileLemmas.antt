@@ -11,7 +11,7 @@ use Rattle.rx_model.specs.Length.{is_positive}
 use Rattle.rx_model.specs.Search.{greatest_group, greatest_in}
 use Rattle.rx_model.proofs.lemmas.runs.RunLemmas.{by_test}
 use Rattle.rx_search.specs.GroupInfo.{groups_at, slot_of_group}
-use Rattle.rx_search.specs.declared.memory.Memory.{Memory}
+use Rattle.rx_memory.specs.declared.memory.Memory.{Memory}
 use Rattle.rx_hir.specs.Cost.{accounted_states}
 use Rattle.rx_hir.specs.Length.{saturated}
 use Rattle.rx_hir.specs.Normal.{expressions}

@@ -1,7 +1,7 @@
 use Rattle.std.proofs.Common.{◌≡◌, ap, ◌∙◌, subst}
 use Rattle.std.specs.Prelude.{false, Option, Some, Result}
 use Rattle.rx_search.specs.Matches.{MatchValue}
-use Rattle.rx_search.specs.declared.memory.Memory.{Memory}
+use Rattle.rx_memory.specs.declared.memory.Memory.{Memory}
 use Rattle.rx_meta.specs.Iterators.{IsOfSearch}
 use Rattle.rx_meta.proofs.CountLemmas.{IsStep, count-begun, count-more, count-over}
 use Rattle.rx_meta.proofs.find_matches.FindMatches.count_rest.Goals as goal

@@ -1,7 +1,7 @@
 use Rattle.std.proofs.Common.{◌≡◌, ap, ◌∙◌, subst}
 use Rattle.std.specs.Arc.{arc_value}
 use Rattle.std.specs.Prelude.{Result, IfOk}
-use Rattle.rx_search.specs.declared.memory.Memory.{Memory}
+use Rattle.rx_memory.specs.declared.memory.Memory.{Memory}
 use Rattle.rx_strategies.specs.Cache as strategy
 use Rattle.rx_strategies.specs.declared.strategy.Strategy.{Strategy}
 use Rattle.rx_util.specs.Held.{maker_of}

@@ -1,7 +1,7 @@
 use Rattle.std.proofs.Common.{◌≡◌, ℕ, suc, ◌≤◌, List, length, refl, ap, ◌∙◌, subst, inl, inr, arith}
 use Rattle.std.specs.Prelude.{Some, None, Ok}
 use Rattle.rx_search.specs.Input.{InputValue}
-use Rattle.rx_search.specs.declared.memory.Memory.{Memory}
+use Rattle.rx_memory.specs.declared.memory.Memory.{Memory}
 use Rattle.rx_search.specs.declared.span.Span.{Span}
 use Rattle.rx_meta.specs.Gaps.{span_between}
 use Rattle.rx_meta.specs.Iterators.{SplitValue, PromisesEach, RestsWithin, text_len, gaps_to_come, pieces_up_to, GivesFirst, IsSpan, IsPieceOf, IsCut}

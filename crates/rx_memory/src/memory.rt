@@ -1,6 +1,6 @@
 //! Want of memory.
 ghost use Rattle.std.specs.Prelude.{◌≡◌};
-ghost use Rattle.rx_search.specs.declared.memory.Memory.{Memory};
+ghost use Rattle.rx_memory.specs.declared.memory.Memory.{Memory};
 
 use std::alloc::{AllocError, AllocFailed};
 use std::error::Error;
