@@ -119,7 +119,7 @@ impl Builder {
         ensures refused { IfErr result (IsRefused self.now.config exprs.now) }
     {
         match Strategy::new(alloc, &self.config, exprs) {
-            Ok(strategy) => Ok(Regex::from_parts(alloc, self.config.clone()?, strategy)?),
+            Ok(strategy) => Ok(Regex::from_parts(alloc, &self.config, strategy)?),
             Err(error) => Err(BuildError::from(rx_thompson::BuildError::from(error))),
         }
     }

@@ -116,13 +116,13 @@ impl Regex {
     /// A regex that searches by this strategy, which was made under the configuration.
     pub(crate) fn from_parts(
         alloc: Global,
-        config: Config,
+        config: &Config,
         strategy: Strategy,
     ) -> Result<Regex, Memory>
-        ensures { IfOk result (λ regex. regex ≡ record { config = config; strategy = strategy }) }
+        ensures { IfOk result (λ regex. regex ≡ record { config = config.now; strategy = strategy }) }
     {
         let maker = CacheMaker::new(alloc, Arc::new(alloc, strategy)?);
-        Regex::of_maker(config, maker)
+        Regex::of_maker(config.clone()?, maker)
     }
 
     /// A regex whose caches this maker makes, of which none is made yet.

@@ -1,4 +1,4 @@
-//! Tests of regexes.
+//! Tests of the searches of regexes. Those of their iterators stand in `rx_iterator_rows`.
 #![tactic(auto)]
 
 #[cfg(test)]
@@ -6,11 +6,7 @@ mod attempts;
 #[cfg(test)]
 mod dfas;
 #[cfg(test)]
-mod iterators;
-#[cfg(test)]
 mod onepass;
-#[cfg(test)]
-mod pool;
 #[cfg(test)]
 mod regex;
 #[cfg(test)]

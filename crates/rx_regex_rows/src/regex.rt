@@ -1,11 +1,10 @@
 //! Tests of regexes.
 ghost use Rattle.rx_meta.specs.Cache.{Fits};
 
-use crate::iterators::within;
 use rx_hir::Hir;
 use rx_meta::{BuildError, Builder, Cache, Config, Prefilter, Regex, RegexFinder, WhichCaptures};
 use rx_search::{
-    Anchored, HalfMatch, Input, Match, MatchKind, Memory, NonMaxUsize, PatternID, Searcher,
+    Anchored, HalfMatch, Input, Match, MatchKind, Memory, NonMaxUsize, PatternID, Searcher, Span,
 };
 use rx_syntax::parse;
 use std::alloc::Global;
@@ -509,6 +508,14 @@ fn no_prefilter_changes_an_answer(rt: HostRuntime) {
     assert!(rt; told == (Some((0, 0, 2)), 2));
     let told = told_under(&rt, alloc, handing_in(alloc, b"a"), "ab", b"ab");
     assert!(rt; told == (Some((0, 0, 2)), 128 + 288));
+}
+
+/// The text, from this place to that.
+pub(crate) fn within(rt: &impl Abort, text: &'static str, span: (usize, usize)) -> Input<'static> {
+    let (start, end) = span;
+    assert!(rt; end <= text.len());
+    assert!(rt; start <= end + 1);
+    Input::new(text.as_bytes()).span(Span { start, end })
 }
 
 /// A pattern, a text with a span of it, whether the search is anchored, and the start and the end of what is found.

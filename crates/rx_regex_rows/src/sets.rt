@@ -2,7 +2,7 @@
 ghost use Rattle.std.specs.Prelude.{◌≡◌, ◌≤◌, length};
 ghost use Rattle.rx_meta.specs.Regex.{pattern_count};
 
-use crate::iterators::within;
+use crate::regex::within;
 use rx_meta::{Builder, Config, Regex, WhichCaptures};
 use rx_search::{Anchored, Input, MatchKind, PatternID, PatternSet};
 use std::alloc::Global;

@@ -79,10 +79,11 @@ impl Cache {
         ensures empty { IfOk result (λ c. states_in c ≡ 0) }
         ensures reads { IfOk result (λ c. c.reads_prefix ≡ true) }
     {
-        let rooms = inner.core().create_cache(alloc)?;
+        // (the smaller part first, since it is let go where there is no memory for the other)
+        let prefix = PrefixCache::new(alloc, inner.prefix())?;
         Ok(Cache {
-            rooms: Some(rooms),
-            prefix: PrefixCache::new(alloc, inner.prefix())?,
+            rooms: Some(inner.core().create_cache(alloc)?),
+            prefix,
             in_use: true,
             reads_prefix: true,
         })

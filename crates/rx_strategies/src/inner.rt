@@ -1,5 +1,5 @@
 //! The strategy that searches for literals within each match.
-ghost use Rattle.std.specs.Prelude.{◌≡◌, ◌≤◌, ◌<◌, ◌+◌, ◌*◌, false, length, None, replicate, IfOk, MatchOption, IfSome, IfNone, OnErr, IsOk};
+ghost use Rattle.std.specs.Prelude.{◌≡◌, ◌≤◌, ◌<◌, ◌+◌, ◌*◌, false, length, None, Ok, Err, replicate, IfOk, MatchOption, IfSome, IfNone, OnErr, IsOk};
 ghost use Rattle.std.specs.Result.{IfErr};
 ghost use Rattle.rx_model.specs.Search.{Patterns, is_anchored};
 ghost use Rattle.rx_search.specs.Answer.{IsAnswer, AreSlotsOfAnswer, TellsWhether};
@@ -15,7 +15,7 @@ ghost use Rattle.rx_strategy.specs.Strategy.{IsMadeOf, kind_in, pattern_count, p
 ghost use Rattle.rx_order.specs.Inner.{inner_of};
 ghost use Rattle.rx_strategy.specs.Prefix.{FitsPrefix, are_states};
 ghost use Rattle.rx_strategies.specs.Choice.{if_inner_in_order};
-ghost use Rattle.rx_strategies.specs.Attempts.{IsInnerFor, IsInnerTried, IsInnerFound};
+ghost use Rattle.rx_strategies.specs.Attempts.{IsByInner, IsInnerFor, IsInnerTried, IsInnerFound};
 
 use crate::attempts::{half_after, may_attempt, slots_after, tells_free, whether_after};
 use rx_attempts::{Patience, Stop};
@@ -66,18 +66,8 @@ impl ReverseInner {
         requires { IsMadeOf config.now exprs.now core }
         ensures { IfOk result (IsInnerTried config.now exprs.now core) }
     {
-        if !may_attempt(config, &core) {
-            return Ok(Err(core));
-        }
-        let Some(inner) = inner_search(alloc, exprs)? else {
-            return Ok(Err(core));
-        };
-        match PrefixDfa::new(alloc, config, &inner.prefix)? {
-            Some(prefix) => Ok(Ok(ReverseInner {
-                core,
-                pre: search_of(inner),
-                prefix,
-            })),
+        match searched_by(alloc, config, exprs, &core)? {
+            Some(Reading { pre, prefix }) => Ok(Ok(ReverseInner { core, pre, prefix })),
             None => Ok(Err(core)),
         }
     }
@@ -256,6 +246,41 @@ impl ReverseInner {
     {
         let mut steps = Steps::<L>::open(blank);
         self.try_search(cache, states, input, Patience::Short, &mut steps)
+    }
+}
+
+/// What is searched for, and the DFA that reads what stands before it.
+#[derive(Drop)]
+struct Reading {
+    pre: Prefilter,
+    prefix: PrefixDfa,
+}
+
+/// Both for the only expression, where it is searched so under the configuration. A function of its own, since a core is let go on each
+/// way out on which there is one.
+fn searched_by(
+    alloc: Global,
+    config: &Config,
+    exprs: &[Hir],
+    core: &Strategy,
+) -> Result<Option<Reading>, Memory>
+    requires { IsMadeOf config.now exprs.now core.now }
+    ensures { IfOk result (λ found. MatchOption found (IsInnerTried config.now exprs.now core.now (Err core.now))
+        (λ r. IsInnerTried config.now exprs.now core.now (Ok (record { core = core.now; needles = r.pre; prefix = r.prefix }))
+        × IsByInner core.now r.pre)) }
+{
+    if !may_attempt(config, core) {
+        return Ok(None);
+    }
+    let Some(inner) = inner_search(alloc, exprs)? else {
+        return Ok(None);
+    };
+    match PrefixDfa::new(alloc, config, &inner.prefix)? {
+        Some(prefix) => Ok(Some(Reading {
+            pre: search_of(inner),
+            prefix,
+        })),
+        None => Ok(None),
     }
 }
 

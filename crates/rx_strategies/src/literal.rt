@@ -1,5 +1,5 @@
 //! The search for literals in place of a core.
-ghost use Rattle.std.specs.Prelude.{◌≡◌, IfOk, IfSome};
+ghost use Rattle.std.specs.Prelude.{◌≡◌, Ok, Err, IfOk, IfSome, MatchOption};
 ghost use Rattle.rx_pre.specs.Whole.{AreWholeOf};
 ghost use Rattle.rx_strategy.specs.Strategy.{IsMadeOf, tells_in, properties_of, groups_in};
 ghost use Rattle.rx_strategies.specs.Choice.{is_automatic, literals_for};
@@ -22,9 +22,27 @@ pub(crate) fn literal_only(
     requires { IsMadeOf config.now exprs.now core }
     ensures { IfOk result (IsTried config.now exprs.now core) }
 {
-    match literals(alloc, config, exprs)? {
-        Some(found) => Ok(Ok(in_place_of(&core, found)?)),
+    match instead_of(alloc, config, exprs, &core)? {
+        Some(pre) => Ok(Ok(pre)),
         None => Ok(Err(core)),
+    }
+}
+
+/// The search for the literals that these expressions are, if they are literals. A function of its own, since a core is let go on each
+/// way out on which there is one.
+fn instead_of(
+    alloc: Global,
+    config: &Config,
+    exprs: &[Hir],
+    core: &rx_strategy::Strategy,
+) -> Result<Option<Pre>, Memory>
+    requires { IsMadeOf config.now exprs.now core.now }
+    ensures { IfOk result (λ found. MatchOption found (IsTried config.now exprs.now core.now (Err core.now))
+        (λ pre. IsTried config.now exprs.now core.now (Ok pre))) }
+{
+    match literals(alloc, config, exprs)? {
+        Some(found) => Ok(Some(in_place_of(core, found)?)),
+        None => Ok(None),
     }
 }
 

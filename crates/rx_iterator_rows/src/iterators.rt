@@ -19,7 +19,7 @@ fn regex_of(rt: &impl Abort, alloc: Global, config: Config, patterns: &[&str]) -
 }
 
 /// The text, from this place to that.
-pub(crate) fn within(rt: &impl Abort, text: &'static str, span: (usize, usize)) -> Input<'static> {
+fn within(rt: &impl Abort, text: &'static str, span: (usize, usize)) -> Input<'static> {
     let (start, end) = span;
     assert!(rt; end <= text.len());
     assert!(rt; start <= end + 1);
