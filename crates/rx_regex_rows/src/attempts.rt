@@ -157,6 +157,32 @@ fn attempts_tell_what_they_meet(rt: HostRuntime) {
     }
 }
 
+/// The text so many times.
+fn times(rt: &impl Abort, alloc: Global, text: &[u8], count: usize) -> Vec<u8> {
+    let mut all = Vec::new(alloc);
+    for _ in 0..count {
+        all.extend_from_slice(text).ok().expect(rt, "room");
+    }
+    all
+}
+
+/// How many steps an attempt takes in the text, so many times.
+fn steps_of(rt: &impl Abort, alloc: Global, pattern: &str, text: &[u8], count: usize) -> u64 {
+    let regex = configured(rt, alloc, Config::new(), pattern);
+    let all = times(rt, alloc, text, count);
+    let (_, steps) = attempted(rt, alloc, &regex, &all);
+    steps
+}
+
+/// At most eight for each byte, and eight more.
+#[test]
+fn attempts_take_few_steps(rt: HostRuntime) {
+    let alloc = rt.alloc();
+    assert!(rt; steps_of(&rt, alloc, "[a-q][^u-z]{13}x", b"x", 1000) <= 8008);
+    assert!(rt; steps_of(&rt, alloc, r"\w+\s+Holmes", b" Holmes", 100) <= 5608);
+    assert!(rt; steps_of(&rt, alloc, "[a-z]+@[a-z@]+[0-9]", b"a@", 500) <= 8008);
+}
+
 const ROWS: [Row; 9] = [
     (
         "([A-Za-z]+)[ \t]+Holmes",
