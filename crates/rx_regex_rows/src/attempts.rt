@@ -183,6 +183,17 @@ fn attempts_take_few_steps(rt: HostRuntime) {
     assert!(rt; steps_of(&rt, alloc, "[a-z]+@[a-z@]+[0-9]", b"a@", 500) <= 8008);
 }
 
+/// A match is found where an attempt gives up.
+#[test]
+fn a_search_goes_on_where_an_attempt_gives_up(rt: HostRuntime) {
+    let alloc = rt.alloc();
+    let regex = configured(&rt, alloc, Config::new(), r"\w+\s+Holmes");
+    let mut cache = cache_of(&rt, alloc, &regex);
+    let text = times(&rt, alloc, b" Holmes", 100);
+    let found = found_with(&rt, &regex, &mut cache, &Input::new(&text));
+    assert_eq!(rt; found, Some((1, 14)));
+}
+
 const ROWS: [Row; 9] = [
     (
         "([A-Za-z]+)[ \t]+Holmes",

@@ -452,6 +452,30 @@ fn a_full_dfa_is_accounted(rt: HostRuntime) {
     assert!(rt; accounted(&rt, alloc, FULL) > accounted(&rt, alloc, LAZY));
 }
 
+/// Two thousand letters: `a` at each third place, and else `b`.
+fn letters(rt: &impl Abort, alloc: Global) -> Vec<u8> {
+    let mut text = Vec::new(alloc);
+    for place in 0..2000 {
+        let letter = if place % 3 == 0 { b'a' } else { b'b' };
+        text.push(letter).ok().expect(rt, "room");
+    }
+    text
+}
+
+/// The least capacity of a lazy DFA of `[ab]*a[ab]{10}`, which accounts 33 states.
+const LEAST: usize = 16384 + 16 * 33;
+
+#[test]
+fn a_lazy_dfa_of_the_least_capacity(rt: HostRuntime) {
+    let text = letters(&rt, rt.alloc());
+    for (capacity, more) in [(LEAST, true), (LEAST - 1, false)] {
+        let config = alone(LAZY).hybrid_cache_capacity(capacity);
+        let input = Input::new(&text);
+        let seen = seen(&rt, rt.alloc(), config, "[ab]*a[ab]{10}", &input);
+        assert!(rt; seen == (Some((0, 2000)), more, more));
+    }
+}
+
 /// A copy of the cache.
 fn copy_of(rt: &impl Abort, alloc: Global, regex: &Regex, cache: &Cache) -> Cache
     requires { Fits regex.now cache.now }
