@@ -95,10 +95,10 @@ fn is_answered(alloc: Global, row: Row) -> bool {
     tells(alloc, &built, NOT_ONE_PASS, row.2)
 }
 
-/// The first row that is answered otherwise.
-fn first_wrong(alloc: Global) -> Option<usize> {
-    for k in 0..ROWS.len() {
-        if !is_answered(alloc, ROWS[k]) {
+/// The first of these rows that is answered otherwise.
+fn first_wrong(alloc: Global, rows: &[Row]) -> Option<usize> {
+    for k in 0..rows.len() {
+        if !is_answered(alloc, rows[k]) {
             return Some(k);
         }
     }
@@ -107,7 +107,7 @@ fn first_wrong(alloc: Global) -> Option<usize> {
 
 #[test]
 fn patterns_by_hand(rt: HostRuntime) {
-    assert_eq!(rt; first_wrong(rt.alloc()), None);
+    assert_eq!(rt; first_wrong(rt.alloc(), &ROWS), None);
 }
 
 /// Whether there is no one-pass DFA of the pattern, for this cause.
@@ -135,7 +135,9 @@ fn is_refused(alloc: Global, limit: Option<usize>, pattern: &str, want: &str) ->
 }
 
 /// A pattern, and the text of its refusal.
-const TEXTS: [(&str, &str); 4] = [
+type Refusal = (&'static str, &'static str);
+
+const TEXTS: [Refusal; 4] = [
     ("a(", "error building NFA"),
     (
         "\\b{start}a",
@@ -151,10 +153,10 @@ const TEXTS: [(&str, &str); 4] = [
     ),
 ];
 
-/// The first text that is another one.
-fn first_other_text(alloc: Global) -> Option<usize> {
-    for k in 0..TEXTS.len() {
-        let (pattern, want) = TEXTS[k];
+/// The first of these refusals whose text is another one.
+fn first_other_text(alloc: Global, refusals: &[Refusal]) -> Option<usize> {
+    for k in 0..refusals.len() {
+        let (pattern, want) = refusals[k];
         if !is_refused(alloc, None, pattern, want) {
             return Some(k);
         }
@@ -164,7 +166,7 @@ fn first_other_text(alloc: Global) -> Option<usize> {
 
 #[test]
 fn texts_of_refusals(rt: HostRuntime) {
-    assert_eq!(rt; first_other_text(rt.alloc()), None);
+    assert_eq!(rt; first_other_text(rt.alloc(), &TEXTS), None);
 }
 
 #[test]

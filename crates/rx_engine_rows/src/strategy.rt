@@ -1,4 +1,5 @@
-//! Tests of strategies.
+//! Tests of strategies. A strategy and its caches have many parts, so they stand in boxes: else each function that lets one go would let
+//! go of each part.
 ghost use Rattle.rx_strategy.specs.Cache.{Fits};
 
 use rx_search::Input;
@@ -8,18 +9,19 @@ use std::alloc::Global;
 use std::process::Abort;
 
 /// The strategy of the pattern under the configuration.
-fn strategy_of(rt: &impl Abort, alloc: Global, config: &Config, pattern: &str) -> Strategy {
+fn strategy_of(rt: &impl Abort, alloc: Global, config: &Config, pattern: &str) -> Box<Strategy> {
     let exprs = parse_many(alloc, &[pattern]).ok().expect(rt, "a pattern");
-    Strategy::new(alloc, config, &exprs)
-        .ok()
-        .expect(rt, "a strategy")
+    let strategy = Strategy::new(alloc, config, &exprs).ok();
+    let boxed = Box::new(alloc, strategy.expect(rt, "a strategy")).ok();
+    boxed.expect(rt, "memory")
 }
 
 /// A cache of the strategy.
-fn cache_of(rt: &impl Abort, alloc: Global, strategy: &Strategy) -> Cache
-    ensures { Fits strategy.now result }
+fn cache_of(rt: &impl Abort, alloc: Global, strategy: &Strategy) -> Box<Cache>
+    ensures { Fits strategy.now result.value }
 {
-    Cache::new(alloc, strategy).ok().expect(rt, "a cache")
+    let cache = Cache::new(alloc, strategy).ok().expect(rt, "a cache");
+    Box::new(alloc, cache).ok().expect(rt, "memory")
 }
 
 /// The bytes that are accounted for the cache once it was asked whether there is a match in the haystack.
@@ -55,7 +57,9 @@ fn a_lazy_dfa_tells_whether_there_is_a_match(rt: HostRuntime) {
 
 /// The bytes that are accounted for the cache's clone.
 fn memory_of_clone(rt: &impl Abort, alloc: Global, cache: &Cache) -> usize {
-    cache.clone(alloc).ok().expect(rt, "a cache").memory_usage()
+    let clone = cache.clone(alloc).ok().expect(rt, "a cache");
+    let boxed = Box::new(alloc, clone).ok().expect(rt, "memory");
+    boxed.memory_usage()
 }
 
 /// The bytes that are accounted for a cache of the strategy, and for its clone.

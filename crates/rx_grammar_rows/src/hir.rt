@@ -97,10 +97,10 @@ fn is_known(alloc: Global, row: Row) -> bool {
     }
 }
 
-/// The number of the first row of which something else is known, counted from 0.
-fn first_wrong(alloc: Global) -> Option<usize> {
-    for k in 0..ROWS.len() {
-        if !is_known(alloc, ROWS[k]) {
+/// The number of the first of these rows of which something else is known, counted from 0.
+fn first_wrong(alloc: Global, rows: &[Row]) -> Option<usize> {
+    for k in 0..rows.len() {
+        if !is_known(alloc, rows[k]) {
             return Some(k);
         }
     }
@@ -109,7 +109,7 @@ fn first_wrong(alloc: Global) -> Option<usize> {
 
 #[test]
 fn lengths_groups_and_kinds(rt: HostRuntime) {
-    assert_eq!(rt; first_wrong(rt.alloc()), None);
+    assert_eq!(rt; first_wrong(rt.alloc(), &ROWS), None);
 }
 
 /// What is known of a pattern's expression.

@@ -102,10 +102,10 @@ fn is_told(alloc: Global, row: Row) -> bool {
     }
 }
 
-/// The number of the first row whose pattern has other literals.
-fn first_wrong(alloc: Global) -> Option<usize> {
-    for k in 0..ROWS.len() {
-        if !is_told(alloc, ROWS[k]) {
+/// The number of the first of these rows whose pattern has other literals.
+fn first_wrong(alloc: Global, rows: &[Row]) -> Option<usize> {
+    for k in 0..rows.len() {
+        if !is_told(alloc, rows[k]) {
             return Some(k);
         }
     }
@@ -114,7 +114,7 @@ fn first_wrong(alloc: Global) -> Option<usize> {
 
 #[test]
 fn literals_of_patterns(rt: HostRuntime) {
-    assert_eq!(rt; first_wrong(rt.alloc()), None);
+    assert_eq!(rt; first_wrong(rt.alloc(), &ROWS), None);
 }
 
 /// Whether no look-around stands in the pattern.

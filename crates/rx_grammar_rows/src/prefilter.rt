@@ -263,9 +263,9 @@ fn of_patterns(
 }
 
 /// The number of the first of these rows that is not told.
-fn first_wrong_prefix(alloc: Global) -> Option<usize> {
-    for k in 0..PREFIX_ROWS.len() {
-        let (patterns, text, span, preferred, all) = PREFIX_ROWS[k];
+fn first_wrong_prefix(alloc: Global, rows: &[PrefixRow]) -> Option<usize> {
+    for k in 0..rows.len() {
+        let (patterns, text, span, preferred, all) = rows[k];
         let first = of_patterns(alloc, MatchKind::LeftmostFirst, patterns);
         let each = of_patterns(alloc, MatchKind::All, patterns);
         let are_told = (
@@ -281,7 +281,7 @@ fn first_wrong_prefix(alloc: Global) -> Option<usize> {
 
 #[test]
 fn prefixes_by_hand(rt: HostRuntime) {
-    assert_eq!(rt; first_wrong_prefix(rt.alloc()), None);
+    assert_eq!(rt; first_wrong_prefix(rt.alloc(), &PREFIX_ROWS), None);
 }
 
 /// Needles of three digits, as many as this.

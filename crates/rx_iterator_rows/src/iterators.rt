@@ -8,14 +8,13 @@ use std::alloc::Global;
 use std::process::Abort;
 use std::sync::Wait;
 
-/// The regex of these patterns under this configuration.
-fn regex_of(rt: &impl Abort, alloc: Global, config: Config, patterns: &[&str]) -> Regex {
+/// The regex of these patterns under this configuration, in a box: so a function that ends lets it go by one call, and not part by part.
+fn regex_of(rt: &impl Abort, alloc: Global, config: Config, patterns: &[&str]) -> Box<Regex> {
     let mut builder = Regex::builder();
     builder.configure(config);
-    builder
-        .build_many(alloc, patterns)
-        .ok()
-        .expect(rt, "a regex")
+    let regex = builder.build_many(alloc, patterns).ok();
+    let boxed = Box::new(alloc, regex.expect(rt, "a regex")).ok();
+    boxed.expect(rt, "memory")
 }
 
 /// The text, from this place to that.

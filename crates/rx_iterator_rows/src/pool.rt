@@ -7,8 +7,11 @@ use std::process::Abort;
 use std::sync::Wait;
 use std::thread::{Threads, join};
 
-fn regex_of(rt: &impl Abort, alloc: Global, pattern: &str) -> Regex {
-    Regex::new(alloc, pattern).ok().expect(rt, "a regex")
+/// The regex of the pattern, in a box (`iterators::regex_of`).
+fn regex_of(rt: &impl Abort, alloc: Global, pattern: &str) -> Box<Regex> {
+    let regex = Regex::new(alloc, pattern).ok();
+    let boxed = Box::new(alloc, regex.expect(rt, "a regex")).ok();
+    boxed.expect(rt, "memory")
 }
 
 /// Whether each of two texts is told right: there is no match in the first one.

@@ -11,16 +11,27 @@ use std::alloc::Global;
 use std::process::Abort;
 use std::sync::Wait;
 
+/// The regex in a box. So a function that ends lets it go by one call, and not part by part.
+pub(crate) fn boxed(rt: &impl Abort, alloc: Global, regex: Option<Regex>) -> Box<Regex> {
+    let regex = regex.expect(rt, "a regex");
+    Box::new(alloc, regex).ok().expect(rt, "memory")
+}
+
 /// The regex of a pattern.
-fn regex_of(rt: &impl Abort, alloc: Global, pattern: &str) -> Regex {
-    Regex::new(alloc, pattern).ok().expect(rt, "a regex")
+fn regex_of(rt: &impl Abort, alloc: Global, pattern: &str) -> Box<Regex> {
+    boxed(rt, alloc, Regex::new(alloc, pattern).ok())
 }
 
 /// The regex of a pattern under this configuration.
-pub(crate) fn configured(rt: &impl Abort, alloc: Global, config: Config, pattern: &str) -> Regex {
+pub(crate) fn configured(
+    rt: &impl Abort,
+    alloc: Global,
+    config: Config,
+    pattern: &str,
+) -> Box<Regex> {
     let mut builder = Builder::new();
     builder.configure(config);
-    builder.build(alloc, pattern).ok().expect(rt, "a regex")
+    boxed(rt, alloc, builder.build(alloc, pattern).ok())
 }
 
 /// A cache of the regex.
@@ -219,7 +230,7 @@ fn a_copy_of_a_cache_is_accounted_as_much(rt: HostRuntime) {
 
 /// Whether a copy of the regex answers as it does.
 fn copy_answers<R: Abort + Wait>(rt: &R, alloc: Global, source: &Regex) -> bool {
-    let copy = source.clone().ok().expect(rt, "memory");
+    let copy = boxed(rt, alloc, source.clone().ok());
     are_told(rt, alloc, &copy)
         && copy.get_config().get_line_terminator() == b';'
         && copy.memory_usage() == source.memory_usage()
@@ -293,12 +304,12 @@ fn a_size_limit_is_told(rt: HostRuntime) {
 }
 
 /// A regex of `a` that tells no captures.
-fn without_captures(rt: &impl Abort, alloc: Global) -> Regex {
+fn without_captures(rt: &impl Abort, alloc: Global) -> Box<Regex> {
     let mut builder = Builder::new();
     builder.configure(Config::new().which_captures(WhichCaptures::None));
     builder.configure(Config::new().utf8_empty(false));
     let again = builder.clone().ok().expect(rt, "memory");
-    again.build(alloc, "a").ok().expect(rt, "a regex")
+    boxed(rt, alloc, again.build(alloc, "a").ok())
 }
 
 /// Whether nothing is told of `a`, but that there is a match.
@@ -382,7 +393,8 @@ fn crosses_threads<T: Send + Sync>(_value: &T) {}
 #[test]
 fn a_regex_crosses_threads(rt: HostRuntime) {
     let alloc = rt.alloc();
-    let regex = regex_of(&rt, alloc, "a");
+    // It stands in no box, since it is asked about its own type.
+    let regex = Regex::new(alloc, "a").ok().expect(&rt, "a regex");
     crosses_threads(&regex);
     goes_to_threads(&cache_of(&rt, alloc, &regex));
 }
@@ -404,9 +416,7 @@ fn found_of<R: Abort + Wait>(
     alloc: Global,
     pattern: usize,
 ) -> Option<(usize, usize, usize)> {
-    let regex = Regex::new_many(alloc, &["a", "(a)b"])
-        .ok()
-        .expect(rt, "a regex");
+    let regex = boxed(rt, alloc, Regex::new_many(alloc, &["a", "(a)b"]).ok());
     let pattern = PatternID::new(pattern).expect(rt, "a number of a pattern");
     let input = Input::new(b"ab").anchored(Anchored::Pattern(pattern));
     found_by(rt, alloc, &regex, &input)
@@ -447,16 +457,16 @@ fn without_dfas() -> Builder {
 }
 
 /// The regex of both expressions.
-fn of_both(rt: &impl Abort, alloc: Global, exprs: &[Hir]) -> Regex {
+fn of_both(rt: &impl Abort, alloc: Global, exprs: &[Hir]) -> Box<Regex> {
     let two = without_dfas().build_many_from_hir(alloc, exprs);
-    two.ok().expect(rt, "a regex")
+    boxed(rt, alloc, two.ok())
 }
 
 /// The regex of the first expression.
-fn of_first(rt: &impl Abort, alloc: Global, exprs: &[Hir]) -> Regex {
+fn of_first(rt: &impl Abort, alloc: Global, exprs: &[Hir]) -> Box<Regex> {
     let first = exprs.first().expect(rt, "two expressions");
     let one = without_dfas().build_from_hir(alloc, first);
-    one.ok().expect(rt, "a regex")
+    boxed(rt, alloc, one.ok())
 }
 
 #[test]

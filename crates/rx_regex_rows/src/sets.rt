@@ -2,7 +2,7 @@
 ghost use Rattle.std.specs.Prelude.{◌≡◌, ◌≤◌, length};
 ghost use Rattle.rx_meta.specs.Regex.{pattern_count};
 
-use crate::regex::within;
+use crate::regex::{boxed, within};
 use rx_meta::{Builder, Config, Regex, WhichCaptures};
 use rx_search::{Anchored, Input, MatchKind, PatternID, PatternSet};
 use std::alloc::Global;
@@ -131,11 +131,8 @@ fn is_right(rt: &impl Abort, set: &PatternSet, want: Want, row: Row) -> bool {
 }
 
 /// The regex of these patterns.
-fn regex_of(rt: &impl Abort, alloc: Global, builder: &Builder, patterns: &[&str]) -> Regex {
-    builder
-        .build_many(alloc, patterns)
-        .ok()
-        .expect(rt, "a regex")
+fn regex_of(rt: &impl Abort, alloc: Global, builder: &Builder, patterns: &[&str]) -> Box<Regex> {
+    boxed(rt, alloc, builder.build_many(alloc, patterns).ok())
 }
 
 /// Whether both calls fill a set as the row says.
@@ -174,8 +171,9 @@ fn first_wrong<R: Abort + Wait>(
     alloc: Global,
 ) -> Option<usize> {
     let builder = asking(kind, which);
-    for k in 0..ROWS.len() {
-        if !is_told(rt, alloc, &builder, earliest, want, ROWS[k]) {
+    let rows: &[Row] = &ROWS;
+    for k in 0..rows.len() {
+        if !is_told(rt, alloc, &builder, earliest, want, rows[k]) {
             return Some(k);
         }
     }

@@ -32,14 +32,19 @@ fn is_named(rt: &impl Abort, alloc: Global, config: Config, row: Row) -> bool {
     regex.strategy_name() == name && regex.is_accelerated() == fast
 }
 
+/// The number of the first of these rows whose regex has another strategy.
+fn first_wrong(rt: &impl Abort, alloc: Global, rows: &[Row]) -> Option<usize> {
+    for k in 0..rows.len() {
+        if !is_named(rt, alloc, Config::new(), rows[k]) {
+            return Some(k);
+        }
+    }
+    None
+}
+
 #[test]
 fn a_regex_tells_its_strategy(rt: HostRuntime) {
-    for k in 0..ROWS.len() {
-        assert!(rt;
-            is_named(&rt, rt.alloc(), Config::new(), ROWS[k]),
-            "row {k}"
-        );
-    }
+    assert_eq!(rt; first_wrong(&rt, rt.alloc(), &ROWS), None);
 }
 
 #[test]
@@ -59,7 +64,7 @@ fn what_is_switched_off_makes_no_strategy(rt: HostRuntime) {
 }
 
 /// The regex that is one byte.
-fn letter(rt: &impl Abort, alloc: Global) -> Regex {
+fn letter(rt: &impl Abort, alloc: Global) -> Box<Regex> {
     configured(rt, alloc, Config::new(), "a")
 }
 

@@ -10,6 +10,7 @@ use rx_search::Memory;
 use rx_strategy::PrefixCache;
 use std::alloc::Global;
 use std::marker::Model;
+use std::mem::drop;
 
 /// What the searches of a strategy write to. It is made once, and serves one search after another.
 ///
@@ -208,7 +209,7 @@ fn reset_rooms(
         return rooms.reset(alloc, core);
     }
     let made = core.create_cache(alloc)?;
-    *rooms = Some(made);
+    drop(rooms.replace(made));
     Ok(())
 }
 

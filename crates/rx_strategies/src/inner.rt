@@ -26,6 +26,7 @@ use rx_search::{HalfMatch, Input, Match, Memory, NonMaxUsize, Steps};
 use rx_strategy::{Cache, Config, PrefixCache, PrefixDfa, Strategy};
 use std::alloc::Global;
 use std::marker::{Brand, Model};
+use std::mem::drop;
 use std::sync::ledger::{Blank, Ledger};
 
 /// A search for one expression by literals, one of which lies within each of its matches: the span is searched for the literals, backwards
@@ -66,9 +67,13 @@ impl ReverseInner {
         requires { IsMadeOf config.now exprs.now core }
         ensures { IfOk result (IsInnerTried config.now exprs.now core) }
     {
-        match searched_by(alloc, config, exprs, &core)? {
-            Some(Reading { pre, prefix }) => Ok(Ok(ReverseInner { core, pre, prefix })),
-            None => Ok(Err(core)),
+        match searched_by(alloc, config, exprs, &core) {
+            Ok(Some(Reading { pre, prefix })) => Ok(Ok(ReverseInner { core, pre, prefix })),
+            Ok(None) => Ok(Err(core)),
+            Err(error) => {
+                drop(core);
+                Err(error)
+            }
         }
     }
 

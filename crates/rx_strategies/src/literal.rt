@@ -11,6 +11,7 @@ use rx_prefilter::{Choice, Prefilter};
 use rx_search::Memory;
 use rx_strategy::Config;
 use std::alloc::Global;
+use std::mem::drop;
 
 /// The search for the literals that these expressions are, where the core of them is not needed for it. Else it gives the core back.
 pub(crate) fn literal_only(
@@ -22,9 +23,16 @@ pub(crate) fn literal_only(
     requires { IsMadeOf config.now exprs.now core }
     ensures { IfOk result (IsTried config.now exprs.now core) }
 {
-    match instead_of(alloc, config, exprs, &core)? {
-        Some(pre) => Ok(Ok(pre)),
-        None => Ok(Err(core)),
+    match instead_of(alloc, config, exprs, &core) {
+        Ok(Some(pre)) => {
+            drop(core);
+            Ok(Ok(pre))
+        }
+        Ok(None) => Ok(Err(core)),
+        Err(error) => {
+            drop(core);
+            Err(error)
+        }
     }
 }
 

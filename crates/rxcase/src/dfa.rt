@@ -1,5 +1,5 @@
 //! The DFAs that are asked, and what they are asked for.
-ghost use Rattle.std.specs.Prelude.{◌≡◌, ◌≤◌, IfOk, length, false};
+ghost use Rattle.std.specs.Prelude.{◌≡◌, ◌≤◌, IfOk, length, true, false};
 ghost use Rattle.rx_dfa.specs.LazyCache.{IsCacheOf};
 
 use crate::ask::Ask;
@@ -13,6 +13,7 @@ use rx_dfa::{Dense, dense, lazy, try_search_half_fwd};
 use rx_search::{Input, MatchKind, PatternSet};
 use rx_thompson::NFA;
 use std::alloc::Global;
+use std::mem::drop;
 
 /// Appends what the full DFA tells.
 pub fn by_dense(alloc: Global, ask: &Ask<'_>, told: &mut Told) {
@@ -67,7 +68,9 @@ fn dense_from(alloc: Global, ask: &Ask<'_>, forward: &Dense, told: &mut Told) ->
 
 fn lazy_ahead(alloc: Global, ask: &Ask<'_>, told: &mut Told) -> Result<(), Failure> {
     let dfa = on_demand(alloc, ask, ask.kind(), false)?;
-    lazy_ahead_by(alloc, ask, &dfa, told)
+    let ended = lazy_ahead_by(alloc, ask, &dfa, told);
+    drop(dfa);
+    ended
 }
 
 fn lazy_ahead_by(alloc: Global, ask: &Ask<'_>, dfa: &Lazy, told: &mut Told) -> Result<(), Failure>
@@ -75,12 +78,15 @@ fn lazy_ahead_by(alloc: Global, ask: &Ask<'_>, dfa: &Lazy, told: &mut Told) -> R
 {
     let mut cache = LazyCache::new(alloc, dfa)?;
     ahead::tell(alloc, ask, dfa, &mut cache, told);
+    drop(cache);
     Ok(())
 }
 
 fn lazy_memory(alloc: Global, ask: &Ask<'_>, told: &mut Told) -> Result<(), Failure> {
     let dfa = on_demand(alloc, ask, ask.kind(), false)?;
-    lazy_memory_by(alloc, ask, &dfa, told)
+    let ended = lazy_memory_by(alloc, ask, &dfa, told);
+    drop(dfa);
+    ended
 }
 
 /// Appends the bytes that are accounted for a cache, what a search for an end tells, and the bytes after it.
@@ -91,6 +97,7 @@ fn lazy_memory_by(alloc: Global, ask: &Ask<'_>, dfa: &Lazy, told: &mut Told) -> 
     told.tell_bytes(cache.memory_usage());
     told.tell_half(try_search_half_fwd(dfa, &mut cache, &Input::new(ask.input)));
     told.tell_bytes(cache.memory_usage());
+    drop(cache);
     Ok(())
 }
 
@@ -108,45 +115,86 @@ fn lazy_reset(alloc: Global, earlier: &Ask<'_>, dfa: &Lazy) -> Result<LazyCache,
     ensures { IfOk result (IsCacheOf dfa.now) }
 {
     let mut cache = lazy_used(alloc, earlier)?;
-    cache.reset(alloc, dfa)?;
-    Ok(cache)
+    match cache.reset(alloc, dfa) {
+        Ok(()) => Ok(cache),
+        Err(error) => {
+            drop(cache);
+            Err(error.into())
+        }
+    }
 }
 
 /// A cache that served a search of the input.
 fn lazy_used(alloc: Global, ask: &Ask<'_>) -> Result<LazyCache, Failure> {
     let dfa = on_demand(alloc, ask, ask.kind(), false)?;
-    let mut cache = LazyCache::new(alloc, &dfa)?;
-    let _found = try_search_half_fwd(&dfa, &mut cache, &Input::new(ask.input));
+    let cache = lazy_used_by(alloc, ask, &dfa);
+    drop(dfa);
+    cache
+}
+
+fn lazy_used_by(alloc: Global, ask: &Ask<'_>, dfa: &Lazy) -> Result<LazyCache, Failure>
+    requires { dfa.now.dfa.nfa.reverse ≡ false }
+{
+    let mut cache = LazyCache::new(alloc, dfa)?;
+    let _found = try_search_half_fwd(dfa, &mut cache, &Input::new(ask.input));
     Ok(cache)
 }
 
 fn lazy_behind(alloc: Global, ask: &Ask<'_>, told: &mut Told) -> Result<(), Failure> {
     let dfa = on_demand(alloc, ask, MatchKind::All, true)?;
-    let mut cache = LazyCache::new(alloc, &dfa)?;
-    behind::tell(ask, &dfa, &mut cache, told);
+    let ended = lazy_behind_by(alloc, ask, &dfa, told);
+    drop(dfa);
+    ended
+}
+
+fn lazy_behind_by(alloc: Global, ask: &Ask<'_>, dfa: &Lazy, told: &mut Told) -> Result<(), Failure>
+    requires { dfa.now.dfa.nfa.reverse ≡ true }
+{
+    let mut cache = LazyCache::new(alloc, dfa)?;
+    behind::tell(ask, dfa, &mut cache, told);
+    drop(cache);
     Ok(())
 }
 
 fn lazy_both(alloc: Global, ask: &Ask<'_>, told: &mut Told) -> Result<(), Failure> {
     let forward = on_demand(alloc, ask, ask.kind(), false)?;
-    let mut cache = LazyCache::new(alloc, &forward)?;
-    lazy_from(alloc, ask, &forward, &mut cache, told)
+    let ended = lazy_from(alloc, ask, &forward, told);
+    drop(forward);
+    ended
 }
 
-fn lazy_from(
+fn lazy_from(alloc: Global, ask: &Ask<'_>, forward: &Lazy, told: &mut Told) -> Result<(), Failure>
+    requires { forward.now.dfa.nfa.reverse ≡ false }
+{
+    let backward = on_demand(alloc, ask, MatchKind::All, true)?;
+    let ended = lazy_between(alloc, ask, forward, &backward, told);
+    drop(backward);
+    ended
+}
+
+fn lazy_between(
     alloc: Global,
     ask: &Ask<'_>,
     forward: &Lazy,
-    cache: &mut LazyCache,
+    backward: &Lazy,
     told: &mut Told,
 ) -> Result<(), Failure>
-    requires fits { IsCacheOf forward.now cache.old }
     requires forward { forward.now.dfa.nfa.reverse ≡ false }
+    requires backward { backward.now.dfa.nfa.reverse ≡ true }
 {
-    let backward = on_demand(alloc, ask, MatchKind::All, true)?;
-    let mut second = LazyCache::new(alloc, &backward)?;
-    both::tell(ask, forward, cache, &backward, &mut second, told);
-    Ok(())
+    let mut first = LazyCache::new(alloc, forward)?;
+    match LazyCache::new(alloc, backward) {
+        Ok(mut second) => {
+            both::tell(ask, forward, &mut first, backward, &mut second, told);
+            drop(second);
+            drop(first);
+            Ok(())
+        }
+        Err(error) => {
+            drop(first);
+            Err(error.into())
+        }
+    }
 }
 
 fn dense_set(alloc: Global, ask: &Ask<'_>, told: &mut Told) -> Result<(), Failure> {

@@ -10,6 +10,7 @@ use crate::told::Told;
 use rx_engines::pikevm::{Cache, PikeVM};
 use rx_search::{Input, NonMaxUsize, PatternSet};
 use std::alloc::Global;
+use std::mem::drop;
 
 /// Appends what the PikeVM tells of each haystack, with one cache.
 pub fn tell(alloc: Global, ask: &Ask<'_>, told: &mut Told) {
@@ -25,6 +26,7 @@ fn tell_made(alloc: Global, ask: &Ask<'_>, told: &mut Told) -> Result<(), Failur
 fn tell_by(alloc: Global, ask: &Ask<'_>, vm: &PikeVM, told: &mut Told) -> Result<(), Failure> {
     let mut cache = cache_for(alloc, ask, vm)?;
     tell_each(alloc, ask, vm, &mut cache, told);
+    drop(cache);
     Ok(())
 }
 
@@ -49,8 +51,13 @@ fn reset_for(alloc: Global, earlier: &Ask<'_>, vm: &PikeVM) -> Result<Cache, Fai
     ensures { IfOk result (Fits vm.now) }
 {
     let mut cache = used(alloc, earlier)?;
-    cache.reset(alloc, vm)?;
-    Ok(cache)
+    match cache.reset(alloc, vm) {
+        Ok(()) => Ok(cache),
+        Err(error) => {
+            drop(cache);
+            Err(error.into())
+        }
+    }
 }
 
 /// A cache that served a search of the input.

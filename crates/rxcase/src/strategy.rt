@@ -13,6 +13,7 @@ use rx_search::{Input, MatchError, Memory, NonMaxUsize};
 use rx_strategy::{Cache, Config, Strategy};
 use rx_syntax::{ParseError, parse_many};
 use std::alloc::Global;
+use std::mem::drop;
 
 /// Appends what the strategy tells.
 pub fn tell(alloc: Global, ask: &Ask<'_>, told: &mut Told) {
@@ -22,7 +23,9 @@ pub fn tell(alloc: Global, ask: &Ask<'_>, told: &mut Told) {
 
 fn tell_made(alloc: Global, ask: &Ask<'_>, told: &mut Told) -> Result<(), Failure> {
     let strategy = made(alloc, ask)?;
-    tell_by(alloc, ask, &strategy, told)
+    let ended = tell_by(alloc, ask, &strategy, told);
+    drop(strategy);
+    ended
 }
 
 fn tell_by(
@@ -40,6 +43,7 @@ fn tell_by(
     };
     let mut cache = cache_for(alloc, ask, strategy)?;
     tell_input(alloc, ask, strategy, &mut cache, &input, told);
+    drop(cache);
     Ok(())
 }
 
@@ -106,14 +110,21 @@ fn reset_for(alloc: Global, earlier: &Ask<'_>, strategy: &Strategy) -> Result<Ca
     ensures { IfOk result (Fits strategy.now) }
 {
     let mut cache = used(alloc, earlier)?;
-    cache.reset(alloc, strategy)?;
-    Ok(cache)
+    match cache.reset(alloc, strategy) {
+        Ok(()) => Ok(cache),
+        Err(error) => {
+            drop(cache);
+            Err(error.into())
+        }
+    }
 }
 
 /// A cache that served a search of the input.
 fn used(alloc: Global, ask: &Ask<'_>) -> Result<Cache, Failure> {
     let strategy = made(alloc, ask)?;
-    used_by(alloc, ask, &strategy)
+    let cache = used_by(alloc, ask, &strategy);
+    drop(strategy);
+    cache
 }
 
 fn used_by(alloc: Global, ask: &Ask<'_>, strategy: &Strategy) -> Result<Cache, Failure> {
