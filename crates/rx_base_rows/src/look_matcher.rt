@@ -26,7 +26,7 @@ fn is_told_of(matcher: &LookMatcher, kind: Look, text: &[u8], want: &[u8]) -> bo
 }
 
 /// Whether this is told of each kind in turn.
-fn is_told(matcher: &LookMatcher, text: &[u8], want: [&[u8]; 6]) -> bool {
+fn is_told(matcher: &LookMatcher, text: &[u8], want: &[&[u8]; 6]) -> bool {
     for k in 0..6 {
         if !is_told_of(matcher, LINES[k], text, want[k]) {
             return false;
@@ -41,15 +41,20 @@ const SEMICOLON: [&[u8]; 6] = [b"x----", b"----x", b"x-x--", b"-x--x", b"x---x",
 /// `a`, the byte 255 and a line feed, where that byte ends a line.
 const LAST_BYTE: [&[u8]; 6] = [b"x---", b"---x", b"x-x-", b"-x-x", b"x--x", b"--xx"];
 
+/// The line terminator before and after it is set, and whether this is told then.
+fn told_by(matcher: &mut LookMatcher, byte: u8, text: &[u8], want: &[&[u8]; 6]) -> (u8, u8, bool) {
+    let before = matcher.get_line_terminator();
+    matcher.set_line_terminator(byte);
+    let after = matcher.get_line_terminator();
+    (before, after, is_told(matcher, text, want))
+}
+
 #[test]
 fn lines_end_in_the_terminator(rt: HostRuntime) {
     let mut matcher = LookMatcher::new();
-    assert_eq!(rt; matcher.get_line_terminator(), b'\n');
-    matcher.set_line_terminator(b';');
-    assert_eq!(rt; matcher.get_line_terminator(), b';');
-    assert!(rt; is_told(&matcher, b"a;b\n", SEMICOLON));
-    matcher.set_line_terminator(0xFF);
-    assert!(rt; is_told(&matcher, b"a\xFF\n", LAST_BYTE));
+    let semicolon = told_by(&mut matcher, b';', b"a;b\n", &SEMICOLON);
+    let last = told_by(&mut matcher, 0xFF, b"a\xFF\n", &LAST_BYTE);
+    assert!(rt; (semicolon, last) == ((b'\n', b';', true), (b';', 0xFF, true)));
 }
 
 /// Whether a line starts and no word starts or ends, at each place of the text.

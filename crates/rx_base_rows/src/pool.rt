@@ -14,13 +14,18 @@ fn next(rt: &impl Abort, stack: &mut Stack<char>) -> u128 {
     stack.make(empty).ok().expect(rt, "memory")
 }
 
+/// What is told of a value that is put in, then taken out, and of one of a number that was not given.
+fn stored(stack: &mut Stack<char>) -> (bool, Option<(u128, char)>, Option<char>) {
+    let is_stored = stack.put(0, 'a').is_ok();
+    let taken = stack.take().ok();
+    (is_stored, taken, stack.put(7, 'b').err())
+}
+
 #[test]
 fn numbers_of_a_stack(rt: HostRuntime) {
     let mut stack = Stack::new(rt.alloc());
     let numbers = (next(&rt, &mut stack), next(&rt, &mut stack));
-    let (stored, taken, refused) = (stack.put(0, 'a'), stack.take().ok(), stack.put(7, 'b'));
-    assert!(rt; numbers == (0, 1) && stored == Ok(()));
-    assert!(rt; taken == Some((0, 'a')) && refused == Err('b'));
+    assert!(rt; (numbers, stored(&mut stack)) == ((0, 1), (true, Some((0, 'a')), Some('b'))));
 }
 
 /// Makes the letter `a`, in a text of its own.
@@ -37,27 +42,27 @@ impl Maker for Letters {
     }
 }
 
-/// Whether the value is the letter, and a note that knows it gives it again.
-fn is_known(alloc: Global, lazy: &Lazy<String, Letters>) -> Result<bool, Memory> {
-    let mut note = lazy.note();
-    let first = lazy.get_as(alloc, &mut note)?;
-    let again = lazy.get_as(alloc, &mut note)?;
-    Ok(first.as_str() == "a" && first.as_str() == again.as_str())
-}
-
-/// Whether the value is the letter.
-fn is_letter(alloc: Global, lazy: &Lazy<String, Letters>) -> bool {
-    match lazy.get(alloc) {
+/// Whether it is the letter.
+fn is_letter(made: Result<&String, Memory>) -> bool {
+    match made {
         Ok(text) => text.as_str() == "a",
         Err(_) => false,
     }
+}
+
+/// Whether the value is the letter, and a note that knows it gives it again.
+fn is_known(alloc: Global, lazy: &Lazy<String, Letters>) -> bool {
+    let mut note = lazy.note();
+    let first = is_letter(lazy.get_as(alloc, &mut note));
+    let again = is_letter(lazy.get_as(alloc, &mut note));
+    first && again
 }
 
 #[test]
 fn a_value_is_made_once(rt: HostRuntime) {
     let alloc = rt.alloc();
     let lazy = Lazy::new(alloc, Letters { alloc });
-    assert!(rt; (is_letter(alloc, &lazy), is_known(alloc, &lazy)) == (true, Ok(true)));
+    assert!(rt; (is_letter(lazy.get(alloc)), is_known(alloc, &lazy)) == (true, true));
 }
 
 #[test]
@@ -93,18 +98,20 @@ fn fails_once(alloc: Global, calls: usize) -> FailsOnce {
     }
 }
 
+/// Whether the pool refuses a value, which is dropped at once where it gives one.
+fn is_refused<R: Wait>(rt: &R, pool: &Pool<String, FailsOnce>) -> bool {
+    pool.get(rt).is_err()
+}
+
 /// The numbers of two values that are held at once, and whether one that was asked for in between was refused.
-fn asked_again<R: Wait>(
-    rt: &R,
-    pool: &Pool<String, FailsOnce>,
-) -> Result<(u128, u128, bool), Memory> {
-    let first = pool.get(rt)?;
-    let is_refused = pool.get(rt).is_err();
-    let second = pool.get(rt)?;
+fn asked_again<R: Abort + Wait>(rt: &R, pool: &Pool<String, FailsOnce>) -> (u128, u128, bool) {
+    let first = pool.get(rt).ok().expect(rt, "memory");
+    let is_refused = is_refused(rt, pool);
+    let second = pool.get(rt).ok().expect(rt, "memory");
     let told = (first.number(), second.number(), is_refused);
     PoolGuard::put(first, rt);
     PoolGuard::put(second, rt);
-    Ok(told)
+    told
 }
 
 #[test]
@@ -112,40 +119,54 @@ fn a_pool_serves_after_want_of_memory(rt: HostRuntime) {
     let alloc = rt.alloc();
     let made = Pool::with_capacity(alloc, 1, fails_once(alloc, 0)).ok();
     let pool = made.expect(&rt, "memory");
-    let told = asked_again(&rt, &pool);
-    let again = asked_again(&rt, &pool);
+    let told = (asked_again(&rt, &pool), asked_again(&rt, &pool));
     // (the second time the value in between is number 0, which is dropped at once, so another one is made)
-    assert!(rt; told == Ok((0, 1, true)) && again == Ok((1, 2, false)));
+    assert!(rt; told == ((0, 1, true), (1, 2, false)));
+}
+
+/// Whether the value is refused, and then is the letter.
+fn is_made_later(alloc: Global, lazy: &Lazy<String, FailsOnce>) -> bool {
+    let is_refused = lazy.get(alloc).is_err();
+    is_refused && is_letter(lazy.get(alloc))
 }
 
 #[test]
 fn a_value_is_made_after_want_of_memory(rt: HostRuntime) {
     let alloc = rt.alloc();
     let lazy = Lazy::new(alloc, fails_once(alloc, 1));
-    let is_refused = lazy.get(alloc).is_err();
-    let text = lazy.get(alloc).ok().expect(&rt, "memory");
-    assert!(rt; is_refused && text.as_str() == "a");
+    assert!(rt; is_made_later(alloc, &lazy));
 }
 
-/// Whether the value is this one with the letter.
-fn is_pushed(value: &mut String, letter: char, want: &str) -> bool {
-    value.push(letter).is_ok() && value.as_str() == want
+/// A value of the pool.
+fn taken<'p, R: Abort + Wait>(
+    rt: &R,
+    pool: &'p Pool<String, Letters>,
+) -> PoolGuard<'p, String, Letters> {
+    pool.get(rt).ok().expect(rt, "memory")
 }
 
-/// Takes two values at once and makes them differ: whether each is as it is to be, and they differ, also by their stacks or
-/// numbers.
-fn two_at_once<R: Wait>(rt: &R, pool: &Pool<String, Letters>) -> Result<[bool; 3], Memory> {
-    let mut one = pool.get(rt)?;
-    let mut two = pool.get(rt)?;
-    let differ = one.stack() != two.stack() || one.number() != two.number();
+/// The stack of a value, and its number.
+fn place_of(guard: &PoolGuard<'_, String, Letters>) -> (usize, u128) {
+    (guard.stack(), guard.number())
+}
+
+/// Whether the letter makes the text of the value this one.
+fn is_pushed(guard: &mut PoolGuard<'_, String, Letters>, letter: char, want: &str) -> bool {
+    guard.value_mut().push(letter).is_ok() && guard.value().as_str() == want
+}
+
+/// Takes two values at once and makes them differ: whether each is as it is to be, and they differ by their stacks or numbers.
+fn two_at_once<R: Abort + Wait>(rt: &R, pool: &Pool<String, Letters>) -> [bool; 3] {
+    let mut one = taken(rt, pool);
+    let mut two = taken(rt, pool);
     let told = [
-        is_pushed(one.value_mut(), 'b', "ab"),
-        is_pushed(two.value_mut(), 'c', "ac"),
-        one.value().as_str() != two.value().as_str() && differ,
+        is_pushed(&mut one, 'b', "ab"),
+        is_pushed(&mut two, 'c', "ac"),
+        place_of(&one) != place_of(&two),
     ];
     PoolGuard::put(one, rt);
     PoolGuard::put(two, rt);
-    Ok(told)
+    told
 }
 
 /// The pool, where there is one.
@@ -153,43 +174,43 @@ fn made(rt: &impl Abort, pool: Result<Pool<String, Letters>, Memory>) -> Pool<St
     pool.ok().expect(rt, "memory")
 }
 
+/// Whether two values of such a pool are held at once.
+fn holds_two<R: Abort + Wait>(rt: &R, pool: Result<Pool<String, Letters>, Memory>) -> bool {
+    let pool = made(rt, pool);
+    two_at_once(rt, &pool) == [true, true, true]
+}
+
 #[test]
 fn two_guards_hold_two_values(rt: HostRuntime) {
     let alloc = rt.alloc();
-    let wanted = Ok([true, true, true]);
     let letters = Letters { alloc };
-    let pool = made(&rt, Pool::new(alloc, letters));
-    assert!(rt; two_at_once(&rt, &pool) == wanted);
-    let pool = made(&rt, Pool::with_capacity(alloc, 1, letters));
-    assert!(rt; two_at_once(&rt, &pool) == wanted);
-    let pool = made(
-        &rt,
-        Pool::with_available_parallelism_capacity(alloc, 4, letters),
-    );
-    assert!(rt; two_at_once(&rt, &pool) == wanted);
+    let any = Pool::with_available_parallelism_capacity(alloc, 4, letters);
+    let any = holds_two(&rt, any);
+    let new = holds_two(&rt, Pool::new(alloc, letters));
+    assert!(rt; any && new && holds_two(&rt, Pool::with_capacity(alloc, 1, letters)));
 }
 
-/// Takes two values at once: the stack and the number of each, and whether they are the letters of `two_at_once`.
-fn two_places<R: Wait>(
-    rt: &R,
-    pool: &Pool<String, Letters>,
-) -> Result<([(usize, u128); 2], bool), Memory> {
-    let one = pool.get(rt)?;
-    let two = pool.get(rt)?;
-    let places = [(one.stack(), one.number()), (two.stack(), two.number())];
-    let are_kept = one.value().as_str() == "ab" && two.value().as_str() == "ac";
+/// Whether the value is in this place and is this text.
+fn is_kept(guard: &PoolGuard<'_, String, Letters>, place: (usize, u128), text: &str) -> bool {
+    place_of(guard) == place && guard.value().as_str() == text
+}
+
+/// Whether two values that are taken at once are the letters of `two_at_once`, the first of each stack.
+fn are_kept<R: Abort + Wait>(rt: &R, pool: &Pool<String, Letters>) -> (bool, bool) {
+    let one = taken(rt, pool);
+    let two = taken(rt, pool);
+    let are_kept = (is_kept(&one, (0, 0), "ab"), is_kept(&two, (1, 0), "ac"));
     PoolGuard::put(one, rt);
     PoolGuard::put(two, rt);
-    Ok((places, are_kept))
+    are_kept
 }
 
 #[test]
 fn values_come_back_from_each_stack(rt: HostRuntime) {
     let alloc = rt.alloc();
     let pool = made(&rt, Pool::with_capacity(alloc, 2, Letters { alloc }));
-    let is_made = two_at_once(&rt, &pool).is_ok();
-    let places = two_places(&rt, &pool);
-    assert!(rt; is_made && places == Ok(([(0, 0), (1, 0)], true)));
+    let told = (two_at_once(&rt, &pool), are_kept(&rt, &pool));
+    assert!(rt; told == ([true, true, true], (true, true)));
 }
 
 /// The number of a value that is taken, and then dropped or put back.

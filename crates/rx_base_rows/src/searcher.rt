@@ -143,23 +143,43 @@ fn keeps_answering_none(rt: HostRuntime) {
     assert!(rt; (first, second, third) == (Ok(Some(found)), Ok(None), Ok(None)));
 }
 
+/// Its length, whether it is empty, and whether 4 and 5 lie in it.
+fn told_of_span(span: Span) -> (usize, bool, (bool, bool)) {
+    let contains = (span.contains(4), span.contains(5));
+    (span.len(), span.is_empty(), contains)
+}
+
 #[test]
-fn spans_and_matches(rt: HostRuntime) {
+fn spans(rt: HostRuntime) {
+    let span = Span { start: 2, end: 5 };
+    let (told, later) = (told_of_span(span), span.offset(3));
+    assert!(rt; (told, later) == ((3, false, (true, false)), Span { start: 5, end: 8 }));
+    assert!(rt; Span { start: 5, end: 2 }.len() == 0);
+}
+
+/// Its pattern, its span, its start, its end and its length.
+fn told_of_match(found: &Match) -> (PatternID, Span, usize, usize, usize) {
+    (
+        found.pattern(),
+        found.span(),
+        found.start(),
+        found.end(),
+        found.len(),
+    )
+}
+
+#[test]
+fn matches(rt: HostRuntime) {
     let span = Span { start: 2, end: 5 };
     let found = Match::new(PatternID::ZERO, span);
+    assert!(rt; told_of_match(&found) == (PatternID::ZERO, span, 2, 5, 3));
+    assert!(rt; found.range().contains(&4) && !found.is_empty());
+}
+
+#[test]
+fn half_matches(rt: HostRuntime) {
     let half = HalfMatch::new(PatternID::MAX, 7);
-    let lens = (span.len(), found.len(), Span { start: 5, end: 2 }.len());
-    assert!(rt; lens == (3, 3, 0) && span.offset(3) == (Span { start: 5, end: 8 }));
-    let contains = [
-        span.contains(4),
-        span.contains(5),
-        found.range().contains(&4),
-    ];
-    assert!(rt; contains == [true, false, true]);
-    assert!(rt; (span.is_empty(), found.is_empty()) == (false, false));
-    assert!(rt; (found.start(), found.end(), found.span()) == (2, 5, span));
-    assert!(rt; (found.pattern(), half.pattern()) == (PatternID::ZERO, PatternID::MAX));
-    assert_eq!(rt; half.offset(), 7);
+    assert!(rt; (half.pattern(), half.offset()) == (PatternID::MAX, 7));
 }
 
 /// The span of an input, how its search is anchored, whether any match will do, and whether its span starts behind its end.
@@ -172,29 +192,53 @@ fn told(input: &Input<'_>) -> (Span, Anchored, bool, bool) {
     )
 }
 
-#[test]
-fn inputs(rt: HostRuntime) {
-    // "aé": the second character has the bytes C3 A9.
-    let mut input = Input::new(b"a\xC3\xA9")
-        .span(Span { start: 1, end: 2 })
-        .anchored(Anchored::Yes)
-        .earliest(true);
-    assert!(rt; told(&input) == (Span { start: 1, end: 2 }, Anchored::Yes, true, false));
-    assert!(rt; (input.start(), input.end(), input.haystack().len()) == (1, 2, 3));
+/// "aé": the second character has the bytes C3 A9.
+const TEXT: &[u8] = b"a\xC3\xA9";
+
+/// Whether a character begins or ends at each of these places.
+fn boundaries(input: &Input<'_>) -> [bool; 5] {
     let mut boundaries = [false; 5];
     for at in 0..5 {
         boundaries[at] = input.is_char_boundary(at);
     }
-    assert!(rt; boundaries == [true, true, false, true, false]);
+    boundaries
+}
+
+#[test]
+fn an_input_tells_what_it_was_built_of(rt: HostRuntime) {
+    let span = Span { start: 1, end: 2 };
+    let input = Input::new(TEXT).span(span);
+    let input = input.anchored(Anchored::Yes).earliest(true);
+    assert!(rt; told(&input) == (span, Anchored::Yes, true, false));
+}
+
+#[test]
+fn an_input_tells_the_characters_of_its_text(rt: HostRuntime) {
+    let input = Input::new(TEXT).range(1..2);
+    let places = (input.start(), input.end(), input.haystack().len());
+    let wanted = [true, true, false, true, false];
+    assert!(rt; (places, boundaries(&input)) == ((1, 2, 3), wanted));
+}
+
+#[test]
+fn an_input_is_changed(rt: HostRuntime) {
+    let mut input = Input::new(TEXT).range(1..2).earliest(true);
     input.set_end(3);
     input.set_start(4);
     input.set_anchored(Anchored::Pattern(PatternID::MAX));
     input.set_earliest(false);
     let anchored = Anchored::Pattern(PatternID::MAX);
     assert!(rt; told(&input) == (Span { start: 4, end: 3 }, anchored, false, true));
-    input.set_span(Span { start: 0, end: 3 });
-    assert!(rt; input.get_span() == input.clone().range(0..3).get_span());
-    assert_eq!(rt; input.range(1..3).get_range().start, 1);
+}
+
+#[test]
+fn the_span_of_an_input_is_changed(rt: HostRuntime) {
+    let whole = Span { start: 0, end: 3 };
+    let mut input = Input::new(TEXT).range(4..3);
+    input.set_span(whole);
+    let (span, again) = (input.get_span(), input.clone().range(0..3).get_span());
+    let start = input.range(1..3).get_range().start;
+    assert!(rt; (span, again, start) == (whole, whole, 1));
 }
 
 #[test]

@@ -47,8 +47,8 @@ fn many(rt: &impl Abort, alloc: Global, byte_classes: bool, capacity: usize) -> 
 
 /// The least capacity for it.
 fn least(rt: &impl Abort, alloc: Global) -> usize {
-    match built(rt, alloc, true, 0) {
-        Err(BuildError::CacheTooSmall { minimum, .. }) => minimum,
+    match built(rt, alloc, true, 0).err() {
+        Some(BuildError::CacheTooSmall { minimum, .. }) => minimum,
         _ => 0,
     }
 }
@@ -111,7 +111,11 @@ fn after_search(lazy: &Lazy, cache: &mut LazyCache, text: &[u8]) -> Option<usize
 fn needed(rt: &impl Abort, alloc: Global, byte_classes: bool, text: &[u8]) -> usize {
     let lazy = many(rt, alloc, byte_classes, ROOMY);
     let mut cache = cache(rt, alloc, &lazy);
-    after_search(&lazy, &mut cache, text).expect(rt, "an end")
+    let accounted = after_search(&lazy, &mut cache, text);
+    // (by calls, not part by part)
+    drop(cache);
+    drop(lazy);
+    accounted.expect(rt, "an end")
 }
 
 /// How many searches came to their end, and how many gave up.
@@ -196,6 +200,8 @@ fn searched(rt: &impl Abort, alloc: Global, byte_classes: bool, text: &[u8], tim
     let lazy = many(rt, alloc, byte_classes, capacity);
     let mut cache = cache(rt, alloc, &lazy);
     let seen = turns(&lazy, &mut cache, text, times, want, capacity);
+    drop(cache);
+    drop(lazy);
     seen.expect(rt, "the end, or giving up, within the capacity")
 }
 

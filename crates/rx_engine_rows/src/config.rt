@@ -21,25 +21,33 @@ struct Facts {
     numbers: [usize; 2],
 }
 
+fn choices(config: &Config) -> [bool; 7] {
+    [
+        config.get_utf8_empty(),
+        config.get_auto_prefilter(),
+        config.get_backtrack(),
+        config.get_onepass(),
+        config.get_hybrid(),
+        config.get_dfa(),
+        config.get_byte_classes(),
+    ]
+}
+
+fn limits(config: &Config) -> [Option<usize>; 4] {
+    [
+        config.get_nfa_size_limit(),
+        config.get_onepass_size_limit(),
+        config.get_dfa_size_limit(),
+        config.get_dfa_state_limit(),
+    ]
+}
+
 fn told(config: &Config) -> Facts {
     Facts {
         kind: config.get_match_kind(),
         captures: config.get_which_captures(),
-        choices: [
-            config.get_utf8_empty(),
-            config.get_auto_prefilter(),
-            config.get_backtrack(),
-            config.get_onepass(),
-            config.get_hybrid(),
-            config.get_dfa(),
-            config.get_byte_classes(),
-        ],
-        limits: [
-            config.get_nfa_size_limit(),
-            config.get_onepass_size_limit(),
-            config.get_dfa_size_limit(),
-            config.get_dfa_state_limit(),
-        ],
+        choices: choices(config),
+        limits: limits(config),
         numbers: [
             config.get_hybrid_cache_capacity(),
             config.get_pool_capacity(),

@@ -11,4 +11,6 @@ mod onepass_builds;
 #[cfg(test)]
 mod onepass_searches;
 #[cfg(test)]
+mod rows;
+#[cfg(test)]
 mod strategy;

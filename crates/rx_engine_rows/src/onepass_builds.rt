@@ -1,5 +1,6 @@
 //! Which patterns are one-pass, worked out by hand from the definition; the texts of refusals, and sizes.
 
+use crate::rows::all_right;
 use rx_onepass::{BuildError, Builder, Cache, Config, DFA, NotOnePass};
 use std::alloc::Global;
 use std::process::Abort;
@@ -10,60 +11,73 @@ const NOT_ONE_PASS: &str = "one-pass DFA could not be built because pattern is n
 /// A group more than a transition can tell.
 const SEVENTEEN_GROUPS: &str = "(a)(a)(a)(a)(a)(a)(a)(a)(a)(a)(a)(a)(a)(a)(a)(a)(a)";
 
-/// Two patterns, the second one empty where there is one alone; and what is ambiguous of them, nothing where they are one-pass.
-type Row = (&'static str, &'static str, &'static str);
+/// Two patterns, the second one empty where there is one alone.
+type Row = (&'static str, &'static str);
 
-const ROWS: [Row; 45] = [
-    ("", "", ""),
-    ("a", "", ""),
-    ("a*b", "", ""),
-    ("\\w", "", ""),
-    ("a(b)?c", "", ""),
-    ("(a)(b)(c)(d)", "", ""),
-    ("([a-z]+)=([0-9]+)", "", ""),
-    ("a|b|c", "", ""),
-    ("\\bfoo\\b", "", ""),
-    ("x{1,3}y", "", ""),
-    ("^", "", ""),
-    ("^$", "", ""),
-    ("(?m)^a$", "", ""),
-    ("a?b?", "", ""),
-    ("[ab]*c", "", ""),
-    ("a+", "", ""),
-    ("a+?b", "", ""),
-    ("(?i)k", "", ""),
-    ("[^a]", "", ""),
-    (".*", "", ""),
-    ("(a)|b", "", ""),
-    ("x*yx*", "", ""),
-    ("(?:a|)b", "", ""),
-    ("(?:|a)b", "", ""),
-    ("a$|b", "", ""),
-    ("a", "b", ""),
-    ("a(b)", "c(d)?", ""),
-    ("(a)(a)(a)(a)(a)(a)(a)(a)(a)(a)(a)(a)(a)(a)(a)(a)", "", ""),
-    ("a*a", "", "conflicting transition"),
-    ("a*[ab]", "", "conflicting transition"),
-    ("\\w*\\s", "", "conflicting transition"),
-    ("abc|abd", "", "conflicting transition"),
-    ("a?a", "", "conflicting transition"),
-    ("a*?a", "", "conflicting transition"),
-    (".*a", "", "conflicting transition"),
-    ("(a|ab)c", "", "conflicting transition"),
-    ("(?:a|b|)a", "", "conflicting transition"),
-    ("a", "a", "conflicting transition"),
-    ("(^|$)a", "", "multiple epsilon transitions to same state"),
-    ("(a+)+", "", "multiple epsilon transitions to same state"),
-    ("(a*)*", "", "multiple epsilon transitions to same state"),
-    ("(?:a*)+", "", "multiple epsilon transitions to same state"),
-    ("^", "$", "multiple epsilon transitions to match state"),
-    ("a*", "b*", "multiple epsilon transitions to match state"),
-    (
-        SEVENTEEN_GROUPS,
-        "",
-        "too many explicit capturing groups (max is 16)",
-    ),
+/// They are one-pass: chains,
+const CHAINS: [Row; 11] = [
+    ("", ""),
+    ("a", ""),
+    ("\\w", ""),
+    ("(a)(b)(c)(d)", ""),
+    ("\\bfoo\\b", ""),
+    ("^", ""),
+    ("^$", ""),
+    ("(?m)^a$", ""),
+    ("(?i)k", ""),
+    ("[^a]", ""),
+    ("(a)(a)(a)(a)(a)(a)(a)(a)(a)(a)(a)(a)(a)(a)(a)(a)", ""),
 ];
+
+/// patterns in which something is repeated,
+const REPETITIONS: [Row; 10] = [
+    ("a*b", ""),
+    ("a(b)?c", ""),
+    ("([a-z]+)=([0-9]+)", ""),
+    ("x{1,3}y", ""),
+    ("a?b?", ""),
+    ("[ab]*c", ""),
+    ("a+", ""),
+    ("a+?b", ""),
+    (".*", ""),
+    ("x*yx*", ""),
+];
+
+/// and alternatives.
+const CHOICES: [Row; 7] = [
+    ("a|b|c", ""),
+    ("(a)|b", ""),
+    ("(?:a|)b", ""),
+    ("(?:|a)b", ""),
+    ("a$|b", ""),
+    ("a", "b"),
+    ("a(b)", "c(d)?"),
+];
+
+/// They are not: a byte leads to two states,
+const CONFLICTING: [Row; 10] = [
+    ("a*a", ""),
+    ("a*[ab]", ""),
+    ("\\w*\\s", ""),
+    ("abc|abd", ""),
+    ("a?a", ""),
+    ("a*?a", ""),
+    (".*a", ""),
+    ("(a|ab)c", ""),
+    ("(?:a|b|)a", ""),
+    ("a", "a"),
+];
+
+/// a state is come to by two ways that read nothing,
+const TO_SAME_STATE: [Row; 4] = [
+    ("(^|$)a", ""),
+    ("(a+)+", ""),
+    ("(a*)*", ""),
+    ("(?:a*)+", ""),
+];
+
+/// and a match is.
+const TO_MATCH_STATE: [Row; 2] = [("^", "$"), ("a*", "b*")];
 
 /// The one-pass DFA of the first pattern, or of both.
 fn dfa_of(alloc: Global, first: &str, second: &str) -> Result<DFA, BuildError> {
@@ -89,16 +103,20 @@ fn tells(alloc: Global, built: &Result<DFA, BuildError>, before: &str, want: &st
     }
 }
 
-/// Whether the build answers as the row wants.
-fn is_answered(alloc: Global, row: Row) -> bool {
-    let built = dfa_of(alloc, row.0, row.1);
-    tells(alloc, &built, NOT_ONE_PASS, row.2)
+/// Whether this is told to be ambiguous of the patterns of the row, or nothing.
+fn is_answered(alloc: Global, want: &str, row: Row) -> bool {
+    let (first, second) = row;
+    let built = dfa_of(alloc, first, second);
+    let is_answered = tells(alloc, &built, NOT_ONE_PASS, want);
+    // (by a call, not part by part)
+    drop(built);
+    is_answered
 }
 
 /// The first of these rows that is answered otherwise.
-fn first_wrong(alloc: Global, rows: &[Row]) -> Option<usize> {
+fn first_wrong(alloc: Global, want: &str, rows: &[Row]) -> Option<usize> {
     for k in 0..rows.len() {
-        if !is_answered(alloc, rows[k]) {
+        if !is_answered(alloc, want, rows[k]) {
             return Some(k);
         }
     }
@@ -106,8 +124,42 @@ fn first_wrong(alloc: Global, rows: &[Row]) -> Option<usize> {
 }
 
 #[test]
-fn patterns_by_hand(rt: HostRuntime) {
-    assert_eq!(rt; first_wrong(rt.alloc(), &ROWS), None);
+fn chains_are_one_pass(rt: HostRuntime) {
+    all_right(&rt, first_wrong(rt.alloc(), "", &CHAINS));
+}
+
+#[test]
+fn repetitions_are_one_pass(rt: HostRuntime) {
+    all_right(&rt, first_wrong(rt.alloc(), "", &REPETITIONS));
+}
+
+#[test]
+fn choices_are_one_pass(rt: HostRuntime) {
+    all_right(&rt, first_wrong(rt.alloc(), "", &CHOICES));
+}
+
+#[test]
+fn a_byte_leads_to_two_states(rt: HostRuntime) {
+    let wrong = first_wrong(rt.alloc(), "conflicting transition", &CONFLICTING);
+    all_right(&rt, wrong);
+}
+
+#[test]
+fn two_ways_lead_to_one_state(rt: HostRuntime) {
+    let want = "multiple epsilon transitions to same state";
+    all_right(&rt, first_wrong(rt.alloc(), want, &TO_SAME_STATE));
+}
+
+#[test]
+fn two_ways_lead_to_a_match(rt: HostRuntime) {
+    let want = "multiple epsilon transitions to match state";
+    all_right(&rt, first_wrong(rt.alloc(), want, &TO_MATCH_STATE));
+}
+
+#[test]
+fn seventeen_groups_are_too_many(rt: HostRuntime) {
+    let want = "too many explicit capturing groups (max is 16)";
+    assert!(rt; is_answered(rt.alloc(), want, (SEVENTEEN_GROUPS, "")));
 }
 
 /// Whether there is no one-pass DFA of the pattern, for this cause.
@@ -131,7 +183,9 @@ fn is_refused(alloc: Global, limit: Option<usize>, pattern: &str, want: &str) ->
     let mut builder = Builder::new();
     builder.configure(Config::new().size_limit(limit));
     let built = builder.build(alloc, pattern);
-    tells(alloc, &built, "", want)
+    let is_refused = tells(alloc, &built, "", want);
+    drop(built);
+    is_refused
 }
 
 /// A pattern, and the text of its refusal.
@@ -166,7 +220,7 @@ fn first_other_text(alloc: Global, refusals: &[Refusal]) -> Option<usize> {
 
 #[test]
 fn texts_of_refusals(rt: HostRuntime) {
-    assert_eq!(rt; first_other_text(rt.alloc(), &TEXTS), None);
+    all_right(&rt, first_other_text(rt.alloc(), &TEXTS));
 }
 
 #[test]
@@ -174,11 +228,11 @@ fn texts_that_no_small_pattern_brings(rt: HostRuntime) {
     let alloc = rt.alloc();
     let patterns = BuildError::TooManyPatterns { limit: 4194303 };
     let want = "one-pass DFA exceeded a limit of 4194303 for number of patterns";
-    assert!(rt; is_text(alloc, &patterns, "", want));
+    let patterns = is_text(alloc, &patterns, "", want);
     let states = BuildError::TooManyStates { limit: 2097152 };
     let want = "one-pass DFA exceeded a limit of 2097152 for number of states";
-    assert!(rt; is_text(alloc, &states, "", want));
-    assert!(rt; is_text(alloc, &BuildError::Memory, "", "out of memory"));
+    let states = is_text(alloc, &states, "", want);
+    assert!(rt; patterns && states && is_text(alloc, &BuildError::Memory, "", "out of memory"));
 }
 
 #[test]
@@ -210,7 +264,9 @@ fn sizes(
         .ok()
         .expect(rt, "a one-pass pattern");
     let cache = dfa.create_cache(alloc).ok().expect(rt, "a cache");
-    sizes_of(&dfa, &cache)
+    let sizes = sizes_of(&dfa, &cache);
+    drop(dfa);
+    sizes
 }
 
 #[test]

@@ -2,7 +2,8 @@
 ghost use Rattle.std.specs.Prelude.{◌≡◌};
 ghost use Rattle.rx_onepass.specs.Dfa.{Fits};
 
-use rx_onepass::{BuildError, Builder, Cache, Config, DFA};
+use crate::rows::all_right;
+use rx_onepass::{Builder, Cache, Config, DFA};
 use rx_search::{Anchored, Captures, Input, MatchKind, NonMaxUsize, PatternID, Span};
 use std::alloc::Global;
 use std::process::Abort;
@@ -22,19 +23,13 @@ type Row = (
     &'static [usize],
 );
 
-const ROWS: [Row; 20] = [
+const WITH_GROUPS: [Row; 9] = [
     ("a(b)?c", "", b"abc", 0, 3, Some(0), &[0, 3, 1, 2]),
     ("a(b)?c", "", b"ac", 0, 2, Some(0), &[0, 2, NO, NO]),
     ("a(b)?c", "", b"xac", 0, 3, None, &[NO, NO, NO, NO]),
     ("a(b)?c", "", b"xac", 1, 3, Some(0), &[1, 3, NO, NO]),
     ("a(b)?c", "", b"abc", 0, 3, Some(0), &[0]),
     ("a(b)?c", "", b"abc", 0, 3, Some(0), &[0, 3, 1, 2, NO, NO]),
-    ("(?:)", "", b"\xE2\x98\x83", 0, 3, Some(0), &[0, 0]),
-    ("(?:)", "", b"\xE2\x98\x83", 1, 3, None, &[NO, NO]),
-    ("(?:)", "", b"a", 1, 0, None, &[NO, NO]),
-    ("\\bfoo\\b", "", b"foo bar", 0, 7, Some(0), &[0, 3]),
-    ("\\bfoo\\b", "", b"foobar", 0, 6, None, &[NO, NO]),
-    ("\\bfoo\\b", "", b"foobar", 0, 3, None, &[NO, NO]),
     (
         "([a-z]+)=([0-9]+)",
         "",
@@ -44,11 +39,23 @@ const ROWS: [Row; 20] = [
         Some(0),
         &[0, 5, 0, 2, 3, 5],
     ),
+    ("a(b)*", "", b"abbc", 0, 4, Some(0), &[0, 3, 2, 3]),
+    ("(a)|b", "", b"b", 0, 1, Some(0), &[0, 1, NO, NO]),
+];
+
+const WITHOUT_GROUPS: [Row; 9] = [
+    ("(?:)", "", b"\xE2\x98\x83", 0, 3, Some(0), &[0, 0]),
+    ("(?:)", "", b"\xE2\x98\x83", 1, 3, None, &[NO, NO]),
+    ("(?:)", "", b"a", 1, 0, None, &[NO, NO]),
+    ("\\bfoo\\b", "", b"foo bar", 0, 7, Some(0), &[0, 3]),
+    ("\\bfoo\\b", "", b"foobar", 0, 6, None, &[NO, NO]),
+    ("\\bfoo\\b", "", b"foobar", 0, 3, None, &[NO, NO]),
     ("a*b", "", b"aaab", 0, 4, Some(0), &[0, 4]),
     ("a*b", "", b"aaab", 0, 3, None, &[NO, NO]),
-    ("a(b)*", "", b"abbc", 0, 4, Some(0), &[0, 3, 2, 3]),
     ("a+?", "", b"aa", 0, 2, Some(0), &[0, 1]),
-    ("(a)|b", "", b"b", 0, 1, Some(0), &[0, 1, NO, NO]),
+];
+
+const OF_TWO: [Row; 2] = [
     ("a", "b", b"b", 0, 1, Some(1), &[NO, NO, 0, 1]),
     (
         "(a)",
@@ -61,14 +68,22 @@ const ROWS: [Row; 20] = [
     ),
 ];
 
+/// The DFA in a box. So a function that ends lets it go by one call, and not part by part.
+fn boxed(rt: &impl Abort, alloc: Global, dfa: Option<DFA>) -> Box<DFA> {
+    let dfa = dfa.expect(rt, "a one-pass pattern");
+    Box::new(alloc, dfa).ok().expect(rt, "memory")
+}
+
 /// The one-pass DFA of the first pattern, or of both, with starts for each.
-fn dfa_of(alloc: Global, kind: MatchKind, first: &str, second: &str) -> Result<DFA, BuildError> {
+fn dfa_of(rt: &impl Abort, alloc: Global, kind: MatchKind, first: &str, second: &str) -> Box<DFA> {
     let mut builder = Builder::new();
     builder.configure(Config::new().match_kind(kind).starts_for_each_pattern(true));
-    if second.len() == 0 {
-        return builder.build(alloc, first);
-    }
-    builder.build_many(alloc, &[first, second])
+    let built = if second.len() == 0 {
+        builder.build(alloc, first)
+    } else {
+        builder.build_many(alloc, &[first, second])
+    };
+    boxed(rt, alloc, built.ok())
 }
 
 /// Whether the slot holds this place, or none.
@@ -120,54 +135,59 @@ fn is_found(
     }
 }
 
-/// Whether an anchored search with a cache of the DFA finds what the row wants.
-fn finds(alloc: Global, dfa: &DFA, row: Row) -> bool {
-    let (_, _, haystack, start, end, pattern, places) = row;
-    let Ok(mut cache) = dfa.create_cache(alloc) else {
-        return false;
-    };
+/// The anchored search of the row.
+fn input_of(rt: &impl Abort, row: Row) -> Input<'static> {
+    let (_, _, haystack, start, end, _, _) = row;
+    assert!(rt; end <= haystack.len());
+    assert!(rt; start <= end + 1);
+    let input = Input::new(haystack).span(Span { start, end });
+    input.anchored(Anchored::Yes)
+}
+
+/// Whether the search with a cache of the DFA finds what the row wants.
+fn finds(rt: &impl Abort, alloc: Global, dfa: &DFA, row: Row) -> bool {
+    let (_, _, _, _, _, pattern, places) = row;
+    let input = input_of(rt, row);
     let none: Option<NonMaxUsize> = None;
-    let Ok(mut slots) = vec![in alloc; none; places.len()] else {
-        return false;
-    };
-    if end > haystack.len() || start > end + 1 {
-        return false;
-    }
-    let mut input = Input::new(haystack);
-    input.set_span(Span { start, end });
-    input.set_anchored(Anchored::Yes);
-    is_found(
-        dfa,
-        &mut cache,
-        &input,
-        slots.as_mut_slice(),
-        pattern,
-        places,
-    )
+    let made = vec![in alloc; none; places.len()].ok();
+    let mut slots = made.expect(rt, "memory");
+    let mut cache = cache_of(rt, alloc, dfa);
+    is_found(dfa, &mut cache, &input, &mut slots, pattern, places)
+}
+
+/// Whether the DFA of the row's patterns does.
+fn is_told(rt: &impl Abort, alloc: Global, kind: MatchKind, row: Row) -> bool {
+    let (first, second, _, _, _, _, _) = row;
+    let dfa = dfa_of(rt, alloc, kind, first, second);
+    finds(rt, alloc, &dfa, row)
 }
 
 /// The first row that is answered otherwise.
-fn first_wrong(alloc: Global, kind: MatchKind, rows: &[Row]) -> Option<usize> {
+fn first_wrong(rt: &impl Abort, alloc: Global, kind: MatchKind, rows: &[Row]) -> Option<usize> {
     for k in 0..rows.len() {
-        let row = rows[k];
-        match dfa_of(alloc, kind, row.0, row.1) {
-            Ok(dfa) => {
-                if !finds(alloc, &dfa, row) {
-                    return Some(k);
-                }
-            }
-            Err(_) => return Some(k),
+        if !is_told(rt, alloc, kind, rows[k]) {
+            return Some(k);
         }
     }
     None
 }
 
 #[test]
-fn searches_by_hand(rt: HostRuntime) {
-    assert_eq!(rt;
-        first_wrong(rt.alloc(), MatchKind::LeftmostFirst, &ROWS),
-        None
-    );
+fn searches_for_groups(rt: HostRuntime) {
+    let first = MatchKind::LeftmostFirst;
+    all_right(&rt, first_wrong(&rt, rt.alloc(), first, &WITH_GROUPS));
+}
+
+#[test]
+fn searches_without_groups(rt: HostRuntime) {
+    let first = MatchKind::LeftmostFirst;
+    all_right(&rt, first_wrong(&rt, rt.alloc(), first, &WITHOUT_GROUPS));
+}
+
+#[test]
+fn searches_for_two_patterns(rt: HostRuntime) {
+    let first = MatchKind::LeftmostFirst;
+    all_right(&rt, first_wrong(&rt, rt.alloc(), first, &OF_TWO));
 }
 
 /// The same where the farthest match is told.
@@ -180,7 +200,7 @@ const ALL_ROWS: [Row; 4] = [
 
 #[test]
 fn farthest_matches_by_hand(rt: HostRuntime) {
-    assert_eq!(rt; first_wrong(rt.alloc(), MatchKind::All, &ALL_ROWS), None);
+    all_right(&rt, first_wrong(&rt, rt.alloc(), MatchKind::All, &ALL_ROWS));
 }
 
 /// Whether there is a match, in a search of this mode; None where it is refused.
@@ -212,13 +232,10 @@ fn finds_by_each(
 }
 
 /// A DFA of the pattern, with starts for each or not.
-fn with_starts(rt: &impl Abort, alloc: Global, each: bool, pattern: &str) -> DFA {
+fn with_starts(rt: &impl Abort, alloc: Global, each: bool, pattern: &str) -> Box<DFA> {
     let mut builder = Builder::new();
     builder.configure(Config::new().starts_for_each_pattern(each));
-    builder
-        .build(alloc, pattern)
-        .ok()
-        .expect(rt, "a one-pass pattern")
+    boxed(rt, alloc, builder.build(alloc, pattern).ok())
 }
 
 /// A cache of the DFA.
@@ -244,8 +261,11 @@ fn answers(
 fn modes_that_are_refused(rt: HostRuntime) {
     let alloc = rt.alloc();
     let (yes, no) = (Some(true), Some(false));
-    assert!(rt; answers(&rt, alloc, true, "a") == (None, yes, yes, no));
-    assert!(rt; answers(&rt, alloc, false, "a") == (None, yes, None, None));
+    let (each, all) = (
+        answers(&rt, alloc, true, "a"),
+        answers(&rt, alloc, false, "a"),
+    );
+    assert!(rt; (each, all) == ((None, yes, yes, no), (None, yes, None, None)));
     assert!(rt; answers(&rt, alloc, true, "^a") == (yes, yes, yes, no));
 }
 

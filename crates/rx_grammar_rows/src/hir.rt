@@ -1,12 +1,21 @@
 //! What is known of expressions, and their copies.
 
+use crate::rows::all_right;
 use rx_hir::{Hir, HirKind, Look, Properties, can_be_empty, cost, group_names};
-use rx_syntax::{Config, ParseError, parse_with};
+use rx_syntax::{Config, parse_with};
 use std::alloc::Global;
+use std::process::Abort;
+
+/// The expression in a box. So a function that ends lets it go by one call, and not part by part.
+pub(crate) fn boxed(rt: &impl Abort, alloc: Global, hir: Option<Hir>) -> Box<Hir> {
+    let hir = hir.expect(rt, "an expression");
+    Box::new(alloc, hir).ok().expect(rt, "memory")
+}
 
 /// The expression of a pattern, which may match bytes that are no UTF-8.
-fn parsed(alloc: Global, pattern: &str) -> Result<Hir, ParseError> {
-    parse_with(alloc, pattern, &Config::new().utf8(false))
+fn parsed(rt: &impl Abort, alloc: Global, pattern: &str) -> Box<Hir> {
+    let config = Config::new().utf8(false);
+    boxed(rt, alloc, parse_with(alloc, pattern, &config).ok())
 }
 
 /// The least length of a match and the greatest; the number of groups that take part in each match, and of all groups.
@@ -30,6 +39,13 @@ fn kinds(hir: &Hir) -> (bool, bool, bool, bool) {
         properties.is_utf8(),
         can_be_empty(hir),
     )
+}
+
+/// The lengths of an expression, its kinds, and the bytes that are accounted for it.
+type Facts = (Lengths, (bool, bool, bool, bool), u64);
+
+fn facts(hir: &Hir) -> Facts {
+    (lengths(hir.properties()), kinds(hir), cost(hir))
 }
 
 /// A pattern, its lengths and kinds, and the bytes that are accounted for it.
@@ -87,20 +103,16 @@ const ROWS: [Row; 8] = [
 ];
 
 /// Whether this is known of the row's pattern.
-fn is_known(alloc: Global, row: Row) -> bool {
-    let (pattern, wanted, kinds_wanted, bytes) = row;
-    match parsed(alloc, pattern) {
-        Ok(hir) => {
-            (lengths(hir.properties()), kinds(&hir), cost(&hir)) == (wanted, kinds_wanted, bytes)
-        }
-        Err(_) => false,
-    }
+fn is_known(rt: &impl Abort, alloc: Global, row: Row) -> bool {
+    let (pattern, lengths, kinds, bytes) = row;
+    let hir = parsed(rt, alloc, pattern);
+    facts(&hir) == (lengths, kinds, bytes)
 }
 
 /// The number of the first of these rows of which something else is known, counted from 0.
-fn first_wrong(alloc: Global, rows: &[Row]) -> Option<usize> {
+fn first_wrong(rt: &impl Abort, alloc: Global, rows: &[Row]) -> Option<usize> {
     for k in 0..rows.len() {
-        if !is_known(alloc, rows[k]) {
+        if !is_known(rt, alloc, rows[k]) {
             return Some(k);
         }
     }
@@ -109,15 +121,13 @@ fn first_wrong(alloc: Global, rows: &[Row]) -> Option<usize> {
 
 #[test]
 fn lengths_groups_and_kinds(rt: HostRuntime) {
-    assert_eq!(rt; first_wrong(rt.alloc(), &ROWS), None);
+    all_right(&rt, first_wrong(&rt, rt.alloc(), &ROWS));
 }
 
 /// What is known of a pattern's expression.
-fn properties_of(alloc: Global, pattern: &str) -> Option<Properties> {
-    match parsed(alloc, pattern) {
-        Ok(hir) => Some(*hir.properties()),
-        Err(_) => None,
-    }
+fn properties_of(rt: &impl Abort, alloc: Global, pattern: &str) -> Properties {
+    let hir = parsed(rt, alloc, pattern);
+    *hir.properties()
 }
 
 /// Whether this kind of look-around stands in it, holds where each match starts, and holds where each match ends.
@@ -131,20 +141,29 @@ fn looks(properties: &Properties, kind: Look) -> (bool, bool, bool) {
 
 #[test]
 fn look_arounds(rt: HostRuntime) {
-    let found = properties_of(rt.alloc(), r"(?-u:\b)(?P<x>a)?");
-    let properties = found.expect(&rt, "an expression");
-    assert!(rt; looks(&properties, Look::WordAscii) == (true, true, false));
-    assert_eq!(rt; properties.memory_usage(), 64);
+    let properties = properties_of(&rt, rt.alloc(), r"(?-u:\b)(?P<x>a)?");
+    let looks = looks(&properties, Look::WordAscii);
+    assert!(rt; (looks, properties.memory_usage()) == ((true, true, false), 64));
+}
+
+/// What is known of the look-around that holds at the start.
+fn properties_of_start() -> Properties {
+    let hir = Hir::look(Look::Start);
+    *hir.properties()
+}
+
+/// Of the union: the lengths, and where the look-around that holds at the start stands.
+fn told_of_union(properties: &[Properties]) -> (Lengths, (bool, bool, bool)) {
+    let both = Properties::union(properties);
+    (lengths(&both), looks(&both, Look::Start))
 }
 
 #[test]
 fn unions(rt: HostRuntime) {
-    let group = properties_of(rt.alloc(), "(?P<x>ab)");
-    let group = group.expect(&rt, "an expression");
-    let both = Properties::union(&[group, *Hir::look(Look::Start).properties()]);
-    assert!(rt; lengths(&both) == (Some(0), Some(2), None, 1));
-    assert!(rt; looks(&both, Look::Start) == (true, false, false));
-    assert_eq!(rt; Properties::union(&[]).minimum_len(), None);
+    let group = properties_of(&rt, rt.alloc(), "(?P<x>ab)");
+    let told = told_of_union(&[group, properties_of_start()]);
+    assert!(rt; told == ((Some(0), Some(2), None, 1), (true, false, false)));
+    assert!(rt; Properties::union(&[]).minimum_len().is_none());
 }
 
 /// Whether the groups are one without a name, and one that is named `x`.
@@ -166,47 +185,47 @@ fn has_names(alloc: Global, hir: &Hir) -> bool {
 /// Whether its copy is like it.
 fn is_copied(hir: &Hir) -> bool {
     match hir.clone() {
-        Ok(copy) => copy == *hir,
+        Ok(copy) => is_same(&copy, hir),
         Err(_) => false,
     }
 }
 
+/// Whether it is a chain of parts.
+fn is_chain(hir: Hir) -> bool {
+    matches!(hir.into_kind(), HirKind::Concat(_))
+}
+
 /// Whether a copy of the pattern's expression is like it, whether the groups are those above, and whether it is a chain of parts.
-fn told(alloc: Global, pattern: &str) -> Option<(bool, bool, bool)> {
-    match parsed(alloc, pattern) {
-        Ok(hir) => {
-            let told = (is_copied(&hir), has_names(alloc, &hir));
-            let is_chain = matches!(hir.into_kind(), HirKind::Concat(_));
-            Some((told.0, told.1, is_chain))
-        }
-        Err(_) => None,
-    }
+fn told(rt: &impl Abort, alloc: Global, pattern: &str) -> (bool, bool, bool) {
+    let hir = parsed(rt, alloc, pattern);
+    let (is_copied, has_names) = (is_copied(&hir), has_names(alloc, &hir));
+    (is_copied, has_names, is_chain(Box::into_inner(hir)))
 }
 
 #[test]
 fn names_and_copies(rt: HostRuntime) {
-    let alloc = rt.alloc();
-    assert_eq!(rt; told(alloc, "(b)(?P<x>a)?"), Some((true, true, true)));
-    let classes = r"[a-c\u{E9}-\u{EA}](?-u:[a-c\xFE-\xFF])";
-    assert_eq!(rt; told(alloc, classes), Some((true, false, true)));
+    let named = told(&rt, rt.alloc(), "(b)(?P<x>a)?");
+    let classes = told(&rt, rt.alloc(), r"[a-c\u{E9}-\u{EA}](?-u:[a-c\xFE-\xFF])");
+    assert!(rt; (named, classes) == ((true, true, true), (true, false, true)));
+}
+
+/// Whether they are the same expression.
+pub(crate) fn is_same(one: &Hir, other: &Hir) -> bool {
+    *one == *other
 }
 
 /// Whether two patterns have the same expression.
-fn are_alike(alloc: Global, one: &str, other: &str) -> bool {
-    match (parsed(alloc, one), parsed(alloc, other)) {
-        (Ok(one), Ok(other)) => one == other,
-        _ => false,
-    }
+fn are_alike(rt: &impl Abort, alloc: Global, one: &str, other: &str) -> bool {
+    let one = parsed(rt, alloc, one);
+    let other = parsed(rt, alloc, other);
+    is_same(&one, &other)
 }
 
 #[test]
 fn equality(rt: HostRuntime) {
-    let alloc = rt.alloc();
-    let alike = (
-        are_alike(alloc, "(?P<x>a)", "(?<x>a)"),
-        are_alike(alloc, "(?P<x>a)", "(?P<x>)"),
-    );
-    assert!(rt; alike == (true, false));
+    let same = are_alike(&rt, rt.alloc(), "(?P<x>a)", "(?<x>a)");
+    let other = are_alike(&rt, rt.alloc(), "(?P<x>a)", "(?P<x>)");
+    assert!(rt; same && !other);
 }
 
 /// Whether it is the literal of these bytes.
@@ -225,18 +244,16 @@ fn are_joined(parts: &[Hir]) -> bool {
     }
 }
 
-/// Whether the pattern is a chain of such parts.
-fn is_joined(alloc: Global, pattern: &str) -> Option<bool> {
-    match parsed(alloc, pattern) {
-        Ok(hir) => match hir.kind() {
-            HirKind::Concat(parts) => Some(are_joined(parts)),
-            _ => Some(false),
-        },
-        Err(_) => None,
+/// Whether it is a chain of such parts.
+fn is_joined(hir: &Hir) -> bool {
+    match hir.kind() {
+        HirKind::Concat(parts) => are_joined(parts),
+        _ => false,
     }
 }
 
 #[test]
 fn literals_that_meet_are_joined(rt: HostRuntime) {
-    assert_eq!(rt; is_joined(rt.alloc(), r"a(?:)b\Ac"), Some(true));
+    let hir = parsed(&rt, rt.alloc(), r"a(?:)b\Ac");
+    assert!(rt; is_joined(&hir));
 }

@@ -1,5 +1,7 @@
 //! The literals of patterns, from their texts on.
 
+use crate::hir::boxed;
+use crate::rows::all_right;
 use rx_hir::Hir;
 use rx_literal::{
     Literal, Seq, is_look_free, longest_common_suffix, prefixes, prefixes_of, suffixes,
@@ -7,6 +9,7 @@ use rx_literal::{
 use rx_search::Memory;
 use rx_syntax::{parse, parse_many};
 use std::alloc::{AllocError, Global};
+use std::process::Abort;
 
 /// A pattern; its prefixes, and its suffixes, each in order, a star behind one that is inexact, and a dash where there are
 /// infinitely many; the longest common suffix, or a dash where there is none.
@@ -94,18 +97,16 @@ fn are_suffixes(alloc: Global, hir: &Hir, want: &[u8], common: &[u8]) -> bool {
 }
 
 /// Whether the row's pattern has its literals.
-fn is_told(alloc: Global, row: Row) -> bool {
+fn is_told(rt: &impl Abort, alloc: Global, row: Row) -> bool {
     let (pattern, first, last, common) = row;
-    match parse(alloc, pattern) {
-        Ok(hir) => { are_prefixes(alloc, &hir, first) && are_suffixes(alloc, &hir, last, common) }
-        Err(_) => false,
-    }
+    let hir = boxed(rt, alloc, parse(alloc, pattern).ok());
+    are_prefixes(alloc, &hir, first) && are_suffixes(alloc, &hir, last, common)
 }
 
 /// The number of the first of these rows whose pattern has other literals.
-fn first_wrong(alloc: Global, rows: &[Row]) -> Option<usize> {
+fn first_wrong(rt: &impl Abort, alloc: Global, rows: &[Row]) -> Option<usize> {
     for k in 0..rows.len() {
-        if !is_told(alloc, rows[k]) {
+        if !is_told(rt, alloc, rows[k]) {
             return Some(k);
         }
     }
@@ -114,22 +115,23 @@ fn first_wrong(alloc: Global, rows: &[Row]) -> Option<usize> {
 
 #[test]
 fn literals_of_patterns(rt: HostRuntime) {
-    assert_eq!(rt; first_wrong(rt.alloc(), &ROWS), None);
+    all_right(&rt, first_wrong(&rt, rt.alloc(), &ROWS));
 }
 
 /// Whether no look-around stands in the pattern.
-fn is_free(alloc: Global, pattern: &str) -> Option<bool> {
-    match parse(alloc, pattern) {
-        Ok(hir) => Some(is_look_free(&hir)),
-        Err(_) => None,
-    }
+fn is_free(rt: &impl Abort, alloc: Global, pattern: &str) -> bool {
+    let hir = boxed(rt, alloc, parse(alloc, pattern).ok());
+    is_look_free(&hir)
 }
 
 #[test]
 fn look_free(rt: HostRuntime) {
     let alloc = rt.alloc();
-    let free = [is_free(alloc, "[a-z]+Holmes"), is_free(alloc, "a$")];
-    assert!(rt; free == [Some(true), Some(false)]);
+    let free = (
+        is_free(&rt, alloc, "[a-z]+Holmes"),
+        is_free(&rt, alloc, "a$"),
+    );
+    assert!(rt; free == (true, false));
 }
 
 /// Whether literals were made, and are these.

@@ -1,5 +1,6 @@
 //! NFAs of patterns, of expressions, and those that are fixed.
 
+use crate::rows::all_right;
 use rx_hir::Hir;
 use rx_search::{Look, LookMatcher, LookSet, PatternID};
 use rx_syntax::{SyntaxError, SyntaxErrorKind};
@@ -46,18 +47,28 @@ fn first_wrong(alloc: Global, rows: &[Row]) -> Option<usize> {
 
 #[test]
 fn sizes_of_patterns(rt: HostRuntime) {
-    assert_eq!(rt; first_wrong(rt.alloc(), &ROWS), None);
+    all_right(&rt, first_wrong(rt.alloc(), &ROWS));
 }
 
 #[test]
-fn sizes_of_one_pattern_and_of_expressions(rt: HostRuntime) {
-    let alloc = rt.alloc();
-    let one = Compiler::new().build(alloc, "a");
-    assert_eq!(rt; sizes(one, 1), Some((2, 4, 256)));
-    let both = Compiler::new().build_many_from_hir(alloc, &[Hir::empty(), Hir::empty()]);
-    assert_eq!(rt; sizes(both, 2), Some((4, 7, 384)));
-    let one = Compiler::new().build_from_hir(alloc, &Hir::empty());
-    assert_eq!(rt; sizes(one, 1), Some((2, 3, 256)));
+fn sizes_of_one_pattern(rt: HostRuntime) {
+    let one = Compiler::new().build(rt.alloc(), "a");
+    assert!(rt; sizes(one, 1) == Some((2, 4, 256)));
+}
+
+/// The sizes of the NFA of one expression, and of that of both.
+fn sizes_of(alloc: Global, both: &[Hir; 2]) -> [Option<(usize, usize, usize)>; 2] {
+    let compiler = Compiler::new();
+    [
+        sizes(compiler.build_from_hir(alloc, &both[0]), 1),
+        sizes(compiler.build_many_from_hir(alloc, both), 2),
+    ]
+}
+
+#[test]
+fn sizes_of_expressions(rt: HostRuntime) {
+    let sizes = sizes_of(rt.alloc(), &[Hir::empty(), Hir::empty()]);
+    assert!(rt; sizes == [Some((2, 3, 256)), Some((4, 7, 384))]);
 }
 
 /// A compiler with this configuration.
@@ -212,36 +223,46 @@ fn fixed(built: Result<NFA, rx_search::Memory>) -> Option<(bool, bool, bool, usi
     }
 }
 
+/// The number of patterns of a copy.
+fn copied_patterns(nfa: &NFA) -> Option<usize> {
+    match nfa.clone() {
+        Ok(copy) => Some(copy.pattern_len()),
+        Err(_) => None,
+    }
+}
+
 /// The number of patterns of its copy.
 fn patterns_of_copy(built: Result<NFA, rx_search::Memory>) -> Option<usize> {
     match built {
-        Ok(nfa) => match nfa.clone() {
-            Ok(copy) => Some(copy.pattern_len()),
-            Err(_) => None,
-        },
+        Ok(nfa) => copied_patterns(&nfa),
         Err(_) => None,
     }
 }
 
 #[test]
 fn tells_of_the_fixed_automata(rt: HostRuntime) {
-    let alloc = rt.alloc();
+    let always = fixed(NFA::always_match(rt.alloc()));
+    let never = fixed(NFA::never_match(rt.alloc()));
     // 4, and 1 and 3 of the empty pattern.
-    assert!(rt; fixed(NFA::always_match(alloc)) == Some((true, true, false, 8)));
-    assert!(rt; fixed(NFA::never_match(alloc)) == Some((false, true, true, 4)));
-    assert_eq!(rt; patterns_of_copy(NFA::never_match(alloc)), Some(0));
+    assert!(rt; (always, never) == (Some((true, true, false, 8)), Some((false, true, true, 4))));
+    assert!(rt; patterns_of_copy(NFA::never_match(rt.alloc())) == Some(0));
+}
+
+/// Whether it is the start of a line.
+fn is_line_start(state: Option<&State>) -> bool {
+    match state {
+        Some(State::Look { look, .. }) => *look == Look::StartLF,
+        _ => false,
+    }
 }
 
 /// How many states there are, whether the third one is a look-around, whether it is the only kind, and the line terminator.
 fn line_start(nfa: &NFA) -> (usize, bool, bool, u8) {
-    let is_look = match nfa.states().get(2) {
-        Some(State::Look { look, .. }) => *look == Look::StartLF,
-        _ => false,
-    };
+    let only = LookSet::empty().insert(Look::StartLF);
     (
         nfa.states_len(),
-        is_look,
-        nfa.look_set_any() == LookSet::empty().insert(Look::StartLF),
+        is_line_start(nfa.states().get(2)),
+        nfa.look_set_any() == only,
         nfa.look_matcher().get_line_terminator(),
     )
 }
@@ -292,7 +313,9 @@ fn widest_choice(nfa: &NFA) -> usize {
 }
 
 /// By hand: a pattern, the states of its NFA that reads backwards (one accepts, and two just go on), and the most ways of a choice.
-const BACKWARDS: [(&str, usize, usize); 4] = [
+type Backwards = (&'static str, usize, usize);
+
+const BACKWARDS: [Backwards; 4] = [
     ("[é]", 5, 1),
     ("[\u{80}-\u{BF}\u{100}-\u{13F}]", 7, 2),
     ("[\u{80}-\u{BF}\u{101}]", 8, 2),
@@ -307,9 +330,18 @@ fn backwards(alloc: Global, pattern: &str) -> Option<(usize, usize)> {
     }
 }
 
+/// The number of the first of these rows whose NFA is otherwise.
+fn first_wrong_backwards(alloc: Global, rows: &[Backwards]) -> Option<usize> {
+    for k in 0..rows.len() {
+        let (pattern, states, widest) = rows[k];
+        if backwards(alloc, pattern) != Some((states, widest)) {
+            return Some(k);
+        }
+    }
+    None
+}
+
 #[test]
 fn ranges_of_a_class_share_their_last_bytes(rt: HostRuntime) {
-    for (pattern, states, widest) in BACKWARDS {
-        assert!(rt; backwards(rt.alloc(), pattern) == Some((states, widest)));
-    }
+    all_right(&rt, first_wrong_backwards(rt.alloc(), &BACKWARDS));
 }

@@ -1,11 +1,14 @@
 //! Alternations of many literals, and what is left of patterns without the literal that ends them.
 
+use crate::hir::{boxed, is_same};
+use crate::rows::all_right;
 use rx_hir::Hir;
 use rx_order::{alternation_literals, strip_literal_suffix};
 use rx_search::MatchKind;
 use rx_syntax::parse;
 use std::alloc::{AllocError, Global};
 use std::fmt::Write;
+use std::process::Abort;
 use std::slice;
 
 /// A pattern of so many alternatives, each `needle` and a number of five digits.
@@ -17,16 +20,22 @@ fn needles(alloc: Global, count: usize) -> Result<String, AllocError> {
     Ok(pattern)
 }
 
+/// Whether the literal of this number is this one.
+fn is_at(literals: &[Vec<u8>], number: usize, want: &str) -> bool {
+    match literals.get(number) {
+        Some(literal) => literal.as_slice() == want.as_bytes(),
+        None => false,
+    }
+}
+
 /// Whether the literals are the alternatives of the pattern, in order.
 fn are_all(pattern: &str, literals: &[Vec<u8>]) -> bool {
     let mut count: usize = 0;
     for alternative in pattern.split('|') {
-        match literals.get(count) {
-            Some(literal) if literal.as_slice() == alternative.as_bytes() => {
-                count = count.saturating_add(1);
-            }
-            _ => return false,
+        if !is_at(literals, count, alternative) {
+            return false;
         }
+        count = count.saturating_add(1);
     }
     count == literals.len()
 }
@@ -39,57 +48,65 @@ fn told(alloc: Global, kind: MatchKind, hir: &Hir, pattern: &str) -> Option<bool
     }
 }
 
-/// The same of the expression of a pattern.
-fn told_of(alloc: Global, kind: MatchKind, pattern: &str) -> Option<bool> {
-    match parse(alloc, pattern) {
-        Ok(hir) => told(alloc, kind, &hir, pattern),
-        Err(_) => None,
-    }
+/// The expression of a pattern.
+fn parsed(rt: &impl Abort, alloc: Global, pattern: &str) -> Box<Hir> {
+    boxed(rt, alloc, parse(alloc, pattern).ok())
 }
 
-/// The same of so many alternatives.
-fn told_of_needles(alloc: Global, kind: MatchKind, count: usize) -> Option<bool> {
-    match needles(alloc, count) {
-        Ok(pattern) => told_of(alloc, kind, &pattern),
-        Err(_) => None,
-    }
+/// Whether the literals of so many alternatives are these, if their pattern has some.
+fn told_of_needles(rt: &impl Abort, alloc: Global, kind: MatchKind, count: usize) -> Option<bool> {
+    let pattern = needles(alloc, count).ok().expect(rt, "memory");
+    let hir = parsed(rt, alloc, &pattern);
+    told(alloc, kind, &hir, &pattern)
 }
 
 #[test]
 fn three_thousand_literals_are_many(rt: HostRuntime) {
     let alloc = rt.alloc();
     let first = MatchKind::LeftmostFirst;
-    let found = [
-        told_of_needles(alloc, first, 2999),
-        told_of_needles(alloc, first, 3000),
-        told_of_needles(alloc, MatchKind::All, 3000),
-    ];
-    assert!(rt; found == [None, Some(true), None]);
+    let few = told_of_needles(&rt, alloc, first, 2999);
+    let many = told_of_needles(&rt, alloc, first, 3000);
+    let all = told_of_needles(&rt, alloc, MatchKind::All, 3000);
+    assert!(rt; (few, many, all) == (None, Some(true), None));
 }
 
 /// Whether what is left of an expression without the suffix is this one; None where nothing is left.
-fn is_left(alloc: Global, hir: &Hir, suffix: &[u8], want: &Hir) -> Option<bool> {
-    match strip_literal_suffix(alloc, hir, suffix) {
-        Ok(Some(rest)) => Some(rest == *want),
-        _ => None,
-    }
+fn is_left(rt: &impl Abort, alloc: Global, hir: &Hir, suffix: &[u8], want: &Hir) -> Option<bool> {
+    let stripped = strip_literal_suffix(alloc, hir, suffix).ok();
+    let rest = boxed(rt, alloc, Some(stripped.expect(rt, "memory")?));
+    Some(is_same(&rest, want))
 }
 
-/// The same of patterns.
-fn is_pattern_left(alloc: Global, pattern: &str, suffix: &[u8], want: &str) -> Option<bool> {
-    match (parse(alloc, pattern), parse(alloc, want)) {
-        (Ok(hir), Ok(want)) => is_left(alloc, &hir, suffix, &want),
-        _ => Some(false),
+/// A pattern, a suffix, a pattern for what is to be left, and whether something is left.
+type Row = (&'static str, &'static [u8], &'static str, bool);
+
+const ROWS: [Row; 3] = [
+    (".+(?:ab){2}cd", b"ababcd", ".+", true),
+    ("x(?:ab){2,}", b"bab", "x(?:ab)*a", true),
+    ("x(?:ab)*cd", b"abcd", "", false),
+];
+
+/// The same of the patterns of the row.
+fn is_pattern_left(rt: &impl Abort, alloc: Global, row: Row) -> Option<bool> {
+    let (pattern, suffix, want, _) = row;
+    let hir = parsed(rt, alloc, pattern);
+    let want = parsed(rt, alloc, want);
+    is_left(rt, alloc, &hir, suffix, &want)
+}
+
+/// The number of the first row of which something else is left, counted from 0.
+fn first_wrong(rt: &impl Abort, alloc: Global, rows: &[Row]) -> Option<usize> {
+    for k in 0..rows.len() {
+        let (_, _, _, is_some) = rows[k];
+        let wanted = if is_some { Some(true) } else { None };
+        if is_pattern_left(rt, alloc, rows[k]) != wanted {
+            return Some(k);
+        }
     }
+    None
 }
 
 #[test]
 fn copies_that_are_there_for_sure_are_taken_off(rt: HostRuntime) {
-    let alloc = rt.alloc();
-    let left = [
-        is_pattern_left(alloc, ".+(?:ab){2}cd", b"ababcd", ".+"),
-        is_pattern_left(alloc, "x(?:ab){2,}", b"bab", "x(?:ab)*a"),
-        is_pattern_left(alloc, "x(?:ab)*cd", b"abcd", ""),
-    ];
-    assert!(rt; left == [Some(true), Some(true), None]);
+    all_right(&rt, first_wrong(&rt, rt.alloc(), &ROWS));
 }

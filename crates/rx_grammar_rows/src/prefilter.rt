@@ -1,18 +1,20 @@
 //! Searches, worked out by hand, and what a prefilter says of itself.
 ghost use Rattle.std.specs.Prelude.{◌≤◌, length};
 
+use crate::rows::all_right;
 use rx_hir::Hir;
 use rx_prefilter::{Choice, Prefilter};
 use rx_search::{MatchKind, Memory, Span};
 use rx_syntax::parse_many;
 use std::alloc::{AllocError, Global};
+use std::process::Abort;
 
-/// Needles, parted by commas; a text; the part of it that is searched; and what is told of the search.
+/// Needles, parted by commas; a text; the part of it that is searched; and the kind of search, what `find` answers and what `prefix`
+/// answers.
 type Row = (&'static [u8], &'static [u8], usize, usize, &'static [u8]);
 
-/// Needles, parted by commas; a text; the part of it that is searched; and the kind of search, what `find` answers and
-/// what `prefix` answers.
-const ROWS: [Row; 50] = [
+/// Needles of one byte, and of one byte each.
+const ONE_BYTE: [Row; 9] = [
     (b"a", b"ba", 0, 2, b"memchr 1..2 -"),
     (b"a", b"ba", 1, 1, b"memchr - -"),
     (b"a", b"ba", 1, 2, b"memchr 1..2 1..2"),
@@ -22,11 +24,23 @@ const ROWS: [Row; 50] = [
     (b"b,a", b"xab", 2, 3, b"memchr2 2..3 2..3"),
     (b"c,b,a", b"xab", 1, 3, b"memchr3 1..2 1..2"),
     (b"c,b,a", b"xyz", 0, 3, b"memchr3 - -"),
+];
+
+/// One needle, and four bytes.
+const ONE: [Row; 9] = [
     (b"ab", b"xabab", 0, 5, b"memmem 1..3 -"),
     (b"ab", b"xabab", 2, 5, b"memmem 3..5 -"),
     (b"ab", b"xabab", 0, 2, b"memmem - -"),
     (b"ab", b"xabab", 1, 3, b"memmem 1..3 1..3"),
     (b"ab", b"xabab", 4, 5, b"memmem - -"),
+    (b"a,b,c,d", b"xxd", 0, 3, b"byteset 2..3 -"),
+    (b"a,b,c,d", b"xxd", 2, 3, b"byteset 2..3 2..3"),
+    (b"a,b,c,d", b"xxd", 0, 2, b"byteset - -"),
+    (b"a,b,c,a", b"xyz", 0, 3, b"byteset - -"),
+];
+
+/// Several needles that are longer.
+const MANY: [Row; 13] = [
     (b"foo,bar", b"xbarfoo", 0, 7, b"multi 1..4 -"),
     (b"foo,bar", b"xbarfoo", 1, 7, b"multi 1..4 1..4"),
     (b"foo,bar", b"xbarfoo", 2, 7, b"multi 4..7 -"),
@@ -40,6 +54,10 @@ const ROWS: [Row; 50] = [
     (b"abcd,bc", b"xabcx", 0, 5, b"multi 2..4 -"),
     (b"ba,ab", b"aab", 0, 3, b"multi 1..3 -"),
     (b"aba,bab", b"xbabab", 0, 6, b"multi 1..4 -"),
+];
+
+/// The same in texts that are longer.
+const MANY_IN_LONG: [Row; 8] = [
     (b"foo,fob", b"fxfxfxfxfxfxfob", 0, 15, b"multi 12..15 -"),
     (b"foo,fob", b"fxfxfxfxfxfxfob", 0, 14, b"multi - -"),
     (
@@ -78,10 +96,10 @@ const ROWS: [Row; 50] = [
         18,
         b"multi - -",
     ),
-    (b"a,b,c,d", b"xxd", 0, 3, b"byteset 2..3 -"),
-    (b"a,b,c,d", b"xxd", 2, 3, b"byteset 2..3 2..3"),
-    (b"a,b,c,d", b"xxd", 0, 2, b"byteset - -"),
-    (b"a,b,c,a", b"xyz", 0, 3, b"byteset - -"),
+];
+
+/// Needles of several lengths, and such that serve for nothing.
+const MIXED: [Row; 11] = [
     (b"ab,c", b"xcab", 0, 4, b"aho-corasick 1..2 -"),
     (b"ab,a", b"xab", 0, 3, b"aho-corasick 1..3 -"),
     (b"a,ab", b"xab", 0, 3, b"aho-corasick 1..2 -"),
@@ -166,11 +184,40 @@ fn first_wrong(alloc: Global, kind: MatchKind, rows: &[Row]) -> Option<usize> {
     None
 }
 
+/// The numbers of the first rows that are not told, where the matches go by preference, and where all of them are told.
+fn first_wrong_of_both(alloc: Global, rows: &[Row]) -> (Option<usize>, Option<usize>) {
+    let first = first_wrong(alloc, MatchKind::LeftmostFirst, rows);
+    (first, first_wrong(alloc, MatchKind::All, rows))
+}
+
+/// Fails where a row is wrong.
+fn both_right(rt: &impl Abort, alloc: Global, rows: &[Row]) {
+    assert_eq!(rt; first_wrong_of_both(alloc, rows), (None, None));
+}
+
 #[test]
-fn searches_by_hand(rt: HostRuntime) {
-    let alloc = rt.alloc();
-    assert_eq!(rt; first_wrong(alloc, MatchKind::LeftmostFirst, &ROWS), None);
-    assert_eq!(rt; first_wrong(alloc, MatchKind::All, &ROWS), None);
+fn needles_of_one_byte(rt: HostRuntime) {
+    both_right(&rt, rt.alloc(), &ONE_BYTE);
+}
+
+#[test]
+fn one_needle_and_a_set_of_bytes(rt: HostRuntime) {
+    both_right(&rt, rt.alloc(), &ONE);
+}
+
+#[test]
+fn several_needles(rt: HostRuntime) {
+    both_right(&rt, rt.alloc(), &MANY);
+}
+
+#[test]
+fn several_needles_in_longer_texts(rt: HostRuntime) {
+    both_right(&rt, rt.alloc(), &MANY_IN_LONG);
+}
+
+#[test]
+fn needles_of_several_lengths(rt: HostRuntime) {
+    both_right(&rt, rt.alloc(), &MIXED);
 }
 
 /// Patterns; a text; the part of it that is searched; what a prefilter of their prefixes tells as above, where the matches go by
@@ -281,15 +328,20 @@ fn first_wrong_prefix(alloc: Global, rows: &[PrefixRow]) -> Option<usize> {
 
 #[test]
 fn prefixes_by_hand(rt: HostRuntime) {
-    assert_eq!(rt; first_wrong_prefix(rt.alloc(), &PREFIX_ROWS), None);
+    all_right(&rt, first_wrong_prefix(rt.alloc(), &PREFIX_ROWS));
+}
+
+/// The three digits of a number.
+fn digits(alloc: Global, number: usize) -> Result<Vec<u8>, AllocError> {
+    let text = format!(in alloc; "{number:03}")?;
+    Vec::from_slice(alloc, text.as_bytes())
 }
 
 /// Needles of three digits, as many as this.
 fn numbers(alloc: Global, count: usize) -> Result<Vec<Vec<u8>>, AllocError> {
     let mut needles = Vec::new(alloc);
     for number in 0..count {
-        let text = format!(in alloc; "{number:03}")?;
-        needles.push(Vec::from_slice(alloc, text.as_bytes())?)?;
+        needles.push(digits(alloc, number)?)?;
     }
     Ok(needles)
 }
@@ -312,18 +364,29 @@ fn choice_and_start(alloc: Global, count: usize) -> Option<(Choice, Option<usize
 }
 
 /// How many needles there are, what the prefilter is, and where one begins in the text above.
-const COUNTS: [(usize, Choice, Option<usize>); 4] = [
+type Count = (usize, Choice, Option<usize>);
+
+const COUNTS: [Count; 4] = [
     (64, Choice::Multi, Some(1)),
     (63, Choice::Multi, None),
     (65, Choice::AhoCorasick, Some(1)),
     (1000, Choice::AhoCorasick, Some(1)),
 ];
 
+/// The number of the first of these rows that is told otherwise.
+fn first_wrong_count(alloc: Global, rows: &[Count]) -> Option<usize> {
+    for k in 0..rows.len() {
+        let (count, choice, start) = rows[k];
+        if choice_and_start(alloc, count) != Some((choice, start)) {
+            return Some(k);
+        }
+    }
+    None
+}
+
 #[test]
 fn many_needles(rt: HostRuntime) {
-    for (count, choice, start) in COUNTS {
-        assert!(rt; choice_and_start(rt.alloc(), count) == Some((choice, start)));
-    }
+    all_right(&rt, first_wrong_count(rt.alloc(), &COUNTS));
 }
 
 /// What a prefilter is, how long its longest needle is, and the bytes that are accounted for it.
@@ -354,13 +417,23 @@ fn told_of_both(
     }
 }
 
+/// Whether what was made is a prefilter of `foo` and `bar`.
+fn is_foo_or_bar(made: Result<Option<Prefilter>, Memory>) -> bool {
+    told_of_both(made) == Some([(Choice::Multi, true, 3, 6); 2])
+}
+
+/// Whether it is made of the needles, of two patterns, and of one.
+fn is_made(alloc: Global, kind: MatchKind) -> (bool, bool, bool) {
+    (
+        is_foo_or_bar(of_needles(alloc, kind, b"foo,bar")),
+        is_foo_or_bar(of_patterns(alloc, kind, &["foo", "bar"])),
+        is_foo_or_bar(of_patterns(alloc, kind, &["foo|bar"])),
+    )
+}
+
 #[test]
 fn a_prefilter_says_what_it_is(rt: HostRuntime) {
-    let alloc = rt.alloc();
-    let wanted = Some([(Choice::Multi, true, 3, 6); 2]);
-    for kind in [MatchKind::LeftmostFirst, MatchKind::All] {
-        assert!(rt; told_of_both(of_needles(alloc, kind, b"foo,bar")) == wanted);
-        assert!(rt; told_of_both(of_patterns(alloc, kind, &["foo", "bar"])) == wanted);
-        assert!(rt; told_of_both(of_patterns(alloc, kind, &["foo|bar"])) == wanted);
-    }
+    let first = is_made(rt.alloc(), MatchKind::LeftmostFirst);
+    let all = is_made(rt.alloc(), MatchKind::All);
+    assert!(rt; (first, all) == ((true, true, true), (true, true, true)));
 }

@@ -1,5 +1,6 @@
 //! Patterns that are refused: what is wrong, and where.
 
+use crate::rows::all_right;
 use rx_syntax::*;
 use std::alloc::Global;
 
@@ -8,8 +9,8 @@ type Row = (&'static str, SyntaxErrorKind, usize, usize);
 
 /// What the pattern is refused for.
 fn refusal(alloc: Global, pattern: &str, config: &Config) -> Option<SyntaxError> {
-    match parse_with(alloc, pattern, config) {
-        Err(ParseError::Syntax(error)) => Some(error),
+    match parse_with(alloc, pattern, config).err() {
+        Some(ParseError::Syntax(error)) => Some(error),
         _ => None,
     }
 }
@@ -53,9 +54,12 @@ const TRANSLATED: [Row; 9] = [
 
 #[test]
 fn what_is_wrong_and_where(rt: HostRuntime) {
-    let config = Config::new();
-    assert_eq!(rt; first_wrong(rt.alloc(), &config, &READ), None);
-    assert_eq!(rt; first_wrong(rt.alloc(), &config, &TRANSLATED), None);
+    all_right(&rt, first_wrong(rt.alloc(), &Config::new(), &READ));
+}
+
+#[test]
+fn what_cannot_be_translated_and_where(rt: HostRuntime) {
+    all_right(&rt, first_wrong(rt.alloc(), &Config::new(), &TRANSLATED));
 }
 
 /// Under a line terminator that is not ASCII.
@@ -66,16 +70,23 @@ const ODD: [Row; 3] = [
 ];
 
 #[test]
-fn a_configuration_refuses_and_lets_through(rt: HostRuntime) {
-    let alloc = rt.alloc();
+fn a_configuration_refuses(rt: HostRuntime) {
     let odd = Config::new().line_terminator(0xFF);
-    assert_eq!(rt; first_wrong(alloc, &odd, &ODD), None);
-    let let_through = [
-        refusal(alloc, "(?s).", &odd),
-        refusal(alloc, r"(?-u:[^\x80-\xFF])", &Config::new()),
-        refusal(alloc, "(?-u)[^a]", &Config::new().utf8(false)),
-    ];
-    assert!(rt; let_through == [None, None, None]);
+    all_right(&rt, first_wrong(rt.alloc(), &odd, &ODD));
+}
+
+/// Whether the pattern is not refused.
+fn is_let_through(alloc: Global, pattern: &str, config: &Config) -> bool {
+    refusal(alloc, pattern, config).is_none()
+}
+
+#[test]
+fn a_configuration_lets_through(rt: HostRuntime) {
+    let alloc = rt.alloc();
+    let odd = is_let_through(alloc, "(?s).", &Config::new().line_terminator(0xFF));
+    let ascii = is_let_through(alloc, r"(?-u:[^\x80-\xFF])", &Config::new());
+    let bytes = is_let_through(alloc, "(?-u)[^a]", &Config::new().utf8(false));
+    assert!(rt; odd && ascii && bytes);
 }
 
 /// That the pattern of this number is refused.
@@ -89,20 +100,32 @@ fn refused(
     Some(PatternsError::Syntax { pattern, error })
 }
 
+/// What refuses the patterns, where all are read before one is translated.
+fn refusal_of_all(alloc: Global, patterns: &[&str]) -> Option<PatternsError> {
+    parse_all(alloc, patterns, &Config::new()).err()
+}
+
 #[test]
 fn all_patterns_are_read_before_one_is_translated(rt: HostRuntime) {
-    let config = Config::new();
-    let error = parse_all(rt.alloc(), &["a", r"\p{Nope}", "b("], &config).err();
-    assert!(rt; error == refused(2, SyntaxErrorKind::UnclosedGroup, 1, 2));
-    let error = parse_all(rt.alloc(), &["a", r"\p{Nope}", "b"], &config).err();
-    assert!(rt; error == refused(1, SyntaxErrorKind::Property, 0, 8));
+    let unread = refusal_of_all(rt.alloc(), &["a", r"\p{Nope}", "b("]);
+    assert!(rt; unread == refused(2, SyntaxErrorKind::UnclosedGroup, 1, 2));
+    let read = refusal_of_all(rt.alloc(), &["a", r"\p{Nope}", "b"]);
+    assert!(rt; read == refused(1, SyntaxErrorKind::Property, 0, 8));
+}
+
+/// What refuses the patterns, where each is translated before the next one is read.
+fn refusal_of_each(alloc: Global, patterns: &[&str]) -> Option<PatternsError> {
+    parse_each(alloc, patterns, &Config::new()).err()
+}
+
+/// Whether the patterns are refused for what this one is.
+fn are_refused_for(alloc: Global, patterns: &[&str], pattern: &str) -> bool {
+    parse_many(alloc, patterns).err() == parse(alloc, pattern).err()
 }
 
 #[test]
 fn each_pattern_is_translated_before_the_next_is_read(rt: HostRuntime) {
-    let patterns = ["a", r"\p{Nope}", "b("];
-    let error = parse_each(rt.alloc(), &patterns, &Config::new()).err();
-    assert!(rt; error == refused(1, SyntaxErrorKind::Property, 0, 8));
-    let error = parse_many(rt.alloc(), &patterns).err();
-    assert!(rt; error == parse(rt.alloc(), r"\p{Nope}").err());
+    let refusal = refusal_of_each(rt.alloc(), &["a", r"\p{Nope}", "b("]);
+    assert!(rt; refusal == refused(1, SyntaxErrorKind::Property, 0, 8));
+    assert!(rt; are_refused_for(rt.alloc(), &["a", r"\p{Nope}", "b("], r"\p{Nope}"));
 }

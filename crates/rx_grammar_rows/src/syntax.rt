@@ -1,8 +1,9 @@
 //! Tests of translation. What patterns match is shown by `tests/`.
 
-use crate::hir::is_literal;
+use crate::hir::{boxed, is_literal};
 use rx_syntax::*;
 use std::alloc::Global;
+use std::process::Abort;
 
 /// Whether these are the two literals `a` and `b`.
 fn are_a_and_b(exprs: &[Hir]) -> bool {
@@ -29,36 +30,31 @@ fn is_choice(hir: &Hir) -> bool {
 }
 
 /// Whether `a|b` is that choice.
-fn is_choice_read(alloc: Global) -> bool {
-    match parse(alloc, "a|b") {
-        Ok(hir) => is_choice(&hir),
-        Err(_) => false,
-    }
+fn is_choice_read(rt: &impl Abort, alloc: Global) -> bool {
+    let hir = boxed(rt, alloc, parse(alloc, "a|b").ok());
+    is_choice(&hir)
 }
 
 /// Whether the tree is translated to that choice.
-fn is_translated(alloc: Global, tree: &Ast) -> bool {
-    match translate_with(alloc, tree, &Config::new()) {
-        Ok(hir) => is_choice(&hir),
-        Err(_) => false,
-    }
+fn is_translated(rt: &impl Abort, alloc: Global, tree: &Ast) -> bool {
+    let hir = translate_with(alloc, tree, &Config::new()).ok();
+    is_choice(&boxed(rt, alloc, hir))
 }
 
 /// Whether `a|b` is read, and then translated to that choice.
-fn is_read_and_translated(alloc: Global) -> bool {
-    match read_with(alloc, "a|b", &Config::new()) {
-        Ok(tree) => is_translated(alloc, &tree),
-        Err(_) => false,
-    }
+fn is_read_and_translated(rt: &impl Abort, alloc: Global) -> bool {
+    let read = read_with(alloc, "a|b", &Config::new()).ok();
+    let tree = read.expect(rt, "a tree");
+    let is_translated = is_translated(rt, alloc, &tree);
+    // (by a call, not part by part)
+    drop(tree);
+    is_translated
 }
 
 #[test]
 fn patterns_are_read_and_translated(rt: HostRuntime) {
     let alloc = rt.alloc();
-    let are_read = [
-        are_both_read(alloc),
-        is_choice_read(alloc),
-        is_read_and_translated(alloc),
-    ];
-    assert!(rt; are_read == [true, true, true]);
+    let are_both_read = are_both_read(alloc);
+    let is_choice_read = is_choice_read(&rt, alloc);
+    assert!(rt; are_both_read && is_choice_read && is_read_and_translated(&rt, alloc));
 }

@@ -2,19 +2,25 @@
 ghost use Rattle.std.specs.Prelude.{◌≡◌};
 ghost use Rattle.rx_meta.specs.Regex.{groups_in};
 
+use crate::rows::all_right;
 use rx_meta::{CapturesMatches, Config, FindMatches, Regex, Split, SplitN, WhichCaptures};
 use rx_search::{Captures, Input, Span};
 use std::alloc::Global;
 use std::process::Abort;
 use std::sync::Wait;
 
-/// The regex of these patterns under this configuration, in a box: so a function that ends lets it go by one call, and not part by part.
+/// The regex in a box: so a function that ends lets it go by one call, and not part by part. A cache, and an iterator, which has one, are let
+/// go by name, which is one call too.
+pub(crate) fn boxed(rt: &impl Abort, alloc: Global, regex: Option<Regex>) -> Box<Regex> {
+    let regex = regex.expect(rt, "a regex");
+    Box::new(alloc, regex).ok().expect(rt, "memory")
+}
+
+/// The regex of these patterns under this configuration.
 fn regex_of(rt: &impl Abort, alloc: Global, config: Config, patterns: &[&str]) -> Box<Regex> {
     let mut builder = Regex::builder();
     builder.configure(config);
-    let regex = builder.build_many(alloc, patterns).ok();
-    let boxed = Box::new(alloc, regex.expect(rt, "a regex")).ok();
-    boxed.expect(rt, "memory")
+    boxed(rt, alloc, builder.build_many(alloc, patterns).ok())
 }
 
 /// The text, from this place to that.
@@ -46,21 +52,24 @@ type Row = (
     &'static [(usize, usize)],
 );
 
-const MATCHES: [Row; 14] = [
+const MATCHES: [Row; 5] = [
     ("[a-zA-Z]+ing", "tingling", (0, 8), &[(0, 8)]),
+    ("a{2,3}?", "aaaa", (0, 4), &[(0, 2), (2, 4)]),
+    ("a", "xayaz", (2, 5), &[(3, 4)]),
+    ("^a|b", "aab", (0, 3), &[(0, 1), (2, 3)]),
+    ("c", "ab", (0, 2), &[]),
+];
+
+const EMPTY_MATCHES: [Row; 9] = [
     ("a*", "ba", (0, 2), &[(0, 0), (1, 2)]),
     ("a*", "", (0, 0), &[(0, 0)]),
     ("a*", "aab", (0, 3), &[(0, 2), (3, 3)]),
     ("a*", "☃", (0, 3), &[(0, 0), (3, 3)]),
     ("a*", "b", (0, 1), &[(0, 0), (1, 1)]),
     ("a*", "baab", (1, 3), &[(1, 3)]),
-    ("a{2,3}?", "aaaa", (0, 4), &[(0, 2), (2, 4)]),
     ("", "a☃", (0, 4), &[(0, 0), (1, 1), (4, 4)]),
     ("", "a☃", (2, 3), &[]),
-    ("a", "xayaz", (2, 5), &[(3, 4)]),
-    ("^a|b", "aab", (0, 3), &[(0, 1), (2, 3)]),
     (r"\b", "ab cd", (0, 5), &[(0, 0), (2, 2), (3, 3), (5, 5)]),
-    ("c", "ab", (0, 2), &[]),
 ];
 
 const MATCHES_INSIDE_CHARACTERS: [Row; 4] = [
@@ -70,7 +79,7 @@ const MATCHES_INSIDE_CHARACTERS: [Row; 4] = [
     (r"(?-u:\B)", "☃", (0, 3), &[(0, 0), (1, 1), (2, 2), (3, 3)]),
 ];
 
-const GAPS: [Row; 10] = [
+const GAPS: [Row; 7] = [
     (",", "a,b,c", (0, 5), &[(0, 1), (2, 3), (4, 5)]),
     (",", "a,b", (1, 2), &[(0, 1), (2, 3)]),
     (",", "a,b", (0, 1), &[(0, 3)]),
@@ -78,6 +87,9 @@ const GAPS: [Row; 10] = [
     (",", "", (0, 0), &[(0, 0)]),
     (",", ",", (0, 1), &[(0, 0), (1, 1)]),
     (",", "ab", (0, 2), &[(0, 2)]),
+];
+
+const GAPS_OF_ANY_LENGTH: [Row; 3] = [
     ("", "ab", (0, 2), &[(0, 0), (0, 1), (1, 2), (2, 2)]),
     ("", "☃", (0, 3), &[(0, 0), (0, 3), (3, 3)]),
     (r"\s*,\s*", "a , ,b", (0, 6), &[(0, 1), (4, 4), (5, 6)]),
@@ -161,7 +173,7 @@ fn gives_pieces(pieces: &mut SplitN<'_, '_>, limit: usize, spans: &[(usize, usiz
 }
 
 /// How many matches the iterator counts.
-fn count_matches<R: Abort + Wait>(
+pub(crate) fn count_matches<R: Abort + Wait>(
     rt: &R,
     alloc: Global,
     regex: &Regex,
@@ -186,7 +198,7 @@ fn are_matches<R: Abort + Wait>(
 }
 
 /// How many captures the iterator counts.
-fn count_captures<R: Abort + Wait>(
+pub(crate) fn count_captures<R: Abort + Wait>(
     rt: &R,
     alloc: Global,
     regex: &Regex,
@@ -241,13 +253,18 @@ fn first_wrong<R: Abort + Wait>(
 
 #[test]
 fn matches_come_one_after_another(rt: HostRuntime) {
-    assert_eq!(rt; first_wrong(&rt, rt.alloc(), true, &MATCHES), None);
+    all_right(&rt, first_wrong(&rt, rt.alloc(), true, &MATCHES));
+}
+
+#[test]
+fn empty_matches_come_one_after_another(rt: HostRuntime) {
+    all_right(&rt, first_wrong(&rt, rt.alloc(), true, &EMPTY_MATCHES));
 }
 
 #[test]
 fn matches_may_lie_inside_a_character(rt: HostRuntime) {
     let wrong = first_wrong(&rt, rt.alloc(), false, &MATCHES_INSIDE_CHARACTERS);
-    assert_eq!(rt; wrong, None);
+    all_right(&rt, wrong);
 }
 
 /// Whether the split gives the gaps of the row.
@@ -273,7 +290,13 @@ fn first_wrong_split<R: Abort + Wait>(rt: &R, alloc: Global, rows: &[Row]) -> Op
 
 #[test]
 fn gaps_lie_between_matches(rt: HostRuntime) {
-    assert_eq!(rt; first_wrong_split(&rt, rt.alloc(), &GAPS), None);
+    all_right(&rt, first_wrong_split(&rt, rt.alloc(), &GAPS));
+}
+
+#[test]
+fn gaps_lie_between_matches_of_any_length(rt: HostRuntime) {
+    let wrong = first_wrong_split(&rt, rt.alloc(), &GAPS_OF_ANY_LENGTH);
+    all_right(&rt, wrong);
 }
 
 /// Whether the split of `a,b,c` at commas into at most so many pieces gives these.
@@ -294,14 +317,31 @@ fn is_split_into<R: Abort + Wait>(
     is_split
 }
 
+/// A number of pieces, and the spans of them that are to be given.
+type Pieces = (usize, &'static [(usize, usize)]);
+
+const PIECES: [Pieces; 5] = [
+    (0, &[]),
+    (1, &[(0, 5)]),
+    (2, &[(0, 1), (2, 5)]),
+    (3, &[(0, 1), (2, 3), (4, 5)]),
+    (9, &[(0, 1), (2, 3), (4, 5)]),
+];
+
+/// The number of the first row of which the split gives other pieces.
+fn first_wrong_pieces<R: Abort + Wait>(rt: &R, alloc: Global, rows: &[Pieces]) -> Option<usize> {
+    for k in 0..rows.len() {
+        let (limit, spans) = rows[k];
+        if !is_split_into(rt, alloc, limit, spans) {
+            return Some(k);
+        }
+    }
+    None
+}
+
 #[test]
 fn a_split_has_so_many_pieces_at_most(rt: HostRuntime) {
-    let alloc = rt.alloc();
-    assert!(rt; is_split_into(&rt, alloc, 0, &[]));
-    assert!(rt; is_split_into(&rt, alloc, 1, &[(0, 5)]));
-    assert!(rt; is_split_into(&rt, alloc, 2, &[(0, 1), (2, 5)]));
-    assert!(rt; is_split_into(&rt, alloc, 3, &[(0, 1), (2, 3), (4, 5)]));
-    assert!(rt; is_split_into(&rt, alloc, 9, &[(0, 1), (2, 3), (4, 5)]));
+    all_right(&rt, first_wrong_pieces(&rt, rt.alloc(), &PIECES));
 }
 
 /// Where the next search begins: at first, after a match, and after none.
@@ -351,7 +391,10 @@ fn of_matches<R: Abort + Wait>(
     input: &Input<'_>,
 ) -> (Places, usize) {
     let mut matches = regex.find_iter(rt, alloc, input).ok().expect(rt, "memory");
-    (searched_from(&mut matches), matches.regex().pattern_len())
+    let places = searched_from(&mut matches);
+    let patterns = matches.regex().pattern_len();
+    drop(matches);
+    (places, patterns)
 }
 
 /// The places of `captures_iter`, and how many patterns its regex has.
@@ -365,13 +408,18 @@ fn of_captures<R: Abort + Wait>(
         .captures_iter(rt, alloc, input)
         .ok()
         .expect(rt, "memory");
-    (captured_from(&mut matches), matches.regex().pattern_len())
+    let places = captured_from(&mut matches);
+    let patterns = matches.regex().pattern_len();
+    drop(matches);
+    (places, patterns)
 }
 
 /// The places of `split`.
 fn of_gaps<R: Abort + Wait>(rt: &R, alloc: Global, regex: &Regex, input: &Input<'_>) -> Places {
     let mut gaps = regex.split(rt, alloc, input).ok().expect(rt, "memory");
-    split_from(&mut gaps)
+    let places = split_from(&mut gaps);
+    drop(gaps);
+    places
 }
 
 /// The places of `splitn` up to one piece.
@@ -382,7 +430,9 @@ fn of_one_piece<R: Abort + Wait>(
     input: &Input<'_>,
 ) -> Places {
     let mut pieces = regex.splitn(rt, alloc, input, 1).ok().expect(rt, "memory");
-    pieces_from(&mut pieces)
+    let places = pieces_from(&mut pieces);
+    drop(pieces);
+    places
 }
 
 /// Those of the four iterators, over matches, captures, gaps and one piece, and how many patterns the regex of the first two has.
@@ -403,9 +453,8 @@ fn of_each<R: Abort + Wait>(
 fn an_iterator_tells_where_it_searches(rt: HostRuntime) {
     let regex = regex_of(&rt, rt.alloc(), Config::new(), &["b", "ab"]);
     let input = Input::new(b"xxabx").range(1..5);
-    let (places, patterns, again) = of_each(&rt, rt.alloc(), &regex, &input);
-    assert!(rt; places == [(1, 4, 4), (1, 4, 4), (1, 4, 4), (1, 1, 1)]);
-    assert!(rt; (patterns, again) == (2, 2));
+    let places = [(1, 4, 4), (1, 4, 4), (1, 4, 4), (1, 1, 1)];
+    assert!(rt; of_each(&rt, rt.alloc(), &regex, &input) == (places, 2, 2));
 }
 
 const SETTINGS: [&str; 4] = [
@@ -523,6 +572,7 @@ fn held_with(
     let mut cache = regex.create_cache(alloc).ok().expect(rt, "memory");
     let _before = regex.search_captures_with(&mut cache, &Input::new(b"ab"), captures);
     let _now = regex.search_captures_with(&mut cache, input, captures);
+    drop(cache);
     held(captures)
 }
 
@@ -579,7 +629,9 @@ fn held_under<R: Abort + Wait>(
 }
 
 /// A kind of captures, a text, and what is held after its search.
-const HELD: [(WhichCaptures, &str, Held); 6] = [
+type HeldRow = (WhichCaptures, &'static str, Held);
+
+const HELD: [HeldRow; 6] = [
     (WhichCaptures::All, "xb", (None, None, None)),
     (WhichCaptures::Implicit, "xb", (None, None, None)),
     (
@@ -596,12 +648,20 @@ const HELD: [(WhichCaptures, &str, Held); 6] = [
     (WhichCaptures::None, "xab", (None, None, None)),
 ];
 
+/// The number of the first of these rows of which something else is held.
+fn first_held_wrong<R: Abort + Wait>(rt: &R, alloc: Global, rows: &[HeldRow]) -> Option<usize> {
+    for k in 0..rows.len() {
+        let (which, text, wanted) = rows[k];
+        if held_under(rt, alloc, which, text) != Some(wanted) {
+            return Some(k);
+        }
+    }
+    None
+}
+
 #[test]
 fn captures_hold_what_a_search_tells(rt: HostRuntime) {
-    for (which, text, wanted) in HELD {
-        let held = held_under(&rt, rt.alloc(), which, text);
-        assert!(rt; held == Some(wanted));
-    }
+    all_right(&rt, first_held_wrong(&rt, rt.alloc(), &HELD));
 }
 
 /// What is known of the groups of these patterns: how many there are, and how many are told of each match.
@@ -612,8 +672,8 @@ fn counted(rt: &impl Abort, alloc: Global, patterns: &[&str]) -> (usize, Option<
 
 #[test]
 fn groups_are_counted(rt: HostRuntime) {
-    let alloc = rt.alloc();
-    assert!(rt; counted(&rt, alloc, &["a(b)?"]) == (2, None));
-    assert!(rt; counted(&rt, alloc, &["(a)(b)", "(a)|b(c)", "a"]) == (7, None));
-    assert!(rt; counted(&rt, alloc, &["(a)|(b)", "(?<k>a)"]) == (5, Some(2)));
+    let one = counted(&rt, rt.alloc(), &["a(b)?"]);
+    let three = counted(&rt, rt.alloc(), &["(a)(b)", "(a)|b(c)", "a"]);
+    let two = counted(&rt, rt.alloc(), &["(a)|(b)", "(?<k>a)"]);
+    assert!(rt; (one, three, two) == ((2, None), (7, None), (5, Some(2))));
 }

@@ -5,3 +5,5 @@
 mod iterators;
 #[cfg(test)]
 mod pool;
+#[cfg(test)]
+mod rows;

@@ -1,17 +1,16 @@
 //! Tests of the caches that the searches of a regex share.
 
+use crate::iterators::{boxed, count_captures, count_matches};
 use rx_meta::Regex;
-use rx_search::{Input, Memory};
+use rx_search::Input;
 use std::alloc::Global;
 use std::process::Abort;
 use std::sync::Wait;
 use std::thread::{Threads, join};
 
-/// The regex of the pattern, in a box (`iterators::regex_of`).
+/// The regex of the pattern.
 fn regex_of(rt: &impl Abort, alloc: Global, pattern: &str) -> Box<Regex> {
-    let regex = Regex::new(alloc, pattern).ok();
-    let boxed = Box::new(alloc, regex.expect(rt, "a regex")).ok();
-    boxed.expect(rt, "memory")
+    boxed(rt, alloc, Regex::new(alloc, pattern).ok())
 }
 
 /// Whether each of two texts is told right: there is no match in the first one.
@@ -34,26 +33,40 @@ fn both_right<R: Threads + Wait + Sync>(rt: &R, alloc: Global, regex: &Regex) ->
 fn two_threads_search_with_one_regex(rt: HostRuntime) {
     let alloc = rt.alloc();
     let regex = regex_of(&rt, alloc, "[a-z]+[0-9]");
-    assert_eq!(rt; both_right(&rt, alloc, &regex), (true, true));
+    assert!(rt; both_right(&rt, alloc, &regex) == (true, true));
 }
 
-/// How many matches two iterators of one regex find, where one is counted while the other stands after its first match and
-/// is finished, and how many one of a clone finds then.
-fn in_turn<R: Wait>(rt: &R, alloc: Global, regex: &Regex) -> Result<(usize, usize), Memory> {
-    let input = Input::new(b"a1 b2 c3");
-    let mut first = regex.find_iter(rt, alloc, &input)?;
+/// How many matches an iterator counts while another one of the regex stands after its first match.
+fn count_meanwhile<R: Abort + Wait>(
+    rt: &R,
+    alloc: Global,
+    regex: &Regex,
+    input: &Input<'_>,
+) -> Option<usize> {
+    let mut first = regex.find_iter(rt, alloc, input).ok().expect(rt, "memory");
     let _found = first.next();
-    let second = regex.find_iter(rt, alloc, &input)?;
-    let count = second.count(rt)?;
+    let count = count_matches(rt, alloc, regex, input);
     first.finish(rt);
-    let clone = regex.clone()?;
-    let third = clone.captures_iter(rt, alloc, &input)?;
-    Ok((count, third.count(rt)?))
+    count
+}
+
+/// How many captures one of a clone counts.
+fn count_by_clone<R: Abort + Wait>(
+    rt: &R,
+    alloc: Global,
+    regex: &Regex,
+    input: &Input<'_>,
+) -> Option<usize> {
+    let clone = boxed(rt, alloc, regex.clone().ok());
+    count_captures(rt, alloc, &clone, input)
 }
 
 #[test]
 fn iterators_have_a_cache_each(rt: HostRuntime) {
     let alloc = rt.alloc();
     let regex = regex_of(&rt, alloc, "([a-z])([0-9])");
-    assert_eq!(rt; in_turn(&rt, alloc, &regex).ok(), Some((3, 3)));
+    let input = Input::new(b"a1 b2 c3");
+    let meanwhile = count_meanwhile(&rt, alloc, &regex, &input);
+    let clone = count_by_clone(&rt, alloc, &regex, &input);
+    assert!(rt; (meanwhile, clone) == (Some(3), Some(3)));
 }

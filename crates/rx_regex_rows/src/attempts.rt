@@ -5,7 +5,8 @@ ghost use Rattle.rx_meta.specs.Cache.{Fits};
 use crate::dfas::{
     FULL, LAZY, NOTHING, Row, Sort, found_with, input_from, span_of, told_with, with_alone,
 };
-use crate::regex::{cache_of, configured};
+use crate::regex::{cache_of, configured, made_over};
+use crate::rows::all_right;
 use rx_meta::{
     Cache, Config, Quadratic, Regex, RetryError, reverse_inner_attempt, reverse_suffix_attempt,
 };
@@ -162,7 +163,7 @@ fn first_wrong_attempt(rt: &impl Abort, alloc: Global, rows: &[Attempt]) -> Opti
 
 #[test]
 fn attempts_tell_what_they_meet(rt: HostRuntime) {
-    assert_eq!(rt; first_wrong_attempt(&rt, rt.alloc(), &ATTEMPTS), None);
+    all_right(&rt, first_wrong_attempt(&rt, rt.alloc(), &ATTEMPTS));
 }
 
 /// The text so many times.
@@ -186,9 +187,10 @@ fn steps_of(rt: &impl Abort, alloc: Global, pattern: &str, text: &[u8], count: u
 #[test]
 fn attempts_take_few_steps(rt: HostRuntime) {
     let alloc = rt.alloc();
-    assert!(rt; steps_of(&rt, alloc, "[a-q][^u-z]{13}x", b"x", 1000) <= 8008);
-    assert!(rt; steps_of(&rt, alloc, r"\w+\s+Holmes", b" Holmes", 100) <= 5608);
-    assert!(rt; steps_of(&rt, alloc, "[a-z]+@[a-z@]+[0-9]", b"a@", 500) <= 8008);
+    let one = steps_of(&rt, alloc, "[a-q][^u-z]{13}x", b"x", 1000);
+    let two = steps_of(&rt, alloc, r"\w+\s+Holmes", b" Holmes", 100);
+    let three = steps_of(&rt, alloc, "[a-z]+@[a-z@]+[0-9]", b"a@", 500);
+    assert!(rt; one <= 8008 && two <= 5608 && three <= 8008);
 }
 
 /// A match is found where an attempt gives up.
@@ -199,7 +201,7 @@ fn a_search_goes_on_where_an_attempt_gives_up(rt: HostRuntime) {
     let mut cache = cache_of(&rt, alloc, &regex);
     let text = times(&rt, alloc, b" Holmes", 100);
     let found = found_with(&rt, &regex, &mut cache, &Input::new(&text));
-    assert_eq!(rt; found, Some((1, 14)));
+    assert!(rt; found == Some((1, 14)));
 }
 
 const ROWS: [Row; 9] = [
@@ -288,38 +290,52 @@ fn first_wrong<R: Abort + Wait>(rt: &R, alloc: Global, rows: &[Row]) -> Option<u
 
 #[test]
 fn rows_by_candidates(rt: HostRuntime) {
-    assert_eq!(rt; first_wrong(&rt, rt.alloc(), &ROWS), None);
+    all_right(&rt, first_wrong(&rt, rt.alloc(), &ROWS));
 }
 
-/// What is found with a cache of the first pattern that is reset for the second one.
-fn found_over(
-    rt: &impl Abort,
-    alloc: Global,
-    first: &str,
-    second: &str,
-    text: &[u8],
-) -> Option<(usize, usize)> {
-    let first = configured(rt, alloc, Config::new(), first);
-    let second = configured(rt, alloc, Config::new(), second);
-    let mut cache = cache_of(rt, alloc, &first);
-    cache.reset(alloc, &second).ok().expect(rt, "memory");
-    found_with(rt, &second, &mut cache, &Input::new(text))
+/// A pattern, and the span of its match in `a foo b@c`.
+type Strategy = (&'static str, (usize, usize));
+
+/// Each has a strategy of its own.
+const STRATEGIES: [Strategy; 5] = [
+    ("foo", (2, 5)),
+    ("[a-z]+", (0, 1)),
+    ("[a-z]+$", (8, 9)),
+    (r"\w+\s+foo", (0, 5)),
+    (r"\w+@\w+", (6, 9)),
+];
+
+/// Whether a cache of the regex that is reset for the pattern finds its match.
+fn is_found_over(rt: &impl Abort, alloc: Global, first: &Regex, row: Strategy) -> bool {
+    let (pattern, wanted) = row;
+    let second = configured(rt, alloc, Config::new(), pattern);
+    let mut cache = made_over(rt, alloc, first, &second);
+    found_with(rt, &second, &mut cache, &Input::new(b"a foo b@c")) == Some(wanted)
+}
+
+/// Whether that is so of the pattern with each of these.
+fn is_found_over_each(rt: &impl Abort, alloc: Global, pattern: &str, rows: &[Strategy]) -> bool {
+    let first = configured(rt, alloc, Config::new(), pattern);
+    for k in 0..rows.len() {
+        if !is_found_over(rt, alloc, &first, rows[k]) {
+            return false;
+        }
+    }
+    true
+}
+
+/// The number of the first of these patterns of which that is not so.
+fn first_wrong_over(rt: &impl Abort, alloc: Global, rows: &[Strategy]) -> Option<usize> {
+    for k in 0..rows.len() {
+        let (pattern, _) = rows[k];
+        if !is_found_over_each(rt, alloc, pattern, rows) {
+            return Some(k);
+        }
+    }
+    None
 }
 
 #[test]
 fn a_cache_is_reset_from_one_strategy_to_another(rt: HostRuntime) {
-    let alloc = rt.alloc();
-    let patterns = ["foo", "[a-z]+", r"[a-z]+$", r"\w+\s+foo", r"\w+@\w+"];
-    for first in patterns {
-        for (second, wanted) in [
-            ("foo", (2, 5)),
-            ("[a-z]+", (0, 1)),
-            ("[a-z]+$", (8, 9)),
-            (r"\w+\s+foo", (0, 5)),
-            (r"\w+@\w+", (6, 9)),
-        ] {
-            let found = found_over(&rt, alloc, first, second, b"a foo b@c");
-            assert_eq!(rt; found, Some(wanted));
-        }
-    }
+    all_right(&rt, first_wrong_over(&rt, rt.alloc(), &STRATEGIES));
 }

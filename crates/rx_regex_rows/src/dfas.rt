@@ -2,6 +2,7 @@
 ghost use Rattle.rx_meta.specs.Cache.{Fits};
 
 use crate::regex::{cache_of, configured, handing_in, place_at};
+use crate::rows::all_right;
 use crate::sets::set_of;
 use rx_meta::{Cache, Config, Regex};
 use rx_search::{Anchored, Input, Match, MatchKind, Span};
@@ -225,19 +226,19 @@ fn first_wrong<R: Abort + Wait>(rt: &R, alloc: Global, sort: Sort, rows: &[Row])
     None
 }
 
-#[test]
-fn rows_by_full_dfas(rt: HostRuntime) {
-    assert_eq!(rt; first_wrong(&rt, rt.alloc(), FULL, &ROWS), None);
+/// The same of full DFAs, of lazy ones, and without DFAs.
+fn first_wrong_of_each<R: Abort + Wait>(rt: &R, alloc: Global, rows: &[Row]) -> [Option<usize>; 3] {
+    [
+        first_wrong(rt, alloc, FULL, rows),
+        first_wrong(rt, alloc, LAZY, rows),
+        first_wrong(rt, alloc, NONE, rows),
+    ]
 }
 
 #[test]
-fn rows_by_lazy_dfas(rt: HostRuntime) {
-    assert_eq!(rt; first_wrong(&rt, rt.alloc(), LAZY, &ROWS), None);
-}
-
-#[test]
-fn rows_without_dfas(rt: HostRuntime) {
-    assert_eq!(rt; first_wrong(&rt, rt.alloc(), NONE, &ROWS), None);
+fn rows_by_each_sort_of_dfas(rt: HostRuntime) {
+    let wrong = first_wrong_of_each(&rt, rt.alloc(), &ROWS);
+    assert!(rt; wrong == [None, None, None]);
 }
 
 /// The span of the match, and whether the search for its end makes states of a lazy DFA, and that for its start more of them.
@@ -319,7 +320,7 @@ fn each_sort_of_dfas_serves(rt: HostRuntime) {
     for (sort, wanted) in [(FULL, (1, 2)), (LAZY, (1, 2)), (NONE, (2, 4))] {
         let config = seeking(&rt, alloc, sort, b"a");
         let found = found_by(&rt, alloc, config, "ab|c", &input);
-        assert_eq!(rt; found, Some(wanted));
+        assert!(rt; found == Some(wanted));
     }
 }
 
@@ -330,10 +331,9 @@ fn each_sort_of_dfas_asks_for_candidates(rt: HostRuntime) {
     let input = Input::new(b"ab");
     for sort in [FULL, LAZY] {
         let config = seeking(&rt, alloc, sort, b"b");
-        let found = found_by(&rt, alloc, config, "a|b", &input);
-        assert_eq!(rt; found, Some((1, 2)));
+        let sought = found_by(&rt, alloc, config, "a|b", &input);
         let found = found_by(&rt, alloc, alone(sort), "a|b", &input);
-        assert_eq!(rt; found, Some((0, 1)));
+        assert!(rt; (sought, found) == (Some((1, 2)), Some((0, 1))));
     }
 }
 
@@ -345,7 +345,7 @@ fn the_backtracker_serves_without_dfas(rt: HostRuntime) {
     for (backtrack, wanted) in [(true, (0, 3)), (false, (0, 1))] {
         let config = alone(NONE).backtrack(backtrack);
         let found = found_by(&rt, alloc, config, "a+", &input);
-        assert_eq!(rt; found, Some(wanted));
+        assert!(rt; found == Some(wanted));
     }
 }
 
@@ -444,7 +444,7 @@ fn first_unseen(rt: &impl Abort, alloc: Global, rows: &[Candidate]) -> Option<us
 /// search for its span.
 #[test]
 fn lazy_dfas_read_where_a_candidate_lies(rt: HostRuntime) {
-    assert_eq!(rt; first_unseen(&rt, rt.alloc(), &CANDIDATES), None);
+    all_right(&rt, first_unseen(&rt, rt.alloc(), &CANDIDATES));
 }
 
 /// The bytes that are accounted for a regex of this sort of DFAs.
@@ -483,11 +483,12 @@ fn a_lazy_dfa_of_the_least_capacity(rt: HostRuntime) {
 }
 
 /// A copy of the cache.
-fn copy_of(rt: &impl Abort, alloc: Global, regex: &Regex, cache: &Cache) -> Cache
+fn copy_of(rt: &impl Abort, alloc: Global, regex: &Regex, cache: &Cache) -> Box<Cache>
     requires { Fits regex.now cache.now }
-    ensures { Fits regex.now result }
+    ensures { Fits regex.now result.value }
 {
-    cache.clone(alloc).ok().expect(rt, "a cache")
+    let copy = cache.clone(alloc).ok().expect(rt, "a cache");
+    Box::new(alloc, copy).ok().expect(rt, "memory")
 }
 
 /// What the cache tells of `xab`, what its copy tells then, and the bytes that are accounted for the copy at first.

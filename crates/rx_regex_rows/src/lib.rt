@@ -10,6 +10,8 @@ mod onepass;
 #[cfg(test)]
 mod regex;
 #[cfg(test)]
+mod rows;
+#[cfg(test)]
 mod sets;
 #[cfg(test)]
 mod strategies;

@@ -1,6 +1,7 @@
 //! What a regex tells with its one-pass DFA, and without it.
 
 use crate::regex::{cache_of, configured, made_over, matches_in, place_at, told_by};
+use crate::rows::all_right;
 use rx_meta::{Config, Regex};
 use rx_search::{Anchored, Input, MatchKind, NonMaxUsize};
 use std::alloc::Global;
@@ -71,7 +72,7 @@ fn first_wrong<R: Abort + Wait>(rt: &R, alloc: Global, rows: &[Row]) -> Option<u
 
 #[test]
 fn a_one_pass_dfa_changes_no_answer(rt: HostRuntime) {
-    assert_eq!(rt; first_wrong(&rt, rt.alloc(), &ROWS), None);
+    all_right(&rt, first_wrong(&rt, rt.alloc(), &ROWS));
 }
 
 /// What is accounted for the regex of the pattern under this configuration, and for a cache of it.
@@ -91,20 +92,44 @@ fn added(rt: &impl Abort, alloc: Global, pattern: &str, limit: Option<usize>) ->
     (regex.saturating_sub(less), cache.saturating_sub(room))
 }
 
+/// A pattern, a limit of size, and what a one-pass DFA adds.
+type Addition = (&'static str, Option<usize>, (usize, usize));
+
+const ADDITIONS: [Addition; 6] = [
+    // Three rows of four cells, and a start of all patterns and one of each; two slots.
+    ("(a)", None, (8 * 3 * 4 + 4 * 2, 8 * 2)),
+    ("(a)", Some(104), (104, 16)),
+    ("(a)", Some(103), (0, 0)),
+    // Without groups.
+    ("a", None, (0, 0)),
+    (r"(?-u:\b)a", None, (0, 0)),
+    // It is not one-pass.
+    ("(a*)a", None, (0, 0)),
+];
+
+/// The number of the first of these patterns to which something else is added.
+fn first_wrong_addition(rt: &impl Abort, alloc: Global, rows: &[Addition]) -> Option<usize> {
+    for k in 0..rows.len() {
+        let (pattern, limit, wanted) = rows[k];
+        if added(rt, alloc, pattern, limit) != wanted {
+            return Some(k);
+        }
+    }
+    None
+}
+
 #[test]
 fn a_one_pass_dfa_is_there_where_it_is_wanted(rt: HostRuntime) {
-    let alloc = rt.alloc();
-    // Three rows of four cells, and a start of all patterns and one of each; two slots.
-    assert_eq!(rt; added(&rt, alloc, "(a)", None), (8 * 3 * 4 + 4 * 2, 8 * 2));
-    assert_eq!(rt; added(&rt, alloc, "(a)", Some(104)), (104, 16));
-    assert_eq!(rt; added(&rt, alloc, "(a)", Some(103)), (0, 0));
-    // Without groups, but for a Unicode word boundary.
-    assert_eq!(rt; added(&rt, alloc, "a", None), (0, 0));
-    assert_eq!(rt; added(&rt, alloc, r"(?-u:\b)a", None), (0, 0));
-    assert!(rt; added(&rt, alloc, r"\ba", None).0 > 0);
-    assert!(rt; added(&rt, alloc, r"\Ba", None).0 > 0);
-    // It is not one-pass.
-    assert_eq!(rt; added(&rt, alloc, "(a*)a", None), (0, 0));
+    all_right(&rt, first_wrong_addition(&rt, rt.alloc(), &ADDITIONS));
+}
+
+/// Without groups there is one for a Unicode word boundary.
+#[test]
+fn a_one_pass_dfa_is_there_for_words(rt: HostRuntime) {
+    for pattern in [r"\ba", r"\Ba"] {
+        let (regex, _) = added(&rt, rt.alloc(), pattern, None);
+        assert!(rt; regex > 0);
+    }
 }
 
 /// The end of the match of `(a)(b)??` in the input, under `All`.
@@ -121,7 +146,7 @@ fn farthest(rt: &impl Abort, alloc: Global, config: Config, input: &Input<'_>) -
 fn under_all_it_tells_the_farthest_end(rt: HostRuntime) {
     let input = Input::new(b"ab").anchored(Anchored::Yes);
     let once = farthest(&rt, rt.alloc(), without(false, true), &input);
-    assert_eq!(rt; once, Some(2));
+    assert!(rt; once == Some(2));
 }
 
 /// The places that six slots hold.
@@ -149,7 +174,6 @@ fn told_after_reset(rt: &impl Abort, alloc: Global) -> (usize, [Option<usize>; 6
 
 #[test]
 fn a_cache_of_a_regex_without_groups_is_reset_for_one_with_groups(rt: HostRuntime) {
-    let (pattern, places) = told_after_reset(&rt, rt.alloc());
-    assert_eq!(rt; pattern, 0);
-    assert!(rt; places == [Some(1), Some(2), Some(1), Some(2), None, None]);
+    let places = [Some(1), Some(2), Some(1), Some(2), None, None];
+    assert!(rt; told_after_reset(&rt, rt.alloc()) == (0, places));
 }

@@ -1,12 +1,13 @@
 //! Tests of regexes.
 ghost use Rattle.rx_meta.specs.Cache.{Fits};
 
+use crate::rows::all_right;
 use rx_hir::Hir;
 use rx_meta::{BuildError, Builder, Cache, Config, Prefilter, Regex, RegexFinder, WhichCaptures};
 use rx_search::{
     Anchored, HalfMatch, Input, Match, MatchKind, Memory, NonMaxUsize, PatternID, Searcher, Span,
 };
-use rx_syntax::parse;
+use rx_syntax::parse_many;
 use std::alloc::Global;
 use std::process::Abort;
 use std::sync::Wait;
@@ -34,11 +35,12 @@ pub(crate) fn configured(
     boxed(rt, alloc, builder.build(alloc, pattern).ok())
 }
 
-/// A cache of the regex.
-pub(crate) fn cache_of(rt: &impl Abort, alloc: Global, regex: &Regex) -> Cache
-    ensures { Fits regex.now result }
+/// A cache of the regex, in a box too.
+pub(crate) fn cache_of(rt: &impl Abort, alloc: Global, regex: &Regex) -> Box<Cache>
+    ensures { Fits regex.now result.value }
 {
-    Cache::new(alloc, regex).ok().expect(rt, "a cache")
+    let cache = Cache::new(alloc, regex).ok().expect(rt, "a cache");
+    Box::new(alloc, cache).ok().expect(rt, "memory")
 }
 
 /// Makes the cache one of the regex.
@@ -199,8 +201,8 @@ fn each_call_makes_a_cache_or_takes_one(rt: HostRuntime) {
 }
 
 /// A cache of the first regex that was made one of the second.
-pub(crate) fn made_over(rt: &impl Abort, alloc: Global, first: &Regex, second: &Regex) -> Cache
-    ensures { Fits second.now result }
+pub(crate) fn made_over(rt: &impl Abort, alloc: Global, first: &Regex, second: &Regex) -> Box<Cache>
+    ensures { Fits second.now result.value }
 {
     let mut cache = cache_of(rt, alloc, first);
     reset(rt, alloc, &mut cache, second);
@@ -215,17 +217,22 @@ fn a_cache_is_reset_for_another_regex(rt: HostRuntime) {
     assert!(rt; tell_with(&rt, &second, &mut cache, b"xab", AB));
 }
 
-/// What is accounted for a cache, and for a copy of it.
-fn copied(rt: &impl Abort, alloc: Global, cache: &Cache) -> (usize, usize) {
+/// What is accounted for a copy of a cache.
+fn memory_of_copy(rt: &impl Abort, alloc: Global, cache: &Cache) -> usize {
     let again = cache.clone(alloc).ok().expect(rt, "a cache");
-    (cache.memory_usage(), again.memory_usage())
+    let memory = again.memory_usage();
+    drop(again);
+    memory
 }
 
 #[test]
 fn a_copy_of_a_cache_is_accounted_as_much(rt: HostRuntime) {
     let regex = regex_of(&rt, rt.alloc(), "a(b)?");
-    let (memory, again) = copied(&rt, rt.alloc(), &cache_of(&rt, rt.alloc(), &regex));
-    assert_eq!(rt; again, memory);
+    let cache = cache_of(&rt, rt.alloc(), &regex);
+    assert_eq!(rt;
+        memory_of_copy(&rt, rt.alloc(), &cache),
+        cache.memory_usage()
+    );
 }
 
 /// Whether a copy of the regex answers as it does.
@@ -297,10 +304,15 @@ fn a_size_limit_is_told(rt: HostRuntime) {
         limit: 159,
         size: 256,
     };
-    assert!(rt; error == BuildError::NFA(cause));
-    assert!(rt; (error.size_limit(), number(error.pattern())) == (Some(159), None));
-    assert!(rt; reads(&rt, rt.alloc(), &error, "error building NFA"));
-    assert!(rt; reads(&rt, rt.alloc(), &BuildError::Memory, "out of memory"));
+    let told = (error.size_limit(), number(error.pattern()));
+    assert!(rt; told == (Some(159), None) && error == BuildError::NFA(cause));
+}
+
+#[test]
+fn a_refusal_is_shown(rt: HostRuntime) {
+    let error = refused(&rt, rt.alloc(), 159);
+    let is_read = reads(&rt, rt.alloc(), &error, "error building NFA");
+    assert!(rt; is_read && reads(&rt, rt.alloc(), &BuildError::Memory, "out of memory"));
 }
 
 /// A regex of `a` that tells no captures.
@@ -323,8 +335,8 @@ fn is_silent<R: Abort + Wait>(rt: &R, alloc: Global, regex: &Regex) -> bool {
 #[test]
 fn nothing_is_told_without_captures(rt: HostRuntime) {
     let regex = without_captures(&rt, rt.alloc());
-    assert!(rt; regex.get_config().get_which_captures() == WhichCaptures::None);
-    assert!(rt; is_silent(&rt, rt.alloc(), &regex));
+    let which = regex.get_config().get_which_captures();
+    assert!(rt; which == WhichCaptures::None && is_silent(&rt, rt.alloc(), &regex));
 }
 
 /// The next match, where it starts by the slots, and where its group does.
@@ -351,14 +363,20 @@ fn gives_all<'r>(rt: &impl Abort, finder: &mut RegexFinder<'r>) -> bool {
         && third == (None, None, None)
 }
 
+/// Whether a finder of the regex, which has one pattern, gives all matches.
+fn is_found_by_finder(rt: &impl Abort, alloc: Global, regex: &Regex) -> bool {
+    let mut finder = RegexFinder::new(alloc, regex).ok().expect(rt, "memory");
+    let before = (finder.regex().pattern_len(), place_at(finder.slots(), 0));
+    let gives_all = gives_all(rt, &mut finder);
+    // (by a call: it has a cache)
+    drop(finder);
+    before == (1, None) && gives_all
+}
+
 #[test]
 fn a_finder_gives_match_after_match(rt: HostRuntime) {
     let regex = regex_of(&rt, rt.alloc(), "a(b)?");
-    let mut finder = RegexFinder::new(rt.alloc(), &regex)
-        .ok()
-        .expect(&rt, "memory");
-    let before = (finder.regex().pattern_len(), place_at(finder.slots(), 0));
-    assert!(rt; before == (1, None) && gives_all(&rt, &mut finder));
+    assert!(rt; is_found_by_finder(&rt, rt.alloc(), &regex));
 }
 
 /// What is known of the group `k`, how many slots there are, and what is left in them.
@@ -393,10 +411,13 @@ fn crosses_threads<T: Send + Sync>(_value: &T) {}
 #[test]
 fn a_regex_crosses_threads(rt: HostRuntime) {
     let alloc = rt.alloc();
-    // It stands in no box, since it is asked about its own type.
+    // They stand in no box, since they are asked about their own types.
     let regex = Regex::new(alloc, "a").ok().expect(&rt, "a regex");
     crosses_threads(&regex);
-    goes_to_threads(&cache_of(&rt, alloc, &regex));
+    let cache = Cache::new(alloc, &regex).ok().expect(&rt, "a cache");
+    goes_to_threads(&cache);
+    drop(cache);
+    drop(regex);
 }
 
 /// What a search of this input finds.
@@ -424,18 +445,15 @@ fn found_of<R: Abort + Wait>(
 
 #[test]
 fn an_anchor_names_a_pattern(rt: HostRuntime) {
-    let alloc = rt.alloc();
-    assert!(rt; found_of(&rt, alloc, 0) == Some((0, 0, 1)));
-    assert!(rt; found_of(&rt, alloc, 1) == Some((1, 0, 2)));
-    assert!(rt; found_of(&rt, alloc, 7) == None);
+    let first = found_of(&rt, rt.alloc(), 0);
+    let second = found_of(&rt, rt.alloc(), 1);
+    let none = found_of(&rt, rt.alloc(), 7);
+    assert!(rt; (first, second, none) == (Some((0, 0, 1)), Some((1, 0, 2)), None));
 }
 
 /// The expressions `a` and `b`.
-fn a_and_b(rt: &impl Abort, alloc: Global) -> Result<Vec<Hir>, Memory> {
-    let mut exprs = Vec::new(alloc);
-    exprs.push(parse(alloc, "a").ok().expect(rt, "a pattern"))?;
-    exprs.push(parse(alloc, "b").ok().expect(rt, "a pattern"))?;
-    Ok(exprs)
+fn a_and_b(rt: &impl Abort, alloc: Global) -> Vec<Hir> {
+    parse_many(alloc, &["a", "b"]).ok().expect(rt, "patterns")
 }
 
 /// What is told of a regex of two expressions in `b`.
@@ -471,7 +489,7 @@ fn of_first(rt: &impl Abort, alloc: Global, exprs: &[Hir]) -> Box<Regex> {
 
 #[test]
 fn a_regex_is_built_of_expressions(rt: HostRuntime) {
-    let exprs = a_and_b(&rt, rt.alloc()).ok().expect(&rt, "memory");
+    let exprs = a_and_b(&rt, rt.alloc());
     let two = of_both(&rt, rt.alloc(), &exprs);
     let told = two_in(&rt, rt.alloc(), &two);
     // Three properties; 4 states, and 1 and 3 of each pattern.
@@ -480,7 +498,7 @@ fn a_regex_is_built_of_expressions(rt: HostRuntime) {
 
 #[test]
 fn a_regex_is_built_of_an_expression(rt: HostRuntime) {
-    let exprs = a_and_b(&rt, rt.alloc()).ok().expect(&rt, "memory");
+    let exprs = a_and_b(&rt, rt.alloc());
     let one = of_first(&rt, rt.alloc(), &exprs);
     assert!(rt; !matches_in(&rt, rt.alloc(), &one, &Input::new(b"b")));
 }
@@ -492,31 +510,31 @@ pub(crate) fn handing_in(alloc: Global, needle: &[u8]) -> Result<Config, Memory>
     Ok(Config::new().prefilter(pre))
 }
 
-/// What the regex of the pattern under this configuration finds in the haystack, and what is accounted for it.
-fn told_under<R: Abort + Wait>(
+/// What is found of `ab` in `ab` by a regex of this configuration, and what is accounted for it.
+fn ab_under<R: Abort + Wait>(
     rt: &R,
     alloc: Global,
-    config: Result<Config, Memory>,
-    pattern: &str,
-    haystack: &[u8],
+    config: Config,
 ) -> (Option<(usize, usize, usize)>, usize) {
-    let config = config.ok().expect(rt, "memory");
-    let regex = configured(rt, alloc, config.dfa(false).hybrid(false), pattern);
-    let found = found_by(rt, alloc, &regex, &Input::new(haystack));
+    let regex = configured(rt, alloc, config.dfa(false).hybrid(false), "ab");
+    let found = found_by(rt, alloc, &regex, &Input::new(b"ab"));
     (found, regex.memory_usage())
 }
 
 #[test]
 fn no_prefilter_changes_an_answer(rt: HostRuntime) {
-    let alloc = rt.alloc();
-    let none = Config::new().auto_prefilter(false);
-    let told = told_under(&rt, alloc, Ok(none), "ab", b"ab");
+    let told = ab_under(&rt, rt.alloc(), Config::new().auto_prefilter(false));
     // two properties; 4 states, 2 and 3 of the pattern; and the length of the needle
     assert!(rt; told == (Some((0, 0, 2)), 128 + 288));
     // its literal is all that it is: the length of the needle alone
-    let told = told_under(&rt, alloc, Ok(Config::new()), "ab", b"ab");
+    let told = ab_under(&rt, rt.alloc(), Config::new());
     assert!(rt; told == (Some((0, 0, 2)), 2));
-    let told = told_under(&rt, alloc, handing_in(alloc, b"a"), "ab", b"ab");
+}
+
+#[test]
+fn a_prefilter_that_is_handed_in_changes_no_answer(rt: HostRuntime) {
+    let config = handing_in(rt.alloc(), b"a").ok().expect(&rt, "memory");
+    let told = ab_under(&rt, rt.alloc(), config);
     assert!(rt; told == (Some((0, 0, 2)), 128 + 288));
 }
 
@@ -537,7 +555,7 @@ type Row = (
     Option<(usize, usize)>,
 );
 
-const ROWS: [Row; 21] = [
+const ENDS: [Row; 8] = [
     // Each match begins at the start.
     ("^a", "aa", (0, 2), false, Some((0, 1))),
     ("^a", "aa", (1, 2), false, None),
@@ -549,6 +567,9 @@ const ROWS: [Row; 21] = [
     // Each match has a least length.
     ("a{3}", "aaa", (0, 2), false, None),
     ("a{3}", "aaa", (0, 3), false, Some((0, 3))),
+];
+
+const WHOLE: [Row; 5] = [
     // Each match is the whole span.
     ("^a{2}$", "aa", (0, 2), false, Some((0, 2))),
     ("^a{2}$", "aaa", (0, 3), false, None),
@@ -556,6 +577,9 @@ const ROWS: [Row; 21] = [
     ("a{2}$", "aaa", (0, 3), false, Some((1, 3))),
     ("a{2}$", "aa", (0, 2), true, Some((0, 2))),
     ("a{2}$", "aaa", (0, 3), true, None),
+];
+
+const CHOICES_AND_CHARACTERS: [Row; 8] = [
     // The first alternative is preferred.
     ("a|ab", "ab", (0, 2), false, Some((0, 1))),
     ("a|ab", "b", (0, 1), false, None),
@@ -616,5 +640,16 @@ fn first_wrong<R: Abort + Wait>(rt: &R, alloc: Global, rows: &[Row]) -> Option<u
 
 #[test]
 fn what_each_match_begins_and_ends_with(rt: HostRuntime) {
-    assert_eq!(rt; first_wrong(&rt, rt.alloc(), &ROWS), None);
+    all_right(&rt, first_wrong(&rt, rt.alloc(), &ENDS));
+}
+
+#[test]
+fn matches_of_the_whole_span(rt: HostRuntime) {
+    all_right(&rt, first_wrong(&rt, rt.alloc(), &WHOLE));
+}
+
+#[test]
+fn what_is_preferred_and_where_characters_begin(rt: HostRuntime) {
+    let wrong = first_wrong(&rt, rt.alloc(), &CHOICES_AND_CHARACTERS);
+    all_right(&rt, wrong);
 }

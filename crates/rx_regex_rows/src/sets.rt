@@ -96,6 +96,8 @@ fn filled_with(rt: &impl Abort, alloc: Global, regex: &Regex, input: &Input<'_>)
     let mut set = set_of(rt, alloc, regex);
     let mut cache = regex.create_cache(alloc).ok().expect(rt, "memory");
     let done = regex.which_overlapping_matches_with(&mut cache, input, &mut set);
+    // (by a call: else each of its parts is let go here)
+    drop(cache);
     done.ok().expect(rt, "memory");
     set
 }

@@ -1,6 +1,7 @@
 //! Which strategy a regex has, whether that is fast, and what a search for literals alone tells.
 
 use crate::regex::{NOTHING, cache_of, configured, matches_in, told_by};
+use crate::rows::all_right;
 use rx_meta::{Config, Regex};
 use rx_search::{Anchored, Input, MatchKind, PatternID};
 use std::alloc::Global;
@@ -44,23 +45,35 @@ fn first_wrong(rt: &impl Abort, alloc: Global, rows: &[Row]) -> Option<usize> {
 
 #[test]
 fn a_regex_tells_its_strategy(rt: HostRuntime) {
-    assert_eq!(rt; first_wrong(&rt, rt.alloc(), &ROWS), None);
+    all_right(&rt, first_wrong(&rt, rt.alloc(), &ROWS));
+}
+
+/// A configuration without DFAs.
+fn without_dfas() -> Config {
+    Config::new().dfa(false).hybrid(false)
+}
+
+/// A configuration that makes no prefilter.
+fn without_prefilter() -> Config {
+    Config::new().auto_prefilter(false)
 }
 
 #[test]
 fn what_is_switched_off_makes_no_strategy(rt: HostRuntime) {
-    let alloc = rt.alloc();
     // Its prefilter is fast all the same.
-    let no_dfas = Config::new().dfa(false).hybrid(false);
-    assert!(rt; is_named(&rt, alloc, no_dfas, ("foo$", "core", true)));
-    let no_dfas = Config::new().dfa(false).hybrid(false);
-    assert!(rt; is_named(&rt, alloc, no_dfas, (r"\w+@\w+", "core", false)));
-    let no_prefilter = Config::new().auto_prefilter(false);
-    assert!(rt; is_named(&rt, alloc, no_prefilter, ("foo", "core", false)));
-    let no_prefilter = Config::new().auto_prefilter(false);
-    assert!(rt; is_named(&rt, alloc, no_prefilter, (r"\w+@\w+", "core", false)));
+    let reverse = is_named(&rt, rt.alloc(), without_dfas(), ("foo$", "core", true));
+    let literal = is_named(&rt, rt.alloc(), without_prefilter(), ("foo", "core", false));
+    assert!(rt; reverse && literal);
+}
+
+#[test]
+fn no_literal_within_is_sought(rt: HostRuntime) {
+    let row: Row = (r"\w+@\w+", "core", false);
     let every = Config::new().match_kind(MatchKind::All);
-    assert!(rt; is_named(&rt, alloc, every, (r"\w+@\w+", "core", false)));
+    let every = is_named(&rt, rt.alloc(), every, row);
+    let dfas = is_named(&rt, rt.alloc(), without_dfas(), row);
+    let prefilter = is_named(&rt, rt.alloc(), without_prefilter(), row);
+    assert!(rt; every && dfas && prefilter);
 }
 
 /// The regex that is one byte.
@@ -82,5 +95,6 @@ fn a_search_for_literals_knows_one_pattern(rt: HostRuntime) {
 fn nothing_is_accounted_for_a_search_for_literals(rt: HostRuntime) {
     let alloc = rt.alloc();
     let regex = configured(&rt, alloc, Config::new(), "a|b|c");
-    assert_eq!(rt; cache_of(&rt, alloc, &regex).memory_usage(), 0);
+    let cache = cache_of(&rt, alloc, &regex);
+    assert!(rt; cache.memory_usage() == 0);
 }
